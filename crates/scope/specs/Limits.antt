@@ -1,0 +1,35 @@
+-- "Room", and the codes of document 01, under the names that the code has too.
+use Prim.Native.Nat.{ℕ}
+
+-- "Nodes 0 to 4,096; children over all nodes ever made 0 to 16,384"
+abbrev pub MAX-NODES : ℕ
+MAX-NODES = 4096
+
+abbrev pub MAX-CHILDREN : ℕ
+MAX-CHILDREN = 16384
+
+-- "255 children a kind"
+abbrev pub MAX-WIDTH : ℕ
+MAX-WIDTH = 255
+
+-- "255 parameters"; "over 255 listed types or parameters"
+abbrev pub MAX-LIST : ℕ
+MAX-LIST = 255
+
+-- "texts 65,535 bytes; chart 1,024 records; names and paths 1 to 255 bytes"
+abbrev pub MAX-TEXT : ℕ
+MAX-TEXT = 65535
+
+abbrev pub MAX-RECORDS : ℕ
+MAX-RECORDS = 1024
+
+abbrev pub MAX-NAME : ℕ
+MAX-NAME = 255
+
+-- "4,294,967,295 is `Span::NONE`", and the number that means no fn trait
+abbrev pub NONE : ℕ
+NONE = 4294967295
+
+-- "a u64 that stops at its largest value"
+abbrev pub MAX-REPORTS : ℕ
+MAX-REPORTS = 18446744073709551615
