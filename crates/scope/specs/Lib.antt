@@ -6,3 +6,16 @@ pub mod Chart
 pub mod Types
 pub mod Kinds
 pub mod Answers
+pub mod Nodes
+pub mod Unify
+pub mod Make
+pub mod Force
+pub mod Import
+pub mod Sound
+pub mod Show
+pub mod Calls
+pub mod Trees
+pub mod Demand
+pub mod Sheet
+pub mod Replies
+pub mod Run

@@ -1,0 +1,175 @@
+-- The starred cases of document 01's "Judged by example": one table over the definitions, and one theorem that the checker computes. A case is a
+-- list of calls on a fresh store, what they answer, and every node afterwards. Assumes nothing.
+use mathlib.Core.Path.{_≡_, refl}
+use mathlib.Core.List.{List, [], _∷_, map}
+use mathlib.Core.Bool.{true, false}
+use mathlib.Core.Option.{Option, none, some}
+use Prim.Native.Nat.{ℕ}
+use lib.ListN.{replicate}
+use Rattle.scope.specs.Text.{text}
+use Rattle.scope.specs.Limits.{NONE}
+use Rattle.scope.specs.Names.{Name, name}
+use Rattle.scope.specs.Chart.{Env}
+use Rattle.scope.specs.Types.{Ty, ty}
+use Rattle.scope.specs.Kinds.{OBJECT, TUPLE, NEVER, DEFAULT, ERROR}
+use Rattle.scope.specs.Nodes.{Kind, State, Known, Unknown, Node, Root, Child, opened}
+use Rattle.scope.specs.Answers.{Success, Failure, Indeterminate}
+use Rattle.scope.specs.Make.{bare}
+use Rattle.scope.specs.Force.{forcedError}
+use Rattle.scope.specs.Calls.{NewKind, over}
+use Rattle.scope.specs.Demand.{Call, make, unify, forceKind, later, new, newVar, error, nil, show}
+use Rattle.scope.specs.Replies.{Reply, type, answer, forced}
+use Rattle.scope.specs.Replies as Replies
+use Rattle.scope.specs.Run.{ran}
+use Rattle.scope.specs.Sheet.{lines, words, typeWord, typeWords, parse, sheetLine, sheetLines, sheet}
+
+-- an empty chart; the rule text holds the names a and b
+pub env : Env
+env = record {
+  records = [];
+  fnTrait = NONE;
+  sigils = replicate 4 (name 0 0 0);
+  texts = record { rule = text "ab"; chart = [] };
+}
+
+pub record Case : Type 0 where
+  pub calls : List Call
+  pub replies : List Reply
+  pub nodes : List Node
+
+-- what a case's calls do
+pub done-by : Case → Case
+done-by c =
+    let r = ran env (opened 8 8) (c .calls) in
+    record { calls = c .calls; replies = r .replies; nodes = r .store .nodes }
+
+-- a type, its inverse, an answer to a maker, a variable, a Known root of size 1
+pub t : ℕ → Ty
+t n = ty false n
+
+pub ~t : ℕ → Ty
+~t n = ty true n
+
+pub made : ℕ → Reply
+made n = type (t n)
+
+pub var : Call
+var = make (newVar 7)
+
+pub a-var : Node
+a-var = Root (Unknown 7) 1
+
+pub plain : ℕ → Call
+plain c = make (new (over c 0 []))
+
+pub known : ℕ → Node
+known c = Root (Known false (bare c)) 1
+
+pub tuple : List Ty → Call
+tuple ts = make (new (over TUPLE 0 ts))
+
+pub a-tuple : List Ty → Node
+a-tuple ts = Root (Known false (record { head = bare TUPLE .head; kids = ts })) 1
+
+pub object : List (Option Name) → List Ty → Call
+object ns ts = make (new (record { code = OBJECT; number = 0; flex = 0; names = ns; kids = ts }))
+
+pub an-object : List (Option Name) → List Ty → Node
+an-object ns ts = Root (Known false (record { head = record { code = OBJECT; number = 0; dual = false; flex = 0; names = ns }; kids = ts })) 1
+
+pub shown : Ty → Call
+shown u = later (show u (replicate 16 0))
+
+pub a : Option Name
+a = some (name 0 0 1)
+
+pub b : Option Name
+b = some (name 0 1 1)
+
+pub table : List Case
+table =
+    -- "var 0: unify 0, ~0: Failure"
+    record {
+      calls = var ∷ unify (t 0) (~t 0) ∷ [];
+      replies = made 0 ∷ answer Failure ∷ [];
+      nodes = a-var ∷ [];
+    }
+    -- "nil 0: Success"
+    ∷ record {
+      calls = make nil ∷ unify (t 0) (~t 0) ∷ [];
+      replies = made 0 ∷ answer Success ∷ [];
+      nodes = known TUPLE ∷ [];
+    }
+    -- "0 var, 1 = (0): unify 0, 1: Failure"
+    ∷ record {
+      calls = var ∷ tuple (t 0 ∷ []) ∷ unify (t 0) (t 1) ∷ [];
+      replies = made 0 ∷ made 1 ∷ answer Failure ∷ [];
+      nodes = a-var ∷ a-tuple (t 0 ∷ []) ∷ [];
+    }
+    -- "Default 0 and 1: unify 0, ~1: Failure; 0, ~0: Success"
+    ∷ record {
+      calls = plain DEFAULT ∷ plain DEFAULT ∷ unify (t 0) (~t 1) ∷ unify (t 0) (~t 0) ∷ [];
+      replies = made 0 ∷ made 1 ∷ answer Failure ∷ answer Success ∷ [];
+      nodes = known DEFAULT ∷ known DEFAULT ∷ [];
+    }
+    -- "Error against Never: Indeterminate, no merge"
+    ∷ record {
+      calls = make error ∷ plain NEVER ∷ unify (t 0) (t 1) ∷ [];
+      replies = made 0 ∷ made 1 ∷ answer Indeterminate ∷ [];
+      nodes = known ERROR ∷ known NEVER ∷ [];
+    }
+    -- "var against Error: Success"
+    ∷ record {
+      calls = var ∷ make error ∷ unify (t 0) (t 1) ∷ [];
+      replies = made 0 ∷ made 1 ∷ answer Success ∷ [];
+      nodes = Child (t 1) ∷ Root (Known false (bare ERROR)) 2 ∷ [];
+    }
+    -- "vars 0, 1, 2: unify 0, 1 then 1, 2: 0 and 2 are children of 1, size 3"
+    ∷ record {
+      calls = var ∷ var ∷ var ∷ unify (t 0) (t 1) ∷ unify (t 1) (t 2) ∷ [];
+      replies = made 0 ∷ made 1 ∷ made 2 ∷ answer Success ∷ answer Success ∷ [];
+      nodes = Child (t 1) ∷ Root (Unknown 7) 3 ∷ Child (t 1) ∷ [];
+    }
+    -- "0 var, 1 Never, 2 nil, 3 = (1, 0), 4 = (2, 1): unify 3, 4: Failure; 0 is now a child of 1"
+    ∷ record {
+      calls = var ∷ plain NEVER ∷ make nil ∷ tuple (t 1 ∷ t 0 ∷ []) ∷ tuple (t 2 ∷ t 1 ∷ []) ∷ unify (t 3) (t 4) ∷ [];
+      replies = made 0 ∷ made 1 ∷ made 2 ∷ made 3 ∷ made 4 ∷ answer Failure ∷ [];
+      nodes =
+          Child (t 1)
+          ∷ Root (Known false (bare NEVER)) 2
+          ∷ known TUPLE
+          ∷ a-tuple (t 1 ∷ t 0 ∷ [])
+          ∷ a-tuple (t 2 ∷ t 1 ∷ [])
+          ∷ [];
+    }
+    -- "{a: 0} and {a: 1, b: 1} over vars: Failure; 0 is a child of 1"
+    ∷ record {
+      calls = var ∷ var ∷ object (a ∷ []) (t 0 ∷ []) ∷ object (a ∷ b ∷ []) (t 1 ∷ t 1 ∷ []) ∷ unify (t 2) (t 3) ∷ [];
+      replies = made 0 ∷ made 1 ∷ made 2 ∷ made 3 ∷ answer Failure ∷ [];
+      nodes = Child (t 1) ∷ Root (Unknown 7) 2 ∷ an-object (a ∷ []) (t 0 ∷ []) ∷ an-object (a ∷ b ∷ []) (t 1 ∷ t 1 ∷ []) ∷ [];
+    }
+    -- "0 forced, then unify 0, 1: Unknown again, 1's span"
+    ∷ record {
+      calls = make (newVar 3) ∷ var ∷ forceKind (t 0) ∷ unify (t 0) (t 1) ∷ [];
+      replies = made 0 ∷ made 1 ∷ forced (forcedError (some 3)) ∷ answer Success ∷ [];
+      nodes = Child (t 1) ∷ Root (Unknown 7) 2 ∷ [];
+    }
+    -- "(0) over var 0 shows `(?0,)`; inverted `(~?0,)`"
+    ∷ record {
+      calls = var ∷ tuple (t 0 ∷ []) ∷ shown (t 1) ∷ shown (~t 1) ∷ [];
+      replies = made 0 ∷ made 1 ∷ Replies.text (text "(?0,)") ∷ Replies.text (text "(~?0,)") ∷ [];
+      nodes = a-var ∷ a-tuple (t 0 ∷ []) ∷ [];
+    }
+    ∷ []
+
+-- sheet's example
+pub input : List ℕ
+input = text "var\nvar\ntuple 0 ~1\ntuple ~1 0\nunify 2 3\nshow ~2"
+
+pub output : List ℕ
+output = text "=0\n=1\n=2\n=3\nSuccess\n(?1, ?1)\n"
+
+-- the whole table, and sheet's example with it
+pub table-holds : (map done-by table ≡ table) × (sheet input ≡ output)
+unfolding ran done-by table env t ~t made var a-var plain known tuple a-tuple object an-object shown a b input output lines words typeWord typeWords parse sheetLine sheetLines sheet
+table-holds = (refl, refl)
