@@ -1,8 +1,8 @@
--- Each of the code's answers means another one of scope's, and has another number.
+-- Each of the code's answers means another one of scope's, so an answer is known by what it means. The tests name the case that passes them.
 -- Assumes nothing.
 use mathlib.Core.Path.{_≡_, refl}
-use mathlib.Core.Bool.{Bool, true, false}
-use Prim.Native.Nat.{ℕ, _<_}
+use mathlib.Core.Bool.{true}
+use Prim.Native.Nat.{_<_}
 use native.Mathlib.Omega.{arith}
 use Rattle.scope.specs.Answers.{Answer}
 use Rattle.types.specs.Answers.{answerOf, numberOf, isSuccess, isFailure}

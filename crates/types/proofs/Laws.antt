@@ -7,8 +7,22 @@ use Prim.Native.Nat.{ℕ, _+_, _-_, _%_, _<_, _≤_}
 use native.Mathlib.Omega.{arith}
 use lib.Dec.{leb}
 use borrow.Author.Tests.{le-leb, lt-leb, leb-true, leb-false}
-use Rattle.scope.specs.Base.{pick, xor}
+use Rattle.scope.specs.Base.{xor}
 use Rattle.scope.specs.Types.{Ty, ty, flip, INV-BIT, tyOf, wordOf}
+use Rattle.types.specs.declared.«Type».{«Type»}
+use Rattle.types.specs.declared.TypeIdx.{TypeIdx}
+use Rattle.types.specs.declared.Inverted.{Inverted}
+
+-- what each struct holds says which it is
+
+pub type-eq : (s t : «Type») → s .0 ≡ t .0 → s ≡ t
+type-eq s t e = ap (λ (n : ℕ). record { 0 = n }) e
+
+pub idx-eq : (s t : TypeIdx) → s .0 ≡ t .0 → s ≡ t
+idx-eq s t e = ap (λ (n : ℕ). record { 0 = n }) e
+
+pub inverted-eq : (s t : Inverted) → s .0 ≡ t .0 → s ≡ t
+inverted-eq s t e = ap (λ (b : Bool). record { 0 = b }) e
 
 -- exclusive or
 
