@@ -1,0 +1,3 @@
+//! Stand-in for Vine's `tir.rs`.
+
+vine_util::new_idx!(pub ClosureId);
