@@ -1,2 +1,4 @@
 pub mod Laws
+pub mod Refusals
+pub mod Run
 pub mod Table

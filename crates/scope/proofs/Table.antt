@@ -20,7 +20,7 @@ use Rattle.scope.specs.Calls.{NewKind, over}
 use Rattle.scope.specs.Demand.{Call, make, unify, forceKind, later, new, newVar, error, nil, show}
 use Rattle.scope.specs.Replies.{Reply, type, answer, forced}
 use Rattle.scope.specs.Replies as Replies
-use Rattle.scope.specs.Run.{ran}
+use Rattle.scope.proofs.Run.{ran}
 use Rattle.scope.specs.Sheet.{lines, words, typeWord, typeWords, parse, sheetLine, sheetLines, sheet}
 
 -- an empty chart; the rule text holds the names a and b

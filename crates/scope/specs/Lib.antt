@@ -18,4 +18,3 @@ pub mod Trees
 pub mod Demand
 pub mod Sheet
 pub mod Replies
-pub mod Run

@@ -1,10 +1,9 @@
--- A list of calls run to its answers and its last store, with every definition open to computation: what a table of examples is computed by.
+-- A list of calls run to its answers and its last store, with every definition open to computation: what a table of examples is computed by. Assumes nothing.
 use mathlib.Core.List.{List}
 use Rattle.scope.specs.Chart.{Env}
 use Rattle.scope.specs.Nodes.{Store}
 use Rattle.scope.specs.Demand.{Call, after}
 use Rattle.scope.specs.Replies.{Reply, replies}
-use Rattle.scope.specs.Sheet as Sheet
 use Rattle.scope.specs.Names as Names
 use Rattle.scope.specs.Chart as Chart
 use Rattle.scope.specs.Types as Types
