@@ -1,1 +1,3 @@
 pub mod Table
+pub mod View
+pub mod PlanLaws
