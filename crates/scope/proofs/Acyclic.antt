@@ -98,8 +98,8 @@ module _ (g : View) (w l : ℕ) (i : Bool) (k : VState) (good : Good g) (ok : Jo
       go : (g .rep n .idx ≡ l) ⊎ (g .rep n .idx ≢ l) → ((g .rep n .idx ≡ y) × (y ≢ l)) ⊎ ((g .rep n .idx ≡ l) × (y ≡ w))
       go (inl h) = inr (h, sym e ∙ idx-eq (rep-hit g w l i k n h))
       go (inr h) =
-        let e′ : g .rep n .idx ≡ y = sym (idx-eq (rep-miss g w l i k n h)) ∙ e in
-        inl (e′, λ q. h (e′ ∙ q))
+          let e′ : g .rep n .idx ≡ y = sym (idx-eq (rep-miss g w l i k n h)) ∙ e in
+          inl (e′, λ q. h (e′ ∙ q))
 
   -- a child of a root other than w
   kid-back : {x y : ℕ} → x ≢ w → Kid (link g w l i k) x y → (z : ℕ) × Kid g x z × Led z y
@@ -108,13 +108,19 @@ module _ (g : View) (w l : ℕ) (i : Bool) (k : VState) (good : Good g) (ok : Jo
       go : (x ≡ l) ⊎ (x ≢ l) → (g .rep x .idx ≡ l) ⊎ (g .rep x .idx ≢ l) → (z : ℕ) × Kid g x z × Led z y
       go (inl e) d = absurd (not-known (sym (st-l g w l i k (λ q. nw (e ∙ q))) ∙ ap (link g w l i k .st) (sym e) ∙ c .state))
       go (inr n) (inl h) = absurd (nw (idx-eq (sym (c .top) ∙ rep-hit g w l i k x h)))
-      go (inr n) (inr h) =
-        ( g .rep (c .kid .idx) .idx
-        , record { inv = c .inv; kind = c .kind; kid = c .kid
-                 ; top = sym (rep-miss g w l i k x h) ∙ c .top
-                 ; state = sym (st-other g w l i k x nw n) ∙ c .state
-                 ; mem = c .mem; to = refl }
-        , led (c .kid .idx) y (c .to) )
+      go (inr n) (inr h) = (
+        g .rep (c .kid .idx) .idx,
+        record {
+          inv = c .inv;
+          kind = c .kind;
+          kid = c .kid;
+          top = sym (rep-miss g w l i k x h) ∙ c .top;
+          state = sym (st-other g w l i k x nw n) ∙ c .state;
+          mem = c .mem;
+          to = refl;
+        },
+        led (c .kid .idx) y (c .to),
+      )
 
   -- a child of w afterwards was one of w or of l, and leads where it led
   kid-w : {y : ℕ} → Kid (link g w l i k) w y → Kid g w y ⊎ Kid g l y
@@ -123,10 +129,12 @@ module _ (g : View) (w l : ℕ) (i : Bool) (k : VState) (good : Good g) (ok : Jo
     where
       at-w : {z : ℕ} (j : Bool) → g .st w ≡ known j (c .kind) → g .rep (c .kid .idx) .idx ≡ z → Kid g w z
       at-w j e t = record { inv = j; kind = c .kind; kid = c .kid; top = ok .wtop; state = e; mem = c .mem; to = t }
+
       at-l : {z : ℕ} (j : Bool) → g .st l ≡ known j (c .kind) → g .rep (c .kid .idx) .idx ≡ z → Kid g l z
       at-l j e t = record { inv = j; kind = c .kind; kid = c .kid; top = ok .ltop; state = e; mem = c .mem; to = t }
+
       go : ((j : Bool) × (g .st w ≡ known j (c .kind))) ⊎ ((j : Bool) × (g .st l ≡ known j (c .kind)))
-         → ((g .rep (c .kid .idx) .idx ≡ y) × (y ≢ l)) ⊎ ((g .rep (c .kid .idx) .idx ≡ l) × (y ≡ w)) → Kid g w y ⊎ Kid g l y
+          → ((g .rep (c .kid .idx) .idx ≡ y) × (y ≢ l)) ⊎ ((g .rep (c .kid .idx) .idx ≡ l) × (y ≡ w)) → Kid g w y ⊎ Kid g l y
       go (inl s) (inl t) = inl (at-w (s .0) (s .1) (t .0))
       go (inr s) (inl t) = inr (at-l (s .0) (s .1) (t .0))
       go (inl s) (inr t) = absurd (ok .now (one (at-w (s .0) (s .1) (t .0))))
@@ -154,6 +162,7 @@ module _ (g : View) (w l : ℕ) (i : Bool) (k : VState) (good : Good g) (ok : Jo
       go : (y : ℕ) → ((z : ℕ) → Kid g x z → Fin (link g w l i k) z) → (z : ℕ) × Kid g x z × Led z y → Fin (link g w l i k) y
       go y ih (z, c, inl (e, n)) = ih y (kid-to c e)
       go y ih (z, c, inr (e, n)) = subst (Fin (link g w l i k)) (sym n) fin-w
+
       start : ((z : ℕ) → Kid g x z → Fin (link g w l i k) z) → (x ≡ w) ⊎ (x ≢ w) → Fin (link g w l i k) x
       start ih (inl e) = subst (Fin (link g w l i k)) (sym e) fin-w
       start ih (inr n) = fin (λ y c. go y ih (kid-back n c))
@@ -163,8 +172,10 @@ module _ (g : View) (w l : ℕ) (i : Bool) (k : VState) (good : Good g) (ok : Jo
     where
       G : View
       G = link g w l i k
+
       w-top : G .rep w ≡ ty false w
       w-top = rep-miss g w l i k w (λ e. ok .apart (sym (idx-eq (ok .wtop)) ∙ e)) ∙ ok .wtop
+
       go : (g .rep n .idx ≡ l) ⊎ (g .rep n .idx ≢ l) → link g w l i k .rep (link g w l i k .rep n .idx) ≡ ty false (link g w l i k .rep n .idx)
       go (inl h) = rw (rep-hit g w l i k n h) w-top
       go (inr h) = rw (rep-miss g w l i k n h) (rep-miss g w l i k (g .rep n .idx) (λ e. h (sym (idx-eq (good .idem n)) ∙ e)) ∙ good .idem n)

@@ -106,33 +106,47 @@ alike-grow w anil = anil
 alike-grow w (acons {x = x} {y = y} e r) = acons (mono-eq w (x .idx) (y .idx) e) (alike-grow w r)
 
 pub grow-refl : {X : Texts} {g : View} → Good g → Grow X g g
-grow-refl {g} good = record
-  { good = good
-  ; mono = λ n. rw (good .idem n) (ap (λ (b : Bool). ty b (g .rep n .idx)) (sym (xor-false (g .rep n .inv))))
-  ; knows = λ a i k t s. record { inv = i; kind = k; state = ap (λ (x : Ty). g .st (x .idx)) t ∙ s; heads = heads-refl (k .head); alike = alike-refl (k .kids) } }
+grow-refl {g} good = record {
+  good = good;
+  mono = λ n. rw (good .idem n) (ap (λ (b : Bool). ty b (g .rep n .idx)) (sym (xor-false (g .rep n .inv))));
+  knows = λ a i k t s. record { inv = i; kind = k; state = ap (λ (x : Ty). g .st (x .idx)) t ∙ s; heads = heads-refl (k .head); alike = alike-refl (k .kids) };
+}
 
 pub grow-trans : {X : Texts} {g h m : View} → Good h → Grow X g h → Grow X h m → Grow X g m
 grow-trans {X} {g} {h} {m} hg p q = record { good = q .good; mono = mono′; knows = knows′ }
   where
     mono′ : (n : ℕ) → m .rep n ≡ flip (g .rep n .inv) (m .rep (g .rep n .idx))
     mono′ n =
-      let r = g .rep n .idx in
-      q .mono n ∙ ap (λ (t : Ty). flip (t .inv) (m .rep (t .idx))) (p .mono n)
-      ∙ flip-flip (g .rep n .inv) (h .rep r .inv) (m .rep (h .rep r .idx)) ∙ ap (flip (g .rep n .inv)) (sym (q .mono r))
+        let r = g .rep n .idx in
+        q .mono n ∙ ap (λ (t : Ty). flip (t .inv) (m .rep (t .idx))) (p .mono n)
+        ∙ flip-flip (g .rep n .inv) (h .rep r .inv) (m .rep (h .rep r .idx)) ∙ ap (flip (g .rep n .inv)) (sym (q .mono r))
+
     knows′ : (a : ℕ) (i : Bool) (k : Kind) → g .rep a ≡ ty false a → g .st a ≡ known i k → Keeps X m a k
     knows′ a i k t s =
-      let c = p .knows a i k t s in
-      let d = q .knows (h .rep a .idx) (c .inv) (c .kind) (hg .idem a) (c .state) in
-      record { inv = d .inv; kind = d .kind; state = ap (m .st) (mono-idx q a) ∙ d .state; heads = heads-trans (c .heads) (d .heads)
-             ; alike = alike-trans (alike-grow q (c .alike)) (d .alike) }
+        let c = p .knows a i k t s in
+        let d = q .knows (h .rep a .idx) (c .inv) (c .kind) (hg .idem a) (c .state) in
+        record {
+          inv = d .inv;
+          kind = d .kind;
+          state = ap (m .st) (mono-idx q a) ∙ d .state;
+          heads = heads-trans (c .heads) (d .heads);
+          alike = alike-trans (alike-grow q (c .alike)) (d .alike);
+        }
 
 -- containment is kept
 pub kid-grow : {X : Texts} {g h : View} {a x : ℕ} → Grow X g h → Kid g a x → Kid h (h .rep a .idx) (h .rep x .idx)
 kid-grow {g} {h} {a} {x} w c =
-  let d = w .knows a (c .inv) (c .kind) (c .top) (c .state) in
-  let m = alike-mem (d .alike) (c .mem) in
-  record { inv = d .inv; kind = d .kind; kid = m .0; top = w .good .idem a; state = d .state; mem = m .1
-         ; to = sym (m .2) ∙ mono-idx w (c .kid .idx) ∙ ap (λ (n : ℕ). h .rep n .idx) (c .to) }
+    let d = w .knows a (c .inv) (c .kind) (c .top) (c .state) in
+    let m = alike-mem (d .alike) (c .mem) in
+    record {
+      inv = d .inv;
+      kind = d .kind;
+      kid = m .0;
+      top = w .good .idem a;
+      state = d .state;
+      mem = m .1;
+      to = sym (m .2) ∙ mono-idx w (c .kid .idx) ∙ ap (λ (n : ℕ). h .rep n .idx) (c .to);
+    }
 
 pub below-grow : {X : Texts} {g h : View} {a x : ℕ} → Grow X g h → Below g a x → Below h (h .rep a .idx) (h .rep x .idx)
 below-grow w (one c) = one (kid-grow w c)
@@ -147,7 +161,7 @@ self-grow {X} {g} {h} {a} good w t (self i k s d f) = go (w .knows a i k t s) (�
   where
     go : Keeps X h a k → ((x : Ty) → List·Memᴰ x (k .kids) → Self h (h .rep (ri g x) .idx)) → Self h (h .rep a .idx)
     go c ih = self (c .inv) (c .kind) (c .state) (sym (c .heads .duals) ∙ d)
-      (λ y m. let z = alike-mem (alike-sym (c .alike)) m in subst (Self h) (sym (mono-idx w (z .0 .idx)) ∙ sym (z .2)) (ih (z .0) (z .1)))
+        (λ y m. let z = alike-mem (alike-sym (c .alike)) m in subst (Self h) (sym (mono-idx w (z .0 .idx)) ∙ sym (z .2)) (ih (z .0) (z .1)))
 
 -- two types that unify found equal
 pub data Joined (g : View) (p q : Ty) : Type 0 where
@@ -191,23 +205,24 @@ module _ (g : View) (w l : ℕ) (i : Bool) (k : VState) (good : Good g) (ok : Jo
     where
       r : ℕ
       r = g .rep n .idx
+
       go : (g .rep n .idx ≡ l) ⊎ (g .rep n .idx ≢ l) → link g w l i k .rep n ≡ flip (g .rep n .inv) (link g w l i k .rep (g .rep n .idx))
       go (inl h) = rep-hit g w l i k n h
-        ∙ ap (flip (g .rep n .inv)) (ap (λ (t : Ty). ty (xor (t .inv) i) w) (sym (good .idem n)) ∙ sym (rep-hit g w l i k (g .rep n .idx) (idx-eq (good .idem n) ∙ h)))
+          ∙ ap (flip (g .rep n .inv)) (ap (λ (t : Ty). ty (xor (t .inv) i) w) (sym (good .idem n)) ∙ sym (rep-hit g w l i k (g .rep n .idx) (idx-eq (good .idem n) ∙ h)))
       go (inr h) = rep-miss g w l i k n h ∙ ap (λ (b : Bool). ty b (g .rep n .idx)) (sym (xor-false (g .rep n .inv)))
-        ∙ ap (flip (g .rep n .inv)) (sym (good .idem n) ∙ sym (rep-miss g w l i k (g .rep n .idx) (λ e. h (sym (idx-eq (good .idem n)) ∙ e))))
+          ∙ ap (flip (g .rep n .inv)) (sym (good .idem n) ∙ sym (rep-miss g w l i k (g .rep n .idx) (λ e. h (sym (idx-eq (good .idem n)) ∙ e))))
 
   -- Grow but for `knows`
   alike-link : {xs ys : List Ty} → Alike g xs ys → Alike (link g w l i k) xs ys
   alike-link anil = anil
   alike-link (acons {x = x} {y = y} e r) = acons
-    (idx-eq (link-mono (x .idx)) ∙ ap (λ (n : ℕ). link g w l i k .rep n .idx) e ∙ sym (idx-eq (link-mono (y .idx)))) (alike-link r)
+      (idx-eq (link-mono (x .idx)) ∙ ap (λ (n : ℕ). link g w l i k .rep n .idx) e ∙ sym (idx-eq (link-mono (y .idx)))) (alike-link r)
 
   pub link-joined : (wi li : Bool) → i ≡ xor li wi → rootOf (link g w l i k) (ty wi w) ≡ rootOf (link g w l i k) (ty li l)
   link-joined wi li e =
-    ap (flip wi) (rep-miss g w l i k w (λ q. ok .apart (sym (idx-eq (ok .wtop)) ∙ q)) ∙ ok .wtop)
-    ∙ ap (λ (b : Bool). ty b w) (xor-false wi ∙ sym (xor-twice li wi) ∙ ap (xor li) (sym e))
-    ∙ ap (flip li) (ap (λ (t : Ty). ty (xor (t .inv) i) w) (sym (ok .ltop)) ∙ sym (rep-hit g w l i k l (idx-eq (ok .ltop))))
+      ap (flip wi) (rep-miss g w l i k w (λ q. ok .apart (sym (idx-eq (ok .wtop)) ∙ q)) ∙ ok .wtop)
+      ∙ ap (λ (b : Bool). ty b w) (xor-false wi ∙ sym (xor-twice li wi) ∙ ap (xor li) (sym e))
+      ∙ ap (flip li) (ap (λ (t : Ty). ty (xor (t .inv) i) w) (sym (ok .ltop)) ∙ sym (rep-hit g w l i k l (idx-eq (ok .ltop))))
 
   pub w-root : link g w l i k .rep w .idx ≡ w
   w-root = idx-eq (rep-miss g w l i k w (λ e. ok .apart (sym (idx-eq (ok .wtop)) ∙ e)) ∙ ok .wtop)
@@ -220,10 +235,16 @@ module _ (g : View) (w l : ℕ) (i : Bool) (k : VState) (good : Good g) (ok : Jo
     where
       keep : (a : ℕ) (m : Kind) → link g w l i k .rep a .idx ≡ w → Kept X g k m → Keeps X (link g w l i k) a m
       keep a m e c = record { inv = c .inv; kind = c .kind; state = ap (link g w l i k .st) e ∙ st-w g w l i k ∙ c .is; heads = c .heads; alike = alike-link (c .alike) }
+
       knows : (a : ℕ) (j : Bool) (m : Kind) → g .rep a ≡ ty false a → g .st a ≡ known j m → (a ≡ w) ⊎ (a ≢ w) → (a ≡ l) ⊎ (a ≢ l) → Keeps X (link g w l i k) a m
       knows a j m t s (inl e) d = keep a m (ap (λ (x : ℕ). link g w l i k .rep x .idx) e ∙ w-root) (hold .onw j m (ap (g .st) (sym e) ∙ s))
       knows a j m t s (inr n) (inl e) = keep a m (ap (λ (x : ℕ). link g w l i k .rep x .idx) e ∙ l-root) (hold .onl j m (ap (g .st) (sym e) ∙ s))
       knows a j m t s (inr n) (inr n′) =
-        let miss = rep-miss g w l i k a (λ e. n′ (sym (idx-eq t) ∙ e)) in
-        record { inv = j; kind = m; state = ap (λ (x : Ty). link g w l i k .st (x .idx)) (miss ∙ t) ∙ st-other g w l i k a n n′ ∙ s
-               ; heads = heads-refl (m .head); alike = alike-refl (m .kids) }
+          let miss = rep-miss g w l i k a (λ e. n′ (sym (idx-eq t) ∙ e)) in
+          record {
+            inv = j;
+            kind = m;
+            state = ap (λ (x : Ty). link g w l i k .st (x .idx)) (miss ∙ t) ∙ st-other g w l i k a n n′ ∙ s;
+            heads = heads-refl (m .head);
+            alike = alike-refl (m .kids);
+          }

@@ -4,3 +4,4 @@ pub mod PlanLaws
 pub mod Acyclic
 pub mod Grow
 pub mod Stay
+pub mod Meet

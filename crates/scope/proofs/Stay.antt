@@ -85,7 +85,7 @@ both-success Indeterminate Indeterminate e = let z : _≡_ {A = ℕ} 0 1 = cc in
 -- what lies below a still does, where a itself stays
 pub below-stays : {X : Texts} {g h : View} {a : ℕ} (t : Ty) → Grow X g h → Stays g h a → Below g a (ri g t) → Below h a (ri h t)
 below-stays {X} {g} {h} {a} t w s b =
-  rw (mono-idx w (t .idx)) (subst (λ (x : ℕ). Below h x (h .rep (ri g t) .idx)) (idx-eq (s .rep ∙ below-top b)) (below-grow w b))
+    rw (mono-idx w (t .idx)) (subst (λ (x : ℕ). Below h x (h .rep (ri g t) .idx)) (idx-eq (s .rep ∙ below-top b)) (below-grow w b))
 
 pub above-stays : {X : Texts} {g h : View} {a : ℕ} (p : Ty × Ty) → Grow X g h → Stays g h a → Above g a p → Above h a p
 above-stays p w s (inl b) = inl (below-stays (p .0) w s b)
@@ -95,31 +95,35 @@ abbrev pub Step : Env → (View → Ty → Ty → Out) → Type 0
 Step e u = (g : View) (p q : Ty) → Good g → Kinds e g → Spec (e .texts) g p q (u g p q)
 
 pub run-spec : (e : Env) (u : View → Ty → Ty → Out) → Step e u → (g : View) (r : Answer) (ps : List (Ty × Ty)) → Good g → Kinds e g
-  → RunSpec (e .texts) g r ps (run u g r ps)
+    → RunSpec (e .texts) g r ps (run u g r ps)
 unfolding run
-run-spec e u ih g r [] good kinds = record
-  { grow = grow-refl good
-  ; no-new = no-new-refl
-  ; stays = λ a o. record { rep = refl; st = refl }
-  ; joined = λ q. (q, pairs-nil (λ p. Joined g (p .0) (p .1))) }
+run-spec e u ih g r [] good kinds = record {
+  grow = grow-refl good;
+  no-new = no-new-refl;
+  stays = λ a o. record { rep = refl; st = refl };
+  joined = λ q. (q, pairs-nil (λ p. Joined g (p .0) (p .1)));
+}
 run-spec e u ih g r (p ∷ ps) good kinds =
-  let s = ih g (p .0) (p .1) good kinds in
-  go s (run-spec e u ih (u g (p .0) (p .1) .view) (both r (u g (p .0) (p .1) .answer)) ps (s .grow .good) (kinds-after kinds (s .no-new)))
+    let s = ih g (p .0) (p .1) good kinds in
+    go s (run-spec e u ih (u g (p .0) (p .1) .view) (both r (u g (p .0) (p .1) .answer)) ps (s .grow .good) (kinds-after kinds (s .no-new)))
   where
     h : View
     h = u g (p .0) (p .1) .view
+
     o : Out
     o = run u h (both r (u g (p .0) (p .1) .answer)) ps
+
     go : Spec (e .texts) g (p .0) (p .1) (u g (p .0) (p .1)) → RunSpec (e .texts) h (both r (u g (p .0) (p .1) .answer)) ps o
-      → RunSpec (e .texts) g r (p ∷ ps) o
+        → RunSpec (e .texts) g r (p ∷ ps) o
     go s t = record { grow = grow-trans (s .grow .good) (s .grow) (t .grow); no-new = no-new-trans (s .no-new) (t .no-new); stays = stays′; joined = joined′ }
       where
         stays′ : (a : ℕ) → AllPairs (Above g a) (p ∷ ps) → Stays g (o .view) a
         stays′ a b =
-          let s₁ = s .stays a (b p (List·Memᴰ·head refl)) in
-          stays-trans s₁ (t .stays a (λ q m. above-stays q (s .grow) s₁ (b q (List·Memᴰ·tail m))))
+            let s₁ = s .stays a (b p (List·Memᴰ·head refl)) in
+            stays-trans s₁ (t .stays a (λ q m. above-stays q (s .grow) s₁ (b q (List·Memᴰ·tail m))))
+
         joined′ : o .answer ≡ Success → (r ≡ Success) × Tied (o .view) (p ∷ ps)
         joined′ q =
-          let j = t .joined q in
-          let b = both-success r (u g (p .0) (p .1) .answer) (j .0) in
-          (b .0, pairs-cons (λ z. Joined (o .view) (z .0) (z .1)) (joined-grow (s .grow .good) (t .grow) (s .joined (b .1))) (j .1))
+            let j = t .joined q in
+            let b = both-success r (u g (p .0) (p .1) .answer) (j .0) in
+            (b .0, pairs-cons (λ z. Joined (o .view) (z .0) (z .1)) (joined-grow (s .grow .good) (t .grow) (s .joined (b .1))) (j .1))
