@@ -5,3 +5,5 @@ pub mod Acyclic
 pub mod Grow
 pub mod Stay
 pub mod Meet
+pub mod Fuel
+pub mod Inside
