@@ -46,8 +46,8 @@ Within n = AllPairs (λ p. (p .0 .idx < n) × (p .1 .idx < n))
 
 pub plan-within : (X : Texts) {n : ℕ} {C : Kind → Type 0} {k m : Kind} (c : Bool) → Fine n C k → Fine n C m → Within n (plan X k m c .pairs)
 plan-within X {n} {C} {k} {m} c a b p w =
-  let y = plan-right X k m c p w in
-  (a .kids (p .0) (plan-left X k m c p w), rw (y .2) (b .kids (y .0) (y .1)))
+    let y = plan-right X k m c p w in
+    (a .kids (p .0) (plan-left X k m c p w), rw (y .2) (b .kids (y .0) (y .1)))
 
 join-bounded : (n : ℕ) (g : View) (w l : Ty) (k : VState) → w .idx < n → Bounded n g → Bounded n (join g w l k)
 join-bounded n g w l k hw b x h = go (same? (g .rep x .idx) (l .idx))
@@ -79,8 +79,8 @@ module _ (e : Env) (n : ℕ) (C : Kind → Type 0) (mk : Makes e C) (u : View �
   unfolding run
   run-inside g r [] good s w = s
   run-inside g r (p ∷ ps) good s w =
-    let h = w p (List·Memᴰ·head refl) in
-    run-inside (u g (p .0) (p .1) .view) (both r (u g (p .0) (p .1) .answer)) ps (sp g (p .0) (p .1) good (inside-kinds mk s) .grow .good)
+      let h = w p (List·Memᴰ·head refl) in
+      run-inside (u g (p .0) (p .1) .view) (both r (u g (p .0) (p .1) .answer)) ps (sp g (p .0) (p .1) good (inside-kinds mk s) .grow .good)
       (ih g (p .0) (p .1) good s (h .0) (h .1)) (λ q m. w q (List·Memᴰ·tail m))
 
   meet-bounded : (f : ℕ) (g : View) (a b : Ty) → Good g → Inside n C g → a .idx < n → b .idx < n → Bounded n (meet u (e .texts) f g a b .view)
@@ -91,24 +91,25 @@ module _ (e : Env) (n : ℕ) (C : Kind → Type 0) (mk : Makes e C) (u : View �
       at unknown sb p q = bind-bounded n g a b ha hb (s .inside) f (occurs f g (a .idx) (b .idx) || occurs f g (b .idx) (a .idx))
       at (known i k) unknown p q = bind-bounded n g a b ha hb (s .inside) f (occurs f g (a .idx) (b .idx) || occurs f g (b .idx) (a .idx))
       at (known i k) (known j m) p q =
-        let c : Bool = xor (xor i (a .inv)) (xor j (b .inv)) in
-        let l : Plan = plan (e .texts) k m c in
-        let o : Out = run u g (l .base) (l .pairs) in
-        let t : Inside n C (o .view) = run-inside g (l .base) (l .pairs) good s (plan-within (e .texts) c (s .kinds (a .idx) i k p) (s .kinds (b .idx) j m q)) in
-        close-bounded n (o .view) a b ha hb (t .inside) (o .answer)
+          let c : Bool = xor (xor i (a .inv)) (xor j (b .inv)) in
+          let l : Plan = plan (e .texts) k m c in
+          let o : Out = run u g (l .base) (l .pairs) in
+          let t : Inside n C (o .view) = run-inside g (l .base) (l .pairs) good s (plan-within (e .texts) c (s .kinds (a .idx) i k p) (s .kinds (b .idx) j m q)) in
+          close-bounded n (o .view) a b ha hb (t .inside) (o .answer)
+
       go : (d : Dec (a .idx ≡ b .idx)) → Bounded n (sel d (out g (ofBool (same f g a b))) (meetSt u (e .texts) f g a b (g .st (a .idx)) (g .st (b .idx))) .view)
       go (yes q) = s .inside
       go (no q) = at (g .st (a .idx)) (g .st (b .idx)) refl refl
 
 unify-bounded : (e : Env) (n : ℕ) (C : Kind → Type 0) → Makes e C → (f : ℕ) (g : View) (p q : Ty) → Good g → Inside n C g → p .idx < n → q .idx < n
-  → Bounded n (unify (e .texts) n f g p q .view)
+    → Bounded n (unify (e .texts) n f g p q .view)
 unfolding unify
 unify-bounded e n C mk zero g p q good s hp hq = s .inside
 unify-bounded e n C mk (suc f) g p q good s hp hq =
-  meet-bounded e n C mk (unify (e .texts) n f) (unify-spec e n f)
+    meet-bounded e n C mk (unify (e .texts) n f) (unify-spec e n f)
     (λ g p q good s hp hq. inside-after s (unify-spec e n f g p q good (inside-kinds mk s) .no-new) (unify-bounded e n C mk f g p q good s hp hq))
     n g (rootOf g p) (rootOf g q) good s (s .inside (p .idx) hp) (s .inside (q .idx) hq)
 
 pub unify-inside : (e : Env) (n : ℕ) (C : Kind → Type 0) → Makes e C → (f : ℕ) → InsideStep n C (unify (e .texts) n f)
 unify-inside e n C mk f g p q good s hp hq =
-  inside-after s (unify-spec e n f g p q good (inside-kinds mk s) .no-new) (unify-bounded e n C mk f g p q good s hp hq)
+    inside-after s (unify-spec e n f g p q good (inside-kinds mk s) .no-new) (unify-bounded e n C mk f g p q good s hp hq)

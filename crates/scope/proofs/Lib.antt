@@ -7,3 +7,5 @@ pub mod Stay
 pub mod Meet
 pub mod Fuel
 pub mod Inside
+pub mod ViewFits
+pub mod Sol
