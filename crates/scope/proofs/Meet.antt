@@ -7,15 +7,16 @@ use Prim.Native.Nat.{ℕ, zero, suc, _<_}
 use native.Mathlib.Omega.{arith}
 use native.Mathlib.Decide.{ℕ-discrete, decLt}
 use lib.Dec.{eqb}
+use borrow.Author.Tests.{eqb-true}
 use lib.ListN.{length}
 use Rattle.scope.specs.Base.{pick, xor, any, all}
 use Rattle.scope.specs.Names.{Texts}
 use Rattle.scope.specs.Chart.{Env}
 use Rattle.scope.specs.Types.{Ty, ty, flip}
-use Rattle.scope.specs.Kinds.{Head, selfDual, PARAM}
+use Rattle.scope.specs.Kinds.{Head, selfDual, rowOf, PARAM}
 use Rattle.scope.specs.Nodes.{Kind}
 use Rattle.scope.specs.Answers.{Answer, Success, Failure, Indeterminate, ofBool}
-use Rattle.scope.specs.Unify.{Plan, plan, zipped}
+use Rattle.scope.specs.Unify.{Plan, plan, zipped, selfInverseKind}
 use Rattle.scope.proofs.View.{VState, unknown, known, View, sel, rootOf, link, Kid, Below, one, more, Fin, fin, Good, Out, out, run, occurs, occursSt, selfSt, selfInverse, same, bind, close, join, kept, turn, orSt, meetSt, meet, unify}
 use Rattle.scope.proofs.PlanLaws.{Makeable, plan-left, plan-right, Agrees, plan-success}
 use Rattle.scope.proofs.Acyclic.{idx-eq, same?, not-known, rep-hit, rep-miss, st-w, st-l, st-other, Joins, irrefl, below-join, sel-yes, sel-no}
@@ -295,6 +296,18 @@ all-yes t [] e m = elim m [ ]
 all-yes t (y ∷ ys) e (List·Memᴰ·head p) = ap t p ∙ and-yes (t y) (all t ys) e .0
 all-yes t (y ∷ ys) e (List·Memᴰ·tail m) = all-yes t ys (and-yes (t y) (all t ys) e .1) m
 
+param-dual : (h : Head) → h .code ≡ PARAM → selfDual h ≡ false
+unfolding selfDual rowOf
+param-dual h e = rw e
+
+-- a Param is not self-dual, so that unify's test needs no word on it
+pub self-kind : (t : Ty → Bool) (k : Kind) → selfInverseKind false t k ≡ (selfDual (k .head) && all t (k .kids))
+self-kind t k = go (eqb (k .head .code) PARAM) refl
+  where
+    go : (b : Bool) → eqb (k .head .code) PARAM ≡ b → pick b false (selfDual (k .head) && all t (k .kids)) ≡ (selfDual (k .head) && all t (k .kids))
+    go true e = sym (ap (λ (d : Bool). d && all t (k .kids)) (param-dual (k .head) (eqb-true (k .head .code) PARAM e)))
+    go false e = refl
+
 pub self-sound : (f : ℕ) (g : View) (a : ℕ) → selfInverse false f g a ≡ true → Self g a
 unfolding selfInverse
 self-sound zero g a e = tf (sym e)
@@ -306,12 +319,8 @@ self-sound (suc f) g a e = go (g .st a) refl e (λ z. self-sound f g z)
     go : (s : VState) → g .st a ≡ s → selfSt false t s ≡ true → ((z : ℕ) → selfInverse false f g z ≡ true → Self g z) → Self g a
     go unknown q e ih = tf (sym e)
     go (known i k) q e ih =
-        let h = and-yes (selfDual (k .head)) (all t (k .kids)) (unpick (eqb (k .head .code) PARAM) (selfDual (k .head) && all t (k .kids)) e) in
+        let h = and-yes (selfDual (k .head)) (all t (k .kids)) (sym (self-kind t k) ∙ e) in
         self i k q (h .0) (λ x m. ih (ri g x) (all-yes t (k .kids) (h .1) m))
-      where
-        unpick : (b c : Bool) → pick b false c ≡ true → c ≡ true
-        unpick true c e = tf (sym e)
-        unpick false c e = e
 
 xor-no : (a b : Bool) → not (xor a b) ≡ true → a ≡ b
 xor-no false false e = refl
