@@ -1,14 +1,21 @@
 -- A chain of containing roots has no repetition, so that a depth equal to the node count is enough. Assumes nothing.
 use mathlib.Core.Path.{_≡_, refl, sym, subst, _∙_}
-use mathlib.Core.List.{List, [], _∷_}
+use mathlib.Core.List.{List, [], _∷_, List·Memᴰ}
 use mathlib.Core.Bool.{Bool, true, false}
 use mathlib.Core.Logic.{_≢_, _⊎_, inl, inr}
 use Prim.Native.Nat.{ℕ, zero, suc, _+_, _≤_, _<_}
 use native.Mathlib.Nat.{not-suc-le-zero}
 use native.Mathlib.Omega.{arith}
 use native.Mathlib.Decide.{ℕ-discrete}
-use Rattle.scope.proofs.View.{View, sel, Kid, Below, one, Good}
+use Rattle.scope.specs.Names.{Texts}
+use Rattle.scope.specs.Types.{Ty, ty}
+use Rattle.scope.specs.Nodes.{Kind}
+use Rattle.scope.specs.Unify.{plan}
+use Rattle.scope.proofs.View.{known, View, sel, Kid, Below, one, Good, Out}
+use Rattle.scope.proofs.PlanLaws.{plan-left}
 use Rattle.scope.proofs.Acyclic.{same?, irrefl, below-join, sel-yes, sel-no}
+use Rattle.scope.proofs.Grow.{ri}
+use Rattle.scope.proofs.Stay.{AllPairs, Spec, below-stays}
 
 pub memb : ℕ → List ℕ → Bool
 memb x [] = false
@@ -83,3 +90,19 @@ fuel-out {g} {y} {n} {ls} good c h f = omega (arith, free-lt y n ls h (chain-new
 
 pub fuel-step : {g : View} {y n f : ℕ} {ls : List ℕ} → Good g → Chain g y ls → y < n → free n ls ≤ suc f → free n (y ∷ ls) ≤ f
 fuel-step {g} {y} {n} {f} {ls} good c h q = omega (arith, free-lt y n ls h (chain-new good c))
+
+-- a chain above each pair's first type
+abbrev pub Chains : View → List ℕ → List (Ty × Ty) → Type 0
+Chains g ls = AllPairs (λ p. Chain g (ri g (p .0)) ls)
+
+-- the chain above one child stays while another is unified
+pub chain-after : {X : Texts} {g : View} {p q : Ty} {o : Out} {ls : List ℕ} → Spec X g p q o → (x : Ty) → Chain g (ri g p) ls → Chain g (ri g x) ls
+    → Chain (o .view) (ri (o .view) x) ls
+chain-after s x cnil cnil = cnil
+chain-after s x (ccons {l = l} b c) (ccons b′ c′) = ccons (below-stays x (s .grow) (s .stays l (inl b)) b′) (chain-after s x c c′)
+
+-- a root's chain, longer by the root, is one above each of its children
+pub plan-chains : (X : Texts) (g : View) (a : ℕ) (ls : List ℕ) → g .rep a ≡ ty false a → Chain g a ls → (i : Bool) (k m : Kind) (c : Bool)
+    → g .st a ≡ known i k → Chains g (a ∷ ls) (plan X k m c .pairs)
+plan-chains X g a ls top ch i k m c s p w =
+    chain-step (record { inv = i; kind = k; kid = p .0; top = top; state = s; mem = plan-left X k m c p w; to = refl }) ch
