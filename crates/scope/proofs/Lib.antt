@@ -11,3 +11,4 @@ pub mod ViewFits
 pub mod Sol
 pub mod Self
 pub mod Fail
+pub mod Depth
