@@ -1,15 +1,14 @@
 -- Linking two roots, neither of which contains the other, keeps a view free of cycles. Assumes nothing.
 use mathlib.Core.Path.{_≡_, refl, sym, ap, subst, _∙_}
-use mathlib.Core.List.{List, [], _∷_, List·Memᴰ}
-use mathlib.Core.Bool.{Bool, true, false}
+use mathlib.Core.Bool.{Bool, false}
 use mathlib.Core.Logic.{_≢_, _⊎_, inl, inr}
 use Prim.Native.Nat.{ℕ}
 use native.Mathlib.Decide.{ℕ-discrete}
 use native.Mathlib.Omega.{arith}
 use Rattle.scope.specs.Base.{xor}
-use Rattle.scope.specs.Types.{Ty, ty, flip}
+use Rattle.scope.specs.Types.{Ty, ty}
 use Rattle.scope.specs.Nodes.{Kind}
-use Rattle.scope.proofs.View.{VState, unknown, known, View, sel, rootOf, link, Kid, Below, one, more, Fin, fin, Good}
+use Rattle.scope.proofs.View.{VState, unknown, known, View, sel, link, Kid, Below, one, more, Fin, fin, Good}
 
 pub sel-yes {ℓ ℓ′} : {A : Type ℓ} {B : Type ℓ′} (d : Dec A) (x y : B) → A → sel d x y ≡ x
 sel-yes (yes a) x y h = refl

@@ -1,6 +1,6 @@
 -- A chain of containing roots has no repetition, so that a depth equal to the node count is enough. Assumes nothing.
 use mathlib.Core.Path.{_≡_, refl, sym, subst, _∙_}
-use mathlib.Core.List.{List, [], _∷_, List·Memᴰ}
+use mathlib.Core.List.{List, [], _∷_}
 use mathlib.Core.Bool.{Bool, true, false}
 use mathlib.Core.Logic.{_≢_, _⊎_, inl, inr}
 use Prim.Native.Nat.{ℕ, zero, suc, _+_, _≤_, _<_}
@@ -29,11 +29,6 @@ weigh false = 1
 pub free : ℕ → List ℕ → ℕ
 free zero l = 0
 free (suc n) l = weigh (memb n l) + free n l
-
-weigh-le : (b : Bool) → weigh b ≤ 1
-unfolding weigh
-weigh-le true = omega arith
-weigh-le false = omega arith
 
 pub free-nil : (n : ℕ) → free n [] ≤ n
 unfolding free memb weigh

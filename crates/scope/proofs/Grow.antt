@@ -2,7 +2,7 @@
 -- nothing contains itself. Assumes nothing.
 use mathlib.Core.Path.{_≡_, refl, sym, ap, subst, _∙_}
 use mathlib.Core.List.{List, [], _∷_, List·Memᴰ, List·Memᴰ·head, List·Memᴰ·tail}
-use mathlib.Core.Bool.{Bool, true, false, not}
+use mathlib.Core.Bool.{Bool, true, false}
 use mathlib.Core.Logic.{_≢_, _⊎_, inl, inr}
 use Prim.Native.Nat.{ℕ}
 use Rattle.scope.specs.Base.{xor}
@@ -11,8 +11,8 @@ use Rattle.scope.specs.Types.{Ty, ty, flip}
 use Rattle.scope.specs.Kinds.{Head, selfDual}
 use Rattle.scope.specs.Nodes.{Kind}
 use Rattle.scope.specs.Trees.{treeHead}
-use Rattle.scope.proofs.View.{VState, unknown, known, View, sel, rootOf, link, Kid, Below, one, more, Fin, fin, Good}
-use Rattle.scope.proofs.Acyclic.{idx-eq, same?, rep-hit, rep-miss, st-w, st-l, st-other, Joins, link-good, irrefl, below-join}
+use Rattle.scope.proofs.View.{VState, known, View, rootOf, link, Kid, Below, one, more, Good}
+use Rattle.scope.proofs.Acyclic.{idx-eq, same?, rep-hit, rep-miss, st-w, st-other, Joins, link-good}
 
 pub xor-assoc : (a b c : Bool) → xor (xor a b) c ≡ xor a (xor b c)
 xor-assoc false b c = refl

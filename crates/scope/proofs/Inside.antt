@@ -1,5 +1,5 @@
 -- The nodes in use stay below n, and whatever holds of every known kind goes on holding. Assumes nothing.
-use mathlib.Core.Path.{_≡_, refl, sym}
+use mathlib.Core.Path.{_≡_, refl}
 use mathlib.Core.List.{List, [], _∷_, List·Memᴰ, List·Memᴰ·head, List·Memᴰ·tail}
 use mathlib.Core.Bool.{Bool, true, false, _||_}
 use mathlib.Core.Logic.{_≢_, _⊎_, inl, inr}
@@ -8,14 +8,14 @@ use native.Mathlib.Decide.{ℕ-discrete, decLt}
 use Rattle.scope.specs.Base.{xor}
 use Rattle.scope.specs.Names.{Texts}
 use Rattle.scope.specs.Chart.{Env}
-use Rattle.scope.specs.Types.{Ty, flip}
+use Rattle.scope.specs.Types.{Ty}
 use Rattle.scope.specs.Nodes.{Kind}
 use Rattle.scope.specs.Answers.{Answer, Success, Failure, Indeterminate, both, ofBool}
 use Rattle.scope.specs.Unify.{Plan, plan}
 use Rattle.scope.proofs.View.{VState, unknown, known, View, sel, rootOf, Good, Out, out, run, occurs, same, bind, close, join, kept, meetSt, meet, unify}
 use Rattle.scope.proofs.PlanLaws.{Makeable, plan-left, plan-right}
-use Rattle.scope.proofs.Acyclic.{idx-eq, same?, rep-hit, rep-miss}
-use Rattle.scope.proofs.Stay.{Kinds, NoNew, AllPairs, pairs-tail, Step}
+use Rattle.scope.proofs.Acyclic.{same?, rep-hit, rep-miss}
+use Rattle.scope.proofs.Stay.{Kinds, NoNew, AllPairs, Step}
 use Rattle.scope.proofs.Meet.{unify-spec}
 
 pub record Fine (n : ℕ) (C : Kind → Type 0) (k : Kind) : Type 0 where

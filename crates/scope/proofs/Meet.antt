@@ -17,11 +17,11 @@ use Rattle.scope.specs.Kinds.{Head, selfDual, rowOf, PARAM}
 use Rattle.scope.specs.Nodes.{Kind}
 use Rattle.scope.specs.Answers.{Answer, Success, Failure, Indeterminate, ofBool}
 use Rattle.scope.specs.Unify.{Plan, plan, zipped, selfInverseKind}
-use Rattle.scope.proofs.View.{VState, unknown, known, View, sel, rootOf, link, Kid, Below, one, more, Fin, fin, Good, Out, out, run, occurs, occursSt, selfSt, selfInverse, same, bind, close, join, kept, turn, orSt, meetSt, meet, unify}
-use Rattle.scope.proofs.PlanLaws.{Makeable, plan-left, plan-right, Agrees, plan-success}
-use Rattle.scope.proofs.Acyclic.{idx-eq, same?, not-known, rep-hit, rep-miss, st-w, st-l, st-other, Joins, irrefl, below-join, sel-yes, sel-no}
-use Rattle.scope.proofs.Grow.{ri, Heads, heads-refl, heads-sym, Alike, anil, acons, alike-refl, alike-sym, alike-mem, grow-refl, grow-trans, Grow, mono-idx, Self, self, Joined, agree, selfly, joined-idx, joined-sym, root-grow, link-joined, below-grow, below-top, Kept, Holds, link-grow}
-use Rattle.scope.proofs.Stay.{Kinds, NoNew, no-new-refl, no-new-trans, AllPairs, Above, Tied, Stays, Spec, RunSpec, Step, run-spec, below-stays, above-stays, stays-trans}
+use Rattle.scope.proofs.View.{VState, unknown, known, View, sel, rootOf, Kid, Below, one, more, Good, Out, out, run, occurs, occursSt, selfSt, selfInverse, same, bind, close, join, kept, turn, orSt, meetSt, meet, unify}
+use Rattle.scope.proofs.PlanLaws.{Makeable, plan-left, plan-right, plan-success}
+use Rattle.scope.proofs.Acyclic.{idx-eq, same?, not-known, rep-miss, st-w, st-l, st-other, Joins, irrefl, below-join, sel-yes, sel-no}
+use Rattle.scope.proofs.Grow.{ri, Heads, heads-refl, heads-sym, Alike, anil, acons, alike-refl, alike-sym, alike-mem, grow-refl, grow-trans, Grow, mono-idx, Self, self, Joined, agree, selfly, joined-idx, joined-sym, root-grow, link-joined, below-top, Kept, Holds, link-grow}
+use Rattle.scope.proofs.Stay.{Kinds, no-new-refl, no-new-trans, AllPairs, Above, Tied, Stays, Spec, RunSpec, Step, run-spec, below-stays, stays-trans}
 
 pub tf : {A : Type 0} → true ≡ false → A
 tf e = let z : _≡_ {A = ℕ} 0 1 = cc in absurd (omega arith)

@@ -1,13 +1,13 @@
 -- Solutions: which trees fit a view after a unify. Assumes nothing.
 use mathlib.Core.Path.{_≡_, refl, sym, ap, ap₂, subst, _∙_}
-use mathlib.Core.List.{List, [], _∷_, List·Memᴰ, List·Memᴰ·head, List·Memᴰ·tail}
-use mathlib.Core.Bool.{Bool, true, false, not, _||_, _&&_}
+use mathlib.Core.List.{List, [], _∷_, List·Memᴰ·head, List·Memᴰ·tail}
+use mathlib.Core.Bool.{Bool, true, false, not, _||_}
 use mathlib.Core.Logic.{_≢_, _⊎_, inl, inr, _↔_}
 use Prim.Native.Nat.{ℕ, zero, suc, _<_}
 use native.Mathlib.Omega.{arith}
 use native.Mathlib.Decide.{ℕ-discrete, decLt}
 use lib.ListN.{length}
-use Rattle.scope.specs.Base.{pick, xor}
+use Rattle.scope.specs.Base.{xor}
 use Rattle.scope.specs.Chart.{Env}
 use Rattle.scope.specs.Types.{Ty, ty, flip}
 use lib.Dec.{eqb}
@@ -15,12 +15,12 @@ use Rattle.scope.specs.Kinds.{Head, selfDual, DEFAULT}
 use Rattle.scope.specs.Nodes.{Kind}
 use Rattle.scope.specs.Answers.{Answer, Success, Failure, Indeterminate, both, ofBool}
 use Rattle.scope.specs.Unify.{Plan, plan, zipped, crosses}
-use Rattle.scope.specs.Trees.{TreeHead, Tree, node, Forest, fnil, fcons, treeHead, treeDual, invert, inverts, Val, invertIf, val, vals, build}
+use Rattle.scope.specs.Trees.{TreeHead, Tree, node, Forest, fcons, treeHead, inverts, Val, invertIf, val, vals, build}
 use Rattle.scope.proofs.View.{VState, unknown, known, View, sel, rootOf, Good, Out, out, run, occurs, same, bind, close, join, kept, turn, orSt, meetSt, meet, unify}
-use Rattle.scope.proofs.PlanLaws.{Makeable, dual-tree, Agrees, plan-success, plan-equal}
+use Rattle.scope.proofs.PlanLaws.{Makeable, dual-tree, plan-success, plan-equal}
 use Rattle.scope.proofs.Acyclic.{idx-eq, same?, not-known, rep-hit, rep-miss, st-w, st-l, st-other}
-use Rattle.scope.proofs.Grow.{xor-twice, xor-comm, Grow, joined-grow, link-grow}
-use Rattle.scope.proofs.Stay.{Kinds, kinds-after, AllPairs, Tied, Stays, Spec, RunSpec, Step, run-spec}
+use Rattle.scope.proofs.Grow.{xor-twice, xor-comm, joined-grow}
+use Rattle.scope.proofs.Stay.{Kinds, kinds-after, AllPairs, Stays, Spec, RunSpec, Step, run-spec}
 use Rattle.scope.proofs.Meet.{and-yes, unify-spec, PlanSpec, plan-spec, Mergeable, deep-ok, a-stays, b-stays, join-spec}
 use Rattle.scope.proofs.ViewFits.{Den, Fits, invert-dual, invertIf-twice, invertIf-xor, val-root, joined-val}
 

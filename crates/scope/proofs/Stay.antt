@@ -1,6 +1,6 @@
 -- What a unify does to a view, as a record, and the same for a run of pairs: kinds stay and none is new, whatever contains the two types stays,
 -- and after Success the two are joined. Assumes nothing.
-use mathlib.Core.Path.{_≡_, refl, sym, ap, subst, _∙_}
+use mathlib.Core.Path.{_≡_, refl, sym, subst, _∙_}
 use mathlib.Core.List.{List, [], _∷_, List·Memᴰ, List·Memᴰ·head, List·Memᴰ·tail}
 use mathlib.Core.Bool.{Bool}
 use mathlib.Core.Logic.{_⊎_, inl, inr}
@@ -11,7 +11,7 @@ use Rattle.scope.specs.Chart.{Env}
 use Rattle.scope.specs.Types.{Ty}
 use Rattle.scope.specs.Nodes.{Kind}
 use Rattle.scope.specs.Answers.{Answer, Success, Failure, Indeterminate, both}
-use Rattle.scope.proofs.View.{VState, known, View, Below, Good, Out, out, run}
+use Rattle.scope.proofs.View.{known, View, Below, Good, Out, run}
 use Rattle.scope.proofs.PlanLaws.{Makeable}
 use Rattle.scope.proofs.Acyclic.{idx-eq}
 use Rattle.scope.proofs.Grow.{ri, Grow, grow-refl, grow-trans, mono-idx, Joined, joined-grow, below-grow, below-top}
@@ -43,9 +43,6 @@ pairs-nil P p m = elim m [ ]
 pub pairs-cons : (P : Ty × Ty → Type 0) {p : Ty × Ty} {ps : List (Ty × Ty)} → P p → AllPairs P ps → AllPairs P (p ∷ ps)
 pairs-cons P h t q (List·Memᴰ·head e) = subst P (sym e) h
 pairs-cons P h t q (List·Memᴰ·tail m) = t q m
-
-pub pairs-tail : (P : Ty × Ty → Type 0) {p : Ty × Ty} {ps : List (Ty × Ty)} → AllPairs P (p ∷ ps) → AllPairs P ps
-pairs-tail P h q m = h q (List·Memᴰ·tail m)
 
 -- a's root and state are as they were
 pub record Stays (g h : View) (a : ℕ) : Type 0 where

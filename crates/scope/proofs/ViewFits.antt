@@ -3,7 +3,7 @@ use mathlib.Core.Path.{_≡_, refl, sym, ap, ap₂, subst, _∙_}
 use mathlib.Core.List.{List, [], _∷_, List·Memᴰ, List·Memᴰ·head, List·Memᴰ·tail}
 use mathlib.Core.Bool.{Bool, true, false, not, Bool·not-not}
 use Prim.Native.Nat.{ℕ}
-use Rattle.scope.specs.Base.{pick, xor}
+use Rattle.scope.specs.Base.{xor}
 use Rattle.scope.specs.Chart.{Env}
 use Rattle.scope.specs.Types.{Ty}
 use Rattle.scope.specs.Kinds.{selfDual}
