@@ -195,6 +195,9 @@ pub record Kept (X : Texts) (g : View) (k : VState) (m : Kind) : Type 0 where
   pub heads : Heads X (m .head) (kind .head)
   pub alike : Alike g (m .kids) (kind .kids)
 
+pub kept-same : {X : Texts} {g : View} {k : VState} {m : Kind} (i : Bool) → k ≡ known i m → Kept X g k m
+kept-same {X} {g} {k} {m} i e = record { inv = i; kind = m; is = e; heads = heads-refl (m .head); alike = alike-refl (m .kids) }
+
 pub record Holds (X : Texts) (g : View) (w l : ℕ) (k : VState) : Type 0 where
   pub onw : (i : Bool) (m : Kind) → g .st w ≡ known i m → Kept X g k m
   pub onl : (i : Bool) (m : Kind) → g .st l ≡ known i m → Kept X g k m

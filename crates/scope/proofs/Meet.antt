@@ -20,8 +20,8 @@ use Rattle.scope.specs.Unify.{Plan, plan, zipped, selfInverseKind}
 use Rattle.scope.proofs.View.{VState, unknown, known, View, sel, rootOf, Kid, Below, one, more, Good, Out, out, run, occurs, occursSt, selfSt, selfInverse, same, bind, close, join, kept, turn, orSt, meetSt, meet, unify}
 use Rattle.scope.proofs.PlanLaws.{Makeable, plan-left, plan-right, plan-success}
 use Rattle.scope.proofs.Acyclic.{idx-eq, same?, not-known, rep-miss, st-w, st-l, st-other, Joins, irrefl, below-join, sel-yes, sel-no}
-use Rattle.scope.proofs.Grow.{ri, Heads, heads-refl, heads-sym, Alike, anil, acons, alike-refl, alike-sym, alike-mem, grow-refl, grow-trans, Grow, mono-idx, Self, self, Joined, agree, selfly, joined-idx, joined-sym, root-grow, link-joined, below-top, Kept, Holds, link-grow}
-use Rattle.scope.proofs.Stay.{Kinds, no-new-refl, no-new-trans, AllPairs, Above, Tied, Stays, Spec, RunSpec, Step, run-spec, below-stays, stays-trans}
+use Rattle.scope.proofs.Grow.{ri, Heads, heads-refl, heads-sym, Alike, anil, acons, alike-refl, alike-sym, alike-mem, grow-refl, grow-trans, Grow, mono-idx, Self, self, Joined, agree, selfly, joined-idx, joined-sym, root-grow, link-joined, below-top, Kept, kept-same, Holds, link-grow}
+use Rattle.scope.proofs.Stay.{Kinds, no-new-refl, no-new-trans, AllPairs, Above, Tied, Stays, Spec, spec-same, not-success, unsure-success, RunSpec, Step, run-spec, below-stays, stays-trans}
 
 pub tf : {A : Type 0} → true ≡ false → A
 tf e = let z : _≡_ {A = ℕ} 0 1 = cc in absurd (omega arith)
@@ -126,12 +126,15 @@ kept-from wi ai bi unknown unknown i m e = absurd (not-known e)
 kept-from wi ai bi unknown (known j k) i m e = inr (j, ap (known j) (known-inj e))
 kept-from wi ai bi (known j k) sb i m e = inl (j, ap (known j) (known-inj e))
 
-kept-a : (X : Texts) (g : View) (wi ai bi : Bool) (sa sb : VState) (i : Bool) (m : Kind) → sa ≡ known i m → Kept X g (turn wi (orSt (turn ai sa) (turn bi sb))) m
-kept-a X g wi ai bi sa sb i m e = record { inv = xor wi (xor ai i); kind = m; is = ap (λ (s : VState). turn wi (orSt (turn ai s) (turn bi sb))) e; heads = heads-refl (m .head); alike = alike-refl (m .kids) }
+kept-a : {X : Texts} {g : View} (wi ai bi : Bool) (sa sb : VState) (i : Bool) (m : Kind) → sa ≡ known i m
+    → Kept X g (turn wi (orSt (turn ai sa) (turn bi sb))) m
+kept-a wi ai bi sa sb i m e = kept-same (xor wi (xor ai i)) (ap (λ (s : VState). turn wi (orSt (turn ai s) (turn bi sb))) e)
 
-kept-b : (X : Texts) (g : View) (wi ai bi : Bool) (sa sb : VState) (i : Bool) (m : Kind) → (sa ≡ unknown) ⊎ (sb ≡ unknown) → sb ≡ known i m → Kept X g (turn wi (orSt (turn ai sa) (turn bi sb))) m
-kept-b X g wi ai bi sa sb i m (inl u) e = record { inv = xor wi (xor bi i); kind = m; is = ap (λ (s : VState). turn wi (orSt (turn ai s) (turn bi sb))) u ∙ ap (λ (s : VState). turn wi (turn bi s)) e; heads = heads-refl (m .head); alike = alike-refl (m .kids) }
-kept-b X g wi ai bi sa sb i m (inr u) e = absurd (not-known (sym u ∙ e))
+kept-b : {X : Texts} {g : View} (wi ai bi : Bool) (sa sb : VState) (i : Bool) (m : Kind) → (sa ≡ unknown) ⊎ (sb ≡ unknown) → sb ≡ known i m
+    → Kept X g (turn wi (orSt (turn ai sa) (turn bi sb))) m
+kept-b wi ai bi sa sb i m (inl u) e =
+    kept-same (xor wi (xor bi i)) (ap (λ (s : VState). turn wi (orSt (turn ai s) (turn bi sb))) u ∙ ap (λ (s : VState). turn wi (turn bi s)) e)
+kept-b wi ai bi sa sb i m (inr u) e = absurd (not-known (sym u ∙ e))
 
 or-no : (a b : Bool) → (a || b) ≡ false → (a ≡ false) × (b ≡ false)
 or-no true b e = tf e
@@ -143,7 +146,7 @@ swap⊎ (inr b) = inl b
 
 module _ (X : Texts) (f : ℕ) (g : View) (a b : Ty) (good : Good g) (atop : g .rep (a .idx) ≡ ty false (a .idx)) (btop : g .rep (b .idx) ≡ ty false (b .idx)) (apart : a .idx ≢ b .idx) where
   pub bind-spec : (o : Bool) → (occurs f g (a .idx) (b .idx) || occurs f g (b .idx) (a .idx)) ≡ o → (g .st (a .idx) ≡ unknown) ⊎ (g .st (b .idx) ≡ unknown) → Spec X g a b (bind f g a b o)
-  bind-spec true e un = record { grow = grow-refl good; no-new = no-new-refl; stays = λ x y. record { rep = refl; st = refl }; joined = λ e. let z : _≡_ {A = ℕ} 0 1 = cc in absurd (omega arith) }
+  bind-spec true e un = spec-same Failure good (λ q. absurd (not-success q))
   bind-spec false e un = go (decLt (g .sz (b .idx)) (g .sz (a .idx)))
     where
       no-ab : Below g (b .idx) (a .idx) → ⊥
@@ -161,10 +164,10 @@ module _ (X : Texts) (f : ℕ) (g : View) (a b : Ty) (good : Good g) (atop : g .
       go : (d : Dec (g .sz (b .idx) < g .sz (a .idx))) → Spec X g a b (sel d (out (join g a b (kept g a a b)) Success) (out (join g b a (kept g b a b)) Success))
       go (yes d) = join-spec X g a b (kept g a a b) good
           (record { wtop = atop; ltop = btop; apart = apart; now = no-ba; nol = no-ab; from = λ i m q. kept-from (a .inv) (a .inv) (b .inv) sa sb i m q })
-          (record { onw = λ i m q. kept-a X g (a .inv) (a .inv) (b .inv) sa sb i m q; onl = λ i m q. kept-b X g (a .inv) (a .inv) (b .inv) sa sb i m un q })
+          (record { onw = λ i m q. kept-a (a .inv) (a .inv) (b .inv) sa sb i m q; onl = λ i m q. kept-b (a .inv) (a .inv) (b .inv) sa sb i m un q })
       go (no d) = spec-sym (join-spec X g b a (kept g b a b) good
           (record { wtop = btop; ltop = atop; apart = λ q. apart (sym q); now = no-ab; nol = no-ba; from = λ i m q. swap⊎ (kept-from (b .inv) (a .inv) (b .inv) sa sb i m q) })
-          (record { onw = λ i m q. kept-b X g (b .inv) (a .inv) (b .inv) sa sb i m un q; onl = λ i m q. kept-a X g (b .inv) (a .inv) (b .inv) sa sb i m q }))
+          (record { onw = λ i m q. kept-b (b .inv) (a .inv) (b .inv) sa sb i m un q; onl = λ i m q. kept-a (b .inv) (a .inv) (b .inv) sa sb i m q }))
 
 pub record Mergeable (X : Texts) (h : View) (a b : ℕ) : Type 0 where
   pub jab : Joins h a b (h .st a)
@@ -213,11 +216,11 @@ module _ (e : Env) (u : View → Ty → Ty → Out) (ih : Step e u) (f : ℕ) (g
       jab = record { wtop = ta; ltop = tb; apart = apart; now = n-ab; nol = n-ba; from = λ x y q. inl (x, q) };
       jba = record { wtop = tb; ltop = ta; apart = λ q. apart (sym q); now = n-ba; nol = n-ab; from = λ x y q. inl (x, q) };
       hab = record {
-        onw = λ x y q. record { inv = x; kind = y; is = q; heads = heads-refl (y .head); alike = alike-refl (y .kids) };
+        onw = λ x y q. kept-same x q;
         onl = λ x y q. let z : y ≡ m = known-inj (sym q ∙ hb) in record { inv = i; kind = k; is = ha; heads = rw z (heads-sym hk); alike = rw z (alike-sym al) };
       };
       hba = record {
-        onw = λ x y q. record { inv = x; kind = y; is = q; heads = heads-refl (y .head); alike = alike-refl (y .kids) };
+        onw = λ x y q. kept-same x q;
         onl = λ x y q. let z : y ≡ k = known-inj (sym q ∙ ha) in record { inv = j; kind = m; is = hb; heads = rw z hk; alike = rw z al };
       };
     }
@@ -253,8 +256,8 @@ module _ (e : Env) (u : View → Ty → Ty → Out) (ih : Step e u) (f : ℕ) (g
         n-ba = not-under hg ta hb ha (alike-sym al)
 
     pub deep-spec : (o : Out) → RunSpec (e .texts) g (l .base) (l .pairs) o → Stays g (o .view) (a .idx) → Stays g (o .view) (b .idx) → (r : Answer) → o .answer ≡ r → Spec (e .texts) g a b (close (o .view) a b r)
-    deep-spec o rs ka kb Failure ans = record { grow = rs .grow; no-new = rs .no-new; stays = λ c x. rs .stays c (over c x); joined = λ q. let z : _≡_ {A = ℕ} 0 1 = cc in absurd (omega arith) }
-    deep-spec o rs ka kb Indeterminate ans = record { grow = rs .grow; no-new = rs .no-new; stays = λ c x. rs .stays c (over c x); joined = λ q. let z : _≡_ {A = ℕ} 0 1 = cc in absurd (omega arith) }
+    deep-spec o rs ka kb Failure ans = record { grow = rs .grow; no-new = rs .no-new; stays = λ c x. rs .stays c (over c x); joined = λ q. absurd (not-success q) }
+    deep-spec o rs ka kb Indeterminate ans = record { grow = rs .grow; no-new = rs .no-new; stays = λ c x. rs .stays c (over c x); joined = λ q. absurd (unsure-success q) }
     deep-spec o rs ka kb Success ans = go (decLt (o .view .sz (b .idx)) (o .view .sz (a .idx)))
       where
         h : View
@@ -334,7 +337,7 @@ same-joined f g a b ta e = go (not (xor (a .inv) (b .inv))) (selfInverse false f
     go : (x y : Bool) → not (xor (a .inv) (b .inv)) ≡ x → selfInverse false f g (a .idx) ≡ y → ofBool (x || y) ≡ Success → Joined g a b
     go true y p q r = agree (ap (λ (z : Ty). rootOf g z) (λ i. record { inv = xor-no (a .inv) (b .inv) p i; idx = e i }))
     go false true p q r = selfly (ap (λ (n : ℕ). g .rep n .idx) e) (subst (Self g) (sym (idx-eq ta)) (self-sound f g (a .idx) q))
-    go false false p q r = let z : _≡_ {A = ℕ} 0 1 = cc in absurd (omega arith)
+    go false false p q r = absurd (not-success r)
 
 pub meet-spec : (e : Env) (u : View → Ty → Ty → Out) → Step e u → (f : ℕ) (g : View) (a b : Ty) → Good g → Kinds e g
     → g .rep (a .idx) ≡ ty false (a .idx) → g .rep (b .idx) ≡ ty false (b .idx) → Spec (e .texts) g a b (meet u (e .texts) f g a b)
@@ -343,7 +346,7 @@ meet-spec e u ih f g a b good kinds ta tb = go (ℕ-discrete (a .idx) (b .idx))
   where
     go : (d : Dec (a .idx ≡ b .idx))
         → Spec (e .texts) g a b (sel d (out g (ofBool (same f g a b))) (meetSt u (e .texts) f g a b (g .st (a .idx)) (g .st (b .idx))))
-    go (yes q) = record { grow = grow-refl good; no-new = no-new-refl; stays = λ x y. record { rep = refl; st = refl }; joined = λ r. same-joined f g a b ta q r }
+    go (yes q) = spec-same (ofBool (same f g a b)) good (λ r. same-joined f g a b ta q r)
     go (no n) = meet-st e u ih f g a b good kinds ta tb n (g .st (a .idx)) (g .st (b .idx)) refl refl
 
 -- from the roots to the types that were given
@@ -361,7 +364,6 @@ spec-root {X} {g} {p} {q} {o} good s = record {
 
 pub unify-spec : (e : Env) (n f : ℕ) → Step e (unify (e .texts) n f)
 unfolding unify
-unify-spec e n zero g p q good kinds = record
-    { grow = grow-refl good; no-new = no-new-refl; stays = λ x y. record { rep = refl; st = refl }; joined = λ r. let z : _≡_ {A = ℕ} 0 1 = cc in absurd (omega arith) }
+unify-spec e n zero g p q good kinds = spec-same Failure good (λ r. absurd (not-success r))
 unify-spec e n (suc f) g p q good kinds =
     spec-root good (meet-spec e (unify (e .texts) n f) (λ g p q h w. unify-spec e n f g p q h w) n g (rootOf g p) (rootOf g q) good kinds (good .idem (p .idx)) (good .idem (q .idx)))

@@ -11,7 +11,7 @@ use Rattle.scope.specs.Chart.{Env}
 use Rattle.scope.specs.Types.{Ty}
 use Rattle.scope.specs.Nodes.{Kind}
 use Rattle.scope.specs.Answers.{Answer, Success, Failure, Indeterminate, both}
-use Rattle.scope.proofs.View.{known, View, Below, Good, Out, run}
+use Rattle.scope.proofs.View.{known, View, Below, Good, Out, out, run}
 use Rattle.scope.proofs.PlanLaws.{Makeable}
 use Rattle.scope.proofs.Acyclic.{idx-eq}
 use Rattle.scope.proofs.Grow.{ri, Grow, grow-refl, grow-trans, mono-idx, Joined, joined-grow, below-grow, below-top}
@@ -62,6 +62,10 @@ pub record Spec (X : Texts) (g : View) (p q : Ty) (o : Out) : Type 0 where
   pub stays : (a : ℕ) → Above g a (p, q) → Stays g (o .view) a
   pub joined : o .answer ≡ Success → Joined (o .view) p q
 
+-- nothing changed
+pub spec-same : {X : Texts} {g : View} {p q : Ty} (r : Answer) → Good g → (r ≡ Success → Joined g p q) → Spec X g p q (out g r)
+spec-same r good j = record { grow = grow-refl good; no-new = no-new-refl; stays = λ a b. record { rep = refl; st = refl }; joined = j }
+
 -- each pair is joined
 abbrev pub Tied : View → List (Ty × Ty) → Type 0
 Tied g = AllPairs (λ p. Joined g (p .0) (p .1))
@@ -72,12 +76,18 @@ pub record RunSpec (X : Texts) (g : View) (r : Answer) (ps : List (Ty × Ty)) (o
   pub stays : (a : ℕ) → AllPairs (Above g a) ps → Stays g (o .view) a
   pub joined : o .answer ≡ Success → (r ≡ Success) × Tied (o .view) ps
 
+pub not-success : Failure ≡ Success → ⊥
+not-success e = let z : _≡_ {A = ℕ} 0 1 = cc in omega arith
+
+pub unsure-success : Indeterminate ≡ Success → ⊥
+unsure-success e = let z : _≡_ {A = ℕ} 0 1 = cc in omega arith
+
 pub both-success : (a b : Answer) → both a b ≡ Success → (a ≡ Success) × (b ≡ Success)
 both-success Success b e = (refl, e)
-both-success Failure b e = let z : _≡_ {A = ℕ} 0 1 = cc in absurd (omega arith)
-both-success Indeterminate Success e = let z : _≡_ {A = ℕ} 0 1 = cc in absurd (omega arith)
-both-success Indeterminate Failure e = let z : _≡_ {A = ℕ} 0 1 = cc in absurd (omega arith)
-both-success Indeterminate Indeterminate e = let z : _≡_ {A = ℕ} 0 1 = cc in absurd (omega arith)
+both-success Failure b e = absurd (not-success e)
+both-success Indeterminate Success e = absurd (unsure-success e)
+both-success Indeterminate Failure e = absurd (not-success e)
+both-success Indeterminate Indeterminate e = absurd (unsure-success e)
 
 -- what lies below a still does, where a itself stays
 pub below-stays : {X : Texts} {g h : View} {a : ℕ} (t : Ty) → Grow X g h → Stays g h a → Below g a (ri g t) → Below h a (ri h t)
