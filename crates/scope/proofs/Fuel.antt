@@ -59,7 +59,12 @@ free-lt y zero l h e = absurd (not-suc-le-zero h)
 free-lt y (suc n) l h e = go (λ q. free-lt y n l q e) (same? y n)
   where
     go : (y < n → free n (y ∷ l) < free n l) → (y ≡ n) ⊎ (y ≢ n) → weigh (memb n (y ∷ l)) + free n (y ∷ l) < weigh (memb n l) + free n l
-    go ih (inl q) = omega (arith, subst (λ (x : ℕ). weigh (memb n (x ∷ l)) < weigh (memb n l)) (sym q) (weigh-new n l (subst (λ (x : ℕ). memb x l ≡ false) q e)), free-le y n l)
+    go ih (inl q) = omega (
+      arith,
+      subst (λ (x : ℕ). weigh (memb n (x ∷ l)) < weigh (memb n l)) (sym q)
+          (weigh-new n l (subst (λ (x : ℕ). memb x l ≡ false) q e)),
+      free-le y n l,
+    )
     go ih (inr q) = omega (arith, weigh-more y n l, ih (omega arith))
 
 -- roots, each of which contains y
@@ -70,7 +75,8 @@ pub data Chain (g : View) (y : ℕ) : List ℕ → Type 0 where
 pub chain-new : {g : View} {y : ℕ} {ls : List ℕ} → Good g → Chain g y ls → memb y ls ≡ false
 unfolding memb
 chain-new good cnil = refl
-chain-new {g} {y} good (ccons {l = l} {ls = ls} b c) = sel-no (ℕ-discrete y l) true (memb y ls) (λ e. irrefl (good .wf y) (subst (λ (x : ℕ). Below g x y) (sym e) b)) ∙ chain-new good c
+chain-new {g} {y} good (ccons {l = l} {ls = ls} b c) = sel-no (ℕ-discrete y l) true (memb y ls)
+    (λ e. irrefl (good .wf y) (subst (λ (x : ℕ). Below g x y) (sym e) b)) ∙ chain-new good c
 
 chain-down : {g : View} {y z : ℕ} {ls : List ℕ} → Kid g y z → Chain g y ls → Chain g z ls
 chain-down k cnil = cnil

@@ -109,7 +109,13 @@ pub grow-refl : {X : Texts} {g : View} → Good g → Grow X g g
 grow-refl {g} good = record {
   good = good;
   mono = λ n. rw (good .idem n) (ap (λ (b : Bool). ty b (g .rep n .idx)) (sym (xor-false (g .rep n .inv))));
-  knows = λ a i k t s. record { inv = i; kind = k; state = ap (λ (x : Ty). g .st (x .idx)) t ∙ s; heads = heads-refl (k .head); alike = alike-refl (k .kids) };
+  knows = λ a i k t s. record {
+    inv = i;
+    kind = k;
+    state = ap (λ (x : Ty). g .st (x .idx)) t ∙ s;
+    heads = heads-refl (k .head);
+    alike = alike-refl (k .kids);
+  };
 }
 
 pub grow-trans : {X : Texts} {g h m : View} → Good h → Grow X g h → Grow X h m → Grow X g m
@@ -154,7 +160,8 @@ below-grow w (more c b) = more (kid-grow w c) (below-grow w b)
 
 -- a root whose tree is its own inverse in every solution, by its kind
 pub data Self (g : View) : ℕ → Type 0 where
-  self : {a : ℕ} (i : Bool) (k : Kind) → g .st a ≡ known i k → selfDual (k .head) ≡ true → ((x : Ty) → List·Memᴰ x (k .kids) → Self g (ri g x)) → Self g a
+  self : {a : ℕ} (i : Bool) (k : Kind) → g .st a ≡ known i k → selfDual (k .head) ≡ true → ((x : Ty) → List·Memᴰ x (k .kids) → Self g (ri g x))
+      → Self g a
 
 pub self-grow : {X : Texts} {g h : View} {a : ℕ} → Good g → Grow X g h → g .rep a ≡ ty false a → Self g a → Self h (h .rep a .idx)
 self-grow {X} {g} {h} {a} good w t (self i k s d f) = go (w .knows a i k t s) (λ x m. self-grow good w (good .idem (x .idx)) (f x m))
@@ -177,7 +184,8 @@ root-grow {g} {h} w p = ap (flip (p .inv)) (w .mono (p .idx)) ∙ sym (flip-flip
 
 pub joined-grow : {X : Texts} {g h : View} {p q : Ty} → Good g → Grow X g h → Joined g p q → Joined h p q
 joined-grow {g} {h} {p} {q} good w (agree e) = agree (root-grow w p ∙ ap (rootOf h) e ∙ sym (root-grow w q))
-joined-grow {g} {h} {p} {q} good w (selfly e s) = selfly (mono-eq w (p .idx) (q .idx) e) (subst (Self h) (sym (mono-idx w (p .idx))) (self-grow good w (good .idem (p .idx)) s))
+joined-grow {g} {h} {p} {q} good w (selfly e s) = selfly (mono-eq w (p .idx) (q .idx) e)
+    (subst (Self h) (sym (mono-idx w (p .idx))) (self-grow good w (good .idem (p .idx)) s))
 
 pub joined-sym : {g : View} {p q : Ty} → Joined g p q → Joined g q p
 joined-sym (agree e) = agree (sym e)
@@ -211,7 +219,8 @@ module _ (g : View) (w l : ℕ) (i : Bool) (k : VState) (good : Good g) (ok : Jo
 
       go : (g .rep n .idx ≡ l) ⊎ (g .rep n .idx ≢ l) → link g w l i k .rep n ≡ flip (g .rep n .inv) (link g w l i k .rep (g .rep n .idx))
       go (inl h) = rep-hit g w l i k n h
-          ∙ ap (flip (g .rep n .inv)) (ap (λ (t : Ty). ty (xor (t .inv) i) w) (sym (good .idem n)) ∙ sym (rep-hit g w l i k (g .rep n .idx) (idx-eq (good .idem n) ∙ h)))
+          ∙ ap (flip (g .rep n .inv)) (ap (λ (t : Ty). ty (xor (t .inv) i) w) (sym (good .idem n))
+          ∙ sym (rep-hit g w l i k (g .rep n .idx) (idx-eq (good .idem n) ∙ h)))
       go (inr h) = rep-miss g w l i k n h ∙ ap (λ (b : Bool). ty b (g .rep n .idx)) (sym (xor-false (g .rep n .inv)))
           ∙ ap (flip (g .rep n .inv)) (sym (good .idem n) ∙ sym (rep-miss g w l i k (g .rep n .idx) (λ e. h (sym (idx-eq (good .idem n)) ∙ e))))
 
@@ -237,9 +246,16 @@ module _ (g : View) (w l : ℕ) (i : Bool) (k : VState) (good : Good g) (ok : Jo
   link-grow {X} hold = record { good = link-good g w l i k good ok; mono = link-mono; knows = λ a j m t s. knows a j m t s (same? a w) (same? a l) }
     where
       keep : (a : ℕ) (m : Kind) → link g w l i k .rep a .idx ≡ w → Kept X g k m → Keeps X (link g w l i k) a m
-      keep a m e c = record { inv = c .inv; kind = c .kind; state = ap (link g w l i k .st) e ∙ st-w g w l i k ∙ c .is; heads = c .heads; alike = alike-link (c .alike) }
+      keep a m e c = record {
+        inv = c .inv;
+        kind = c .kind;
+        state = ap (link g w l i k .st) e ∙ st-w g w l i k ∙ c .is;
+        heads = c .heads;
+        alike = alike-link (c .alike);
+      }
 
-      knows : (a : ℕ) (j : Bool) (m : Kind) → g .rep a ≡ ty false a → g .st a ≡ known j m → (a ≡ w) ⊎ (a ≢ w) → (a ≡ l) ⊎ (a ≢ l) → Keeps X (link g w l i k) a m
+      knows : (a : ℕ) (j : Bool) (m : Kind) → g .rep a ≡ ty false a → g .st a ≡ known j m → (a ≡ w) ⊎ (a ≢ w) → (a ≡ l) ⊎ (a ≢ l)
+          → Keeps X (link g w l i k) a m
       knows a j m t s (inl e) d = keep a m (ap (λ (x : ℕ). link g w l i k .rep x .idx) e ∙ w-root) (hold .onw j m (ap (g .st) (sym e) ∙ s))
       knows a j m t s (inr n) (inl e) = keep a m (ap (λ (x : ℕ). link g w l i k .rep x .idx) e ∙ l-root) (hold .onl j m (ap (g .st) (sym e) ∙ s))
       knows a j m t s (inr n) (inr n′) =

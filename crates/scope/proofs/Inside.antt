@@ -94,10 +94,12 @@ module _ (e : Env) (n : ℕ) (C : Kind → Type 0) (mk : Makes e C) (u : View �
           let c : Bool = xor (xor i (a .inv)) (xor j (b .inv)) in
           let l : Plan = plan (e .texts) k m c in
           let o : Out = run u g (l .base) (l .pairs) in
-          let t : Inside n C (o .view) = run-inside g (l .base) (l .pairs) good s (plan-within (e .texts) c (s .kinds (a .idx) i k p) (s .kinds (b .idx) j m q)) in
+          let t : Inside n C (o .view) = run-inside g (l .base) (l .pairs) good s
+          (plan-within (e .texts) c (s .kinds (a .idx) i k p) (s .kinds (b .idx) j m q)) in
           close-bounded n (o .view) a b ha hb (t .inside) (o .answer)
 
-      go : (d : Dec (a .idx ≡ b .idx)) → Bounded n (sel d (out g (ofBool (same f g a b))) (meetSt u (e .texts) f g a b (g .st (a .idx)) (g .st (b .idx))) .view)
+      go : (d : Dec (a .idx ≡ b .idx)) → Bounded n
+          (sel d (out g (ofBool (same f g a b))) (meetSt u (e .texts) f g a b (g .st (a .idx)) (g .st (b .idx))) .view)
       go (yes q) = s .inside
       go (no q) = at (g .st (a .idx)) (g .st (b .idx)) refl refl
 

@@ -4,6 +4,7 @@ pub mod PlanLaws
 pub mod Acyclic
 pub mod Grow
 pub mod Stay
+pub mod Occurs
 pub mod Meet
 pub mod Fuel
 pub mod Inside

@@ -1,69 +1,33 @@
 -- What a unify does to a view: the cases of a call, and the induction over the depth. Assumes nothing.
 use mathlib.Core.Path.{_≡_, refl, sym, ap, subst, _∙_}
 use mathlib.Core.List.{List, [], _∷_, List·Memᴰ, List·Memᴰ·head, List·Memᴰ·tail}
-use mathlib.Core.Bool.{Bool, true, false, not, _||_, _&&_}
+use mathlib.Core.Bool.{Bool, true, false, not, _||_}
 use mathlib.Core.Logic.{_≢_, _⊎_, inl, inr}
 use Prim.Native.Nat.{ℕ, zero, suc, _<_}
 use native.Mathlib.Omega.{arith}
 use native.Mathlib.Decide.{ℕ-discrete, decLt}
-use lib.Dec.{eqb}
-use borrow.Author.Tests.{eqb-true}
 use lib.ListN.{length}
-use Rattle.scope.specs.Base.{pick, xor, any, all}
+use Rattle.scope.specs.Base.{xor}
 use Rattle.scope.specs.Names.{Texts}
 use Rattle.scope.specs.Chart.{Env}
 use Rattle.scope.specs.Types.{Ty, ty, flip}
-use Rattle.scope.specs.Kinds.{Head, selfDual, rowOf, PARAM}
 use Rattle.scope.specs.Nodes.{Kind}
 use Rattle.scope.specs.Answers.{Answer, Success, Failure, Indeterminate, ofBool}
-use Rattle.scope.specs.Unify.{Plan, plan, zipped, selfInverseKind}
-use Rattle.scope.proofs.View.{VState, unknown, known, View, sel, rootOf, Kid, Below, one, more, Good, Out, out, run, occurs, occursSt, selfSt, selfInverse, same, bind, close, join, kept, turn, orSt, meetSt, meet, unify}
+use Rattle.scope.specs.Unify.{Plan, plan, zipped}
+use Rattle.scope.proofs.View.{VState, unknown, known, View, sel, rootOf, Kid, Below, one, more, Good, Out, out, run, occurs, selfInverse, same, bind, close, join, kept, turn, orSt, meetSt, meet, unify}
 use Rattle.scope.proofs.PlanLaws.{Makeable, plan-left, plan-right, plan-success}
-use Rattle.scope.proofs.Acyclic.{idx-eq, same?, not-known, rep-miss, st-w, st-l, st-other, Joins, irrefl, below-join, sel-yes, sel-no}
-use Rattle.scope.proofs.Grow.{ri, Heads, heads-refl, heads-sym, Alike, anil, acons, alike-refl, alike-sym, alike-mem, grow-refl, grow-trans, Grow, mono-idx, Self, self, Joined, agree, selfly, joined-idx, joined-sym, root-grow, link-joined, below-top, Kept, kept-same, Holds, link-grow}
-use Rattle.scope.proofs.Stay.{Kinds, no-new-refl, no-new-trans, AllPairs, Above, Tied, Stays, Spec, spec-same, not-success, unsure-success, RunSpec, Step, run-spec, below-stays, stays-trans}
-
-pub tf : {A : Type 0} → true ≡ false → A
-tf e = let z : _≡_ {A = ℕ} 0 1 = cc in absurd (omega arith)
-
-any-no : (t : Ty → Bool) (xs : List Ty) {x : Ty} → any t xs ≡ false → List·Memᴰ x xs → t x ≡ false
-any-no t [] e m = elim m [ ]
-any-no t (y ∷ ys) e (List·Memᴰ·head p) = ap t p ∙ or-l (t y) (any t ys) e
-  where
-    or-l : (a b : Bool) → (a || b) ≡ false → a ≡ false
-    or-l true b e = e
-    or-l false b e = refl
-any-no t (y ∷ ys) e (List·Memᴰ·tail m) = any-no t ys (or-r (t y) (any t ys) e) m
-  where
-    or-r : (a b : Bool) → (a || b) ≡ false → b ≡ false
-    or-r true b e = tf e
-    or-r false b e = e
-
-pub occurs-no : (f : ℕ) (g : View) (x y : ℕ) → occurs f g x y ≡ false → (y ≢ x) × (Below g y x → ⊥)
-unfolding occurs
-occurs-no zero g x y e = tf e
-occurs-no (suc f) g x y e = go (same? y x) (λ z. occurs-no f g x z)
-  where
-    t : Ty → Bool
-    t c = occurs f g x (g .rep (c .idx) .idx)
-
-    go : (y ≡ x) ⊎ (y ≢ x) → ((z : ℕ) → occurs f g x z ≡ false → (z ≢ x) × (Below g z x → ⊥)) → (y ≢ x) × (Below g y x → ⊥)
-    go (inl h) ih = tf (sym (sel-yes (ℕ-discrete y x) true (occursSt t (g .st y)) h) ∙ e)
-    go (inr n) ih = (n, not-below)
-      where
-        none : (c : Ty) (i : Bool) (k : Kind) → g .st y ≡ known i k → List·Memᴰ c (k .kids) → occurs f g x (ri g c) ≡ false
-        none c i k s m = any-no t (k .kids) (ap (occursSt t) (sym s) ∙ sym (sel-no (ℕ-discrete y x) true (occursSt t (g .st y)) n) ∙ e) m
-
-        not-below : Below g y x → ⊥
-        not-below (one c) = ih (ri g (c .kid)) (none (c .kid) (c .inv) (c .kind) (c .state) (c .mem)) .0 (c .to)
-        not-below (more c b) = ih (ri g (c .kid)) (none (c .kid) (c .inv) (c .kind) (c .state) (c .mem)) .1 (subst (λ (z : ℕ). Below g z x) (sym (c .to)) b)
+use Rattle.scope.proofs.Acyclic.{idx-eq, same?, not-known, rep-miss, st-w, st-l, st-other, Joins, irrefl, below-join}
+use Rattle.scope.proofs.Grow.{ri, Heads, heads-sym, Alike, anil, acons, alike-sym, alike-mem, grow-trans, Grow, mono-idx, Self, Joined, agree, selfly, joined-idx, joined-sym, root-grow, link-joined, below-top, Kept, kept-same, Holds, link-grow}
+use Rattle.scope.proofs.Stay.{Kinds, no-new-trans, AllPairs, Above, Tied, Stays, Spec, spec-same, not-success, unsure-success, RunSpec, Step, run-spec, below-stays, stays-trans}
+use Rattle.scope.proofs.Occurs.{tf, or-no, occurs-no, self-sound}
 
 zip-alike : {h : View} (i : Bool) (xs ys : List Ty) → length xs ≡ length ys → Tied h (zipped i xs ys) → Alike h xs ys
 unfolding zipped
 zip-alike i [] [] e t = anil
 zip-alike i [] (y ∷ ys) e t = absurd (omega arith)
 zip-alike i (x ∷ xs) [] e t = absurd (omega arith)
-zip-alike i (x ∷ xs) (y ∷ ys) e t = acons (joined-idx (t (x, flip i y) (List·Memᴰ·head refl))) (zip-alike i xs ys (omega arith) (λ p m. t p (List·Memᴰ·tail m)))
+zip-alike i (x ∷ xs) (y ∷ ys) e t = acons (joined-idx (t (x, flip i y) (List·Memᴰ·head refl)))
+    (zip-alike i xs ys (omega arith) (λ p m. t p (List·Memᴰ·tail m)))
 
 -- what the induction needs of a plan, and all that it needs
 pub record PlanSpec (X : Texts) (k m : Kind) (l : Plan) : Type 0 where
@@ -81,19 +45,29 @@ plan-spec e k m i ok om = record {
 }
 
 spec-sym : {X : Texts} {g : View} {p q : Ty} {o : Out} → Spec X g p q o → Spec X g q p o
-spec-sym s = record { grow = s .grow; no-new = s .no-new; stays = λ a b. s .stays a (elim b [ inl x ↦ inr x | inr x ↦ inl x ]); joined = λ e. joined-sym (s .joined e) }
+spec-sym s = record {
+  grow = s .grow;
+  no-new = s .no-new;
+  stays = λ a b. s .stays a (elim b [ inl x ↦ inr x | inr x ↦ inl x ]);
+  joined = λ e. joined-sym (s .joined e);
+}
 
 -- joining two roots
-module _ (X : Texts) (g : View) (w l : Ty) (k : VState) (good : Good g) (ok : Joins g (w .idx) (l .idx) k) (hold : Holds X g (w .idx) (l .idx) k) where
+module _ (X : Texts) (g : View) (w l : Ty) (k : VState) (good : Good g) (ok : Joins g (w .idx) (l .idx) k)
+    (hold : Holds X g (w .idx) (l .idx) k) where
   pub join-spec : Spec X g w l (out (join g w l k) Success)
   join-spec = record {
     grow = link-grow g (w .idx) (l .idx) (xor (l .inv) (w .inv)) k good ok hold;
     no-new = record { was = λ a i m s. was a i m s (same? a (w .idx)) (same? a (l .idx)) };
-    stays = λ a b. elim b [ inl x ↦ under-w a (subst (Below g a) (idx-eq (ok .wtop)) x) | inr x ↦ under-l a (subst (Below g a) (idx-eq (ok .ltop)) x) ];
+    stays = λ a b. elim b [
+      | inl x ↦ under-w a (subst (Below g a) (idx-eq (ok .wtop)) x)
+      | inr x ↦ under-l a (subst (Below g a) (idx-eq (ok .ltop)) x)
+    ];
     joined = λ e. agree (link-joined g (w .idx) (l .idx) (xor (l .inv) (w .inv)) k good ok (w .inv) (l .inv) refl);
   }
     where
-      of : (m : Kind) → ((j : Bool) × (g .st (w .idx) ≡ known j m)) ⊎ ((j : Bool) × (g .st (l .idx) ≡ known j m)) → (b : ℕ) × (j : Bool) × (g .st b ≡ known j m)
+      of : (m : Kind) → ((j : Bool) × (g .st (w .idx) ≡ known j m)) ⊎ ((j : Bool) × (g .st (l .idx) ≡ known j m))
+          → (b : ℕ) × (j : Bool) × (g .st b ≡ known j m)
       of m (inl e) = (w .idx, e .0, e .1)
       of m (inr e) = (l .idx, e .0, e .1)
 
@@ -111,10 +85,12 @@ module _ (X : Texts) (g : View) (w l : Ty) (k : VState) (good : Good g) (ok : Jo
       }
 
       under-w : (a : ℕ) → Below g a (w .idx) → Stays g (join g w l k) a
-      under-w a b = keep a (below-top b) (λ e. irrefl (good .wf (w .idx)) (subst (λ (x : ℕ). Below g x (w .idx)) e b)) (λ e. ok .nol (subst (λ (x : ℕ). Below g x (w .idx)) e b))
+      under-w a b = keep a (below-top b) (λ e. irrefl (good .wf (w .idx)) (subst (λ (x : ℕ). Below g x (w .idx)) e b))
+          (λ e. ok .nol (subst (λ (x : ℕ). Below g x (w .idx)) e b))
 
       under-l : (a : ℕ) → Below g a (l .idx) → Stays g (join g w l k) a
-      under-l a b = keep a (below-top b) (λ e. ok .now (subst (λ (x : ℕ). Below g x (l .idx)) e b)) (λ e. irrefl (good .wf (l .idx)) (subst (λ (x : ℕ). Below g x (l .idx)) e b))
+      under-l a b = keep a (below-top b) (λ e. ok .now (subst (λ (x : ℕ). Below g x (l .idx)) e b))
+          (λ e. irrefl (good .wf (l .idx)) (subst (λ (x : ℕ). Below g x (l .idx)) e b))
 
 -- the state that a bound variable takes
 known-inj : {i j : Bool} {k m : Kind} → known i k ≡ known j m → k ≡ m
@@ -136,16 +112,14 @@ kept-b wi ai bi sa sb i m (inl u) e =
     kept-same (xor wi (xor bi i)) (ap (λ (s : VState). turn wi (orSt (turn ai s) (turn bi sb))) u ∙ ap (λ (s : VState). turn wi (turn bi s)) e)
 kept-b wi ai bi sa sb i m (inr u) e = absurd (not-known (sym u ∙ e))
 
-or-no : (a b : Bool) → (a || b) ≡ false → (a ≡ false) × (b ≡ false)
-or-no true b e = tf e
-or-no false b e = (refl, e)
-
 pub swap⊎ : {A B : Type 0} → A ⊎ B → B ⊎ A
 swap⊎ (inl a) = inr a
 swap⊎ (inr b) = inl b
 
-module _ (X : Texts) (f : ℕ) (g : View) (a b : Ty) (good : Good g) (atop : g .rep (a .idx) ≡ ty false (a .idx)) (btop : g .rep (b .idx) ≡ ty false (b .idx)) (apart : a .idx ≢ b .idx) where
-  pub bind-spec : (o : Bool) → (occurs f g (a .idx) (b .idx) || occurs f g (b .idx) (a .idx)) ≡ o → (g .st (a .idx) ≡ unknown) ⊎ (g .st (b .idx) ≡ unknown) → Spec X g a b (bind f g a b o)
+module _ (X : Texts) (f : ℕ) (g : View) (a b : Ty) (good : Good g) (atop : g .rep (a .idx) ≡ ty false (a .idx))
+    (btop : g .rep (b .idx) ≡ ty false (b .idx)) (apart : a .idx ≢ b .idx) where
+  pub bind-spec : (o : Bool) → (occurs f g (a .idx) (b .idx) || occurs f g (b .idx) (a .idx)) ≡ o
+      → (g .st (a .idx) ≡ unknown) ⊎ (g .st (b .idx) ≡ unknown) → Spec X g a b (bind f g a b o)
   bind-spec true e un = spec-same Failure good (λ q. absurd (not-success q))
   bind-spec false e un = go (decLt (g .sz (b .idx)) (g .sz (a .idx)))
     where
@@ -161,12 +135,28 @@ module _ (X : Texts) (f : ℕ) (g : View) (a b : Ty) (good : Good g) (atop : g .
       sb : VState
       sb = g .st (b .idx)
 
-      go : (d : Dec (g .sz (b .idx) < g .sz (a .idx))) → Spec X g a b (sel d (out (join g a b (kept g a a b)) Success) (out (join g b a (kept g b a b)) Success))
+      go : (d : Dec (g .sz (b .idx) < g .sz (a .idx)))
+          → Spec X g a b (sel d (out (join g a b (kept g a a b)) Success) (out (join g b a (kept g b a b)) Success))
       go (yes d) = join-spec X g a b (kept g a a b) good
-          (record { wtop = atop; ltop = btop; apart = apart; now = no-ba; nol = no-ab; from = λ i m q. kept-from (a .inv) (a .inv) (b .inv) sa sb i m q })
+          (record {
+            wtop = atop;
+            ltop = btop;
+            apart = apart;
+            now = no-ba;
+            nol = no-ab;
+            from = λ i m q. kept-from (a .inv) (a .inv) (b .inv) sa sb i m q;
+          })
           (record { onw = λ i m q. kept-a (a .inv) (a .inv) (b .inv) sa sb i m q; onl = λ i m q. kept-b (a .inv) (a .inv) (b .inv) sa sb i m un q })
       go (no d) = spec-sym (join-spec X g b a (kept g b a b) good
-          (record { wtop = btop; ltop = atop; apart = λ q. apart (sym q); now = no-ab; nol = no-ba; from = λ i m q. swap⊎ (kept-from (b .inv) (a .inv) (b .inv) sa sb i m q) })
+          (record {
+            wtop = btop;
+            ltop = atop;
+            apart = λ q. apart (sym q);
+            now = no-ab;
+            nol = no-ba;
+            from = λ i m q. swap⊎
+                (kept-from (b .inv) (a .inv) (b .inv) sa sb i m q);
+          })
           (record { onw = λ i m q. kept-b (b .inv) (a .inv) (b .inv) sa sb i m un q; onl = λ i m q. kept-a (b .inv) (a .inv) (b .inv) sa sb i m q }))
 
 pub record Mergeable (X : Texts) (h : View) (a b : ℕ) : Type 0 where
@@ -176,7 +166,8 @@ pub record Mergeable (X : Texts) (h : View) (a b : ℕ) : Type 0 where
   pub hba : Holds X h b a (h .st b)
 
 -- two known roots whose children have the same roots, in a store without cycles: neither contains the other
-not-under : {h : View} {a b : ℕ} {i j : Bool} {k m : Kind} → Good h → h .rep b ≡ ty false b → h .st a ≡ known i k → h .st b ≡ known j m → Alike h (k .kids) (m .kids) → Below h a b → ⊥
+not-under : {h : View} {a b : ℕ} {i j : Bool} {k m : Kind} → Good h → h .rep b ≡ ty false b → h .st a ≡ known i k → h .st b ≡ known j m
+    → Alike h (k .kids) (m .kids) → Below h a b → ⊥
 not-under {h} {a} {b} {i} {j} {k} {m} good bt sa sb al = go
   where
     kid′ : {y : ℕ} → Kid h a y → Kid h b y
@@ -191,12 +182,21 @@ not-under {h} {a} {b} {i} {j} {k} {m} good bt sa sb al = go
 
 module _ (e : Env) (u : View → Ty → Ty → Out) (ih : Step e u) (f : ℕ) (g : View) (a b : Ty) (good : Good g) (kinds : Kinds e g)
     (atop : g .rep (a .idx) ≡ ty false (a .idx)) (btop : g .rep (b .idx) ≡ ty false (b .idx)) (apart : a .idx ≢ b .idx) where
-  module _ (i j : Bool) (k m : Kind) (sa : g .st (a .idx) ≡ known i k) (sb : g .st (b .idx) ≡ known j m) (l : Plan) (ps : PlanSpec (e .texts) k m l) where
+  module _ (i j : Bool) (k m : Kind) (sa : g .st (a .idx) ≡ known i k) (sb : g .st (b .idx) ≡ known j m) (l : Plan)
+      (ps : PlanSpec (e .texts) k m l) where
     kid-a : (p : Ty × Ty) → List·Memᴰ p (l .pairs) → Kid g (a .idx) (ri g (p .0))
     kid-a p w = record { inv = i; kind = k; kid = p .0; top = atop; state = sa; mem = ps .left p w; to = refl }
 
     kid-b : (p : Ty × Ty) → List·Memᴰ p (l .pairs) → Kid g (b .idx) (ri g (p .1))
-    kid-b p w = let y = ps .right p w in record { inv = j; kind = m; kid = y .0; top = btop; state = sb; mem = y .1; to = ap (λ (n : ℕ). g .rep n .idx) (y .2) }
+    kid-b p w = let y = ps .right p w in record {
+      inv = j;
+      kind = m;
+      kid = y .0;
+      top = btop;
+      state = sb;
+      mem = y .1;
+      to = ap (λ (n : ℕ). g .rep n .idx) (y .2);
+    }
 
     -- whatever is above a or b is above each pair
     over : (c : ℕ) → Above g c (a, b) → AllPairs (Above g c) (l .pairs)
@@ -211,13 +211,20 @@ module _ (e : Env) (u : View → Ty → Ty → Out) (ih : Step e u) (f : ℕ) (g
     b-stays = run-spec e u ih g (l .base) (l .pairs) good kinds .stays (b .idx) (λ p w. inr (one (kid-b p w)))
 
     -- after the children's Success the two roots may be joined, either way round
-    pub deep-ok : (o : Out) → RunSpec (e .texts) g (l .base) (l .pairs) o → Stays g (o .view) (a .idx) → Stays g (o .view) (b .idx) → o .answer ≡ Success → Mergeable (e .texts) (o .view) (a .idx) (b .idx)
+    pub deep-ok : (o : Out) → RunSpec (e .texts) g (l .base) (l .pairs) o → Stays g (o .view) (a .idx) → Stays g (o .view) (b .idx)
+        → o .answer ≡ Success → Mergeable (e .texts) (o .view) (a .idx) (b .idx)
     deep-ok o rs ka kb ans = record {
       jab = record { wtop = ta; ltop = tb; apart = apart; now = n-ab; nol = n-ba; from = λ x y q. inl (x, q) };
       jba = record { wtop = tb; ltop = ta; apart = λ q. apart (sym q); now = n-ba; nol = n-ab; from = λ x y q. inl (x, q) };
       hab = record {
         onw = λ x y q. kept-same x q;
-        onl = λ x y q. let z : y ≡ m = known-inj (sym q ∙ hb) in record { inv = i; kind = k; is = ha; heads = rw z (heads-sym hk); alike = rw z (alike-sym al) };
+        onl = λ x y q. let z : y ≡ m = known-inj (sym q ∙ hb) in record {
+          inv = i;
+          kind = k;
+          is = ha;
+          heads = rw z (heads-sym hk);
+          alike = rw z (alike-sym al);
+        };
       };
       hba = record {
         onw = λ x y q. kept-same x q;
@@ -255,9 +262,20 @@ module _ (e : Env) (u : View → Ty → Ty → Out) (ih : Step e u) (f : ℕ) (g
         n-ba : Below (o .view) (b .idx) (a .idx) → ⊥
         n-ba = not-under hg ta hb ha (alike-sym al)
 
-    pub deep-spec : (o : Out) → RunSpec (e .texts) g (l .base) (l .pairs) o → Stays g (o .view) (a .idx) → Stays g (o .view) (b .idx) → (r : Answer) → o .answer ≡ r → Spec (e .texts) g a b (close (o .view) a b r)
-    deep-spec o rs ka kb Failure ans = record { grow = rs .grow; no-new = rs .no-new; stays = λ c x. rs .stays c (over c x); joined = λ q. absurd (not-success q) }
-    deep-spec o rs ka kb Indeterminate ans = record { grow = rs .grow; no-new = rs .no-new; stays = λ c x. rs .stays c (over c x); joined = λ q. absurd (unsure-success q) }
+    pub deep-spec : (o : Out) → RunSpec (e .texts) g (l .base) (l .pairs) o → Stays g (o .view) (a .idx) → Stays g (o .view) (b .idx)
+        → (r : Answer) → o .answer ≡ r → Spec (e .texts) g a b (close (o .view) a b r)
+    deep-spec o rs ka kb Failure ans = record {
+      grow = rs .grow;
+      no-new = rs .no-new;
+      stays = λ c x. rs .stays c (over c x);
+      joined = λ q. absurd (not-success q);
+    }
+    deep-spec o rs ka kb Indeterminate ans = record {
+      grow = rs .grow;
+      no-new = rs .no-new;
+      stays = λ c x. rs .stays c (over c x);
+      joined = λ q. absurd (unsure-success q);
+    }
     deep-spec o rs ka kb Success ans = go (decLt (o .view .sz (b .idx)) (o .view .sz (a .idx)))
       where
         h : View
@@ -273,11 +291,13 @@ module _ (e : Env) (u : View → Ty → Ty → Out) (ih : Step e u) (f : ℕ) (g
         after s = record {
           grow = grow-trans hg (rs .grow) (s .grow);
           no-new = no-new-trans (rs .no-new) (s .no-new);
-          stays = λ c x. let s₁ = rs .stays c (over c x) in stays-trans s₁ (s .stays c (elim x [ inl y ↦ inl (below-stays a (rs .grow) s₁ y) | inr y ↦ inr (below-stays b (rs .grow) s₁ y) ]));
+          stays = λ c x. let s₁ = rs .stays c (over c x) in stays-trans s₁
+              (s .stays c (elim x [ inl y ↦ inl (below-stays a (rs .grow) s₁ y) | inr y ↦ inr (below-stays b (rs .grow) s₁ y) ]));
           joined = s .joined;
         }
 
-        go : (d : Dec (h .sz (b .idx) < h .sz (a .idx))) → Spec (e .texts) g a b (sel d (out (join h a b (h .st (a .idx))) Success) (out (join h b a (h .st (b .idx))) Success))
+        go : (d : Dec (h .sz (b .idx) < h .sz (a .idx)))
+            → Spec (e .texts) g a b (sel d (out (join h a b (h .st (a .idx))) Success) (out (join h b a (h .st (b .idx))) Success))
         go (yes d) = after (join-spec (e .texts) (o .view) a b (o .view .st (a .idx)) hg (ok .jab) (ok .hab))
         go (no d) = after (spec-sym (join-spec (e .texts) (o .view) b a (o .view .st (b .idx)) hg (ok .jba) (ok .hba)))
 
@@ -286,44 +306,10 @@ module _ (e : Env) (u : View → Ty → Ty → Out) (ih : Step e u) (f : ℕ) (g
   meet-st (known i k) unknown p q = bind-spec (e .texts) f g a b good atop btop apart _ refl (inr q)
   meet-st (known i k) (known j m) p q =
       let l : Plan = plan (e .texts) k m (xor (xor i (a .inv)) (xor j (b .inv))) in
-      let ps : PlanSpec (e .texts) k m l = plan-spec e k m (xor (xor i (a .inv)) (xor j (b .inv))) (kinds .make (a .idx) i k p) (kinds .make (b .idx) j m q) in
+      let ps : PlanSpec (e .texts) k m l = plan-spec e k m (xor (xor i (a .inv)) (xor j (b .inv))) (kinds .make (a .idx) i k p)
+      (kinds .make (b .idx) j m q) in
       deep-spec i j k m p q l ps (run u g (l .base) (l .pairs)) (run-spec e u ih g (l .base) (l .pairs) good kinds)
       (a-stays i j k m p q l ps) (b-stays i j k m p q l ps) (run u g (l .base) (l .pairs) .answer) refl
-
-pub and-yes : (a b : Bool) → (a && b) ≡ true → (a ≡ true) × (b ≡ true)
-and-yes true b e = (refl, e)
-and-yes false b e = tf (sym e)
-
-all-yes : (t : Ty → Bool) (xs : List Ty) {x : Ty} → all t xs ≡ true → List·Memᴰ x xs → t x ≡ true
-all-yes t [] e m = elim m [ ]
-all-yes t (y ∷ ys) e (List·Memᴰ·head p) = ap t p ∙ and-yes (t y) (all t ys) e .0
-all-yes t (y ∷ ys) e (List·Memᴰ·tail m) = all-yes t ys (and-yes (t y) (all t ys) e .1) m
-
-param-dual : (h : Head) → h .code ≡ PARAM → selfDual h ≡ false
-unfolding selfDual rowOf
-param-dual h e = rw e
-
--- a Param is not self-dual, so that unify's test needs no word on it
-pub self-kind : (t : Ty → Bool) (k : Kind) → selfInverseKind false t k ≡ (selfDual (k .head) && all t (k .kids))
-self-kind t k = go (eqb (k .head .code) PARAM) refl
-  where
-    go : (b : Bool) → eqb (k .head .code) PARAM ≡ b → pick b false (selfDual (k .head) && all t (k .kids)) ≡ (selfDual (k .head) && all t (k .kids))
-    go true e = sym (ap (λ (d : Bool). d && all t (k .kids)) (param-dual (k .head) (eqb-true (k .head .code) PARAM e)))
-    go false e = refl
-
-pub self-sound : (f : ℕ) (g : View) (a : ℕ) → selfInverse false f g a ≡ true → Self g a
-unfolding selfInverse
-self-sound zero g a e = tf (sym e)
-self-sound (suc f) g a e = go (g .st a) refl e (λ z. self-sound f g z)
-  where
-    t : Ty → Bool
-    t c = selfInverse false f g (g .rep (c .idx) .idx)
-
-    go : (s : VState) → g .st a ≡ s → selfSt false t s ≡ true → ((z : ℕ) → selfInverse false f g z ≡ true → Self g z) → Self g a
-    go unknown q e ih = tf (sym e)
-    go (known i k) q e ih =
-        let h = and-yes (selfDual (k .head)) (all t (k .kids)) (sym (self-kind t k) ∙ e) in
-        self i k q (h .0) (λ x m. ih (ri g x) (all-yes t (k .kids) (h .1) m))
 
 xor-no : (a b : Bool) → not (xor a b) ≡ true → a ≡ b
 xor-no false false e = refl
@@ -352,13 +338,18 @@ meet-spec e u ih f g a b good kinds ta tb = go (ℕ-discrete (a .idx) (b .idx))
 -- from the roots to the types that were given
 joined-root : {X : Texts} {g h : View} {p q : Ty} → Good g → Grow X g h → Joined h (rootOf g p) (rootOf g q) → Joined h p q
 joined-root {X} {g} {h} {p} {q} good w (agree e) = agree (root-grow w p ∙ e ∙ sym (root-grow w q))
-joined-root {X} {g} {h} {p} {q} good w (selfly e s) = selfly (mono-idx w (p .idx) ∙ e ∙ sym (mono-idx w (q .idx))) (subst (Self h) (sym (mono-idx w (p .idx))) s)
+joined-root {X} {g} {h} {p} {q} good w (selfly e s) = selfly (mono-idx w (p .idx) ∙ e ∙ sym (mono-idx w (q .idx)))
+    (subst (Self h) (sym (mono-idx w (p .idx))) s)
 
 spec-root : {X : Texts} {g : View} {p q : Ty} {o : Out} → Good g → Spec X g (rootOf g p) (rootOf g q) o → Spec X g p q o
 spec-root {X} {g} {p} {q} {o} good s = record {
   grow = s .grow;
   no-new = s .no-new;
-  stays = λ a x. s .stays a (elim x [ inl y ↦ inl (subst (Below g a) (sym (idx-eq (good .idem (p .idx)))) y) | inr y ↦ inr (subst (Below g a) (sym (idx-eq (good .idem (q .idx)))) y) ]);
+  stays = λ a x. s .stays a (elim x [
+    | inl y ↦ inl (subst (Below g a) (sym (idx-eq (good .idem (p .idx)))) y)
+    | inr y ↦ inr
+        (subst (Below g a) (sym (idx-eq (good .idem (q .idx)))) y)
+  ]);
   joined = λ e. joined-root good (s .grow) (s .joined e);
 }
 
@@ -366,4 +357,5 @@ pub unify-spec : (e : Env) (n f : ℕ) → Step e (unify (e .texts) n f)
 unfolding unify
 unify-spec e n zero g p q good kinds = spec-same Failure good (λ r. absurd (not-success r))
 unify-spec e n (suc f) g p q good kinds =
-    spec-root good (meet-spec e (unify (e .texts) n f) (λ g p q h w. unify-spec e n f g p q h w) n g (rootOf g p) (rootOf g q) good kinds (good .idem (p .idx)) (good .idem (q .idx)))
+    spec-root good (meet-spec e (unify (e .texts) n f) (λ g p q h w. unify-spec e n f g p q h w) n g (rootOf g p) (rootOf g q) good kinds
+    (good .idem (p .idx)) (good .idem (q .idx)))

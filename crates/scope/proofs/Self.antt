@@ -14,7 +14,7 @@ use Rattle.scope.specs.Answers.{Success, ofBool}
 use Rattle.scope.proofs.View.{VState, unknown, known, View, sel, rootOf, Kid, Below, one, more, Good, occurs, occursSt, out, selfSt, selfInverse, same, meetSt, meet, unify}
 use Rattle.scope.proofs.Acyclic.{sel-yes}
 use Rattle.scope.proofs.Grow.{ri, xor-self, Self, self, Joined, agree, selfly, joined-idx}
-use Rattle.scope.proofs.Meet.{tf, self-kind}
+use Rattle.scope.proofs.Occurs.{tf, self-kind}
 use Rattle.scope.proofs.Fuel.{Chain, cnil, chain-step, fuel-out, fuel-step, free, free-nil}
 use Rattle.scope.proofs.Inside.{Inside}
 
@@ -23,7 +23,8 @@ any-yes : (t : Ty → Bool) (xs : List Ty) → any t xs ≡ true → (x : Ty) ×
 any-yes t [] e = tf (sym e)
 any-yes t (y ∷ ys) e = go (t y) refl e (λ q. any-yes t ys q)
   where
-    go : (b : Bool) → t y ≡ b → (b || any t ys) ≡ true → (any t ys ≡ true → (x : Ty) × List·Memᴰ x ys × (t x ≡ true)) → (x : Ty) × List·Memᴰ x (y ∷ ys) × (t x ≡ true)
+    go : (b : Bool) → t y ≡ b → (b || any t ys) ≡ true → (any t ys ≡ true → (x : Ty) × List·Memᴰ x ys × (t x ≡ true))
+        → (x : Ty) × List·Memᴰ x (y ∷ ys) × (t x ≡ true)
     go true q r ih = (y, List·Memᴰ·head refl, q)
     go false q r ih = let z = ih r in (z .0, List·Memᴰ·tail (z .1), z .2)
 
@@ -44,7 +45,8 @@ occurs-yes n g good env (suc f) x y ls t h c q e = go (ℕ-discrete y x) e (λ z
     at (known i k) r e ih =
         let z = any-yes T (k .kids) e in
         let kid : Kid g y (ri g (z .0)) = record { inv = i; kind = k; kid = z .0; top = t; state = r; mem = z .1; to = refl } in
-        elim (ih (ri g (z .0)) (y ∷ ls) (good .idem (z .0 .idx)) (env .inside (z .0 .idx) (env .kinds y i k r .kids (z .0) (z .1))) (chain-step kid c) (fuel-step good c h q) (z .2))
+        elim (ih (ri g (z .0)) (y ∷ ls) (good .idem (z .0 .idx)) (env .inside (z .0 .idx) (env .kinds y i k r .kids (z .0) (z .1)))
+        (chain-step kid c) (fuel-step good c h q) (z .2))
         [ inl w ↦ subst (Below g y) w (one kid) | inr b ↦ more kid b ]
 
     go : (d : Dec (y ≡ x)) → sel d true (occursSt T (g .st y)) ≡ true → Ih → (y ≡ x) ⊎ Below g y x

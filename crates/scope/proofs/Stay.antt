@@ -122,7 +122,12 @@ run-spec e u ih g r (p ∷ ps) good kinds =
 
     go : Spec (e .texts) g (p .0) (p .1) (u g (p .0) (p .1)) → RunSpec (e .texts) h (both r (u g (p .0) (p .1) .answer)) ps o
         → RunSpec (e .texts) g r (p ∷ ps) o
-    go s t = record { grow = grow-trans (s .grow .good) (s .grow) (t .grow); no-new = no-new-trans (s .no-new) (t .no-new); stays = stays′; joined = joined′ }
+    go s t = record {
+      grow = grow-trans (s .grow .good) (s .grow) (t .grow);
+      no-new = no-new-trans (s .no-new) (t .no-new);
+      stays = stays′;
+      joined = joined′;
+    }
       where
         stays′ : (a : ℕ) → AllPairs (Above g a) (p ∷ ps) → Stays g (o .view) a
         stays′ a b =

@@ -61,9 +61,11 @@ invertIf-self e true t q = q
 
 -- a type's tree is its root's
 pub val-root : {e : Env} {v : Val} {g : View} → Fits e v g → (p : Ty) → val e v p ≡ val e v (rootOf g p)
-val-root {e} {v} {g} f p = ap (invertIf e (p .inv)) (f .tree (p .idx)) ∙ sym (invertIf-xor e (p .inv) (g .rep (p .idx) .inv) (v (g .rep (p .idx) .idx)))
+val-root {e} {v} {g} f p = ap (invertIf e (p .inv)) (f .tree (p .idx))
+    ∙ sym (invertIf-xor e (p .inv) (g .rep (p .idx) .inv) (v (g .rep (p .idx) .idx)))
 
-vals-self : (e : Env) (v : Val) (xs : List Ty) → ((x : Ty) → List·Memᴰ x xs → invert e (val e v x) ≡ val e v x) → inverts e (vals e v xs) ≡ vals e v xs
+vals-self : (e : Env) (v : Val) (xs : List Ty) → ((x : Ty) → List·Memᴰ x xs → invert e (val e v x) ≡ val e v x)
+    → inverts e (vals e v xs) ≡ vals e v xs
 unfolding inverts
 vals-self e v [] h = refl
 vals-self e v (x ∷ xs) h = ap₂ fcons (h x (List·Memᴰ·head refl)) (vals-self e v xs (λ y m. h y (List·Memᴰ·tail m)))
@@ -72,7 +74,8 @@ build-self : (e : Env) (v : Val) (k : Kind) → Makeable e k → selfDual (k .he
     → ((x : Ty) → List·Memᴰ x (k .kids) → invert e (val e v x) ≡ val e v x) → invert e (build e v k) ≡ build e v k
 unfolding build
 build-self e v k ok d h =
-    invert-dual e (treeHead (e .texts) (k .head)) false (vals e v (k .kids)) (dual-tree e k ok ∙ d) ∙ ap (node (treeHead (e .texts) (k .head)) false) (vals-self e v (k .kids) h)
+    invert-dual e (treeHead (e .texts) (k .head)) false (vals e v (k .kids)) (dual-tree e k ok ∙ d)
+    ∙ ap (node (treeHead (e .texts) (k .head)) false) (vals-self e v (k .kids) h)
 
 pub self-val : {e : Env} {v : Val} {g : View} {a : ℕ} → Kinds e g → Fits e v g → Self g a → invert e (v a) ≡ v a
 self-val {e} {v} {g} {a} kinds f (self i k s d h) =
