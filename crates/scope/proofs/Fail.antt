@@ -46,10 +46,10 @@ pub record Witness (e : Env) (n : ℕ) (g : View) (v : Val) : Type 0 where
 
 -- sizes of trees
 mutual
-  pub size : Tree → ℕ
+  size : Tree → ℕ
   size (node h m ts) = suc (sizes ts)
 
-  pub sizes : Forest → ℕ
+  sizes : Forest → ℕ
   sizes fnil = zero
   sizes (fcons t ts) = size t + sizes ts
 
@@ -93,7 +93,7 @@ size-kid {E} {v} {g} {a} {x} f c =
       ap (λ (n : ℕ). size (v n)) (c .to),
     )
 
-pub size-below : {E : Env} {v : Val} {g : View} {a x : ℕ} → Fits E v g → Below g a x → size (v x) < size (v a)
+size-below : {E : Env} {v : Val} {g : View} {a x : ℕ} → Fits E v g → Below g a x → size (v x) < size (v a)
 size-below f (one c) = size-kid f c
 size-below f (more c b) = omega (arith, size-kid f c, size-below f b)
 
@@ -152,7 +152,7 @@ module _ (E : Env) where
       let m : val E v x ≡ invertIf E (rootOf g x .inv) (v (ri g x)) = val-root fit x in
       self-invertIf (rootOf g x .inv) (v (ri g x)) (ap (invert E) (sym m) ∙ w ∙ m)
 
-  pub self-fail : (n : ℕ) (g : View) (v : Val) → Good g → Inside n (Plain E) g → Fits E v g → (f a : ℕ) (ls : List ℕ) → g .rep a ≡ ty false a
+  self-fail : (n : ℕ) (g : View) (v : Val) → Good g → Inside n (Plain E) g → Fits E v g → (f a : ℕ) (ls : List ℕ) → g .rep a ≡ ty false a
       → a < n → Chain g a ls → free n ls ≤ f
       → selfInverse false f g a ≡ false → invert E (v a) ≡ v a → Witness E n g v
   unfolding selfInverse

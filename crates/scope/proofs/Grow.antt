@@ -42,6 +42,7 @@ xor-comm true true = refl
 pub flip-flip : (a b : Bool) (t : Ty) → flip (xor a b) t ≡ flip a (flip b t)
 flip-flip a b t = ap (λ (c : Bool). ty c (t .idx)) (xor-assoc a b (t .inv))
 
+-- the number of a type's root
 abbrev pub ri : View → Ty → ℕ
 ri g t = g .rep (t .idx) .idx
 
@@ -82,7 +83,7 @@ heads-sym s = record { trees = sym (s .trees); codes = sym (s .codes); duals = s
 heads-trans : {X : Texts} {h k l : Head} → Heads X h k → Heads X k l → Heads X h l
 heads-trans s t = record { trees = s .trees ∙ t .trees; codes = s .codes ∙ t .codes; duals = s .duals ∙ t .duals }
 
--- what was known of the root a as k
+-- what h knows of a, a root that was known as k
 pub record Keeps (X : Texts) (h : View) (a : ℕ) (k : Kind) : Type 0 where
   pub inv : Bool
   pub kind : Kind
@@ -90,6 +91,7 @@ pub record Keeps (X : Texts) (h : View) (a : ℕ) (k : Kind) : Type 0 where
   pub heads : Heads X (k .head) (kind .head)
   pub alike : Alike h (k .kids) (kind .kids)
 
+-- from g to h: roots merge, and what is known stays known
 pub record Grow (X : Texts) (g h : View) : Type 0 where
   pub good : Good h
   pub mono : (n : ℕ) → h .rep n ≡ flip (g .rep n .inv) (h .rep (g .rep n .idx))
@@ -206,6 +208,7 @@ pub record Kept (X : Texts) (g : View) (k : VState) (m : Kind) : Type 0 where
 pub kept-same : {X : Texts} {g : View} {k : VState} {m : Kind} (i : Bool) → k ≡ known i m → Kept X g k m
 kept-same {X} {g} {k} {m} i e = record { inv = i; kind = m; is = e; heads = heads-refl (m .head); alike = alike-refl (m .kids) }
 
+-- k keeps what was known of w and of l
 pub record Holds (X : Texts) (g : View) (w l : ℕ) (k : VState) : Type 0 where
   pub onw : (i : Bool) (m : Kind) → g .st w ≡ known i m → Kept X g k m
   pub onl : (i : Bool) (m : Kind) → g .st l ≡ known i m → Kept X g k m
@@ -214,9 +217,6 @@ module _ (g : View) (w l : ℕ) (i : Bool) (k : VState) (good : Good g) (ok : Jo
   link-mono : (n : ℕ) → link g w l i k .rep n ≡ flip (g .rep n .inv) (link g w l i k .rep (g .rep n .idx))
   link-mono n = go (same? (g .rep n .idx) l)
     where
-      r : ℕ
-      r = g .rep n .idx
-
       go : (g .rep n .idx ≡ l) ⊎ (g .rep n .idx ≢ l) → link g w l i k .rep n ≡ flip (g .rep n .inv) (link g w l i k .rep (g .rep n .idx))
       go (inl h) = rep-hit g w l i k n h
           ∙ ap (flip (g .rep n .inv)) (ap (λ (t : Ty). ty (xor (t .inv) i) w) (sym (good .idem n))
@@ -224,7 +224,7 @@ module _ (g : View) (w l : ℕ) (i : Bool) (k : VState) (good : Good g) (ok : Jo
       go (inr h) = rep-miss g w l i k n h ∙ ap (λ (b : Bool). ty b (g .rep n .idx)) (sym (xor-false (g .rep n .inv)))
           ∙ ap (flip (g .rep n .inv)) (sym (good .idem n) ∙ sym (rep-miss g w l i k (g .rep n .idx) (λ e. h (sym (idx-eq (good .idem n)) ∙ e))))
 
-  -- Grow but for `knows`
+  -- children with the same roots keep them
   alike-link : {xs ys : List Ty} → Alike g xs ys → Alike (link g w l i k) xs ys
   alike-link anil = anil
   alike-link (acons {x = x} {y = y} e r) = acons
@@ -236,10 +236,10 @@ module _ (g : View) (w l : ℕ) (i : Bool) (k : VState) (good : Good g) (ok : Jo
       ∙ ap (λ (b : Bool). ty b w) (xor-false wi ∙ sym (xor-twice li wi) ∙ ap (xor li) (sym e))
       ∙ ap (flip li) (ap (λ (t : Ty). ty (xor (t .inv) i) w) (sym (ok .ltop)) ∙ sym (rep-hit g w l i k l (idx-eq (ok .ltop))))
 
-  pub w-root : link g w l i k .rep w .idx ≡ w
+  w-root : link g w l i k .rep w .idx ≡ w
   w-root = idx-eq (rep-miss g w l i k w (λ e. ok .apart (sym (idx-eq (ok .wtop)) ∙ e)) ∙ ok .wtop)
 
-  pub l-root : link g w l i k .rep l .idx ≡ w
+  l-root : link g w l i k .rep l .idx ≡ w
   l-root = idx-eq (rep-hit g w l i k l (idx-eq (ok .ltop)))
 
   pub link-grow : {X : Texts} → Holds X g w l k → Grow X g (link g w l i k)

@@ -96,7 +96,7 @@ module _ (X : Texts) (g : View) (w l : Ty) (k : VState) (good : Good g) (ok : Jo
 known-inj : {i j : Bool} {k m : Kind} → known i k ≡ known j m → k ≡ m
 known-inj {i} {j} {k} {m} e = cc
 
-pub kept-from : (wi ai bi : Bool) (sa sb : VState) (i : Bool) (m : Kind) → turn wi (orSt (turn ai sa) (turn bi sb)) ≡ known i m
+kept-from : (wi ai bi : Bool) (sa sb : VState) (i : Bool) (m : Kind) → turn wi (orSt (turn ai sa) (turn bi sb)) ≡ known i m
     → ((j : Bool) × (sa ≡ known j m)) ⊎ ((j : Bool) × (sb ≡ known j m))
 kept-from wi ai bi unknown unknown i m e = absurd (not-known e)
 kept-from wi ai bi unknown (known j k) i m e = inr (j, ap (known j) (known-inj e))
@@ -112,13 +112,13 @@ kept-b wi ai bi sa sb i m (inl u) e =
     kept-same (xor wi (xor bi i)) (ap (λ (s : VState). turn wi (orSt (turn ai s) (turn bi sb))) u ∙ ap (λ (s : VState). turn wi (turn bi s)) e)
 kept-b wi ai bi sa sb i m (inr u) e = absurd (not-known (sym u ∙ e))
 
-pub swap⊎ : {A B : Type 0} → A ⊎ B → B ⊎ A
+swap⊎ : {A B : Type 0} → A ⊎ B → B ⊎ A
 swap⊎ (inl a) = inr a
 swap⊎ (inr b) = inl b
 
 module _ (X : Texts) (f : ℕ) (g : View) (a b : Ty) (good : Good g) (atop : g .rep (a .idx) ≡ ty false (a .idx))
     (btop : g .rep (b .idx) ≡ ty false (b .idx)) (apart : a .idx ≢ b .idx) where
-  pub bind-spec : (o : Bool) → (occurs f g (a .idx) (b .idx) || occurs f g (b .idx) (a .idx)) ≡ o
+  bind-spec : (o : Bool) → (occurs f g (a .idx) (b .idx) || occurs f g (b .idx) (a .idx)) ≡ o
       → (g .st (a .idx) ≡ unknown) ⊎ (g .st (b .idx) ≡ unknown) → Spec X g a b (bind f g a b o)
   bind-spec true e un = spec-same Failure good (λ q. absurd (not-success q))
   bind-spec false e un = go (decLt (g .sz (b .idx)) (g .sz (a .idx)))
@@ -154,11 +154,11 @@ module _ (X : Texts) (f : ℕ) (g : View) (a b : Ty) (good : Good g) (atop : g .
             apart = λ q. apart (sym q);
             now = no-ab;
             nol = no-ba;
-            from = λ i m q. swap⊎
-                (kept-from (b .inv) (a .inv) (b .inv) sa sb i m q);
+            from = λ i m q. swap⊎ (kept-from (b .inv) (a .inv) (b .inv) sa sb i m q);
           })
           (record { onw = λ i m q. kept-b (b .inv) (a .inv) (b .inv) sa sb i m un q; onl = λ i m q. kept-a (b .inv) (a .inv) (b .inv) sa sb i m q }))
 
+-- what lets a and b be joined, whichever stays
 pub record Mergeable (X : Texts) (h : View) (a b : ℕ) : Type 0 where
   pub jab : Joins h a b (h .st a)
   pub jba : Joins h b a (h .st b)
@@ -262,7 +262,7 @@ module _ (e : Env) (u : View → Ty → Ty → Out) (ih : Step e u) (f : ℕ) (g
         n-ba : Below (o .view) (b .idx) (a .idx) → ⊥
         n-ba = not-under hg ta hb ha (alike-sym al)
 
-    pub deep-spec : (o : Out) → RunSpec (e .texts) g (l .base) (l .pairs) o → Stays g (o .view) (a .idx) → Stays g (o .view) (b .idx)
+    deep-spec : (o : Out) → RunSpec (e .texts) g (l .base) (l .pairs) o → Stays g (o .view) (a .idx) → Stays g (o .view) (b .idx)
         → (r : Answer) → o .answer ≡ r → Spec (e .texts) g a b (close (o .view) a b r)
     deep-spec o rs ka kb Failure ans = record {
       grow = rs .grow;
@@ -305,9 +305,9 @@ module _ (e : Env) (u : View → Ty → Ty → Out) (ih : Step e u) (f : ℕ) (g
   meet-st unknown sb p q = bind-spec (e .texts) f g a b good atop btop apart _ refl (inl p)
   meet-st (known i k) unknown p q = bind-spec (e .texts) f g a b good atop btop apart _ refl (inr q)
   meet-st (known i k) (known j m) p q =
-      let l : Plan = plan (e .texts) k m (xor (xor i (a .inv)) (xor j (b .inv))) in
-      let ps : PlanSpec (e .texts) k m l = plan-spec e k m (xor (xor i (a .inv)) (xor j (b .inv))) (kinds .make (a .idx) i k p)
-      (kinds .make (b .idx) j m q) in
+      let c : Bool = xor (xor i (a .inv)) (xor j (b .inv)) in
+      let l : Plan = plan (e .texts) k m c in
+      let ps : PlanSpec (e .texts) k m l = plan-spec e k m c (kinds .make (a .idx) i k p) (kinds .make (b .idx) j m q) in
       deep-spec i j k m p q l ps (run u g (l .base) (l .pairs)) (run-spec e u ih g (l .base) (l .pairs) good kinds)
       (a-stays i j k m p q l ps) (b-stays i j k m p q l ps) (run u g (l .base) (l .pairs) .answer) refl
 
@@ -325,7 +325,7 @@ same-joined f g a b ta e = go (not (xor (a .inv) (b .inv))) (selfInverse false f
     go false true p q r = selfly (ap (λ (n : ℕ). g .rep n .idx) e) (subst (Self g) (sym (idx-eq ta)) (self-sound f g (a .idx) q))
     go false false p q r = absurd (not-success r)
 
-pub meet-spec : (e : Env) (u : View → Ty → Ty → Out) → Step e u → (f : ℕ) (g : View) (a b : Ty) → Good g → Kinds e g
+meet-spec : (e : Env) (u : View → Ty → Ty → Out) → Step e u → (f : ℕ) (g : View) (a b : Ty) → Good g → Kinds e g
     → g .rep (a .idx) ≡ ty false (a .idx) → g .rep (b .idx) ≡ ty false (b .idx) → Spec (e .texts) g a b (meet u (e .texts) f g a b)
 unfolding meet
 meet-spec e u ih f g a b good kinds ta tb = go (ℕ-discrete (a .idx) (b .idx))
@@ -347,8 +347,7 @@ spec-root {X} {g} {p} {q} {o} good s = record {
   no-new = s .no-new;
   stays = λ a x. s .stays a (elim x [
     | inl y ↦ inl (subst (Below g a) (sym (idx-eq (good .idem (p .idx)))) y)
-    | inr y ↦ inr
-        (subst (Below g a) (sym (idx-eq (good .idem (q .idx)))) y)
+    | inr y ↦ inr (subst (Below g a) (sym (idx-eq (good .idem (q .idx)))) y)
   ]);
   joined = λ e. joined-root good (s .grow) (s .joined e);
 }

@@ -6,11 +6,11 @@ use mathlib.Core.Logic.{_≢_, _⊎_, inl, inr, _↔_}
 use Prim.Native.Nat.{ℕ, zero, suc, _<_}
 use native.Mathlib.Omega.{arith}
 use native.Mathlib.Decide.{ℕ-discrete, decLt}
+use lib.Dec.{eqb}
 use lib.ListN.{length}
 use Rattle.scope.specs.Base.{xor}
 use Rattle.scope.specs.Chart.{Env}
 use Rattle.scope.specs.Types.{Ty, ty, flip}
-use lib.Dec.{eqb}
 use Rattle.scope.specs.Kinds.{Head, selfDual, DEFAULT}
 use Rattle.scope.specs.Nodes.{Kind}
 use Rattle.scope.specs.Answers.{Answer, Success, Failure, Indeterminate, both, ofBool}
@@ -25,7 +25,7 @@ use Rattle.scope.proofs.Occurs.{and-yes}
 use Rattle.scope.proofs.Meet.{unify-spec, PlanSpec, plan-spec, Mergeable, deep-ok, a-stays, b-stays, join-spec}
 use Rattle.scope.proofs.ViewFits.{Den, Fits, invert-dual, invertIf-twice, invertIf-xor, val-root, joined-val}
 
-pub turn-twice : (i : Bool) (s : VState) → turn i (turn i s) ≡ s
+turn-twice : (i : Bool) (s : VState) → turn i (turn i s) ≡ s
 turn-twice i unknown = refl
 turn-twice i (known j k) = ap (λ (b : Bool). known b k) (xor-twice i j)
 
@@ -38,11 +38,11 @@ crosses-dual h e = and-yes (selfDual h) (not (eqb (h .code) DEFAULT)) e .0
 
 module _ (E : Env) where
   -- states and trees
-  pub den-turn : (v : Val) (i : Bool) (s : VState) (t : Tree) → Den E v s t → Den E v (turn i s) (invertIf E i t)
+  den-turn : (v : Val) (i : Bool) (s : VState) (t : Tree) → Den E v s t → Den E v (turn i s) (invertIf E i t)
   den-turn v i unknown t d = tt
   den-turn v i (known j k) t d = ap (invertIf E i) d ∙ sym (invertIf-xor E i j (build E v k))
 
-  pub den-back : (v : Val) (i : Bool) (s : VState) (t : Tree) → Den E v (turn i s) (invertIf E i t) → Den E v s t
+  den-back : (v : Val) (i : Bool) (s : VState) (t : Tree) → Den E v (turn i s) (invertIf E i t) → Den E v s t
   den-back v i s t d = subst (λ (x : VState). Den E v x t) (turn-twice i s)
       (subst (Den E v (turn i (turn i s))) (invertIf-twice E i t) (den-turn v i (turn i s) (invertIf E i t) d))
 
@@ -58,6 +58,7 @@ module _ (E : Env) where
   den-split v (known i k) b t (inl u) d = absurd (not-known (sym u))
   den-split v (known i k) b t (inr u) d = (d, den-un v b t u)
 
+  -- trees that fit afterwards fitted before; those that fitted and give p and q one tree still fit
   pub record Sol (g : View) (p q : Ty) (o : Out) : Type 0 where
     pub back : (v : Val) → Fits E v (o .view) → Fits E v g
     pub fwd : (v : Val) → Fits E v g → val E v p ≡ val E v q → Fits E v (o .view)
@@ -82,11 +83,11 @@ module _ (E : Env) where
         ∙ ap (λ (t : Ty). ty (xor (t .inv) (xor (l .inv) (w .inv))) (w .idx)) ltop)
 
     -- the two types have one tree
-    pub join-equal : (v : Val) → Fits E v (join g w l k) → val E v w ≡ val E v l
+    join-equal : (v : Val) → Fits E v (join g w l k) → val E v w ≡ val E v l
     join-equal v f = ap (λ (b : Bool). invertIf E b (v (w .idx))) (sym (xor-twice (l .inv) (w .inv)))
         ∙ invertIf-xor E (l .inv) (xor (l .inv) (w .inv)) (v (w .idx)) ∙ ap (invertIf E (l .inv)) (sym (l-tree v f))
 
-    pub join-sol : ((v : Val) → Fits E v (join g w l k) → Den E v (g .st (w .idx)) (v (w .idx)) × Den E v (g .st (l .idx)) (v (l .idx)))
+    join-sol : ((v : Val) → Fits E v (join g w l k) → Den E v (g .st (w .idx)) (v (w .idx)) × Den E v (g .st (l .idx)) (v (l .idx)))
         → ((v : Val) → Fits E v g → val E v w ≡ val E v l → Den E v k (v (w .idx))) → Sol g w l (out (join g w l k) Success)
     join-sol bk fw = record { back = back; fwd = fwd }
       where
@@ -144,7 +145,7 @@ module _ (E : Env) where
 
   module _ (f : ℕ) (g : View) (a b : Ty) (atop : g .rep (a .idx) ≡ ty false (a .idx)) (btop : g .rep (b .idx) ≡ ty false (b .idx))
       (apart : a .idx ≢ b .idx) where
-    pub bind-sol : (o : Bool) → (g .st (a .idx) ≡ unknown) ⊎ (g .st (b .idx) ≡ unknown) → Sol g a b (bind f g a b o)
+    bind-sol : (o : Bool) → (g .st (a .idx) ≡ unknown) ⊎ (g .st (b .idx) ≡ unknown) → Sol g a b (bind f g a b o)
     bind-sol true un = record { back = λ v h. h; fwd = λ v h e. h }
     bind-sol false un = go (decLt (g .sz (b .idx)) (g .sz (a .idx)))
       where
@@ -192,7 +193,7 @@ module _ (E : Env) where
   build-inv v m true ok d = invert-dual E (treeHead (E .texts) (m .head)) false (vals E v (m .kids)) (dual-tree E m ok ∙ d refl)
 
   -- the plan and the trees
-  pub record PlanSol (k m : Kind) (c : Bool) (l : Plan) : Type 0 where
+  record PlanSol (k m : Kind) (c : Bool) (l : Plan) : Type 0 where
     pub equal : (v : Val) → l .base ≡ Success → Equal v (l .pairs) → build E v k ≡ invertIf E c (build E v m)
     pub pairs : (v : Val) → build E v k ≡ invertIf E c (build E v m) → Equal v (l .pairs)
 
@@ -206,7 +207,7 @@ module _ (E : Env) where
     pairs = λ v q p w. plan-equal E v k m c ok om q p w;
   }
 
-  pub record RunSol (g : View) (ps : List (Ty × Ty)) (o : Out) : Type 0 where
+  record RunSol (g : View) (ps : List (Ty × Ty)) (o : Out) : Type 0 where
     pub back : (v : Val) → Fits E v (o .view) → Fits E v g
     pub fwd : (v : Val) → Fits E v g → Equal v ps → Fits E v (o .view)
 
