@@ -2,3 +2,17 @@ pub mod Laws
 pub mod Refusals
 pub mod Run
 pub mod Table
+pub mod View
+pub mod PlanLaws
+pub mod Acyclic
+pub mod Grow
+pub mod Stay
+pub mod Occurs
+pub mod Meet
+pub mod Fuel
+pub mod Inside
+pub mod ViewFits
+pub mod Sol
+pub mod Self
+pub mod Fail
+pub mod Depth
