@@ -1,3 +1,5 @@
 pub mod Table
 pub mod View
+pub mod NameLaws
+pub mod TreeLaws
 pub mod PlanLaws
