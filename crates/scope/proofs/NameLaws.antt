@@ -60,7 +60,7 @@ lt-trans (x ∷ xs) (y ∷ ys) [] p q = absurd (false≢true q)
 lt-trans (x ∷ xs) (y ∷ ys) (z ∷ zs) p q = go (lt-cases x xs y ys p) (lt-cases y ys z zs q) (lt-trans xs ys zs)
   where
     go : (x < y) ⊎ ((x ≡ y) × (ltBytes xs ys ≡ true)) → (y < z) ⊎ ((y ≡ z) × (ltBytes ys zs ≡ true))
-      → (ltBytes xs ys ≡ true → ltBytes ys zs ≡ true → ltBytes xs zs ≡ true) → ltBytes (x ∷ xs) (z ∷ zs) ≡ true
+        → (ltBytes xs ys ≡ true → ltBytes ys zs ≡ true → ltBytes xs zs ≡ true) → ltBytes (x ∷ xs) (z ∷ zs) ≡ true
     go (inl a) (inl b) ih = lt-here x xs z zs (omega arith)
     go (inl a) (inr b) ih = lt-here x xs z zs (omega arith)
     go (inr a) (inl b) ih = lt-here x xs z zs (omega arith)
@@ -94,22 +94,24 @@ Within cs bs = (x : List ℕ) → List·Memᴰ x cs → List·Memᴰ x bs
 
 -- past a first name that is not the first of the other list
 within-past : (c : List ℕ) (cs : List (List ℕ)) (b : List ℕ) (bs : List (List ℕ)) → ascending (c ∷ cs) ≡ true → ltBytes b c ≡ true
-  → Within (c ∷ cs) (b ∷ bs) → Within (c ∷ cs) bs
+    → Within (c ∷ cs) (b ∷ bs) → Within (c ∷ cs) bs
 within-past c cs b bs p h w x m = go (List·Memᴰ·cases-cons (w x m))
   where
     above : (c ≡ x) ⊎ (ltBytes c x ≡ true) → ltBytes b x ≡ true
     above (inl e) = subst (λ (z : List ℕ). ltBytes b z ≡ true) e h
     above (inr e) = lt-trans b c x h e
+
     later : (x ≡ c) ⊎ List·Memᴰ x cs → ltBytes b x ≡ true
     later (inl e) = above (inl (sym e))
     later (inr n) = above (inr (ascending-above c cs p x n))
+
     go : (x ≡ b) ⊎ List·Memᴰ x bs → List·Memᴰ x bs
     go (inl e) = absurd (false≢true (sym (lt-irrefl b) ∙ subst (λ (z : List ℕ). ltBytes b z ≡ true) e (later (List·Memᴰ·cases-cons m))))
     go (inr n) = n
 
 -- past a first name that both have
 within-both : (c : List ℕ) (cs : List (List ℕ)) (b : List ℕ) (bs : List (List ℕ)) → ascending (c ∷ cs) ≡ true → c ≡ b
-  → Within (c ∷ cs) (b ∷ bs) → Within cs bs
+    → Within (c ∷ cs) (b ∷ bs) → Within cs bs
 within-both c cs b bs p h w x m = go (List·Memᴰ·cases-cons (w x (List·Memᴰ·tail m)))
   where
     go : (x ≡ b) ⊎ List·Memᴰ x bs → List·Memᴰ x bs

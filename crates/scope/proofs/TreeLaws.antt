@@ -19,12 +19,13 @@ unfolding invert
 invert-mark e h m ts d = rw d
 
 twice-at : (e : Env) (h : TreeHead) (m : Bool) (ts : Forest) → inverts e (inverts e ts) ≡ ts → (b : Bool) → treeDual e h ≡ b
-  → invert e (invert e (node h m ts)) ≡ node h m ts
+    → invert e (invert e (node h m ts)) ≡ node h m ts
 twice-at e h m ts q true d = ap (invert e) (invert-dual e h m ts d) ∙ invert-dual e h m (inverts e ts) d ∙ ap (node h m) q
 twice-at e h m ts q false d = ap (invert e) (invert-mark e h m ts d) ∙ invert-mark e h (not m) ts d ∙ ap (λ (b : Bool). node h b ts) (Bool·not-not m)
 
 mutual
   unfolding inverts
+
   pub invert-twice : (e : Env) (t : Tree) → invert e (invert e t) ≡ t
   invert-twice e (node h m ts) = twice-at e h m ts (inverts-twice e ts) (treeDual e h) refl
 
@@ -94,6 +95,6 @@ node-kids {h} {h′} {m} {m′} {ts} {ts′} e = cc
 
 -- two kinds' trees, one inverted if i, have equal heads
 pub build-heads : (e : Env) (v : Val) (k m : Kind) (i : Bool) → build e v k ≡ invertIf e i (build e v m)
-  → treeHead (e .texts) (k .head) ≡ treeHead (e .texts) (m .head)
+    → treeHead (e .texts) (k .head) ≡ treeHead (e .texts) (m .head)
 unfolding build
 build-heads e v k m i q = ap treeHeadOf q ∙ head-invertIf e i (node (treeHead (e .texts) (m .head)) false (vals e v (m .kids)))
