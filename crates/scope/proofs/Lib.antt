@@ -2,4 +2,5 @@ pub mod Table
 pub mod View
 pub mod NameLaws
 pub mod TreeLaws
+pub mod PairLaws
 pub mod PlanLaws

@@ -1,10 +1,10 @@
 -- Laws of bytes: `eqBytes` is equality, `ltBytes` a strict order, and of two strictly ascending lists of equal length one within the other is the
 -- other. Assumes nothing.
-use mathlib.Core.Path.{_≡_, refl, sym, ap, ap₂, subst, _∙_}
+use mathlib.Core.Path.{_≡_, refl, sym, ap₂, subst, _∙_}
 use mathlib.Core.List.{List, [], _∷_, List·Memᴰ, List·Memᴰ·head, List·Memᴰ·tail, List·Memᴰ·not-nil, List·Memᴰ·cases-cons}
 use mathlib.Core.Bool.{Bool, true, false, _&&_, _||_, false≢true, and-eq-true-iff}
 use mathlib.Core.Logic.{_⊎_, inl, inr}
-use Prim.Native.Nat.{ℕ, zero, suc, _≤_, _<_}
+use Prim.Native.Nat.{ℕ, suc, _≤_, _<_}
 use native.Mathlib.Omega.{arith}
 use lib.Dec.{eqb, ltb}
 use lib.ListN.{length}

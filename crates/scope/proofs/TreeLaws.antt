@@ -1,10 +1,10 @@
 -- Laws of trees: inversion is its own inverse, keeps a tree's head, and flips its mark exactly where the head is not self-dual. Assumes nothing.
-use mathlib.Core.Path.{_≡_, refl, sym, ap, ap₂, subst, _∙_}
+use mathlib.Core.Path.{_≡_, refl, sym, ap, ap₂, _∙_}
 use mathlib.Core.List.{List, [], _∷_}
 use mathlib.Core.Bool.{Bool, true, false, not, Bool·not-not}
-use Prim.Native.Nat.{ℕ, zero, suc}
+use Prim.Native.Nat.{suc}
 use lib.ListN.{length}
-use Rattle.scope.specs.Base.{pick, xor}
+use Rattle.scope.specs.Base.{xor}
 use Rattle.scope.specs.Chart.{Env}
 use Rattle.scope.specs.Types.{Ty, flip}
 use Rattle.scope.specs.Nodes.{Kind}
