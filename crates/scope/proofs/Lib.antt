@@ -4,3 +4,4 @@ pub mod NameLaws
 pub mod TreeLaws
 pub mod PairLaws
 pub mod PlanLaws
+pub mod Added
