@@ -5,3 +5,4 @@ pub mod TreeLaws
 pub mod PairLaws
 pub mod PlanLaws
 pub mod Added
+pub mod Copy
