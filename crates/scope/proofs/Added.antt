@@ -14,7 +14,7 @@ use Rattle.scope.specs.Types.{Ty, ty, flip}
 use Rattle.scope.specs.Nodes.{Kind, State, Known, Unknown, InferenceFailed, Node, Root, Child, at, stateOf, sizeOf, isRoot, hop, climb, find, kidsOf}
 use Rattle.scope.specs.Trees.{Val, NodeFits, Fits}
 use Rattle.scope.specs.Demand.{sizes}
-use Rattle.scope.proofs.View.{View, VState, known, unknown, Kid, Fin, fin, Good, seen, view}
+use Rattle.scope.proofs.View.{known, Kid, Fin, fin, Good, seen, view}
 
 pub record Extends (ns ns′ : List Node) : Type 0 where
   pub len : length ns ≤ length ns′

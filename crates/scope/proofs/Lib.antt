@@ -5,4 +5,5 @@ pub mod TreeLaws
 pub mod PairLaws
 pub mod PlanLaws
 pub mod Added
+pub mod Mapping
 pub mod Copy
