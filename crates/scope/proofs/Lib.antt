@@ -1,3 +1,6 @@
 pub mod Table
 pub mod View
 pub mod PlanLaws
+pub mod Needs
+pub mod Free
+pub mod Paths
