@@ -4,3 +4,4 @@ pub mod PlanLaws
 pub mod Needs
 pub mod Free
 pub mod Paths
+pub mod Merge
