@@ -5,3 +5,4 @@ pub mod Needs
 pub mod Free
 pub mod Paths
 pub mod Merge
+pub mod Sizes
