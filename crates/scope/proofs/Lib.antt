@@ -6,3 +6,4 @@ pub mod Free
 pub mod Paths
 pub mod Merge
 pub mod Sizes
+pub mod Sim
