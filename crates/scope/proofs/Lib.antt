@@ -7,3 +7,4 @@ pub mod Paths
 pub mod Merge
 pub mod Sizes
 pub mod Sim
+pub mod Extend

@@ -1,9 +1,9 @@
 -- What the store's laws use of a view: choices, inversions, the view that a link leaves, containment. Assumes nothing.
 use mathlib.Core.Path.{_≡_, refl, sym, ap, _∙_}
-use mathlib.Core.List.{List, [], _∷_}
+use mathlib.Core.List.{List, [], _∷_, List·Memᴰ}
 use mathlib.Core.Bool.{Bool, true, false, not}
 use mathlib.Core.Logic.{_≢_, _⊎_, inl, inr}
-use Prim.Native.Nat.{ℕ}
+use Prim.Native.Nat.{ℕ, _<_}
 use native.Mathlib.Omega.{arith}
 use native.Mathlib.Decide.{ℕ-discrete}
 use Rattle.scope.specs.Base.{xor}
@@ -78,3 +78,7 @@ module _ (g : View) (w l : ℕ) (i : Bool) (k : VState) where
   pub st-other : (n : ℕ) → n ≢ w → n ≢ l → link g w l i k .st n ≡ g .st n
   unfolding link
   st-other n h h′ = sel-no (ℕ-discrete n w) _ _ h ∙ sel-no (ℕ-discrete n l) _ _ h′
+
+-- the children of every kind are nodes below n
+abbrev pub Held : ℕ → View → Type 0
+Held n g = (a : ℕ) (i : Bool) (k : Kind) → g .st a ≡ known i k → (t : Ty) → List·Memᴰ t (k .kids) → t .idx < n

@@ -1,10 +1,10 @@
 -- Tests over runs of numbers, and root sizes: each is its tree's node count, which joins and new nodes keep; they add up to the node count, and
 -- a tree of at most 4,096 nodes is at most twelve steps deep. Assumes nothing.
-use mathlib.Core.Path.{_≡_, refl, sym, ap, subst, _∙_}
+use mathlib.Core.Path.{_≡_, refl, sym, ap, _∙_}
 use mathlib.Core.List.{List, [], _∷_, _++_}
 use mathlib.Core.Bool.{Bool, true, false, _&&_}
 use mathlib.Core.Logic.{_≢_, _⊎_, inl, inr}
-use Prim.Native.Nat.{ℕ, zero, suc, _+_, _^_, _≤_, _<_}
+use Prim.Native.Nat.{ℕ, zero, suc, _+_, _-_, _^_, _≤_, _<_}
 use native.Mathlib.Nat.{not-suc-le-zero}
 use native.Mathlib.Omega.{arith}
 use native.Mathlib.Decide.{ℕ-discrete, decLt}
@@ -51,9 +51,15 @@ pub length-from : (i n : ℕ) → length (from i n) ≡ n
 length-from i zero = refl
 length-from i (suc n) = ap suc (length-from (suc i) n)
 
-pub from-last : (i n : ℕ) → from i (suc n) ≡ from i n ++ ((i + n) ∷ [])
-from-last i zero = ap (λ (x : ℕ). x ∷ []) (omega arith)
-from-last i (suc n) = ap (λ (xs : List ℕ). i ∷ xs) (from-last (suc i) n ∙ ap (λ (x : ℕ). from (suc i) n ++ (x ∷ [])) (omega arith))
+from-append : (i n m : ℕ) → from i (n + m) ≡ from i n ++ from (i + n) m
+from-append i zero m =
+    let a : 0 + m ≡ m = omega arith in
+    let b : i ≡ i + 0 = omega arith in
+    ap (from i) a ∙ ap (λ (k : ℕ). from k m) b
+from-append i (suc n) m =
+    let a : suc n + m ≡ suc (n + m) = omega arith in
+    let b : suc i + n ≡ i + suc n = omega arith in
+    ap (from i) a ∙ ap (λ (xs : List ℕ). i ∷ xs) (from-append (suc i) n m ∙ ap (λ (k : ℕ). from (suc i) n ++ from k m) b)
 
 -- one for a passed test
 abbrev pub unit : Bool → ℕ
@@ -67,9 +73,17 @@ pub count-le : (p : ℕ → Bool) (xs : List ℕ) → count p xs ≤ length xs
 count-le p [] = omega arith
 count-le p (x ∷ xs) = omega (arith, unit-le (p x), count-le p xs)
 
-pub count-append : (p : ℕ → Bool) (xs ys : List ℕ) → count p (xs ++ ys) ≡ count p xs + count p ys
+count-append : (p : ℕ → Bool) (xs ys : List ℕ) → count p (xs ++ ys) ≡ count p xs + count p ys
 count-append p [] ys = omega arith
 count-append p (x ∷ xs) ys = omega (arith, count-append p xs ys)
+
+-- a run's first n numbers, and the rest
+pub count-split : (p : ℕ → Bool) (n m : ℕ) → n ≤ m → count p (from 0 m) ≡ count p (from 0 n) + count p (from n (m - n))
+count-split p n m h =
+    let a : m ≡ n + (m - n) = omega arith in
+    let b : 0 + n ≡ n = omega arith in
+    ap (λ (k : ℕ). count p (from 0 k)) a ∙ ap (count p) (from-append 0 n (m - n) ∙ ap (λ (k : ℕ). from 0 n ++ from k (m - n)) b)
+    ∙ count-append p (from 0 n) (from n (m - n))
 
 pub count-sum : (p q r : ℕ → Bool) → ((x : ℕ) → unit (r x) ≡ unit (p x) + unit (q x)) → (xs : List ℕ) → count r xs ≡ count p xs + count q xs
 count-sum p q r h [] = omega arith
@@ -82,6 +96,13 @@ count-none p i (suc n) h = omega (arith, ap unit (h i (omega arith) (omega arith
 pub count-same : (p q : ℕ → Bool) (i n : ℕ) → ((j : ℕ) → i ≤ j → j < i + n → p j ≡ q j) → count p (from i n) ≡ count q (from i n)
 count-same p q i zero h = refl
 count-same p q i (suc n) h = omega (arith, ap unit (h i (omega arith) (omega arith)), count-same p q (suc i) n (λ j a b. h j (omega arith) (omega arith)))
+
+pub eqb-sym : (a b : ℕ) → eqb a b ≡ eqb b a
+eqb-sym a b = go (same? a b)
+  where
+    go : (a ≡ b) ⊎ (a ≢ b) → eqb a b ≡ eqb b a
+    go (inl e) = eq-eqb a b e ∙ sym (eq-eqb b a (sym e))
+    go (inr e) = ne-eqb a b e ∙ sym (ne-eqb b a (λ q. e (sym q)))
 
 -- a number stands once in a run
 pub count-one : (r i n : ℕ) → i ≤ r → r < i + n → count (eqb r) (from i n) ≡ 1
