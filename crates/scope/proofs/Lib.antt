@@ -8,3 +8,4 @@ pub mod Merge
 pub mod Sizes
 pub mod Sim
 pub mod Extend
+pub mod Push
