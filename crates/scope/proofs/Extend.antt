@@ -16,7 +16,7 @@ use Rattle.scope.specs.Types.{Ty, ty, flip}
 use Rattle.scope.specs.Nodes.{Kind, State, Unknown, Node, Root, Child, at, stateOf, sizeOf}
 use Rattle.scope.proofs.View.{View, known, Kid, Fin, fin, Good, seen, view}
 use Rattle.scope.proofs.Needs.{Held}
-use Rattle.scope.proofs.Paths.{beyond, Leads, top, up, not-child, child-inside, leads-inside, Lead, Forest, lead-all, rep-leads, rep-inside, rep-idem, root-rep}
+use Rattle.scope.proofs.Paths.{beyond, Leads, top, up, not-child, child-inside, leads-inside, Lead, Forest, lead-all, rep-leads, rep-inside, kid-inside, rep-idem, root-rep}
 use Rattle.scope.proofs.Merge.{Shallow}
 use Rattle.scope.proofs.Sizes.{count-split, count-none, count-same, count-one, eqb-sym, Sized}
 
@@ -125,11 +125,8 @@ module _ (ns ns′ : List Node) (x : Extends ns ns′) (ok : Forest ns) where
       to = ap (λ (t : Ty). t .idx) (sym (ext-rep (c .kid .idx))) ∙ c .to;
     }
 
-    kid-low : {a y : ℕ} → Kid (view ns) a y → y < length ns
-    kid-low {a} {y} c = subst (λ (z : ℕ). z < length ns) (c .to) (rep-inside ok (c .kid .idx) (held a (c .inv) (c .kind) (c .state) (c .kid) (c .mem)))
-
     fin-old : {a : ℕ} → a < length ns → Fin (view ns) a → Fin (view ns′) a
-    fin-old {a} q (fin f) = fin (λ y c. let d = kid-old q c in fin-old (kid-low d) (f y d))
+    fin-old {a} q (fin f) = fin (λ y c. let d = kid-old q c in fin-old (kid-inside ok held d) (f y d))
 
     fin-new : {r : ℕ} → Fin h r → (a : ℕ) → length ns ≤ a → Of r a → Fin (view ns′) a
     fin-new {r} (fin f) a q o = fin (λ y c. go y (λ z k b w p. fin-new (f z k) b w p) (step a y r q o c) (decLt y (length ns)))

@@ -9,3 +9,4 @@ pub mod Sizes
 pub mod Sim
 pub mod Extend
 pub mod Push
+pub mod Falls

@@ -14,8 +14,8 @@ use Rattle.scope.specs.Base.{xor}
 use Rattle.scope.specs.Limits.{NONE}
 use Rattle.scope.specs.Types.{Ty, ty, flip}
 use Rattle.scope.specs.Nodes.{State, Unknown, Node, Root, Child, at, stateOf, sizeOf, hop, climb, find, point, compress, findMut}
-use Rattle.scope.proofs.View.{View, rootOf, seen, view}
-use Rattle.scope.proofs.Needs.{same?, xor-false, xor-twice, xor-comm, flip-flip}
+use Rattle.scope.proofs.View.{View, rootOf, Kid, seen, view}
+use Rattle.scope.proofs.Needs.{same?, xor-false, xor-twice, xor-comm, flip-flip, Held}
 use Rattle.scope.proofs.Free.{memb, memb-none, memb-more, free, free-nil, free-lt}
 
 -- past the last node
@@ -53,6 +53,9 @@ climb-flip (suc f) ns i t = go (at ns (t .idx)) (λ u. climb-flip f ns i u)
 pub find-root : (ns : List Node) (t : Ty) → find ns t ≡ rootOf (view ns) t
 unfolding find view
 find-root ns t = ap (climb (length ns) ns) (sym (flip-false (t .inv) (t .idx))) ∙ climb-flip (length ns) ns (t .inv) (ty false (t .idx))
+
+pub find-idx : (ns : List Node) (t : Ty) → find ns t .idx ≡ view ns .rep (t .idx) .idx
+find-idx ns t = ap (λ (r : Ty). r .idx) (find-root ns t)
 
 climb-leads : {ns : List Node} {n d : ℕ} {r : Ty} (f : ℕ) → Leads ns n d r → d ≤ f → climb f ns (ty false n) ≡ r
 unfolding climb
@@ -156,6 +159,11 @@ rep-inside {ns} ok n h = let l = ok .lead n h in rw (rep-leads (ok .par) (l .pat
 
 pub find-inside : {ns : List Node} → Forest ns → (t : Ty) → t .idx < length ns → find ns t .idx < length ns
 find-inside {ns} ok t h = rw (find-root ns t) (rep-inside ok (t .idx) h)
+
+-- a child's root is a node of the store
+pub kid-inside : {ns : List Node} {a x : ℕ} → Forest ns → Held (length ns) (view ns) → Kid (view ns) a x → x < length ns
+kid-inside {ns} {a} ok held c =
+    subst (λ (z : ℕ). z < length ns) (c .to) (rep-inside ok (c .kid .idx) (held a (c .inv) (c .kind) (c .state) (c .kid) (c .mem)))
 
 -- a root stands for itself
 pub root-rep : {ns : List Node} {n : ℕ} {st : State} {z : ℕ} → Forest ns → at ns n ≡ Root st z → view ns .rep n ≡ ty false n

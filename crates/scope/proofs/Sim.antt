@@ -20,7 +20,7 @@ use Rattle.scope.specs.Unify.{Plan, plan, Out, out, run, occurs, selfInv
 use Rattle.scope.proofs.View.{VState, unknown, known, View, sel, rootOf, seen, view}
 use Rattle.scope.proofs.View as Seen
 use Rattle.scope.proofs.PlanLaws.{plan-left, plan-right}
-use Rattle.scope.proofs.Paths.{Forest, Tidied, find-root, rep-idem, rep-inside, find-inside, find-mut-tidied, tidied-forest, tidied-view}
+use Rattle.scope.proofs.Paths.{Forest, Tidied, find-root, find-idx, rep-idem, rep-inside, find-inside, find-mut-tidied, tidied-forest, tidied-view}
 use Rattle.scope.proofs.Merge.{Shallow, tidied-shallow, Roots, roots-of, join-forest, join-len, join-shallow, join-view}
 use Rattle.scope.proofs.Sizes.{Sized, link-sized}
 
@@ -43,9 +43,6 @@ any-same p q h (c ∷ cs) = ap₂ _||_ (h c) (any-same p q h cs)
 all-same : (p q : Ty → Bool) → ((c : Ty) → p c ≡ q c) → (cs : List Ty) → all p cs ≡ all q cs
 all-same p q h [] = refl
 all-same p q h (c ∷ cs) = ap₂ _&&_ (h c) (all-same p q h cs)
-
-find-idx : (ns : List Node) (c : Ty) → find ns c .idx ≡ view ns .rep (c .idx) .idx
-find-idx ns c = ap (λ (t : Ty). t .idx) (find-root ns c)
 
 -- `occurs`, of any nodes
 pub occurs-view : (f : ℕ) (ns : List Node) (x y : ℕ) → occurs f ns x y ≡ Seen.occurs f (view ns) x y
