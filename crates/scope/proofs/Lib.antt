@@ -10,3 +10,4 @@ pub mod Sim
 pub mod Extend
 pub mod Push
 pub mod Falls
+pub mod SoundLaws
