@@ -33,10 +33,11 @@ rootOf g t = flip (t .inv) (g .rep (t .idx))
 
 -- w stays, l becomes its child: l's own tree is w's, inverted by i; w's state is now k
 unfoldable pub link : View → ℕ → ℕ → Bool → VState → View
-link g w l i k = record
-  { rep = λ n. sel (ℕ-discrete (g .rep n .idx) l) (ty (xor (g .rep n .inv) i) w) (g .rep n)
-  ; st = λ n. sel (ℕ-discrete n w) k (sel (ℕ-discrete n l) unknown (g .st n))
-  ; sz = λ n. sel (ℕ-discrete n w) (g .sz w + g .sz l) (sel (ℕ-discrete n l) 0 (g .sz n)) }
+link g w l i k = record {
+  rep = λ n. sel (ℕ-discrete (g .rep n .idx) l) (ty (xor (g .rep n .inv) i) w) (g .rep n);
+  st = λ n. sel (ℕ-discrete n w) k (sel (ℕ-discrete n l) unknown (g .st n));
+  sz = λ n. sel (ℕ-discrete n w) (g .sz w + g .sz l) (sel (ℕ-discrete n l) 0 (g .sz n));
+}
 
 -- a root a has a child whose root is x
 pub record Kid (g : View) (a x : ℕ) : Type 0 where
@@ -109,13 +110,13 @@ same f g a b = not (xor (a .inv) (b .inv)) || selfInverse false f g (a .idx)
 abbrev pub bind : ℕ → View → Ty → Ty → Bool → Out
 bind f g a b true = out g Failure
 bind f g a b false = sel (decLt (g .sz (b .idx)) (g .sz (a .idx)))
-  (out (join g a b (kept g a a b)) Success)
-  (out (join g b a (kept g b a b)) Success)
+    (out (join g a b (kept g a a b)) Success)
+    (out (join g b a (kept g b a b)) Success)
 
 abbrev pub close : View → Ty → Ty → Answer → Out
 close h a b Success = sel (decLt (h .sz (b .idx)) (h .sz (a .idx)))
-  (out (join h a b (h .st (a .idx))) Success)
-  (out (join h b a (h .st (b .idx))) Success)
+    (out (join h a b (h .st (a .idx))) Success)
+    (out (join h b a (h .st (b .idx))) Success)
 close h a b Failure = out h Failure
 close h a b Indeterminate = out h Indeterminate
 
@@ -123,13 +124,13 @@ abbrev pub meetSt : (View → Ty → Ty → Out) → Texts → ℕ → View → 
 meetSt u x f g a b unknown sb = bind f g a b (occurs f g (a .idx) (b .idx) || occurs f g (b .idx) (a .idx))
 meetSt u x f g a b (known i k) unknown = bind f g a b (occurs f g (a .idx) (b .idx) || occurs f g (b .idx) (a .idx))
 meetSt u x f g a b (known i k) (known j m) =
-  let l : Plan = plan x k m (xor (xor i (a .inv)) (xor j (b .inv))) in
-  let o : Out = run u g (l .base) (l .pairs) in
-  close (o .view) a b (o .answer)
+    let l : Plan = plan x k m (xor (xor i (a .inv)) (xor j (b .inv))) in
+    let o : Out = run u g (l .base) (l .pairs) in
+    close (o .view) a b (o .answer)
 
 unfoldable pub meet : (View → Ty → Ty → Out) → Texts → ℕ → View → Ty → Ty → Out
 meet u x f g a b =
-  sel (ℕ-discrete (a .idx) (b .idx)) (out g (ofBool (same f g a b))) (meetSt u x f g a b (g .st (a .idx)) (g .st (b .idx)))
+    sel (ℕ-discrete (a .idx) (b .idx)) (out g (ofBool (same f g a b))) (meetSt u x f g a b (g .st (a .idx)) (g .st (b .idx)))
 
 -- n is the node count: the depth of `occurs` and `selfInverse`, and what unify is started with
 unfoldable pub unify : Texts → ℕ → ℕ → View → Ty → Ty → Out
@@ -143,7 +144,8 @@ seen (Unknown p) = unknown
 seen InferenceFailed = unknown
 
 unfoldable pub view : List Node → View
-view ns = record
-  { rep = λ n. find ns (ty false n)
-  ; st = λ n. seen (stateOf (at ns n))
-  ; sz = λ n. sizeOf (at ns n) }
+view ns = record {
+  rep = λ n. find ns (ty false n);
+  st = λ n. seen (stateOf (at ns n));
+  sz = λ n. sizeOf (at ns n);
+}
