@@ -7,3 +7,4 @@ pub mod PlanLaws
 pub mod Added
 pub mod Mapping
 pub mod Copy
+pub mod Copies
