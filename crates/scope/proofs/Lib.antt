@@ -11,3 +11,4 @@ pub mod Extend
 pub mod Push
 pub mod Falls
 pub mod SoundLaws
+pub mod Restate
