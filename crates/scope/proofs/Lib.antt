@@ -11,6 +11,7 @@ pub mod Fuel
 pub mod Grow
 pub mod ImportKept
 pub mod Inside
+pub mod LaterSteps
 pub mod Laws
 pub mod MakeKept
 pub mod Mapping
@@ -34,6 +35,7 @@ pub mod Sol
 pub mod SoundKept
 pub mod SoundLaws
 pub mod Stay
+pub mod Steps
 pub mod Table
 pub mod TreeLaws
 pub mod UnifyKept
