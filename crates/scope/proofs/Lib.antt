@@ -6,6 +6,7 @@ pub mod Depth
 pub mod Extend
 pub mod Fail
 pub mod Falls
+pub mod FirstHalf
 pub mod Free
 pub mod Fuel
 pub mod Grow
@@ -19,6 +20,8 @@ pub mod Meet
 pub mod Merge
 pub mod NameLaws
 pub mod Needs
+pub mod NoDefaults
+pub mod NodesFit
 pub mod Occurs
 pub mod PairLaws
 pub mod Paths

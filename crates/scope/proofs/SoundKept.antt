@@ -6,7 +6,7 @@ use mathlib.Core.Option.{Option}
 use mathlib.Core.Logic.{_⊎_, inl, inr}
 use Prim.Native.Nat.{ℕ, _≤_, _<_}
 use native.Mathlib.Omega.{arith}
-use lib.ListN.{length}
+use lib.ListN.{length, set}
 use Rattle.scope.specs.Limits.{MAX-NODES, MAX-CHILDREN}
 use Rattle.scope.specs.Chart.{Env}
 use Rattle.scope.specs.Types.{Ty}
@@ -14,12 +14,12 @@ use Rattle.scope.specs.Kinds.{rows, rowOf, flagOf, namesOk, makeable, de
 use Rattle.scope.specs.Nodes.{Kind, State, Known, Unknown, InferenceFailed, Node, Root, Store, opened, withNodes, at, stateOf, sizeOf, stateAt, climb, find, findMut}
 use Rattle.scope.specs.Unify.{Plan, carry, unify}
 use Rattle.scope.specs.Make.{bare}
-use Rattle.scope.specs.Force.{fail, forceKind, finishWhere, finishInference, reset}
+use Rattle.scope.specs.Force.{withReports, fail, forceKind, finishWhere, finishInference, reset}
 use Rattle.scope.proofs.View.{View, known, fin, view}
 use Rattle.scope.proofs.Needs.{not-known}
 use Rattle.scope.proofs.Paths.{not-child, Forest, Tidied, find-idx, rep-root, find-inside, find-mut-tidied, tidied-forest, tidied-view}
 use Rattle.scope.proofs.Merge.{Shallow, tidied-shallow}
-use Rattle.scope.proofs.Restate.{Restates, restates-kind, restates-shallow, restates-forest, restates-sized, restates-good, failed-restates, finish-where-restates, finish-restates}
+use Rattle.scope.proofs.Restate.{Restates, restates-kind, restates-shallow, restates-forest, restates-sized, restates-good, failed-restates, failed-view, finish-where-restates, finish-restates}
 use Rattle.scope.proofs.SoundLaws.{Fine, SoundNodes, Remembers, SoundFacts}
 use Rattle.scope.proofs.Sim.{Inside}
 use Rattle.scope.proofs.UnifyKept.{unify-seen, unify-nodes, carry-seen, carry-nodes}
@@ -83,6 +83,18 @@ module _ (e : Env) where
       child-room = ok .child-room;
     }
 
+  -- another report count
+  reports-facts : {s : Store} {n : ℕ} → SoundFacts e s → SoundFacts e (withReports s n)
+  reports-facts ok = record {
+    nodes = ok .nodes;
+    error = ok .error;
+    nil = ok .nil;
+    node-limit = ok .node-limit;
+    child-limit = ok .child-limit;
+    node-room = ok .node-room;
+    child-room = ok .child-room;
+  }
+
   pub tidied-nodes : {ns ns′ : List Node} → Tidied ns ns′ → SoundNodes e ns → SoundNodes e ns′
   tidied-nodes {ns} {ns′} t ok = record {
     forest = tidied-forest t (ok .forest);
@@ -136,70 +148,64 @@ module _ (e : Env) where
   finish-where-kept s bs ok = restates-kept s (finishWhere bs (s .nodes)) (finish-where-restates bs (s .nodes)) ok
 
   -- a type's root, after its path is compressed
-  pub root-after : (ns : List Node) (t : Ty) → Forest ns → (z : ℕ) × (at (findMut ns t) (find ns t .idx) ≡ Root (stateAt ns t) z)
-  root-after ns t ok =
-      let d = find-mut-tidied ok t in
-      let r = rep-root (tidied-forest d ok) (t .idx) in
-      let w : view (findMut ns t) .rep (t .idx) .idx ≡ find ns t .idx =
-      ap (λ (g : View). g .rep (t .idx) .idx) (tidied-view d ok) ∙ sym (find-idx ns t) in
-      let q : at (findMut ns t) (find ns t .idx) ≡ Root (r .0) (r .1) = ap (at (findMut ns t)) (sym w) ∙ r .2 in
-      (r .1, q ∙ ap (λ (st : State). Root st (r .1)) (sym (ap stateOf q) ∙ d .sts (find ns t .idx)))
+  module _ (ns : List Node) (t : Ty) (ok : Forest ns) where
+    abbrev top : Node
+    top = at (findMut ns t) (find ns t .idx)
+
+    root-after : top ≡ Root (stateAt ns t) (sizeOf top)
+    root-after =
+        let d = find-mut-tidied ok t in
+        let r = rep-root (tidied-forest d ok) (t .idx) in
+        let w : view (findMut ns t) .rep (t .idx) .idx ≡ find ns t .idx =
+        ap (λ (g : View). g .rep (t .idx) .idx) (tidied-view d ok) ∙ sym (find-idx ns t) in
+        let q : top ≡ Root (r .0) (r .1) = ap (at (findMut ns t)) (sym w) ∙ r .2 in
+        q ∙ ap (λ (z : ℕ). Root (r .0) z) (sym (ap sizeOf q)) ∙ ap (λ (st : State). Root st (sizeOf top)) (sym (ap stateOf q) ∙ d .sts (find ns t .idx))
+
+    module _ (h : t .idx < length ns) (p : ℕ) (q : stateAt ns t ≡ Unknown p) where
+      root-inside : find ns t .idx < length (findMut ns t)
+      root-inside = omega (arith, find-mut-tidied ok t .len, find-inside ok t h)
+
+      unknown-after : top ≡ Root (Unknown p) (sizeOf top)
+      unknown-after = root-after ∙ ap (λ (st : State). Root st (sizeOf top)) q
+
+      marked : Restates (findMut ns t) (set (findMut ns t) (find ns t .idx) (Root InferenceFailed (sizeOf top)))
+      marked = failed-restates (findMut ns t) (find ns t .idx) p (sizeOf top) root-inside unknown-after
+
+      marked-view : view (set (findMut ns t) (find ns t .idx) (Root InferenceFailed (sizeOf top))) ≡ view ns
+      marked-view = failed-view (findMut ns t) (find ns t .idx) p (sizeOf top) root-inside unknown-after (tidied-forest (find-mut-tidied ok t) ok)
+          ∙ tidied-view (find-mut-tidied ok t) ok
 
   -- `force_kind`
   pub force-kept : (s : Store) (t : Ty) → SoundFacts e s → t .idx < length (s .nodes) → Kept e s (forceKind s t .1)
   unfolding forceKind
   force-kept s t ok h = go (stateAt (s .nodes) t) refl
     where
-      ns : List Node
-      ns = s .nodes
-
       s₁ : Store
-      s₁ = withNodes s (findMut ns t)
-
-      r : Ty
-      r = find ns t
+      s₁ = withNodes s (findMut (s .nodes) t)
 
       k₁ : Kept e s s₁
       k₁ = find-mut-kept s t ok
 
-      go : (st : State) → stateAt ns t ≡ st → Kept e s (fail s₁ r st)
+      go : (st : State) → stateAt (s .nodes) t ≡ st → Kept e s (fail s₁ (find (s .nodes) t) st)
       go (Known i k) q = k₁
       go InferenceFailed q = k₁
       go (Unknown p) q =
-          let z = root-after ns t (ok .nodes .forest) in
-          let d = find-mut-tidied (ok .nodes .forest) t in
-          let y : at (findMut ns t) (r .idx) ≡ Root (Unknown p) (sizeOf (at (findMut ns t) (r .idx))) =
-          z .1 ∙ ap (λ (n : ℕ). Root (stateAt ns t) n) (sym (ap sizeOf (z .1))) ∙ ap (λ (x : State). Root x (sizeOf (at (findMut ns t) (r .idx)))) q in
-          let x = failed-restates (findMut ns t) (r .idx) p (sizeOf (at (findMut ns t) (r .idx)))
-          (omega (arith, d .len, find-inside (ok .nodes .forest) t h)) y in
-          let k = restates-kept s₁ _ x (k₁ .facts) in
-          record {
-            facts = record {
-              nodes = k .facts .nodes;
-              error = k .facts .error;
-              nil = k .facts .nil;
-              node-limit = k .facts .node-limit;
-              child-limit = k .facts .child-limit;
-              node-room = k .facts .node-room;
-              child-room = k .facts .child-room;
-            };
-            shallow = λ w. k .shallow (k₁ .shallow w);
-          }
+          let k = restates-kept s₁ _ (marked (s .nodes) t (ok .nodes .forest) h p q) (k₁ .facts) in
+          record { facts = reports-facts (k .facts); shallow = λ w. k .shallow (k₁ .shallow w) }
+
+  pub force-view : (s : Store) (t : Ty) → Forest (s .nodes) → t .idx < length (s .nodes) → view (forceKind s t .1 .nodes) ≡ view (s .nodes)
+  unfolding forceKind
+  force-view s t ok h = go (stateAt (s .nodes) t) refl
+    where
+      go : (st : State) → stateAt (s .nodes) t ≡ st → view (fail (withNodes s (findMut (s .nodes) t)) (find (s .nodes) t) st .nodes) ≡ view (s .nodes)
+      go (Known i k) q = tidied-view (find-mut-tidied ok t) ok
+      go InferenceFailed q = tidied-view (find-mut-tidied ok t) ok
+      go (Unknown p) q = marked-view (s .nodes) t ok h p q
 
   -- `reset`
   pub reset-kept : (s : Store) → SoundFacts e s → Kept e s (reset s)
   unfolding reset
-  reset-kept s ok =
-      let f = opened-facts (s .nodeRoom) (s .childRoom) (ok .node-limit) (ok .child-limit) in
-      record {
-        facts = record {
-          nodes = f .nodes;
-          error = f .error;
-          nil = f .nil;
-          node-limit = f .node-limit;
-          child-limit = f .child-limit;
-          node-room = f .node-room;
-          child-room = f .child-room;
-        };
-        shallow = λ w i h. absurd (omega arith);
-      }
+  reset-kept s ok = record {
+    facts = reports-facts (opened-facts (s .nodeRoom) (s .childRoom) (ok .node-limit) (ok .child-limit));
+    shallow = λ w i h. absurd (omega arith);
+  }
