@@ -3,8 +3,10 @@ pub mod Added
 pub mod Copies
 pub mod Copy
 pub mod Depth
+pub mod Enough
 pub mod Extend
 pub mod Fail
+pub mod Faithful
 pub mod Falls
 pub mod FirstHalf
 pub mod Free

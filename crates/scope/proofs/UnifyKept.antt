@@ -31,7 +31,7 @@ pub stable-kinds : {e : Env} {n : ℕ} {g : View} → Stable e n g → Kinds e g
 stable-kinds s = inside-kinds (λ k m. m) (s .inside)
 
 module _ (e : Env) where
-  keeps : (n : ℕ) → Keeps (e .texts) n (Stable e n)
+  pub keeps : (n : ℕ) → Keeps (e .texts) n (Stable e n)
   keeps n = record {
     kids = λ g s a i k q. s .inside .kinds a i k q .kids;
     step = λ f g p q s hp hq. record {
