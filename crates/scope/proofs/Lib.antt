@@ -1,5 +1,6 @@
 pub mod Acyclic
 pub mod Added
+pub mod Copies
 pub mod Copy
 pub mod Depth
 pub mod Extend
