@@ -23,6 +23,7 @@ pub mod PlanLaws
 pub mod Push
 pub mod Reached
 pub mod Refusals
+pub mod Restate
 pub mod Run
 pub mod Self
 pub mod Sim
