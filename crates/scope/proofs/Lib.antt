@@ -9,6 +9,7 @@ pub mod Falls
 pub mod Free
 pub mod Fuel
 pub mod Grow
+pub mod GrowCalls
 pub mod Inside
 pub mod Laws
 pub mod Mapping
