@@ -8,3 +8,4 @@ pub mod Added
 pub mod Mapping
 pub mod Copy
 pub mod Copies
+pub mod CopyCount
