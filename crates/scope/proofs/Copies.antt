@@ -25,7 +25,7 @@ use Rattle.scope.proofs.Added.{Extends, Closed, at-end, find-added, fin
 use Rattle.scope.proofs.Mapping.{Tally, tnil, tcons, Maps, copy-maps, copy-none, tally-range, tally-onto}
 use Rattle.scope.proofs.Copy.{held, copyState, Source, all-mem, Reach, here, below, Became, as-copy, as-entry, lost, BecameAll, bnil, bcons, Filled, Ok, PostAll, import-ok}
 
-not-keep : {t : Ty} → entry t ≡ keep → ⊥
+pub not-keep : {t : Ty} → entry t ≡ keep → ⊥
 not-keep {t} e = let z : _≡_ {A = ℕ} 0 1 = cc in omega arith
 
 -- an entry that stands for a Param is one of the list, or its inverse
@@ -53,7 +53,7 @@ module _ {ns : List Node} {ps : Option (List Ty)} {w : Work} where
   became-source (bcons {c = c} b bs) c′ (List·Memᴰ·head e) = (c, List·Memᴰ·head refl, subst (Became ns ps w c) (sym e) b)
   became-source (bcons b bs) c′ (List·Memᴰ·tail m) = let z = became-source bs c′ m in (z .0, List·Memᴰ·tail (z .1), z .2)
 
-  became-of : {cs cs′ : List Ty} → BecameAll ns ps w cs cs′ → (c : Ty) → List·Memᴰ c cs → (c′ : Ty) × Became ns ps w c c′
+  pub became-of : {cs cs′ : List Ty} → BecameAll ns ps w cs cs′ → (c : Ty) → List·Memᴰ c cs → (c′ : Ty) × Became ns ps w c c′
   became-of bnil c m = absurd (List·Memᴰ·not-nil m)
   became-of (bcons {c′ = c′} b bs) c (List·Memᴰ·head e) = (c′, subst (λ (z : Ty). Became ns ps w z c′) (sym e) b)
   became-of (bcons b bs) c (List·Memᴰ·tail m) = became-of bs c m
@@ -63,7 +63,7 @@ module _ {ns : List Node} {ps : Option (List Ty)} {w : Work} where
   became-length (bcons b bs) = ap suc (became-length bs)
 
 -- the children that a copy has
-copy-kids : (st : State) (ts : List Ty) → length ts ≡ length (kidsOf st) → length (kidsOf (copyState st ts)) ≡ length (kidsOf st)
+pub copy-kids : (st : State) (ts : List Ty) → length ts ≡ length (kidsOf st) → length (kidsOf (copyState st ts)) ≡ length (kidsOf st)
 copy-kids (Known i k) ts e = e
 copy-kids (Unknown p) ts e = refl
 copy-kids InferenceFailed ts e = refl

@@ -2,6 +2,7 @@ pub mod Acyclic
 pub mod Added
 pub mod Copies
 pub mod Copy
+pub mod CopyCount
 pub mod Depth
 pub mod Extend
 pub mod Fail
