@@ -18,12 +18,8 @@ use Rattle.scope.proofs.View.{View, known, Kid, Fin, fin, Good, seen, v
 use Rattle.scope.proofs.Needs.{Held}
 use Rattle.scope.proofs.Paths.{beyond, Leads, top, up, not-child, child-inside, leads-inside, Lead, Forest, lead-all, rep-leads, rep-inside, kid-inside, rep-idem, root-rep}
 use Rattle.scope.proofs.Merge.{Shallow}
+use Rattle.scope.proofs.Added.{Extends}
 use Rattle.scope.proofs.Sizes.{count-split, count-none, count-same, count-one, eqb-sym, Sized}
-
-pub record Extends (ns ns′ : List Node) : Type 0 where
-  pub len : length ns ≤ length ns′
-  pub old : (n : ℕ) → n < length ns → at ns′ n ≡ at ns n
-  pub new : (n : ℕ) → length ns ≤ n → n < length ns′ → (st : State) × (at ns′ n ≡ Root st 1)
 
 module _ (ns ns′ : List Node) (x : Extends ns ns′) (ok : Forest ns) where
   ext-root : (n : ℕ) → length ns ≤ n → (st : State) × (z : ℕ) × (at ns′ n ≡ Root st z)

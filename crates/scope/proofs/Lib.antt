@@ -11,8 +11,10 @@ pub mod Free
 pub mod Fuel
 pub mod Grow
 pub mod GrowCalls
+pub mod ImportKept
 pub mod Inside
 pub mod Laws
+pub mod MakeKept
 pub mod Mapping
 pub mod Meet
 pub mod Merge
@@ -31,9 +33,11 @@ pub mod Self
 pub mod Sim
 pub mod Sizes
 pub mod Sol
+pub mod SoundKept
 pub mod SoundLaws
 pub mod Stay
 pub mod Table
 pub mod TreeLaws
+pub mod UnifyKept
 pub mod View
 pub mod ViewFits

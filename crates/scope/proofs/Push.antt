@@ -14,7 +14,8 @@ use Rattle.scope.specs.Make.{push}
 use Rattle.scope.proofs.View.{View, known, Kid, Good, seen, view}
 use Rattle.scope.proofs.Needs.{same?, Held}
 use Rattle.scope.proofs.Paths.{beyond, Forest, rep-inside}
-use Rattle.scope.proofs.Extend.{Extends, ext-rep, ext-good}
+use Rattle.scope.proofs.Added.{Extends}
+use Rattle.scope.proofs.Extend.{ext-rep, ext-good}
 
 module _ (ns : List Node) (st : State) where
   pub push-len : length (push ns st) ≡ suc (length ns)

@@ -1,0 +1,211 @@
+-- Sound stays sound: what each definition leaves of a sound store is sound, and no node gets deep under a small root. Assumes nothing.
+use mathlib.Core.Path.{_≡_, refl, sym, ap, subst, _∙_}
+use mathlib.Core.List.{List, [], _∷_, List·Memᴰ}
+use mathlib.Core.Bool.{Bool, true, false}
+use mathlib.Core.Option.{Option, none, some}
+use mathlib.Core.Logic.{_≢_, _⊎_, inl, inr}
+use Prim.Native.Nat.{ℕ, zero, suc, _+_, _≤_, _<_}
+use native.Mathlib.Omega.{arith}
+use native.Mathlib.Decide.{decLt}
+use lib.ListN.{length, set}
+use Rattle.scope.specs.Limits.{MAX-NODES, MAX-CHILDREN}
+use Rattle.scope.specs.Chart.{Env}
+use Rattle.scope.specs.Types.{Ty, ty}
+use Rattle.scope.specs.Kinds.{rows, rowOf, flagOf, namesOk, makeable, defined, flagIs, TUPLE, DEFAULT, ERROR}
+use Rattle.scope.specs.Nodes.{Kind, State, Known, Unknown, InferenceFailed, Node, Root, Child, Store, opened, withNodes, at, stateOf, sizeOf, stateAt, climb, find, findMut}
+use Rattle.scope.specs.Unify.{Plan, carry, unify}
+use Rattle.scope.specs.Make.{Made, MadeAll, push, pushed, new, newVar, newVars, bare, makeError, makeNil, again, rememberError, rememberNil}
+use Rattle.scope.specs.Force.{fail, forceKind, finishWhere, finishInference, reset}
+use Rattle.scope.proofs.View.{View, known, fin, Good, seen, view}
+use Rattle.scope.proofs.Needs.{same?, not-known}
+use Rattle.scope.proofs.PlanLaws.{Makeable}
+use Rattle.scope.proofs.Paths.{not-child, Forest, Tidied, find-idx, rep-root, rep-inside, find-inside, find-mut-tidied, tidied-forest, tidied-view}
+use Rattle.scope.proofs.Merge.{Shallow, tidied-shallow}
+use Rattle.scope.proofs.Sizes.{Sized}
+use Rattle.scope.proofs.Added.{Extends}
+use Rattle.scope.proofs.Extend.{ext-forest, ext-shallow, ext-sized}
+use Rattle.scope.proofs.Push.{push-len, push-new, push-old, push-extends, push-good}
+use Rattle.scope.proofs.Restate.{Restates, restates-kind, restates-shallow, restates-forest, restates-sized, restates-good, failed-restates, finish-where-restates, finish-restates}
+use Rattle.scope.proofs.SoundLaws.{Fine, Kinds, kinds-held, SoundNodes, Remembers, SoundFacts}
+use Rattle.scope.proofs.Sim.{Inside}
+use Rattle.scope.proofs.UnifyKept.{unify-seen, unify-nodes, carry-seen, carry-nodes}
+
+-- what a definition leaves of a sound store s
+pub record Kept (e : Env) (s s′ : Store) : Type 0 where
+  pub facts : SoundFacts e s′
+  pub shallow : Shallow (s .nodes) → Shallow (s′ .nodes)
+
+module _ (e : Env) where
+  -- the kinds that are made of nothing
+  default-fine : {n : ℕ} → Fine e n (bare DEFAULT)
+  unfolding makeable defined flagIs flagOf namesOk rowOf rows
+  default-fine = record { made = record { made = refl; def = refl; flag = refl }; kids = λ t w. elim w [ ] }
+
+  pub error-fine : {n : ℕ} → Fine e n (bare ERROR)
+  unfolding makeable defined flagIs flagOf namesOk rowOf rows
+  error-fine = record { made = record { made = refl; def = refl; flag = refl }; kids = λ t w. elim w [ ] }
+
+  pub nil-fine : {n : ℕ} → Fine e n (bare TUPLE)
+  unfolding makeable defined flagIs flagOf namesOk rowOf rows
+  nil-fine = record { made = record { made = refl; def = refl; flag = refl }; kids = λ t w. elim w [ ] }
+
+  pub fine-more : {n m : ℕ} {k : Kind} → n ≤ m → Fine e n k → Fine e m k
+  fine-more h f = record { made = f .made; kids = λ t w. omega (arith, f .kids t w) }
+
+  pub remembers-more : {n m : ℕ} {o : Option Ty} → n ≤ m → Remembers n o → Remembers m o
+  remembers-more h r t q = omega (arith, r t q)
+
+  -- an opened store
+  pub opened-facts : (n c : ℕ) → n ≤ MAX-NODES → c ≤ MAX-CHILDREN → SoundFacts e (opened n c)
+  unfolding view find climb
+  opened-facts n c hn hc = record {
+    nodes = record {
+      forest = record { lead = λ i h. absurd (omega arith); par = λ i t q. absurd (not-child q) };
+      kinds = λ a i k q. absurd (not-known q);
+      sized = λ i h. absurd (omega arith);
+      good = record { idem = λ i. refl; wf = λ a. fin (λ x k. absurd (not-known (k .state))) };
+    };
+    error = λ t q. let z : _≡_ {A = ℕ} 0 1 = cc in absurd (omega arith);
+    nil = λ t q. let z : _≡_ {A = ℕ} 0 1 = cc in absurd (omega arith);
+    node-limit = hn;
+    child-limit = hc;
+    node-room = omega arith;
+    child-room = omega arith;
+  }
+
+  pub opened-shallow : (n c : ℕ) → Shallow (opened n c .nodes)
+  opened-shallow n c i h = absurd (omega arith)
+
+  -- other nodes, as many
+  module _ (s : Store) (ns : List Node) (ok : SoundFacts e s) (len : length ns ≡ length (s .nodes)) where
+    pub nodes-facts : SoundNodes e ns → SoundFacts e (withNodes s ns)
+    nodes-facts x = record {
+      nodes = x;
+      error = subst (λ (n : ℕ). Remembers n (s .error)) (sym len) (ok .error);
+      nil = subst (λ (n : ℕ). Remembers n (s .nil)) (sym len) (ok .nil);
+      node-limit = ok .node-limit;
+      child-limit = ok .child-limit;
+      node-room = omega (arith, len, ok .node-room);
+      child-room = ok .child-room;
+    }
+
+  pub tidied-nodes : {ns ns′ : List Node} → Tidied ns ns′ → SoundNodes e ns → SoundNodes e ns′
+  tidied-nodes {ns} {ns′} t ok = record {
+    forest = tidied-forest t (ok .forest);
+    kinds = rw (t .len, tidied-view t (ok .forest)) (ok .kinds);
+    sized = rw (t .len, tidied-view t (ok .forest)) (ok .sized);
+    good = rw (tidied-view t (ok .forest)) (ok .good);
+  }
+
+  pub restates-nodes : {ns ns′ : List Node} → Restates ns ns′ → SoundNodes e ns → SoundNodes e ns′
+  restates-nodes {ns} {ns′} x ok = record {
+    forest = restates-forest ns ns′ x (ok .forest);
+    kinds = λ a i k q. kinds a i k (restates-kind ns ns′ x a i k q);
+    sized = restates-sized ns ns′ x (ok .forest) (ok .sized);
+    good = restates-good ns ns′ x (ok .forest) (ok .good);
+  }
+    where
+      kinds : (a : ℕ) (i : Bool) (k : Kind) → (view ns .st a ≡ known i k) ⊎ (k ≡ bare DEFAULT) → Fine e (length ns′) k
+      kinds a i k (inl q) = rw (x .len) (ok .kinds a i k q)
+      kinds a i k (inr q) = rw q default-fine
+
+  -- `find_mut`
+  pub find-mut-kept : (s : Store) (t : Ty) → SoundFacts e s → Kept e s (withNodes s (findMut (s .nodes) t))
+  find-mut-kept s t ok =
+      let d = find-mut-tidied (ok .nodes .forest) t in
+      record { facts = nodes-facts s (findMut (s .nodes) t) ok (d .len) (tidied-nodes d (ok .nodes)); shallow = tidied-shallow d }
+
+  -- `unify`, and what runs it over a plan's pairs
+  pub unify-kept : (s : Store) (a b : Ty) → SoundFacts e s → a .idx < length (s .nodes) → b .idx < length (s .nodes)
+      → Kept e s (withNodes s (unify (e .texts) (s .nodes) a b .nodes))
+  unify-kept s a b ok ha hb =
+      let m = unify-seen e (ok .nodes) a b ha hb in
+      record { facts = nodes-facts s (unify (e .texts) (s .nodes) a b .nodes) ok (m .len) (unify-nodes e (ok .nodes) a b ha hb); shallow = m .shallow }
+
+  pub carry-kept : (s : Store) (l : Plan) → SoundFacts e s → Inside (length (s .nodes)) (l .pairs)
+      → Kept e s (withNodes s (carry (e .texts) (s .nodes) l .nodes))
+  carry-kept s l ok h =
+      let m = carry-seen e (ok .nodes) l h in
+      record { facts = nodes-facts s (carry (e .texts) (s .nodes) l .nodes) ok (m .len) (carry-nodes e (ok .nodes) l h); shallow = m .shallow }
+
+  -- finishing
+  finished : (s : Store) (ns : List Node) → Restates (s .nodes) ns → SoundFacts e s → Kept e s (withNodes s ns)
+  finished s ns x ok = record {
+    facts = nodes-facts s ns ok (x .len) (restates-nodes x (ok .nodes));
+    shallow = restates-shallow (s .nodes) ns x;
+  }
+
+  pub finish-kept : (s : Store) → SoundFacts e s → Kept e s (withNodes s (finishInference (s .nodes)))
+  finish-kept s ok = finished s (finishInference (s .nodes)) (finish-restates (s .nodes)) ok
+
+  pub finish-where-kept : (s : Store) (bs : List ℕ) → SoundFacts e s → Kept e s (withNodes s (finishWhere bs (s .nodes)))
+  finish-where-kept s bs ok = finished s (finishWhere bs (s .nodes)) (finish-where-restates bs (s .nodes)) ok
+
+  -- a type's root, after its path is compressed
+  pub root-after : (ns : List Node) (t : Ty) → Forest ns → (z : ℕ) × (at (findMut ns t) (find ns t .idx) ≡ Root (stateAt ns t) z)
+  root-after ns t ok =
+      let d = find-mut-tidied ok t in
+      let r = rep-root (tidied-forest d ok) (t .idx) in
+      let w : view (findMut ns t) .rep (t .idx) .idx ≡ find ns t .idx =
+      ap (λ (g : View). g .rep (t .idx) .idx) (tidied-view d ok) ∙ sym (find-idx ns t) in
+      let q : at (findMut ns t) (find ns t .idx) ≡ Root (r .0) (r .1) = ap (at (findMut ns t)) (sym w) ∙ r .2 in
+      (r .1, q ∙ ap (λ (st : State). Root st (r .1)) (sym (ap stateOf q) ∙ d .sts (find ns t .idx)))
+
+  -- `force_kind`
+  pub force-kept : (s : Store) (t : Ty) → SoundFacts e s → t .idx < length (s .nodes) → Kept e s (forceKind s t .1)
+  unfolding forceKind
+  force-kept s t ok h = go (stateAt (s .nodes) t) refl
+    where
+      ns : List Node
+      ns = s .nodes
+
+      s₁ : Store
+      s₁ = withNodes s (findMut ns t)
+
+      r : Ty
+      r = find ns t
+
+      k₁ : Kept e s s₁
+      k₁ = find-mut-kept s t ok
+
+      go : (st : State) → stateAt ns t ≡ st → Kept e s (fail s₁ r st)
+      go (Known i k) q = k₁
+      go InferenceFailed q = k₁
+      go (Unknown p) q =
+          let z = root-after ns t (ok .nodes .forest) in
+          let d = find-mut-tidied (ok .nodes .forest) t in
+          let y : at (findMut ns t) (r .idx) ≡ Root (Unknown p) (sizeOf (at (findMut ns t) (r .idx))) =
+          z .1 ∙ ap (λ (n : ℕ). Root (stateAt ns t) n) (sym (ap sizeOf (z .1))) ∙ ap (λ (x : State). Root x (sizeOf (at (findMut ns t) (r .idx)))) q in
+          let x = failed-restates (findMut ns t) (r .idx) p (sizeOf (at (findMut ns t) (r .idx)))
+          (omega (arith, d .len, find-inside (ok .nodes .forest) t h)) y in
+          let k = finished s₁ _ x (k₁ .facts) in
+          record {
+            facts = record {
+              nodes = k .facts .nodes;
+              error = k .facts .error;
+              nil = k .facts .nil;
+              node-limit = k .facts .node-limit;
+              child-limit = k .facts .child-limit;
+              node-room = k .facts .node-room;
+              child-room = k .facts .child-room;
+            };
+            shallow = λ w. k .shallow (k₁ .shallow w);
+          }
+
+  -- `reset`
+  pub reset-kept : (s : Store) → SoundFacts e s → Kept e s (reset s)
+  unfolding reset
+  reset-kept s ok =
+      let f = opened-facts (s .nodeRoom) (s .childRoom) (ok .node-limit) (ok .child-limit) in
+      record {
+        facts = record {
+          nodes = f .nodes;
+          error = f .error;
+          nil = f .nil;
+          node-limit = f .node-limit;
+          child-limit = f .child-limit;
+          node-room = f .node-room;
+          child-room = f .child-room;
+        };
+        shallow = λ w i h. absurd (omega arith);
+      }
