@@ -96,19 +96,20 @@ module _ (ns : List Node) (ps : Option (List Ty)) (s : Store) (w : Work) (ok : O
 
   -- and so has its head, its inversion, and as many children
   pub new-kind : (n : ℕ) → length (s .nodes) ≤ n → (i : Bool) (k : Kind) → stateOf (at (w .dest .nodes) n) ≡ Known i k
-    → (r : ℕ) × (m : Kind) × (r < length ns) × (stateOf (at ns r) ≡ Known i m) × (k .head ≡ m .head) × (length (k .kids) ≡ length (m .kids))
+      → (r : ℕ) × (m : Kind) × (r < length ns) × (stateOf (at ns r) ≡ Known i m) × (k .head ≡ m .head) × (length (k .kids) ≡ length (m .kids))
   new-kind n p i k e = go (decLt n (length (w .dest .nodes)))
     where
       from-copy : (r : ℕ) → Maps (w .mapping) r n → (st : State) → stateOf (at ns r) ≡ st → (ts : List Ty) → length ts ≡ length (kidsOf st) → copyState st ts ≡ Known i k
-        → (r : ℕ) × (m : Kind) × (r < length ns) × (stateOf (at ns r) ≡ Known i m) × (k .head ≡ m .head) × (length (k .kids) ≡ length (m .kids))
+          → (r : ℕ) × (m : Kind) × (r < length ns) × (stateOf (at ns r) ≡ Known i m) × (k .head ≡ m .head) × (length (k .kids) ≡ length (m .kids))
       from-copy r m (Known j l) q ts h e =
           let a : j ≡ i = cc in
           let b : record { head = l .head; kids = ts } ≡ k = cc in
           (r, l, ok .below r n m, q ∙ ap (λ (z : Bool). Known z l) a, sym (ap (λ (z : Kind). z .head) b), sym (ap (λ (z : Kind). length (z .kids)) b) ∙ h)
       from-copy r m (Unknown o) q ts h e = let z : _≡_ {A = ℕ} 0 1 = cc in absurd (omega arith)
       from-copy r m InferenceFailed q ts h e = let z : _≡_ {A = ℕ} 0 1 = cc in absurd (omega arith)
+
       go : Dec (n < length (w .dest .nodes))
-        → (r : ℕ) × (m : Kind) × (r < length ns) × (stateOf (at ns r) ≡ Known i m) × (k .head ≡ m .head) × (length (k .kids) ≡ length (m .kids))
+          → (r : ℕ) × (m : Kind) × (r < length ns) × (stateOf (at ns r) ≡ Known i m) × (k .head ≡ m .head) × (length (k .kids) ≡ length (m .kids))
       go (yes q) =
           let c = new-copy n p q in
           let f = copy-filled (c .0) n (c .1) in
@@ -153,7 +154,7 @@ module _ (ns : List Node) (ps : Option (List Ty)) (s : Store) (w : Work) (ok : O
       no-depth a d = false≢true (d .falling)
 
       kid-depth : (f : ℕ) {c c′ : Ty} (y : ℕ) → falls f ns (find ns c .idx) ≡ true → Became ns ps w c c′ → view (w .dest .nodes) .rep (c′ .idx) .idx ≡ y
-        → (y < length (s .nodes)) ⊎ Deep f y
+          → (y < length (s .nodes)) ⊎ Deep f y
       unfolding view
       kid-depth f {c} {c′} y h (as-copy n m e) q =
           let a : c′ .idx ≡ n = ap (λ (x : Ty). x .idx) e in

@@ -49,10 +49,11 @@ module _ (ns : List Node) (ps : Option (List Ty)) (n : ℕ) where
     where
       test : Ty → Bool
       test t = reachesState (reaches f ns ps n) ps (eqb (find ns t .idx) n) (stateOf (at ns (find ns t .idx))) (replaced ps (stateOf (at ns (find ns t .idx))))
+
       go : (t : Ty) (u : Replaced) → replaced ps (stateOf (at ns (find ns t .idx))) ≡ u
-        → reachesState (reaches f ns ps n) ps (eqb (find ns t .idx) n) (stateOf (at ns (find ns t .idx))) u ≡ true
-        → (reaches f ns ps n (kidsOf (stateOf (at ns (find ns t .idx)))) ≡ true → (c : Ty) × List·Memᴰ c (kidsOf (stateOf (at ns (find ns t .idx)))) × Reach ns ps n c)
-        → Reach ns ps n t
+          → reachesState (reaches f ns ps n) ps (eqb (find ns t .idx) n) (stateOf (at ns (find ns t .idx))) u ≡ true
+          → (reaches f ns ps n (kidsOf (stateOf (at ns (find ns t .idx)))) ≡ true → (c : Ty) × List·Memᴰ c (kidsOf (stateOf (at ns (find ns t .idx)))) × Reach ns ps n c)
+          → Reach ns ps n t
       go t missing-entry q h ih = absurd (false≢true h)
       go t (entry u) q h ih = absurd (false≢true h)
       go t keep q h ih = choose (eqb (find ns t .idx) n) refl h
@@ -187,7 +188,7 @@ tally-held ns ns′ (tcons {p = p} {l = l} f q t) h =
 module _ (ns : List Node) (ps : Option (List Ty)) (s : Store) (ts : List Ty) (src : Source ns) (given : (t : Ty) → List·Memᴰ t ts → t .idx < length ns) where
   -- a root is reached if it was copied
   maps-reaches : (w : Work) → PostAll ns ps s [] (start s) ts (record { work = w; types = import ns ps s ts .types }) → w .missing ≡ false
-    → (n : ℕ) → reaches (length ns) ns ps n ts ≡ isSome (copyOf (w .mapping) n)
+      → (n : ℕ) → reaches (length ns) ns ps n ts ≡ isSome (copyOf (w .mapping) n)
   maps-reaches w p miss n = bool-same (reaches (length ns) ns ps n ts) (isSome (copyOf (w .mapping) n)) to back
     where
       to : reaches (length ns) ns ps n ts ≡ true → isSome (copyOf (w .mapping) n) ≡ true
@@ -196,6 +197,7 @@ module _ (ns : List Node) (ps : Option (List Ty)) (s : Store) (ts : List Ty) (sr
           let b = became-of (p .became) (r .0) (r .1) in
           let m = reach-maps ns ps n s w (p .ok) miss (r .2) (b .1) in
           of-some (w .mapping) n (m .0) (m .1)
+
       back : isSome (copyOf (w .mapping) n) ≡ true → reaches (length ns) ns ps n ts ≡ true
       back e = let m = some-of (w .mapping) n e in go (p .reach n (m .0) (m .1))
         where

@@ -10,7 +10,6 @@ pub mod Falls
 pub mod Free
 pub mod Fuel
 pub mod Grow
-pub mod GrowCalls
 pub mod ImportKept
 pub mod Inside
 pub mod Laws
@@ -18,6 +17,7 @@ pub mod MakeKept
 pub mod Mapping
 pub mod Meet
 pub mod Merge
+pub mod Moves
 pub mod NameLaws
 pub mod Needs
 pub mod Occurs
