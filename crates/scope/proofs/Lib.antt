@@ -1,5 +1,6 @@
 pub mod Acyclic
 pub mod Added
+pub mod Again
 pub mod Copies
 pub mod Copy
 pub mod CopyCount
@@ -10,6 +11,7 @@ pub mod Falls
 pub mod Free
 pub mod Fuel
 pub mod Grow
+pub mod GrowCalls
 pub mod ImportKept
 pub mod Inside
 pub mod Laws
@@ -20,6 +22,7 @@ pub mod Merge
 pub mod Moves
 pub mod NameLaws
 pub mod Needs
+pub mod NodesMade
 pub mod Occurs
 pub mod PairLaws
 pub mod Paths
@@ -29,6 +32,7 @@ pub mod Reached
 pub mod Refusals
 pub mod Restate
 pub mod Run
+pub mod SecondHalf
 pub mod Self
 pub mod Sim
 pub mod Sizes

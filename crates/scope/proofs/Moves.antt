@@ -2,21 +2,19 @@
 use mathlib.Core.Path.{_≡_, refl, sym, ap, subst, _∙_}
 use mathlib.Core.List.{List, [], _∷_, List·Memᴰ}
 use mathlib.Core.Bool.{Bool, true, false}
-use mathlib.Core.Option.{Option, none, some}
+use mathlib.Core.Option.{Option}
 use Prim.Native.Nat.{ℕ, zero, suc, _+_, _≤_, _<_}
 use native.Mathlib.Omega.{arith}
 use native.Mathlib.Decide.{decLt}
-use lib.ListN.{length, List·getD-eq-default, length-replicate, replicate}
+use lib.ListN.{length, List·getD-eq-default}
 use Rattle.scope.specs.Names.{Texts}
 use Rattle.scope.specs.Chart.{Env}
 use Rattle.scope.specs.Types.{Ty, ty, flip}
-use Rattle.scope.specs.Kinds.{ERROR, TUPLE}
 use Rattle.scope.specs.Nodes.{Kind, State, Known, Unknown, InferenceFailed, Node, Root, Store, withNodes, at, stateOf, sizeOf, stateAt, find, findMut}
 use Rattle.scope.specs.Unify.{Plan, Out, unify, carry}
-use Rattle.scope.specs.Make.{Made, push, newVar, newVars, new, bare, again, rememberError, rememberNil, makeError, makeNil}
+use Rattle.scope.specs.Make.{push}
 use Rattle.scope.specs.Force.{fail, forceKind, finishInference, finishWhere}
 use Rattle.scope.specs.Import.{import, copies}
-use Rattle.scope.specs.Demand.{unlessThere}
 use Rattle.scope.proofs.View.{View, known, Good, seen, view}
 use Rattle.scope.proofs.View as Seen
 use Rattle.scope.proofs.Needs.{not-known}
@@ -35,6 +33,7 @@ use Rattle.scope.proofs.SoundLaws.{SoundNodes, SoundFacts}
 use Rattle.scope.proofs.UnifyKept.{stable-kinds, nodes-stable, unify-seen, carry-seen}
 use Rattle.scope.proofs.SoundKept.{root-after}
 use Rattle.scope.proofs.ImportKept.{sound-source}
+use Rattle.scope.proofs.Steps.{pushes}
 
 -- the same roots, and every kind kept
 grow-same : {X : Texts} {g h : View} → Good g → Good h → ((n : ℕ) → h .rep n ≡ g .rep n)
@@ -76,34 +75,27 @@ module _ {X : Texts} {ns : List Node} (good : Good (view ns)) where
     moves-restates : Restates ns ns′ → Good (view ns′) → Moves X ns ns′ 0
     moves-restates x after = record { grow = grow-same good after (restates-rep ns ns′ x ok) (restates-known ns ns′ x); len = omega (arith, x .len) }
 
--- new variables are new roots
-vars-extends : (s : Store) (p n : ℕ) → Extends (s .nodes) (newVars s p n .store .nodes) × (length (newVars s p n .store .nodes) ≡ length (s .nodes) + n)
-unfolding newVars newVar
-vars-extends s p zero = (record { len = omega arith; old = λ n h. refl; new = λ n a b. absurd (omega arith) }, omega arith)
-vars-extends s p (suc n) = go (vars-extends (newVar s p .store) p n)
+-- new roots, one behind the other
+extends-trans : {ns ms ns′ : List Node} → Extends ns ms → Extends ms ns′ → Extends ns ns′
+extends-trans {ns} {ms} {ns′} x y = record {
+  len = omega (arith, x .len, y .len);
+  old = λ m h. y .old m (omega (arith, x .len)) ∙ x .old m h;
+  new = λ m a b. new m a b (decLt m (length ms));
+}
   where
-    ms : List Node
-    ms = push (s .nodes) (Unknown p)
+    new : (m : ℕ) → length ns ≤ m → m < length ns′ → Dec (m < length ms) → (st : State) × (at ns′ m ≡ Root st 1)
+    new m a b (yes h) = let r = x .new m a h in (r .0, y .old m h ∙ r .1)
+    new m a b (no h) = y .new m (omega arith) b
 
-    ns′ : List Node
-    ns′ = newVars (newVar s p .store) p n .store .nodes
+pushes-extends : (ns : List Node) (sts : List State) → Extends ns (pushes ns sts)
+unfolding pushes
+pushes-extends ns [] = record { len = omega arith; old = λ n h. refl; new = λ n a b. absurd (omega arith) }
+pushes-extends ns (st ∷ sts) = extends-trans (push-extends ns st) (pushes-extends (push ns st) sts)
 
-    one : Extends (s .nodes) ms
-    one = push-extends (s .nodes) (Unknown p)
-
-    go : Extends ms ns′ × (length ns′ ≡ length ms + n) → Extends (s .nodes) ns′ × (length ns′ ≡ length (s .nodes) + suc n)
-    go z = (
-      record {
-        len = omega (arith, one .len, z .0 .len);
-        old = λ m h. z .0 .old m (omega (arith, one .len)) ∙ one .old m h;
-        new = λ m a b. new m a b (decLt m (length ms));
-      },
-      omega (arith, z .1, push-len (s .nodes) (Unknown p)),
-    )
-      where
-        new : (m : ℕ) → length (s .nodes) ≤ m → m < length ns′ → Dec (m < length ms) → (st : State) × (at ns′ m ≡ Root st 1)
-        new m a b (yes h) = let r = one .new m a h in (r .0, z .0 .old m h ∙ r .1)
-        new m a b (no h) = z .0 .new m (omega arith) b
+pushes-length : (ns : List Node) (sts : List State) → length (pushes ns sts) ≡ length ns + length sts
+unfolding pushes
+pushes-length ns [] = omega arith
+pushes-length ns (st ∷ sts) = omega (arith, pushes-length (push ns st) sts, push-len ns st)
 
 -- a sound store; what follows takes it that no type of the store left contains itself
 module _ (e : Env) (s : Store) (facts : SoundFacts e s) where
@@ -113,28 +105,9 @@ module _ (e : Env) (s : Store) (facts : SoundFacts e s) where
   abbrev pub Leaves : List Node → ℕ → Type 0
   Leaves ns m = Good (view ns) → Moves (e .texts) (s .nodes) ns m
 
-  -- makers
-  pub push-moves : (st : State) → Leaves (push (s .nodes) st) 1
-  push-moves st = moves-extends (ok .good) (ok .forest) (push-extends (s .nodes) st) (omega (arith, push-len (s .nodes) st))
-
-  pub vars-moves : (p n : ℕ) → Leaves (newVars s p n .store .nodes) n
-  vars-moves p n = let z = vars-extends s p n in moves-extends (ok .good) (ok .forest) (z .0) (z .1)
-
-  pub error-moves : Leaves (makeError s .store .nodes) (length (unlessThere (s .error) (Known false (bare ERROR))))
-  unfolding makeError new
-  error-moves = go (s .error)
-    where
-      go : (o : Option Ty) → Leaves (again s o (rememberError (new s (bare ERROR))) .store .nodes) (length (unlessThere o (Known false (bare ERROR))))
-      go none = push-moves (Known false (bare ERROR))
-      go (some t) = λ g. moves-none (ok .good)
-
-  pub nil-moves : Leaves (makeNil s .store .nodes) (length (unlessThere (s .nil) (Known false (bare TUPLE))))
-  unfolding makeNil new
-  nil-moves = go (s .nil)
-    where
-      go : (o : Option Ty) → Leaves (again s o (rememberNil (new s (bare TUPLE))) .store .nodes) (length (unlessThere o (Known false (bare TUPLE))))
-      go none = push-moves (Known false (bare TUPLE))
-      go (some t) = λ g. moves-none (ok .good)
+  -- makers and `import`
+  pub pushes-moves : (sts : List State) → Leaves (pushes (s .nodes) sts) (length sts)
+  pushes-moves sts = moves-extends (ok .good) (ok .forest) (pushes-extends (s .nodes) sts) (pushes-length (s .nodes) sts)
 
   pub import-moves : (ns : List Node) (ps : Option (List Ty)) (ts : List Ty) → SoundNodes e ns → ((t : Ty) → List·Memᴰ t ts → t .idx < length ns)
       → import ns ps s ts .work .missing ≡ false → Leaves (import ns ps s ts .work .dest .nodes) (copies ns ps ts)
