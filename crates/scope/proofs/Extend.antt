@@ -1,10 +1,10 @@
 -- New roots of size 1 behind the old nodes, as makers and imports leave them: no old node's root, depth, state or size changes, and where the new
 -- kinds follow a view without cycles there is none. Assumes nothing.
-use mathlib.Core.Path.{_≡_, refl, sym, ap, subst, _∙_}
-use mathlib.Core.List.{List, [], _∷_, _++_, List·Memᴰ}
-use mathlib.Core.Bool.{Bool, true, false}
-use mathlib.Core.Logic.{_≢_, _⊎_, inl, inr}
-use Prim.Native.Nat.{ℕ, zero, suc, _+_, _^_, _≤_, _<_, _-_}
+use mathlib.Core.Path.{_≡_, sym, ap, _∙_}
+use mathlib.Core.List.{List}
+use mathlib.Core.Bool.{Bool, false}
+use mathlib.Core.Logic.{_⊎_, inl, inr}
+use Prim.Native.Nat.{ℕ, _+_, _^_, _≤_, _<_, _-_}
 use native.Mathlib.Omega.{arith}
 use native.Mathlib.Decide.{decLt}
 use lib.Dec.{eqb}
@@ -12,7 +12,7 @@ use lib.ListN.{length, List·getD-eq-default}
 use borrow.Author.Tests.{ne-eqb}
 use Rattle.scope.specs.Base.{count, from}
 use Rattle.scope.specs.Limits.{NONE}
-use Rattle.scope.specs.Types.{Ty, ty, flip}
+use Rattle.scope.specs.Types.{Ty, ty}
 use Rattle.scope.specs.Nodes.{Kind, State, Unknown, Node, Root, Child, at, stateOf, sizeOf}
 use Rattle.scope.proofs.View.{View, known, Kid, Fin, fin, Good, seen, view}
 use Rattle.scope.proofs.Needs.{Held}

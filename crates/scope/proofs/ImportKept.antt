@@ -1,7 +1,7 @@
 -- Sound stays sound under `import` out of a sound source. Assumes nothing.
 use mathlib.Core.Path.{_≡_, refl, sym, ap, subst, _∙_}
-use mathlib.Core.List.{List, [], _∷_, List·Memᴰ}
-use mathlib.Core.Bool.{Bool, true, false}
+use mathlib.Core.List.{List, [], List·Memᴰ}
+use mathlib.Core.Bool.{false}
 use mathlib.Core.Option.{Option}
 use Prim.Native.Nat.{ℕ, _≤_, _<_}
 use native.Mathlib.Omega.{arith}
@@ -9,18 +9,18 @@ use native.Mathlib.Decide.{decLt}
 use lib.ListN.{length}
 use Rattle.scope.specs.Chart.{Env}
 use Rattle.scope.specs.Types.{Ty}
-use Rattle.scope.specs.Nodes.{Kind, State, Known, Unknown, InferenceFailed, Node, Root, Store, at, isRoot, stateOf, find, kidsOf}
+use Rattle.scope.specs.Nodes.{State, Known, Unknown, InferenceFailed, Node, Store, at, stateOf, kidsOf}
 use Rattle.scope.specs.Import.{Work, start, import}
 use Rattle.scope.specs.Calls.{importList}
-use Rattle.scope.proofs.View.{known, seen, view}
+use Rattle.scope.proofs.View.{seen, view}
 use Rattle.scope.proofs.PlanLaws.{Makeable}
-use Rattle.scope.proofs.Paths.{Forest, find-idx, rep-root, find-inside}
+use Rattle.scope.proofs.Paths.{find-idx, rep-root, find-inside}
 use Rattle.scope.proofs.Falls.{seen-known, good-falls}
 use Rattle.scope.proofs.Added.{Extends, Closed}
 use Rattle.scope.proofs.Extend.{ext-forest, ext-shallow, ext-sized, ext-st}
-use Rattle.scope.proofs.Copy.{Source, Ok, PostAll, import-ok}
+use Rattle.scope.proofs.Copy.{Source, PostAll, import-ok}
 use Rattle.scope.proofs.Copies.{new-kind, copies-closed, copies-good}
-use Rattle.scope.proofs.SoundLaws.{Fine, Kinds, kinds-held, SoundNodes, Remembers, SoundFacts}
+use Rattle.scope.proofs.SoundLaws.{Fine, Kinds, kinds-held, SoundNodes, SoundFacts}
 use Rattle.scope.proofs.SoundKept.{Kept, fine-more, remembers-more}
 
 module _ (e : Env) where

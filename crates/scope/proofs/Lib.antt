@@ -14,6 +14,7 @@ pub mod Grow
 pub mod GrowCalls
 pub mod ImportKept
 pub mod Inside
+pub mod LaterSteps
 pub mod Laws
 pub mod MakeKept
 pub mod Mapping
@@ -40,6 +41,7 @@ pub mod Sol
 pub mod SoundKept
 pub mod SoundLaws
 pub mod Stay
+pub mod Steps
 pub mod Table
 pub mod TreeLaws
 pub mod UnifyKept

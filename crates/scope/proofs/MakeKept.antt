@@ -1,7 +1,7 @@
 -- Sound stays sound under the makers. Assumes nothing.
 use mathlib.Core.Path.{_≡_, refl, sym, ap, subst, _∙_}
-use mathlib.Core.List.{List, [], _∷_, List·Memᴰ}
-use mathlib.Core.Bool.{Bool, true, false}
+use mathlib.Core.List.{List}
+use mathlib.Core.Bool.{Bool, false}
 use mathlib.Core.Option.{Option, none, some}
 use mathlib.Core.Logic.{_≢_, _⊎_, inl, inr}
 use Prim.Native.Nat.{ℕ, zero, suc, _+_, _≤_, _<_}
@@ -11,13 +11,13 @@ use Rattle.scope.specs.Chart.{Env}
 use Rattle.scope.specs.Types.{Ty}
 use Rattle.scope.specs.Kinds.{TUPLE, ERROR}
 use Rattle.scope.specs.Nodes.{Kind, State, Known, Unknown, Node, Store, at, stateOf}
-use Rattle.scope.specs.Make.{Made, push, pushed, nextType, new, newVar, newVars, bare, makeError, makeNil, again, rememberError, rememberNil}
+use Rattle.scope.specs.Make.{push, pushed, nextType, new, newVar, newVars, bare, makeError, makeNil, again, rememberError, rememberNil}
 use Rattle.scope.specs.Calls.{nodesFor}
-use Rattle.scope.proofs.View.{View, known, seen, view}
+use Rattle.scope.proofs.View.{known, seen, view}
 use Rattle.scope.proofs.Needs.{same?, not-known}
 use Rattle.scope.proofs.Extend.{ext-forest, ext-shallow, ext-sized}
 use Rattle.scope.proofs.Push.{push-len, push-new, push-old, push-extends, push-good}
-use Rattle.scope.proofs.SoundLaws.{Fine, kinds-held, SoundNodes, Remembers, SoundFacts}
+use Rattle.scope.proofs.SoundLaws.{Fine, kinds-held, SoundNodes, SoundFacts}
 use Rattle.scope.proofs.SoundKept.{Kept, error-fine, nil-fine, fine-more, remembers-more}
 
 module _ (e : Env) where

@@ -1,17 +1,17 @@
 -- One new root behind a store, as a maker leaves it. Assumes nothing.
-use mathlib.Core.Path.{_≡_, refl, sym, ap, subst, _∙_}
+use mathlib.Core.Path.{_≡_, sym, ap, subst, _∙_}
 use mathlib.Core.List.{List, [], _∷_, List·Memᴰ}
-use mathlib.Core.Bool.{Bool, true, false}
+use mathlib.Core.Bool.{Bool}
 use mathlib.Core.Logic.{_≢_, _⊎_, inl, inr}
-use Prim.Native.Nat.{ℕ, zero, suc, _+_, _≤_, _<_}
+use Prim.Native.Nat.{ℕ, suc, _<_}
 use native.Mathlib.Omega.{arith}
 use native.Mathlib.Decide.{decLt}
 use lib.ListN.{length, length-append, List·getD-append, List·getD-eq-default}
 use lib.Seq.{getD-append-seam}
-use Rattle.scope.specs.Types.{Ty, ty}
-use Rattle.scope.specs.Nodes.{Kind, State, Node, Root, Child, at, stateOf}
+use Rattle.scope.specs.Types.{Ty}
+use Rattle.scope.specs.Nodes.{Kind, State, Node, Root, at, stateOf}
 use Rattle.scope.specs.Make.{push}
-use Rattle.scope.proofs.View.{View, known, Kid, Good, seen, view}
+use Rattle.scope.proofs.View.{known, Good, seen, view}
 use Rattle.scope.proofs.Needs.{same?, Held}
 use Rattle.scope.proofs.Paths.{beyond, Forest, rep-inside}
 use Rattle.scope.proofs.Added.{Extends}

@@ -1,32 +1,26 @@
 -- Sound stays sound: what each definition leaves of a sound store is sound, and no node gets deep under a small root. Assumes nothing.
 use mathlib.Core.Path.{_≡_, refl, sym, ap, subst, _∙_}
-use mathlib.Core.List.{List, [], _∷_, List·Memᴰ}
-use mathlib.Core.Bool.{Bool, true, false}
-use mathlib.Core.Option.{Option, none, some}
-use mathlib.Core.Logic.{_≢_, _⊎_, inl, inr}
-use Prim.Native.Nat.{ℕ, zero, suc, _+_, _≤_, _<_}
+use mathlib.Core.List.{List}
+use mathlib.Core.Bool.{Bool}
+use mathlib.Core.Option.{Option}
+use mathlib.Core.Logic.{_⊎_, inl, inr}
+use Prim.Native.Nat.{ℕ, _≤_, _<_}
 use native.Mathlib.Omega.{arith}
-use native.Mathlib.Decide.{decLt}
-use lib.ListN.{length, set}
+use lib.ListN.{length}
 use Rattle.scope.specs.Limits.{MAX-NODES, MAX-CHILDREN}
 use Rattle.scope.specs.Chart.{Env}
-use Rattle.scope.specs.Types.{Ty, ty}
+use Rattle.scope.specs.Types.{Ty}
 use Rattle.scope.specs.Kinds.{rows, rowOf, flagOf, namesOk, makeable, defined, flagIs, TUPLE, DEFAULT, ERROR}
-use Rattle.scope.specs.Nodes.{Kind, State, Known, Unknown, InferenceFailed, Node, Root, Child, Store, opened, withNodes, at, stateOf, sizeOf, stateAt, climb, find, findMut}
+use Rattle.scope.specs.Nodes.{Kind, State, Known, Unknown, InferenceFailed, Node, Root, Store, opened, withNodes, at, stateOf, sizeOf, stateAt, climb, find, findMut}
 use Rattle.scope.specs.Unify.{Plan, carry, unify}
-use Rattle.scope.specs.Make.{Made, MadeAll, push, pushed, new, newVar, newVars, bare, makeError, makeNil, again, rememberError, rememberNil}
+use Rattle.scope.specs.Make.{bare}
 use Rattle.scope.specs.Force.{fail, forceKind, finishWhere, finishInference, reset}
-use Rattle.scope.proofs.View.{View, known, fin, Good, seen, view}
-use Rattle.scope.proofs.Needs.{same?, not-known}
-use Rattle.scope.proofs.PlanLaws.{Makeable}
-use Rattle.scope.proofs.Paths.{not-child, Forest, Tidied, find-idx, rep-root, rep-inside, find-inside, find-mut-tidied, tidied-forest, tidied-view}
+use Rattle.scope.proofs.View.{View, known, fin, view}
+use Rattle.scope.proofs.Needs.{not-known}
+use Rattle.scope.proofs.Paths.{not-child, Forest, Tidied, find-idx, rep-root, find-inside, find-mut-tidied, tidied-forest, tidied-view}
 use Rattle.scope.proofs.Merge.{Shallow, tidied-shallow}
-use Rattle.scope.proofs.Sizes.{Sized}
-use Rattle.scope.proofs.Added.{Extends}
-use Rattle.scope.proofs.Extend.{ext-forest, ext-shallow, ext-sized}
-use Rattle.scope.proofs.Push.{push-len, push-new, push-old, push-extends, push-good}
 use Rattle.scope.proofs.Restate.{Restates, restates-kind, restates-shallow, restates-forest, restates-sized, restates-good, failed-restates, finish-where-restates, finish-restates}
-use Rattle.scope.proofs.SoundLaws.{Fine, Kinds, kinds-held, SoundNodes, Remembers, SoundFacts}
+use Rattle.scope.proofs.SoundLaws.{Fine, SoundNodes, Remembers, SoundFacts}
 use Rattle.scope.proofs.Sim.{Inside}
 use Rattle.scope.proofs.UnifyKept.{unify-seen, unify-nodes, carry-seen, carry-nodes}
 
@@ -129,17 +123,17 @@ module _ (e : Env) where
       record { facts = nodes-facts s (carry (e .texts) (s .nodes) l .nodes) ok (m .len) (carry-nodes e (ok .nodes) l h); shallow = m .shallow }
 
   -- finishing
-  finished : (s : Store) (ns : List Node) → Restates (s .nodes) ns → SoundFacts e s → Kept e s (withNodes s ns)
-  finished s ns x ok = record {
+  pub restates-kept : (s : Store) (ns : List Node) → Restates (s .nodes) ns → SoundFacts e s → Kept e s (withNodes s ns)
+  restates-kept s ns x ok = record {
     facts = nodes-facts s ns ok (x .len) (restates-nodes x (ok .nodes));
     shallow = restates-shallow (s .nodes) ns x;
   }
 
   pub finish-kept : (s : Store) → SoundFacts e s → Kept e s (withNodes s (finishInference (s .nodes)))
-  finish-kept s ok = finished s (finishInference (s .nodes)) (finish-restates (s .nodes)) ok
+  finish-kept s ok = restates-kept s (finishInference (s .nodes)) (finish-restates (s .nodes)) ok
 
   pub finish-where-kept : (s : Store) (bs : List ℕ) → SoundFacts e s → Kept e s (withNodes s (finishWhere bs (s .nodes)))
-  finish-where-kept s bs ok = finished s (finishWhere bs (s .nodes)) (finish-where-restates bs (s .nodes)) ok
+  finish-where-kept s bs ok = restates-kept s (finishWhere bs (s .nodes)) (finish-where-restates bs (s .nodes)) ok
 
   -- a type's root, after its path is compressed
   pub root-after : (ns : List Node) (t : Ty) → Forest ns → (z : ℕ) × (at (findMut ns t) (find ns t .idx) ≡ Root (stateAt ns t) z)
@@ -178,7 +172,7 @@ module _ (e : Env) where
           z .1 ∙ ap (λ (n : ℕ). Root (stateAt ns t) n) (sym (ap sizeOf (z .1))) ∙ ap (λ (x : State). Root x (sizeOf (at (findMut ns t) (r .idx)))) q in
           let x = failed-restates (findMut ns t) (r .idx) p (sizeOf (at (findMut ns t) (r .idx)))
           (omega (arith, d .len, find-inside (ok .nodes .forest) t h)) y in
-          let k = finished s₁ _ x (k₁ .facts) in
+          let k = restates-kept s₁ _ x (k₁ .facts) in
           record {
             facts = record {
               nodes = k .facts .nodes;

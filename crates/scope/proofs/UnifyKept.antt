@@ -1,14 +1,13 @@
 -- `unify` on a sound store's nodes: it is `unify` on their view, and leaves sound nodes; a run of pairs likewise. Assumes nothing.
-use mathlib.Core.Path.{_≡_, refl, sym, ap, subst, _∙_}
-use mathlib.Core.List.{List, [], _∷_, List·Memᴰ}
+use mathlib.Core.Path.{refl, sym, subst, _∙_}
+use mathlib.Core.List.{List}
 use mathlib.Core.Bool.{Bool}
 use Prim.Native.Nat.{ℕ, _<_}
 use lib.ListN.{length}
 use Rattle.scope.specs.Base.{xor}
 use Rattle.scope.specs.Chart.{Env}
-use Rattle.scope.specs.Types.{Ty, flip}
-use Rattle.scope.specs.Nodes.{Kind, Node}
-use Rattle.scope.specs.Answers.{Answer}
+use Rattle.scope.specs.Types.{Ty}
+use Rattle.scope.specs.Nodes.{Node}
 use Rattle.scope.specs.Unify.{Plan, plan, Out, run, unify, carry}
 use Rattle.scope.proofs.View.{View, Good, view}
 use Rattle.scope.proofs.View as Seen
