@@ -15,14 +15,10 @@ use Rattle.scope.specs.Demand as Demand
 use Rattle.scope.proofs.View.{Good, view}
 use Rattle.scope.proofs.Grow.{Grow, grow-refl, grow-trans}
 use Rattle.scope.proofs.SoundLaws.{SoundFacts}
-use Rattle.scope.proofs.Moves.{Moves, moves-none, pushes-moves, import-moves, find-mut-moves, force-moves, unify-moves}
+use Rattle.scope.proofs.Moves.{Moves, moves-none, pushes-moves, import-moves, find-mut-moves, force-moves, restates-moves, unify-moves, carry-moves}
 use Rattle.scope.proofs.Steps.{still, maker-cases, import-cases, force-cases, unify-cases, read-cases}
+use Rattle.scope.proofs.LaterSteps.{later-cases}
 use Rattle.scope.proofs.Reached.{Reached, next-reached}
-
--- no node is new, whether the call is taken or not
-none-taken : (b : Bool) → ifTaken b 0 ≡ 0
-none-taken true = refl
-none-taken false = refl
 
 module _ (e : Env) (s : Store) (facts : SoundFacts e s) where
   abbrev From : ℕ → Step → Type 0
@@ -46,7 +42,7 @@ module _ (e : Env) (s : Store) (facts : SoundFacts e s) where
   call-moves (Demand.forceKind t) h = force-cases e s facts None t none (force-moves e s facts t)
   call-moves (Demand.unify a b) h = unify-cases e s facts (λ o. None (step s o)) a b (λ n. none) (unify-moves e s facts a b)
   call-moves (Demand.read r) h = read-cases e s facts None r none none (find-mut-moves e s facts)
-  call-moves (Demand.later c) h = ?
+  call-moves (Demand.later c) h = later-cases e s facts None c none none (carry-moves e s facts) (restates-moves e s facts)
   call-moves Demand.reset h = let z : _≡_ {A = ℕ} 0 1 = cc in absurd (omega arith)
 
 pub next-moves : (e : Env) (s : Store) (c : Call) → Reached e s → inSecondHalf c ≡ true → Moves (e .texts) (s .nodes) (next e s c .nodes) (madeBy e s c)

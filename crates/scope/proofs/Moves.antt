@@ -13,7 +13,7 @@ use Rattle.scope.specs.Types.{Ty, ty, flip}
 use Rattle.scope.specs.Nodes.{Kind, State, Known, Unknown, InferenceFailed, Node, Root, Store, withNodes, at, stateOf, sizeOf, stateAt, find, findMut}
 use Rattle.scope.specs.Unify.{Plan, Out, unify, carry}
 use Rattle.scope.specs.Make.{push}
-use Rattle.scope.specs.Force.{fail, forceKind, finishInference, finishWhere}
+use Rattle.scope.specs.Force.{fail, forceKind}
 use Rattle.scope.specs.Import.{import, copies}
 use Rattle.scope.proofs.View.{View, known, Good, seen, view}
 use Rattle.scope.proofs.View as Seen
@@ -25,7 +25,7 @@ use Rattle.scope.proofs.Paths.{beyond, Forest, Tidied, find-inside, fin
 use Rattle.scope.proofs.Added.{Extends}
 use Rattle.scope.proofs.Extend.{ext-rep, ext-st}
 use Rattle.scope.proofs.Push.{push-len, push-extends}
-use Rattle.scope.proofs.Restate.{Restates, restates-rep, restates-known, failed-restates, failed-view, finish-restates, finish-where-restates}
+use Rattle.scope.proofs.Restate.{Restates, restates-rep, restates-known, restates-good, failed-restates, failed-view}
 use Rattle.scope.proofs.Copy.{import-ok}
 use Rattle.scope.proofs.CopyCount.{import-nodes}
 use Rattle.scope.proofs.Sim.{Sim, Inside}
@@ -71,9 +71,6 @@ module _ {X : Texts} {ns : List Node} (good : Good (view ns)) where
         kept : (n : ℕ) (i : Bool) (k : Kind) → view ns .st n ≡ known i k → Dec (n < length ns) → view ns′ .st n ≡ known i k
         kept n i k e (yes h) = ext-st ns ns′ x ok n h ∙ e
         kept n i k e (no h) = absurd (not-known (sym (ap (λ (y : Node). seen (stateOf y)) (List·getD-eq-default ns beyond (omega arith))) ∙ e))
-
-    moves-restates : Restates ns ns′ → Good (view ns′) → Moves X ns ns′ 0
-    moves-restates x after = record { grow = grow-same good after (restates-rep ns ns′ x ok) (restates-known ns ns′ x); len = omega (arith, x .len) }
 
 -- new roots, one behind the other
 extends-trans : {ns ms ns′ : List Node} → Extends ns ms → Extends ms ns′ → Extends ns ns′
@@ -143,11 +140,11 @@ module _ (e : Env) (s : Store) (facts : SoundFacts e s) where
           (failed-restates ns r p (sizeOf (at ns r)) in-r y .len ∙ d .len)
 
   -- finishing
-  pub finish-moves : Leaves (finishInference (s .nodes)) 0
-  finish-moves = moves-restates (ok .good) (ok .forest) (finish-restates (s .nodes))
-
-  pub finish-where-moves : (bs : List ℕ) → Leaves (finishWhere bs (s .nodes)) 0
-  finish-where-moves bs = moves-restates (ok .good) (ok .forest) (finish-where-restates bs (s .nodes))
+  pub restates-moves : (ns : List Node) → Restates (s .nodes) ns → Moves (e .texts) (s .nodes) ns 0
+  restates-moves ns x = record {
+    grow = grow-same (ok .good) (restates-good (s .nodes) ns x (ok .forest) (ok .good)) (restates-rep (s .nodes) ns x (ok .forest)) (restates-known (s .nodes) ns x);
+    len = omega (arith, x .len);
+  }
 
   -- `unify`, and what runs it over a plan's pairs
   sim-moves : {o : Out} {v : Seen.Out} → Sim (s .nodes) o v → Grow (e .texts) (view (s .nodes)) (v .view) → Moves (e .texts) (s .nodes) (o .nodes) 0
