@@ -1,21 +1,19 @@
 -- A pair that once got Success is joined, stays joined under every call of the second half, and so gets Success again. Assumes nothing.
 use mathlib.Core.Path.{_≡_, refl, sym, ap, subst, _∙_}
 use mathlib.Core.List.{List, [], _∷_, _++_, List·Memᴰ, List·Memᴰ·head, List·Memᴰ·tail}
-use mathlib.Core.Bool.{Bool, true, false, not, _&&_}
-use mathlib.Core.Option.{Option, none, some}
-use Prim.Native.Nat.{ℕ, zero, suc, _+_, _≤_, _<_}
+use mathlib.Core.Bool.{Bool, true, false, not}
+use mathlib.Core.Option.{some}
+use Prim.Native.Nat.{ℕ, zero, suc, _≤_, _<_}
 use native.Mathlib.Omega.{arith}
-use lib.Dec.{ltb}
 use lib.ListN.{length}
-use borrow.Author.Tests.{ltb-true, lt-ltb, not-false}
-use Rattle.scope.specs.Base.{pick, all}
+use borrow.Author.Tests.{lt-ltb, not-false}
 use Rattle.scope.specs.Chart.{Env, chartOk}
 use Rattle.scope.specs.Types.{Ty}
-use Rattle.scope.specs.Nodes.{Node, Store}
+use Rattle.scope.specs.Nodes.{Store}
 use Rattle.scope.specs.Answers.{Answer, Success}
 use Rattle.scope.specs.Unify.{Out, unify}
-use Rattle.scope.specs.Sound.{Lent, reads, soundStore, inStore}
-use Rattle.scope.specs.Calls.{Outcome, refused, done, firstBroken, orRefused, judged, lentTests, outside, unified, unifyCall}
+use Rattle.scope.specs.Sound.{reads}
+use Rattle.scope.specs.Calls.{Outcome, lentTests, outside, unified, unifyCall}
 use Rattle.scope.specs.Demand.{Call, given, step, next, after, Each, inSecondHalf}
 use Rattle.scope.specs.Demand as Demand
 use Rattle.scope.proofs.View.{View, view}
@@ -23,9 +21,8 @@ use Rattle.scope.proofs.View as Seen
 use Rattle.scope.proofs.Grow.{Joined, joined-grow}
 use Rattle.scope.proofs.Meet.{unify-spec}
 use Rattle.scope.proofs.Self.{joined-answer}
-use Rattle.scope.proofs.Sizes.{and-left, and-right, both-true}
-use Rattle.scope.proofs.SoundLaws.{SoundFacts, facts-sound}
-use Rattle.scope.proofs.Steps.{Passed, judged-cases, all-inside}
+use Rattle.scope.proofs.SoundLaws.{facts-sound}
+use Rattle.scope.proofs.Steps.{judged-cases, all-inside}
 use Rattle.scope.proofs.UnifyKept.{stable-kinds, nodes-stable, unify-seen}
 use Rattle.scope.proofs.Reached.{Reached, next-reached, after-reached}
 use Rattle.scope.proofs.GrowCalls.{after-grow}
@@ -69,9 +66,6 @@ module _ (e : Env) (s : Store) (a b : Ty) (reached : Reached e s) where
       → unify (e .texts) (s .nodes) a b .answer ≡ Success
   joined-answers ha hb j = go (length (s .nodes)) refl
     where
-      n : ℕ
-      n = length (s .nodes)
-
       go : (f : ℕ) → length (s .nodes) ≡ f → unify (e .texts) (s .nodes) a b .answer ≡ Success
       go zero q = absurd (omega arith)
       go (suc f) q =
@@ -81,6 +75,7 @@ module _ (e : Env) (s : Store) (a b : Ty) (reached : Reached e s) where
           ∙ ap (λ (k : ℕ). Seen.unify (e .texts) (length (s .nodes)) k (view (s .nodes)) a b .answer) q
           ∙ ap (λ (o : Seen.Out). o .answer) (joined-answer (e .texts) (length (s .nodes)) f (view (s .nodes)) a b (ok .good) (st .inside) ha j)
 
+  -- and of a call on it
   joined-success : chartOk e ≡ true → a .idx < length (s .nodes) → b .idx < length (s .nodes) → Joined (view (s .nodes)) a b
       → given (unifyCall e (reads s) a b) ≡ some Success
   unfolding unifyCall

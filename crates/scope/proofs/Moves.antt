@@ -1,15 +1,15 @@
 -- What each definition does to the nodes of a sound store: roots only merge, what is known stays known, and so many nodes are new. Assumes nothing.
 use mathlib.Core.Path.{_≡_, refl, sym, ap, subst, _∙_}
 use mathlib.Core.List.{List, [], _∷_, List·Memᴰ}
-use mathlib.Core.Bool.{Bool, true, false}
+use mathlib.Core.Bool.{Bool, false}
 use mathlib.Core.Option.{Option}
-use Prim.Native.Nat.{ℕ, zero, suc, _+_, _≤_, _<_}
+use Prim.Native.Nat.{ℕ, _+_, _≤_, _<_}
 use native.Mathlib.Omega.{arith}
 use native.Mathlib.Decide.{decLt}
 use lib.ListN.{length, List·getD-eq-default}
 use Rattle.scope.specs.Names.{Texts}
 use Rattle.scope.specs.Chart.{Env}
-use Rattle.scope.specs.Types.{Ty, ty, flip}
+use Rattle.scope.specs.Types.{Ty, flip}
 use Rattle.scope.specs.Nodes.{Kind, State, Known, Unknown, InferenceFailed, Node, Root, Store, withNodes, at, stateOf, sizeOf, stateAt, find, findMut}
 use Rattle.scope.specs.Unify.{Plan, Out, unify, carry}
 use Rattle.scope.specs.Make.{push}
@@ -94,11 +94,12 @@ unfolding pushes
 pushes-length ns [] = omega arith
 pushes-length ns (st ∷ sts) = omega (arith, pushes-length (push ns st) sts, push-len ns st)
 
--- a sound store; what follows takes it that no type of the store left contains itself
+-- a sound store
 module _ (e : Env) (s : Store) (facts : SoundFacts e s) where
   ok : SoundNodes e (s .nodes)
   ok = facts .nodes
 
+  -- where no type of the nodes left contains itself
   abbrev pub Leaves : List Node → ℕ → Type 0
   Leaves ns m = Good (view ns) → Moves (e .texts) (s .nodes) ns m
 

@@ -1,12 +1,8 @@
 -- Demand 3's second half: what every list of its calls leaves, from a store just opened. Assumes nothing.
 use mathlib.Core.List.{List}
-use Prim.Native.Nat.{ℕ, _≤_}
 use native.Mathlib.Omega.{arith}
-use lib.ListN.{length}
-use Rattle.scope.specs.Limits.{MAX-NODES, MAX-CHILDREN}
-use Rattle.scope.specs.Chart.{Env}
-use Rattle.scope.specs.Nodes.{Node, Store, opened}
-use Rattle.scope.specs.Demand.{Call, after, Each, inSecondHalf, SecondHalf, SecondHalfHolds}
+use Rattle.scope.specs.Nodes.{Node, opened}
+use Rattle.scope.specs.Demand.{after, SecondHalfHolds}
 use Rattle.scope.proofs.Sizes.{shallow-twelve}
 use Rattle.scope.proofs.Falls.{contains-never}
 use Rattle.scope.proofs.SoundLaws.{SoundNodes}
