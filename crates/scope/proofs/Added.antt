@@ -136,12 +136,15 @@ module _ (ns ns′ : List Node) (x : Extends ns ns′) (ok : Closed ns) where
       roots : (t : Ty) → Dec (t .idx < length ns) → isRoot (at ns′ (find ns′ t .idx)) ≡ true
       roots t (yes h) = rw (find-added t, x .old (find ns t .idx) (ok .inside t h)) (ok .roots t h)
       roots t (no h) = rw (find-new t (omega arith)) (root-end (t .idx) (omega arith))
+
       inside : (t : Ty) → t .idx < length ns′ → Dec (t .idx < length ns) → find ns′ t .idx < length ns′
       inside t q (yes h) = rw (find-added t) (omega (arith, ok .inside t h, x .len))
       inside t q (no h) = rw (find-new t (omega arith)) q
+
       kids : (r : ℕ) (c : Ty) → List·Memᴰ c (kidsOf (stateOf (at ns′ r))) → Dec (r < length ns) → c .idx < length ns′
       kids r c m (yes h) = omega (arith, x .len, ok .kids r c (subst (λ (n : Node). List·Memᴰ c (kidsOf (stateOf n))) (x .old r h) m))
       kids r c m (no h) = held r (omega arith) c m
+
       parents : (n : ℕ) (t : Ty) → at ns′ n ≡ Child t → Dec (n < length ns) → t .idx < length ns′
       parents n t e (yes h) = omega (arith, x .len, ok .parents n t (sym (x .old n h) ∙ e))
       parents n t e (no h) = absurd (false≢true (sym (ap isRoot e) ∙ root-end n (omega arith)))

@@ -25,7 +25,7 @@ use Rattle.scope.proofs.Added.{Extends, Closed, at-end, find-added, fin
 use Rattle.scope.proofs.Mapping.{Tally, tnil, tcons, Maps, copy-maps, copy-none, tally-range, tally-onto}
 use Rattle.scope.proofs.Copy.{held, copyState, Source, all-mem, Reach, here, below, Became, as-copy, as-entry, lost, BecameAll, bnil, bcons, Filled, Ok, PostAll, import-ok}
 
-not-keep : {t : Ty} → entry t ≡ keep → ⊥
+pub not-keep : {t : Ty} → entry t ≡ keep → ⊥
 not-keep {t} e = let z : _≡_ {A = ℕ} 0 1 = cc in omega arith
 
 -- an entry that stands for a Param is one of the list, or its inverse
@@ -53,7 +53,7 @@ module _ {ns : List Node} {ps : Option (List Ty)} {w : Work} where
   became-source (bcons {c = c} b bs) c′ (List·Memᴰ·head e) = (c, List·Memᴰ·head refl, subst (Became ns ps w c) (sym e) b)
   became-source (bcons b bs) c′ (List·Memᴰ·tail m) = let z = became-source bs c′ m in (z .0, List·Memᴰ·tail (z .1), z .2)
 
-  became-of : {cs cs′ : List Ty} → BecameAll ns ps w cs cs′ → (c : Ty) → List·Memᴰ c cs → (c′ : Ty) × Became ns ps w c c′
+  pub became-of : {cs cs′ : List Ty} → BecameAll ns ps w cs cs′ → (c : Ty) → List·Memᴰ c cs → (c′ : Ty) × Became ns ps w c c′
   became-of bnil c m = absurd (List·Memᴰ·not-nil m)
   became-of (bcons {c′ = c′} b bs) c (List·Memᴰ·head e) = (c′, subst (λ (z : Ty). Became ns ps w z c′) (sym e) b)
   became-of (bcons b bs) c (List·Memᴰ·tail m) = became-of bs c m
@@ -63,7 +63,7 @@ module _ {ns : List Node} {ps : Option (List Ty)} {w : Work} where
   became-length (bcons b bs) = ap suc (became-length bs)
 
 -- the children that a copy has
-copy-kids : (st : State) (ts : List Ty) → length ts ≡ length (kidsOf st) → length (kidsOf (copyState st ts)) ≡ length (kidsOf st)
+pub copy-kids : (st : State) (ts : List Ty) → length ts ≡ length (kidsOf st) → length (kidsOf (copyState st ts)) ≡ length (kidsOf st)
 copy-kids (Known i k) ts e = e
 copy-kids (Unknown p) ts e = refl
 copy-kids InferenceFailed ts e = refl
@@ -96,19 +96,20 @@ module _ (ns : List Node) (ps : Option (List Ty)) (s : Store) (w : Work) (ok : O
 
   -- and so has its head, its inversion, and as many children
   pub new-kind : (n : ℕ) → length (s .nodes) ≤ n → (i : Bool) (k : Kind) → stateOf (at (w .dest .nodes) n) ≡ Known i k
-    → (r : ℕ) × (m : Kind) × (r < length ns) × (stateOf (at ns r) ≡ Known i m) × (k .head ≡ m .head) × (length (k .kids) ≡ length (m .kids))
+      → (r : ℕ) × (m : Kind) × (r < length ns) × (stateOf (at ns r) ≡ Known i m) × (k .head ≡ m .head) × (length (k .kids) ≡ length (m .kids))
   new-kind n p i k e = go (decLt n (length (w .dest .nodes)))
     where
       from-copy : (r : ℕ) → Maps (w .mapping) r n → (st : State) → stateOf (at ns r) ≡ st → (ts : List Ty) → length ts ≡ length (kidsOf st) → copyState st ts ≡ Known i k
-        → (r : ℕ) × (m : Kind) × (r < length ns) × (stateOf (at ns r) ≡ Known i m) × (k .head ≡ m .head) × (length (k .kids) ≡ length (m .kids))
+          → (r : ℕ) × (m : Kind) × (r < length ns) × (stateOf (at ns r) ≡ Known i m) × (k .head ≡ m .head) × (length (k .kids) ≡ length (m .kids))
       from-copy r m (Known j l) q ts h e =
           let a : j ≡ i = cc in
           let b : record { head = l .head; kids = ts } ≡ k = cc in
           (r, l, ok .below r n m, q ∙ ap (λ (z : Bool). Known z l) a, sym (ap (λ (z : Kind). z .head) b), sym (ap (λ (z : Kind). length (z .kids)) b) ∙ h)
       from-copy r m (Unknown o) q ts h e = let z : _≡_ {A = ℕ} 0 1 = cc in absurd (omega arith)
       from-copy r m InferenceFailed q ts h e = let z : _≡_ {A = ℕ} 0 1 = cc in absurd (omega arith)
+
       go : Dec (n < length (w .dest .nodes))
-        → (r : ℕ) × (m : Kind) × (r < length ns) × (stateOf (at ns r) ≡ Known i m) × (k .head ≡ m .head) × (length (k .kids) ≡ length (m .kids))
+          → (r : ℕ) × (m : Kind) × (r < length ns) × (stateOf (at ns r) ≡ Known i m) × (k .head ≡ m .head) × (length (k .kids) ≡ length (m .kids))
       go (yes q) =
           let c = new-copy n p q in
           let f = copy-filled (c .0) n (c .1) in
@@ -153,7 +154,7 @@ module _ (ns : List Node) (ps : Option (List Ty)) (s : Store) (w : Work) (ok : O
       no-depth a d = false≢true (d .falling)
 
       kid-depth : (f : ℕ) {c c′ : Ty} (y : ℕ) → falls f ns (find ns c .idx) ≡ true → Became ns ps w c c′ → view (w .dest .nodes) .rep (c′ .idx) .idx ≡ y
-        → (y < length (s .nodes)) ⊎ Deep f y
+          → (y < length (s .nodes)) ⊎ Deep f y
       unfolding view
       kid-depth f {c} {c′} y h (as-copy n m e) q =
           let a : c′ .idx ≡ n = ap (λ (x : Ty). x .idx) e in

@@ -1,7 +1,9 @@
 pub mod Acyclic
 pub mod Added
+pub mod Again
 pub mod Copies
 pub mod Copy
+pub mod CopyCount
 pub mod Depth
 pub mod Enough
 pub mod Extend
@@ -12,6 +14,7 @@ pub mod FirstHalf
 pub mod Free
 pub mod Fuel
 pub mod Grow
+pub mod GrowCalls
 pub mod ImportKept
 pub mod Inside
 pub mod LaterSteps
@@ -20,10 +23,12 @@ pub mod MakeKept
 pub mod Mapping
 pub mod Meet
 pub mod Merge
+pub mod Moves
 pub mod NameLaws
 pub mod Needs
 pub mod NoDefaults
 pub mod NodesFit
+pub mod NodesMade
 pub mod Occurs
 pub mod PairLaws
 pub mod Paths
@@ -33,6 +38,7 @@ pub mod Reached
 pub mod Refusals
 pub mod Restate
 pub mod Run
+pub mod SecondHalf
 pub mod Self
 pub mod Sim
 pub mod Sizes
