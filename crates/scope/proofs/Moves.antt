@@ -10,10 +10,10 @@ use lib.ListN.{length, List·getD-eq-default}
 use Rattle.scope.specs.Names.{Texts}
 use Rattle.scope.specs.Chart.{Env}
 use Rattle.scope.specs.Types.{Ty, flip}
-use Rattle.scope.specs.Nodes.{Kind, State, Known, Unknown, InferenceFailed, Node, Root, Store, withNodes, at, stateOf, sizeOf, stateAt, find, findMut}
+use Rattle.scope.specs.Nodes.{Kind, State, Node, Root, Store, at, stateOf, findMut}
 use Rattle.scope.specs.Unify.{Plan, Out, unify, carry}
 use Rattle.scope.specs.Make.{push}
-use Rattle.scope.specs.Force.{fail, forceKind}
+use Rattle.scope.specs.Force.{forceKind}
 use Rattle.scope.specs.Import.{import, copies}
 use Rattle.scope.proofs.View.{View, known, Good, seen, view}
 use Rattle.scope.proofs.View as Seen
@@ -21,17 +21,17 @@ use Rattle.scope.proofs.Needs.{not-known}
 use Rattle.scope.proofs.Grow.{alike-refl, heads-refl, Grow, grow-refl}
 use Rattle.scope.proofs.Stay.{run-spec}
 use Rattle.scope.proofs.Meet.{unify-spec}
-use Rattle.scope.proofs.Paths.{beyond, Forest, Tidied, find-inside, find-mut-tidied, tidied-view, tidied-forest}
+use Rattle.scope.proofs.Paths.{beyond, Forest, find-mut-tidied, tidied-view}
 use Rattle.scope.proofs.Added.{Extends}
 use Rattle.scope.proofs.Extend.{ext-rep, ext-st}
 use Rattle.scope.proofs.Push.{push-len, push-extends}
-use Rattle.scope.proofs.Restate.{Restates, restates-rep, restates-known, restates-good, failed-restates, failed-view}
+use Rattle.scope.proofs.Restate.{Restates, restates-rep, restates-known, restates-good}
 use Rattle.scope.proofs.Copy.{import-ok}
 use Rattle.scope.proofs.CopyCount.{import-nodes}
 use Rattle.scope.proofs.Sim.{Sim, Inside}
 use Rattle.scope.proofs.SoundLaws.{SoundNodes, SoundFacts}
 use Rattle.scope.proofs.UnifyKept.{stable-kinds, nodes-stable, unify-seen, carry-seen}
-use Rattle.scope.proofs.SoundKept.{root-after}
+use Rattle.scope.proofs.SoundKept.{force-view, force-len}
 use Rattle.scope.proofs.ImportKept.{sound-source}
 use Rattle.scope.proofs.Steps.{pushes}
 
@@ -117,28 +117,7 @@ module _ (e : Env) (s : Store) (facts : SoundFacts e s) where
   find-mut-moves t = let d = find-mut-tidied (ok .forest) t in moves-view (ok .good) (tidied-view d (ok .forest)) (d .len)
 
   pub force-moves : (t : Ty) → t .idx < length (s .nodes) → Moves (e .texts) (s .nodes) (forceKind s t .1 .nodes) 0
-  unfolding forceKind
-  force-moves t h = go (stateAt (s .nodes) t) refl
-    where
-      ns : List Node
-      ns = findMut (s .nodes) t
-
-      r : ℕ
-      r = find (s .nodes) t .idx
-
-      d : Tidied (s .nodes) ns
-      d = find-mut-tidied (ok .forest) t
-
-      go : (st : State) → stateAt (s .nodes) t ≡ st → Moves (e .texts) (s .nodes) (fail (withNodes s ns) (find (s .nodes) t) st .nodes) 0
-      go (Known i k) q = find-mut-moves t
-      go InferenceFailed q = find-mut-moves t
-      go (Unknown p) q =
-          let in-r : r < length ns = omega (arith, d .len, find-inside (ok .forest) t h) in
-          let z = root-after e (s .nodes) t (ok .forest) in
-          let y : at ns r ≡ Root (Unknown p) (sizeOf (at ns r)) =
-          z .1 ∙ ap (λ (n : ℕ). Root (stateAt (s .nodes) t) n) (sym (ap sizeOf (z .1))) ∙ ap (λ (x : State). Root x (sizeOf (at ns r))) q in
-          moves-view (ok .good) (failed-view ns r p (sizeOf (at ns r)) in-r y (tidied-forest d (ok .forest)) ∙ tidied-view d (ok .forest))
-          (failed-restates ns r p (sizeOf (at ns r)) in-r y .len ∙ d .len)
+  force-moves t h = moves-view (ok .good) (force-view e s t (ok .forest) h) (force-len e s t (ok .forest) h)
 
   -- finishing
   pub restates-moves : (ns : List Node) → Restates (s .nodes) ns → Moves (e .texts) (s .nodes) ns 0

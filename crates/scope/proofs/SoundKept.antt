@@ -202,6 +202,15 @@ module _ (e : Env) where
       go InferenceFailed q = tidied-view (find-mut-tidied ok t) ok
       go (Unknown p) q = marked-view (s .nodes) t ok h p q
 
+  pub force-len : (s : Store) (t : Ty) → Forest (s .nodes) → t .idx < length (s .nodes) → length (forceKind s t .1 .nodes) ≡ length (s .nodes)
+  unfolding forceKind
+  force-len s t ok h = go (stateAt (s .nodes) t) refl
+    where
+      go : (st : State) → stateAt (s .nodes) t ≡ st → length (fail (withNodes s (findMut (s .nodes) t)) (find (s .nodes) t) st .nodes) ≡ length (s .nodes)
+      go (Known i k) q = find-mut-tidied ok t .len
+      go InferenceFailed q = find-mut-tidied ok t .len
+      go (Unknown p) q = marked (s .nodes) t ok h p q .len ∙ find-mut-tidied ok t .len
+
   -- `reset`
   pub reset-kept : (s : Store) → SoundFacts e s → Kept e s (reset s)
   unfolding reset
