@@ -1,7 +1,7 @@
 -- New roots behind a store's nodes: every old node, its root and what fits it stay, and there is no cycle if the new ones have a depth. Assumes
 -- nothing.
-use mathlib.Core.Path.{_≡_, refl, sym, ap, subst, _∙_}
-use mathlib.Core.List.{List, [], _∷_, List·Memᴰ}
+use mathlib.Core.Path.{_≡_, refl, sym, ap, ap₂, subst, _∙_}
+use mathlib.Core.List.{List, [], _∷_, List·Memᴰ, List·Memᴰ·head, List·Memᴰ·tail}
 use mathlib.Core.Bool.{Bool, true, false, false≢true}
 use mathlib.Core.Logic.{_⊎_, inl, inr, _↔_}
 use Prim.Native.Nat.{ℕ, zero, suc, _+_, _≤_, _<_}
@@ -12,7 +12,7 @@ use Rattle.scope.specs.Limits.{NONE}
 use Rattle.scope.specs.Chart.{Env}
 use Rattle.scope.specs.Types.{Ty, ty, flip}
 use Rattle.scope.specs.Nodes.{Kind, State, Known, Unknown, InferenceFailed, Node, Root, Child, at, stateOf, sizeOf, isRoot, hop, climb, find, kidsOf}
-use Rattle.scope.specs.Trees.{Val, NodeFits, Fits}
+use Rattle.scope.specs.Trees.{node, Forest, fcons, treeHead, Val, invertIf, val, vals, build, StateFits, NodeFits, Fits}
 use Rattle.scope.specs.Demand.{sizes}
 use Rattle.scope.proofs.View.{known, Kid, Fin, fin, Good, seen, view}
 
@@ -90,6 +90,27 @@ fits-added e v ns ns′ x = (λ f. (λ n. to f n (decLt n (length ns)), λ n q. 
     back : (Fits e v ns × ((n : ℕ) → length ns ≤ n → NodeFits e v n (at ns′ n))) → (n : ℕ) → Dec (n < length ns) → NodeFits e v n (at ns′ n)
     back f n (yes q) = subst (NodeFits e v n) (sym (x .old n q)) (f .0 n)
     back f n (no q) = f .1 n (omega arith)
+
+-- trees that differ only past the end fit alike
+pub fits-inside : (e : Env) (v w : Val) (ns : List Node) → Closed ns → ((n : ℕ) → n < length ns → w n ≡ v n) → Fits e v ns → Fits e w ns
+unfolding build
+fits-inside e v w ns ok same f n = go (decLt n (length ns))
+  where
+    val-same : (t : Ty) → t .idx < length ns → val e w t ≡ val e v t
+    val-same t q = ap (invertIf e (t .inv)) (same (t .idx) q)
+    vals-same : (ts : List Ty) → ((t : Ty) → List·Memᴰ t ts → t .idx < length ns) → vals e w ts ≡ vals e v ts
+    vals-same [] h = refl
+    vals-same (t ∷ ts) h = ap₂ fcons (val-same t (h t (List·Memᴰ·head refl))) (vals-same ts (λ u m. h u (List·Memᴰ·tail m)))
+    state : (st : State) → ((c : Ty) → List·Memᴰ c (kidsOf st) → c .idx < length ns) → n < length ns → StateFits e v st (v n) → StateFits e w st (w n)
+    state (Known i k) h q g = same n q ∙ g ∙ ap (λ (ts : Forest). invertIf e i (node (treeHead (e .texts) (k .head)) false ts)) (sym (vals-same (k .kids) h))
+    state (Unknown p) h q g = tt
+    state InferenceFailed h q g = tt
+    inner : (x : Node) → at ns n ≡ x → n < length ns → NodeFits e v n x → NodeFits e w n x
+    inner (Root st z) q lt g = state st (λ c m. ok .kids n c (subst (λ (y : Node). List·Memᴰ c (kidsOf (stateOf y))) (sym q) m)) lt g
+    inner (Child t) q lt g = same n lt ∙ g ∙ sym (val-same t (ok .parents n t q))
+    go : Dec (n < length ns) → NodeFits e w n (at ns n)
+    go (yes q) = inner (at ns n) refl q (f n)
+    go (no q) = subst (NodeFits e w n) (sym (at-end ns n (omega arith))) tt
 
 module _ (ns ns′ : List Node) (x : Extends ns ns′) (ok : Closed ns) where
   root-end : (n : ℕ) → length ns ≤ n → isRoot (at ns′ n) ≡ true

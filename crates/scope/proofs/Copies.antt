@@ -116,7 +116,7 @@ module _ (ns : List Node) (ps : Option (List Ty)) (s : Store) (w : Work) (ok : O
       go (no q) = let h : Unknown NONE ≡ Known i k = sym (ap stateOf (at-end (w .dest .nodes) n (omega arith))) ∙ e in let z : _≡_ {A = ℕ} 0 1 = cc in absurd (omega arith)
 
   module _ (miss : w .missing ≡ false) (low : (t : Ty) → List·Memᴰ t (importList ps) → t .idx < length (s .nodes)) where
-    entry-low : (st : State) (t : Ty) → replaced ps st ≡ entry t → t .idx < length (s .nodes)
+    pub entry-low : (st : State) (t : Ty) → replaced ps st ≡ entry t → t .idx < length (s .nodes)
     entry-low st t e = let z = entry-in ps st t e in omega (arith, low (z .1) (z .2), ap (λ (x : Ty). x .idx) (z .3))
 
     -- what a type became is in the new store

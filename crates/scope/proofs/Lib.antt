@@ -9,3 +9,4 @@ pub mod Mapping
 pub mod Copy
 pub mod Copies
 pub mod CopyCount
+pub mod CopyTrees
