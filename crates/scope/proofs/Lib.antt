@@ -10,3 +10,4 @@ pub mod Copy
 pub mod Copies
 pub mod CopyCount
 pub mod CopyTrees
+pub mod Sounds
