@@ -49,8 +49,8 @@ climb-more (suc f) zero ns t q h = absurd (omega arith)
 climb-more (suc f) (suc g) ns t q h = go (at ns (t .idx)) h (λ u p. climb-more f g ns (flip (t .inv) u) (omega arith) p)
   where
     go : (n : Node) → isRoot (at ns (hop n (climb f ns) t .idx)) ≡ true
-      → ((u : Ty) → isRoot (at ns (climb f ns (flip (t .inv) u) .idx)) ≡ true → climb g ns (flip (t .inv) u) ≡ climb f ns (flip (t .inv) u))
-      → hop n (climb g ns) t ≡ hop n (climb f ns) t
+        → ((u : Ty) → isRoot (at ns (climb f ns (flip (t .inv) u) .idx)) ≡ true → climb g ns (flip (t .inv) u) ≡ climb f ns (flip (t .inv) u))
+        → hop n (climb g ns) t ≡ hop n (climb f ns) t
     go (Root st z) h ih = refl
     go (Child u) h ih = ih u h
 
@@ -65,6 +65,7 @@ climb-alike ns ns′ h (suc f) t = go (h (t .idx)) (λ u. climb-alike ns ns′ h
     same : (n : Node) → ((u : Ty) → climb f ns u ≡ climb f ns′ u) → hop n (climb f ns) t ≡ hop n (climb f ns′) t
     same (Root st z) ih = refl
     same (Child u) ih = ih (flip (t .inv) u)
+
     go : Alike (at ns (t .idx)) (at ns′ (t .idx)) → ((u : Ty) → climb f ns u ≡ climb f ns′ u) → hop (at ns (t .idx)) (climb f ns) t ≡ hop (at ns′ (t .idx)) (climb f ns′) t
     go (inl q) ih = hop-root (at ns (t .idx)) (climb f ns) t (q .0) ∙ sym (hop-root (at ns′ (t .idx)) (climb f ns′) t (q .1))
     go (inr q) ih = same (at ns (t .idx)) ih ∙ ap (λ (n : Node). hop n (climb f ns′) t) q
@@ -81,12 +82,13 @@ sizes-added (n ∷ ns) (n′ ∷ ns′) x =
 
 -- trees fit afterwards exactly if they fitted before and fit each new node
 pub fits-added : (e : Env) (v : Val) (ns ns′ : List Node) → Extends ns ns′
-  → Fits e v ns′ ↔ (Fits e v ns × ((n : ℕ) → length ns ≤ n → NodeFits e v n (at ns′ n)))
+    → Fits e v ns′ ↔ (Fits e v ns × ((n : ℕ) → length ns ≤ n → NodeFits e v n (at ns′ n)))
 fits-added e v ns ns′ x = (λ f. (λ n. to f n (decLt n (length ns)), λ n q. f n), λ f n. back f n (decLt n (length ns)))
   where
     to : Fits e v ns′ → (n : ℕ) → Dec (n < length ns) → NodeFits e v n (at ns n)
     to f n (yes q) = subst (NodeFits e v n) (x .old n q) (f n)
     to f n (no q) = subst (NodeFits e v n) (sym (at-end ns n (omega arith))) tt
+
     back : (Fits e v ns × ((n : ℕ) → length ns ≤ n → NodeFits e v n (at ns′ n))) → (n : ℕ) → Dec (n < length ns) → NodeFits e v n (at ns′ n)
     back f n (yes q) = subst (NodeFits e v n) (sym (x .old n q)) (f .0 n)
     back f n (no q) = f .1 n (omega arith)
@@ -98,16 +100,20 @@ fits-inside e v w ns ok same f n = go (decLt n (length ns))
   where
     val-same : (t : Ty) → t .idx < length ns → val e w t ≡ val e v t
     val-same t q = ap (invertIf e (t .inv)) (same (t .idx) q)
+
     vals-same : (ts : List Ty) → ((t : Ty) → List·Memᴰ t ts → t .idx < length ns) → vals e w ts ≡ vals e v ts
     vals-same [] h = refl
     vals-same (t ∷ ts) h = ap₂ fcons (val-same t (h t (List·Memᴰ·head refl))) (vals-same ts (λ u m. h u (List·Memᴰ·tail m)))
+
     state : (st : State) → ((c : Ty) → List·Memᴰ c (kidsOf st) → c .idx < length ns) → n < length ns → StateFits e v st (v n) → StateFits e w st (w n)
     state (Known i k) h q g = same n q ∙ g ∙ ap (λ (ts : Forest). invertIf e i (node (treeHead (e .texts) (k .head)) false ts)) (sym (vals-same (k .kids) h))
     state (Unknown p) h q g = tt
     state InferenceFailed h q g = tt
+
     inner : (x : Node) → at ns n ≡ x → n < length ns → NodeFits e v n x → NodeFits e w n x
     inner (Root st z) q lt g = state st (λ c m. ok .kids n c (subst (λ (y : Node). List·Memᴰ c (kidsOf (stateOf y))) (sym q) m)) lt g
     inner (Child t) q lt g = same n lt ∙ g ∙ sym (val-same t (ok .parents n t q))
+
     go : Dec (n < length ns) → NodeFits e w n (at ns n)
     go (yes q) = inner (at ns n) refl q (f n)
     go (no q) = subst (NodeFits e w n) (sym (at-end ns n (omega arith))) tt
@@ -155,18 +161,21 @@ module _ (ns ns′ : List Node) (x : Extends ns ns′) (ok : Closed ns) where
       roots : (t : Ty) → Dec (t .idx < length ns) → isRoot (at ns′ (find ns′ t .idx)) ≡ true
       roots t (yes h) = rw (find-added t, x .old (find ns t .idx) (ok .inside t h)) (ok .roots t h)
       roots t (no h) = rw (find-new t (omega arith)) (root-end (t .idx) (omega arith))
+
       inside : (t : Ty) → t .idx < length ns′ → Dec (t .idx < length ns) → find ns′ t .idx < length ns′
       inside t q (yes h) = rw (find-added t) (omega (arith, ok .inside t h, x .len))
       inside t q (no h) = rw (find-new t (omega arith)) q
+
       kids : (r : ℕ) (c : Ty) → List·Memᴰ c (kidsOf (stateOf (at ns′ r))) → Dec (r < length ns) → c .idx < length ns′
       kids r c m (yes h) = omega (arith, x .len, ok .kids r c (subst (λ (n : Node). List·Memᴰ c (kidsOf (stateOf n))) (x .old r h) m))
       kids r c m (no h) = held r (omega arith) c m
+
       parents : (n : ℕ) (t : Ty) → at ns′ n ≡ Child t → Dec (n < length ns) → t .idx < length ns′
       parents n t e (yes h) = omega (arith, x .len, ok .parents n t (sym (x .old n h) ∙ e))
       parents n t e (no h) = absurd (false≢true (sym (ap isRoot e) ∙ root-end n (omega arith)))
 
   -- an old root's children
-  pub kid-old : {a y : ℕ} → a < length ns → Kid (view ns′) a y → Kid (view ns) a y
+  kid-old : {a y : ℕ} → a < length ns → Kid (view ns′) a y → Kid (view ns) a y
   unfolding view
   kid-old {a} q c = record {
     inv = c .inv;
@@ -178,7 +187,7 @@ module _ (ns ns′ : List Node) (x : Extends ns ns′) (ok : Closed ns) where
     to = ap (λ (t : Ty). t .idx) (sym (find-added (ty false (c .kid .idx)))) ∙ c .to;
   }
 
-  pub kid-low : {a y : ℕ} → Kid (view ns) a y → y < length ns
+  kid-low : {a y : ℕ} → Kid (view ns) a y → y < length ns
   unfolding view
   kid-low {a} {y} c = subst (λ (z : ℕ). z < length ns) (c .to) (ok .inside (ty false (c .kid .idx)) (ok .kids a (c .kid) (mem (stateOf (at ns a)) (c .state))))
     where
@@ -192,9 +201,8 @@ module _ (ns ns′ : List Node) (x : Extends ns ns′) (ok : Closed ns) where
 
   -- new roots that have a depth, each below its children's unless these are old
   module _ (good : Good (view ns)) (D : ℕ → ℕ → Type 0) (none : (a : ℕ) → D zero a → ⊥)
-    (step : (f a y : ℕ) → length ns ≤ a → D (suc f) a → Kid (view ns′) a y → (y < length ns) ⊎ D f y)
-    (deep : (a : ℕ) → length ns ≤ a → (i : Bool) (k : Kind) → view ns′ .st a ≡ known i k → (f : ℕ) × D f a) where
-
+      (step : (f a y : ℕ) → length ns ≤ a → D (suc f) a → Kid (view ns′) a y → (y < length ns) ⊎ D f y)
+      (deep : (a : ℕ) → length ns ≤ a → (i : Bool) (k : Kind) → view ns′ .st a ≡ known i k → (f : ℕ) × D f a) where
     fin-new : (f a : ℕ) → D f a → Fin (view ns′) a
     fin-new zero a d = absurd (none a d)
     fin-new (suc f) a d = go (decLt a (length ns)) (λ b e. fin-new f b e)
@@ -202,6 +210,7 @@ module _ (ns ns′ : List Node) (x : Extends ns ns′) (ok : Closed ns) where
         next : ((b : ℕ) → D f b → Fin (view ns′) b) → (y : ℕ) → (y < length ns) ⊎ D f y → Fin (view ns′) y
         next ih y (inl q) = fin-old q (good .wf y)
         next ih y (inr e) = ih y e
+
         go : Dec (a < length ns) → ((b : ℕ) → D f b → Fin (view ns′) b) → Fin (view ns′) a
         go (yes q) ih = fin-old q (good .wf a)
         go (no q) ih = fin (λ y c. next ih y (step f a y (omega arith) d c))
@@ -211,6 +220,7 @@ module _ (ns ns′ : List Node) (x : Extends ns ns′) (ok : Closed ns) where
       where
         below : (y : ℕ) → Kid (view ns′) a y → Fin (view ns′) a → Fin (view ns′) y
         below y c (fin g) = g y c
+
         go : Dec (a < length ns) → Fin (view ns′) a
         go (yes q) = fin-old q (good .wf a)
         go (no q) = fin (λ y c. let d = deep a (omega arith) (c .inv) (c .kind) (c .state) in below y c (fin-new (d .0) a (d .1)))

@@ -2,28 +2,26 @@
 -- `copies` counts, with as many children. Assumes nothing.
 use mathlib.Core.Path.{_≡_, refl, sym, ap, subst, _∙_}
 use mathlib.Core.List.{List, [], _∷_, List·Memᴰ, List·Memᴰ·head, List·Memᴰ·tail, List·Memᴰ·not-nil}
-use mathlib.Core.Bool.{Bool, true, false, not, _&&_, _||_, true≢false, false≢true}
+use mathlib.Core.Bool.{Bool, true, false, true≢false, false≢true}
 use mathlib.Core.Option.{Option, none, some}
 use mathlib.Core.Logic.{_⊎_, inl, inr}
-use Prim.Native.Nat.{ℕ, zero, suc, _+_, _≤_, _<_}
-use native.Mathlib.Nat.{suc-add, zero-add}
+use Prim.Native.Nat.{ℕ, zero, suc, _≤_, _<_}
 use native.Mathlib.Omega.{arith}
-use native.Mathlib.Decide.{ℕ-discrete, decLt}
+use native.Mathlib.Decide.{decLt}
 use lib.Dec.{eqb}
 use lib.ListN.{length, getElem?}
-use borrow.Author.Tests.{eqb-true, eqb-false, eq-eqb, ne-eqb}
-use Rattle.scope.specs.Base.{pick, any, count, from, isSome}
+use Rattle.scope.specs.Base.{pick, from}
 use Rattle.scope.specs.Limits.{NONE}
 use Rattle.scope.specs.Types.{Ty, ty, flip}
-use Rattle.scope.specs.Kinds.{Head, PARAM}
-use Rattle.scope.specs.Nodes.{Kind, State, Known, Unknown, InferenceFailed, Node, Root, Child, Store, at, stateOf, find, kidsOf}
+use Rattle.scope.specs.Kinds.{PARAM}
+use Rattle.scope.specs.Nodes.{Kind, State, Known, Unknown, InferenceFailed, Node, Store, at, stateOf, find, kidsOf}
 use Rattle.scope.specs.Sound.{falls}
-use Rattle.scope.specs.Import.{Work, MovedAll, copyOf, Replaced, keep, missing-entry, entry, entryAt, paramOf, replaced, start, import, reachesState, reaches, copies}
+use Rattle.scope.specs.Import.{Work, keep, entry, entryAt, replaced, import, copies}
 use Rattle.scope.specs.Calls.{importList}
 use Rattle.scope.proofs.View.{known, Kid, Good, seen, view}
-use Rattle.scope.proofs.Added.{Extends, Closed, at-end, find-added, find-new, closed-added, good-added}
-use Rattle.scope.proofs.Mapping.{Tally, tnil, tcons, Maps, copy-maps, copy-none, tally-range, tally-onto}
-use Rattle.scope.proofs.Copy.{held, copyState, Source, all-mem, Reach, here, below, Became, as-copy, as-entry, lost, BecameAll, bnil, bcons, Filled, Ok, PostAll, import-ok}
+use Rattle.scope.proofs.Added.{Closed, at-end, find-added, find-new, closed-added, good-added}
+use Rattle.scope.proofs.Mapping.{Maps, tally-range, tally-onto}
+use Rattle.scope.proofs.Copy.{copyState, Source, all-mem, below, Became, as-copy, as-entry, lost, BecameAll, bnil, bcons, Filled, Ok}
 
 pub not-keep : {t : Ty} → entry t ≡ keep → ⊥
 not-keep {t} e = let z : _≡_ {A = ℕ} 0 1 = cc in omega arith
@@ -78,6 +76,15 @@ known-mem (Known j m) {i} {k} e c x = let q : k ≡ m = cc in subst (λ (z : Kin
 known-mem (Unknown p) {i} {k} e c x = let z : _≡_ {A = ℕ} 0 1 = cc in absurd (omega arith)
 known-mem InferenceFailed {i} {k} e c x = let z : _≡_ {A = ℕ} 0 1 = cc in absurd (omega arith)
 
+-- the source's kind that a new one was made after
+pub record After (ns : List Node) (i : Bool) (k : Kind) : Type 0 where
+  pub root : ℕ
+  pub kind : Kind
+  pub inside : root < length ns
+  pub state : stateOf (at ns root) ≡ Known i kind
+  pub head : k .head ≡ kind .head
+  pub width : length (k .kids) ≡ length (kind .kids)
+
 -- an import that is over
 module _ (ns : List Node) (ps : Option (List Ty)) (s : Store) (w : Work) (ok : Ok ns ps s [] w) where
   pub copy-filled : (r n : ℕ) → Maps (w .mapping) r n → Filled ns ps w r n
@@ -96,19 +103,27 @@ module _ (ns : List Node) (ps : Option (List Ty)) (s : Store) (w : Work) (ok : O
 
   -- and so has its head, its inversion, and as many children
   pub new-kind : (n : ℕ) → length (s .nodes) ≤ n → (i : Bool) (k : Kind) → stateOf (at (w .dest .nodes) n) ≡ Known i k
-    → (r : ℕ) × (m : Kind) × (r < length ns) × (stateOf (at ns r) ≡ Known i m) × (k .head ≡ m .head) × (length (k .kids) ≡ length (m .kids))
+      → After ns i k
   new-kind n p i k e = go (decLt n (length (w .dest .nodes)))
     where
       from-copy : (r : ℕ) → Maps (w .mapping) r n → (st : State) → stateOf (at ns r) ≡ st → (ts : List Ty) → length ts ≡ length (kidsOf st) → copyState st ts ≡ Known i k
-        → (r : ℕ) × (m : Kind) × (r < length ns) × (stateOf (at ns r) ≡ Known i m) × (k .head ≡ m .head) × (length (k .kids) ≡ length (m .kids))
+          → After ns i k
       from-copy r m (Known j l) q ts h e =
           let a : j ≡ i = cc in
           let b : record { head = l .head; kids = ts } ≡ k = cc in
-          (r, l, ok .below r n m, q ∙ ap (λ (z : Bool). Known z l) a, sym (ap (λ (z : Kind). z .head) b), sym (ap (λ (z : Kind). length (z .kids)) b) ∙ h)
+          record {
+            root = r;
+            kind = l;
+            inside = ok .below r n m;
+            state = q ∙ ap (λ (z : Bool). Known z l) a;
+            head = sym (ap (λ (z : Kind). z .head) b);
+            width = sym (ap (λ (z : Kind). length (z .kids)) b) ∙ h;
+          }
       from-copy r m (Unknown o) q ts h e = let z : _≡_ {A = ℕ} 0 1 = cc in absurd (omega arith)
       from-copy r m InferenceFailed q ts h e = let z : _≡_ {A = ℕ} 0 1 = cc in absurd (omega arith)
+
       go : Dec (n < length (w .dest .nodes))
-        → (r : ℕ) × (m : Kind) × (r < length ns) × (stateOf (at ns r) ≡ Known i m) × (k .head ≡ m .head) × (length (k .kids) ≡ length (m .kids))
+          → After ns i k
       go (yes q) =
           let c = new-copy n p q in
           let f = copy-filled (c .0) n (c .1) in
@@ -153,7 +168,7 @@ module _ (ns : List Node) (ps : Option (List Ty)) (s : Store) (w : Work) (ok : O
       no-depth a d = false≢true (d .falling)
 
       kid-depth : (f : ℕ) {c c′ : Ty} (y : ℕ) → falls f ns (find ns c .idx) ≡ true → Became ns ps w c c′ → view (w .dest .nodes) .rep (c′ .idx) .idx ≡ y
-        → (y < length (s .nodes)) ⊎ Deep f y
+          → (y < length (s .nodes)) ⊎ Deep f y
       unfolding view
       kid-depth f {c} {c′} y h (as-copy n m e) q =
           let a : c′ .idx ≡ n = ap (λ (x : Ty). x .idx) e in

@@ -120,7 +120,7 @@ module _ (ns : List Node) (ps : Option (List Ty)) where
       pub reach : (r n : ℕ) → Maps (m .work .mapping) r n → Maps (w .mapping) r n ⊎ ((t : Ty) × List·Memᴰ t ts × Reach r t)
 
     many-ok : (g : Work → Ty → Moved) (Q : Ty → Type 0) → ((os : List ℕ) (w : Work) (t : Ty) → Ok os w → Q t → Post os w t (g w t))
-      → (os : List ℕ) (w : Work) (ts : List Ty) → Ok os w → ((t : Ty) → List·Memᴰ t ts → Q t) → PostAll os w ts (many g w ts)
+        → (os : List ℕ) (w : Work) (ts : List Ty) → Ok os w → ((t : Ty) → List·Memᴰ t ts → Q t) → PostAll os w ts (many g w ts)
     unfolding many
     many-ok g Q ih os w [] ok q = record { ok = ok; later = later-refl w; became = bnil; reach = λ r n m. inl m }
     many-ok g Q ih os w (t ∷ ts) ok q =
@@ -129,16 +129,19 @@ module _ (ns : List Node) (ps : Option (List Ty)) where
       where
         b : MovedAll
         b = many g (g w t .work) ts
+
         glue : Post os w t (g w t) → PostAll os (g w t .work) ts b → PostAll os w (t ∷ ts) (record { work = b .work; types = g w t .type ∷ b .types })
         glue p p′ = record { ok = p′ .ok; later = later-trans (p .later) (p′ .later); became = bcons (became-later (p′ .later) (p .became)) (p′ .became); reach = reach }
           where
             first : (r n : ℕ) → Maps (w .mapping) r n ⊎ Reach r t → Maps (w .mapping) r n ⊎ ((u : Ty) × List·Memᴰ u (t ∷ ts) × Reach r u)
             first r n (inl m) = inl m
             first r n (inr h) = inr (t, List·Memᴰ·head refl, h)
+
             then : (r n : ℕ) → Maps (g w t .work .mapping) r n ⊎ ((u : Ty) × List·Memᴰ u ts × Reach r u)
-              → Maps (w .mapping) r n ⊎ ((u : Ty) × List·Memᴰ u (t ∷ ts) × Reach r u)
+                → Maps (w .mapping) r n ⊎ ((u : Ty) × List·Memᴰ u (t ∷ ts) × Reach r u)
             then r n (inl m) = first r n (p .reach r n m)
             then r n (inr h) = inr (h .0, List·Memᴰ·tail (h .1), h .2)
+
             reach : (r n : ℕ) → Maps (b .work .mapping) r n → Maps (w .mapping) r n ⊎ ((u : Ty) × List·Memᴰ u (t ∷ ts) × Reach r u)
             reach r n m = then r n (p′ .reach r n m)
 
@@ -147,7 +150,7 @@ module _ (ns : List Node) (ps : Option (List Ty)) where
     begun-later w r st = record { maps = λ q n m. List·Memᴰ·tail m; lacks = λ h. h }
 
     begun-ok : (os : List ℕ) (w : Work) (r : ℕ) (st : State) → stateOf (at ns r) ≡ st → r < length ns → replaced ps st ≡ keep → copyOf (w .mapping) r ≡ none
-      → Ok os w → Ok (length (w .dest .nodes) ∷ os) (begun w r st)
+        → Ok os w → Ok (length (w .dest .nodes) ∷ os) (begun w r st)
     begun-ok os w r st e lt k c ok = record {
       ext = record { len = omega (arith, grown, ok .ext .len); old = λ n q. old n (omega (arith, ok .ext .len)) ∙ ok .ext .old n q; new = λ n q p. new n q (ℕ-discrete n (length d)) p };
       tally = tcons c (ok .len) (ok .tally);
@@ -161,15 +164,20 @@ module _ (ns : List Node) (ps : Option (List Ty)) where
       where
         d : List Node
         d = w .dest .nodes
+
         u : State
         u = Unknown (spanOf st)
+
         grown : length (push d u) ≡ suc (length d)
         grown = length-append d (Root u 1 ∷ []) ∙ omega arith
+
         old : (n : ℕ) → n < length d → at (push d u) n ≡ at d n
         old n q = List·getD-append d (Root u 1 ∷ []) (Root (Unknown NONE) 0) n q
+
         new : (n : ℕ) → length (s .nodes) ≤ n → Dec (n ≡ length d) → n < length (push d u) → (x : State) × (at (push d u) n ≡ Root x 1)
         new n q (yes h) p = (u, ap (at (push d u)) h ∙ getD-append-seam d (Root u 1) [] (Root (Unknown NONE) 0))
         new n q (no h) p = let lt : n < length d = omega (arith, grown) in let z = ok .ext .new n q lt in (z .0, old n lt ∙ z .1)
+
         full : (q n : ℕ) → Maps ((r, length d) ∷ w .mapping) q n → List·Memᴰ n (length d ∷ os) ⊎ Filled (begun w r st) q n
         full q n (List·Memᴰ·head h) = inl (List·Memᴰ·head (ap (λ (z : ℕ × ℕ). z .1) h))
         full q n (List·Memᴰ·tail m) = go (ok .full q n m)
@@ -177,9 +185,11 @@ module _ (ns : List Node) (ps : Option (List Ty)) where
             go : List·Memᴰ n os ⊎ Filled w q n → List·Memᴰ n (length d ∷ os) ⊎ Filled (begun w r st) q n
             go (inl h) = inl (List·Memᴰ·tail h)
             go (inr f) = inr (filled-later (begun-later w r st) (old n (omega (arith, tally-range (ok .tally) q n m .1, ok .len))) f)
+
         below : (q n : ℕ) → Maps ((r, length d) ∷ w .mapping) q n → q < length ns
         below q n (List·Memᴰ·head h) = let z : q ≡ r = ap (λ (z : ℕ × ℕ). z .0) h in omega arith
         below q n (List·Memᴰ·tail m) = ok .below q n m
+
         kept : (q n : ℕ) → Maps ((r, length d) ∷ w .mapping) q n → replaced ps (stateOf (at ns q)) ≡ keep
         kept q n (List·Memᴰ·head h) = ap (λ (z : ℕ × ℕ). replaced ps (stateOf (at ns (z .0)))) h ∙ ap (replaced ps) e ∙ k
         kept q n (List·Memᴰ·tail m) = ok .kept q n m
@@ -206,11 +216,14 @@ module _ (ns : List Node) (ps : Option (List Ty)) where
       where
         d : List Node
         d = w .dest .nodes
+
         x : Node
         x = Root st 1
+
         new : (m : ℕ) → length (s .nodes) ≤ m → Dec (m ≡ n) → m < length d → (y : State) × (at (set d n x) m ≡ Root y 1)
         new m q (yes h) p = (st, ap (at (set d n x)) h ∙ getD-set-same d n x (Root (Unknown NONE) 0) hi)
         new m q (no h) p = let z = ok .ext .new m q p in (z .0, getD-set-other d n m x (Root (Unknown NONE) 0) h ∙ z .1)
+
         full : (r m : ℕ) → Maps (w .mapping) r m → Dec (m ≡ n) → List·Memᴰ m (n ∷ os) ⊎ Filled (ended w n st) r m
         full r m p (yes h) = inl (List·Memᴰ·head h)
         full r m p (no h) = go (ok .full r m p)
@@ -263,12 +276,11 @@ module _ (ns : List Node) (ps : Option (List Ty)) where
 
     -- one level down, for types of which Q holds
     module _ (g : Work → Ty → Moved) (Q : Ty → Type 0) (ih : (os : List ℕ) (w : Work) (t : Ty) → Ok os w → Q t → Post os w t (g w t)) (os : List ℕ) (w : Work)
-      (t : Ty) (ok : Ok os w) (lt : find ns t .idx < length ns) (kids : (c : Ty) → List·Memᴰ c (kidsOf (stateOf (at ns (find ns t .idx)))) → Q c) where
-
+        (t : Ty) (ok : Ok os w) (lt : find ns t .idx < length ns) (kids : (c : Ty) → List·Memᴰ c (kidsOf (stateOf (at ns (find ns t .idx)))) → Q c) where
       -- a root without kind
       plain-ok : (st : State) → stateOf (at ns (find ns t .idx)) ≡ st → copyState st [] ≡ Unknown (spanOf st) → kidsOf st ≡ [] → replaced ps st ≡ keep
-        → copyOf (w .mapping) (find ns t .idx) ≡ none
-        → Post os w t (record { work = begun w (find ns t .idx) st; type = ty (find ns t .inv) (length (w .dest .nodes)) })
+          → copyOf (w .mapping) (find ns t .idx) ≡ none
+          → Post os w t (record { work = begun w (find ns t .idx) st; type = ty (find ns t .inv) (length (w .dest .nodes)) })
       plain-ok st e u z k c =
           let r : ℕ = find ns t .idx in
           let n : ℕ = length (w .dest .nodes) in
@@ -290,19 +302,24 @@ module _ (ns : List Node) (ps : Option (List Ty)) where
           reach q n (List·Memᴰ·tail m) = inl m
 
       known-ok : (i : Bool) (k : Kind) → stateOf (at ns (find ns t .idx)) ≡ Known i k → replaced ps (Known i k) ≡ keep
-        → copyOf (w .mapping) (find ns t .idx) ≡ none → Post os w t (copied g w (find ns t) (Known i k))
+          → copyOf (w .mapping) (find ns t .idx) ≡ none → Post os w t (copied g w (find ns t) (Known i k))
       known-ok i k e kp c = fill (many-ok g Q ih (n ∷ os) w₁ (k .kids) (begun-ok os w r (Known i k) e lt kp c ok) (λ x m. kids x (subst (λ (st : State). List·Memᴰ x (kidsOf st)) (sym e) m)))
         where
           r : ℕ
           r = find ns t .idx
+
           n : ℕ
           n = length (w .dest .nodes)
+
           w₁ : Work
           w₁ = begun w (find ns t .idx) (Known i k)
+
           b : MovedAll
           b = many g w₁ (k .kids)
+
           st : State
           st = Known i (record { head = k .head; kids = b .types })
+
           fill : PostAll (n ∷ os) w₁ (k .kids) b → Post os w t (record { work = ended (b .work) n st; type = ty (find ns t .inv) n })
           fill p =
               let m : Maps (b .work .mapping) r n = p .later .maps r n (List·Memᴰ·head refl) in
@@ -323,25 +340,26 @@ module _ (ns : List Node) (ps : Option (List Ty)) where
               first : (q a : ℕ) → Maps ((find ns t .idx, length (w .dest .nodes)) ∷ w .mapping) q a → Maps (w .mapping) q a ⊎ Reach q t
               first q a (List·Memᴰ·head h) = inr (here (ap (replaced ps) e ∙ kp) (sym (ap (λ (z : ℕ × ℕ). z .0) h)))
               first q a (List·Memᴰ·tail m) = inl m
+
               again : (q a : ℕ) → Maps ((find ns t .idx, length (w .dest .nodes)) ∷ w .mapping) q a ⊎ ((c : Ty) × List·Memᴰ c (k .kids) × Reach q c)
-                → Maps (w .mapping) q a ⊎ Reach q t
+                  → Maps (w .mapping) q a ⊎ Reach q t
               again q a (inl m) = first q a m
               again q a (inr z) = inr (below (z .0) (ap (replaced ps) e ∙ kp) (subst (λ (x : State). List·Memᴰ (z .0) (kidsOf x)) (sym e) (z .1)) (z .2))
 
       copied-ok : (st : State) → stateOf (at ns (find ns t .idx)) ≡ st → replaced ps st ≡ keep → copyOf (w .mapping) (find ns t .idx) ≡ none
-        → Post os w t (copied g w (find ns t) st)
+          → Post os w t (copied g w (find ns t) st)
       copied-ok (Known i k) e kp c = known-ok i k e kp c
       copied-ok (Unknown p) e kp c = plain-ok (Unknown p) e refl refl kp c
       copied-ok InferenceFailed e kp c = plain-ok InferenceFailed e refl refl kp c
 
       fresh-ok : (st : State) → stateOf (at ns (find ns t .idx)) ≡ st → (u : Replaced) → replaced ps st ≡ u → copyOf (w .mapping) (find ns t .idx) ≡ none
-        → Post os w t (fresh g w (find ns t) st u)
+          → Post os w t (fresh g w (find ns t) st u)
       fresh-ok st e keep q c = copied-ok st e q c
       fresh-ok st e missing-entry q c = record { ok = lacking-ok os w ok; later = lacking-later w; became = lost refl; reach = λ r n m. inl m }
       fresh-ok st e (entry u) q c = record { ok = ok; later = later-refl w; became = as-entry u (ap (replaced ps) e ∙ q) refl; reach = λ r n m. inl m }
 
       place-ok : (st : State) → stateOf (at ns (find ns t .idx)) ≡ st → (o : Option ℕ) → copyOf (w .mapping) (find ns t .idx) ≡ o
-        → Post os w t (place g w (find ns t) st (replaced ps st) o)
+          → Post os w t (place g w (find ns t) st (replaced ps st) o)
       place-ok st e (some n) q = record { ok = ok; later = later-refl w; became = as-copy n (copy-maps (w .mapping) (find ns t .idx) n q) refl; reach = λ r a m. inl m }
       place-ok st e none q = fresh-ok st e (replaced ps st) refl q
 
@@ -363,7 +381,7 @@ module _ (ns : List Node) (ps : Option (List Ty)) where
 
     -- types of the source, in order
     pub transfers-ok : Source ns → (os : List ℕ) (w : Work) (ts : List Ty) → Ok os w → ((t : Ty) → List·Memᴰ t ts → t .idx < length ns)
-      → PostAll os w ts (many (transfer (length ns) ns ps) w ts)
+        → PostAll os w ts (many (transfer (length ns) ns ps) w ts)
     transfers-ok src os w ts ok h =
         many-ok (transfer (length ns) ns ps) (Able (length ns)) (transfer-ok src (length ns)) os w ts ok
         (λ t m. record { in-source = h t m; enough = src .falling (find ns t .idx) (src .inside t (h t m)) })

@@ -13,12 +13,12 @@ use lib.ListN.{length}
 use borrow.Author.Tests.{eqb-true, eq-eqb, ne-eqb}
 use Rattle.scope.specs.Base.{pick, any, count, from, isSome}
 use Rattle.scope.specs.Types.{Ty}
-use Rattle.scope.specs.Nodes.{State, Node, Store, at, stateOf, find, kidsOf}
+use Rattle.scope.specs.Nodes.{Node, Store, at, stateOf, find, kidsOf}
 use Rattle.scope.specs.Sound.{falls}
-use Rattle.scope.specs.Import.{Work, MovedAll, copyOf, Replaced, keep, missing-entry, entry, replaced, start, import, reachesState, reaches, copies}
+use Rattle.scope.specs.Import.{Work, copyOf, Replaced, keep, missing-entry, entry, replaced, start, import, reachesState, reaches, copies}
 use Rattle.scope.proofs.Added.{Extends}
 use Rattle.scope.proofs.Mapping.{Tally, tnil, tcons, Maps, copy-maps, copy-none}
-use Rattle.scope.proofs.Copy.{held, copyState, Source, all-mem, Reach, here, below, Became, as-copy, as-entry, lost, BecameAll, Filled, Ok, PostAll, import-ok}
+use Rattle.scope.proofs.Copy.{held, Source, all-mem, Reach, here, below, Became, as-copy, as-entry, lost, Ok, PostAll, import-ok}
 use Rattle.scope.proofs.Copies.{not-keep, became-of, became-length, copy-kids, copy-filled}
 
 any-mem : (p : Ty → Bool) (xs : List Ty) → any p xs ≡ true → (x : Ty) × List·Memᴰ x xs × (p x ≡ true)
@@ -49,10 +49,11 @@ module _ (ns : List Node) (ps : Option (List Ty)) (n : ℕ) where
     where
       test : Ty → Bool
       test t = reachesState (reaches f ns ps n) ps (eqb (find ns t .idx) n) (stateOf (at ns (find ns t .idx))) (replaced ps (stateOf (at ns (find ns t .idx))))
+
       go : (t : Ty) (u : Replaced) → replaced ps (stateOf (at ns (find ns t .idx))) ≡ u
-        → reachesState (reaches f ns ps n) ps (eqb (find ns t .idx) n) (stateOf (at ns (find ns t .idx))) u ≡ true
-        → (reaches f ns ps n (kidsOf (stateOf (at ns (find ns t .idx)))) ≡ true → (c : Ty) × List·Memᴰ c (kidsOf (stateOf (at ns (find ns t .idx)))) × Reach ns ps n c)
-        → Reach ns ps n t
+          → reachesState (reaches f ns ps n) ps (eqb (find ns t .idx) n) (stateOf (at ns (find ns t .idx))) u ≡ true
+          → (reaches f ns ps n (kidsOf (stateOf (at ns (find ns t .idx)))) ≡ true → (c : Ty) × List·Memᴰ c (kidsOf (stateOf (at ns (find ns t .idx)))) × Reach ns ps n c)
+          → Reach ns ps n t
       go t missing-entry q h ih = absurd (false≢true h)
       go t (entry u) q h ih = absurd (false≢true h)
       go t keep q h ih = choose (eqb (find ns t .idx) n) refl h
@@ -187,7 +188,7 @@ tally-held ns ns′ (tcons {p = p} {l = l} f q t) h =
 module _ (ns : List Node) (ps : Option (List Ty)) (s : Store) (ts : List Ty) (src : Source ns) (given : (t : Ty) → List·Memᴰ t ts → t .idx < length ns) where
   -- a root is reached if it was copied
   maps-reaches : (w : Work) → PostAll ns ps s [] (start s) ts (record { work = w; types = import ns ps s ts .types }) → w .missing ≡ false
-    → (n : ℕ) → reaches (length ns) ns ps n ts ≡ isSome (copyOf (w .mapping) n)
+      → (n : ℕ) → reaches (length ns) ns ps n ts ≡ isSome (copyOf (w .mapping) n)
   maps-reaches w p miss n = bool-same (reaches (length ns) ns ps n ts) (isSome (copyOf (w .mapping) n)) to back
     where
       to : reaches (length ns) ns ps n ts ≡ true → isSome (copyOf (w .mapping) n) ≡ true
@@ -196,6 +197,7 @@ module _ (ns : List Node) (ps : Option (List Ty)) (s : Store) (ts : List Ty) (sr
           let b = became-of (p .became) (r .0) (r .1) in
           let m = reach-maps ns ps n s w (p .ok) miss (r .2) (b .1) in
           of-some (w .mapping) n (m .0) (m .1)
+
       back : isSome (copyOf (w .mapping) n) ≡ true → reaches (length ns) ns ps n ts ≡ true
       back e = let m = some-of (w .mapping) n e in go (p .reach n (m .0) (m .1))
         where

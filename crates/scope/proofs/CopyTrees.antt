@@ -1,8 +1,8 @@
 -- The trees of an import's copies: a copy may have its root's tree, and a type that was moved has the tree that it had, where each Param that is
 -- replaced stands for its entry's tree. Assumes nothing.
 use mathlib.Core.Path.{_≡_, refl, sym, ap, ap₂, subst, _∙_}
-use mathlib.Core.List.{List, [], _∷_, List·Memᴰ}
-use mathlib.Core.Bool.{Bool, true, false, true≢false}
+use mathlib.Core.List.{List, [], List·Memᴰ}
+use mathlib.Core.Bool.{false, true≢false}
 use mathlib.Core.Option.{Option, none, some}
 use mathlib.Core.Logic.{_⊎_, inl, inr, _↔_}
 use Prim.Native.Nat.{ℕ, zero, suc, _≤_, _<_}
@@ -11,15 +11,15 @@ use native.Mathlib.Decide.{decLt}
 use lib.ListN.{length}
 use Rattle.scope.specs.Limits.{NONE}
 use Rattle.scope.specs.Chart.{Env}
-use Rattle.scope.specs.Types.{Ty, ty, flip}
-use Rattle.scope.specs.Nodes.{Kind, State, Known, Unknown, InferenceFailed, Node, Root, Child, Store, at, stateOf, hop, climb, find, kidsOf}
+use Rattle.scope.specs.Types.{Ty, flip}
+use Rattle.scope.specs.Nodes.{State, Known, Unknown, InferenceFailed, Node, Root, Child, Store, at, stateOf, hop, climb, find, kidsOf}
 use Rattle.scope.specs.Trees.{Tree, node, Forest, fcons, treeHead, Val, invertIf, val, vals, build, StateFits, NodeFits, Fits}
-use Rattle.scope.specs.Import.{Work, MovedAll, Replaced, keep, entry, replaced, import}
+use Rattle.scope.specs.Import.{Work, MovedAll, keep, entry, replaced, import}
 use Rattle.scope.specs.Calls.{importList}
 use Rattle.scope.proofs.TreeLaws.{val-flip}
-use Rattle.scope.proofs.Added.{Extends, Closed, at-end, fits-added, fits-inside}
+use Rattle.scope.proofs.Added.{Closed, at-end, fits-added, fits-inside}
 use Rattle.scope.proofs.Mapping.{Maps, tally-uniq}
-use Rattle.scope.proofs.Copy.{copyState, Source, Became, as-copy, as-entry, lost, BecameAll, bnil, bcons, Filled, Ok, PostAll, import-ok}
+use Rattle.scope.proofs.Copy.{copyState, Source, Became, as-copy, as-entry, lost, BecameAll, bnil, bcons, Filled, Ok, import-ok}
 use Rattle.scope.proofs.Copies.{entry-low, copy-filled, copy-new, new-copy}
 
 -- trees fit the source where no entry replaces a Param
@@ -71,14 +71,16 @@ module _ {e : Env} {ns : List Node} {ps : Option (List Ty)} {w : Work} {v u : Va
   -- a root's tree fits its state exactly if it fits the copy's
   pub copy-fits : (r n : ℕ) → Maps (w .mapping) r n → Filled ns ps w r n → NodeFits e u n (at (w .dest .nodes) n) ↔ StateFits e v (stateOf (at ns r)) (v r)
   unfolding build
-  copy-fits r n m f =
-      ( (λ h. to (stateOf (at ns r)) (became-vals (f .became)) (subst (NodeFits e u n) (f .node) h))
-      , (λ h. subst (NodeFits e u n) (sym (f .node)) (back (stateOf (at ns r)) (became-vals (f .became)) h)) )
+  copy-fits r n m f = (
+    (λ h. to (stateOf (at ns r)) (became-vals (f .became)) (subst (NodeFits e u n) (f .node) h)),
+    (λ h. subst (NodeFits e u n) (sym (f .node)) (back (stateOf (at ns r)) (became-vals (f .became)) h)),
+  )
     where
       to : (st : State) → vals e u (f .kids) ≡ vals e v (kidsOf st) → StateFits e u (copyState st (f .kids)) (u n) → StateFits e v st (v r)
       to (Known i k) q h = sym (a .copy r n m) ∙ h ∙ ap (λ (ts : Forest). invertIf e i (node (treeHead (e .texts) (k .head)) false ts)) q
       to (Unknown p) q h = tt
       to InferenceFailed q h = tt
+
       back : (st : State) → vals e u (f .kids) ≡ vals e v (kidsOf st) → StateFits e v st (v r) → StateFits e u (copyState st (f .kids)) (u n)
       back (Known i k) q h = a .copy r n m ∙ h ∙ ap (λ (ts : Forest). invertIf e i (node (treeHead (e .texts) (k .head)) false ts)) (sym q)
       back (Unknown p) q h = tt
@@ -93,9 +95,8 @@ pub record Copied (e : Env) (v u : Val) (s : Store) (ts : List Ty) (m : MovedAll
   pub types : vals e trees (m .types) ≡ vals e v ts
 
 module _ (e : Env) (v u : Val) (ns : List Node) (ps : Option (List Ty)) (s : Store) (w : Work) (ok : Ok ns ps s [] w) (miss : w .missing ≡ false)
-  (low : (t : Ty) → List·Memᴰ t (importList ps) → t .idx < length (s .nodes)) (closed : Closed (s .nodes)) (fv : FitsKept e v ns ps) (fu : Fits e u (s .nodes))
-  (entries : (r : ℕ) (t : Ty) → replaced ps (stateOf (at ns r)) ≡ entry t → val e u t ≡ v r) where
-
+    (low : (t : Ty) → List·Memᴰ t (importList ps) → t .idx < length (s .nodes)) (closed : Closed (s .nodes)) (fv : FitsKept e v ns ps) (fu : Fits e u (s .nodes))
+    (entries : (r : ℕ) (t : Ty) → replaced ps (stateOf (at ns r)) ≡ entry t → val e u t ≡ v r) where
   treeAt : (n : ℕ) → Dec (n < length (s .nodes)) → Dec (n < length (w .dest .nodes)) → Tree
   treeAt n (yes p) d = u n
   treeAt n (no p) (yes q) = v (new-copy ns ps s w ok n (omega arith) q .0)
@@ -157,9 +158,9 @@ module _ (e : Env) (v u : Val) (ns : List Node) (ps : Option (List Ty)) (s : Sto
 
 -- import copies: trees that fit the source, in which a Param that is replaced has its entry's tree, go on with trees that fit the destination
 pub import-copies : (e : Env) (v u : Val) (ns : List Node) (ps : Option (List Ty)) (s : Store) (ts : List Ty) → Source ns → Closed (s .nodes)
-  → ((t : Ty) → List·Memᴰ t ts → t .idx < length ns) → ((t : Ty) → List·Memᴰ t (importList ps) → t .idx < length (s .nodes))
-  → import ns ps s ts .work .missing ≡ false → FitsKept e v ns ps → Fits e u (s .nodes)
-  → ((r : ℕ) (t : Ty) → replaced ps (stateOf (at ns r)) ≡ entry t → val e u t ≡ v r) → Copied e v u s ts (import ns ps s ts)
+    → ((t : Ty) → List·Memᴰ t ts → t .idx < length ns) → ((t : Ty) → List·Memᴰ t (importList ps) → t .idx < length (s .nodes))
+    → import ns ps s ts .work .missing ≡ false → FitsKept e v ns ps → Fits e u (s .nodes)
+    → ((r : ℕ) (t : Ty) → replaced ps (stateOf (at ns r)) ≡ entry t → val e u t ≡ v r) → Copied e v u s ts (import ns ps s ts)
 import-copies e v u ns ps s ts src closed given low miss fv fu entries =
     let p = import-ok ns ps s src ts given in
     copied e v u ns ps s (import ns ps s ts .work) (p .ok) miss low closed fv fu entries ts (import ns ps s ts) refl (p .became)

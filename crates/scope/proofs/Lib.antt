@@ -11,3 +11,4 @@ pub mod Copies
 pub mod CopyCount
 pub mod CopyTrees
 pub mod Sounds
+pub mod Imports

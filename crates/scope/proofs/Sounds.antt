@@ -1,7 +1,7 @@
 -- What a sound store gives an import: as its source and as its destination. Assumes nothing.
 use mathlib.Core.Path.{_≡_, refl, sym, ap, subst, _∙_}
 use mathlib.Core.List.{List, [], _∷_, List·Memᴰ, List·Memᴰ·not-nil}
-use mathlib.Core.Bool.{Bool, true, false, _&&_, false≢true, and-eq-true-iff}
+use mathlib.Core.Bool.{Bool, true, _&&_, and-eq-true-iff}
 use Prim.Native.Nat.{ℕ, zero, suc, _+_, _≤_, _<_}
 use native.Mathlib.Omega.{arith}
 use native.Mathlib.Decide.{ℕ-discrete}
@@ -12,7 +12,7 @@ use Rattle.scope.specs.Limits.{NONE}
 use Rattle.scope.specs.Chart.{Env}
 use Rattle.scope.specs.Types.{Ty, flip}
 use Rattle.scope.specs.Kinds.{makeable, defined, flagIs}
-use Rattle.scope.specs.Nodes.{Kind, State, Known, Unknown, InferenceFailed, Node, Root, Child, Store, at, stateOf, isRoot, hop, climb, find, kidsOf}
+use Rattle.scope.specs.Nodes.{Kind, Known, Unknown, InferenceFailed, Node, Root, Child, Store, at, stateOf, isRoot, hop, climb, find, kidsOf}
 use Rattle.scope.specs.Sound.{inStore, rootedNode, rooted, falls, sizeIs, kindSound, nodeSound, remembered, roomSound, shapeSound, soundStore}
 use Rattle.scope.proofs.PlanLaws.{Makeable}
 use Rattle.scope.proofs.Added.{Closed}
@@ -49,7 +49,7 @@ rooted-root ns zero t h = h
 rooted-root ns (suc f) t h = go (at ns (t .idx)) refl h (λ u. rooted-root ns f (flip (t .inv) u))
   where
     go : (n : Node) → at ns (t .idx) ≡ n → rootedNode (rooted f ns) n ≡ true → ((u : Ty) → rooted f ns (u .idx) ≡ true → isRoot (at ns (climb f ns (flip (t .inv) u) .idx)) ≡ true)
-      → isRoot (at ns (hop n (climb f ns) t .idx)) ≡ true
+        → isRoot (at ns (hop n (climb f ns) t .idx)) ≡ true
     go (Root st z) q h ih = ap isRoot q
     go (Child u) q h ih = ih u h
 
@@ -111,9 +111,10 @@ module _ (e : Env) (s : Store) (sound : soundStore e s ≡ true) where
       let zs : Bool = all (λ i. sizeIs (s .nodes) i (at (s .nodes) i)) (from 0 n) in
       let fs : Bool = all (λ i. falls n (s .nodes) i) (from 0 n) in
       let p = and-eq-true-iff rs (zs && fs) .0 (parts .1) in
-      let q = and-eq-true-iff zs fs .0 (p .1) in
-      ( all-run (λ i. rooted n (s .nodes) i) 0 n (p .0) i (omega arith) (omega arith)
-      , all-run (λ i. falls n (s .nodes) i) 0 n (q .1) i (omega arith) (omega arith) )
+      let q = and-eq-true-iff zs fs .0 (p .1) in (
+        all-run (λ i. rooted n (s .nodes) i) 0 n (p .0) i (omega arith) (omega arith),
+        all-run (λ i. falls n (s .nodes) i) 0 n (q .1) i (omega arith) (omega arith),
+      )
 
   pub sound-source : Source (s .nodes)
   sound-source = record { inside = inside; kids = kids; falling = λ r h. shapes r h .1 }
