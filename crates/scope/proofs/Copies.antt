@@ -12,13 +12,15 @@ use lib.Dec.{eqb}
 use lib.ListN.{length, getElem?}
 use Rattle.scope.specs.Base.{pick, from}
 use Rattle.scope.specs.Limits.{NONE}
+use Rattle.scope.specs.Chart.{Env}
 use Rattle.scope.specs.Types.{Ty, ty, flip}
 use Rattle.scope.specs.Kinds.{PARAM}
-use Rattle.scope.specs.Nodes.{Kind, State, Known, Unknown, InferenceFailed, Node, Store, at, stateOf, find, kidsOf}
+use Rattle.scope.specs.Nodes.{Kind, State, Known, Unknown, InferenceFailed, Node, Store, at, stateOf, stateAt, find, kidsOf}
 use Rattle.scope.specs.Sound.{falls}
 use Rattle.scope.specs.Import.{Work, keep, entry, entryAt, replaced, import, copies}
 use Rattle.scope.specs.Calls.{importList}
 use Rattle.scope.proofs.View.{known, Kid, Good, seen, view}
+use Rattle.scope.proofs.PlanLaws.{Makeable}
 use Rattle.scope.proofs.Added.{Closed, at-end, find-added, find-new, closed-added, good-added}
 use Rattle.scope.proofs.Mapping.{Maps, tally-range, tally-onto}
 use Rattle.scope.proofs.Copy.{copyState, Source, all-mem, below, Became, as-copy, as-entry, lost, BecameAll, bnil, bcons, Filled, Ok}
@@ -85,6 +87,9 @@ pub record After (ns : List Node) (i : Bool) (k : Kind) : Type 0 where
   pub head : k .head ≡ kind .head
   pub width : length (k .kids) ≡ length (kind .kids)
 
+pub after-makeable : (e : Env) {ns : List Node} {i : Bool} {k : Kind} (a : After ns i k) → Makeable e (a .kind) → Makeable e k
+after-makeable e a o = record { made = rw (a .head, a .width) (o .made); def = rw (a .head) (o .def); flag = rw (a .head) (o .flag) }
+
 -- an import that is over
 module _ (ns : List Node) (ps : Option (List Ty)) (s : Store) (w : Work) (ok : Ok ns ps s [] w) where
   pub copy-filled : (r n : ℕ) → Maps (w .mapping) r n → Filled ns ps w r n
@@ -137,7 +142,7 @@ module _ (ns : List Node) (ps : Option (List Ty)) (s : Store) (w : Work) (ok : O
     -- what a type became is in the new store
     pub became-inside : {c c′ : Ty} → Became ns ps w c c′ → c′ .idx < length (w .dest .nodes)
     became-inside {c} {c′} (as-copy n m e) = omega (arith, copy-new (find ns c .idx) n m .1, ap (λ (x : Ty). x .idx) e)
-    became-inside {c} {c′} (as-entry t q e) = omega (arith, entry-low (stateOf (at ns (find ns c .idx))) t q, ap (λ (x : Ty). x .idx) e, ok .ext .len)
+    became-inside {c} {c′} (as-entry t q e) = omega (arith, entry-low (stateAt ns c) t q, ap (λ (x : Ty). x .idx) e, ok .ext .len)
     became-inside (lost h) = absurd (true≢false (sym h ∙ miss))
 
     pub types-inside : {cs cs′ : List Ty} → BecameAll ns ps w cs cs′ → (t : Ty) → List·Memᴰ t cs′ → t .idx < length (w .dest .nodes)
@@ -175,7 +180,7 @@ module _ (ns : List Node) (ps : Option (List Ty)) (s : Store) (w : Work) (ok : O
           let b : find (w .dest .nodes) (ty false (c′ .idx)) ≡ ty false (c′ .idx) = find-new (s .nodes) (w .dest .nodes) (ok .ext) closed (ty false (c′ .idx)) (omega (arith, copy-new (find ns c .idx) n m .0)) in
           inr (record { root = find ns c .idx; maps = subst (Maps (w .mapping) (find ns c .idx)) (sym a ∙ sym (ap (λ (x : Ty). x .idx) b) ∙ q) m; falling = h })
       kid-depth f {c} {c′} y h (as-entry t r e) q =
-          let lt : c′ .idx < length (s .nodes) = omega (arith, entry-low (stateOf (at ns (find ns c .idx))) t r, ap (λ (x : Ty). x .idx) e) in
+          let lt : c′ .idx < length (s .nodes) = omega (arith, entry-low (stateAt ns c) t r, ap (λ (x : Ty). x .idx) e) in
           inl (omega (arith, q, ap (λ (x : Ty). x .idx) (find-added (s .nodes) (w .dest .nodes) (ok .ext) closed (ty false (c′ .idx))), closed .inside (ty false (c′ .idx)) lt))
       kid-depth f y h (lost l) q = absurd (true≢false (sym l ∙ miss))
 

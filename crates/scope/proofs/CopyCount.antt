@@ -13,12 +13,12 @@ use lib.ListN.{length}
 use borrow.Author.Tests.{eqb-true, eq-eqb, ne-eqb}
 use Rattle.scope.specs.Base.{pick, any, count, from, isSome}
 use Rattle.scope.specs.Types.{Ty}
-use Rattle.scope.specs.Nodes.{Node, Store, at, stateOf, find, kidsOf}
+use Rattle.scope.specs.Nodes.{Node, Store, at, stateOf, stateAt, find, kidsOf}
 use Rattle.scope.specs.Sound.{falls}
 use Rattle.scope.specs.Import.{Work, copyOf, Replaced, keep, missing-entry, entry, replaced, start, import, reachesState, reaches, copies}
 use Rattle.scope.proofs.Added.{Extends}
-use Rattle.scope.proofs.Mapping.{Tally, tnil, tcons, Maps, copy-maps, copy-none}
-use Rattle.scope.proofs.Copy.{held, Source, all-mem, Reach, here, below, Became, as-copy, as-entry, lost, Ok, PostAll, import-ok}
+use Rattle.scope.proofs.Mapping.{held, Tally, tnil, tcons, Maps, copy-maps, copy-none}
+use Rattle.scope.proofs.Copy.{Source, all-mem, Reach, here, below, Became, as-copy, as-entry, lost, Ok, PostAll, import-ok}
 use Rattle.scope.proofs.Copies.{not-keep, became-of, became-length, copy-kids, copy-filled}
 
 any-mem : (p : Ty → Bool) (xs : List Ty) → any p xs ≡ true → (x : Ty) × List·Memᴰ x xs × (p x ≡ true)
@@ -45,20 +45,20 @@ module _ (ns : List Node) (ps : Option (List Ty)) (n : ℕ) where
   reaches-reach zero ts e = absurd (false≢true e)
   reaches-reach (suc f) ts e =
       let z = any-mem test ts e in
-      (z .0, z .1, go (z .0) (replaced ps (stateOf (at ns (find ns (z .0) .idx)))) refl (z .2) (reaches-reach f (kidsOf (stateOf (at ns (find ns (z .0) .idx))))))
+      (z .0, z .1, go (z .0) (replaced ps (stateAt ns (z .0))) refl (z .2) (reaches-reach f (kidsOf (stateAt ns (z .0)))))
     where
       test : Ty → Bool
-      test t = reachesState (reaches f ns ps n) ps (eqb (find ns t .idx) n) (stateOf (at ns (find ns t .idx))) (replaced ps (stateOf (at ns (find ns t .idx))))
+      test t = reachesState (reaches f ns ps n) ps (eqb (find ns t .idx) n) (stateAt ns t) (replaced ps (stateAt ns t))
 
-      go : (t : Ty) (u : Replaced) → replaced ps (stateOf (at ns (find ns t .idx))) ≡ u
-          → reachesState (reaches f ns ps n) ps (eqb (find ns t .idx) n) (stateOf (at ns (find ns t .idx))) u ≡ true
-          → (reaches f ns ps n (kidsOf (stateOf (at ns (find ns t .idx)))) ≡ true → (c : Ty) × List·Memᴰ c (kidsOf (stateOf (at ns (find ns t .idx)))) × Reach ns ps n c)
+      go : (t : Ty) (u : Replaced) → replaced ps (stateAt ns t) ≡ u
+          → reachesState (reaches f ns ps n) ps (eqb (find ns t .idx) n) (stateAt ns t) u ≡ true
+          → (reaches f ns ps n (kidsOf (stateAt ns t)) ≡ true → (c : Ty) × List·Memᴰ c (kidsOf (stateAt ns t)) × Reach ns ps n c)
           → Reach ns ps n t
       go t missing-entry q h ih = absurd (false≢true h)
       go t (entry u) q h ih = absurd (false≢true h)
       go t keep q h ih = choose (eqb (find ns t .idx) n) refl h
         where
-          choose : (b : Bool) → eqb (find ns t .idx) n ≡ b → (b || reaches f ns ps n (kidsOf (stateOf (at ns (find ns t .idx))))) ≡ true → Reach ns ps n t
+          choose : (b : Bool) → eqb (find ns t .idx) n ≡ b → (b || reaches f ns ps n (kidsOf (stateAt ns t))) ≡ true → Reach ns ps n t
           choose true e h = here q (eqb-true (find ns t .idx) n e)
           choose false e h = let z = ih h in below (z .0) q (z .1) (z .2)
 
@@ -66,11 +66,11 @@ module _ (ns : List Node) (ps : Option (List Ty)) (n : ℕ) where
   unfolding reaches falls
   reach-reaches r zero e ts m = absurd (false≢true e)
   reach-reaches {t} (here k q) (suc f) e ts m =
-      mem-any (λ t. reachesState (reaches f ns ps n) ps (eqb (find ns t .idx) n) (stateOf (at ns (find ns t .idx))) (replaced ps (stateOf (at ns (find ns t .idx))))) ts t m
+      mem-any (λ t. reachesState (reaches f ns ps n) ps (eqb (find ns t .idx) n) (stateAt ns t) (replaced ps (stateAt ns t))) ts t m
       (rw (k, eq-eqb (find ns t .idx) n q))
   reach-reaches {t} (below c k x r) (suc f) e ts m =
-      let h = reach-reaches r f (all-mem (λ (c : Ty). falls f ns (find ns c .idx)) (kidsOf (stateOf (at ns (find ns t .idx)))) c x e) (kidsOf (stateOf (at ns (find ns t .idx)))) x in
-      mem-any (λ t. reachesState (reaches f ns ps n) ps (eqb (find ns t .idx) n) (stateOf (at ns (find ns t .idx))) (replaced ps (stateOf (at ns (find ns t .idx))))) ts t m
+      let h = reach-reaches r f (all-mem (λ (c : Ty). falls f ns (find ns c .idx)) (kidsOf (stateAt ns t)) c x e) (kidsOf (stateAt ns t)) x in
+      mem-any (λ t. reachesState (reaches f ns ps n) ps (eqb (find ns t .idx) n) (stateAt ns t) (replaced ps (stateAt ns t))) ts t m
       (rw k (or-right (eqb (find ns t .idx) n) h))
     where
       or-right : (b : Bool) {a : Bool} → a ≡ true → (b || a) ≡ true

@@ -11,6 +11,7 @@ use lib.Dec.{eqb}
 use lib.ListN.{length}
 use borrow.Author.Tests.{eqb-true, eqb-false}
 use Rattle.scope.specs.Base.{pick}
+use Rattle.scope.specs.Nodes.{Node, at, stateOf, kidsOf}
 use Rattle.scope.specs.Import.{copyOf}
 
 -- the mapping: each root once, its node the next one after the b that were there
@@ -61,3 +62,8 @@ tally-onto {b} (tcons {p = p} {l = l} f h t) n u q = go (ℕ-discrete n (p .1)) 
     go : Dec (n ≡ p .1) → (n < b + length l → (r : ℕ) × Maps l r n) → (r : ℕ) × Maps (p ∷ l) r n
     go (yes e) ih = (p .0, List·Memᴰ·head (λ i. (p .0, e i)))
     go (no e) ih = let z = ih (omega arith) in (z .0, List·Memᴰ·tail (z .1))
+
+-- the children of the mapping's roots
+abbrev pub held : List Node → List (ℕ × ℕ) → ℕ
+held ns [] = 0
+held ns (p ∷ l) = length (kidsOf (stateOf (at ns (p .0)))) + held ns l
