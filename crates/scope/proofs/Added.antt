@@ -66,19 +66,28 @@ climb-alike ns ns′ h (suc f) t = go (h (t .idx)) (λ u. climb-alike ns ns′ h
     same (Root st z) ih = refl
     same (Child u) ih = ih (flip (t .inv) u)
 
-    go : Alike (at ns (t .idx)) (at ns′ (t .idx)) → ((u : Ty) → climb f ns u ≡ climb f ns′ u) → hop (at ns (t .idx)) (climb f ns) t ≡ hop (at ns′ (t .idx)) (climb f ns′) t
+    go : Alike (at ns (t .idx)) (at ns′ (t .idx)) → ((u : Ty) → climb f ns u ≡ climb f ns′ u)
+        → hop (at ns (t .idx)) (climb f ns) t ≡ hop (at ns′ (t .idx)) (climb f ns′) t
     go (inl q) ih = hop-root (at ns (t .idx)) (climb f ns) t (q .0) ∙ sym (hop-root (at ns′ (t .idx)) (climb f ns′) t (q .1))
     go (inr q) ih = same (at ns (t .idx)) ih ∙ ap (λ (n : Node). hop n (climb f ns′) t) q
+
+pub extends-tail : {n n′ : Node} {ns ns′ : List Node} → Extends (n ∷ ns) (n′ ∷ ns′) → Extends ns ns′
+extends-tail x = record {
+  len = omega (arith, x .len);
+  old = λ m q. x .old (suc m) (omega arith);
+  new = λ m q p. x .new (suc m) (omega arith) (omega arith);
+}
 
 -- root sizes: one more for each new node
 pub sizes-added : (ns ns′ : List Node) → Extends ns ns′ → sizes ns′ + length ns ≡ sizes ns + length ns′
 unfolding sizes
 sizes-added [] [] x = refl
 sizes-added [] (n ∷ ns′) x =
-    omega (arith, ap sizeOf (x .new 0 (omega arith) (omega arith) .1), sizes-added [] ns′ (record { len = omega arith; old = λ m q. absurd (omega arith); new = λ m q p. x .new (suc m) (omega arith) (omega arith) }))
+    let x′ : Extends [] ns′ = record { len = omega arith; old = λ m q. absurd (omega arith); new = λ m q p. x .new (suc m) (omega arith) (omega arith) } in
+    omega (arith, ap sizeOf (x .new 0 (omega arith) (omega arith) .1), sizes-added [] ns′ x′)
 sizes-added (n ∷ ns) [] x = absurd (omega (arith, x .len))
 sizes-added (n ∷ ns) (n′ ∷ ns′) x =
-    omega (arith, ap sizeOf (x .old 0 (omega arith)), sizes-added ns ns′ (record { len = omega (arith, x .len); old = λ m q. x .old (suc m) (omega arith); new = λ m q p. x .new (suc m) (omega arith) (omega arith) }))
+    omega (arith, ap sizeOf (x .old 0 (omega arith)), sizes-added ns ns′ (extends-tail x))
 
 -- trees fit afterwards exactly if they fitted before and fit each new node
 pub fits-added : (e : Env) (v : Val) (ns ns′ : List Node) → Extends ns ns′

@@ -41,7 +41,8 @@ entry-in (some es) (Unknown p) t e = absurd (not-keep (sym e))
 entry-in (some es) InferenceFailed t e = absurd (not-keep (sym e))
 entry-in (some es) (Known i k) t e = go (eqb (k .head .code) PARAM) (getElem? es (k .head .number)) refl e
   where
-    go : (b : Bool) (o : Option Ty) → getElem? es (k .head .number) ≡ o → pick b (entryAt i o) keep ≡ entry t → (j : Bool) × (u : Ty) × List·Memᴰ u es × (t ≡ flip j u)
+    go : (b : Bool) (o : Option Ty) → getElem? es (k .head .number) ≡ o → pick b (entryAt i o) keep ≡ entry t
+        → (j : Bool) × (u : Ty) × List·Memᴰ u es × (t ≡ flip j u)
     go false o q e = absurd (not-keep (sym e))
     go true none q e = let z : _≡_ {A = ℕ} 0 1 = cc in absurd (omega arith)
     go true (some u) q e = let h : t ≡ flip i u = cc in (i, u, element-in es (k .head .number) u q, h)
@@ -111,7 +112,8 @@ module _ (ns : List Node) (ps : Option (List Ty)) (s : Store) (w : Work) (ok : O
       → After ns i k
   new-kind n p i k e = go (decLt n (length (w .dest .nodes)))
     where
-      from-copy : (r : ℕ) → Maps (w .mapping) r n → (st : State) → stateOf (at ns r) ≡ st → (ts : List Ty) → length ts ≡ length (kidsOf st) → copyState st ts ≡ Known i k
+      from-copy : (r : ℕ) → Maps (w .mapping) r n → (st : State) → stateOf (at ns r) ≡ st → (ts : List Ty) → length ts ≡ length (kidsOf st)
+          → copyState st ts ≡ Known i k
           → After ns i k
       from-copy r m (Known j l) q ts h e =
           let a : j ≡ i = cc in
@@ -133,7 +135,10 @@ module _ (ns : List Node) (ps : Option (List Ty)) (s : Store) (w : Work) (ok : O
           let c = new-copy n p q in
           let f = copy-filled (c .0) n (c .1) in
           from-copy (c .0) (c .1) (stateOf (at ns (c .0))) refl (f .kids) (became-length (f .became)) (sym (ap stateOf (f .node)) ∙ e)
-      go (no q) = let h : Unknown NONE ≡ Known i k = sym (ap stateOf (at-end (w .dest .nodes) n (omega arith))) ∙ e in let z : _≡_ {A = ℕ} 0 1 = cc in absurd (omega arith)
+      go (no q) =
+          let h : Unknown NONE ≡ Known i k = sym (ap stateOf (at-end (w .dest .nodes) n (omega arith))) ∙ e in
+          let z : _≡_ {A = ℕ} 0 1 = cc in
+          absurd (omega arith)
 
   module _ (miss : w .missing ≡ false) (low : (t : Ty) → List·Memᴰ t (importList ps) → t .idx < length (s .nodes)) where
     pub entry-low : (st : State) (t : Ty) → replaced ps st ≡ entry t → t .idx < length (s .nodes)
@@ -177,11 +182,13 @@ module _ (ns : List Node) (ps : Option (List Ty)) (s : Store) (w : Work) (ok : O
       unfolding view
       kid-depth f {c} {c′} y h (as-copy n m e) q =
           let a : c′ .idx ≡ n = ap (λ (x : Ty). x .idx) e in
-          let b : find (w .dest .nodes) (ty false (c′ .idx)) ≡ ty false (c′ .idx) = find-new (s .nodes) (w .dest .nodes) (ok .ext) closed (ty false (c′ .idx)) (omega (arith, copy-new (find ns c .idx) n m .0)) in
+          let new : length (s .nodes) ≤ c′ .idx = omega (arith, copy-new (find ns c .idx) n m .0) in
+          let b : find (w .dest .nodes) (ty false (c′ .idx)) ≡ ty false (c′ .idx) = find-new (s .nodes) (w .dest .nodes) (ok .ext) closed (ty false (c′ .idx)) new in
           inr (record { root = find ns c .idx; maps = subst (Maps (w .mapping) (find ns c .idx)) (sym a ∙ sym (ap (λ (x : Ty). x .idx) b) ∙ q) m; falling = h })
       kid-depth f {c} {c′} y h (as-entry t r e) q =
           let lt : c′ .idx < length (s .nodes) = omega (arith, entry-low (stateAt ns c) t r, ap (λ (x : Ty). x .idx) e) in
-          inl (omega (arith, q, ap (λ (x : Ty). x .idx) (find-added (s .nodes) (w .dest .nodes) (ok .ext) closed (ty false (c′ .idx))), closed .inside (ty false (c′ .idx)) lt))
+          let f = find-added (s .nodes) (w .dest .nodes) (ok .ext) closed (ty false (c′ .idx)) in
+          inl (omega (arith, q, ap (λ (x : Ty). x .idx) f, closed .inside (ty false (c′ .idx)) lt))
       kid-depth f y h (lost l) q = absurd (true≢false (sym l ∙ miss))
 
       step : (f a y : ℕ) → length (s .nodes) ≤ a → Deep (suc f) a → Kid (view (w .dest .nodes)) a y → (y < length (s .nodes)) ⊎ Deep f y
@@ -189,14 +196,22 @@ module _ (ns : List Node) (ps : Option (List Ty)) (s : Store) (w : Work) (ok : O
       step f a y p d c =
           let l = copy-filled (d .root) a (d .maps) in
           let m = known-mem (stateOf (at (w .dest .nodes) a)) (c .state) (c .kid) (c .mem) in
-          let z = became-source (l .became) (c .kid) (copy-mem (stateOf (at ns (d .root))) (l .kids) (c .kid) (subst (λ (x : Node). List·Memᴰ (c .kid) (kidsOf (stateOf x))) (l .node) m)) in
+          let z = became-source (l .became) (c .kid)
+          (copy-mem (stateOf (at ns (d .root))) (l .kids) (c .kid) (subst (λ (x : Node). List·Memᴰ (c .kid) (kidsOf (stateOf x))) (l .node) m)) in
           kid-depth f y (all-mem (λ (x : Ty). falls f ns (find ns x .idx)) (kidsOf (stateOf (at ns (d .root)))) (z .0) (z .1) (d .falling)) (z .2) (c .to)
 
       -- no cycle
       pub copies-good : Source ns → Good (view (s .nodes)) → Good (view (w .dest .nodes))
       unfolding view
-      copies-good src good = good-added (s .nodes) (w .dest .nodes) (ok .ext) closed good Deep no-depth step (λ a p i k e. deep a p i k e (decLt a (length (w .dest .nodes))))
+      copies-good src good = good-added (s .nodes) (w .dest .nodes) (ok .ext) closed good Deep no-depth step
+          (λ a p i k e. deep a p i k e (decLt a (length (w .dest .nodes))))
         where
-          deep : (a : ℕ) → length (s .nodes) ≤ a → (i : Bool) (k : Kind) → seen (stateOf (at (w .dest .nodes) a)) ≡ known i k → Dec (a < length (w .dest .nodes)) → (f : ℕ) × Deep f a
-          deep a p i k e (yes q) = let c = new-copy a p q in (length ns, record { root = c .0; maps = c .1; falling = src .falling (c .0) (ok .below (c .0) a (c .1)) })
-          deep a p i k e (no q) = let h : seen (Unknown NONE) ≡ known i k = sym (ap (λ (x : Node). seen (stateOf x)) (at-end (w .dest .nodes) a (omega arith))) ∙ e in let z : _≡_ {A = ℕ} 0 1 = cc in absurd (omega arith)
+          deep : (a : ℕ) → length (s .nodes) ≤ a → (i : Bool) (k : Kind) → seen (stateOf (at (w .dest .nodes) a)) ≡ known i k
+              → Dec (a < length (w .dest .nodes)) → (f : ℕ) × Deep f a
+          deep a p i k e (yes q) =
+              let c = new-copy a p q in
+              (length ns, record { root = c .0; maps = c .1; falling = src .falling (c .0) (ok .below (c .0) a (c .1)) })
+          deep a p i k e (no q) =
+              let h : seen (Unknown NONE) ≡ known i k = sym (ap (λ (x : Node). seen (stateOf x)) (at-end (w .dest .nodes) a (omega arith))) ∙ e in
+              let z : _≡_ {A = ℕ} 0 1 = cc in
+              absurd (omega arith)

@@ -126,7 +126,12 @@ module _ (ns : List Node) (ps : Option (List Ty)) where
         b = many g (g w t .work) ts
 
         glue : Post os w t (g w t) → PostAll os (g w t .work) ts b → PostAll os w (t ∷ ts) (record { work = b .work; types = g w t .type ∷ b .types })
-        glue p p′ = record { ok = p′ .ok; later = later-trans (p .later) (p′ .later); became = bcons (became-later (p′ .later) (p .became)) (p′ .became); reach = reach }
+        glue p p′ = record {
+          ok = p′ .ok;
+          later = later-trans (p .later) (p′ .later);
+          became = bcons (became-later (p′ .later) (p .became)) (p′ .became);
+          reach = reach;
+        }
           where
             first : (r n : ℕ) → Maps (w .mapping) r n ⊎ Reach r t → Maps (w .mapping) r n ⊎ ((u : Ty) × List·Memᴰ u (t ∷ ts) × Reach r u)
             first r n (inl m) = inl m
@@ -147,7 +152,11 @@ module _ (ns : List Node) (ps : Option (List Ty)) where
     begun-ok : (os : List ℕ) (w : Work) (r : ℕ) (st : State) → stateOf (at ns r) ≡ st → r < length ns → replaced ps st ≡ keep → copyOf (w .mapping) r ≡ none
         → Ok os w → Ok (length (w .dest .nodes) ∷ os) (begun w r st)
     begun-ok os w r st e lt k c ok = record {
-      ext = record { len = omega (arith, grown, ok .ext .len); old = λ n q. old n (omega (arith, ok .ext .len)) ∙ ok .ext .old n q; new = λ n q p. new n q (ℕ-discrete n (length d)) p };
+      ext = record {
+        len = omega (arith, grown, ok .ext .len);
+        old = λ n q. old n (omega (arith, ok .ext .len)) ∙ ok .ext .old n q;
+        new = λ n q p. new n q (ℕ-discrete n (length d)) p;
+      };
       tally = tcons c (ok .len) (ok .tally);
       len = omega (arith, grown, ok .len);
       full = full;
@@ -282,7 +291,8 @@ module _ (ns : List Node) (ps : Option (List Ty)) where
           let m : Maps ((r, n) ∷ w .mapping) r n = List·Memᴰ·head refl in
           let f : Filled (begun w r st) r n = record {
             kids = [];
-            node = getD-append-seam (w .dest .nodes) (Root (Unknown (spanOf st)) 1) [] (Root (Unknown NONE) 0) ∙ ap (λ (x : State). Root x 1) (sym u ∙ ap (λ (x : State). copyState x []) (sym e));
+            node = getD-append-seam (w .dest .nodes) (Root (Unknown (spanOf st)) 1) [] (Root (Unknown NONE) 0)
+                ∙ ap (λ (x : State). Root x 1) (sym u ∙ ap (λ (x : State). copyState x []) (sym e));
             became = subst (λ (xs : List Ty). BecameAll (begun w r st) xs []) (sym z ∙ ap kidsOf (sym e)) bnil;
           } in
           record {
@@ -298,7 +308,8 @@ module _ (ns : List Node) (ps : Option (List Ty)) where
 
       known-ok : (i : Bool) (k : Kind) → stateAt ns t ≡ Known i k → replaced ps (Known i k) ≡ keep
           → copyOf (w .mapping) (find ns t .idx) ≡ none → Post os w t (copied g w (find ns t) (Known i k))
-      known-ok i k e kp c = fill (many-ok g Q ih (n ∷ os) w₁ (k .kids) (begun-ok os w r (Known i k) e lt kp c ok) (λ x m. kids x (subst (λ (st : State). List·Memᴰ x (kidsOf st)) (sym e) m)))
+      known-ok i k e kp c = fill (many-ok g Q ih (n ∷ os) w₁ (k .kids) (begun-ok os w r (Known i k) e lt kp c ok)
+          (λ x m. kids x (subst (λ (st : State). List·Memᴰ x (kidsOf st)) (sym e) m)))
         where
           r : ℕ
           r = find ns t .idx
@@ -322,8 +333,10 @@ module _ (ns : List Node) (ps : Option (List Ty)) where
               let hi : n < length (b .work .dest .nodes) = omega (arith, h .1, p .ok .len) in
               let f : Filled (ended (b .work) n st) r n = record {
                 kids = b .types;
-                node = getD-set-same (b .work .dest .nodes) n (Root st 1) (Root (Unknown NONE) 0) hi ∙ ap (λ (x : State). Root (copyState x (b .types)) 1) (sym e);
-                became = subst (λ (x : State). BecameAll (ended (b .work) n st) (kidsOf x) (b .types)) (sym e) (became-all-later (ended-later (b .work) n st) (p .became));
+                node = getD-set-same (b .work .dest .nodes) n (Root st 1) (Root (Unknown NONE) 0) hi
+                    ∙ ap (λ (x : State). Root (copyState x (b .types)) 1) (sym e);
+                became = subst (λ (x : State). BecameAll (ended (b .work) n st) (kidsOf x) (b .types)) (sym e)
+                    (became-all-later (ended-later (b .work) n st) (p .became));
               } in
               record {
                 ok = shut os (ended (b .work) n st) r n m f (ended-ok os (b .work) n st (h .0) hi (p .ok));
@@ -355,7 +368,12 @@ module _ (ns : List Node) (ps : Option (List Ty)) where
 
       place-ok : (st : State) → stateAt ns t ≡ st → (o : Option ℕ) → copyOf (w .mapping) (find ns t .idx) ≡ o
           → Post os w t (place g w (find ns t) st (replaced ps st) o)
-      place-ok st e (some n) q = record { ok = ok; later = later-refl w; became = as-copy n (copy-maps (w .mapping) (find ns t .idx) n q) refl; reach = λ r a m. inl m }
+      place-ok st e (some n) q = record {
+        ok = ok;
+        later = later-refl w;
+        became = as-copy n (copy-maps (w .mapping) (find ns t .idx) n q) refl;
+        reach = λ r a m. inl m;
+      }
       place-ok st e none q = fresh-ok st e (replaced ps st) refl q
 
     -- a type of the source, and f levels are enough

@@ -16,7 +16,7 @@ use Rattle.scope.specs.Types.{Ty}
 use Rattle.scope.specs.Nodes.{Node, Store, at, stateOf, stateAt, find, kidsOf}
 use Rattle.scope.specs.Sound.{falls}
 use Rattle.scope.specs.Import.{Work, copyOf, Replaced, keep, missing-entry, entry, replaced, start, import, reachesState, reaches, copies}
-use Rattle.scope.proofs.Added.{Extends}
+use Rattle.scope.proofs.Added.{Extends, extends-tail}
 use Rattle.scope.proofs.Mapping.{held, Tally, tnil, tcons, Maps, copy-maps, copy-none}
 use Rattle.scope.proofs.Copy.{Source, all-mem, Reach, here, below, Became, as-copy, as-entry, lost, Ok, PostAll, import-ok}
 use Rattle.scope.proofs.Copies.{not-keep, became-of, became-length, copy-kids, copy-filled}
@@ -25,7 +25,8 @@ any-mem : (p : Ty → Bool) (xs : List Ty) → any p xs ≡ true → (x : Ty) ×
 any-mem p [] e = absurd (false≢true e)
 any-mem p (y ∷ ys) e = go (p y) refl e (any-mem p ys)
   where
-    go : (b : Bool) → p y ≡ b → (b || any p ys) ≡ true → (any p ys ≡ true → (x : Ty) × List·Memᴰ x ys × (p x ≡ true)) → (x : Ty) × List·Memᴰ x (y ∷ ys) × (p x ≡ true)
+    go : (b : Bool) → p y ≡ b → (b || any p ys) ≡ true → (any p ys ≡ true → (x : Ty) × List·Memᴰ x ys × (p x ≡ true))
+        → (x : Ty) × List·Memᴰ x (y ∷ ys) × (p x ≡ true)
     go true q e ih = (y, List·Memᴰ·head refl, q)
     go false q e ih = let z = ih e in (z .0, List·Memᴰ·tail (z .1), z .2)
 
@@ -78,11 +79,13 @@ module _ (ns : List Node) (ps : Option (List Ty)) (n : ℕ) where
       or-right false h = h
 
   -- what is reached was copied
-  reach-maps : (s : Store) (w : Work) → Ok ns ps s [] w → w .missing ≡ false → {t t′ : Ty} → Reach ns ps n t → Became ns ps w t t′ → (m : ℕ) × Maps (w .mapping) n m
+  reach-maps : (s : Store) (w : Work) → Ok ns ps s [] w → w .missing ≡ false → {t t′ : Ty} → Reach ns ps n t → Became ns ps w t t′
+      → (m : ℕ) × Maps (w .mapping) n m
   reach-maps s w ok miss (here k q) (as-copy m p e) = (m, subst (λ (r : ℕ). Maps (w .mapping) r m) q p)
   reach-maps s w ok miss (here k q) (as-entry u h e) = absurd (not-keep (sym h ∙ k))
   reach-maps s w ok miss (here k q) (lost h) = absurd (true≢false (sym h ∙ miss))
-  reach-maps s w ok miss {t} (below c k x r) (as-copy m p e) = reach-maps s w ok miss r (became-of (copy-filled ns ps s w ok (find ns t .idx) m p .became) c x .1)
+  reach-maps s w ok miss {t} (below c k x r) (as-copy m p e) = reach-maps s w ok miss r
+      (became-of (copy-filled ns ps s w ok (find ns t .idx) m p .became) c x .1)
   reach-maps s w ok miss (below c k x r) (as-entry u h e) = absurd (not-keep (sym h ∙ k))
   reach-maps s w ok miss (below c k x r) (lost h) = absurd (true≢false (sym h ∙ miss))
 
@@ -177,10 +180,15 @@ unfolding kidsIn
 kids-new [] ns′ k x e = let q : length ns′ ≡ k = omega arith in omega (arith, kids-all ns′, ap (total (kidsAt ns′) 0) q)
 kids-new (n ∷ ns) [] k x e = absurd (omega arith)
 kids-new (n ∷ ns) (n′ ∷ ns′) k x e =
-    let x′ : Extends ns ns′ = record { len = omega (arith, x .len); old = λ m q. x .old (suc m) (omega arith); new = λ m q p. x .new (suc m) (omega arith) (omega arith) } in
-    omega (arith, kids-new ns ns′ k x′ (omega arith), total-next (kidsAt (n′ ∷ ns′)) (length ns) k, ap (λ (z : Node). length (kidsOf (stateOf z))) (x .old 0 (omega arith)))
+    omega (
+      arith,
+      kids-new ns ns′ k (extends-tail x) (omega arith),
+      total-next (kidsAt (n′ ∷ ns′)) (length ns) k,
+      ap (λ (z : Node). length (kidsOf (stateOf z))) (x .old 0 (omega arith)),
+    )
 
-tally-held : (ns ns′ : List Node) {b : ℕ} {l : List (ℕ × ℕ)} → Tally b l → ((r n : ℕ) → Maps l r n → kidsAt ns′ n ≡ kidsAt ns r) → held ns l ≡ total (kidsAt ns′) b (length l)
+tally-held : (ns ns′ : List Node) {b : ℕ} {l : List (ℕ × ℕ)} → Tally b l → ((r n : ℕ) → Maps l r n → kidsAt ns′ n ≡ kidsAt ns r)
+    → held ns l ≡ total (kidsAt ns′) b (length l)
 tally-held ns ns′ tnil h = refl
 tally-held ns ns′ (tcons {p = p} {l = l} f q t) h =
     omega (arith, h (p .0) (p .1) (List·Memᴰ·head refl), ap (kidsAt ns′) q, tally-held ns ns′ t (λ r n m. h r n (List·Memᴰ·tail m)))

@@ -60,7 +60,8 @@ pub record Alike (e : Env) (ns : List Node) (ps : Option (List Ty)) (w : Work) (
 module _ {e : Env} {ns : List Node} {ps : Option (List Ty)} {w : Work} {v u : Val} (miss : w .missing ≡ false) (a : Alike e ns ps w v u) where
   became-val : {c c′ : Ty} → Became ns ps w c c′ → val e u c′ ≡ val e v c
   became-val {c} (as-copy n m q) = ap (val e u) q ∙ ap (invertIf e (find ns c .inv)) (a .copy (find ns c .idx) n m) ∙ sym (a .leads c)
-  became-val {c} (as-entry t k q) = ap (val e u) q ∙ val-flip e u (find ns c .inv) t ∙ ap (invertIf e (find ns c .inv)) (a .entries (find ns c .idx) t k) ∙ sym (a .leads c)
+  became-val {c} (as-entry t k q) = ap (val e u) q ∙ val-flip e u (find ns c .inv) t
+      ∙ ap (invertIf e (find ns c .inv)) (a .entries (find ns c .idx) t k) ∙ sym (a .leads c)
   became-val (lost h) = absurd (true≢false (sym h ∙ miss))
 
   -- types that were moved have the trees that they had
@@ -95,7 +96,8 @@ pub record Copied (e : Env) (v u : Val) (s : Store) (ts : List Ty) (m : MovedAll
   pub types : vals e trees (m .types) ≡ vals e v ts
 
 module _ (e : Env) (v u : Val) (ns : List Node) (ps : Option (List Ty)) (s : Store) (w : Work) (ok : Ok ns ps s [] w) (miss : w .missing ≡ false)
-    (low : (t : Ty) → List·Memᴰ t (importList ps) → t .idx < length (s .nodes)) (closed : Closed (s .nodes)) (fv : FitsKept e v ns ps) (fu : Fits e u (s .nodes))
+    (low : (t : Ty) → List·Memᴰ t (importList ps) → t .idx < length (s .nodes)) (closed : Closed (s .nodes))
+    (fv : FitsKept e v ns ps) (fu : Fits e u (s .nodes))
     (entries : (r : ℕ) (t : Ty) → replaced ps (stateOf (at ns r)) ≡ entry t → val e u t ≡ v r) where
   treeAt : (n : ℕ) → Dec (n < length (s .nodes)) → Dec (n < length (w .dest .nodes)) → Tree
   treeAt n (yes p) d = u n
@@ -139,12 +141,14 @@ module _ (e : Env) (v u : Val) (ns : List Node) (ps : Option (List Ty)) (s : Sto
   }
 
   grown-fits : Fits e grown (w .dest .nodes)
-  grown-fits = fits-added e grown (s .nodes) (w .dest .nodes) (ok .ext) .1 (fits-inside e u grown (s .nodes) closed grown-old fu, λ n q. new n q (decLt n (length (w .dest .nodes))))
+  grown-fits = fits-added e grown (s .nodes) (w .dest .nodes) (ok .ext) .1
+      (fits-inside e u grown (s .nodes) closed grown-old fu, λ n q. new n q (decLt n (length (w .dest .nodes))))
     where
       new : (n : ℕ) → length (s .nodes) ≤ n → Dec (n < length (w .dest .nodes)) → NodeFits e grown n (at (w .dest .nodes) n)
       new n p (yes q) =
           let c = new-copy ns ps s w ok n p q in
-          copy-fits miss grown-alike (c .0) n (c .1) (copy-filled ns ps s w ok (c .0) n (c .1)) .1 (node-state e v (c .0) (at ns (c .0)) (fv (c .0) (ok .kept (c .0) n (c .1))))
+          copy-fits miss grown-alike (c .0) n (c .1) (copy-filled ns ps s w ok (c .0) n (c .1)) .1
+          (node-state e v (c .0) (at ns (c .0)) (fv (c .0) (ok .kept (c .0) n (c .1))))
       new n p (no q) = subst (NodeFits e grown n) (sym (at-end (w .dest .nodes) n (omega arith))) tt
 
   pub copied : (ts : List Ty) (m : MovedAll) → m .work ≡ w → BecameAll ns ps w ts (m .types) → Copied e v u s ts m

@@ -36,7 +36,8 @@ unfolding copyOf
 copy-none [] r n m e = List·Memᴰ·not-nil m
 copy-none (p ∷ l) r n m e = go (eqb (p .0) r) refl e (copy-none l r n) (List·Memᴰ·cases-cons m)
   where
-    go : (b : Bool) → eqb (p .0) r ≡ b → pick b (some (p .1)) (copyOf l r) ≡ none → (Maps l r n → copyOf l r ≡ none → ⊥) → (_≡_ {A = ℕ × ℕ} (r, n) p) ⊎ Maps l r n → ⊥
+    go : (b : Bool) → eqb (p .0) r ≡ b → pick b (some (p .1)) (copyOf l r) ≡ none → (Maps l r n → copyOf l r ≡ none → ⊥)
+        → (_≡_ {A = ℕ × ℕ} (r, n) p) ⊎ Maps l r n → ⊥
     go true q e ih m = let z : _≡_ {A = ℕ} 0 1 = cc in omega arith
     go false q e ih (inl h) = eqb-false (p .0) r q (sym (ap (λ (z : ℕ × ℕ). z .0) h))
     go false q e ih (inr m) = ih m e

@@ -34,12 +34,14 @@ all-run p i (suc n) e j a b =
     go (no q) h ih = ih (omega arith)
 
 -- parents in the store, and a root within f steps
-climb-inside : (ns : List Node) → ((n : ℕ) (t : Ty) → at ns n ≡ Child t → t .idx < length ns) → (f : ℕ) (t : Ty) → t .idx < length ns → climb f ns t .idx < length ns
+climb-inside : (ns : List Node) → ((n : ℕ) (t : Ty) → at ns n ≡ Child t → t .idx < length ns) → (f : ℕ) (t : Ty) → t .idx < length ns
+    → climb f ns t .idx < length ns
 unfolding climb
 climb-inside ns par zero t h = h
 climb-inside ns par (suc f) t h = go (at ns (t .idx)) refl (λ u q. climb-inside ns par f (flip (t .inv) u) q)
   where
-    go : (n : Node) → at ns (t .idx) ≡ n → ((u : Ty) → u .idx < length ns → climb f ns (flip (t .inv) u) .idx < length ns) → hop n (climb f ns) t .idx < length ns
+    go : (n : Node) → at ns (t .idx) ≡ n → ((u : Ty) → u .idx < length ns → climb f ns (flip (t .inv) u) .idx < length ns)
+        → hop n (climb f ns) t .idx < length ns
     go (Root st z) q ih = h
     go (Child u) q ih = ih u (par (t .idx) u q)
 
@@ -48,7 +50,8 @@ unfolding climb rooted
 rooted-root ns zero t h = h
 rooted-root ns (suc f) t h = go (at ns (t .idx)) refl h (λ u. rooted-root ns f (flip (t .inv) u))
   where
-    go : (n : Node) → at ns (t .idx) ≡ n → rootedNode (rooted f ns) n ≡ true → ((u : Ty) → rooted f ns (u .idx) ≡ true → isRoot (at ns (climb f ns (flip (t .inv) u) .idx)) ≡ true)
+    go : (n : Node) → at ns (t .idx) ≡ n → rootedNode (rooted f ns) n ≡ true
+        → ((u : Ty) → rooted f ns (u .idx) ≡ true → isRoot (at ns (climb f ns (flip (t .inv) u) .idx)) ≡ true)
         → isRoot (at ns (hop n (climb f ns) t .idx)) ≡ true
     go (Root st z) q h ih = ap isRoot q
     go (Child u) q h ih = ih u h
