@@ -22,8 +22,8 @@ use Rattle.scope.specs.Calls.{importList}
 use Rattle.scope.proofs.View.{known, Kid, Good, seen, view}
 use Rattle.scope.proofs.PlanLaws.{Makeable}
 use Rattle.scope.proofs.Added.{Closed, at-end, find-added, find-new, closed-added, good-added}
-use Rattle.scope.proofs.Mapping.{Maps, tally-range, tally-onto}
-use Rattle.scope.proofs.Copy.{copyState, Source, all-mem, below, Became, as-copy, as-entry, lost, BecameAll, bnil, bcons, Filled, Ok}
+use Rattle.scope.proofs.Mapping.{Source, all-mem, Maps, tally-range, tally-onto}
+use Rattle.scope.proofs.Copy.{copyState, below, Became, as-copy, as-entry, lost, BecameAll, bnil, bcons, Filled, Ok}
 
 pub not-keep : {t : Ty} → entry t ≡ keep → ⊥
 not-keep {t} e = let z : _≡_ {A = ℕ} 0 1 = cc in omega arith

@@ -2,7 +2,7 @@
 -- is not still open is a copy. Assumes nothing.
 use mathlib.Core.Path.{_≡_, refl, sym, ap, subst, _∙_}
 use mathlib.Core.List.{List, [], _∷_, List·Memᴰ, List·Memᴰ·head, List·Memᴰ·tail, List·Memᴰ·not-nil, List·Memᴰ·cases-cons}
-use mathlib.Core.Bool.{Bool, true, false≢true, and-eq-true-iff}
+use mathlib.Core.Bool.{Bool, true, false≢true}
 use mathlib.Core.Option.{Option, none, some}
 use mathlib.Core.Logic.{_⊎_, inl, inr}
 use Prim.Native.Nat.{ℕ, zero, suc, _+_, _≤_, _<_}
@@ -10,7 +10,6 @@ use native.Mathlib.Omega.{arith}
 use native.Mathlib.Decide.{ℕ-discrete}
 use lib.ListN.{length, set, length-append, length-set, List·getD-append}
 use lib.Seq.{getD-append-seam, getD-set-same, getD-set-other}
-use Rattle.scope.specs.Base.{all}
 use Rattle.scope.specs.Limits.{NONE}
 use Rattle.scope.specs.Types.{Ty, ty, flip}
 use Rattle.scope.specs.Nodes.{Kind, State, Known, Unknown, InferenceFailed, Node, Root, Store, at, stateOf, stateAt, find, kidsOf}
@@ -18,32 +17,13 @@ use Rattle.scope.specs.Make.{push}
 use Rattle.scope.specs.Sound.{falls}
 use Rattle.scope.specs.Import.{Work, Moved, MovedAll, copyOf, Replaced, keep, missing-entry, entry, replaced, spanOf, begun, ended, many, copied, lacking, fresh, place, transfer, start, import}
 use Rattle.scope.proofs.Added.{Extends}
-use Rattle.scope.proofs.Mapping.{held, Tally, tnil, tcons, Maps, copy-maps, tally-range, tally-uniq}
+use Rattle.scope.proofs.Mapping.{Rest, Source, all-mem, held, Tally, tnil, tcons, Maps, copy-maps, tally-range, tally-uniq}
 
 -- a root's state with its children moved
 abbrev pub copyState : State → List Ty → State
 copyState (Known i k) ts = Known i (record { head = k .head; kids = ts })
 copyState (Unknown p) ts = Unknown p
 copyState InferenceFailed ts = Unknown NONE
-
--- what an import changes no part of
-pub record Rest (s d : Store) : Type 0 where
-  pub nodeRoom : d .nodeRoom ≡ s .nodeRoom
-  pub childRoom : d .childRoom ≡ s .childRoom
-  pub error : d .error ≡ s .error
-  pub nil : d .nil ≡ s .nil
-  pub reports : d .reports ≡ s .reports
-
--- what is used of the source
-pub record Source (ns : List Node) : Type 0 where
-  pub inside : (t : Ty) → t .idx < length ns → find ns t .idx < length ns
-  pub kids : (r : ℕ) (c : Ty) → List·Memᴰ c (kidsOf (stateOf (at ns r))) → c .idx < length ns
-  pub falling : (r : ℕ) → r < length ns → falls (length ns) ns r ≡ true
-
-pub all-mem {ℓ} : {A : Type ℓ} (p : A → Bool) (xs : List A) (x : A) → List·Memᴰ x xs → all p xs ≡ true → p x ≡ true
-all-mem p [] x m e = absurd (List·Memᴰ·not-nil m)
-all-mem p (y ∷ ys) x (List·Memᴰ·head q) e = ap p q ∙ and-eq-true-iff (p y) (all p ys) .0 e .0
-all-mem p (y ∷ ys) x (List·Memᴰ·tail m) e = all-mem p ys x m (and-eq-true-iff (p y) (all p ys) .0 e .1)
 
 module _ (ns : List Node) (ps : Option (List Ty)) where
   -- the root n is copied because of a type

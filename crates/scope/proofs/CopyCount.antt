@@ -17,8 +17,8 @@ use Rattle.scope.specs.Nodes.{Node, Store, at, stateOf, stateAt, find, k
 use Rattle.scope.specs.Sound.{falls}
 use Rattle.scope.specs.Import.{Work, copyOf, Replaced, keep, missing-entry, entry, replaced, start, import, reachesState, reaches, copies}
 use Rattle.scope.proofs.Added.{Extends, extends-tail}
-use Rattle.scope.proofs.Mapping.{held, Tally, tnil, tcons, Maps, copy-maps, copy-none}
-use Rattle.scope.proofs.Copy.{Source, all-mem, Reach, here, below, Became, as-copy, as-entry, lost, Ok, PostAll, import-ok}
+use Rattle.scope.proofs.Mapping.{Source, all-mem, held, Tally, tnil, tcons, Maps, copy-maps, copy-none}
+use Rattle.scope.proofs.Copy.{Reach, here, below, Became, as-copy, as-entry, lost, Ok, PostAll, import-ok}
 use Rattle.scope.proofs.Copies.{not-keep, became-of, became-length, copy-kids, copy-filled}
 
 any-mem : (p : Ty → Bool) (xs : List Ty) → any p xs ≡ true → (x : Ty) × List·Memᴰ x xs × (p x ≡ true)
@@ -150,7 +150,7 @@ of-some l r m x = go (copyOf l r) refl
     go (some n) q = refl
 
 -- the children of a list of nodes
-pub kidsIn : List Node → ℕ
+unfoldable pub kidsIn : List Node → ℕ
 kidsIn [] = 0
 kidsIn (n ∷ ns) = length (kidsOf (stateOf n)) + kidsIn ns
 

@@ -18,8 +18,8 @@ use Rattle.scope.specs.Import.{Work, MovedAll, keep, entry, replaced, im
 use Rattle.scope.specs.Calls.{importList}
 use Rattle.scope.proofs.TreeLaws.{val-flip}
 use Rattle.scope.proofs.Added.{Closed, at-end, fits-added, fits-inside}
-use Rattle.scope.proofs.Mapping.{Maps, tally-uniq}
-use Rattle.scope.proofs.Copy.{copyState, Source, Became, as-copy, as-entry, lost, BecameAll, bnil, bcons, Filled, Ok, import-ok}
+use Rattle.scope.proofs.Mapping.{Source, Maps, tally-uniq}
+use Rattle.scope.proofs.Copy.{copyState, Became, as-copy, as-entry, lost, BecameAll, bnil, bcons, Filled, Ok, import-ok}
 use Rattle.scope.proofs.Copies.{entry-low, copy-filled, copy-new, new-copy}
 
 -- trees fit the source where no entry replaces a Param

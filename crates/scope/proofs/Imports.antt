@@ -13,8 +13,8 @@ use Rattle.scope.specs.Calls.{importList}
 use Rattle.scope.specs.Demand.{sizes}
 use Rattle.scope.proofs.View.{Good, view}
 use Rattle.scope.proofs.Added.{Extends, Closed, sizes-added}
-use Rattle.scope.proofs.Mapping.{Maps}
-use Rattle.scope.proofs.Copy.{Rest, Source, Filled, import-ok}
+use Rattle.scope.proofs.Mapping.{Rest, Source, Maps}
+use Rattle.scope.proofs.Copy.{Filled, import-ok}
 use Rattle.scope.proofs.Copies.{After, became-length, copy-filled, new-copy, new-kind, types-inside, copies-closed, copies-good}
 use Rattle.scope.proofs.CopyCount.{kidsIn, import-nodes, import-children}
 

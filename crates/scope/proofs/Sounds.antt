@@ -15,8 +15,8 @@ use Rattle.scope.specs.Kinds.{makeable, defined, flagIs}
 use Rattle.scope.specs.Nodes.{Kind, Known, Unknown, InferenceFailed, Node, Root, Child, Store, at, stateOf, isRoot, hop, climb, find, kidsOf}
 use Rattle.scope.specs.Sound.{inStore, rootedNode, rooted, falls, sizeIs, kindSound, nodeSound, remembered, roomSound, shapeSound, soundStore}
 use Rattle.scope.proofs.PlanLaws.{Makeable}
+use Rattle.scope.proofs.Mapping.{Source, all-mem}
 use Rattle.scope.proofs.Added.{Closed}
-use Rattle.scope.proofs.Copy.{Source, all-mem}
 
 all-at : (p : Node → Bool) (ns : List Node) (d : Node) → p d ≡ true → all p ns ≡ true → (n : ℕ) → p (getD ns n d) ≡ true
 all-at p [] d h e n = h
