@@ -1,7 +1,7 @@
 -- New roots behind a store's nodes: every old node, its root and what fits it stay, and there is no cycle if the new ones have a depth. Assumes
 -- nothing.
-use mathlib.Core.Path.{_≡_, refl, sym, ap, subst, _∙_}
-use mathlib.Core.List.{List, [], _∷_, List·Memᴰ}
+use mathlib.Core.Path.{_≡_, refl, sym, ap, ap₂, subst, _∙_}
+use mathlib.Core.List.{List, [], _∷_, List·Memᴰ, List·Memᴰ·head, List·Memᴰ·tail}
 use mathlib.Core.Bool.{Bool, true, false, false≢true}
 use mathlib.Core.Logic.{_⊎_, inl, inr, _↔_}
 use Prim.Native.Nat.{ℕ, zero, suc, _+_, _≤_, _<_}
@@ -12,7 +12,7 @@ use Rattle.scope.specs.Limits.{NONE}
 use Rattle.scope.specs.Chart.{Env}
 use Rattle.scope.specs.Types.{Ty, ty, flip}
 use Rattle.scope.specs.Nodes.{Kind, State, Known, Unknown, InferenceFailed, Node, Root, Child, at, stateOf, sizeOf, isRoot, hop, climb, find, kidsOf}
-use Rattle.scope.specs.Trees.{Val, NodeFits, Fits}
+use Rattle.scope.specs.Trees.{node, Forest, fcons, treeHead, Val, invertIf, val, vals, build, StateFits, NodeFits, Fits}
 use Rattle.scope.specs.Demand.{sizes}
 use Rattle.scope.proofs.View.{known, Kid, Fin, fin, Good, seen, view}
 
@@ -66,19 +66,28 @@ climb-alike ns ns′ h (suc f) t = go (h (t .idx)) (λ u. climb-alike ns ns′ h
     same (Root st z) ih = refl
     same (Child u) ih = ih (flip (t .inv) u)
 
-    go : Alike (at ns (t .idx)) (at ns′ (t .idx)) → ((u : Ty) → climb f ns u ≡ climb f ns′ u) → hop (at ns (t .idx)) (climb f ns) t ≡ hop (at ns′ (t .idx)) (climb f ns′) t
+    go : Alike (at ns (t .idx)) (at ns′ (t .idx)) → ((u : Ty) → climb f ns u ≡ climb f ns′ u)
+        → hop (at ns (t .idx)) (climb f ns) t ≡ hop (at ns′ (t .idx)) (climb f ns′) t
     go (inl q) ih = hop-root (at ns (t .idx)) (climb f ns) t (q .0) ∙ sym (hop-root (at ns′ (t .idx)) (climb f ns′) t (q .1))
     go (inr q) ih = same (at ns (t .idx)) ih ∙ ap (λ (n : Node). hop n (climb f ns′) t) q
+
+pub extends-tail : {n n′ : Node} {ns ns′ : List Node} → Extends (n ∷ ns) (n′ ∷ ns′) → Extends ns ns′
+extends-tail x = record {
+  len = omega (arith, x .len);
+  old = λ m q. x .old (suc m) (omega arith);
+  new = λ m q p. x .new (suc m) (omega arith) (omega arith);
+}
 
 -- root sizes: one more for each new node
 pub sizes-added : (ns ns′ : List Node) → Extends ns ns′ → sizes ns′ + length ns ≡ sizes ns + length ns′
 unfolding sizes
 sizes-added [] [] x = refl
 sizes-added [] (n ∷ ns′) x =
-    omega (arith, ap sizeOf (x .new 0 (omega arith) (omega arith) .1), sizes-added [] ns′ (record { len = omega arith; old = λ m q. absurd (omega arith); new = λ m q p. x .new (suc m) (omega arith) (omega arith) }))
+    let x′ : Extends [] ns′ = record { len = omega arith; old = λ m q. absurd (omega arith); new = λ m q p. x .new (suc m) (omega arith) (omega arith) } in
+    omega (arith, ap sizeOf (x .new 0 (omega arith) (omega arith) .1), sizes-added [] ns′ x′)
 sizes-added (n ∷ ns) [] x = absurd (omega (arith, x .len))
 sizes-added (n ∷ ns) (n′ ∷ ns′) x =
-    omega (arith, ap sizeOf (x .old 0 (omega arith)), sizes-added ns ns′ (record { len = omega (arith, x .len); old = λ m q. x .old (suc m) (omega arith); new = λ m q p. x .new (suc m) (omega arith) (omega arith) }))
+    omega (arith, ap sizeOf (x .old 0 (omega arith)), sizes-added ns ns′ (extends-tail x))
 
 -- trees fit afterwards exactly if they fitted before and fit each new node
 pub fits-added : (e : Env) (v : Val) (ns ns′ : List Node) → Extends ns ns′
@@ -92,6 +101,31 @@ fits-added e v ns ns′ x = (λ f. (λ n. to f n (decLt n (length ns)), λ n q. 
     back : (Fits e v ns × ((n : ℕ) → length ns ≤ n → NodeFits e v n (at ns′ n))) → (n : ℕ) → Dec (n < length ns) → NodeFits e v n (at ns′ n)
     back f n (yes q) = subst (NodeFits e v n) (sym (x .old n q)) (f .0 n)
     back f n (no q) = f .1 n (omega arith)
+
+-- trees that differ only past the end fit alike
+pub fits-inside : (e : Env) (v w : Val) (ns : List Node) → Closed ns → ((n : ℕ) → n < length ns → w n ≡ v n) → Fits e v ns → Fits e w ns
+unfolding build
+fits-inside e v w ns ok same f n = go (decLt n (length ns))
+  where
+    val-same : (t : Ty) → t .idx < length ns → val e w t ≡ val e v t
+    val-same t q = ap (invertIf e (t .inv)) (same (t .idx) q)
+
+    vals-same : (ts : List Ty) → ((t : Ty) → List·Memᴰ t ts → t .idx < length ns) → vals e w ts ≡ vals e v ts
+    vals-same [] h = refl
+    vals-same (t ∷ ts) h = ap₂ fcons (val-same t (h t (List·Memᴰ·head refl))) (vals-same ts (λ u m. h u (List·Memᴰ·tail m)))
+
+    state : (st : State) → ((c : Ty) → List·Memᴰ c (kidsOf st) → c .idx < length ns) → n < length ns → StateFits e v st (v n) → StateFits e w st (w n)
+    state (Known i k) h q g = same n q ∙ g ∙ ap (λ (ts : Forest). invertIf e i (node (treeHead (e .texts) (k .head)) false ts)) (sym (vals-same (k .kids) h))
+    state (Unknown p) h q g = tt
+    state InferenceFailed h q g = tt
+
+    inner : (x : Node) → at ns n ≡ x → n < length ns → NodeFits e v n x → NodeFits e w n x
+    inner (Root st z) q lt g = state st (λ c m. ok .kids n c (subst (λ (y : Node). List·Memᴰ c (kidsOf (stateOf y))) (sym q) m)) lt g
+    inner (Child t) q lt g = same n lt ∙ g ∙ sym (val-same t (ok .parents n t q))
+
+    go : Dec (n < length ns) → NodeFits e w n (at ns n)
+    go (yes q) = inner (at ns n) refl q (f n)
+    go (no q) = subst (NodeFits e w n) (sym (at-end ns n (omega arith))) tt
 
 module _ (ns ns′ : List Node) (x : Extends ns ns′) (ok : Closed ns) where
   root-end : (n : ℕ) → length ns ≤ n → isRoot (at ns′ n) ≡ true
@@ -150,7 +184,7 @@ module _ (ns ns′ : List Node) (x : Extends ns ns′) (ok : Closed ns) where
       parents n t e (no h) = absurd (false≢true (sym (ap isRoot e) ∙ root-end n (omega arith)))
 
   -- an old root's children
-  pub kid-old : {a y : ℕ} → a < length ns → Kid (view ns′) a y → Kid (view ns) a y
+  kid-old : {a y : ℕ} → a < length ns → Kid (view ns′) a y → Kid (view ns) a y
   unfolding view
   kid-old {a} q c = record {
     inv = c .inv;
@@ -162,7 +196,7 @@ module _ (ns ns′ : List Node) (x : Extends ns ns′) (ok : Closed ns) where
     to = ap (λ (t : Ty). t .idx) (sym (find-added (ty false (c .kid .idx)))) ∙ c .to;
   }
 
-  pub kid-low : {a y : ℕ} → Kid (view ns) a y → y < length ns
+  kid-low : {a y : ℕ} → Kid (view ns) a y → y < length ns
   unfolding view
   kid-low {a} {y} c = subst (λ (z : ℕ). z < length ns) (c .to) (ok .inside (ty false (c .kid .idx)) (ok .kids a (c .kid) (mem (stateOf (at ns a)) (c .state))))
     where

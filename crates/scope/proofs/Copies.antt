@@ -2,28 +2,28 @@
 -- `copies` counts, with as many children. Assumes nothing.
 use mathlib.Core.Path.{_≡_, refl, sym, ap, subst, _∙_}
 use mathlib.Core.List.{List, [], _∷_, List·Memᴰ, List·Memᴰ·head, List·Memᴰ·tail, List·Memᴰ·not-nil}
-use mathlib.Core.Bool.{Bool, true, false, not, _&&_, _||_, true≢false, false≢true}
+use mathlib.Core.Bool.{Bool, true, false, true≢false, false≢true}
 use mathlib.Core.Option.{Option, none, some}
 use mathlib.Core.Logic.{_⊎_, inl, inr}
-use Prim.Native.Nat.{ℕ, zero, suc, _+_, _≤_, _<_}
-use native.Mathlib.Nat.{suc-add, zero-add}
+use Prim.Native.Nat.{ℕ, zero, suc, _≤_, _<_}
 use native.Mathlib.Omega.{arith}
-use native.Mathlib.Decide.{ℕ-discrete, decLt}
+use native.Mathlib.Decide.{decLt}
 use lib.Dec.{eqb}
 use lib.ListN.{length, getElem?}
-use borrow.Author.Tests.{eqb-true, eqb-false, eq-eqb, ne-eqb}
-use Rattle.scope.specs.Base.{pick, any, count, from, isSome}
+use Rattle.scope.specs.Base.{pick, from}
 use Rattle.scope.specs.Limits.{NONE}
+use Rattle.scope.specs.Chart.{Env}
 use Rattle.scope.specs.Types.{Ty, ty, flip}
-use Rattle.scope.specs.Kinds.{Head, PARAM}
-use Rattle.scope.specs.Nodes.{Kind, State, Known, Unknown, InferenceFailed, Node, Root, Child, Store, at, stateOf, find, kidsOf}
+use Rattle.scope.specs.Kinds.{PARAM}
+use Rattle.scope.specs.Nodes.{Kind, State, Known, Unknown, InferenceFailed, Node, Store, at, stateOf, stateAt, find, kidsOf}
 use Rattle.scope.specs.Sound.{falls}
-use Rattle.scope.specs.Import.{Work, MovedAll, copyOf, Replaced, keep, missing-entry, entry, entryAt, paramOf, replaced, start, import, reachesState, reaches, copies}
+use Rattle.scope.specs.Import.{Work, keep, entry, entryAt, replaced, import, copies}
 use Rattle.scope.specs.Calls.{importList}
 use Rattle.scope.proofs.View.{known, Kid, Good, seen, view}
-use Rattle.scope.proofs.Added.{Extends, Closed, at-end, find-added, find-new, closed-added, good-added}
-use Rattle.scope.proofs.Mapping.{Tally, tnil, tcons, Maps, copy-maps, copy-none, tally-range, tally-onto}
-use Rattle.scope.proofs.Copy.{held, copyState, Source, all-mem, Reach, here, below, Became, as-copy, as-entry, lost, BecameAll, bnil, bcons, Filled, Ok, PostAll, import-ok}
+use Rattle.scope.proofs.PlanLaws.{Makeable}
+use Rattle.scope.proofs.Added.{Closed, at-end, find-added, find-new, closed-added, good-added}
+use Rattle.scope.proofs.Mapping.{Source, all-mem, Maps, tally-range, tally-onto}
+use Rattle.scope.proofs.Copy.{copyState, below, Became, as-copy, as-entry, lost, BecameAll, bnil, bcons, Filled, Ok}
 
 pub not-keep : {t : Ty} → entry t ≡ keep → ⊥
 not-keep {t} e = let z : _≡_ {A = ℕ} 0 1 = cc in omega arith
@@ -41,7 +41,8 @@ entry-in (some es) (Unknown p) t e = absurd (not-keep (sym e))
 entry-in (some es) InferenceFailed t e = absurd (not-keep (sym e))
 entry-in (some es) (Known i k) t e = go (eqb (k .head .code) PARAM) (getElem? es (k .head .number)) refl e
   where
-    go : (b : Bool) (o : Option Ty) → getElem? es (k .head .number) ≡ o → pick b (entryAt i o) keep ≡ entry t → (j : Bool) × (u : Ty) × List·Memᴰ u es × (t ≡ flip j u)
+    go : (b : Bool) (o : Option Ty) → getElem? es (k .head .number) ≡ o → pick b (entryAt i o) keep ≡ entry t
+        → (j : Bool) × (u : Ty) × List·Memᴰ u es × (t ≡ flip j u)
     go false o q e = absurd (not-keep (sym e))
     go true none q e = let z : _≡_ {A = ℕ} 0 1 = cc in absurd (omega arith)
     go true (some u) q e = let h : t ≡ flip i u = cc in (i, u, element-in es (k .head .number) u q, h)
@@ -78,6 +79,18 @@ known-mem (Known j m) {i} {k} e c x = let q : k ≡ m = cc in subst (λ (z : Kin
 known-mem (Unknown p) {i} {k} e c x = let z : _≡_ {A = ℕ} 0 1 = cc in absurd (omega arith)
 known-mem InferenceFailed {i} {k} e c x = let z : _≡_ {A = ℕ} 0 1 = cc in absurd (omega arith)
 
+-- the source's kind that a new one was made after
+pub record After (ns : List Node) (i : Bool) (k : Kind) : Type 0 where
+  pub root : ℕ
+  pub kind : Kind
+  pub inside : root < length ns
+  pub state : stateOf (at ns root) ≡ Known i kind
+  pub head : k .head ≡ kind .head
+  pub width : length (k .kids) ≡ length (kind .kids)
+
+pub after-makeable : (e : Env) {ns : List Node} {i : Bool} {k : Kind} (a : After ns i k) → Makeable e (a .kind) → Makeable e k
+after-makeable e a o = record { made = rw (a .head, a .width) (o .made); def = rw (a .head) (o .def); flag = rw (a .head) (o .flag) }
+
 -- an import that is over
 module _ (ns : List Node) (ps : Option (List Ty)) (s : Store) (w : Work) (ok : Ok ns ps s [] w) where
   pub copy-filled : (r n : ℕ) → Maps (w .mapping) r n → Filled ns ps w r n
@@ -96,34 +109,45 @@ module _ (ns : List Node) (ps : Option (List Ty)) (s : Store) (w : Work) (ok : O
 
   -- and so has its head, its inversion, and as many children
   pub new-kind : (n : ℕ) → length (s .nodes) ≤ n → (i : Bool) (k : Kind) → stateOf (at (w .dest .nodes) n) ≡ Known i k
-      → (r : ℕ) × (m : Kind) × (r < length ns) × (stateOf (at ns r) ≡ Known i m) × (k .head ≡ m .head) × (length (k .kids) ≡ length (m .kids))
+      → After ns i k
   new-kind n p i k e = go (decLt n (length (w .dest .nodes)))
     where
-      from-copy : (r : ℕ) → Maps (w .mapping) r n → (st : State) → stateOf (at ns r) ≡ st → (ts : List Ty) → length ts ≡ length (kidsOf st) → copyState st ts ≡ Known i k
-          → (r : ℕ) × (m : Kind) × (r < length ns) × (stateOf (at ns r) ≡ Known i m) × (k .head ≡ m .head) × (length (k .kids) ≡ length (m .kids))
+      from-copy : (r : ℕ) → Maps (w .mapping) r n → (st : State) → stateOf (at ns r) ≡ st → (ts : List Ty) → length ts ≡ length (kidsOf st)
+          → copyState st ts ≡ Known i k
+          → After ns i k
       from-copy r m (Known j l) q ts h e =
           let a : j ≡ i = cc in
           let b : record { head = l .head; kids = ts } ≡ k = cc in
-          (r, l, ok .below r n m, q ∙ ap (λ (z : Bool). Known z l) a, sym (ap (λ (z : Kind). z .head) b), sym (ap (λ (z : Kind). length (z .kids)) b) ∙ h)
+          record {
+            root = r;
+            kind = l;
+            inside = ok .below r n m;
+            state = q ∙ ap (λ (z : Bool). Known z l) a;
+            head = sym (ap (λ (z : Kind). z .head) b);
+            width = sym (ap (λ (z : Kind). length (z .kids)) b) ∙ h;
+          }
       from-copy r m (Unknown o) q ts h e = let z : _≡_ {A = ℕ} 0 1 = cc in absurd (omega arith)
       from-copy r m InferenceFailed q ts h e = let z : _≡_ {A = ℕ} 0 1 = cc in absurd (omega arith)
 
       go : Dec (n < length (w .dest .nodes))
-          → (r : ℕ) × (m : Kind) × (r < length ns) × (stateOf (at ns r) ≡ Known i m) × (k .head ≡ m .head) × (length (k .kids) ≡ length (m .kids))
+          → After ns i k
       go (yes q) =
           let c = new-copy n p q in
           let f = copy-filled (c .0) n (c .1) in
           from-copy (c .0) (c .1) (stateOf (at ns (c .0))) refl (f .kids) (became-length (f .became)) (sym (ap stateOf (f .node)) ∙ e)
-      go (no q) = let h : Unknown NONE ≡ Known i k = sym (ap stateOf (at-end (w .dest .nodes) n (omega arith))) ∙ e in let z : _≡_ {A = ℕ} 0 1 = cc in absurd (omega arith)
+      go (no q) =
+          let h : Unknown NONE ≡ Known i k = sym (ap stateOf (at-end (w .dest .nodes) n (omega arith))) ∙ e in
+          let z : _≡_ {A = ℕ} 0 1 = cc in
+          absurd (omega arith)
 
   module _ (miss : w .missing ≡ false) (low : (t : Ty) → List·Memᴰ t (importList ps) → t .idx < length (s .nodes)) where
-    entry-low : (st : State) (t : Ty) → replaced ps st ≡ entry t → t .idx < length (s .nodes)
+    pub entry-low : (st : State) (t : Ty) → replaced ps st ≡ entry t → t .idx < length (s .nodes)
     entry-low st t e = let z = entry-in ps st t e in omega (arith, low (z .1) (z .2), ap (λ (x : Ty). x .idx) (z .3))
 
     -- what a type became is in the new store
     pub became-inside : {c c′ : Ty} → Became ns ps w c c′ → c′ .idx < length (w .dest .nodes)
     became-inside {c} {c′} (as-copy n m e) = omega (arith, copy-new (find ns c .idx) n m .1, ap (λ (x : Ty). x .idx) e)
-    became-inside {c} {c′} (as-entry t q e) = omega (arith, entry-low (stateOf (at ns (find ns c .idx))) t q, ap (λ (x : Ty). x .idx) e, ok .ext .len)
+    became-inside {c} {c′} (as-entry t q e) = omega (arith, entry-low (stateAt ns c) t q, ap (λ (x : Ty). x .idx) e, ok .ext .len)
     became-inside (lost h) = absurd (true≢false (sym h ∙ miss))
 
     pub types-inside : {cs cs′ : List Ty} → BecameAll ns ps w cs cs′ → (t : Ty) → List·Memᴰ t cs′ → t .idx < length (w .dest .nodes)
@@ -158,11 +182,13 @@ module _ (ns : List Node) (ps : Option (List Ty)) (s : Store) (w : Work) (ok : O
       unfolding view
       kid-depth f {c} {c′} y h (as-copy n m e) q =
           let a : c′ .idx ≡ n = ap (λ (x : Ty). x .idx) e in
-          let b : find (w .dest .nodes) (ty false (c′ .idx)) ≡ ty false (c′ .idx) = find-new (s .nodes) (w .dest .nodes) (ok .ext) closed (ty false (c′ .idx)) (omega (arith, copy-new (find ns c .idx) n m .0)) in
+          let new : length (s .nodes) ≤ c′ .idx = omega (arith, copy-new (find ns c .idx) n m .0) in
+          let b : find (w .dest .nodes) (ty false (c′ .idx)) ≡ ty false (c′ .idx) = find-new (s .nodes) (w .dest .nodes) (ok .ext) closed (ty false (c′ .idx)) new in
           inr (record { root = find ns c .idx; maps = subst (Maps (w .mapping) (find ns c .idx)) (sym a ∙ sym (ap (λ (x : Ty). x .idx) b) ∙ q) m; falling = h })
       kid-depth f {c} {c′} y h (as-entry t r e) q =
-          let lt : c′ .idx < length (s .nodes) = omega (arith, entry-low (stateOf (at ns (find ns c .idx))) t r, ap (λ (x : Ty). x .idx) e) in
-          inl (omega (arith, q, ap (λ (x : Ty). x .idx) (find-added (s .nodes) (w .dest .nodes) (ok .ext) closed (ty false (c′ .idx))), closed .inside (ty false (c′ .idx)) lt))
+          let lt : c′ .idx < length (s .nodes) = omega (arith, entry-low (stateAt ns c) t r, ap (λ (x : Ty). x .idx) e) in
+          let f = find-added (s .nodes) (w .dest .nodes) (ok .ext) closed (ty false (c′ .idx)) in
+          inl (omega (arith, q, ap (λ (x : Ty). x .idx) f, closed .inside (ty false (c′ .idx)) lt))
       kid-depth f y h (lost l) q = absurd (true≢false (sym l ∙ miss))
 
       step : (f a y : ℕ) → length (s .nodes) ≤ a → Deep (suc f) a → Kid (view (w .dest .nodes)) a y → (y < length (s .nodes)) ⊎ Deep f y
@@ -170,14 +196,22 @@ module _ (ns : List Node) (ps : Option (List Ty)) (s : Store) (w : Work) (ok : O
       step f a y p d c =
           let l = copy-filled (d .root) a (d .maps) in
           let m = known-mem (stateOf (at (w .dest .nodes) a)) (c .state) (c .kid) (c .mem) in
-          let z = became-source (l .became) (c .kid) (copy-mem (stateOf (at ns (d .root))) (l .kids) (c .kid) (subst (λ (x : Node). List·Memᴰ (c .kid) (kidsOf (stateOf x))) (l .node) m)) in
+          let z = became-source (l .became) (c .kid)
+          (copy-mem (stateOf (at ns (d .root))) (l .kids) (c .kid) (subst (λ (x : Node). List·Memᴰ (c .kid) (kidsOf (stateOf x))) (l .node) m)) in
           kid-depth f y (all-mem (λ (x : Ty). falls f ns (find ns x .idx)) (kidsOf (stateOf (at ns (d .root)))) (z .0) (z .1) (d .falling)) (z .2) (c .to)
 
       -- no cycle
       pub copies-good : Source ns → Good (view (s .nodes)) → Good (view (w .dest .nodes))
       unfolding view
-      copies-good src good = good-added (s .nodes) (w .dest .nodes) (ok .ext) closed good Deep no-depth step (λ a p i k e. deep a p i k e (decLt a (length (w .dest .nodes))))
+      copies-good src good = good-added (s .nodes) (w .dest .nodes) (ok .ext) closed good Deep no-depth step
+          (λ a p i k e. deep a p i k e (decLt a (length (w .dest .nodes))))
         where
-          deep : (a : ℕ) → length (s .nodes) ≤ a → (i : Bool) (k : Kind) → seen (stateOf (at (w .dest .nodes) a)) ≡ known i k → Dec (a < length (w .dest .nodes)) → (f : ℕ) × Deep f a
-          deep a p i k e (yes q) = let c = new-copy a p q in (length ns, record { root = c .0; maps = c .1; falling = src .falling (c .0) (ok .below (c .0) a (c .1)) })
-          deep a p i k e (no q) = let h : seen (Unknown NONE) ≡ known i k = sym (ap (λ (x : Node). seen (stateOf x)) (at-end (w .dest .nodes) a (omega arith))) ∙ e in let z : _≡_ {A = ℕ} 0 1 = cc in absurd (omega arith)
+          deep : (a : ℕ) → length (s .nodes) ≤ a → (i : Bool) (k : Kind) → seen (stateOf (at (w .dest .nodes) a)) ≡ known i k
+              → Dec (a < length (w .dest .nodes)) → (f : ℕ) × Deep f a
+          deep a p i k e (yes q) =
+              let c = new-copy a p q in
+              (length ns, record { root = c .0; maps = c .1; falling = src .falling (c .0) (ok .below (c .0) a (c .1)) })
+          deep a p i k e (no q) =
+              let h : seen (Unknown NONE) ≡ known i k = sym (ap (λ (x : Node). seen (stateOf x)) (at-end (w .dest .nodes) a (omega arith))) ∙ e in
+              let z : _≡_ {A = ℕ} 0 1 = cc in
+              absurd (omega arith)

@@ -2,7 +2,7 @@
 -- is not still open is a copy. Assumes nothing.
 use mathlib.Core.Path.{_≡_, refl, sym, ap, subst, _∙_}
 use mathlib.Core.List.{List, [], _∷_, List·Memᴰ, List·Memᴰ·head, List·Memᴰ·tail, List·Memᴰ·not-nil, List·Memᴰ·cases-cons}
-use mathlib.Core.Bool.{Bool, true, false≢true, and-eq-true-iff}
+use mathlib.Core.Bool.{Bool, true, false≢true}
 use mathlib.Core.Option.{Option, none, some}
 use mathlib.Core.Logic.{_⊎_, inl, inr}
 use Prim.Native.Nat.{ℕ, zero, suc, _+_, _≤_, _<_}
@@ -10,20 +10,14 @@ use native.Mathlib.Omega.{arith}
 use native.Mathlib.Decide.{ℕ-discrete}
 use lib.ListN.{length, set, length-append, length-set, List·getD-append}
 use lib.Seq.{getD-append-seam, getD-set-same, getD-set-other}
-use Rattle.scope.specs.Base.{all}
 use Rattle.scope.specs.Limits.{NONE}
 use Rattle.scope.specs.Types.{Ty, ty, flip}
-use Rattle.scope.specs.Nodes.{Kind, State, Known, Unknown, InferenceFailed, Node, Root, Store, at, stateOf, find, kidsOf}
+use Rattle.scope.specs.Nodes.{Kind, State, Known, Unknown, InferenceFailed, Node, Root, Store, at, stateOf, stateAt, find, kidsOf}
 use Rattle.scope.specs.Make.{push}
 use Rattle.scope.specs.Sound.{falls}
 use Rattle.scope.specs.Import.{Work, Moved, MovedAll, copyOf, Replaced, keep, missing-entry, entry, replaced, spanOf, begun, ended, many, copied, lacking, fresh, place, transfer, start, import}
 use Rattle.scope.proofs.Added.{Extends}
-use Rattle.scope.proofs.Mapping.{Tally, tnil, tcons, Maps, copy-maps, tally-range, tally-uniq}
-
--- the children of the mapping's roots
-abbrev pub held : List Node → List (ℕ × ℕ) → ℕ
-held ns [] = 0
-held ns (p ∷ l) = length (kidsOf (stateOf (at ns (p .0)))) + held ns l
+use Rattle.scope.proofs.Mapping.{Rest, Source, all-mem, held, Tally, tnil, tcons, Maps, copy-maps, tally-range, tally-uniq}
 
 -- a root's state with its children moved
 abbrev pub copyState : State → List Ty → State
@@ -31,35 +25,16 @@ copyState (Known i k) ts = Known i (record { head = k .head; kids = ts })
 copyState (Unknown p) ts = Unknown p
 copyState InferenceFailed ts = Unknown NONE
 
--- what an import changes no part of
-pub record Rest (s d : Store) : Type 0 where
-  pub nodeRoom : d .nodeRoom ≡ s .nodeRoom
-  pub childRoom : d .childRoom ≡ s .childRoom
-  pub error : d .error ≡ s .error
-  pub nil : d .nil ≡ s .nil
-  pub reports : d .reports ≡ s .reports
-
--- what is used of the source
-pub record Source (ns : List Node) : Type 0 where
-  pub inside : (t : Ty) → t .idx < length ns → find ns t .idx < length ns
-  pub kids : (r : ℕ) (c : Ty) → List·Memᴰ c (kidsOf (stateOf (at ns r))) → c .idx < length ns
-  pub falling : (r : ℕ) → r < length ns → falls (length ns) ns r ≡ true
-
-pub all-mem {ℓ} : {A : Type ℓ} (p : A → Bool) (xs : List A) (x : A) → List·Memᴰ x xs → all p xs ≡ true → p x ≡ true
-all-mem p [] x m e = absurd (List·Memᴰ·not-nil m)
-all-mem p (y ∷ ys) x (List·Memᴰ·head q) e = ap p q ∙ and-eq-true-iff (p y) (all p ys) .0 e .0
-all-mem p (y ∷ ys) x (List·Memᴰ·tail m) e = all-mem p ys x m (and-eq-true-iff (p y) (all p ys) .0 e .1)
-
 module _ (ns : List Node) (ps : Option (List Ty)) where
   -- the root n is copied because of a type
   pub data Reach (n : ℕ) : Ty → Type 0 where
-    here : {t : Ty} → replaced ps (stateOf (at ns (find ns t .idx))) ≡ keep → find ns t .idx ≡ n → Reach n t
-    below : {t : Ty} (c : Ty) → replaced ps (stateOf (at ns (find ns t .idx))) ≡ keep → List·Memᴰ c (kidsOf (stateOf (at ns (find ns t .idx)))) → Reach n c → Reach n t
+    here : {t : Ty} → replaced ps (stateAt ns t) ≡ keep → find ns t .idx ≡ n → Reach n t
+    below : {t : Ty} (c : Ty) → replaced ps (stateAt ns t) ≡ keep → List·Memᴰ c (kidsOf (stateAt ns t)) → Reach n c → Reach n t
 
   -- what the source type c became: its root's copy, its Param's entry; or an entry was missing
   pub data Became (w : Work) (c c′ : Ty) : Type 0 where
     as-copy : (n : ℕ) → Maps (w .mapping) (find ns c .idx) n → c′ ≡ ty (find ns c .inv) n → Became w c c′
-    as-entry : (t : Ty) → replaced ps (stateOf (at ns (find ns c .idx))) ≡ entry t → c′ ≡ flip (find ns c .inv) t → Became w c c′
+    as-entry : (t : Ty) → replaced ps (stateAt ns c) ≡ entry t → c′ ≡ flip (find ns c .inv) t → Became w c c′
     lost : w .missing ≡ true → Became w c c′
 
   pub data BecameAll (w : Work) : List Ty → List Ty → Type 0 where
@@ -131,7 +106,12 @@ module _ (ns : List Node) (ps : Option (List Ty)) where
         b = many g (g w t .work) ts
 
         glue : Post os w t (g w t) → PostAll os (g w t .work) ts b → PostAll os w (t ∷ ts) (record { work = b .work; types = g w t .type ∷ b .types })
-        glue p p′ = record { ok = p′ .ok; later = later-trans (p .later) (p′ .later); became = bcons (became-later (p′ .later) (p .became)) (p′ .became); reach = reach }
+        glue p p′ = record {
+          ok = p′ .ok;
+          later = later-trans (p .later) (p′ .later);
+          became = bcons (became-later (p′ .later) (p .became)) (p′ .became);
+          reach = reach;
+        }
           where
             first : (r n : ℕ) → Maps (w .mapping) r n ⊎ Reach r t → Maps (w .mapping) r n ⊎ ((u : Ty) × List·Memᴰ u (t ∷ ts) × Reach r u)
             first r n (inl m) = inl m
@@ -152,7 +132,11 @@ module _ (ns : List Node) (ps : Option (List Ty)) where
     begun-ok : (os : List ℕ) (w : Work) (r : ℕ) (st : State) → stateOf (at ns r) ≡ st → r < length ns → replaced ps st ≡ keep → copyOf (w .mapping) r ≡ none
         → Ok os w → Ok (length (w .dest .nodes) ∷ os) (begun w r st)
     begun-ok os w r st e lt k c ok = record {
-      ext = record { len = omega (arith, grown, ok .ext .len); old = λ n q. old n (omega (arith, ok .ext .len)) ∙ ok .ext .old n q; new = λ n q p. new n q (ℕ-discrete n (length d)) p };
+      ext = record {
+        len = omega (arith, grown, ok .ext .len);
+        old = λ n q. old n (omega (arith, ok .ext .len)) ∙ ok .ext .old n q;
+        new = λ n q p. new n q (ℕ-discrete n (length d)) p;
+      };
       tally = tcons c (ok .len) (ok .tally);
       len = omega (arith, grown, ok .len);
       full = full;
@@ -276,9 +260,9 @@ module _ (ns : List Node) (ps : Option (List Ty)) where
 
     -- one level down, for types of which Q holds
     module _ (g : Work → Ty → Moved) (Q : Ty → Type 0) (ih : (os : List ℕ) (w : Work) (t : Ty) → Ok os w → Q t → Post os w t (g w t)) (os : List ℕ) (w : Work)
-        (t : Ty) (ok : Ok os w) (lt : find ns t .idx < length ns) (kids : (c : Ty) → List·Memᴰ c (kidsOf (stateOf (at ns (find ns t .idx)))) → Q c) where
+        (t : Ty) (ok : Ok os w) (lt : find ns t .idx < length ns) (kids : (c : Ty) → List·Memᴰ c (kidsOf (stateAt ns t)) → Q c) where
       -- a root without kind
-      plain-ok : (st : State) → stateOf (at ns (find ns t .idx)) ≡ st → copyState st [] ≡ Unknown (spanOf st) → kidsOf st ≡ [] → replaced ps st ≡ keep
+      plain-ok : (st : State) → stateAt ns t ≡ st → copyState st [] ≡ Unknown (spanOf st) → kidsOf st ≡ [] → replaced ps st ≡ keep
           → copyOf (w .mapping) (find ns t .idx) ≡ none
           → Post os w t (record { work = begun w (find ns t .idx) st; type = ty (find ns t .inv) (length (w .dest .nodes)) })
       plain-ok st e u z k c =
@@ -287,7 +271,8 @@ module _ (ns : List Node) (ps : Option (List Ty)) where
           let m : Maps ((r, n) ∷ w .mapping) r n = List·Memᴰ·head refl in
           let f : Filled (begun w r st) r n = record {
             kids = [];
-            node = getD-append-seam (w .dest .nodes) (Root (Unknown (spanOf st)) 1) [] (Root (Unknown NONE) 0) ∙ ap (λ (x : State). Root x 1) (sym u ∙ ap (λ (x : State). copyState x []) (sym e));
+            node = getD-append-seam (w .dest .nodes) (Root (Unknown (spanOf st)) 1) [] (Root (Unknown NONE) 0)
+                ∙ ap (λ (x : State). Root x 1) (sym u ∙ ap (λ (x : State). copyState x []) (sym e));
             became = subst (λ (xs : List Ty). BecameAll (begun w r st) xs []) (sym z ∙ ap kidsOf (sym e)) bnil;
           } in
           record {
@@ -301,9 +286,10 @@ module _ (ns : List Node) (ps : Option (List Ty)) where
           reach q n (List·Memᴰ·head h) = inr (here (ap (replaced ps) e ∙ k) (sym (ap (λ (z : ℕ × ℕ). z .0) h)))
           reach q n (List·Memᴰ·tail m) = inl m
 
-      known-ok : (i : Bool) (k : Kind) → stateOf (at ns (find ns t .idx)) ≡ Known i k → replaced ps (Known i k) ≡ keep
+      known-ok : (i : Bool) (k : Kind) → stateAt ns t ≡ Known i k → replaced ps (Known i k) ≡ keep
           → copyOf (w .mapping) (find ns t .idx) ≡ none → Post os w t (copied g w (find ns t) (Known i k))
-      known-ok i k e kp c = fill (many-ok g Q ih (n ∷ os) w₁ (k .kids) (begun-ok os w r (Known i k) e lt kp c ok) (λ x m. kids x (subst (λ (st : State). List·Memᴰ x (kidsOf st)) (sym e) m)))
+      known-ok i k e kp c = fill (many-ok g Q ih (n ∷ os) w₁ (k .kids) (begun-ok os w r (Known i k) e lt kp c ok)
+          (λ x m. kids x (subst (λ (st : State). List·Memᴰ x (kidsOf st)) (sym e) m)))
         where
           r : ℕ
           r = find ns t .idx
@@ -327,8 +313,10 @@ module _ (ns : List Node) (ps : Option (List Ty)) where
               let hi : n < length (b .work .dest .nodes) = omega (arith, h .1, p .ok .len) in
               let f : Filled (ended (b .work) n st) r n = record {
                 kids = b .types;
-                node = getD-set-same (b .work .dest .nodes) n (Root st 1) (Root (Unknown NONE) 0) hi ∙ ap (λ (x : State). Root (copyState x (b .types)) 1) (sym e);
-                became = subst (λ (x : State). BecameAll (ended (b .work) n st) (kidsOf x) (b .types)) (sym e) (became-all-later (ended-later (b .work) n st) (p .became));
+                node = getD-set-same (b .work .dest .nodes) n (Root st 1) (Root (Unknown NONE) 0) hi
+                    ∙ ap (λ (x : State). Root (copyState x (b .types)) 1) (sym e);
+                became = subst (λ (x : State). BecameAll (ended (b .work) n st) (kidsOf x) (b .types)) (sym e)
+                    (became-all-later (ended-later (b .work) n st) (p .became));
               } in
               record {
                 ok = shut os (ended (b .work) n st) r n m f (ended-ok os (b .work) n st (h .0) hi (p .ok));
@@ -346,21 +334,26 @@ module _ (ns : List Node) (ps : Option (List Ty)) where
               again q a (inl m) = first q a m
               again q a (inr z) = inr (below (z .0) (ap (replaced ps) e ∙ kp) (subst (λ (x : State). List·Memᴰ (z .0) (kidsOf x)) (sym e) (z .1)) (z .2))
 
-      copied-ok : (st : State) → stateOf (at ns (find ns t .idx)) ≡ st → replaced ps st ≡ keep → copyOf (w .mapping) (find ns t .idx) ≡ none
+      copied-ok : (st : State) → stateAt ns t ≡ st → replaced ps st ≡ keep → copyOf (w .mapping) (find ns t .idx) ≡ none
           → Post os w t (copied g w (find ns t) st)
       copied-ok (Known i k) e kp c = known-ok i k e kp c
       copied-ok (Unknown p) e kp c = plain-ok (Unknown p) e refl refl kp c
       copied-ok InferenceFailed e kp c = plain-ok InferenceFailed e refl refl kp c
 
-      fresh-ok : (st : State) → stateOf (at ns (find ns t .idx)) ≡ st → (u : Replaced) → replaced ps st ≡ u → copyOf (w .mapping) (find ns t .idx) ≡ none
+      fresh-ok : (st : State) → stateAt ns t ≡ st → (u : Replaced) → replaced ps st ≡ u → copyOf (w .mapping) (find ns t .idx) ≡ none
           → Post os w t (fresh g w (find ns t) st u)
       fresh-ok st e keep q c = copied-ok st e q c
       fresh-ok st e missing-entry q c = record { ok = lacking-ok os w ok; later = lacking-later w; became = lost refl; reach = λ r n m. inl m }
       fresh-ok st e (entry u) q c = record { ok = ok; later = later-refl w; became = as-entry u (ap (replaced ps) e ∙ q) refl; reach = λ r n m. inl m }
 
-      place-ok : (st : State) → stateOf (at ns (find ns t .idx)) ≡ st → (o : Option ℕ) → copyOf (w .mapping) (find ns t .idx) ≡ o
+      place-ok : (st : State) → stateAt ns t ≡ st → (o : Option ℕ) → copyOf (w .mapping) (find ns t .idx) ≡ o
           → Post os w t (place g w (find ns t) st (replaced ps st) o)
-      place-ok st e (some n) q = record { ok = ok; later = later-refl w; became = as-copy n (copy-maps (w .mapping) (find ns t .idx) n q) refl; reach = λ r a m. inl m }
+      place-ok st e (some n) q = record {
+        ok = ok;
+        later = later-refl w;
+        became = as-copy n (copy-maps (w .mapping) (find ns t .idx) n q) refl;
+        reach = λ r a m. inl m;
+      }
       place-ok st e none q = fresh-ok st e (replaced ps st) refl q
 
     -- a type of the source, and f levels are enough
@@ -375,9 +368,9 @@ module _ (ns : List Node) (ps : Option (List Ty)) where
         place-ok (transfer f ns ps) (Able f) (λ os w t ok a. transfer-ok src f os w t ok a) os w t ok (src .inside t (a .in-source))
         (λ c m. record {
           in-source = src .kids (find ns t .idx) c m;
-          enough = all-mem (λ (c : Ty). falls f ns (find ns c .idx)) (kidsOf (stateOf (at ns (find ns t .idx)))) c m (a .enough);
+          enough = all-mem (λ (c : Ty). falls f ns (find ns c .idx)) (kidsOf (stateAt ns t)) c m (a .enough);
         })
-        (stateOf (at ns (find ns t .idx))) refl (copyOf (w .mapping) (find ns t .idx)) refl
+        (stateAt ns t) refl (copyOf (w .mapping) (find ns t .idx)) refl
 
     -- types of the source, in order
     pub transfers-ok : Source ns → (os : List ℕ) (w : Work) (ts : List Ty) → Ok os w → ((t : Ty) → List·Memᴰ t ts → t .idx < length ns)

@@ -13,19 +13,20 @@ use lib.ListN.{length}
 use borrow.Author.Tests.{eqb-true, eq-eqb, ne-eqb}
 use Rattle.scope.specs.Base.{pick, any, count, from, isSome}
 use Rattle.scope.specs.Types.{Ty}
-use Rattle.scope.specs.Nodes.{State, Node, Store, at, stateOf, find, kidsOf}
+use Rattle.scope.specs.Nodes.{Node, Store, at, stateOf, stateAt, find, kidsOf}
 use Rattle.scope.specs.Sound.{falls}
-use Rattle.scope.specs.Import.{Work, MovedAll, copyOf, Replaced, keep, missing-entry, entry, replaced, start, import, reachesState, reaches, copies}
-use Rattle.scope.proofs.Added.{Extends}
-use Rattle.scope.proofs.Mapping.{Tally, tnil, tcons, Maps, copy-maps, copy-none}
-use Rattle.scope.proofs.Copy.{held, copyState, Source, all-mem, Reach, here, below, Became, as-copy, as-entry, lost, BecameAll, Filled, Ok, PostAll, import-ok}
+use Rattle.scope.specs.Import.{Work, copyOf, Replaced, keep, missing-entry, entry, replaced, start, import, reachesState, reaches, copies}
+use Rattle.scope.proofs.Added.{Extends, extends-tail}
+use Rattle.scope.proofs.Mapping.{Source, all-mem, held, Tally, tnil, tcons, Maps, copy-maps, copy-none}
+use Rattle.scope.proofs.Copy.{Reach, here, below, Became, as-copy, as-entry, lost, Ok, PostAll, import-ok}
 use Rattle.scope.proofs.Copies.{not-keep, became-of, became-length, copy-kids, copy-filled}
 
 any-mem : (p : Ty → Bool) (xs : List Ty) → any p xs ≡ true → (x : Ty) × List·Memᴰ x xs × (p x ≡ true)
 any-mem p [] e = absurd (false≢true e)
 any-mem p (y ∷ ys) e = go (p y) refl e (any-mem p ys)
   where
-    go : (b : Bool) → p y ≡ b → (b || any p ys) ≡ true → (any p ys ≡ true → (x : Ty) × List·Memᴰ x ys × (p x ≡ true)) → (x : Ty) × List·Memᴰ x (y ∷ ys) × (p x ≡ true)
+    go : (b : Bool) → p y ≡ b → (b || any p ys) ≡ true → (any p ys ≡ true → (x : Ty) × List·Memᴰ x ys × (p x ≡ true))
+        → (x : Ty) × List·Memᴰ x (y ∷ ys) × (p x ≡ true)
     go true q e ih = (y, List·Memᴰ·head refl, q)
     go false q e ih = let z = ih e in (z .0, List·Memᴰ·tail (z .1), z .2)
 
@@ -45,20 +46,20 @@ module _ (ns : List Node) (ps : Option (List Ty)) (n : ℕ) where
   reaches-reach zero ts e = absurd (false≢true e)
   reaches-reach (suc f) ts e =
       let z = any-mem test ts e in
-      (z .0, z .1, go (z .0) (replaced ps (stateOf (at ns (find ns (z .0) .idx)))) refl (z .2) (reaches-reach f (kidsOf (stateOf (at ns (find ns (z .0) .idx))))))
+      (z .0, z .1, go (z .0) (replaced ps (stateAt ns (z .0))) refl (z .2) (reaches-reach f (kidsOf (stateAt ns (z .0)))))
     where
       test : Ty → Bool
-      test t = reachesState (reaches f ns ps n) ps (eqb (find ns t .idx) n) (stateOf (at ns (find ns t .idx))) (replaced ps (stateOf (at ns (find ns t .idx))))
+      test t = reachesState (reaches f ns ps n) ps (eqb (find ns t .idx) n) (stateAt ns t) (replaced ps (stateAt ns t))
 
-      go : (t : Ty) (u : Replaced) → replaced ps (stateOf (at ns (find ns t .idx))) ≡ u
-          → reachesState (reaches f ns ps n) ps (eqb (find ns t .idx) n) (stateOf (at ns (find ns t .idx))) u ≡ true
-          → (reaches f ns ps n (kidsOf (stateOf (at ns (find ns t .idx)))) ≡ true → (c : Ty) × List·Memᴰ c (kidsOf (stateOf (at ns (find ns t .idx)))) × Reach ns ps n c)
+      go : (t : Ty) (u : Replaced) → replaced ps (stateAt ns t) ≡ u
+          → reachesState (reaches f ns ps n) ps (eqb (find ns t .idx) n) (stateAt ns t) u ≡ true
+          → (reaches f ns ps n (kidsOf (stateAt ns t)) ≡ true → (c : Ty) × List·Memᴰ c (kidsOf (stateAt ns t)) × Reach ns ps n c)
           → Reach ns ps n t
       go t missing-entry q h ih = absurd (false≢true h)
       go t (entry u) q h ih = absurd (false≢true h)
       go t keep q h ih = choose (eqb (find ns t .idx) n) refl h
         where
-          choose : (b : Bool) → eqb (find ns t .idx) n ≡ b → (b || reaches f ns ps n (kidsOf (stateOf (at ns (find ns t .idx))))) ≡ true → Reach ns ps n t
+          choose : (b : Bool) → eqb (find ns t .idx) n ≡ b → (b || reaches f ns ps n (kidsOf (stateAt ns t))) ≡ true → Reach ns ps n t
           choose true e h = here q (eqb-true (find ns t .idx) n e)
           choose false e h = let z = ih h in below (z .0) q (z .1) (z .2)
 
@@ -66,11 +67,11 @@ module _ (ns : List Node) (ps : Option (List Ty)) (n : ℕ) where
   unfolding reaches falls
   reach-reaches r zero e ts m = absurd (false≢true e)
   reach-reaches {t} (here k q) (suc f) e ts m =
-      mem-any (λ t. reachesState (reaches f ns ps n) ps (eqb (find ns t .idx) n) (stateOf (at ns (find ns t .idx))) (replaced ps (stateOf (at ns (find ns t .idx))))) ts t m
+      mem-any (λ t. reachesState (reaches f ns ps n) ps (eqb (find ns t .idx) n) (stateAt ns t) (replaced ps (stateAt ns t))) ts t m
       (rw (k, eq-eqb (find ns t .idx) n q))
   reach-reaches {t} (below c k x r) (suc f) e ts m =
-      let h = reach-reaches r f (all-mem (λ (c : Ty). falls f ns (find ns c .idx)) (kidsOf (stateOf (at ns (find ns t .idx)))) c x e) (kidsOf (stateOf (at ns (find ns t .idx)))) x in
-      mem-any (λ t. reachesState (reaches f ns ps n) ps (eqb (find ns t .idx) n) (stateOf (at ns (find ns t .idx))) (replaced ps (stateOf (at ns (find ns t .idx))))) ts t m
+      let h = reach-reaches r f (all-mem (λ (c : Ty). falls f ns (find ns c .idx)) (kidsOf (stateAt ns t)) c x e) (kidsOf (stateAt ns t)) x in
+      mem-any (λ t. reachesState (reaches f ns ps n) ps (eqb (find ns t .idx) n) (stateAt ns t) (replaced ps (stateAt ns t))) ts t m
       (rw k (or-right (eqb (find ns t .idx) n) h))
     where
       or-right : (b : Bool) {a : Bool} → a ≡ true → (b || a) ≡ true
@@ -78,11 +79,13 @@ module _ (ns : List Node) (ps : Option (List Ty)) (n : ℕ) where
       or-right false h = h
 
   -- what is reached was copied
-  reach-maps : (s : Store) (w : Work) → Ok ns ps s [] w → w .missing ≡ false → {t t′ : Ty} → Reach ns ps n t → Became ns ps w t t′ → (m : ℕ) × Maps (w .mapping) n m
+  reach-maps : (s : Store) (w : Work) → Ok ns ps s [] w → w .missing ≡ false → {t t′ : Ty} → Reach ns ps n t → Became ns ps w t t′
+      → (m : ℕ) × Maps (w .mapping) n m
   reach-maps s w ok miss (here k q) (as-copy m p e) = (m, subst (λ (r : ℕ). Maps (w .mapping) r m) q p)
   reach-maps s w ok miss (here k q) (as-entry u h e) = absurd (not-keep (sym h ∙ k))
   reach-maps s w ok miss (here k q) (lost h) = absurd (true≢false (sym h ∙ miss))
-  reach-maps s w ok miss {t} (below c k x r) (as-copy m p e) = reach-maps s w ok miss r (became-of (copy-filled ns ps s w ok (find ns t .idx) m p .became) c x .1)
+  reach-maps s w ok miss {t} (below c k x r) (as-copy m p e) = reach-maps s w ok miss r
+      (became-of (copy-filled ns ps s w ok (find ns t .idx) m p .became) c x .1)
   reach-maps s w ok miss (below c k x r) (as-entry u h e) = absurd (not-keep (sym h ∙ k))
   reach-maps s w ok miss (below c k x r) (lost h) = absurd (true≢false (sym h ∙ miss))
 
@@ -147,7 +150,7 @@ of-some l r m x = go (copyOf l r) refl
     go (some n) q = refl
 
 -- the children of a list of nodes
-pub kidsIn : List Node → ℕ
+unfoldable pub kidsIn : List Node → ℕ
 kidsIn [] = 0
 kidsIn (n ∷ ns) = length (kidsOf (stateOf n)) + kidsIn ns
 
@@ -177,10 +180,15 @@ unfolding kidsIn
 kids-new [] ns′ k x e = let q : length ns′ ≡ k = omega arith in omega (arith, kids-all ns′, ap (total (kidsAt ns′) 0) q)
 kids-new (n ∷ ns) [] k x e = absurd (omega arith)
 kids-new (n ∷ ns) (n′ ∷ ns′) k x e =
-    let x′ : Extends ns ns′ = record { len = omega (arith, x .len); old = λ m q. x .old (suc m) (omega arith); new = λ m q p. x .new (suc m) (omega arith) (omega arith) } in
-    omega (arith, kids-new ns ns′ k x′ (omega arith), total-next (kidsAt (n′ ∷ ns′)) (length ns) k, ap (λ (z : Node). length (kidsOf (stateOf z))) (x .old 0 (omega arith)))
+    omega (
+      arith,
+      kids-new ns ns′ k (extends-tail x) (omega arith),
+      total-next (kidsAt (n′ ∷ ns′)) (length ns) k,
+      ap (λ (z : Node). length (kidsOf (stateOf z))) (x .old 0 (omega arith)),
+    )
 
-tally-held : (ns ns′ : List Node) {b : ℕ} {l : List (ℕ × ℕ)} → Tally b l → ((r n : ℕ) → Maps l r n → kidsAt ns′ n ≡ kidsAt ns r) → held ns l ≡ total (kidsAt ns′) b (length l)
+tally-held : (ns ns′ : List Node) {b : ℕ} {l : List (ℕ × ℕ)} → Tally b l → ((r n : ℕ) → Maps l r n → kidsAt ns′ n ≡ kidsAt ns r)
+    → held ns l ≡ total (kidsAt ns′) b (length l)
 tally-held ns ns′ tnil h = refl
 tally-held ns ns′ (tcons {p = p} {l = l} f q t) h =
     omega (arith, h (p .0) (p .1) (List·Memᴰ·head refl), ap (kidsAt ns′) q, tally-held ns ns′ t (λ r n m. h r n (List·Memᴰ·tail m)))

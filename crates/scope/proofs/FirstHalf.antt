@@ -27,7 +27,6 @@ use Rattle.scope.proofs.Sol.{unify-sol, success-fits}
 use Rattle.scope.proofs.Fail.{Plain, Witness, failure-means}
 use Rattle.scope.proofs.UnifyKept.{nodes-stable, stable-kinds, unify-seen}
 use Rattle.scope.proofs.SoundKept.{force-kept, force-view}
-use Rattle.scope.proofs.ImportKept.{import-extends}
 use Rattle.scope.proofs.Steps.{maker-cases, import-cases, force-cases, unify-cases, read-cases}
 use Rattle.scope.proofs.NodesFit.{fits-seen, seen-fits, fits-same, end-fits, pushes-fit}
 use Rattle.scope.proofs.NoDefaults.{Defaultless, after-less}
@@ -75,7 +74,7 @@ module _ (e : Env) (s : Store) (r : Reached e s) (v : Val) where
   import-next l ts ps h = import-cases e s (r .facts)
       (λ t. Fits e v (t .store .nodes) ↔ (Fits e v (s .nodes) × ((n : ℕ) → length (s .nodes) ≤ n → NodeFits e v n (at (t .store .nodes) n)))) l ts ps h
       ((λ f. (f, end-fits e v (s .nodes))), (λ f. f .0))
-      (λ k. fits-added e v (s .nodes) _ (import-extends e _ ps s ts (k .source) (r .facts) (k .in-source) (k .in-dest)))
+      (λ k. fits-added e v (s .nodes) _ (k .leaves .ext))
 
   force-next : (t : Ty) → Fits e v (next e s (forceKind t) .nodes) ↔ Fits e v (s .nodes)
   force-next t = force-cases e s (r .facts) (λ u. Fits e v (u .store .nodes) ↔ Fits e v (s .nodes)) t ((λ f. f), (λ f. f))

@@ -40,7 +40,7 @@ module _ (e : Env) (s : Store) (facts : SoundFacts e s) where
   call-moves : (c : Call) → inSecondHalf c ≡ true → Moves (e .texts) (s .nodes) (next e s c .nodes) (madeBy e s c)
   call-moves (Demand.make m) h = maker-moves m
   call-moves (Demand.import l ts ps have) h = import-cases e s facts (Adds (copies (storeOf l .nodes) ps ts)) l ts ps have as-found
-      (λ i. import-moves e s facts (storeOf l .nodes) ps ts (i .source) (i .in-source) (i .miss) (i .kept .facts .nodes .good))
+      (λ i. import-moves e s facts (storeOf l .nodes) ps ts (i .leaves) (i .kept .facts .nodes .good))
   call-moves (Demand.forceKind t) h = force-cases e s facts Same t as-found (force-moves e s facts t)
   call-moves (Demand.unify a b) h = unify-cases e s facts (λ o. Same (step s o)) a b (λ n. as-found) (unify-moves e s facts a b)
   call-moves (Demand.read r) h = read-cases e s facts Same r as-found as-found (find-mut-moves e s facts)

@@ -16,10 +16,11 @@ use Rattle.scope.proofs.View.{seen, view}
 use Rattle.scope.proofs.PlanLaws.{Makeable}
 use Rattle.scope.proofs.Paths.{find-idx, rep-root, find-inside}
 use Rattle.scope.proofs.Falls.{seen-known, good-falls}
-use Rattle.scope.proofs.Added.{Extends, Closed}
+use Rattle.scope.proofs.Added.{Closed}
 use Rattle.scope.proofs.Extend.{ext-forest, ext-shallow, ext-sized, ext-st}
-use Rattle.scope.proofs.Copy.{Source, PostAll, import-ok}
-use Rattle.scope.proofs.Copies.{new-kind, copies-closed, copies-good}
+use Rattle.scope.proofs.Mapping.{Source}
+use Rattle.scope.proofs.Copies.{after-makeable}
+use Rattle.scope.proofs.Imports.{Imported, imported}
 use Rattle.scope.proofs.SoundLaws.{Fine, Kinds, kinds-held, SoundNodes, SoundFacts}
 use Rattle.scope.proofs.SoundKept.{Kept, fine-more, remembers-more}
 
@@ -49,51 +50,47 @@ module _ (e : Env) where
   }
 
   module _ (ns : List Node) (ps : Option (List Ty)) (s : Store) (ts : List Ty) (src : SoundNodes e ns) (ok : SoundFacts e s)
-      (in-source : (t : Ty) → List·Memᴰ t ts → t .idx < length ns) (in-dest : (t : Ty) → List·Memᴰ t (importList ps) → t .idx < length (s .nodes)) where
-    abbrev w : Work
-    w = import ns ps s ts .work
+      (in-source : (t : Ty) → List·Memᴰ t ts → t .idx < length ns) (in-dest : (t : Ty) → List·Memᴰ t (importList ps) → t .idx < length (s .nodes))
+      (miss : import ns ps s ts .work .missing ≡ false) where
+    abbrev d : Store
+    d = import ns ps s ts .work .dest
 
-    pub import-post : PostAll ns ps s [] (start s) ts (import ns ps s ts)
-    import-post = import-ok ns ps s (sound-source src) ts in-source
+    pub import-leaves : Imported ns ps s ts (import ns ps s ts)
+    import-leaves = imported ns ps s ts (sound-source src) (sound-closed (ok .nodes)) (ok .nodes .good) in-source in-dest miss
 
-    pub import-extends : Extends (s .nodes) (import ns ps s ts .work .dest .nodes)
-    import-extends = import-post .ok .ext
+    import-kinds : Kinds e (length (d .nodes)) (view (d .nodes))
+    unfolding view
+    import-kinds a i k q = go (decLt a (length (s .nodes)))
+      where
+        q′ : stateOf (at (d .nodes) a) ≡ Known i k
+        q′ = seen-known (stateOf (at (d .nodes) a)) q
 
-    module _ (miss : import ns ps s ts .work .missing ≡ false) where
-      import-kinds : Kinds e (length (w .dest .nodes)) (view (w .dest .nodes))
-      unfolding view
-      import-kinds a i k q = go (decLt a (length (s .nodes)))
-        where
-          q′ : stateOf (at (w .dest .nodes) a) ≡ Known i k
-          q′ = seen-known (stateOf (at (w .dest .nodes) a)) q
+        go : Dec (a < length (s .nodes)) → Fine e (length (d .nodes)) k
+        go (yes h) =
+            fine-more e (import-leaves .ext .len) (ok .nodes .kinds a i k (sym (ext-st (s .nodes) (d .nodes) (import-leaves .ext) (ok .nodes .forest) a h) ∙ q))
+        go (no h) =
+            let z = import-leaves .kinds a (omega arith) i k q′ in
+            record {
+              made = after-makeable e z (src .kinds (z .root) i (z .kind) (ap seen (z .state)) .made);
+              kids = λ t x. import-leaves .closed .kids a t (subst (λ (st : State). List·Memᴰ t (kidsOf st)) (sym q′) x);
+            }
 
-          go : Dec (a < length (s .nodes)) → Fine e (length (w .dest .nodes)) k
-          go (yes h) = fine-more e (import-extends .len) (ok .nodes .kinds a i k (sym (ext-st (s .nodes) (w .dest .nodes) import-extends (ok .nodes .forest) a h) ∙ q))
-          go (no h) =
-              let z = new-kind ns ps s w (import-post .ok) a (omega arith) i k q′ in
-              let m : Makeable e (z .1) = src .kinds (z .0) i (z .1) (ap seen (z .3)) .made in
-              record {
-                made = record { made = rw (z .4, z .5) (m .made); def = rw (z .4) (m .def); flag = rw (z .4) (m .flag) };
-                kids = λ t x. copies-closed ns ps s w (import-post .ok) miss in-dest (sound-closed (ok .nodes)) .kids a t
-                    (subst (λ (st : State). List·Memᴰ t (kidsOf st)) (sym q′) x);
-              }
-
-      pub import-kept : length (import ns ps s ts .work .dest .nodes) ≤ s .nodeRoom → import ns ps s ts .work .dest .children ≤ s .childRoom
-          → Kept e s (import ns ps s ts .work .dest)
-      import-kept hn hc = record {
-        facts = record {
-          nodes = record {
-            forest = ext-forest (s .nodes) (w .dest .nodes) import-extends (ok .nodes .forest);
-            kinds = import-kinds;
-            sized = ext-sized (s .nodes) (w .dest .nodes) import-extends (ok .nodes .forest) (ok .nodes .sized);
-            good = copies-good ns ps s w (import-post .ok) miss in-dest (sound-closed (ok .nodes)) (sound-source src) (ok .nodes .good);
-          };
-          error = rw (import-post .ok .rest .error) (remembers-more e (import-extends .len) (ok .error));
-          nil = rw (import-post .ok .rest .nil) (remembers-more e (import-extends .len) (ok .nil));
-          node-limit = rw (import-post .ok .rest .nodeRoom) (ok .node-limit);
-          child-limit = rw (import-post .ok .rest .childRoom) (ok .child-limit);
-          node-room = rw (import-post .ok .rest .nodeRoom) hn;
-          child-room = rw (import-post .ok .rest .childRoom) hc;
+    pub import-kept : length (import ns ps s ts .work .dest .nodes) ≤ s .nodeRoom → import ns ps s ts .work .dest .children ≤ s .childRoom
+        → Kept e s (import ns ps s ts .work .dest)
+    import-kept hn hc = record {
+      facts = record {
+        nodes = record {
+          forest = ext-forest (s .nodes) (d .nodes) (import-leaves .ext) (ok .nodes .forest);
+          kinds = import-kinds;
+          sized = ext-sized (s .nodes) (d .nodes) (import-leaves .ext) (ok .nodes .forest) (ok .nodes .sized);
+          good = import-leaves .good;
         };
-        shallow = ext-shallow (s .nodes) (w .dest .nodes) import-extends (ok .nodes .forest);
-      }
+        error = rw (import-leaves .rest .error) (remembers-more e (import-leaves .ext .len) (ok .error));
+        nil = rw (import-leaves .rest .nil) (remembers-more e (import-leaves .ext .len) (ok .nil));
+        node-limit = rw (import-leaves .rest .nodeRoom) (ok .node-limit);
+        child-limit = rw (import-leaves .rest .childRoom) (ok .child-limit);
+        node-room = rw (import-leaves .rest .nodeRoom) hn;
+        child-room = rw (import-leaves .rest .childRoom) hc;
+      };
+      shallow = ext-shallow (s .nodes) (d .nodes) (import-leaves .ext) (ok .nodes .forest);
+    }

@@ -4,6 +4,7 @@ pub mod Again
 pub mod Copies
 pub mod Copy
 pub mod CopyCount
+pub mod CopyTrees
 pub mod Depth
 pub mod Enough
 pub mod Extend
@@ -16,6 +17,7 @@ pub mod Fuel
 pub mod Grow
 pub mod GrowCalls
 pub mod ImportKept
+pub mod Imports
 pub mod Inside
 pub mod LaterSteps
 pub mod Laws

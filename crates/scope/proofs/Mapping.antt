@@ -1,7 +1,8 @@
--- The mapping of an import: each source root once, and its node the next one. Assumes nothing.
+-- What an import uses of its source and leaves alone of its destination, and its mapping: each source root once, its node the next one. Assumes
+-- nothing.
 use mathlib.Core.Path.{_≡_, refl, sym, ap, _∙_}
 use mathlib.Core.List.{List, [], _∷_, List·Memᴰ, List·Memᴰ·head, List·Memᴰ·tail, List·Memᴰ·not-nil, List·Memᴰ·cases-cons}
-use mathlib.Core.Bool.{Bool, true, false}
+use mathlib.Core.Bool.{Bool, true, false, and-eq-true-iff}
 use mathlib.Core.Option.{none, some}
 use mathlib.Core.Logic.{_⊎_, inl, inr}
 use Prim.Native.Nat.{ℕ, _+_, _≤_, _<_}
@@ -10,8 +11,30 @@ use native.Mathlib.Decide.{ℕ-discrete}
 use lib.Dec.{eqb}
 use lib.ListN.{length}
 use borrow.Author.Tests.{eqb-true, eqb-false}
-use Rattle.scope.specs.Base.{pick}
+use Rattle.scope.specs.Base.{pick, all}
+use Rattle.scope.specs.Types.{Ty}
+use Rattle.scope.specs.Nodes.{Node, Store, at, stateOf, find, kidsOf}
+use Rattle.scope.specs.Sound.{falls}
 use Rattle.scope.specs.Import.{copyOf}
+
+-- what an import changes no part of
+pub record Rest (s d : Store) : Type 0 where
+  pub nodeRoom : d .nodeRoom ≡ s .nodeRoom
+  pub childRoom : d .childRoom ≡ s .childRoom
+  pub error : d .error ≡ s .error
+  pub nil : d .nil ≡ s .nil
+  pub reports : d .reports ≡ s .reports
+
+-- what is used of the source
+pub record Source (ns : List Node) : Type 0 where
+  pub inside : (t : Ty) → t .idx < length ns → find ns t .idx < length ns
+  pub kids : (r : ℕ) (c : Ty) → List·Memᴰ c (kidsOf (stateOf (at ns r))) → c .idx < length ns
+  pub falling : (r : ℕ) → r < length ns → falls (length ns) ns r ≡ true
+
+pub all-mem {ℓ} : {A : Type ℓ} (p : A → Bool) (xs : List A) (x : A) → List·Memᴰ x xs → all p xs ≡ true → p x ≡ true
+all-mem p [] x m e = absurd (List·Memᴰ·not-nil m)
+all-mem p (y ∷ ys) x (List·Memᴰ·head q) e = ap p q ∙ and-eq-true-iff (p y) (all p ys) .0 e .0
+all-mem p (y ∷ ys) x (List·Memᴰ·tail m) e = all-mem p ys x m (and-eq-true-iff (p y) (all p ys) .0 e .1)
 
 -- the mapping: each root once, its node the next one after the b that were there
 pub data Tally (b : ℕ) : List (ℕ × ℕ) → Type 0 where
@@ -35,7 +58,8 @@ unfolding copyOf
 copy-none [] r n m e = List·Memᴰ·not-nil m
 copy-none (p ∷ l) r n m e = go (eqb (p .0) r) refl e (copy-none l r n) (List·Memᴰ·cases-cons m)
   where
-    go : (b : Bool) → eqb (p .0) r ≡ b → pick b (some (p .1)) (copyOf l r) ≡ none → (Maps l r n → copyOf l r ≡ none → ⊥) → (_≡_ {A = ℕ × ℕ} (r, n) p) ⊎ Maps l r n → ⊥
+    go : (b : Bool) → eqb (p .0) r ≡ b → pick b (some (p .1)) (copyOf l r) ≡ none → (Maps l r n → copyOf l r ≡ none → ⊥)
+        → (_≡_ {A = ℕ × ℕ} (r, n) p) ⊎ Maps l r n → ⊥
     go true q e ih m = let z : _≡_ {A = ℕ} 0 1 = cc in omega arith
     go false q e ih (inl h) = eqb-false (p .0) r q (sym (ap (λ (z : ℕ × ℕ). z .0) h))
     go false q e ih (inr m) = ih m e
@@ -61,3 +85,8 @@ tally-onto {b} (tcons {p = p} {l = l} f h t) n u q = go (ℕ-discrete n (p .1)) 
     go : Dec (n ≡ p .1) → (n < b + length l → (r : ℕ) × Maps l r n) → (r : ℕ) × Maps (p ∷ l) r n
     go (yes e) ih = (p .0, List·Memᴰ·head (λ i. (p .0, e i)))
     go (no e) ih = let z = ih (omega arith) in (z .0, List·Memᴰ·tail (z .1))
+
+-- the children of the mapping's roots
+abbrev pub held : List Node → List (ℕ × ℕ) → ℕ
+held ns [] = 0
+held ns (p ∷ l) = length (kidsOf (stateOf (at ns (p .0)))) + held ns l

@@ -26,13 +26,11 @@ use Rattle.scope.proofs.Added.{Extends}
 use Rattle.scope.proofs.Extend.{ext-rep, ext-st}
 use Rattle.scope.proofs.Push.{push-len, push-extends}
 use Rattle.scope.proofs.Restate.{Restates, restates-rep, restates-known, restates-good}
-use Rattle.scope.proofs.Copy.{import-ok}
-use Rattle.scope.proofs.CopyCount.{import-nodes}
+use Rattle.scope.proofs.Imports.{Imported}
 use Rattle.scope.proofs.Sim.{Sim, Inside}
 use Rattle.scope.proofs.SoundLaws.{SoundNodes, SoundFacts}
 use Rattle.scope.proofs.UnifyKept.{stable-kinds, nodes-stable, unify-seen, carry-seen}
 use Rattle.scope.proofs.SoundKept.{force-view, force-len}
-use Rattle.scope.proofs.ImportKept.{sound-source}
 use Rattle.scope.proofs.Steps.{pushes}
 
 -- the same roots, and every kind kept
@@ -107,10 +105,9 @@ module _ (e : Env) (s : Store) (facts : SoundFacts e s) where
   pub pushes-moves : (sts : List State) → Leaves (pushes (s .nodes) sts) (length sts)
   pushes-moves sts = moves-extends (ok .good) (ok .forest) (pushes-extends (s .nodes) sts) (pushes-length (s .nodes) sts)
 
-  pub import-moves : (ns : List Node) (ps : Option (List Ty)) (ts : List Ty) → SoundNodes e ns → ((t : Ty) → List·Memᴰ t ts → t .idx < length ns)
-      → import ns ps s ts .work .missing ≡ false → Leaves (import ns ps s ts .work .dest .nodes) (copies ns ps ts)
-  import-moves ns ps ts src h miss =
-      moves-extends (ok .good) (ok .forest) (import-ok ns ps s (sound-source e src) ts h .ok .ext) (import-nodes ns ps s ts (sound-source e src) h miss)
+  pub import-moves : (ns : List Node) (ps : Option (List Ty)) (ts : List Ty) → Imported ns ps s ts (import ns ps s ts)
+      → Leaves (import ns ps s ts .work .dest .nodes) (copies ns ps ts)
+  import-moves ns ps ts m = moves-extends (ok .good) (ok .forest) (m .ext) (m .made)
 
   -- `find_mut` and `force_kind`
   pub find-mut-moves : (t : Ty) → Moves (e .texts) (s .nodes) (findMut (s .nodes) t) 0

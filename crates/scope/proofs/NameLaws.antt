@@ -84,7 +84,8 @@ ascending-tail x (y ∷ ys) a = and-eq-true-iff (ltBytes x y) (ascending (y ∷ 
 pub ascending-above : (x : List ℕ) (xs : List (List ℕ)) → ascending (x ∷ xs) ≡ true → (y : List ℕ) → List·Memᴰ y xs → ltBytes x y ≡ true
 unfolding ascending
 ascending-above x [] a y m = absurd (List·Memᴰ·not-nil m)
-ascending-above x (z ∷ zs) a y (List·Memᴰ·head e) = subst (λ (w : List ℕ). ltBytes x w ≡ true) (sym e) (and-eq-true-iff (ltBytes x z) (ascending (z ∷ zs)) .0 a .0)
+ascending-above x (z ∷ zs) a y (List·Memᴰ·head e) = subst (λ (w : List ℕ). ltBytes x w ≡ true) (sym e)
+    (and-eq-true-iff (ltBytes x z) (ascending (z ∷ zs)) .0 a .0)
 ascending-above x (z ∷ zs) a y (List·Memᴰ·tail m) =
     let h = and-eq-true-iff (ltBytes x z) (ascending (z ∷ zs)) .0 a in
     lt-trans x z y (h .0) (ascending-above z zs (h .1) y m)
@@ -122,9 +123,11 @@ within-length : (cs bs : List (List ℕ)) → ascending cs ≡ true → ascendin
 within-length [] bs p q w = omega arith
 within-length (c ∷ cs) [] p q w = absurd (List·Memᴰ·not-nil (w c (List·Memᴰ·head refl)))
 within-length (c ∷ cs) (b ∷ bs) p q w =
-    go (List·Memᴰ·cases-cons (w c (List·Memᴰ·head refl))) (within-length cs bs (ascending-tail c cs p) (ascending-tail b bs q)) (within-length (c ∷ cs) bs p (ascending-tail b bs q))
+    go (List·Memᴰ·cases-cons (w c (List·Memᴰ·head refl))) (within-length cs bs (ascending-tail c cs p) (ascending-tail b bs q))
+    (within-length (c ∷ cs) bs p (ascending-tail b bs q))
   where
-    go : (c ≡ b) ⊎ List·Memᴰ c bs → (Within cs bs → length cs ≤ length bs) → (Within (c ∷ cs) bs → suc (length cs) ≤ length bs) → suc (length cs) ≤ suc (length bs)
+    go : (c ≡ b) ⊎ List·Memᴰ c bs → (Within cs bs → length cs ≤ length bs) → (Within (c ∷ cs) bs → suc (length cs) ≤ length bs)
+        → suc (length cs) ≤ suc (length bs)
     go (inl e) f g = omega (arith, f (within-both c cs b bs p e w))
     go (inr m) f g = omega (arith, g (within-past c cs b bs p (ascending-above b bs q c m) w))
 

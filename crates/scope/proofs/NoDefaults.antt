@@ -25,7 +25,6 @@ use Rattle.scope.proofs.Meet.{unify-spec}
 use Rattle.scope.proofs.Push.{push-new, push-old}
 use Rattle.scope.proofs.UnifyKept.{nodes-stable, stable-kinds, unify-seen}
 use Rattle.scope.proofs.SoundKept.{force-view}
-use Rattle.scope.proofs.ImportKept.{import-extends}
 use Rattle.scope.proofs.Steps.{pushes, maker-cases, import-cases, force-cases, unify-cases, read-cases}
 use Rattle.scope.proofs.Reached.{Reached, next-reached}
 
@@ -68,7 +67,7 @@ module _ (e : Env) (s : Store) (r : Reached e s) (h : Defaultless (view (s .node
       (λ d. h) (λ s′ k d. subst (λ (ns : List Node). Defaultless (view ns)) (sym (k .nodes)) (pushes-less (s .nodes) (statesMade e s m) (d refl) h)) d
   next-less (import l ts ps n) q d = import-cases e s (r .facts)
       (λ t. ((n : ℕ) → length (s .nodes) ≤ n → isDefault (stateOf (at (t .store .nodes) n)) ≡ false) → Defaultless (view (t .store .nodes))) l ts ps n
-      (λ d. h) (λ k d. added-less (s .nodes) _ (import-extends e _ ps s ts (k .source) (r .facts) (k .in-source) (k .in-dest)) d h) d
+      (λ d. h) (λ k d. added-less (s .nodes) _ (k .leaves .ext) d h) d
   next-less (forceKind t) q d = force-cases e s (r .facts) (λ u. Defaultless (view (u .store .nodes))) t h
       (λ w. same-less (force-view e s t (r .facts .nodes .forest) w))
   next-less (unify a b) q d = unify-cases e s (r .facts) (λ o. Defaultless (view (step s o .store .nodes))) a b (λ n. h) (λ ha hb.

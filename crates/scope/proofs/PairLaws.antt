@@ -29,7 +29,8 @@ Betweens i xs ys ps = (p : Ty × Ty) → List·Memᴰ p ps → Between i xs ys p
 pub between-nil : {i : Bool} {xs ys : List Ty} → Betweens i xs ys []
 between-nil p w = absurd (List·Memᴰ·not-nil w)
 
-between-cons : {i : Bool} {xs ys : List Ty} (x y : Ty) {ps : List (Ty × Ty)} → List·Memᴰ x xs → List·Memᴰ y ys → Betweens i xs ys ps → Betweens i xs ys ((x, flip i y) ∷ ps)
+between-cons : {i : Bool} {xs ys : List Ty} (x y : Ty) {ps : List (Ty × Ty)} → List·Memᴰ x xs → List·Memᴰ y ys → Betweens i xs ys ps
+    → Betweens i xs ys ((x, flip i y) ∷ ps)
 between-cons x y a b h p (List·Memᴰ·head q) =
     record { left = Memᴰ·cast (ap (λ (z : Ty × Ty). z .0) q) a; other = y; right = b; turned = ap (λ (z : Ty × Ty). z .1) q }
 between-cons x y a b h p (List·Memᴰ·tail w) = h p w
@@ -40,7 +41,8 @@ between-more f g h p w =
     let b = h p w in
     record { left = f (p .0) (b .left); other = b .other; right = g (b .other) (b .right); turned = b .turned }
 
-pub between-pick : {i : Bool} {xs ys : List Ty} (b : Bool) (l m : Plan) → Betweens i xs ys (l .pairs) → Betweens i xs ys (m .pairs) → Betweens i xs ys (pick b l m .pairs)
+pub between-pick : {i : Bool} {xs ys : List Ty} (b : Bool) (l m : Plan) → Betweens i xs ys (l .pairs) → Betweens i xs ys (m .pairs)
+    → Betweens i xs ys (pick b l m .pairs)
 between-pick true l m f g = f
 between-pick false l m f g = g
 
@@ -53,7 +55,8 @@ zipped-between i (x ∷ xs) (y ∷ ys) =
 
 pub run-between : (i : Bool) (xs ys : List Ty) → Betweens i xs ys (runPlan i xs ys .pairs)
 unfolding runPlan
-run-between i xs ys = between-pick (eqb (length xs) (length ys)) (record { base = Success; pairs = zipped i xs ys }) (answers Failure) (zipped-between i xs ys) between-nil
+run-between i xs ys = between-pick (eqb (length xs) (length ys)) (record { base = Success; pairs = zipped i xs ys }) (answers Failure)
+    (zipped-between i xs ys) between-nil
 
 parameters-in : (xs : List Ty) (x : Ty) → List·Memᴰ x (parameters xs) → List·Memᴰ x xs
 parameters-in [] x w = w
@@ -75,7 +78,8 @@ signature-between i xs ys p w = go (List·Memᴰ·append-cases (runPlan i (param
     go (inr w) = between-more (returned-in xs) (returned-in ys) (run-between i (returned xs) (returned ys)) p w
 
 -- what is found is one of the types, and its name one of the names
-seek-in : (x : Texts) (n : List ℕ) (ms : List (Option Name)) (us : List Ty) (u : Ty) → seek x n ms us ≡ some u → List·Memᴰ u us × List·Memᴰ n (map (bytesOr x) ms)
+seek-in : (x : Texts) (n : List ℕ) (ms : List (Option Name)) (us : List Ty) (u : Ty) → seek x n ms us ≡ some u
+    → List·Memᴰ u us × List·Memᴰ n (map (bytesOr x) ms)
 unfolding seek
 seek-in x n [] us u e = let z : _≡_ {A = ℕ} 0 1 = cc in absurd (omega arith)
 seek-in x n (m ∷ ms) [] u e = let z : _≡_ {A = ℕ} 0 1 = cc in absurd (omega arith)
@@ -86,11 +90,13 @@ seek-in x n (m ∷ ms) (t ∷ us) u e = go (eqBytes n (bytesOr x m)) refl e (see
     go true q e ih = let h : u ≡ t = cc in (List·Memᴰ·head h, List·Memᴰ·head (eq-bytes n (bytesOr x m) q))
     go false q e ih = let h = ih e in (List·Memᴰ·tail (h .0), List·Memᴰ·tail (h .1))
 
-pub shared-between : (x : Texts) (i : Bool) (ns : List (Option Name)) (ts : List Ty) (ms : List (Option Name)) (us : List Ty) → Betweens i ts us (sharedNames x i ns ts ms us .pairs)
+pub shared-between : (x : Texts) (i : Bool) (ns : List (Option Name)) (ts : List Ty) (ms : List (Option Name)) (us : List Ty)
+    → Betweens i ts us (sharedNames x i ns ts ms us .pairs)
 unfolding sharedNames
 shared-between x i [] ts ms us = between-nil
 shared-between x i (n ∷ ns) [] ms us = between-nil
-shared-between x i (n ∷ ns) (t ∷ ts) ms us = go (seek x (bytesOr x n) ms us) refl (between-more (λ z w. List·Memᴰ·tail w) (λ z w. w) (shared-between x i ns ts ms us))
+shared-between x i (n ∷ ns) (t ∷ ts) ms us = go (seek x (bytesOr x n) ms us) refl
+    (between-more (λ z w. List·Memᴰ·tail w) (λ z w. w) (shared-between x i ns ts ms us))
   where
     go : (o : Option Ty) → seek x (bytesOr x n) ms us ≡ o → Betweens i (t ∷ ts) us (sharedNames x i ns ts ms us .pairs)
         → Betweens i (t ∷ ts) us (shared i t o (sharedNames x i ns ts ms us) .pairs)
@@ -161,7 +167,8 @@ signature-lengths i xs ys b =
 
 -- a name that stands nowhere before may be left out of what is sought in
 shared-past : (x : Texts) (i : Bool) (ns : List (Option Name)) (ts : List Ty) (m : Option Name) (ms : List (Option Name)) (u : Ty) (us : List Ty)
-    → ((n : List ℕ) → List·Memᴰ n (map (bytesOr x) ns) → eqBytes n (bytesOr x m) ≡ false) → sharedNames x i ns ts (m ∷ ms) (u ∷ us) ≡ sharedNames x i ns ts ms us
+    → ((n : List ℕ) → List·Memᴰ n (map (bytesOr x) ns) → eqBytes n (bytesOr x m) ≡ false)
+    → sharedNames x i ns ts (m ∷ ms) (u ∷ us) ≡ sharedNames x i ns ts ms us
 unfolding sharedNames seek
 shared-past x i [] ts m ms u us h = refl
 shared-past x i (n ∷ ns) [] m ms u us h = refl
@@ -183,7 +190,12 @@ shared-whole x i (n ∷ ns) (t ∷ ts) (m ∷ ms) (u ∷ us) q a p r =
     let hs : map (bytesOr x) ns ≡ map (bytesOr x) ms = cc in
     let above : (b : List ℕ) → List·Memᴰ b (map (bytesOr x) ns) → eqBytes b (bytesOr x m) ≡ false
     = λ b w. lt-apart (bytesOr x m) b (ascending-above (bytesOr x m) (map (bytesOr x) ms) a b (subst (List·Memᴰ b) hs w)) in
-    rw (bytes-eq hn, shared-past x i ns ts m ms u us above, shared-whole x i ns ts ms us hs (ascending-tail (bytesOr x m) (map (bytesOr x) ms) a) (omega arith) (omega arith))
+    rw (
+      bytes-eq hn,
+      shared-past x i ns ts m ms u us above,
+      shared-whole x i ns ts ms us hs (ascending-tail (bytesOr x m) (map (bytesOr x) ms) a)
+          (omega arith) (omega arith),
+    )
 
 -- from Success each name was found
 shared-within : (x : Texts) (i : Bool) (ns : List (Option Name)) (ts : List Ty) (ms : List (Option Name)) (us : List Ty) → length ns ≡ length ts
@@ -191,7 +203,8 @@ shared-within : (x : Texts) (i : Bool) (ns : List (Option Name)) (ts : List Ty) 
 unfolding sharedNames
 shared-within x i [] ts ms us p b n w = absurd (List·Memᴰ·not-nil w)
 shared-within x i (n ∷ ns) [] ms us p b l w = absurd (omega arith)
-shared-within x i (n ∷ ns) (t ∷ ts) ms us p b l w = go (seek x (bytesOr x n) ms us) refl b (λ c. shared-within x i ns ts ms us (omega arith) c l) (List·Memᴰ·cases-cons w)
+shared-within x i (n ∷ ns) (t ∷ ts) ms us p b l w = go (seek x (bytesOr x n) ms us) refl b (λ c. shared-within x i ns ts ms us (omega arith) c l)
+    (List·Memᴰ·cases-cons w)
   where
     go : (o : Option Ty) → seek x (bytesOr x n) ms us ≡ o → shared i t o (sharedNames x i ns ts ms us) .base ≡ Success
         → (sharedNames x i ns ts ms us .base ≡ Success → List·Memᴰ l (map (bytesOr x) ns) → List·Memᴰ l (map (bytesOr x) ms))
@@ -212,7 +225,8 @@ object-names x i ns ts ms us p r a c b =
     let h = both-success (ofBool (eqb (length ts) (length us))) (sharedNames x i ns ts ms us .base) b in
     let e : length ts ≡ length us = go (eqb (length ts) (length us)) refl (h .0) in
     record {
-      names = within-same (map (bytesOr x) ns) (map (bytesOr x) ms) a c (shared-within x i ns ts ms us p (h .1)) (omega (arith, length-map ns (bytesOr x), length-map ms (bytesOr x)));
+      names = within-same (map (bytesOr x) ns) (map (bytesOr x) ms) a c (shared-within x i ns ts ms us p (h .1))
+          (omega (arith, length-map ns (bytesOr x), length-map ms (bytesOr x)));
       lengths = e;
     }
   where

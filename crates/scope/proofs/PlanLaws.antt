@@ -133,7 +133,8 @@ first-names x [] (m ∷ ms) q = let z : _≡_ {A = ℕ} 0 1 = cc in absurd (omeg
 first-names x (n ∷ ns) [] q = let z : _≡_ {A = ℕ} 0 1 = cc in absurd (omega arith)
 first-names x (n ∷ ns) (m ∷ ms) q = cc
 
-only-names : (x : Texts) (ns ms : List (Option Name)) → length ns ≡ 1 → length ms ≡ 1 → firstName x ns ≡ firstName x ms → map (bytesOr x) ns ≡ map (bytesOr x) ms
+only-names : (x : Texts) (ns ms : List (Option Name)) → length ns ≡ 1 → length ms ≡ 1 → firstName x ns ≡ firstName x ms
+    → map (bytesOr x) ns ≡ map (bytesOr x) ms
 only-names x [] ms p r q = absurd (omega arith)
 only-names x (n ∷ ns) [] p r q = absurd (omega arith)
 only-names x (n ∷ n′ ∷ ns) (m ∷ ms) p r q = absurd (omega arith)
@@ -177,7 +178,9 @@ kids-whole x k m i mk mm q e = go (eqb (k .head .code) OBJECT) (eqb (k .head .co
     object c =
         let ok = object-made x (k .head) (length (k .kids)) mk c in
         let om = object-made x (m .head) (length (m .kids)) mm (sym (head-codes x (k .head) (m .head) q) ∙ c) in
-        rw (shared-whole x i (k .head .names) (k .kids) (m .head .names) (m .kids) (head-names x (k .head) (m .head) q (rw c)) (om .1) (ok .0) (om .0), eq-eqb (length (k .kids)) (length (m .kids)) e)
+        let ns = head-names x (k .head) (m .head) q (rw c) in
+        let w = shared-whole x i (k .head .names) (k .kids) (m .head .names) (m .kids) ns (om .1) (ok .0) (om .0) in
+        rw (w, eq-eqb (length (k .kids)) (length (m .kids)) e)
 
     go : (b c : Bool) → eqb (k .head .code) OBJECT ≡ b
         → pick b (objectPlan x i (k .head .names) (k .kids) (m .head .names) (m .kids)) (pick c (signaturePlan i (k .kids) (m .kids)) (runPlan i (k .kids) (m .kids))) ≡ whole i (k .kids) (m .kids)
@@ -206,6 +209,19 @@ kids-same x k m i mk mm q b = go (eqb (k .head .code) OBJECT) (eqb (k .head .cod
         record { lengths = s .lengths; names = λ c. s .names }
     go false true o b = record { lengths = signature-lengths i (k .kids) (m .kids) b; names = λ c. absurd (eqb-false (k .head .code) OBJECT o c) }
     go false false o b = record { lengths = run-lengths i (k .kids) (m .kids) b; names = λ c. absurd (eqb-false (k .head .code) OBJECT o c) }
+
+-- an Object's names and a Key's, where both are alike
+same-names : (x : Texts) (k m : Kind) → makeable x (k .head) (length (k .kids)) ≡ true → makeable x (m .head) (length (m .kids)) ≡ true
+    → SameHeads x (k .head) (m .head) → SameKids x k m → hasNames (k .head .code) ≡ true
+    → map (bytesOr x) (k .head .names) ≡ map (bytesOr x) (m .head .names)
+same-names x k m mk mm s t d = go (has-names (k .head .code) d)
+  where
+    go : (k .head .code ≡ OBJECT) ⊎ (k .head .code ≡ KEY) → map (bytesOr x) (k .head .names) ≡ map (bytesOr x) (m .head .names)
+    go (inl o) = t .names o
+    go (inr o) =
+        let nk = key-made x (k .head) (length (k .kids)) mk o in
+        let nm = key-made x (m .head) (length (m .kids)) mm (sym (s .codes) ∙ o) in
+        only-names x (k .head .names) (m .head .names) nk nm (s .keys o)
 
 -- what a plan is
 data Planned (x : Texts) (k m : Kind) (i : Bool) : Plan → Type 0 where
@@ -236,11 +252,7 @@ plan-success e k m i ok om b = go (planned (e .texts) k m i) b
     go (alike h c) b =
         let s = same-heads (e .texts) (k .head) (m .head) h in
         let t = kids-same (e .texts) k m i (ok .made) (om .made) (s .codes) b in
-        let named : (k .head .code ≡ OBJECT) ⊎ (k .head .code ≡ KEY) → map (bytesOr (e .texts)) (k .head .names) ≡ map (bytesOr (e .texts)) (m .head .names) = elim [
-          | inl o ↦ t .names o
-          | inr o ↦ only-names (e .texts) (k .head .names) (m .head .names) (key-made (e .texts) (k .head) (length (k .kids)) (ok .made) o) (key-made (e .texts) (m .head) (length (m .kids)) (om .made) (sym (s .codes) ∙ o)) (s .keys o)
-        ] in
-        let q : treeHead (e .texts) (k .head) ≡ treeHead (e .texts) (m .head) = heads-equal (e .texts) (k .head) (m .head) (s .codes) (s .numbers) (λ d. named (has-names (k .head .code) d)) in
+        let q = heads-equal (e .texts) (k .head) (m .head) (s .codes) (s .numbers) (same-names (e .texts) k m (ok .made) (om .made) s t) in
         record {
           heads = q;
           codes = s .codes;
@@ -269,7 +281,8 @@ unfolding zipped
 zipped-equal e v i [] ys q p w = absurd (List·Memᴰ·not-nil w)
 zipped-equal e v i (x ∷ xs) [] q p w = absurd (List·Memᴰ·not-nil w)
 zipped-equal e v i (x ∷ xs) (y ∷ ys) q p (List·Memᴰ·head h) =
-    ap (λ (z : Ty × Ty). val e v (z .0)) h ∙ fcons-head (q ∙ invertsIf-cons e i (val e v y) (vals e v ys)) ∙ sym (val-flip e v i y) ∙ sym (ap (λ (z : Ty × Ty). val e v (z .1)) h)
+    ap (λ (z : Ty × Ty). val e v (z .0)) h ∙ fcons-head (q ∙ invertsIf-cons e i (val e v y) (vals e v ys)) ∙ sym (val-flip e v i y)
+    ∙ sym (ap (λ (z : Ty × Ty). val e v (z .1)) h)
 zipped-equal e v i (x ∷ xs) (y ∷ ys) q p (List·Memᴰ·tail w) = zipped-equal e v i xs ys (fcons-tail (q ∙ invertsIf-cons e i (val e v y) (vals e v ys))) p w
 
 -- equal trees: all children in order, where the inversions agree or the kind is self-dual
@@ -286,7 +299,8 @@ plan-equal e v k m i ok om q p w = go (planned (e .texts) k m i) w
     go : {l : Plan} → Planned (e .texts) k m i l → List·Memᴰ p (l .pairs) → val e v (p .0) ≡ val e v (p .1)
     go stopped w = absurd (List·Memᴰ·not-nil w)
     go (apart h) w = absurd (List·Memᴰ·not-nil w)
-    go (alike h c) w = zipped-equal e v i (k .kids) (m .kids) (build-vals e v k m i ok q c) p (subst (λ (l : Plan). List·Memᴰ p (l .pairs)) (trees-whole e v k m i ok om q c) w)
+    go (alike h c) w = zipped-equal e v i (k .kids) (m .kids) (build-vals e v k m i ok q c) p
+        (subst (λ (l : Plan). List·Memᴰ p (l .pairs)) (trees-whole e v k m i ok om q c) w)
 
 -- kinds that are not self-dual have no tree equal to another's inverse
 crosses-of : (e : Env) (v : Val) (k m : Kind) (i : Bool) → Makeable e k → k .head .code ≢ DEFAULT → build e v k ≡ invertIf e i (build e v m)
@@ -297,7 +311,8 @@ crosses-of e v k m true ok nd q = go (selfDual (k .head)) refl
   where
     go : (b : Bool) → selfDual (k .head) ≡ b → (b && not (eqb (k .head .code) DEFAULT)) ≡ true
     go true d = rw (ne-eqb (k .head .code) DEFAULT nd)
-    go false d = node-mark (q ∙ invert-mark e (treeHead (e .texts) (m .head)) false (vals e v (m .kids)) (sym (ap (treeDual e) (build-heads e v k m true q)) ∙ dual-tree e k ok ∙ d))
+    go false d = node-mark (q ∙ invert-mark e (treeHead (e .texts) (m .head)) false (vals e v (m .kids))
+        (sym (ap (treeDual e) (build-heads e v k m true q)) ∙ dual-tree e k ok ∙ d))
 
 -- a plan that starts from Failure has no equal trees, unless by a Default
 pub plan-fail : (e : Env) (v : Val) (k m : Kind) (i : Bool) → Makeable e k → Makeable e m → k .head .code ≢ DEFAULT

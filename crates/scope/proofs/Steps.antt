@@ -27,7 +27,8 @@ use Rattle.scope.proofs.Falls.{of-all}
 use Rattle.scope.proofs.SoundLaws.{SoundNodes, SoundFacts, sound-facts}
 use Rattle.scope.proofs.SoundKept.{Kept}
 use Rattle.scope.proofs.MakeKept.{new-kept, new-var-kept, new-vars-kept, error-kept, nil-kept}
-use Rattle.scope.proofs.ImportKept.{import-kept}
+use Rattle.scope.proofs.Imports.{Imported}
+use Rattle.scope.proofs.ImportKept.{import-leaves, import-kept}
 
 -- every test is passed
 abbrev pub Passed : List (Bool × ℕ) → Type 0
@@ -124,12 +125,9 @@ module _ (e : Env) (s : Store) (ok : SoundFacts e s) where
       go none = refl
       go (some t) = refl
 
-  -- what an import that is taken is given, and leaves
+  -- what an import that is taken leaves
   pub record Imports (l : Lent) (ts : List Ty) (ps : Option (List Ty)) : Type 0 where
-    pub source : SoundNodes e (storeOf l .nodes)
-    pub in-source : (t : Ty) → List·Memᴰ t ts → t .idx < length (storeOf l .nodes)
-    pub in-dest : (t : Ty) → List·Memᴰ t (importList ps) → t .idx < length (s .nodes)
-    pub miss : import (storeOf l .nodes) ps s ts .work .missing ≡ false
+    pub leaves : Imported (storeOf l .nodes) ps s ts (import (storeOf l .nodes) ps s ts)
     pub kept : Kept e s (import (storeOf l .nodes) ps s ts .work .dest)
 
   source-facts : (l : Lent) → not (sound e l) ≡ false → SoundNodes e (storeOf l .nodes)
@@ -164,10 +162,7 @@ module _ (e : Env) (s : Store) (ok : SoundFacts e s) where
           let d : (t : Ty) → List·Memᴰ t (importList ps) → t .idx < length (s .nodes) =
           λ t w. ltb-true (t .idx) (length (s .nodes)) (of-all (inStore (s .nodes)) (importList ps) (and-right (all (inStore ns) ts) _ a) w) in
           record {
-            source = src;
-            in-source = i;
-            in-dest = d;
-            miss = miss;
+            leaves = import-leaves e ns ps s ts src ok i d miss;
             kept = import-kept e ns ps s ts src ok i d miss (ltb-false _ _ hn) (ltb-false _ _ hc);
           }
 
