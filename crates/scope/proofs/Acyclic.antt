@@ -8,54 +8,8 @@ use native.Mathlib.Omega.{arith}
 use Rattle.scope.specs.Base.{xor}
 use Rattle.scope.specs.Types.{Ty, ty}
 use Rattle.scope.specs.Nodes.{Kind}
+use Rattle.scope.proofs.ViewLaws.{same?, idx-eq, not-known, irrefl, rep-hit, rep-miss, st-w, st-l, st-other}
 use Rattle.scope.proofs.View.{VState, unknown, known, View, sel, link, Kid, Below, one, more, Fin, fin, Good}
-
-pub sel-yes {ℓ ℓ′} : {A : Type ℓ} {B : Type ℓ′} (d : Dec A) (x y : B) → A → sel d x y ≡ x
-sel-yes (yes a) x y h = refl
-sel-yes (no n) x y h = absurd (n h)
-
-pub sel-no {ℓ ℓ′} : {A : Type ℓ} {B : Type ℓ′} (d : Dec A) (x y : B) → ¬ A → sel d x y ≡ y
-sel-no (yes a) x y h = absurd (h a)
-sel-no (no n) x y h = refl
-
-pub same? : (x y : ℕ) → (x ≡ y) ⊎ (x ≢ y)
-same? x y = elim (ℕ-discrete x y) [ yes e ↦ inl e | no n ↦ inr n ]
-
-pub idx-eq : {s t : Ty} → s ≡ t → s .idx ≡ t .idx
-idx-eq e = ap (λ (t : Ty). t .idx) e
-
-pub not-known : {i : Bool} {k : Kind} → unknown ≡ known i k → ⊥
-not-known {i} {k} e = let z : _≡_ {A = ℕ} 0 1 = cc in omega arith
-
-pub below-join : {g : View} {a x y : ℕ} → Below g a x → Below g x y → Below g a y
-below-join (one k) b = more k b
-below-join (more k c) b = more k (below-join c b)
-
--- nothing contains itself
-pub irrefl : {g : View} {a : ℕ} → Fin g a → Below g a a → ⊥
-irrefl {g} {a} (fin f) (one k) = irrefl (f a k) (one k)
-irrefl {g} {a} (fin f) (more {y = y} k b) = irrefl (f y k) (below-join b (one k))
-
-module _ (g : View) (w l : ℕ) (i : Bool) (k : VState) where
-  pub rep-hit : (n : ℕ) → g .rep n .idx ≡ l → link g w l i k .rep n ≡ ty (xor (g .rep n .inv) i) w
-  unfolding link
-  rep-hit n h = sel-yes (ℕ-discrete (g .rep n .idx) l) _ _ h
-
-  pub rep-miss : (n : ℕ) → g .rep n .idx ≢ l → link g w l i k .rep n ≡ g .rep n
-  unfolding link
-  rep-miss n h = sel-no (ℕ-discrete (g .rep n .idx) l) _ _ h
-
-  pub st-w : link g w l i k .st w ≡ k
-  unfolding link
-  st-w = sel-yes (ℕ-discrete w w) _ _ refl
-
-  pub st-l : l ≢ w → link g w l i k .st l ≡ unknown
-  unfolding link
-  st-l h = sel-no (ℕ-discrete l w) _ _ h ∙ sel-yes (ℕ-discrete l l) _ _ refl
-
-  pub st-other : (n : ℕ) → n ≢ w → n ≢ l → link g w l i k .st n ≡ g .st n
-  unfolding link
-  st-other n h h′ = sel-no (ℕ-discrete n w) _ _ h ∙ sel-no (ℕ-discrete n l) _ _ h′
 
 -- when w and l may be joined, w keeping the state k
 pub record Joins (g : View) (w l : ℕ) (k : VState) : Type 0 where

@@ -15,7 +15,7 @@ use Rattle.scope.specs.Limits.{NONE}
 use Rattle.scope.specs.Types.{Ty, ty}
 use Rattle.scope.specs.Nodes.{Kind, State, Unknown, Node, Root, Child, at, stateOf, sizeOf}
 use Rattle.scope.proofs.View.{View, known, Kid, Fin, fin, Good, seen, view}
-use Rattle.scope.proofs.Needs.{Held}
+use Rattle.scope.proofs.ViewLaws.{Held}
 use Rattle.scope.proofs.Paths.{beyond, Leads, top, up, not-child, child-inside, leads-inside, Lead, Forest, lead-all, rep-leads, rep-inside, kid-inside, rep-idem, root-rep}
 use Rattle.scope.proofs.Merge.{Shallow}
 use Rattle.scope.proofs.Added.{Extends}

@@ -18,7 +18,7 @@ use Rattle.scope.specs.Unify.{Plan, plan}
 use Rattle.scope.specs.Trees.{TreeHead, Tree, node, Forest, fnil, fcons, treeHead, treeDual, invert, inverts, Val, invertIf, val, vals, build}
 use Rattle.scope.proofs.View.{VState, unknown, known, View, sel, rootOf, Kid, Below, one, more, Good, Out, out, run, occurs, selfSt, selfInverse, same, bind, close, join, kept, meetSt, meet, unify}
 use Rattle.scope.proofs.PlanLaws.{Makeable, dual-tree, plan-equal, plan-fail}
-use Rattle.scope.proofs.Acyclic.{not-known}
+use Rattle.scope.proofs.ViewLaws.{not-known}
 use Rattle.scope.proofs.Grow.{ri, Grow, mono-idx}
 use Rattle.scope.proofs.Stay.{Spec, Step}
 use Rattle.scope.proofs.Occurs.{tf, self-kind}

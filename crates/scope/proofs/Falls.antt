@@ -13,7 +13,7 @@ use Rattle.scope.specs.Sound.{falls}
 use Rattle.scope.specs.Demand.{Holds, Contains}
 use Rattle.scope.specs.Demand as Demand
 use Rattle.scope.proofs.View.{VState, unknown, known, View, Kid, Below, one, more, Fin, fin, Good, seen, view}
-use Rattle.scope.proofs.Needs.{not-known, below-join, irrefl, Held}
+use Rattle.scope.proofs.ViewLaws.{not-known, below-join, irrefl, Held}
 use Rattle.scope.proofs.Free.{memb, memb-none, memb-more, free, free-nil, free-lt}
 use Rattle.scope.proofs.Paths.{Forest, find-idx, kid-inside, root-rep}
 use Rattle.scope.proofs.Sizes.{and-left, and-right, both-true}

@@ -19,7 +19,7 @@ use Rattle.scope.specs.Trees.{Val, NodeFits, Fits, PairFits}
 use Rattle.scope.specs.Demand.{Maker, Read, Call, make, import, forceKind, unify, read, later, reset, step, given, next, after, inFirstHalf, Each, StatesFit, statesMade, Asks, Asked, Answers, EveryAnswer, SelfInverseNode, FirstHalfHolds}
 use Rattle.scope.proofs.View.{unknown, seen, view}
 use Rattle.scope.proofs.ViewFits as Seen
-use Rattle.scope.proofs.Needs.{not-known}
+use Rattle.scope.proofs.ViewLaws.{not-known}
 use Rattle.scope.proofs.Paths.{find-mut-tidied, tidied-forest, tidied-view}
 use Rattle.scope.proofs.Added.{fits-added}
 use Rattle.scope.proofs.Inside.{Inside}

@@ -8,7 +8,7 @@ use native.Mathlib.Nat.{not-suc-le-zero}
 use native.Mathlib.Omega.{arith}
 use native.Mathlib.Decide.{ℕ-discrete}
 use Rattle.scope.proofs.View.{sel}
-use Rattle.scope.proofs.Needs.{same?, sel-yes, sel-no}
+use Rattle.scope.proofs.ViewLaws.{same?, sel-yes, sel-no}
 
 pub memb : ℕ → List ℕ → Bool
 memb x [] = false

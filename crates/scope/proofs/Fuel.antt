@@ -13,7 +13,7 @@ use Rattle.scope.specs.Nodes.{Kind}
 use Rattle.scope.specs.Unify.{plan}
 use Rattle.scope.proofs.View.{known, View, sel, Kid, Below, one, Good, Out}
 use Rattle.scope.proofs.PlanLaws.{plan-left}
-use Rattle.scope.proofs.Acyclic.{same?, irrefl, below-join, sel-yes, sel-no}
+use Rattle.scope.proofs.ViewLaws.{same?, irrefl, below-join, sel-yes, sel-no}
 use Rattle.scope.proofs.Grow.{ri}
 use Rattle.scope.proofs.Stay.{AllPairs, Spec, below-stays}
 

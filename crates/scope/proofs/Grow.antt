@@ -12,35 +12,8 @@ use Rattle.scope.specs.Kinds.{Head, selfDual}
 use Rattle.scope.specs.Nodes.{Kind}
 use Rattle.scope.specs.Trees.{treeHead}
 use Rattle.scope.proofs.View.{VState, known, View, rootOf, link, Kid, Below, one, more, Good}
-use Rattle.scope.proofs.Acyclic.{idx-eq, same?, rep-hit, rep-miss, st-w, st-other, Joins, link-good}
-
-pub xor-assoc : (a b c : Bool) → xor (xor a b) c ≡ xor a (xor b c)
-xor-assoc false b c = refl
-xor-assoc true false c = refl
-xor-assoc true true false = refl
-xor-assoc true true true = refl
-
-pub xor-false : (a : Bool) → xor a false ≡ a
-xor-false false = refl
-xor-false true = refl
-
-pub xor-self : (a : Bool) → xor a a ≡ false
-xor-self false = refl
-xor-self true = refl
-
-pub xor-twice : (a b : Bool) → xor a (xor a b) ≡ b
-xor-twice false b = refl
-xor-twice true false = refl
-xor-twice true true = refl
-
-pub xor-comm : (a b : Bool) → xor a b ≡ xor b a
-xor-comm false false = refl
-xor-comm false true = refl
-xor-comm true false = refl
-xor-comm true true = refl
-
-pub flip-flip : (a b : Bool) (t : Ty) → flip (xor a b) t ≡ flip a (flip b t)
-flip-flip a b t = ap (λ (c : Bool). ty c (t .idx)) (xor-assoc a b (t .inv))
+use Rattle.scope.proofs.ViewLaws.{xor-false, xor-twice, flip-flip, idx-eq, same?, rep-hit, rep-miss, st-w, st-other}
+use Rattle.scope.proofs.Acyclic.{Joins, link-good}
 
 -- the number of a type's root
 abbrev pub ri : View → Ty → ℕ

@@ -14,7 +14,7 @@ use Rattle.scope.specs.Answers.{Answer, Success, Failure, Indeterminate,
 use Rattle.scope.specs.Unify.{Plan, plan}
 use Rattle.scope.proofs.View.{VState, unknown, known, View, sel, rootOf, Good, Out, out, run, occurs, same, bind, close, join, kept, meetSt, meet, unify}
 use Rattle.scope.proofs.PlanLaws.{Makeable, plan-left, plan-right}
-use Rattle.scope.proofs.Acyclic.{same?, rep-hit, rep-miss}
+use Rattle.scope.proofs.ViewLaws.{same?, rep-hit, rep-miss}
 use Rattle.scope.proofs.Stay.{Kinds, NoNew, AllPairs, Step}
 use Rattle.scope.proofs.Meet.{unify-spec}
 

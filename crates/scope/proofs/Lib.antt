@@ -27,7 +27,6 @@ pub mod Meet
 pub mod Merge
 pub mod Moves
 pub mod NameLaws
-pub mod Needs
 pub mod NoDefaults
 pub mod NodesFit
 pub mod NodesMade
@@ -54,3 +53,4 @@ pub mod TreeLaws
 pub mod UnifyKept
 pub mod View
 pub mod ViewFits
+pub mod ViewLaws

@@ -14,7 +14,7 @@ use Rattle.scope.specs.Nodes.{Kind, State, Known, Unknown, Node, Store, 
 use Rattle.scope.specs.Make.{push, pushed, nextType, new, newVar, newVars, bare, makeError, makeNil, again, rememberError, rememberNil}
 use Rattle.scope.specs.Calls.{nodesFor}
 use Rattle.scope.proofs.View.{known, seen, view}
-use Rattle.scope.proofs.Needs.{same?, not-known}
+use Rattle.scope.proofs.ViewLaws.{same?, not-known}
 use Rattle.scope.proofs.Extend.{ext-forest, ext-shallow, ext-sized}
 use Rattle.scope.proofs.Push.{push-len, push-new, push-old, push-extends, push-good}
 use Rattle.scope.proofs.SoundLaws.{Fine, kinds-held, SoundNodes, SoundFacts}

@@ -14,7 +14,7 @@ use Rattle.scope.specs.Types.{Ty, ty, flip}
 use Rattle.scope.specs.Nodes.{State, Node, Root, Child, at, stateOf, sizeOf}
 use Rattle.scope.specs.Unify.{join}
 use Rattle.scope.proofs.View.{View, VState, unknown, sel, link, seen, view}
-use Rattle.scope.proofs.Needs.{same?, sel-yes, sel-no, rep-hit, rep-miss, st-w, st-l, st-other, xor-assoc}
+use Rattle.scope.proofs.ViewLaws.{same?, sel-yes, sel-no, rep-hit, rep-miss, st-w, st-l, st-other, xor-assoc}
 use Rattle.scope.proofs.Paths.{beyond, Leads, top, up, not-child, child-inj, flip-false, Lead, Forest, Tidied, lead-all, rep-leads, top-root}
 
 -- 2 to the number of a node's parent steps is at most its root's size

@@ -17,7 +17,7 @@ use Rattle.scope.specs.Force.{forceKind}
 use Rattle.scope.specs.Import.{import, copies}
 use Rattle.scope.proofs.View.{View, known, Good, seen, view}
 use Rattle.scope.proofs.View as Seen
-use Rattle.scope.proofs.Needs.{not-known}
+use Rattle.scope.proofs.ViewLaws.{not-known}
 use Rattle.scope.proofs.Grow.{alike-refl, heads-refl, Grow, grow-refl}
 use Rattle.scope.proofs.Stay.{run-spec}
 use Rattle.scope.proofs.Meet.{unify-spec}

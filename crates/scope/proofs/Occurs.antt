@@ -14,7 +14,7 @@ use Rattle.scope.specs.Kinds.{Head, selfDual, rowOf, PARAM}
 use Rattle.scope.specs.Nodes.{Kind}
 use Rattle.scope.specs.Unify.{selfInverseKind}
 use Rattle.scope.proofs.View.{VState, unknown, known, View, Below, one, more, occurs, occursSt, selfSt, selfInverse}
-use Rattle.scope.proofs.Acyclic.{same?, sel-yes, sel-no}
+use Rattle.scope.proofs.ViewLaws.{same?, sel-yes, sel-no}
 use Rattle.scope.proofs.Grow.{ri, Self, self}
 
 pub tf : {A : Type 0} → true ≡ false → A

@@ -15,7 +15,7 @@ use Rattle.scope.specs.Limits.{NONE}
 use Rattle.scope.specs.Types.{Ty, ty, flip}
 use Rattle.scope.specs.Nodes.{State, Unknown, Node, Root, Child, at, stateOf, sizeOf, hop, climb, find, point, compress, findMut}
 use Rattle.scope.proofs.View.{View, rootOf, Kid, seen, view}
-use Rattle.scope.proofs.Needs.{same?, xor-false, xor-twice, xor-comm, flip-flip, Held}
+use Rattle.scope.proofs.ViewLaws.{same?, xor-false, xor-twice, xor-comm, flip-flip, Held}
 use Rattle.scope.proofs.Free.{memb, memb-none, memb-more, free, free-nil, free-lt}
 
 -- past the last node

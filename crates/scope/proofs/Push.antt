@@ -12,7 +12,7 @@ use Rattle.scope.specs.Types.{Ty}
 use Rattle.scope.specs.Nodes.{Kind, State, Node, Root, at, stateOf}
 use Rattle.scope.specs.Make.{push}
 use Rattle.scope.proofs.View.{known, Good, seen, view}
-use Rattle.scope.proofs.Needs.{same?, Held}
+use Rattle.scope.proofs.ViewLaws.{same?, Held}
 use Rattle.scope.proofs.Paths.{beyond, Forest, rep-inside}
 use Rattle.scope.proofs.Added.{Extends}
 use Rattle.scope.proofs.Extend.{ext-rep, ext-good}

@@ -16,7 +16,7 @@ use Rattle.scope.specs.Nodes.{Kind, State, Known, Unknown, InferenceFail
 use Rattle.scope.specs.Make.{bare}
 use Rattle.scope.specs.Force.{finishNode, finishWhere, finishInference}
 use Rattle.scope.proofs.View.{View, VState, unknown, known, Kid, Fin, fin, Good, seen, view}
-use Rattle.scope.proofs.Needs.{same?, not-known}
+use Rattle.scope.proofs.ViewLaws.{same?, not-known}
 use Rattle.scope.proofs.Paths.{beyond, Leads, top, up, not-child, Lead, Forest, lead-all, rep-leads, rep-idem}
 use Rattle.scope.proofs.Merge.{Shallow}
 use Rattle.scope.proofs.Sizes.{count-same, Sized}

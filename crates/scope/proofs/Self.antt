@@ -12,8 +12,8 @@ use Rattle.scope.specs.Types.{Ty, ty}
 use Rattle.scope.specs.Nodes.{Kind}
 use Rattle.scope.specs.Answers.{Success, ofBool}
 use Rattle.scope.proofs.View.{VState, unknown, known, View, sel, rootOf, Kid, Below, one, more, Good, occurs, occursSt, out, selfSt, selfInverse, same, meetSt, meet, unify}
-use Rattle.scope.proofs.Acyclic.{sel-yes}
-use Rattle.scope.proofs.Grow.{ri, xor-self, Self, self, Joined, agree, selfly, joined-idx}
+use Rattle.scope.proofs.ViewLaws.{sel-yes, xor-self}
+use Rattle.scope.proofs.Grow.{ri, Self, self, Joined, agree, selfly, joined-idx}
 use Rattle.scope.proofs.Occurs.{tf, self-kind}
 use Rattle.scope.proofs.Fuel.{Chain, cnil, chain-step, fuel-out, fuel-step, free, free-nil}
 use Rattle.scope.proofs.Inside.{Inside}

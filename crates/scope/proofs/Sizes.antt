@@ -19,7 +19,7 @@ use Rattle.scope.specs.Nodes.{State, Node, Root, Child, at, isRoot, size
 use Rattle.scope.specs.Sound.{rooted, rootedNode, treeSize}
 use Rattle.scope.specs.Demand.{sizes}
 use Rattle.scope.proofs.View.{View, VState, sel, link, view}
-use Rattle.scope.proofs.Needs.{same?, sel-yes, sel-no, rep-hit, rep-miss}
+use Rattle.scope.proofs.ViewLaws.{same?, sel-yes, sel-no, rep-hit, rep-miss}
 use Rattle.scope.proofs.Paths.{beyond, Leads, top, up, not-child, leads-inside, Lead, Forest, lead-all, rep-leads, rep-inside}
 use Rattle.scope.proofs.Merge.{Shallow}
 

@@ -18,8 +18,8 @@ use Rattle.scope.specs.Unify.{Plan, plan, zipped, crosses}
 use Rattle.scope.specs.Trees.{TreeHead, Tree, node, Forest, fcons, treeHead, inverts, Val, invertIf, val, vals, build}
 use Rattle.scope.proofs.View.{VState, unknown, known, View, sel, rootOf, Good, Out, out, run, occurs, same, bind, close, join, kept, turn, orSt, meetSt, meet, unify}
 use Rattle.scope.proofs.PlanLaws.{Makeable, dual-tree, plan-success, plan-equal}
-use Rattle.scope.proofs.Acyclic.{idx-eq, same?, not-known, rep-hit, rep-miss, st-w, st-l, st-other}
-use Rattle.scope.proofs.Grow.{xor-twice, xor-comm, joined-grow}
+use Rattle.scope.proofs.ViewLaws.{idx-eq, same?, not-known, rep-hit, rep-miss, st-w, st-l, st-other, xor-twice, xor-comm}
+use Rattle.scope.proofs.Grow.{joined-grow}
 use Rattle.scope.proofs.Stay.{Kinds, kinds-after, AllPairs, Stays, Spec, RunSpec, Step, run-spec}
 use Rattle.scope.proofs.Occurs.{and-yes}
 use Rattle.scope.proofs.Meet.{unify-spec, PlanSpec, plan-spec, Mergeable, deep-ok, a-stays, b-stays, join-spec}

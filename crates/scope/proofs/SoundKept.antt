@@ -16,7 +16,7 @@ use Rattle.scope.specs.Unify.{Plan, carry, unify}
 use Rattle.scope.specs.Make.{bare}
 use Rattle.scope.specs.Force.{withReports, fail, forceKind, finishWhere, finishInference, reset}
 use Rattle.scope.proofs.View.{View, known, fin, view}
-use Rattle.scope.proofs.Needs.{not-known}
+use Rattle.scope.proofs.ViewLaws.{not-known}
 use Rattle.scope.proofs.Paths.{not-child, Forest, Tidied, find-idx, rep-root, find-inside, find-mut-tidied, tidied-forest, tidied-view}
 use Rattle.scope.proofs.Merge.{Shallow, tidied-shallow}
 use Rattle.scope.proofs.Restate.{Restates, restates-kind, restates-shallow, restates-forest, restates-sized, restates-good, failed-restates, failed-view, finish-where-restates, finish-restates}

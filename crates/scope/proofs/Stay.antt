@@ -13,7 +13,7 @@ use Rattle.scope.specs.Nodes.{Kind}
 use Rattle.scope.specs.Answers.{Answer, Success, Failure, Indeterminate, both}
 use Rattle.scope.proofs.View.{known, View, Below, Good, Out, out, run}
 use Rattle.scope.proofs.PlanLaws.{Makeable}
-use Rattle.scope.proofs.Acyclic.{idx-eq}
+use Rattle.scope.proofs.ViewLaws.{idx-eq}
 use Rattle.scope.proofs.Grow.{ri, Grow, grow-refl, grow-trans, mono-idx, Joined, joined-grow, below-grow, below-top}
 
 -- every known kind can be made

@@ -1,4 +1,4 @@
--- What the store's laws use of a view: choices, inversions, the view that a link leaves, containment. Assumes nothing.
+-- Laws of views that the others use: choices, inversions, what a link leaves, containment. Assumes nothing.
 use mathlib.Core.Path.{_≡_, refl, sym, ap, _∙_}
 use mathlib.Core.List.{List, [], _∷_, List·Memᴰ}
 use mathlib.Core.Bool.{Bool, true, false, not}
@@ -22,6 +22,9 @@ sel-no (no n) x y h = refl
 pub same? : (x y : ℕ) → (x ≡ y) ⊎ (x ≢ y)
 same? x y = elim (ℕ-discrete x y) [ yes e ↦ inl e | no n ↦ inr n ]
 
+pub idx-eq : {s t : Ty} → s ≡ t → s .idx ≡ t .idx
+idx-eq e = ap (λ (t : Ty). t .idx) e
+
 pub not-known : {i : Bool} {k : Kind} → unknown ≡ known i k → ⊥
 not-known {i} {k} e = let z : _≡_ {A = ℕ} 0 1 = cc in omega arith
 
@@ -34,6 +37,10 @@ xor-assoc true true true = refl
 pub xor-false : (a : Bool) → xor a false ≡ a
 xor-false false = refl
 xor-false true = refl
+
+pub xor-self : (a : Bool) → xor a a ≡ false
+xor-self false = refl
+xor-self true = refl
 
 pub xor-twice : (a b : Bool) → xor a (xor a b) ≡ b
 xor-twice false b = refl
