@@ -20,9 +20,10 @@ use Rattle.scope.specs.Sound.{falls}
 use Rattle.scope.specs.Import.{Work, keep, entry, entryAt, replaced, import, copies}
 use Rattle.scope.specs.Calls.{importList}
 use Rattle.scope.proofs.View.{known, Kid, Good, seen, view}
+use Rattle.scope.proofs.TestLaws.{of-all}
 use Rattle.scope.proofs.PlanLaws.{Makeable}
 use Rattle.scope.proofs.Added.{Closed, at-end, find-added, find-new, closed-added, good-added}
-use Rattle.scope.proofs.Mapping.{Source, all-mem, Maps, tally-range, tally-onto}
+use Rattle.scope.proofs.Mapping.{Source, Maps, tally-range, tally-onto}
 use Rattle.scope.proofs.Copy.{copyState, below, Became, as-copy, as-entry, lost, BecameAll, bnil, bcons, Filled, Ok}
 
 pub not-keep : {t : Ty} → entry t ≡ keep → ⊥
@@ -198,7 +199,7 @@ module _ (ns : List Node) (ps : Option (List Ty)) (s : Store) (w : Work) (ok : O
           let m = known-mem (stateOf (at (w .dest .nodes) a)) (c .state) (c .kid) (c .mem) in
           let z = became-source (l .became) (c .kid)
           (copy-mem (stateOf (at ns (d .root))) (l .kids) (c .kid) (subst (λ (x : Node). List·Memᴰ (c .kid) (kidsOf (stateOf x))) (l .node) m)) in
-          kid-depth f y (all-mem (λ (x : Ty). falls f ns (find ns x .idx)) (kidsOf (stateOf (at ns (d .root)))) (z .0) (z .1) (d .falling)) (z .2) (c .to)
+          kid-depth f y (of-all (λ (x : Ty). falls f ns (find ns x .idx)) (kidsOf (stateOf (at ns (d .root)))) (d .falling) (z .1)) (z .2) (c .to)
 
       -- no cycle
       pub copies-good : Source ns → Good (view (s .nodes)) → Good (view (w .dest .nodes))

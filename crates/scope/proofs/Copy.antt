@@ -16,8 +16,9 @@ use Rattle.scope.specs.Nodes.{Kind, State, Known, Unknown, InferenceFail
 use Rattle.scope.specs.Make.{push}
 use Rattle.scope.specs.Sound.{falls}
 use Rattle.scope.specs.Import.{Work, Moved, MovedAll, copyOf, Replaced, keep, missing-entry, entry, replaced, spanOf, begun, ended, many, copied, lacking, fresh, place, transfer, start, import}
+use Rattle.scope.proofs.TestLaws.{of-all}
 use Rattle.scope.proofs.Added.{Extends}
-use Rattle.scope.proofs.Mapping.{Rest, Source, all-mem, held, Tally, tnil, tcons, Maps, copy-maps, tally-range, tally-uniq}
+use Rattle.scope.proofs.Mapping.{Rest, Source, held, Tally, tnil, tcons, Maps, copy-maps, tally-range, tally-uniq}
 
 -- a root's state with its children moved
 abbrev pub copyState : State → List Ty → State
@@ -368,7 +369,7 @@ module _ (ns : List Node) (ps : Option (List Ty)) where
         place-ok (transfer f ns ps) (Able f) (λ os w t ok a. transfer-ok src f os w t ok a) os w t ok (src .inside t (a .in-source))
         (λ c m. record {
           in-source = src .kids (find ns t .idx) c m;
-          enough = all-mem (λ (c : Ty). falls f ns (find ns c .idx)) (kidsOf (stateAt ns t)) c m (a .enough);
+          enough = of-all (λ (c : Ty). falls f ns (find ns c .idx)) (kidsOf (stateAt ns t)) (a .enough) m;
         })
         (stateAt ns t) refl (copyOf (w .mapping) (find ns t .idx)) refl
 

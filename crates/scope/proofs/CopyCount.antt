@@ -16,28 +16,11 @@ use Rattle.scope.specs.Types.{Ty}
 use Rattle.scope.specs.Nodes.{Node, Store, at, stateOf, stateAt, find, kidsOf}
 use Rattle.scope.specs.Sound.{falls}
 use Rattle.scope.specs.Import.{Work, copyOf, Replaced, keep, missing-entry, entry, replaced, start, import, reachesState, reaches, copies}
+use Rattle.scope.proofs.TestLaws.{of-all, any-yes, yes-any}
 use Rattle.scope.proofs.Added.{Extends, extends-tail}
-use Rattle.scope.proofs.Mapping.{Source, all-mem, held, Tally, tnil, tcons, Maps, copy-maps, copy-none}
+use Rattle.scope.proofs.Mapping.{Source, held, Tally, tnil, tcons, Maps, copy-maps, copy-none}
 use Rattle.scope.proofs.Copy.{Reach, here, below, Became, as-copy, as-entry, lost, Ok, PostAll, import-ok}
 use Rattle.scope.proofs.Copies.{not-keep, became-of, became-length, copy-kids, copy-filled}
-
-any-mem : (p : Ty → Bool) (xs : List Ty) → any p xs ≡ true → (x : Ty) × List·Memᴰ x xs × (p x ≡ true)
-any-mem p [] e = absurd (false≢true e)
-any-mem p (y ∷ ys) e = go (p y) refl e (any-mem p ys)
-  where
-    go : (b : Bool) → p y ≡ b → (b || any p ys) ≡ true → (any p ys ≡ true → (x : Ty) × List·Memᴰ x ys × (p x ≡ true))
-        → (x : Ty) × List·Memᴰ x (y ∷ ys) × (p x ≡ true)
-    go true q e ih = (y, List·Memᴰ·head refl, q)
-    go false q e ih = let z = ih e in (z .0, List·Memᴰ·tail (z .1), z .2)
-
-mem-any : (p : Ty → Bool) (xs : List Ty) (x : Ty) → List·Memᴰ x xs → p x ≡ true → any p xs ≡ true
-mem-any p [] x m e = absurd (List·Memᴰ·not-nil m)
-mem-any p (y ∷ ys) x (List·Memᴰ·head q) e = rw (sym (ap p q) ∙ e)
-mem-any p (y ∷ ys) x (List·Memᴰ·tail m) e = go (p y) (mem-any p ys x m e)
-  where
-    go : (b : Bool) → any p ys ≡ true → (b || any p ys) ≡ true
-    go true h = refl
-    go false h = h
 
 -- the test agrees with the relation
 module _ (ns : List Node) (ps : Option (List Ty)) (n : ℕ) where
@@ -45,7 +28,7 @@ module _ (ns : List Node) (ps : Option (List Ty)) (n : ℕ) where
   unfolding reaches
   reaches-reach zero ts e = absurd (false≢true e)
   reaches-reach (suc f) ts e =
-      let z = any-mem test ts e in
+      let z = any-yes test ts e in
       (z .0, z .1, go (z .0) (replaced ps (stateAt ns (z .0))) refl (z .2) (reaches-reach f (kidsOf (stateAt ns (z .0)))))
     where
       test : Ty → Bool
@@ -67,11 +50,11 @@ module _ (ns : List Node) (ps : Option (List Ty)) (n : ℕ) where
   unfolding reaches falls
   reach-reaches r zero e ts m = absurd (false≢true e)
   reach-reaches {t} (here k q) (suc f) e ts m =
-      mem-any (λ t. reachesState (reaches f ns ps n) ps (eqb (find ns t .idx) n) (stateAt ns t) (replaced ps (stateAt ns t))) ts t m
+      yes-any (λ t. reachesState (reaches f ns ps n) ps (eqb (find ns t .idx) n) (stateAt ns t) (replaced ps (stateAt ns t))) ts t m
       (rw (k, eq-eqb (find ns t .idx) n q))
   reach-reaches {t} (below c k x r) (suc f) e ts m =
-      let h = reach-reaches r f (all-mem (λ (c : Ty). falls f ns (find ns c .idx)) (kidsOf (stateAt ns t)) c x e) (kidsOf (stateAt ns t)) x in
-      mem-any (λ t. reachesState (reaches f ns ps n) ps (eqb (find ns t .idx) n) (stateAt ns t) (replaced ps (stateAt ns t))) ts t m
+      let h = reach-reaches r f (of-all (λ (c : Ty). falls f ns (find ns c .idx)) (kidsOf (stateAt ns t)) e x) (kidsOf (stateAt ns t)) x in
+      yes-any (λ t. reachesState (reaches f ns ps n) ps (eqb (find ns t .idx) n) (stateAt ns t) (replaced ps (stateAt ns t))) ts t m
       (rw k (or-right (eqb (find ns t .idx) n) h))
     where
       or-right : (b : Bool) {a : Bool} → a ≡ true → (b || a) ≡ true

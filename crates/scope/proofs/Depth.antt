@@ -12,9 +12,11 @@ use Rattle.scope.specs.Nodes.{Kind}
 use Rattle.scope.specs.Answers.{Answer, both, ofBool}
 use Rattle.scope.specs.Unify.{Plan, plan}
 use Rattle.scope.proofs.View.{VState, unknown, known, View, sel, rootOf, Good, Out, out, run, same, close, meetSt, meet, unify}
+use Rattle.scope.proofs.Free.{free, free-nil}
+use Rattle.scope.proofs.Chain.{Chain, cnil, fuel-out, fuel-step}
 use Rattle.scope.proofs.Grow.{ri}
 use Rattle.scope.proofs.Meet.{unify-spec}
-use Rattle.scope.proofs.Fuel.{Chain, cnil, Chains, chain-after, plan-chains, fuel-out, fuel-step, free, free-nil}
+use Rattle.scope.proofs.Fuel.{Chains, chain-after, plan-chains}
 use Rattle.scope.proofs.Inside.{Inside, Makes, inside-kinds, Within, plan-within, unify-inside}
 
 module _ (E : Env) (n : ℕ) (C : Kind → Type 0) (mk : Makes E C) where

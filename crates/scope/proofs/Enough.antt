@@ -15,10 +15,12 @@ use Rattle.scope.specs.Answers.{Answer, both}
 use Rattle.scope.specs.Unify.{Plan, plan, Out, out, run, stateIn, settle, meetStates, sameNode, meet, unifyF, unify}
 use Rattle.scope.proofs.View.{View, seen, view}
 use Rattle.scope.proofs.View as Seen
+use Rattle.scope.proofs.Free.{free, free-nil}
+use Rattle.scope.proofs.Chain.{Chain, cnil, fuel-out, fuel-step}
 use Rattle.scope.proofs.Paths.{Forest, Tidied, find-idx, find-inside, rep-idem, find-mut-tidied, tidied-forest, tidied-view}
 use Rattle.scope.proofs.Grow.{ri}
 use Rattle.scope.proofs.Meet.{unify-spec}
-use Rattle.scope.proofs.Fuel.{Chain, cnil, Chains, chain-after, plan-chains, fuel-out, fuel-step, free, free-nil}
+use Rattle.scope.proofs.Fuel.{Chains, chain-after, plan-chains}
 use Rattle.scope.proofs.Inside.{plan-within}
 use Rattle.scope.proofs.Sim.{Sim, Inside, unify-sim}
 use Rattle.scope.proofs.SoundLaws.{SoundNodes}

@@ -17,13 +17,16 @@ use Rattle.scope.specs.Answers.{Answer, Success, Failure, Indeterminate,
 use Rattle.scope.specs.Unify.{Plan, plan}
 use Rattle.scope.specs.Trees.{TreeHead, Tree, node, Forest, fnil, fcons, treeHead, treeDual, invert, inverts, Val, invertIf, val, vals, build}
 use Rattle.scope.proofs.View.{VState, unknown, known, View, sel, rootOf, Kid, Below, one, more, Good, Out, out, run, occurs, selfSt, selfInverse, same, bind, close, join, kept, meetSt, meet, unify}
+use Rattle.scope.proofs.Free.{free, free-nil}
+use Rattle.scope.proofs.Chain.{Chain, cnil, chain-step, fuel-out, fuel-step}
+use Rattle.scope.proofs.TestLaws.{tf, all-no}
 use Rattle.scope.proofs.PlanLaws.{Makeable, dual-tree, plan-equal, plan-fail}
 use Rattle.scope.proofs.ViewLaws.{not-known}
 use Rattle.scope.proofs.Grow.{ri, Grow, mono-idx}
 use Rattle.scope.proofs.Stay.{Spec, Step}
-use Rattle.scope.proofs.Occurs.{tf, self-kind}
+use Rattle.scope.proofs.Occurs.{self-kind}
 use Rattle.scope.proofs.Meet.{unify-spec}
-use Rattle.scope.proofs.Fuel.{Chain, cnil, Chains, chain-step, chain-after, plan-chains, fuel-out, fuel-step, free, free-nil}
+use Rattle.scope.proofs.Fuel.{Chains, chain-after, plan-chains}
 use Rattle.scope.proofs.Inside.{Inside, Fine, InsideStep, inside-kinds, Within, plan-within, unify-inside}
 use Rattle.scope.proofs.Self.{occurs-yes}
 use Rattle.scope.proofs.ViewFits.{Fits, invert-dual, invert-mark, invertIf-twice, val-root}
@@ -108,16 +111,6 @@ node-kids {h} {h′} {m} {m′} {ts} {ts′} e = cc
 
 marks : {h : TreeHead} {ts ts′ : Forest} {A : Type 0} → node h true ts ≡ node h false ts′ → A
 marks {h} {ts} {ts′} e = let z : true ≡ false = cc in tf z
-
--- self-inverse trees at a root of which selfInverse says false
-all-no : (t : Ty → Bool) (xs : List Ty) → all t xs ≡ false → (x : Ty) × List·Memᴰ x xs × (t x ≡ false)
-all-no t [] e = tf e
-all-no t (y ∷ ys) e = go (t y) refl e (λ q. all-no t ys q)
-  where
-    go : (b : Bool) → t y ≡ b → (b && all t ys) ≡ false → (all t ys ≡ false → (x : Ty) × List·Memᴰ x ys × (t x ≡ false))
-        → (x : Ty) × List·Memᴰ x (y ∷ ys) × (t x ≡ false)
-    go false q r ih = (y, List·Memᴰ·head refl, q)
-    go true q r ih = let z = ih r in (z .0, List·Memᴰ·tail (z .1), z .2)
 
 both-failure : (a b : Answer) → both a b ≡ Failure → (a ≡ Failure) ⊎ (b ≡ Failure)
 both-failure Success b e = inr e

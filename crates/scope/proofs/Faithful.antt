@@ -12,10 +12,11 @@ use Rattle.scope.specs.Answers.{Success}
 use Rattle.scope.specs.Unify.{unify, selfInverse, selfInverseOf}
 use Rattle.scope.proofs.View.{View, rootOf, view}
 use Rattle.scope.proofs.View as Seen
+use Rattle.scope.proofs.Free.{free-nil}
 use Rattle.scope.proofs.Paths.{find-root, find-idx, find-mut-tidied, tidied-view}
 use Rattle.scope.proofs.Grow.{ri, Joined, agree, selfly}
 use Rattle.scope.proofs.Meet.{unify-spec}
-use Rattle.scope.proofs.Fuel.{cnil, free-nil}
+use Rattle.scope.proofs.Chain.{cnil}
 use Rattle.scope.proofs.Self.{self-complete}
 use Rattle.scope.proofs.Sim.{Sim, self-inverse-view}
 use Rattle.scope.proofs.SoundLaws.{SoundNodes}

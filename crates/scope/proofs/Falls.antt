@@ -1,5 +1,5 @@
 -- No child cycle, three ways: steps from a root to the roots of its kind's children end within the node count (`falls`), every root is accessible
--- (`Fin`), nothing contains itself. A chain of containing roots has no repetition, so a depth equal to the node count is enough. Assumes nothing.
+-- (`Fin`), nothing contains itself. Assumes nothing.
 use mathlib.Core.Path.{_≡_, refl, sym, ap, subst, _∙_}
 use mathlib.Core.List.{List, [], _∷_, List·Memᴰ, List·Memᴰ·head, List·Memᴰ·tail}
 use mathlib.Core.Bool.{Bool, true, false, _&&_}
@@ -14,48 +14,16 @@ use Rattle.scope.specs.Demand.{Holds, Contains}
 use Rattle.scope.specs.Demand as Demand
 use Rattle.scope.proofs.View.{VState, unknown, known, View, Kid, Below, one, more, Fin, fin, Good, seen, view}
 use Rattle.scope.proofs.ViewLaws.{not-known, below-join, irrefl, Held}
+use Rattle.scope.proofs.Chain.{Chain, cnil, chain-step, fuel-out, fuel-step}
 use Rattle.scope.proofs.Free.{memb, memb-none, memb-more, free, free-nil, free-lt}
 use Rattle.scope.proofs.Paths.{Forest, find-idx, kid-inside, root-rep}
-use Rattle.scope.proofs.Sizes.{and-left, and-right, both-true}
-
-pub all-of {ℓ} : {A : Type ℓ} (p : A → Bool) (xs : List A) → ((x : A) → List·Memᴰ x xs → p x ≡ true) → all p xs ≡ true
-all-of p [] h = refl
-all-of p (x ∷ xs) h = both-true (p x) (all p xs) (h x (List·Memᴰ·head refl)) (all-of p xs (λ y m. h y (List·Memᴰ·tail m)))
-
-pub of-all {ℓ} : {A : Type ℓ} (p : A → Bool) (xs : List A) {x : A} → all p xs ≡ true → List·Memᴰ x xs → p x ≡ true
-of-all p [] e m = elim m [ ]
-of-all p (y ∷ ys) e (List·Memᴰ·head q) = ap p q ∙ and-left (p y) (all p ys) e
-of-all p (y ∷ ys) e (List·Memᴰ·tail m) = of-all p ys (and-right (p y) (all p ys) e) m
+use Rattle.scope.proofs.TestLaws.{and-left, and-right, both-true, all-of, of-all}
 
 -- a kind that is seen is there
 pub seen-known : (st : State) {i : Bool} {k : Kind} → seen st ≡ known i k → st ≡ Known i k
 seen-known (Known i k) e = cc
 seen-known (Unknown p) e = absurd (not-known e)
 seen-known InferenceFailed e = absurd (not-known e)
-
--- roots, each of which contains y
-pub data Chain (g : View) (y : ℕ) : List ℕ → Type 0 where
-  cnil : Chain g y []
-  ccons : {l : ℕ} {ls : List ℕ} → Below g l y → Chain g y ls → Chain g y (l ∷ ls)
-
-pub chain-new : {g : View} {y : ℕ} {ls : List ℕ} → Good g → Chain g y ls → memb y ls ≡ false
-chain-new {y = y} good cnil = memb-none y
-chain-new {g} {y} good (ccons {l = l} {ls = ls} b c) =
-    memb-more y l ls (λ e. irrefl (good .wf y) (subst (λ (x : ℕ). Below g x y) (sym e) b)) (chain-new good c)
-
-chain-down : {g : View} {y z : ℕ} {ls : List ℕ} → Kid g y z → Chain g y ls → Chain g z ls
-chain-down k cnil = cnil
-chain-down k (ccons b c) = ccons (below-join b (one k)) (chain-down k c)
-
-pub chain-step : {g : View} {y z : ℕ} {ls : List ℕ} → Kid g y z → Chain g y ls → Chain g z (y ∷ ls)
-chain-step k c = ccons (one k) (chain-down k c)
-
--- the depth left is at least the numbers left: with none left there is no further root
-pub fuel-out : {g : View} {y n : ℕ} {ls : List ℕ} → Good g → Chain g y ls → y < n → free n ls ≤ 0 → ⊥
-fuel-out {y = y} {n = n} {ls = ls} good c h f = omega (arith, free-lt y n ls h (chain-new good c))
-
-pub fuel-step : {g : View} {y n f : ℕ} {ls : List ℕ} → Good g → Chain g y ls → y < n → free n ls ≤ suc f → free n (y ∷ ls) ≤ f
-fuel-step {y = y} {n = n} {ls = ls} good c h q = omega (arith, free-lt y n ls h (chain-new good c))
 
 pub falls-fin : (f : ℕ) (ns : List Node) (r : ℕ) → falls f ns r ≡ true → Fin (view ns) r
 unfolding falls view

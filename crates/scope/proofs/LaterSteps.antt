@@ -21,7 +21,7 @@ use Rattle.scope.specs.Sound.{reads, inStore}
 use Rattle.scope.specs.Calls.{refused, done, firstBroken, lentTests, outside, tooMany, shortFor, unified, unifyTypesCall, Entries, badEntries, unifyObjectsCall, implTypes, implTests, unifyImplTypeCall, approxEqCall, unifyFnSigCall, finishInferenceCall, finishWhereCall, findRelatedCall, selfInverseCall, isNilCall, getModCall, Printed, printedText, orUnprinted, showCall, showImplTypeCall}
 use Rattle.scope.specs.Demand.{Later, Step, step, stepLater}
 use Rattle.scope.specs.Demand as Demand
-use Rattle.scope.proofs.Falls.{of-all}
+use Rattle.scope.proofs.TestLaws.{of-all}
 use Rattle.scope.proofs.PairLaws.{Betweens, between-nil, between-pick, run-between, shared-between}
 use Rattle.scope.proofs.Sim.{Inside}
 use Rattle.scope.proofs.Restate.{Restates, finish-where-restates, finish-restates}

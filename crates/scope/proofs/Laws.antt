@@ -42,6 +42,13 @@ both-comm Indeterminate Success = refl
 both-comm Indeterminate Failure = refl
 both-comm Indeterminate Indeterminate = refl
 
+pub both-success : (a b : Answer) → both a b ≡ Success → (a ≡ Success) × (b ≡ Success)
+both-success Success b e = (refl, e)
+both-success Failure b e = let z : _≡_ {A = ℕ} 0 1 = cc in absurd (omega arith)
+both-success Indeterminate Success e = (e, refl)
+both-success Indeterminate Failure e = let z : _≡_ {A = ℕ} 0 1 = cc in absurd (omega arith)
+both-success Indeterminate Indeterminate e = (e, e)
+
 -- a root is its own root
 climb-root : (f : ℕ) (ns : List Node) (t : Ty) (st : State) (z : ℕ) → at ns (t .idx) ≡ Root st z → climb f ns t ≡ t
 unfolding climb

@@ -1,6 +1,7 @@
 pub mod Acyclic
 pub mod Added
 pub mod Again
+pub mod Chain
 pub mod Copies
 pub mod Copy
 pub mod CopyCount
@@ -49,6 +50,7 @@ pub mod SoundLaws
 pub mod Stay
 pub mod Steps
 pub mod Table
+pub mod TestLaws
 pub mod TreeLaws
 pub mod UnifyKept
 pub mod View

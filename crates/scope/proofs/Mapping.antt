@@ -31,11 +31,6 @@ pub record Source (ns : List Node) : Type 0 where
   pub kids : (r : ℕ) (c : Ty) → List·Memᴰ c (kidsOf (stateOf (at ns r))) → c .idx < length ns
   pub falling : (r : ℕ) → r < length ns → falls (length ns) ns r ≡ true
 
-pub all-mem {ℓ} : {A : Type ℓ} (p : A → Bool) (xs : List A) (x : A) → List·Memᴰ x xs → all p xs ≡ true → p x ≡ true
-all-mem p [] x m e = absurd (List·Memᴰ·not-nil m)
-all-mem p (y ∷ ys) x (List·Memᴰ·head q) e = ap p q ∙ and-eq-true-iff (p y) (all p ys) .0 e .0
-all-mem p (y ∷ ys) x (List·Memᴰ·tail m) e = all-mem p ys x m (and-eq-true-iff (p y) (all p ys) .0 e .1)
-
 -- the mapping: each root once, its node the next one after the b that were there
 pub data Tally (b : ℕ) : List (ℕ × ℕ) → Type 0 where
   tnil : Tally b []

@@ -16,7 +16,7 @@ use Rattle.scope.specs.Make.{push}
 use Rattle.scope.specs.Demand.{Call, make, import, forceKind, unify, read, later, reset, step, next, after, inFirstHalf, Each, statesMade, isDefault, MakesNoDefault, NoDefault}
 use Rattle.scope.proofs.View.{View, known, seen, view}
 use Rattle.scope.proofs.ViewLaws.{same?}
-use Rattle.scope.proofs.Occurs.{or-no}
+use Rattle.scope.proofs.TestLaws.{or-no}
 use Rattle.scope.proofs.Paths.{find-mut-tidied, tidied-view}
 use Rattle.scope.proofs.Falls.{seen-known}
 use Rattle.scope.proofs.Added.{Extends}

@@ -13,21 +13,10 @@ use Rattle.scope.specs.Types.{Ty}
 use Rattle.scope.specs.Kinds.{Head, selfDual, rowOf, PARAM}
 use Rattle.scope.specs.Nodes.{Kind}
 use Rattle.scope.specs.Unify.{selfInverseKind}
+use Rattle.scope.proofs.TestLaws.{tf, and-left, and-right, of-all, any-no}
 use Rattle.scope.proofs.View.{VState, unknown, known, View, Below, one, more, occurs, occursSt, selfSt, selfInverse}
 use Rattle.scope.proofs.ViewLaws.{same?, sel-yes, sel-no}
 use Rattle.scope.proofs.Grow.{ri, Self, self}
-
-pub tf : {A : Type 0} → true ≡ false → A
-tf e = let z : _≡_ {A = ℕ} 0 1 = cc in absurd (omega arith)
-
-pub or-no : (a b : Bool) → (a || b) ≡ false → (a ≡ false) × (b ≡ false)
-or-no true b e = tf e
-or-no false b e = (refl, e)
-
-any-no : (t : Ty → Bool) (xs : List Ty) {x : Ty} → any t xs ≡ false → List·Memᴰ x xs → t x ≡ false
-any-no t [] e m = elim m [ ]
-any-no t (y ∷ ys) e (List·Memᴰ·head p) = ap t p ∙ or-no (t y) (any t ys) e .0
-any-no t (y ∷ ys) e (List·Memᴰ·tail m) = any-no t ys (or-no (t y) (any t ys) e .1) m
 
 pub occurs-no : (f : ℕ) (g : View) (x y : ℕ) → occurs f g x y ≡ false → (y ≢ x) × (Below g y x → ⊥)
 unfolding occurs
@@ -48,15 +37,6 @@ occurs-no (suc f) g x y e = go (same? y x) (λ z. occurs-no f g x z)
         not-below (one c) = ih (ri g (c .kid)) (none (c .kid) (c .inv) (c .kind) (c .state) (c .mem)) .0 (c .to)
         not-below (more c b) = ih (ri g (c .kid)) (none (c .kid) (c .inv) (c .kind) (c .state) (c .mem)) .1
             (subst (λ (z : ℕ). Below g z x) (sym (c .to)) b)
-
-pub and-yes : (a b : Bool) → (a && b) ≡ true → (a ≡ true) × (b ≡ true)
-and-yes true b e = (refl, e)
-and-yes false b e = tf (sym e)
-
-all-yes : (t : Ty → Bool) (xs : List Ty) {x : Ty} → all t xs ≡ true → List·Memᴰ x xs → t x ≡ true
-all-yes t [] e m = elim m [ ]
-all-yes t (y ∷ ys) e (List·Memᴰ·head p) = ap t p ∙ and-yes (t y) (all t ys) e .0
-all-yes t (y ∷ ys) e (List·Memᴰ·tail m) = all-yes t ys (and-yes (t y) (all t ys) e .1) m
 
 param-dual : (h : Head) → h .code ≡ PARAM → selfDual h ≡ false
 unfolding selfDual rowOf
@@ -81,5 +61,5 @@ self-sound (suc f) g a e = go (g .st a) refl e (λ z. self-sound f g z)
     go : (s : VState) → g .st a ≡ s → selfSt false t s ≡ true → ((z : ℕ) → selfInverse false f g z ≡ true → Self g z) → Self g a
     go unknown q e ih = tf (sym e)
     go (known i k) q e ih =
-        let h = and-yes (selfDual (k .head)) (all t (k .kids)) (sym (self-kind t k) ∙ e) in
-        self i k q (h .0) (λ x m. ih (ri g x) (all-yes t (k .kids) (h .1) m))
+        let h : (selfDual (k .head) && all t (k .kids)) ≡ true = sym (self-kind t k) ∙ e in
+        self i k q (and-left (selfDual (k .head)) (all t (k .kids)) h) (λ x m. ih (ri g x) (of-all t (k .kids) (and-right (selfDual (k .head)) (all t (k .kids)) h) m))

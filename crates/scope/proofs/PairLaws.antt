@@ -14,6 +14,7 @@ use Rattle.scope.specs.Names.{Texts, Name, bytesOr, eqBytes, ascending}
 use Rattle.scope.specs.Types.{Ty, flip}
 use Rattle.scope.specs.Answers.{Answer, Success, Failure, Indeterminate, both, ofBool}
 use Rattle.scope.specs.Unify.{Plan, answers, zipped, runPlan, seek, shared, sharedNames, objectPlan, parameters, returned, signaturePlan}
+use Rattle.scope.proofs.Laws.{both-success}
 use Rattle.scope.proofs.NameLaws.{eq-bytes, bytes-eq, lt-apart, ascending-tail, ascending-above, Within, within-same}
 
 -- a pair of a type of the first list and one of the second, inverted if i
@@ -106,13 +107,6 @@ shared-between x i (n ∷ ns) (t ∷ ts) ms us = go (seek x (bytesOr x n) ms us)
 -- all pairs of two lists
 abbrev pub whole : Bool → List Ty → List Ty → Plan
 whole i xs ys = record { base = Success; pairs = zipped i xs ys }
-
-both-success : (a b : Answer) → both a b ≡ Success → (a ≡ Success) × (b ≡ Success)
-both-success Success b e = (refl, e)
-both-success Failure b e = let z : _≡_ {A = ℕ} 0 1 = cc in absurd (omega arith)
-both-success Indeterminate Success e = (e, refl)
-both-success Indeterminate Failure e = let z : _≡_ {A = ℕ} 0 1 = cc in absurd (omega arith)
-both-success Indeterminate Indeterminate e = (e, e)
 
 pub run-whole : (i : Bool) (xs ys : List Ty) → length xs ≡ length ys → runPlan i xs ys ≡ whole i xs ys
 unfolding runPlan

@@ -12,22 +12,15 @@ use Rattle.scope.specs.Types.{Ty, ty}
 use Rattle.scope.specs.Nodes.{Kind}
 use Rattle.scope.specs.Answers.{Success, ofBool}
 use Rattle.scope.proofs.View.{VState, unknown, known, View, sel, rootOf, Kid, Below, one, more, Good, occurs, occursSt, out, selfSt, selfInverse, same, meetSt, meet, unify}
+use Rattle.scope.proofs.Free.{free, free-nil}
+use Rattle.scope.proofs.TestLaws.{tf, any-yes, all-of, or-true}
 use Rattle.scope.proofs.ViewLaws.{sel-yes, xor-self}
 use Rattle.scope.proofs.Grow.{ri, Self, self, Joined, agree, selfly, joined-idx}
-use Rattle.scope.proofs.Occurs.{tf, self-kind}
-use Rattle.scope.proofs.Fuel.{Chain, cnil, chain-step, fuel-out, fuel-step, free, free-nil}
+use Rattle.scope.proofs.Occurs.{self-kind}
+use Rattle.scope.proofs.Chain.{Chain, cnil, chain-step, fuel-out, fuel-step}
 use Rattle.scope.proofs.Inside.{Inside}
 
 -- occurs says true only of what is contained, or itself
-any-yes : (t : Ty → Bool) (xs : List Ty) → any t xs ≡ true → (x : Ty) × List·Memᴰ x xs × (t x ≡ true)
-any-yes t [] e = tf (sym e)
-any-yes t (y ∷ ys) e = go (t y) refl e (λ q. any-yes t ys q)
-  where
-    go : (b : Bool) → t y ≡ b → (b || any t ys) ≡ true → (any t ys ≡ true → (x : Ty) × List·Memᴰ x ys × (t x ≡ true))
-        → (x : Ty) × List·Memᴰ x (y ∷ ys) × (t x ≡ true)
-    go true q r ih = (y, List·Memᴰ·head refl, q)
-    go false q r ih = let z = ih r in (z .0, List·Memᴰ·tail (z .1), z .2)
-
 pub occurs-yes : (n : ℕ) (g : View) {C : Kind → Type 0} → Good g → Inside n C g → (f x y : ℕ) (ls : List ℕ) → g .rep y ≡ ty false y → y < n
     → Chain g y ls → free n ls ≤ f → occurs f g x y ≡ true → (y ≡ x) ⊎ Below g y x
 unfolding occurs
@@ -53,26 +46,18 @@ occurs-yes n g good env (suc f) x y ls t h c q e = go (ℕ-discrete y x) e (λ z
     go (yes w) e ih = inl w
     go (no w) e ih = inr (at (g .st y) refl e ih)
 
-all-true : (t : Ty → Bool) (xs : List Ty) → ((x : Ty) → List·Memᴰ x xs → t x ≡ true) → all t xs ≡ true
-all-true t [] h = refl
-all-true t (x ∷ xs) h = ap₂ _&&_ (h x (List·Memᴰ·head refl)) (all-true t xs (λ y m. h y (List·Memᴰ·tail m)))
-
 pub self-complete : (n : ℕ) (g : View) {C : Kind → Type 0} → Good g → Inside n C g → (f a : ℕ) (ls : List ℕ) → g .rep a ≡ ty false a → a < n
     → Chain g a ls → free n ls ≤ f → Self g a → selfInverse false f g a ≡ true
 unfolding selfInverse
 self-complete n g good env zero a ls t h c q s = absurd (fuel-out good c h q)
 self-complete n g good env (suc f) a ls t h c q (self i k s d w) =
     ap (selfSt false (λ u. selfInverse false f g (g .rep (u .idx) .idx))) s ∙ self-kind (λ u. selfInverse false f g (g .rep (u .idx) .idx)) k
-    ∙ ap₂ _&&_ d (all-true (λ u. selfInverse false f g (g .rep (u .idx) .idx)) (k .kids)
+    ∙ ap₂ _&&_ d (all-of (λ u. selfInverse false f g (g .rep (u .idx) .idx)) (k .kids)
     (λ x m. self-complete n g good env f (ri g x) (a ∷ ls) (good .idem (x .idx)) (env .inside (x .idx) (env .kinds a i k s .kids x m))
     (chain-step (record { inv = i; kind = k; kid = x; top = t; state = s; mem = m; to = refl }) c) (fuel-step good c h q) (w x m)))
 
 same-inv : (a b : Bool) → a ≡ b → not (xor a b) ≡ true
 same-inv a b e = ap (λ (x : Bool). not (xor a x)) (sym e) ∙ ap not (xor-self a)
-
-or-true : (a b : Bool) → b ≡ true → (a || b) ≡ true
-or-true true b e = refl
-or-true false b e = e
 
 -- a joined pair answers Success, and changes nothing
 pub joined-answer : (X : Texts) (n f : ℕ) (g : View) {C : Kind → Type 0} (p q : Ty) → Good g → Inside n C g → p .idx < n → Joined g p q

@@ -18,21 +18,11 @@ use Rattle.scope.specs.Types.{Ty, ty, flip}
 use Rattle.scope.specs.Nodes.{State, Node, Root, Child, at, isRoot, sizeOf, find}
 use Rattle.scope.specs.Sound.{rooted, rootedNode, treeSize}
 use Rattle.scope.specs.Demand.{sizes}
+use Rattle.scope.proofs.TestLaws.{and-left, and-right, both-true}
 use Rattle.scope.proofs.View.{View, VState, sel, link, view}
 use Rattle.scope.proofs.ViewLaws.{same?, sel-yes, sel-no, rep-hit, rep-miss}
 use Rattle.scope.proofs.Paths.{beyond, Leads, top, up, not-child, leads-inside, Lead, Forest, lead-all, rep-leads, rep-inside}
 use Rattle.scope.proofs.Merge.{Shallow}
-
-pub and-left : (a b : Bool) → (a && b) ≡ true → a ≡ true
-and-left true b e = refl
-and-left false b e = e
-
-pub and-right : (a b : Bool) → (a && b) ≡ true → b ≡ true
-and-right true b e = e
-and-right false b e = let z : _≡_ {A = ℕ} 0 1 = cc in absurd (omega arith)
-
-pub both-true : (a b : Bool) → a ≡ true → b ≡ true → (a && b) ≡ true
-both-true a b p q = rw (p, q)
 
 -- every number of a run passes a test
 pub all-from : (p : ℕ → Bool) (i n : ℕ) → ((j : ℕ) → i ≤ j → j < i + n → p j ≡ true) → all p (from i n) ≡ true

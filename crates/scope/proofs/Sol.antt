@@ -21,7 +21,7 @@ use Rattle.scope.proofs.PlanLaws.{Makeable, dual-tree, plan-success, pl
 use Rattle.scope.proofs.ViewLaws.{idx-eq, same?, not-known, rep-hit, rep-miss, st-w, st-l, st-other, xor-twice, xor-comm}
 use Rattle.scope.proofs.Grow.{joined-grow}
 use Rattle.scope.proofs.Stay.{Kinds, kinds-after, AllPairs, Stays, Spec, RunSpec, Step, run-spec}
-use Rattle.scope.proofs.Occurs.{and-yes}
+use Rattle.scope.proofs.TestLaws.{and-left}
 use Rattle.scope.proofs.Meet.{unify-spec, PlanSpec, plan-spec, Mergeable, deep-ok, a-stays, b-stays, join-spec}
 use Rattle.scope.proofs.ViewFits.{Den, Fits, invert-dual, invertIf-twice, invertIf-xor, val-root, joined-val}
 
@@ -34,7 +34,7 @@ turn-un i s e = ap (turn i) e
 
 crosses-dual : (h : Head) → crosses h ≡ true → selfDual h ≡ true
 unfolding crosses
-crosses-dual h e = and-yes (selfDual h) (not (eqb (h .code) DEFAULT)) e .0
+crosses-dual h e = and-left (selfDual h) (not (eqb (h .code) DEFAULT)) e
 
 module _ (E : Env) where
   -- states and trees

@@ -17,11 +17,12 @@ use Rattle.scope.specs.Kinds.{makeable, defined, flagIs}
 use Rattle.scope.specs.Nodes.{Kind, State, Known, Unknown, InferenceFailed, Node, Root, Child, Store, at, stateOf, sizeOf}
 use Rattle.scope.specs.Sound.{inStore, rooted, falls, treeSize, sizeIs, kindSound, nodeSound, remembered, roomSound, shapeSound, soundStore}
 use Rattle.scope.proofs.View.{known, View, Fin, fin, Good, seen, view}
+use Rattle.scope.proofs.TestLaws.{and-left, and-right, both-true, all-of, of-all}
 use Rattle.scope.proofs.PlanLaws.{Makeable}
 use Rattle.scope.proofs.ViewLaws.{not-known, Held}
 use Rattle.scope.proofs.Paths.{beyond, not-child, Lead, Forest, leads-short, rep-idem, rep-root}
-use Rattle.scope.proofs.Sizes.{and-left, and-right, both-true, all-from, from-all, count-none, Sized, sized-tree, leads-rooted, rooted-leads}
-use Rattle.scope.proofs.Falls.{all-of, of-all, seen-known, falls-fin, good-falls}
+use Rattle.scope.proofs.Sizes.{all-from, from-all, count-none, Sized, sized-tree, leads-rooted, rooted-leads}
+use Rattle.scope.proofs.Falls.{seen-known, falls-fin, good-falls}
 
 -- a kind that 4 and 5 let through, over nodes below n
 pub record Fine (e : Env) (n : ℕ) (k : Kind) : Type 0 where

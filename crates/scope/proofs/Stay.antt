@@ -11,6 +11,7 @@ use Rattle.scope.specs.Chart.{Env}
 use Rattle.scope.specs.Types.{Ty}
 use Rattle.scope.specs.Nodes.{Kind}
 use Rattle.scope.specs.Answers.{Answer, Success, Failure, Indeterminate, both}
+use Rattle.scope.proofs.Laws.{both-success}
 use Rattle.scope.proofs.View.{known, View, Below, Good, Out, out, run}
 use Rattle.scope.proofs.PlanLaws.{Makeable}
 use Rattle.scope.proofs.ViewLaws.{idx-eq}
@@ -81,13 +82,6 @@ not-success e = let z : _≡_ {A = ℕ} 0 1 = cc in omega arith
 
 pub unsure-success : Indeterminate ≡ Success → ⊥
 unsure-success e = let z : _≡_ {A = ℕ} 0 1 = cc in omega arith
-
-pub both-success : (a b : Answer) → both a b ≡ Success → (a ≡ Success) × (b ≡ Success)
-both-success Success b e = (refl, e)
-both-success Failure b e = absurd (not-success e)
-both-success Indeterminate Success e = absurd (unsure-success e)
-both-success Indeterminate Failure e = absurd (not-success e)
-both-success Indeterminate Indeterminate e = absurd (unsure-success e)
 
 -- what lies below a still does, where a itself stays
 pub below-stays : {X : Texts} {g h : View} {a : ℕ} (t : Ty) → Grow X g h → Stays g h a → Below g a (ri g t) → Below h a (ri h t)

@@ -22,8 +22,7 @@ use Rattle.scope.specs.Sound.{Lent, stray, reads, sound, soundStore, inS
 use Rattle.scope.specs.Calls.{Outcome, refused, done, firstBroken, orRefused, judged, storeOf, outside, tooMany, lentTests, roomTests, shortFor, readCall, NewKind, kindMade, over, newCall, newStructCall, newUnionCall, newVarCall, newVarsCall, nodesFor, errorCall, nilCall, unified, unifyCall, forceKindCall, importList, importCall, findCall, findMutCall, nodeCall, childAt, childCall, childNameAt, nameCall, figuresCall, openTest, exportCall}
 use Rattle.scope.specs.Demand.{Maker, newStruct, newUnion, Read, Step, step, stepMaker, stepRead, unlessThere, statesMade}
 use Rattle.scope.specs.Demand as Demand
-use Rattle.scope.proofs.Sizes.{and-left, and-right}
-use Rattle.scope.proofs.Falls.{of-all}
+use Rattle.scope.proofs.TestLaws.{and-left, and-right, of-all}
 use Rattle.scope.proofs.SoundLaws.{SoundNodes, SoundFacts, sound-facts}
 use Rattle.scope.proofs.SoundKept.{Kept}
 use Rattle.scope.proofs.MakeKept.{new-kept, new-var-kept, new-vars-kept, error-kept, nil-kept}
