@@ -3,13 +3,10 @@ use mathlib.Core.Path.{_≡_, refl, sym, ap, subst, _∙_}
 use mathlib.Core.Bool.{Bool, false}
 use mathlib.Core.Logic.{_≢_, _⊎_, inl, inr}
 use Prim.Native.Nat.{ℕ}
-use native.Mathlib.Decide.{ℕ-discrete}
-use native.Mathlib.Omega.{arith}
-use Rattle.scope.specs.Base.{xor}
-use Rattle.scope.specs.Types.{Ty, ty}
+use Rattle.scope.specs.Types.{ty}
 use Rattle.scope.specs.Nodes.{Kind}
 use Rattle.scope.proofs.ViewLaws.{same?, idx-eq, not-known, irrefl, rep-hit, rep-miss, st-w, st-l, st-other}
-use Rattle.scope.proofs.View.{VState, unknown, known, View, sel, link, Kid, Below, one, more, Fin, fin, Good}
+use Rattle.scope.proofs.View.{VState, known, View, link, Kid, Below, one, more, Fin, fin, Good}
 
 -- when w and l may be joined, w keeping the state k
 pub record Joins (g : View) (w l : ℕ) (k : VState) : Type 0 where

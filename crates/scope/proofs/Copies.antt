@@ -10,14 +10,14 @@ use native.Mathlib.Omega.{arith}
 use native.Mathlib.Decide.{decLt}
 use lib.Dec.{eqb}
 use lib.ListN.{length, getElem?}
-use Rattle.scope.specs.Base.{pick, from}
+use Rattle.scope.specs.Base.{pick}
 use Rattle.scope.specs.Limits.{NONE}
 use Rattle.scope.specs.Chart.{Env}
 use Rattle.scope.specs.Types.{Ty, ty, flip}
 use Rattle.scope.specs.Kinds.{PARAM}
 use Rattle.scope.specs.Nodes.{Kind, State, Known, Unknown, InferenceFailed, Node, Store, at, stateOf, stateAt, find, kidsOf}
 use Rattle.scope.specs.Sound.{falls}
-use Rattle.scope.specs.Import.{Work, keep, entry, entryAt, replaced, import, copies}
+use Rattle.scope.specs.Import.{Work, keep, entry, entryAt, replaced}
 use Rattle.scope.specs.Calls.{importList}
 use Rattle.scope.proofs.View.{known, Kid, Good, seen, view}
 use Rattle.scope.proofs.TestLaws.{of-all}

@@ -11,7 +11,7 @@ use native.Mathlib.Omega.{arith}
 use lib.Dec.{eqb}
 use lib.ListN.{length}
 use borrow.Author.Tests.{eqb-true, eq-eqb, ne-eqb}
-use Rattle.scope.specs.Base.{pick, any, count, from, isSome}
+use Rattle.scope.specs.Base.{pick, count, from, isSome}
 use Rattle.scope.specs.Types.{Ty}
 use Rattle.scope.specs.Nodes.{Node, Store, at, stateOf, stateAt, find, kidsOf}
 use Rattle.scope.specs.Sound.{falls}

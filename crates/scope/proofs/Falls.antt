@@ -1,23 +1,22 @@
 -- No child cycle, three ways: steps from a root to the roots of its kind's children end within the node count (`falls`), every root is accessible
 -- (`Fin`), nothing contains itself. Assumes nothing.
 use mathlib.Core.Path.{_≡_, refl, sym, ap, subst, _∙_}
-use mathlib.Core.List.{List, [], _∷_, List·Memᴰ, List·Memᴰ·head, List·Memᴰ·tail}
-use mathlib.Core.Bool.{Bool, true, false, _&&_}
+use mathlib.Core.List.{List, List·Memᴰ}
+use mathlib.Core.Bool.{Bool, true}
 use Prim.Native.Nat.{ℕ, zero, suc, _≤_, _<_}
 use native.Mathlib.Omega.{arith}
 use lib.ListN.{length}
-use Rattle.scope.specs.Base.{all}
-use Rattle.scope.specs.Types.{Ty, ty}
+use Rattle.scope.specs.Types.{Ty}
 use Rattle.scope.specs.Nodes.{Kind, State, Known, Unknown, InferenceFailed, Node, Root, Child, at, stateOf, find, kidsOf}
 use Rattle.scope.specs.Sound.{falls}
 use Rattle.scope.specs.Demand.{Holds, Contains}
 use Rattle.scope.specs.Demand as Demand
-use Rattle.scope.proofs.View.{VState, unknown, known, View, Kid, Below, one, more, Fin, fin, Good, seen, view}
-use Rattle.scope.proofs.ViewLaws.{not-known, below-join, irrefl, Held}
+use Rattle.scope.proofs.View.{known, Kid, Below, one, more, Fin, fin, Good, seen, view}
+use Rattle.scope.proofs.ViewLaws.{not-known, irrefl, Held}
 use Rattle.scope.proofs.Chain.{Chain, cnil, chain-step, fuel-out, fuel-step}
-use Rattle.scope.proofs.Free.{memb, memb-none, memb-more, free, free-nil, free-lt}
+use Rattle.scope.proofs.Free.{free, free-nil}
 use Rattle.scope.proofs.Paths.{Forest, find-idx, kid-inside, root-rep}
-use Rattle.scope.proofs.TestLaws.{and-left, and-right, both-true, all-of, of-all}
+use Rattle.scope.proofs.TestLaws.{all-of, of-all}
 
 -- a kind that is seen is there
 pub seen-known : (st : State) {i : Bool} {k : Kind} → seen st ≡ known i k → st ≡ Known i k

@@ -1,20 +1,16 @@
 -- A chain of roots above each pair that a plan has, which stays while other pairs are unified. Assumes nothing.
-use mathlib.Core.Path.{_≡_, refl, sym, subst, _∙_}
-use mathlib.Core.List.{List, [], _∷_}
-use mathlib.Core.Bool.{Bool, true, false}
-use mathlib.Core.Logic.{_≢_, _⊎_, inl, inr}
-use Prim.Native.Nat.{ℕ, zero, suc, _+_, _≤_, _<_}
-use native.Mathlib.Nat.{not-suc-le-zero}
-use native.Mathlib.Omega.{arith}
-use native.Mathlib.Decide.{ℕ-discrete}
+use mathlib.Core.Path.{_≡_, refl}
+use mathlib.Core.List.{List, _∷_}
+use mathlib.Core.Bool.{Bool, false}
+use mathlib.Core.Logic.{inl}
+use Prim.Native.Nat.{ℕ}
 use Rattle.scope.specs.Names.{Texts}
 use Rattle.scope.specs.Types.{Ty, ty}
 use Rattle.scope.specs.Nodes.{Kind}
 use Rattle.scope.specs.Unify.{plan}
-use Rattle.scope.proofs.View.{known, View, sel, Kid, Below, one, Good, Out}
+use Rattle.scope.proofs.View.{known, View, Out}
 use Rattle.scope.proofs.Chain.{Chain, cnil, ccons, chain-step}
 use Rattle.scope.proofs.PlanLaws.{plan-left}
-use Rattle.scope.proofs.ViewLaws.{same?, irrefl, below-join, sel-yes, sel-no}
 use Rattle.scope.proofs.Grow.{ri}
 use Rattle.scope.proofs.Stay.{AllPairs, Spec, below-stays}
 

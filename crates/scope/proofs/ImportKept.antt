@@ -1,6 +1,6 @@
 -- Sound stays sound under `import` out of a sound source. Assumes nothing.
 use mathlib.Core.Path.{_≡_, refl, sym, ap, subst, _∙_}
-use mathlib.Core.List.{List, [], List·Memᴰ}
+use mathlib.Core.List.{List, List·Memᴰ}
 use mathlib.Core.Bool.{false}
 use mathlib.Core.Option.{Option}
 use Prim.Native.Nat.{ℕ, _≤_, _<_}
@@ -10,10 +10,9 @@ use lib.ListN.{length}
 use Rattle.scope.specs.Chart.{Env}
 use Rattle.scope.specs.Types.{Ty}
 use Rattle.scope.specs.Nodes.{State, Known, Unknown, InferenceFailed, Node, Store, at, stateOf, kidsOf}
-use Rattle.scope.specs.Import.{Work, start, import}
+use Rattle.scope.specs.Import.{import}
 use Rattle.scope.specs.Calls.{importList}
 use Rattle.scope.proofs.View.{seen, view}
-use Rattle.scope.proofs.PlanLaws.{Makeable}
 use Rattle.scope.proofs.Paths.{find-idx, rep-root, find-inside}
 use Rattle.scope.proofs.Falls.{seen-known, good-falls}
 use Rattle.scope.proofs.Added.{Closed}

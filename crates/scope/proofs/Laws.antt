@@ -1,12 +1,12 @@
 -- The equations that a reader expects of `find` and of answers, so that nothing later looks at a depth. A node that reaches a root within some
 -- steps is found the same with any more of them. Assumes nothing.
 use mathlib.Core.Path.{_≡_, refl, sym, ap, _∙_}
-use mathlib.Core.List.{List, [], _∷_}
-use mathlib.Core.Bool.{Bool, true, false}
+use mathlib.Core.List.{List}
+use mathlib.Core.Bool.{true, false}
 use Prim.Native.Nat.{ℕ, zero, suc}
 use native.Mathlib.Omega.{arith}
 use lib.ListN.{length}
-use Rattle.scope.specs.Types.{Ty, ty, flip}
+use Rattle.scope.specs.Types.{Ty, flip}
 use Rattle.scope.specs.Nodes.{State, Node, Root, Child, at, isRoot, hop, climb, find}
 use Rattle.scope.specs.Answers.{Answer, Success, Failure, Indeterminate, both}
 use Rattle.scope.specs.Sound.{rooted, rootedNode}

@@ -2,7 +2,7 @@
 -- nothing.
 use mathlib.Core.Path.{_≡_, refl, sym, ap, _∙_}
 use mathlib.Core.List.{List, [], _∷_, List·Memᴰ, List·Memᴰ·head, List·Memᴰ·tail, List·Memᴰ·not-nil, List·Memᴰ·cases-cons}
-use mathlib.Core.Bool.{Bool, true, false, and-eq-true-iff}
+use mathlib.Core.Bool.{Bool, true, false}
 use mathlib.Core.Option.{none, some}
 use mathlib.Core.Logic.{_⊎_, inl, inr}
 use Prim.Native.Nat.{ℕ, _+_, _≤_, _<_}
@@ -11,7 +11,7 @@ use native.Mathlib.Decide.{ℕ-discrete}
 use lib.Dec.{eqb}
 use lib.ListN.{length}
 use borrow.Author.Tests.{eqb-true, eqb-false}
-use Rattle.scope.specs.Base.{pick, all}
+use Rattle.scope.specs.Base.{pick}
 use Rattle.scope.specs.Types.{Ty}
 use Rattle.scope.specs.Nodes.{Node, Store, at, stateOf, find, kidsOf}
 use Rattle.scope.specs.Sound.{falls}

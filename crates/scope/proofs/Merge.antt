@@ -1,9 +1,9 @@
 -- Two roots joined: paths that ended in the one go on to the other, and the view is the linked view. Assumes nothing.
-use mathlib.Core.Path.{_≡_, refl, sym, ap, subst, _∙_}
-use mathlib.Core.List.{List, [], _∷_}
-use mathlib.Core.Bool.{Bool, true, false}
+use mathlib.Core.Path.{_≡_, sym, ap, subst, _∙_}
+use mathlib.Core.List.{List}
+use mathlib.Core.Bool.{Bool, false}
 use mathlib.Core.Logic.{_≢_, _⊎_, inl, inr}
-use Prim.Native.Nat.{ℕ, zero, suc, _+_, _^_, _≤_, _<_}
+use Prim.Native.Nat.{ℕ, suc, _+_, _^_, _≤_, _<_}
 use native.Mathlib.Omega.{arith}
 use native.Mathlib.Decide.{ℕ-discrete}
 use lib.ListN.{length, set, length-set}
@@ -13,7 +13,7 @@ use Rattle.scope.specs.Base.{xor}
 use Rattle.scope.specs.Types.{Ty, ty, flip}
 use Rattle.scope.specs.Nodes.{State, Node, Root, Child, at, stateOf, sizeOf}
 use Rattle.scope.specs.Unify.{join}
-use Rattle.scope.proofs.View.{View, VState, unknown, sel, link, seen, view}
+use Rattle.scope.proofs.View.{View, sel, link, seen, view}
 use Rattle.scope.proofs.ViewLaws.{same?, sel-yes, sel-no, rep-hit, rep-miss, st-w, st-l, st-other, xor-assoc}
 use Rattle.scope.proofs.Paths.{beyond, Leads, top, up, not-child, child-inj, flip-false, Lead, Forest, Tidied, lead-all, rep-leads, top-root}
 

@@ -1,14 +1,13 @@
 -- What a false of `occurs` and a true of `self_inverse` mean, whatever the depth. Assumes nothing.
 use mathlib.Core.Path.{_≡_, refl, sym, ap, subst, _∙_}
-use mathlib.Core.List.{List, [], _∷_, List·Memᴰ, List·Memᴰ·head, List·Memᴰ·tail}
-use mathlib.Core.Bool.{Bool, true, false, _||_, _&&_}
+use mathlib.Core.List.{List·Memᴰ}
+use mathlib.Core.Bool.{Bool, true, false, _&&_}
 use mathlib.Core.Logic.{_≢_, _⊎_, inl, inr}
 use Prim.Native.Nat.{ℕ, zero, suc}
-use native.Mathlib.Omega.{arith}
 use native.Mathlib.Decide.{ℕ-discrete}
 use lib.Dec.{eqb}
 use borrow.Author.Tests.{eqb-true}
-use Rattle.scope.specs.Base.{pick, any, all}
+use Rattle.scope.specs.Base.{pick, all}
 use Rattle.scope.specs.Types.{Ty}
 use Rattle.scope.specs.Kinds.{Head, selfDual, rowOf, PARAM}
 use Rattle.scope.specs.Nodes.{Kind}

@@ -12,7 +12,7 @@ use borrow.Author.Tests.{eqb-true, eq-eqb}
 use Rattle.scope.specs.Base.{pick}
 use Rattle.scope.specs.Names.{Texts, Name, bytesOr, eqBytes, ascending}
 use Rattle.scope.specs.Types.{Ty, flip}
-use Rattle.scope.specs.Answers.{Answer, Success, Failure, Indeterminate, both, ofBool}
+use Rattle.scope.specs.Answers.{Success, Failure, ofBool}
 use Rattle.scope.specs.Unify.{Plan, answers, zipped, runPlan, seek, shared, sharedNames, objectPlan, parameters, returned, signaturePlan}
 use Rattle.scope.proofs.Laws.{both-success}
 use Rattle.scope.proofs.NameLaws.{eq-bytes, bytes-eq, lt-apart, ascending-tail, ascending-above, Within, within-same}

@@ -2,7 +2,7 @@
 -- root, state or size. Assumes nothing.
 use mathlib.Core.Path.{_≡_, refl, sym, ap, subst, _∙_}
 use mathlib.Core.List.{List, [], _∷_}
-use mathlib.Core.Bool.{Bool, true, false}
+use mathlib.Core.Bool.{Bool, false}
 use mathlib.Core.Logic.{_≢_, _⊎_, inl, inr}
 use Prim.Native.Nat.{ℕ, zero, suc, _+_, _≤_, _<_}
 use native.Mathlib.Nat.{not-suc-le-zero}
@@ -10,11 +10,10 @@ use native.Mathlib.Omega.{arith}
 use native.Mathlib.Decide.{decLt}
 use lib.ListN.{length, set, length-set, List·getD-eq-default}
 use lib.Seq.{getD-set-same, getD-set-other}
-use Rattle.scope.specs.Base.{xor}
 use Rattle.scope.specs.Limits.{NONE}
 use Rattle.scope.specs.Types.{Ty, ty, flip}
 use Rattle.scope.specs.Nodes.{State, Unknown, Node, Root, Child, at, stateOf, sizeOf, hop, climb, find, point, compress, findMut}
-use Rattle.scope.proofs.View.{View, rootOf, Kid, seen, view}
+use Rattle.scope.proofs.View.{rootOf, Kid, seen, view}
 use Rattle.scope.proofs.ViewLaws.{same?, xor-false, xor-twice, xor-comm, flip-flip, Held}
 use Rattle.scope.proofs.Free.{memb, memb-none, memb-more, free, free-nil, free-lt}
 

@@ -2,18 +2,18 @@
 use mathlib.Core.Path.{_≡_, refl}
 use mathlib.Core.List.{List, [], _∷_, map}
 use mathlib.Core.Bool.{true, false}
-use mathlib.Core.Option.{Option, none, some}
+use mathlib.Core.Option.{none, some}
 use Prim.Native.Nat.{ℕ}
 use lib.ListN.{replicate}
 use Rattle.scope.specs.Text.{text}
 use Rattle.scope.specs.Limits.{NONE}
-use Rattle.scope.specs.Names.{Name, name}
-use Rattle.scope.specs.Chart.{Env, Record, STRUCT-SORT}
+use Rattle.scope.specs.Names.{name}
+use Rattle.scope.specs.Chart.{Env, STRUCT-SORT}
 use Rattle.scope.specs.Types.{Ty, ty}
 use Rattle.scope.specs.Kinds.{PARAM, TUPLE, STRUCT}
 use Rattle.scope.specs.Nodes.{Unknown, Root, Store, opened, withNodes}
-use Rattle.scope.specs.Calls.{openCall, refused, NewKind, over}
-use Rattle.scope.specs.Demand.{Call, make, unify, import, later, new, newVar, newVars, unifyTypes, show, findRelated}
+use Rattle.scope.specs.Calls.{openCall, refused, over}
+use Rattle.scope.specs.Demand.{Call, make, unify, import, later, new, newVar, newVars, unifyTypes}
 use Rattle.scope.specs.Sound.{Lent, stray, reads}
 use Rattle.scope.specs.Replies.{Reply, number, type, types}
 use Rattle.scope.proofs.Run.{ran}

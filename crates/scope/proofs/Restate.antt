@@ -10,12 +10,12 @@ use lib.Dec.{eqb}
 use lib.ListN.{length, set, length-set, length-map}
 use lib.Seq.{getD-set-same, getD-set-other}
 use Rattle.scope.specs.Base.{count, from}
-use Rattle.scope.specs.Types.{Ty, ty, flip}
+use Rattle.scope.specs.Types.{Ty}
 use Rattle.scope.specs.Kinds.{DEFAULT}
 use Rattle.scope.specs.Nodes.{Kind, State, Known, Unknown, InferenceFailed, Node, Root, Child, at, stateOf, sizeOf, isKnown}
 use Rattle.scope.specs.Make.{bare}
 use Rattle.scope.specs.Force.{finishNode, finishWhere, finishInference}
-use Rattle.scope.proofs.View.{View, VState, unknown, known, Kid, Fin, fin, Good, seen, view}
+use Rattle.scope.proofs.View.{known, Kid, Fin, fin, Good, seen, view}
 use Rattle.scope.proofs.ViewLaws.{same?, not-known}
 use Rattle.scope.proofs.Paths.{beyond, Leads, top, up, not-child, Lead, Forest, lead-all, rep-leads, rep-idem}
 use Rattle.scope.proofs.Merge.{Shallow}

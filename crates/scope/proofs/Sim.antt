@@ -7,20 +7,20 @@ use mathlib.Core.Logic.{_≢_}
 use Prim.Native.Nat.{ℕ, zero, suc, _≤_, _<_}
 use native.Mathlib.Omega.{arith}
 use native.Mathlib.Decide.{ℕ-discrete, decLt}
-use lib.Dec.{eqb, ltb}
+use lib.Dec.{eqb}
 use lib.ListN.{length}
 use borrow.Author.Tests.{eq-eqb, ne-eqb, lt-ltb, le-ltb}
 use Rattle.scope.specs.Base.{pick, xor, any, all}
 use Rattle.scope.specs.Names.{Texts}
-use Rattle.scope.specs.Types.{Ty, ty, flip}
+use Rattle.scope.specs.Types.{Ty, ty}
 use Rattle.scope.specs.Kinds.{selfDual, PARAM}
 use Rattle.scope.specs.Nodes.{Kind, State, Known, Unknown, InferenceFailed, Node, at, stateOf, sizeOf, find, findMut, kidsOf}
 use Rattle.scope.specs.Answers.{Answer, Success, Failure, Indeterminate, both, ofBool}
-use Rattle.scope.specs.Unify.{Plan, plan, Out, out, run, occurs, selfInverseKind, selfInverseState, selfInverseAt, join, turn, orState, stateIn, kept, stays, merge, bindIf, bind, settle, meetStates, sameNode, meet, unifyF, unify}
-use Rattle.scope.proofs.View.{VState, unknown, known, View, sel, rootOf, seen, view}
+use Rattle.scope.specs.Unify.{Plan, plan, Out, out, run, occurs, selfInverseState, selfInverseAt, join, turn, orState, stateIn, kept, stays, merge, bindIf, bind, settle, meetStates, sameNode, meet, unifyF, unify}
+use Rattle.scope.proofs.View.{VState, known, View, sel, rootOf, seen, view}
 use Rattle.scope.proofs.View as Seen
 use Rattle.scope.proofs.PlanLaws.{plan-left, plan-right}
-use Rattle.scope.proofs.Paths.{Forest, Tidied, find-root, find-idx, rep-idem, rep-inside, find-inside, find-mut-tidied, tidied-forest, tidied-view}
+use Rattle.scope.proofs.Paths.{Forest, Tidied, find-root, find-idx, rep-idem, find-inside, find-mut-tidied, tidied-forest, tidied-view}
 use Rattle.scope.proofs.Merge.{Shallow, tidied-shallow, Roots, roots-of, join-forest, join-len, join-shallow, join-view}
 use Rattle.scope.proofs.Sizes.{Sized, link-sized}
 

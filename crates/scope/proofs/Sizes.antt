@@ -2,26 +2,26 @@
 -- a tree of at most 4,096 nodes is at most twelve steps deep. Assumes nothing.
 use mathlib.Core.Path.{_≡_, refl, sym, ap, _∙_}
 use mathlib.Core.List.{List, [], _∷_, _++_}
-use mathlib.Core.Bool.{Bool, true, false, _&&_}
+use mathlib.Core.Bool.{Bool, true, false}
 use mathlib.Core.Logic.{_≢_, _⊎_, inl, inr}
 use Prim.Native.Nat.{ℕ, zero, suc, _+_, _-_, _^_, _≤_, _<_}
 use native.Mathlib.Nat.{not-suc-le-zero}
 use native.Mathlib.Omega.{arith}
 use native.Mathlib.Decide.{ℕ-discrete, decLt}
 use lib.Dec.{eqb}
-use lib.ListN.{length, getD}
+use lib.ListN.{length}
 use lib.Pow.{pow-mono}
 use borrow.Author.Tests.{eq-eqb, ne-eqb}
-use Rattle.scope.specs.Base.{pick, xor, all, count, from}
+use Rattle.scope.specs.Base.{pick, all, count, from}
 use Rattle.scope.specs.Limits.{MAX-NODES}
 use Rattle.scope.specs.Types.{Ty, ty, flip}
-use Rattle.scope.specs.Nodes.{State, Node, Root, Child, at, isRoot, sizeOf, find}
+use Rattle.scope.specs.Nodes.{Node, Root, Child, at, isRoot, sizeOf}
 use Rattle.scope.specs.Sound.{rooted, rootedNode, treeSize}
 use Rattle.scope.specs.Demand.{sizes}
 use Rattle.scope.proofs.TestLaws.{and-left, and-right, both-true}
-use Rattle.scope.proofs.View.{View, VState, sel, link, view}
+use Rattle.scope.proofs.View.{View, VState, link, view}
 use Rattle.scope.proofs.ViewLaws.{same?, sel-yes, sel-no, rep-hit, rep-miss}
-use Rattle.scope.proofs.Paths.{beyond, Leads, top, up, not-child, leads-inside, Lead, Forest, lead-all, rep-leads, rep-inside}
+use Rattle.scope.proofs.Paths.{Leads, top, up, leads-inside, Lead, Forest, rep-inside}
 use Rattle.scope.proofs.Merge.{Shallow}
 
 -- every number of a run passes a test

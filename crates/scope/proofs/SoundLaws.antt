@@ -1,28 +1,28 @@
 -- What it is for a store to be sound, as plain facts, and that these say just what the test says. Assumes nothing.
 use mathlib.Core.Path.{_≡_, refl, sym, ap, subst, _∙_}
 use mathlib.Core.List.{List, [], _∷_, List·Memᴰ}
-use mathlib.Core.Bool.{Bool, true, false, _&&_}
+use mathlib.Core.Bool.{Bool, true, _&&_}
 use mathlib.Core.Option.{Option, none, some}
 use Prim.Native.Nat.{ℕ, zero, suc, _≤_, _<_}
 use native.Mathlib.Omega.{arith}
 use native.Mathlib.Decide.{decLt}
-use lib.Dec.{eqb, ltb, leb}
+use lib.Dec.{eqb, leb}
 use lib.ListN.{length, getD, List·getD-eq-default}
 use borrow.Author.Tests.{eq-eqb, ne-eqb, eqb-true, lt-ltb, ltb-true, le-leb, leb-true}
 use Rattle.scope.specs.Base.{all, from}
 use Rattle.scope.specs.Limits.{MAX-NODES, MAX-CHILDREN}
 use Rattle.scope.specs.Chart.{Env}
-use Rattle.scope.specs.Types.{Ty, ty}
+use Rattle.scope.specs.Types.{Ty}
 use Rattle.scope.specs.Kinds.{makeable, defined, flagIs}
-use Rattle.scope.specs.Nodes.{Kind, State, Known, Unknown, InferenceFailed, Node, Root, Child, Store, at, stateOf, sizeOf}
+use Rattle.scope.specs.Nodes.{Kind, Known, Unknown, InferenceFailed, Node, Root, Child, Store, at, stateOf, sizeOf}
 use Rattle.scope.specs.Sound.{inStore, rooted, falls, treeSize, sizeIs, kindSound, nodeSound, remembered, roomSound, shapeSound, soundStore}
 use Rattle.scope.proofs.View.{known, View, Fin, fin, Good, seen, view}
 use Rattle.scope.proofs.TestLaws.{and-left, and-right, both-true, all-of, of-all}
 use Rattle.scope.proofs.PlanLaws.{Makeable}
 use Rattle.scope.proofs.ViewLaws.{not-known, Held}
-use Rattle.scope.proofs.Paths.{beyond, not-child, Lead, Forest, leads-short, rep-idem, rep-root}
+use Rattle.scope.proofs.Paths.{beyond, not-child, Forest, leads-short, rep-idem, rep-root}
 use Rattle.scope.proofs.Sizes.{all-from, from-all, count-none, Sized, sized-tree, leads-rooted, rooted-leads}
-use Rattle.scope.proofs.Falls.{seen-known, falls-fin, good-falls}
+use Rattle.scope.proofs.Falls.{falls-fin, good-falls}
 
 -- a kind that 4 and 5 let through, over nodes below n
 pub record Fine (e : Env) (n : ℕ) (k : Kind) : Type 0 where

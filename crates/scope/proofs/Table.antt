@@ -3,7 +3,7 @@
 use mathlib.Core.Path.{_≡_, refl}
 use mathlib.Core.List.{List, [], _∷_, map}
 use mathlib.Core.Bool.{true, false}
-use mathlib.Core.Option.{Option, none, some}
+use mathlib.Core.Option.{Option, some}
 use Prim.Native.Nat.{ℕ}
 use lib.ListN.{replicate}
 use Rattle.scope.specs.Text.{text}
@@ -12,11 +12,11 @@ use Rattle.scope.specs.Names.{Name, name}
 use Rattle.scope.specs.Chart.{Env}
 use Rattle.scope.specs.Types.{Ty, ty}
 use Rattle.scope.specs.Kinds.{OBJECT, TUPLE, NEVER, DEFAULT, ERROR}
-use Rattle.scope.specs.Nodes.{Kind, State, Known, Unknown, Node, Root, Child, opened}
+use Rattle.scope.specs.Nodes.{Known, Unknown, Node, Root, Child, opened}
 use Rattle.scope.specs.Answers.{Success, Failure, Indeterminate}
 use Rattle.scope.specs.Make.{bare}
 use Rattle.scope.specs.Force.{forcedError}
-use Rattle.scope.specs.Calls.{NewKind, over}
+use Rattle.scope.specs.Calls.{over}
 use Rattle.scope.specs.Demand.{Call, make, unify, forceKind, later, new, newVar, error, nil, show}
 use Rattle.scope.specs.Replies.{Reply, type, answer, forced}
 use Rattle.scope.specs.Replies as Replies

@@ -1,7 +1,7 @@
 -- Laws of views that the others use: choices, inversions, what a link leaves, containment. Assumes nothing.
-use mathlib.Core.Path.{_≡_, refl, sym, ap, _∙_}
-use mathlib.Core.List.{List, [], _∷_, List·Memᴰ}
-use mathlib.Core.Bool.{Bool, true, false, not}
+use mathlib.Core.Path.{_≡_, refl, ap, _∙_}
+use mathlib.Core.List.{List·Memᴰ}
+use mathlib.Core.Bool.{Bool, true, false}
 use mathlib.Core.Logic.{_≢_, _⊎_, inl, inr}
 use Prim.Native.Nat.{ℕ, _<_}
 use native.Mathlib.Omega.{arith}
@@ -9,7 +9,7 @@ use native.Mathlib.Decide.{ℕ-discrete}
 use Rattle.scope.specs.Base.{xor}
 use Rattle.scope.specs.Types.{Ty, ty, flip}
 use Rattle.scope.specs.Nodes.{Kind}
-use Rattle.scope.proofs.View.{VState, unknown, known, View, sel, link, Kid, Below, one, more, Fin, fin}
+use Rattle.scope.proofs.View.{VState, unknown, known, View, sel, link, Below, one, more, Fin, fin}
 
 pub sel-yes {ℓ ℓ′} : {A : Type ℓ} {B : Type ℓ′} (d : Dec A) (x y : B) → A → sel d x y ≡ x
 sel-yes (yes a) x y h = refl
