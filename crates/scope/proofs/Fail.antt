@@ -17,6 +17,7 @@ use Rattle.scope.specs.Answers.{Answer, Success, Failure, Indeterminate,
 use Rattle.scope.specs.Unify.{Plan, plan}
 use Rattle.scope.specs.Trees.{TreeHead, Tree, node, Forest, fnil, fcons, treeHead, treeDual, invert, inverts, Val, invertIf, val, vals, build}
 use Rattle.scope.proofs.View.{VState, unknown, known, View, sel, rootOf, Kid, Below, one, more, Good, Out, out, run, occurs, selfSt, selfInverse, same, bind, close, join, kept, meetSt, meet, unify}
+use Rattle.scope.proofs.TreeLaws.{invert-dual, invert-mark, invertIf-twice, fcons-head, fcons-tail, node-kids}
 use Rattle.scope.proofs.Free.{free, free-nil}
 use Rattle.scope.proofs.Chain.{Chain, cnil, chain-step, fuel-out, fuel-step}
 use Rattle.scope.proofs.TestLaws.{tf, all-no}
@@ -29,7 +30,7 @@ use Rattle.scope.proofs.Meet.{unify-spec}
 use Rattle.scope.proofs.Fuel.{Chains, chain-after, plan-chains}
 use Rattle.scope.proofs.Inside.{Inside, Fine, InsideStep, inside-kinds, Within, plan-within, unify-inside}
 use Rattle.scope.proofs.Self.{occurs-yes}
-use Rattle.scope.proofs.ViewFits.{Fits, invert-dual, invert-mark, invertIf-twice, val-root}
+use Rattle.scope.proofs.ViewFits.{Fits, val-root}
 use Rattle.scope.proofs.Sol.{Equal, SolStep, den-known, uncross, unify-sol}
 
 -- a kind that can be made, and is no Default
@@ -99,15 +100,6 @@ size-kid {E} {v} {g} {a} {x} f c =
 size-below : {E : Env} {v : Val} {g : View} {a x : ℕ} → Fits E v g → Below g a x → size (v x) < size (v a)
 size-below f (one c) = size-kid f c
 size-below f (more c b) = omega (arith, size-kid f c, size-below f b)
-
-fcons-head : {t t′ : Tree} {ts ts′ : Forest} → fcons t ts ≡ fcons t′ ts′ → t ≡ t′
-fcons-head {t} {t′} {ts} {ts′} e = cc
-
-fcons-tail : {t t′ : Tree} {ts ts′ : Forest} → fcons t ts ≡ fcons t′ ts′ → ts ≡ ts′
-fcons-tail {t} {t′} {ts} {ts′} e = cc
-
-node-kids : {h h′ : TreeHead} {m m′ : Bool} {ts ts′ : Forest} → node h m ts ≡ node h′ m′ ts′ → ts ≡ ts′
-node-kids {h} {h′} {m} {m′} {ts} {ts′} e = cc
 
 marks : {h : TreeHead} {ts ts′ : Forest} {A : Type 0} → node h true ts ≡ node h false ts′ → A
 marks {h} {ts} {ts′} e = let z : true ≡ false = cc in tf z

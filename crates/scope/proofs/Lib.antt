@@ -7,7 +7,6 @@ pub mod Copy
 pub mod CopyCount
 pub mod CopyTrees
 pub mod Depth
-pub mod Enough
 pub mod Extend
 pub mod Fail
 pub mod Faithful

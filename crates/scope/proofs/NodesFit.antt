@@ -13,10 +13,11 @@ use Rattle.scope.specs.Make.{push}
 use Rattle.scope.specs.Trees.{Tree, Val, invertIf, val, StateFits, NodeFits, Fits}
 use Rattle.scope.specs.Demand.{StatesFit}
 use Rattle.scope.proofs.View.{seen, view}
+use Rattle.scope.proofs.TreeLaws.{invertIf-xor}
 use Rattle.scope.proofs.ViewLaws.{same?}
 use Rattle.scope.proofs.Paths.{beyond, Leads, top, up, Forest, lead-all, rep-leads}
 use Rattle.scope.proofs.Push.{push-len, push-new, push-old}
-use Rattle.scope.proofs.ViewFits.{Den, invertIf-xor}
+use Rattle.scope.proofs.ViewFits.{Den}
 use Rattle.scope.proofs.ViewFits as Seen
 use Rattle.scope.proofs.Steps.{pushes}
 

@@ -17,13 +17,14 @@ use Rattle.scope.specs.Answers.{Answer, Success, Failure, Indeterminate,
 use Rattle.scope.specs.Unify.{Plan, plan, zipped, crosses}
 use Rattle.scope.specs.Trees.{TreeHead, Tree, node, Forest, fcons, treeHead, inverts, Val, invertIf, val, vals, build}
 use Rattle.scope.proofs.View.{VState, unknown, known, View, sel, rootOf, Good, Out, out, run, occurs, same, bind, close, join, kept, turn, orSt, meetSt, meet, unify}
+use Rattle.scope.proofs.TreeLaws.{invert-dual, invertIf-twice, invertIf-xor, invertsIf, invertsIf-cons}
 use Rattle.scope.proofs.PlanLaws.{Makeable, dual-tree, plan-success, plan-equal}
 use Rattle.scope.proofs.ViewLaws.{idx-eq, same?, not-known, rep-hit, rep-miss, st-w, st-l, st-other, xor-twice, xor-comm}
 use Rattle.scope.proofs.Grow.{joined-grow}
 use Rattle.scope.proofs.Stay.{Kinds, kinds-after, AllPairs, Stays, Spec, RunSpec, Step, run-spec}
 use Rattle.scope.proofs.TestLaws.{and-left}
 use Rattle.scope.proofs.Meet.{unify-spec, PlanSpec, plan-spec, Mergeable, deep-ok, a-stays, b-stays, join-spec}
-use Rattle.scope.proofs.ViewFits.{Den, Fits, invert-dual, invertIf-twice, invertIf-xor, val-root, joined-val}
+use Rattle.scope.proofs.ViewFits.{Den, Fits, val-root, joined-val}
 
 turn-twice : (i : Bool) (s : VState) → turn i (turn i s) ≡ s
 turn-twice i unknown = refl
@@ -166,17 +167,8 @@ module _ (E : Env) where
   abbrev pub Equal : Val → List (Ty × Ty) → Type 0
   Equal v = AllPairs (λ p. val E v (p .0) ≡ val E v (p .1))
 
-  unfoldable invertIfs : Bool → Forest → Forest
-  invertIfs false ts = ts
-  invertIfs true ts = inverts E ts
-
-  cons-inv : (c : Bool) (t : Tree) (ts : Forest) → fcons (invertIf E c t) (invertIfs c ts) ≡ invertIfs c (fcons t ts)
-  unfolding invertIfs inverts
-  cons-inv false t ts = refl
-  cons-inv true t ts = refl
-
-  zip-same : (v : Val) (c : Bool) (xs ys : List Ty) → length xs ≡ length ys → Equal v (zipped c xs ys) → vals E v xs ≡ invertIfs c (vals E v ys)
-  unfolding invertIfs inverts zipped
+  zip-same : (v : Val) (c : Bool) (xs ys : List Ty) → length xs ≡ length ys → Equal v (zipped c xs ys) → vals E v xs ≡ invertsIf E c (vals E v ys)
+  unfolding inverts zipped
   zip-same v true [] [] e q = refl
   zip-same v false [] [] e q = refl
   zip-same v c [] (y ∷ ys) e q = absurd (omega arith)
@@ -184,11 +176,11 @@ module _ (E : Env) where
   zip-same v c (x ∷ xs) (y ∷ ys) e q =
       ap₂ fcons (q (x, flip c y) (List·Memᴰ·head refl) ∙ invertIf-xor E c (y .inv) (v (y .idx)))
       (zip-same v c xs ys (omega arith) (λ p m. q p (List·Memᴰ·tail m)))
-      ∙ cons-inv c (val E v y) (vals E v ys)
+      ∙ sym (invertsIf-cons E c (val E v y) (vals E v ys))
 
   build-inv : (v : Val) (m : Kind) (c : Bool) → Makeable E m → (c ≡ true → selfDual (m .head) ≡ true)
-      → invertIf E c (build E v m) ≡ node (treeHead (E .texts) (m .head)) false (invertIfs c (vals E v (m .kids)))
-  unfolding build invertIfs
+      → invertIf E c (build E v m) ≡ node (treeHead (E .texts) (m .head)) false (invertsIf E c (vals E v (m .kids)))
+  unfolding build
   build-inv v m false ok d = refl
   build-inv v m true ok d = invert-dual E (treeHead (E .texts) (m .head)) false (vals E v (m .kids)) (dual-tree E m ok ∙ d refl)
 

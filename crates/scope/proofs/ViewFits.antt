@@ -1,15 +1,15 @@
--- Trees that fit a view: inversion undone by itself, a type's tree is its root's, and joined types have one tree. Assumes nothing.
+-- Trees that fit a view: a type's tree is its root's, and joined types have one tree. Assumes nothing.
 use mathlib.Core.Path.{_≡_, refl, sym, ap, ap₂, subst, _∙_}
 use mathlib.Core.List.{List, [], _∷_, List·Memᴰ, List·Memᴰ·head, List·Memᴰ·tail}
-use mathlib.Core.Bool.{Bool, true, false, not, Bool·not-not}
+use mathlib.Core.Bool.{Bool, true, false}
 use Prim.Native.Nat.{ℕ}
-use Rattle.scope.specs.Base.{xor}
 use Rattle.scope.specs.Chart.{Env}
 use Rattle.scope.specs.Types.{Ty}
 use Rattle.scope.specs.Kinds.{selfDual}
 use Rattle.scope.specs.Nodes.{Kind}
-use Rattle.scope.specs.Trees.{TreeHead, Tree, node, Forest, fnil, fcons, treeHead, treeDual, invert, inverts, Val, invertIf, val, vals, build}
+use Rattle.scope.specs.Trees.{Tree, node, fcons, treeHead, invert, inverts, Val, invertIf, val, vals, build}
 use Rattle.scope.proofs.View.{VState, unknown, known, View, rootOf}
+use Rattle.scope.proofs.TreeLaws.{invert-dual, invertIf-xor}
 use Rattle.scope.proofs.PlanLaws.{Makeable, dual-tree}
 use Rattle.scope.proofs.Grow.{ri, Self, self, Joined, agree, selfly}
 use Rattle.scope.proofs.Stay.{Kinds}
@@ -22,38 +22,6 @@ Den e v (known i k) t = t ≡ invertIf e i (build e v k)
 pub record Fits (e : Env) (v : Val) (g : View) : Type 0 where
   pub tree : (n : ℕ) → v n ≡ val e v (g .rep n)
   pub state : (n : ℕ) → Den e v (g .st n) (v n)
-
-pub invert-dual : (e : Env) (h : TreeHead) (m : Bool) (ts : Forest) → treeDual e h ≡ true → invert e (node h m ts) ≡ node h m (inverts e ts)
-unfolding invert
-invert-dual e h m ts d = rw d
-
-pub invert-mark : (e : Env) (h : TreeHead) (m : Bool) (ts : Forest) → treeDual e h ≡ false → invert e (node h m ts) ≡ node h (not m) ts
-unfolding invert
-invert-mark e h m ts d = rw d
-
-twice-at : (e : Env) (h : TreeHead) (m : Bool) (ts : Forest) → inverts e (inverts e ts) ≡ ts → (b : Bool) → treeDual e h ≡ b
-    → invert e (invert e (node h m ts)) ≡ node h m ts
-twice-at e h m ts q true d = ap (invert e) (invert-dual e h m ts d) ∙ invert-dual e h m (inverts e ts) d ∙ ap (node h m) q
-twice-at e h m ts q false d = ap (invert e) (invert-mark e h m ts d) ∙ invert-mark e h (not m) ts d ∙ ap (λ (b : Bool). node h b ts) (Bool·not-not m)
-
-mutual
-  unfolding inverts
-
-  pub invert-twice : (e : Env) (t : Tree) → invert e (invert e t) ≡ t
-  invert-twice e (node h m ts) = twice-at e h m ts (inverts-twice e ts) (treeDual e h) refl
-
-  inverts-twice : (e : Env) (ts : Forest) → inverts e (inverts e ts) ≡ ts
-  inverts-twice e fnil = refl
-  inverts-twice e (fcons t ts) = ap₂ fcons (invert-twice e t) (inverts-twice e ts)
-
-pub invertIf-twice : (e : Env) (i : Bool) (t : Tree) → invertIf e i (invertIf e i t) ≡ t
-invertIf-twice e false t = refl
-invertIf-twice e true t = invert-twice e t
-
-pub invertIf-xor : (e : Env) (i j : Bool) (t : Tree) → invertIf e (xor i j) t ≡ invertIf e i (invertIf e j t)
-invertIf-xor e false j t = refl
-invertIf-xor e true false t = refl
-invertIf-xor e true true t = sym (invert-twice e t)
 
 pub invertIf-self : (e : Env) (i : Bool) (t : Tree) → invert e t ≡ t → invertIf e i t ≡ t
 invertIf-self e false t q = refl
