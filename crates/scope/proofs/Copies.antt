@@ -20,9 +20,11 @@ use Rattle.scope.specs.Sound.{falls}
 use Rattle.scope.specs.Import.{Work, keep, entry, entryAt, replaced}
 use Rattle.scope.specs.Calls.{importList}
 use Rattle.scope.proofs.View.{known, Kid, Good, seen, view}
+use Rattle.scope.proofs.Paths.{find-inside}
+use Rattle.scope.proofs.Extend.{ext-good}
 use Rattle.scope.proofs.TestLaws.{of-all}
 use Rattle.scope.proofs.PlanLaws.{Makeable}
-use Rattle.scope.proofs.Added.{Closed, at-end, find-added, find-new, closed-added, good-added}
+use Rattle.scope.proofs.Added.{Closed, closed-held, at-end, find-added, find-new, closed-added}
 use Rattle.scope.proofs.Mapping.{Source, Maps, tally-range, tally-onto}
 use Rattle.scope.proofs.Copy.{copyState, below, Became, as-copy, as-entry, lost, BecameAll, bnil, bcons, Filled, Ok}
 
@@ -189,7 +191,7 @@ module _ (ns : List Node) (ps : Option (List Ty)) (s : Store) (w : Work) (ok : O
       kid-depth f {c} {c′} y h (as-entry t r e) q =
           let lt : c′ .idx < length (s .nodes) = omega (arith, entry-low (stateAt ns c) t r, ap (λ (x : Ty). x .idx) e) in
           let f = find-added (s .nodes) (w .dest .nodes) (ok .ext) closed (ty false (c′ .idx)) in
-          inl (omega (arith, q, ap (λ (x : Ty). x .idx) f, closed .inside (ty false (c′ .idx)) lt))
+          inl (omega (arith, q, ap (λ (x : Ty). x .idx) f, find-inside (closed .forest) (ty false (c′ .idx)) lt))
       kid-depth f y h (lost l) q = absurd (true≢false (sym l ∙ miss))
 
       step : (f a y : ℕ) → length (s .nodes) ≤ a → Deep (suc f) a → Kid (view (w .dest .nodes)) a y → (y < length (s .nodes)) ⊎ Deep f y
@@ -204,7 +206,7 @@ module _ (ns : List Node) (ps : Option (List Ty)) (s : Store) (w : Work) (ok : O
       -- no cycle
       pub copies-good : Source ns → Good (view (s .nodes)) → Good (view (w .dest .nodes))
       unfolding view
-      copies-good src good = good-added (s .nodes) (w .dest .nodes) (ok .ext) closed good Deep no-depth step
+      copies-good src good = ext-good (s .nodes) (w .dest .nodes) (ok .ext) (closed .forest) (closed-held closed) good Deep no-depth step
           (λ a p i k e. deep a p i k e (decLt a (length (w .dest .nodes))))
         where
           deep : (a : ℕ) → length (s .nodes) ≤ a → (i : Bool) (k : Kind) → seen (stateOf (at (w .dest .nodes) a)) ≡ known i k

@@ -17,7 +17,7 @@ use Rattle.scope.specs.Make.{push}
 use Rattle.scope.specs.Sound.{falls}
 use Rattle.scope.specs.Import.{Work, Moved, MovedAll, copyOf, Replaced, keep, missing-entry, entry, replaced, spanOf, begun, ended, many, copied, lacking, fresh, place, transfer, start, import}
 use Rattle.scope.proofs.TestLaws.{of-all}
-use Rattle.scope.proofs.Added.{Extends}
+use Rattle.scope.proofs.Extend.{Extends}
 use Rattle.scope.proofs.Mapping.{Rest, Source, held, Tally, tnil, tcons, Maps, copy-maps, tally-range, tally-uniq}
 
 -- a root's state with its children moved

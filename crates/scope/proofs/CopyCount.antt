@@ -17,7 +17,7 @@ use Rattle.scope.specs.Nodes.{Node, Store, at, stateOf, stateAt, find, k
 use Rattle.scope.specs.Sound.{falls}
 use Rattle.scope.specs.Import.{Work, copyOf, Replaced, keep, missing-entry, entry, replaced, start, import, reachesState, reaches, copies}
 use Rattle.scope.proofs.TestLaws.{of-all, any-yes, yes-any}
-use Rattle.scope.proofs.Added.{Extends, extends-tail}
+use Rattle.scope.proofs.Extend.{Extends, extends-tail}
 use Rattle.scope.proofs.Mapping.{Source, held, Tally, tnil, tcons, Maps, copy-maps, copy-none}
 use Rattle.scope.proofs.Copy.{Reach, here, below, Became, as-copy, as-entry, lost, Ok, PostAll, import-ok}
 use Rattle.scope.proofs.Copies.{not-keep, became-of, became-length, copy-kids, copy-filled}

@@ -1,10 +1,10 @@
--- New roots of size 1 behind the old nodes, as makers and imports leave them: no old node's root, depth, state or size changes, and where the new
--- kinds follow a view without cycles there is none. Assumes nothing.
+-- New roots of size 1 behind the old nodes, as makers and imports leave them: no old node's root, depth, state or size changes, and there is no cycle
+-- if the new ones have a depth. Assumes nothing.
 use mathlib.Core.Path.{_≡_, sym, ap, _∙_}
-use mathlib.Core.List.{List}
+use mathlib.Core.List.{List, _∷_}
 use mathlib.Core.Bool.{Bool, false}
 use mathlib.Core.Logic.{_⊎_, inl, inr}
-use Prim.Native.Nat.{ℕ, _+_, _^_, _≤_, _<_, _-_}
+use Prim.Native.Nat.{ℕ, _+_, _^_, _≤_, _<_, _-_, zero, suc}
 use native.Mathlib.Omega.{arith}
 use native.Mathlib.Decide.{decLt}
 use lib.Dec.{eqb}
@@ -14,12 +14,23 @@ use Rattle.scope.specs.Base.{count, from}
 use Rattle.scope.specs.Limits.{NONE}
 use Rattle.scope.specs.Types.{Ty, ty}
 use Rattle.scope.specs.Nodes.{Kind, State, Unknown, Node, Root, Child, at, stateOf, sizeOf}
-use Rattle.scope.proofs.View.{View, known, Kid, Fin, fin, Good, seen, view}
+use Rattle.scope.proofs.View.{known, Kid, Fin, fin, Good, seen, view}
 use Rattle.scope.proofs.ViewLaws.{Held}
 use Rattle.scope.proofs.Paths.{beyond, Leads, top, up, not-child, child-inside, leads-inside, Lead, Forest, lead-all, rep-leads, rep-inside, kid-inside, rep-idem, root-rep}
 use Rattle.scope.proofs.Merge.{Shallow}
-use Rattle.scope.proofs.Added.{Extends}
 use Rattle.scope.proofs.Sizes.{count-split, count-none, count-same, count-one, eqb-sym, Sized}
+
+pub record Extends (ns ns′ : List Node) : Type 0 where
+  pub len : length ns ≤ length ns′
+  pub old : (n : ℕ) → n < length ns → at ns′ n ≡ at ns n
+  pub new : (n : ℕ) → length ns ≤ n → n < length ns′ → (st : State) × (at ns′ n ≡ Root st 1)
+
+pub extends-tail : {n n′ : Node} {ns ns′ : List Node} → Extends (n ∷ ns) (n′ ∷ ns′) → Extends ns ns′
+extends-tail x = record {
+  len = omega (arith, x .len);
+  old = λ m q. x .old (suc m) (omega arith);
+  new = λ m q p. x .new (suc m) (omega arith) (omega arith);
+}
 
 module _ (ns ns′ : List Node) (x : Extends ns ns′) (ok : Forest ns) where
   ext-root : (n : ℕ) → length ns ≤ n → (st : State) × (z : ℕ) × (at ns′ n ≡ Root st z)
@@ -69,7 +80,7 @@ module _ (ns ns′ : List Node) (x : Extends ns ns′) (ok : Forest ns) where
   ext-st n h = ap (λ (y : Node). seen (stateOf y)) (x .old n h)
 
   -- a new node stands for itself
-  new-rep : (n : ℕ) → length ns ≤ n → view ns′ .rep n ≡ ty false n
+  pub new-rep : (n : ℕ) → length ns ≤ n → view ns′ .rep n ≡ ty false n
   new-rep n h = root-rep ext-forest (ext-root n h .2)
 
   pub ext-sized : Sized (length ns) (view ns) → Sized (length ns′) (view ns′)
@@ -106,10 +117,7 @@ module _ (ns ns′ : List Node) (x : Extends ns ns′) (ok : Forest ns) where
         count-one i (length ns) (length ns′ - length ns) (omega arith) (omega (arith, x .len)),
       )
 
-  -- the new kinds follow the view h, which has no cycle: Of r a says that the new node a was made after h's root r
-  module _ (held : Held (length ns) (view ns)) (good : Good (view ns)) (h : View) (hg : Good h) (Of : ℕ → ℕ → Type 0)
-      (step : (a y r : ℕ) → length ns ≤ a → Of r a → Kid (view ns′) a y → (y < length ns) ⊎ ((q : ℕ) × Kid h r q × Of q y))
-      (of : (a : ℕ) → length ns ≤ a → (i : Bool) (k : Kind) → view ns′ .st a ≡ known i k → (r : ℕ) × Of r a) where
+  module _ (held : Held (length ns) (view ns)) (good : Good (view ns)) where
     kid-old : {a y : ℕ} → a < length ns → Kid (view ns′) a y → Kid (view ns) a y
     kid-old {a} q c = record {
       inv = c .inv;
@@ -124,24 +132,31 @@ module _ (ns ns′ : List Node) (x : Extends ns ns′) (ok : Forest ns) where
     fin-old : {a : ℕ} → a < length ns → Fin (view ns) a → Fin (view ns′) a
     fin-old {a} q (fin f) = fin (λ y c. let d = kid-old q c in fin-old (kid-inside ok held d) (f y d))
 
-    fin-new : {r : ℕ} → Fin h r → (a : ℕ) → length ns ≤ a → Of r a → Fin (view ns′) a
-    fin-new {r} (fin f) a q o = fin (λ y c. go y (λ z k b w p. fin-new (f z k) b w p) (step a y r q o c) (decLt y (length ns)))
-      where
-        go : (y : ℕ) → ((z : ℕ) → Kid h r z → (b : ℕ) → length ns ≤ b → Of z b → Fin (view ns′) b)
-            → (y < length ns) ⊎ ((q : ℕ) × Kid h r q × Of q y) → Dec (y < length ns) → Fin (view ns′) y
-        go y ih z (yes w) = fin-old w (good .wf y)
-        go y ih (inl w) (no v) = absurd (v w)
-        go y ih (inr k) (no v) = ih (k .0) (k .1) y (omega arith) (k .2)
+    -- new roots that have a depth, each below its children's unless these are old
+    module _ (D : ℕ → ℕ → Type 0) (none : (a : ℕ) → D zero a → ⊥)
+        (step : (f a y : ℕ) → length ns ≤ a → D (suc f) a → Kid (view ns′) a y → (y < length ns) ⊎ D f y)
+        (deep : (a : ℕ) → length ns ≤ a → (i : Bool) (k : Kind) → view ns′ .st a ≡ known i k → (f : ℕ) × D f a) where
+      fin-new : (f a : ℕ) → D f a → Fin (view ns′) a
+      fin-new zero a d = absurd (none a d)
+      fin-new (suc f) a d = go (decLt a (length ns)) (λ b e. fin-new f b e)
+        where
+          next : ((b : ℕ) → D f b → Fin (view ns′) b) → (y : ℕ) → (y < length ns) ⊎ D f y → Fin (view ns′) y
+          next ih y (inl q) = fin-old q (good .wf y)
+          next ih y (inr e) = ih y e
 
-    fin-all : (a : ℕ) → Fin (view ns′) a
-    fin-all a = go (decLt a (length ns))
-      where
-        go : Dec (a < length ns) → Fin (view ns′) a
-        go (yes q) = fin-old q (good .wf a)
-        go (no q) = fin (λ y c. let o = of a (omega arith) (c .inv) (c .kind) (c .state) in below y c (fin-new (hg .wf (o .0)) a (omega arith) (o .1)))
-          where
-            below : (y : ℕ) → Kid (view ns′) a y → Fin (view ns′) a → Fin (view ns′) y
-            below y c (fin g) = g y c
+          go : Dec (a < length ns) → ((b : ℕ) → D f b → Fin (view ns′) b) → Fin (view ns′) a
+          go (yes q) ih = fin-old q (good .wf a)
+          go (no q) ih = fin (λ y c. next ih y (step f a y (omega arith) d c))
 
-    pub ext-good : Good (view ns′)
-    ext-good = record { idem = rep-idem ext-forest; wf = fin-all }
+      fin-all : (a : ℕ) → Fin (view ns′) a
+      fin-all a = go (decLt a (length ns))
+        where
+          below : (y : ℕ) → Kid (view ns′) a y → Fin (view ns′) a → Fin (view ns′) y
+          below y c (fin g) = g y c
+
+          go : Dec (a < length ns) → Fin (view ns′) a
+          go (yes q) = fin-old q (good .wf a)
+          go (no q) = fin (λ y c. let d = deep a (omega arith) (c .inv) (c .kind) (c .state) in below y c (fin-new (d .0) a (d .1)))
+
+      pub ext-good : Good (view ns′)
+      ext-good = record { idem = rep-idem ext-forest; wf = fin-all }

@@ -13,7 +13,7 @@ use Rattle.scope.specs.Nodes.{State, Known, Unknown, InferenceFailed, No
 use Rattle.scope.specs.Import.{import}
 use Rattle.scope.specs.Calls.{importList}
 use Rattle.scope.proofs.View.{seen, view}
-use Rattle.scope.proofs.Paths.{find-idx, rep-root, find-inside}
+use Rattle.scope.proofs.Paths.{find-inside}
 use Rattle.scope.proofs.Falls.{seen-known, good-falls}
 use Rattle.scope.proofs.Added.{Closed}
 use Rattle.scope.proofs.Extend.{ext-forest, ext-shallow, ext-sized, ext-st}
@@ -34,12 +34,7 @@ module _ (e : Env) where
       go InferenceFailed q m = elim m [ ]
 
   pub sound-closed : {ns : List Node} → SoundNodes e ns → Closed ns
-  sound-closed {ns} ok = record {
-    roots = λ t h. rw (find-idx ns t, rep-root (ok .forest) (t .idx) .2) refl;
-    inside = find-inside (ok .forest);
-    kids = sound-kids ok;
-    parents = ok .forest .par;
-  }
+  sound-closed ok = record { forest = ok .forest; kids = sound-kids ok }
 
   pub sound-source : {ns : List Node} → SoundNodes e ns → Source ns
   sound-source {ns} ok = record {

@@ -4,15 +4,14 @@ use mathlib.Core.List.{List, List·Memᴰ}
 use mathlib.Core.Bool.{Bool, false}
 use mathlib.Core.Option.{Option}
 use Prim.Native.Nat.{ℕ, _+_, _≤_, _<_}
-use native.Mathlib.Omega.{arith}
 use lib.ListN.{length}
 use Rattle.scope.specs.Types.{Ty}
 use Rattle.scope.specs.Nodes.{Kind, Known, Node, Store, at, stateOf}
 use Rattle.scope.specs.Import.{MovedAll, import, copies}
 use Rattle.scope.specs.Calls.{importList}
-use Rattle.scope.specs.Demand.{sizes}
 use Rattle.scope.proofs.View.{Good, view}
-use Rattle.scope.proofs.Added.{Extends, Closed, sizes-added}
+use Rattle.scope.proofs.Extend.{Extends}
+use Rattle.scope.proofs.Added.{Closed}
 use Rattle.scope.proofs.Mapping.{Rest, Source, Maps}
 use Rattle.scope.proofs.Copy.{Filled, import-ok}
 use Rattle.scope.proofs.Copies.{After, became-length, copy-filled, new-copy, new-kind, types-inside, copies-closed, copies-good}
@@ -21,7 +20,6 @@ use Rattle.scope.proofs.CopyCount.{kidsIn, import-nodes, import-childre
 pub record Imported (ns : List Node) (ps : Option (List Ty)) (s : Store) (ts : List Ty) (m : MovedAll) : Type 0 where
   pub ext : Extends (s .nodes) (m .work .dest .nodes)
   pub made : length (m .work .dest .nodes) ≡ length (s .nodes) + copies ns ps ts
-  pub sized : sizes (m .work .dest .nodes) ≡ sizes (s .nodes) + copies ns ps ts
   pub children : m .work .dest .children + kidsIn (s .nodes) ≡ s .children + kidsIn (m .work .dest .nodes)
   pub rest : Rest s (m .work .dest)
   pub closed : Closed (m .work .dest .nodes)
@@ -37,11 +35,9 @@ pub imported : (ns : List Node) (ps : Option (List Ty)) (s : Store) (ts : List T
 imported ns ps s ts src closed good given low miss =
     let p = import-ok ns ps s src ts given in
     let w = import ns ps s ts .work in
-    let made = import-nodes ns ps s ts src given miss in
     record {
       ext = p .ok .ext;
-      made = made;
-      sized = omega (arith, made, sizes-added (s .nodes) (w .dest .nodes) (p .ok .ext));
+      made = import-nodes ns ps s ts src given miss;
       children = import-children ns ps s ts src given;
       rest = p .ok .rest;
       closed = copies-closed ns ps s w (p .ok) miss low closed;

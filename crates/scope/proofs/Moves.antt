@@ -22,8 +22,7 @@ use Rattle.scope.proofs.Grow.{alike-refl, heads-refl, Grow, grow-refl}
 use Rattle.scope.proofs.Stay.{run-spec}
 use Rattle.scope.proofs.Meet.{unify-spec}
 use Rattle.scope.proofs.Paths.{beyond, Forest, find-mut-tidied, tidied-view}
-use Rattle.scope.proofs.Added.{Extends}
-use Rattle.scope.proofs.Extend.{ext-rep, ext-st}
+use Rattle.scope.proofs.Extend.{ext-rep, ext-st, Extends}
 use Rattle.scope.proofs.Push.{push-len, push-extends}
 use Rattle.scope.proofs.Restate.{Restates, restates-rep, restates-known, restates-good}
 use Rattle.scope.proofs.Imports.{Imported}

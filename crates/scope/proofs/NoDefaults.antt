@@ -19,7 +19,7 @@ use Rattle.scope.proofs.ViewLaws.{same?}
 use Rattle.scope.proofs.TestLaws.{or-no}
 use Rattle.scope.proofs.Paths.{find-mut-tidied, tidied-view}
 use Rattle.scope.proofs.Falls.{seen-known}
-use Rattle.scope.proofs.Added.{Extends}
+use Rattle.scope.proofs.Extend.{Extends}
 use Rattle.scope.proofs.Stay.{NoNew}
 use Rattle.scope.proofs.Meet.{unify-spec}
 use Rattle.scope.proofs.Push.{push-new, push-old}

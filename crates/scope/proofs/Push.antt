@@ -14,8 +14,7 @@ use Rattle.scope.specs.Make.{push}
 use Rattle.scope.proofs.View.{known, Good, seen, view}
 use Rattle.scope.proofs.ViewLaws.{same?, Held}
 use Rattle.scope.proofs.Paths.{beyond, Forest, rep-inside}
-use Rattle.scope.proofs.Added.{Extends}
-use Rattle.scope.proofs.Extend.{ext-rep, ext-good}
+use Rattle.scope.proofs.Extend.{ext-rep, ext-good, Extends}
 
 module _ (ns : List Node) (st : State) where
   pub push-len : length (push ns st) ≡ suc (length ns)
@@ -49,7 +48,7 @@ module _ (ns : List Node) (st : State) where
         go (inr q) = held a i k (ap (λ (x : Node). seen (stateOf x)) (sym (push-old a q)) ∙ e)
 
     pub push-good : Good (view ns) → Good (view (push ns st))
-    push-good good = ext-good ns (push ns st) push-extends ok held good (view ns) good (λ r a. Unit {0})
-        (λ a y r h o c. inl (subst (λ (z : ℕ). z < length ns) (ap (λ (t : Ty). t .idx) (sym (ext-rep ns (push ns st) push-extends ok (c .kid .idx))) ∙ c .to)
+    push-good good = ext-good ns (push ns st) push-extends ok held good (λ f a. 0 < f) (λ a h. absurd (omega arith))
+        (λ f a y h o c. inl (subst (λ (z : ℕ). z < length ns) (ap (λ (t : Ty). t .idx) (sym (ext-rep ns (push ns st) push-extends ok (c .kid .idx))) ∙ c .to)
         (rep-inside ok (c .kid .idx) (push-held a (c .inv) (c .kind) (c .state) (c .kid) (c .mem)))))
-        (λ a h i k e. (0, tt))
+        (λ a h i k e. (1, omega arith))
