@@ -2,7 +2,7 @@
 -- The loops use the steps: what two lists say from place i on, by what stands at i and what they say from i + 1 on. Assumes nothing.
 use mathlib.Core.Path.{_≡_, refl, sym, ap, _∙_}
 use mathlib.Core.Logic.{_⊎_, inl, inr}
-use mathlib.Core.Bool.{Bool, true, false, _&&_, false≢true, and-eq-true-iff}
+use mathlib.Core.Bool.{Bool, true, false, false≢true}
 use mathlib.Core.List.{List, [], _∷_}
 use Prim.Native.Nat.{ℕ, zero, suc, _+_, _-_, _≤_, _<_}
 use native.Mathlib.Numerals.{add-one}
@@ -14,14 +14,12 @@ use lib.ListN.{length, getD, take, drop, length-take, length-drop, drop-of-lengt
 use lib.Seq.{drop-cons, take-all, take-nil}
 use Rattle.scope.specs.Limits.{MAX-NAME}
 use Rattle.scope.specs.Names.{Texts, Name, textOf, bytes, inText, nameOk, eqBytes, ltBytes}
+use Rattle.names.proofs.Tests.{both}
 
 -- any number but 0 selects the chart text
 pub chart-text : (x : Texts) (t : ℕ) → (t ≡ 0 → ⊥) → textOf x t ≡ x .chart
 chart-text x zero n = absurd (n refl)
 chart-text x (suc t) n = refl
-
-both : (s t : Bool) → (s && t) ≡ true → (s ≡ true) × (t ≡ true)
-both s t h = and-eq-true-iff s t .0 h
 
 -- the same bytes are equal lists, and equal lists the same bytes
 pub same-equal : (a b : List ℕ) → eqBytes a b ≡ true → a ≡ b
