@@ -134,9 +134,8 @@ module _ (e : Env) (s : Store) (facts : SoundFacts e s) where
       go InferenceFailed q = find-mut-moves t
       go (Unknown p) q =
           let in-r : r < length ns = omega (arith, d .len, find-inside (ok .forest) t h) in
-          let z = root-after e (s .nodes) t (ok .forest) in
           let y : at ns r ≡ Root (Unknown p) (sizeOf (at ns r)) =
-          z .1 ∙ ap (λ (n : ℕ). Root (stateAt (s .nodes) t) n) (sym (ap sizeOf (z .1))) ∙ ap (λ (x : State). Root x (sizeOf (at ns r))) q in
+          root-after e (s .nodes) t (ok .forest) ∙ ap (λ (x : State). Root x (sizeOf (at ns r))) q in
           moves-view (ok .good) (failed-view ns r p (sizeOf (at ns r)) in-r y (tidied-forest d (ok .forest)) ∙ tidied-view d (ok .forest))
           (failed-restates ns r p (sizeOf (at ns r)) in-r y .len ∙ d .len)
 

@@ -152,7 +152,7 @@ module _ (e : Env) where
     abbrev top : Node
     top = at (findMut ns t) (find ns t .idx)
 
-    root-after : top ≡ Root (stateAt ns t) (sizeOf top)
+    pub root-after : top ≡ Root (stateAt ns t) (sizeOf top)
     root-after =
         let d = find-mut-tidied ok t in
         let r = rep-root (tidied-forest d ok) (t .idx) in
