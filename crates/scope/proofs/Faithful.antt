@@ -1,24 +1,31 @@
 -- The laws of `unify` that a reader expects, on sound nodes: a Success merges; path compression before the call changes neither the answer nor where a
--- type leads afterwards. Assumes nothing.
+-- type leads afterwards; `occurs` tests containment; a self-inverse type's tree is its own inverse. Assumes nothing.
 use mathlib.Core.Path.{_≡_, refl, sym, ap, subst, _∙_}
 use mathlib.Core.List.{List, []}
-use mathlib.Core.Bool.{true, false}
+use mathlib.Core.Bool.{Bool, true, false}
+use mathlib.Core.Logic.{_≢_, _⊎_, inl, inr}
 use Prim.Native.Nat.{ℕ, _<_}
 use lib.ListN.{length}
 use Rattle.scope.specs.Chart.{Env}
 use Rattle.scope.specs.Types.{Ty}
-use Rattle.scope.specs.Nodes.{Node, find, findMut}
+use Rattle.scope.specs.Nodes.{State, Node, Root, at, find, findMut}
 use Rattle.scope.specs.Answers.{Success}
-use Rattle.scope.specs.Unify.{unify, selfInverse, selfInverseOf}
-use Rattle.scope.proofs.View.{View, rootOf, view}
+use Rattle.scope.specs.Unify.{unify, occurs, selfInverse, selfInverseOf}
+use Rattle.scope.specs.Trees.{Val, invert, val, Fits}
+use Rattle.scope.specs.Demand.{Contains}
+use Rattle.scope.proofs.View.{View, Below, rootOf, view}
 use Rattle.scope.proofs.View as Seen
 use Rattle.scope.proofs.Free.{free-nil}
-use Rattle.scope.proofs.Paths.{find-root, find-idx, find-mut-tidied, tidied-view}
-use Rattle.scope.proofs.Grow.{ri, Joined, agree, selfly}
+use Rattle.scope.proofs.Paths.{root-rep, find-root, find-idx, find-mut-tidied, tidied-view}
+use Rattle.scope.proofs.Grow.{ri, Self, Joined, agree, selfly}
 use Rattle.scope.proofs.Meet.{unify-spec}
 use Rattle.scope.proofs.Chain.{cnil}
-use Rattle.scope.proofs.Self.{self-complete}
-use Rattle.scope.proofs.Sim.{Sim, self-inverse-view}
+use Rattle.scope.proofs.Occurs.{occurs-no, self-sound}
+use Rattle.scope.proofs.Self.{occurs-yes, self-complete}
+use Rattle.scope.proofs.Falls.{contains-below, below-contains}
+use Rattle.scope.proofs.ViewFits.{invertIf-self, val-root, self-val}
+use Rattle.scope.proofs.NodesFit.{fits-seen}
+use Rattle.scope.proofs.Sim.{Sim, occurs-view, self-inverse-view}
 use Rattle.scope.proofs.SoundLaws.{SoundNodes}
 use Rattle.scope.proofs.SoundKept.{tidied-nodes}
 use Rattle.scope.proofs.UnifyKept.{Stable, nodes-stable, stable-kinds, unify-seen, unify-nodes}
@@ -65,3 +72,35 @@ module _ (e : Env) {ns : List Node} (ok : SoundNodes e ns) (p q : Ty) (hp : p .i
     compressed-find u =
         find-root (unify (e .texts) (findMut ns t) p q .nodes) u ∙ ap (λ (g : View). rootOf g u) (tidied-seen .views ∙ sym (unify-seen e ok p q hp hq .views))
         ∙ sym (find-root (unify (e .texts) ns p q .nodes) u)
+
+module _ (e : Env) {ns : List Node} (ok : SoundNodes e ns) where
+  -- `occurs`, of two roots: the one is the other, or is contained in it
+  pub occurs-contains : (x y : ℕ) {s : State} {z : ℕ} → at ns y ≡ Root s z → y < length ns → occurs (length ns) ns x y ≡ true → (y ≡ x) ⊎ Contains ns y x
+  occurs-contains x y r h o = go (occurs-yes (length ns) (view ns) (ok .good) (nodes-stable e ok .inside) (length ns) x y [] (root-rep (ok .forest) r) h cnil
+      (free-nil (length ns)) (sym (occurs-view (length ns) ns x y) ∙ o))
+    where
+      go : (y ≡ x) ⊎ Below (view ns) y x → (y ≡ x) ⊎ Contains ns y x
+      go (inl q) = inl q
+      go (inr b) = inr (below-contains ns (ok .forest) (ok .good) b)
+
+  pub contains-occurs : (x y : ℕ) → (y ≡ x) ⊎ Contains ns y x → occurs (length ns) ns x y ≡ true
+  contains-occurs x y c = go (occurs (length ns) ns x y) refl
+    where
+      no-both : (y ≢ x) × (Below (view ns) y x → ⊥) → (y ≡ x) ⊎ Contains ns y x → ⊥
+      no-both n (inl q) = n .0 q
+      no-both n (inr d) = n .1 (contains-below ns (ok .forest) (ok .good) d)
+
+      go : (b : Bool) → occurs (length ns) ns x y ≡ b → b ≡ true
+      go true q = refl
+      go false q = absurd (no-both (occurs-no (length ns) (view ns) x y (sym (occurs-view (length ns) ns x y) ∙ q)) c)
+
+  -- `self_inverse`
+  pub self-inverse-tree : (v : Val) → Fits e v ns → (t : Ty) → selfInverse ns t ≡ true → invert e (val e v t) ≡ val e v t
+  unfolding selfInverseOf
+  self-inverse-tree v f t q =
+      let g = fits-seen e v (ok .forest) f in
+      let s : Self (view ns) (ri (view ns) t) = self-sound (length ns) (view ns) (ri (view ns) t)
+      (ap (Seen.selfInverse false (length ns) (view ns)) (sym (find-idx ns t)) ∙ sym (self-inverse-view false (length ns) ns (find ns t .idx)) ∙ q) in
+      let i : invert e (v (ri (view ns) t)) ≡ v (ri (view ns) t) = self-val (stable-kinds (nodes-stable e ok)) g s in
+      let r : val e v t ≡ v (ri (view ns) t) = val-root g t ∙ invertIf-self e (rootOf (view ns) t .inv) (v (ri (view ns) t)) i in
+      ap (invert e) r ∙ i ∙ sym r

@@ -60,9 +60,22 @@ module _ (ns : List Node) (ok : Forest ns) (good : Good (view ns)) where
   holds-kid : {a x : ℕ} → Holds ns a x → Kid (view ns) a x
   holds-kid {a} h = subst (Kid (view ns) a) (h .to) (kid-of ok a (h .kid) (h .mem))
 
-  contains-below : {a x : ℕ} → Contains ns a x → Below (view ns) a x
+  pub contains-below : {a x : ℕ} → Contains ns a x → Below (view ns) a x
   contains-below (Demand.one h) = one (holds-kid h)
   contains-below (Demand.more h c) = more (holds-kid h) (contains-below c)
+
+  -- and back
+  kid-holds : {a x : ℕ} → Kid (view ns) a x → Holds ns a x
+  unfolding view
+  kid-holds {a} c = record {
+    kid = c .kid;
+    mem = subst (λ (st : State). List·Memᴰ (c .kid) (kidsOf st)) (sym (seen-known (stateOf (at ns a)) (c .state))) (c .mem);
+    to = find-idx ns (c .kid) ∙ c .to;
+  }
+
+  pub below-contains : {a x : ℕ} → Below (view ns) a x → Contains ns a x
+  below-contains (one c) = Demand.one (kid-holds c)
+  below-contains (more c b) = Demand.more (kid-holds c) (below-contains b)
 
   -- "no type contains itself"
   pub contains-never : (a : ℕ) → Contains ns a a → ⊥
