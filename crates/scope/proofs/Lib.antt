@@ -7,6 +7,7 @@ pub mod Copy
 pub mod CopyCount
 pub mod CopyTrees
 pub mod Depth
+pub mod ExportKept
 pub mod Extend
 pub mod Fail
 pub mod Faithful
