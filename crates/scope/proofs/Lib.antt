@@ -37,6 +37,7 @@ pub mod Paths
 pub mod PlanLaws
 pub mod Push
 pub mod Reached
+pub mod ReadDepth
 pub mod Refusals
 pub mod Restate
 pub mod Run

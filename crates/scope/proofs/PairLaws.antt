@@ -59,13 +59,13 @@ unfolding runPlan
 run-between i xs ys = between-pick (eqb (length xs) (length ys)) (record { base = Success; pairs = zipped i xs ys }) (answers Failure)
     (zipped-between i xs ys) between-nil
 
-parameters-in : (xs : List Ty) (x : Ty) → List·Memᴰ x (parameters xs) → List·Memᴰ x xs
+pub parameters-in : (xs : List Ty) (x : Ty) → List·Memᴰ x (parameters xs) → List·Memᴰ x xs
 parameters-in [] x w = w
 parameters-in (y ∷ []) x w = absurd (List·Memᴰ·not-nil w)
 parameters-in (y ∷ z ∷ zs) x (List·Memᴰ·head e) = List·Memᴰ·head e
 parameters-in (y ∷ z ∷ zs) x (List·Memᴰ·tail w) = List·Memᴰ·tail (parameters-in (z ∷ zs) x w)
 
-returned-in : (xs : List Ty) (x : Ty) → List·Memᴰ x (returned xs) → List·Memᴰ x xs
+pub returned-in : (xs : List Ty) (x : Ty) → List·Memᴰ x (returned xs) → List·Memᴰ x xs
 returned-in [] x w = w
 returned-in (y ∷ []) x w = w
 returned-in (y ∷ z ∷ zs) x w = List·Memᴰ·tail (returned-in (z ∷ zs) x w)
