@@ -10,7 +10,7 @@ use lib.Dec.{eqb}
 use lib.ListN.{length, getD}
 use Rattle.scope.specs.Base.{pick, xor}
 use Rattle.scope.specs.Text.{text}
-use Rattle.scope.specs.Names.{Texts, Name}
+use Rattle.scope.specs.Names.{Texts, Name, bytes}
 use Rattle.scope.specs.Chart.{Env, recordAt, TRAIT-FN-SORT}
 use Rattle.scope.specs.Types.{Ty, flip}
 use Rattle.scope.specs.Kinds.{Head, REF, selfDual}
@@ -149,6 +149,15 @@ module _ (Q : Ty → Type 0) where
   subs-kind e nil i k h =
       let ts : List Ty = k .kids in
       let p = subs-params i ts h in
+      let f = subs-pick (eqb (recordAt e (k .head .number) .sort) TRAIT-FN-SORT)
+      (fixed (text "fn ") ∷ fixed (bytes (e .texts) (recordAt e (recordAt e (k .head .number) .trait) .path)) ∷ fixed (text "::")
+      ∷ fixed (bytes (e .texts) (recordAt e (k .head .number) .name)) ∷ [])
+      (fixed (text "fn ") ∷ fixed (bytes (e .texts) (recordAt e (k .head .number) .path)) ∷ []) tt tt in
+      let s = subs-signature (e .texts) nil (k .head .names) ts h in
+      let q = subs-if-const e nil i (k .head) ts h in
+      let c = subs-commas i ts h in
+      let t = subs-append (commas i ts) (fixed (pick (eqb (length ts) 1) (text ",)") (text ")")) ∷ []) c tt in
+      let o = subs-object (e .texts) i (k .head .names) ts h in
       subs-at
       ((fixed (firstName (e .texts) (k .head .names)) ∷ [])
       ∷ tuple i ts
@@ -166,24 +175,8 @@ module _ (Q : Ty → Type 0) where
       ∷ (fixed (text "_") ∷ [])
       ∷ (fixed (text "??") ∷ [])
       ∷ [])
-      (k .head .code) (
-        tt,
-        subs-append (commas i ts) _ (subs-commas i ts h) tt,
-        subs-object (e .texts) i (k .head .names) ts h,
-        p,
-        p,
-        p,
-        p,
-        subs-pick (eqb (recordAt e (k .head .number) .sort) TRAIT-FN-SORT) _ _ tt tt,
-        subs-signature (e .texts) nil (k .head .names) ts h,
-        subs-commas i ts h,
-        tt,
-        subs-if-const e nil i (k .head) ts h,
-        tt,
-        tt,
-        tt,
-        tt,
-      )
+      (k .head .code)
+      (tt, (t, (o, (p, (p, (p, (p, (f, (s, (c, (tt, (q, (tt, (tt, (tt, tt)))))))))))))))
 
 -- the types that a type's text shows are children of its root's kind
 subs-pieces : (Q : Ty → Type 0) (e : Env) (ns : List Node) (t : Ty) → ((i : Bool) (c : Ty) → List·Memᴰ c (kidsOf (stateAt ns t)) → Q (flip i c)) → Subs Q (pieces e ns t)
