@@ -1,5 +1,4 @@
--- What an import out of a sound source leaves, where no entry was missing: copies inside the new store, without a cycle, one for each root that
--- `copies` counts, with as many children. Assumes nothing.
+-- What an import out of a sound source leaves, where no entry was missing: copies of its roots inside the new store, without a cycle. Assumes nothing.
 use mathlib.Core.Path.{_≡_, refl, sym, ap, subst, _∙_}
 use mathlib.Core.List.{List, [], _∷_, List·Memᴰ, List·Memᴰ·head, List·Memᴰ·tail, List·Memᴰ·not-nil}
 use mathlib.Core.Bool.{Bool, true, false, true≢false, false≢true}

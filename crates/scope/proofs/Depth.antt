@@ -92,14 +92,16 @@ module _ (e : Env) (n : ℕ) where
             let fk = ok .stable .inside .kinds (a .idx) i k (ap seen p) in
             let fm = ok .stable .inside .kinds (b .idx) j m (ap seen q) in
             ap (λ (o : Out). settle (o .nodes) a b (o .answer)) (run-depth ns (l .base) (l .pairs) (a .idx ∷ ls) ok (plan-within (e .texts) c fk fm)
-            (plan-chains (e .texts) (view ns) (a .idx) ls top ch i k m c (ap seen p)) (fuel-step (ok .stable .good) ch ha h) (fuel-step (ok .stable .good) ch ha h′))
+            (plan-chains (e .texts) (view ns) (a .idx) ls top ch i k m c (ap seen p))
+            (fuel-step (ok .stable .good) ch ha h) (fuel-step (ok .stable .good) ch ha h′))
 
   unify-depth : (f f′ : ℕ) → SameDepths f f′
   unfolding unifyF
   unify-depth zero f′ ns p q ls ok hp hq c h h′ = absurd (fuel-out (ok .stable .good) c (ok .stable .inside .inside (p .idx) hp) h)
   unify-depth (suc f) zero ns p q ls ok hp hq c h h′ = absurd (fuel-out (ok .stable .good) c (ok .stable .inside .inside (p .idx) hp) h′)
   unify-depth (suc f) (suc f′) ns p q ls ok hp hq c h h′ =
-      meet-depth f f′ (unify-depth f f′) ns₂ (find ns p) (find (findMut ns p) q) ls ok₂ (omega (arith, ok .len, find-inside (ok .forest) p (omega (arith, ok .len)))) top
+      meet-depth f f′ (unify-depth f f′) ns₂ (find ns p) (find (findMut ns p) q) ls ok₂
+      (omega (arith, ok .len, find-inside (ok .forest) p (omega (arith, ok .len)))) top
       (subst (λ (x : ℕ). Chain (view ns₂) x ls) (sym (find-idx ns p)) (subst (λ (g : View). Chain g (ri (view ns) p) ls) (sym same) c)) h h′
     where
       ns₂ : List Node

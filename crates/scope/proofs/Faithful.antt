@@ -56,7 +56,8 @@ module _ (e : Env) {ns : List Node} (ok : SoundNodes e ns) (p q : Ty) (hp : p .i
 
   -- compressed paths
   module _ (t : Ty) where
-    same-view : Seen.unify (e .texts) (length (findMut ns t)) (length (findMut ns t)) (view (findMut ns t)) p q ≡ Seen.unify (e .texts) (length ns) (length ns) (view ns) p q
+    same-view : Seen.unify (e .texts) (length (findMut ns t)) (length (findMut ns t)) (view (findMut ns t)) p q
+        ≡ Seen.unify (e .texts) (length ns) (length ns) (view ns) p q
     same-view = let d = find-mut-tidied (ok .forest) t in rw (d .len, tidied-view d (ok .forest)) refl
 
     tidied-seen : Sim (findMut ns t) (unify (e .texts) (findMut ns t) p q) (Seen.unify (e .texts) (length ns) (length ns) (view ns) p q)

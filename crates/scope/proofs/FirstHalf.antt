@@ -88,7 +88,8 @@ module _ (e : Env) (s : Store) (r : Reached e s) (v : Val) where
   unify-next : (a b : Ty) → Answers (λ x. x ≡ Success) e s (unify a b)
       → Fits e v (next e s (unify a b) .nodes) ↔ (Fits e v (s .nodes) × Asks e v s (unify a b))
   unify-next a b = unify-cases e s (r .facts)
-      (λ o. ((x : Answer) → given o ≡ some x → x ≡ Success) → Fits e v (step s o .store .nodes) ↔ (Fits e v (s .nodes) × (step s o .taken ≡ true → PairFits e v a b)))
+      (λ o. ((x : Answer) → given o ≡ some x → x ≡ Success)
+      → Fits e v (step s o .store .nodes) ↔ (Fits e v (s .nodes) × (step s o .taken ≡ true → PairFits e v a b)))
       a b (λ n q. not-taken) (λ ha hb q. taken (unify-fits a b ha hb (q _ refl)))
 
   fits-next : (c : Call) → inFirstHalf c ≡ true → Answers (λ x. x ≡ Success) e s c → Fits e v (next e s c .nodes) ↔ (Fits e v (s .nodes) × Asks e v s c)
@@ -163,7 +164,12 @@ fails e s r d a b q v f p = unify-cases e s (r .facts) (λ o. given o ≡ some F
     unknown-state InferenceFailed q = refl
 
     found : Witness e (length ns) (view ns) v → SelfInverseNode e v ns
-    found w = record { node = w .node; made = w .below; no-kind = unknown-state (stateOf (at ns (find ns (ty false (w .node)) .idx))) (w .no-kind); self-inverse = w .self-inverse }
+    found w = record {
+      node = w .node;
+      made = w .below;
+      no-kind = unknown-state (stateOf (at ns (find ns (ty false (w .node)) .idx))) (w .no-kind);
+      self-inverse = w .self-inverse;
+    }
 
 -- "First half": of every list from a store just opened
 pub first-half : FirstHalfHolds

@@ -96,13 +96,15 @@ module _ (e : Env) (s : Store) (ok : SoundFacts e s) where
       step-cases e s ok P (outside s (a .types ++ b .types) ∷ (badEntries e a || badEntries e b, 4) ∷ [])
       (unified s (unifyObjects (e .texts) (s .nodes) (a .names) (a .types) (b .names) (b .types) i)) z (λ t.
       let h = all-inside (s .nodes) (a .types ++ b .types) (t .0) in
-      g (objectPlan (e .texts) i (a .names) (a .types) (b .names) (b .types)) (object-inside e _ i a b (low-left _ (a .types) (b .types) h) (low-right _ (a .types) (b .types) h)))
+      g (objectPlan (e .texts) i (a .names) (a .types) (b .names) (b .types))
+      (object-inside e _ i a b (low-left _ (a .types) (b .types) h) (low-right _ (a .types) (b .types) h)))
   later-cases P (Demand.unifyImplType a b) z f g r =
       step-cases e s ok P (implTests e s (a ∷ b ∷ [])) (unified s (unifyImplType (e .texts) (s .nodes) a b)) z (λ t.
       g (implPlan a b) (impl-inside _ a b (impl-low (a ∷ b ∷ []) (t .0) a (List·Memᴰ·head refl))
       (impl-low (a ∷ b ∷ []) (t .0) b (List·Memᴰ·tail (List·Memᴰ·head refl)))))
   later-cases P (Demand.unifyFnSig xs t ys q) z f g r =
-      step-cases e s ok P (outside s (xs ++ (t ∷ ys ++ (q ∷ []))) ∷ (tooMany xs || tooMany ys, 4) ∷ []) (unified s (unifyFnSig (e .texts) (s .nodes) xs t ys q)) z (λ w.
+      step-cases e s ok P (outside s (xs ++ (t ∷ ys ++ (q ∷ []))) ∷ (tooMany xs || tooMany ys, 4) ∷ [])
+      (unified s (unifyFnSig (e .texts) (s .nodes) xs t ys q)) z (λ w.
       let h = all-inside (s .nodes) (xs ++ (t ∷ ys ++ (q ∷ []))) (w .0) in
       let h₁ = low-right _ xs (t ∷ ys ++ (q ∷ [])) h in
       let h₂ : Low (length (s .nodes)) (ys ++ (q ∷ [])) = λ u m. h₁ u (List·Memᴰ·tail m) in

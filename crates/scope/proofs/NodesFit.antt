@@ -75,7 +75,10 @@ module _ (e : Env) (v : Val) where
 
   -- one root more
   push-fits : (ns : List Node) (st : State) → Fits e v (push ns st) ↔ (Fits e v ns × StateFits e v st (v (length ns)))
-  push-fits ns st = (λ f. ((λ n. old f n (same? n (length ns))), subst (NodeFits e v (length ns)) (push-new ns st) (f (length ns))), λ f n. new f n (same? n (length ns)))
+  push-fits ns st = (
+    (λ f. ((λ n. old f n (same? n (length ns))), subst (NodeFits e v (length ns)) (push-new ns st) (f (length ns)))),
+    (λ f n. new f n (same? n (length ns))),
+  )
     where
       old : Fits e v (push ns st) → (n : ℕ) → (n ≡ length ns) ⊎ (n ≢ length ns) → NodeFits e v n (at ns n)
       old f n (inl q) = end-fits ns n (omega arith)

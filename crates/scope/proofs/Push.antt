@@ -38,7 +38,8 @@ module _ (ns : List Node) (st : State) where
   }
 
   -- the children of the new kind are old nodes
-  module _ (ok : Forest ns) (held : Held (length ns) (view ns)) (kids : (i : Bool) (k : Kind) → seen st ≡ known i k → (t : Ty) → List·Memᴰ t (k .kids) → t .idx < length ns) where
+  module _ (ok : Forest ns) (held : Held (length ns) (view ns))
+      (kids : (i : Bool) (k : Kind) → seen st ≡ known i k → (t : Ty) → List·Memᴰ t (k .kids) → t .idx < length ns) where
     pub push-held : Held (length ns) (view (push ns st))
     unfolding view
     push-held a i k e = go (same? a (length ns))

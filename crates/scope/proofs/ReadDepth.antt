@@ -27,7 +27,8 @@ use Rattle.scope.proofs.SoundLaws.{kinds-held, SoundNodes}
 use Rattle.scope.proofs.View.{view}
 
 -- one depth further down, fewer than f steps are left
-falls-kid : (f : ℕ) (ns : List Node) (t c : Ty) → falls (suc f) ns (find ns t .idx) ≡ true → List·Memᴰ c (kidsOf (stateAt ns t)) → falls f ns (find ns c .idx) ≡ true
+falls-kid : (f : ℕ) (ns : List Node) (t c : Ty) → falls (suc f) ns (find ns t .idx) ≡ true
+    → List·Memᴰ c (kidsOf (stateAt ns t)) → falls f ns (find ns c .idx) ≡ true
 unfolding falls
 falls-kid f ns t c h m = of-all (λ c. falls f ns (find ns c .idx)) (kidsOf (stateAt ns t)) h m
 
@@ -43,13 +44,15 @@ falls-more ns (suc f) (suc f′) r q h = all-of (λ c. falls f′ ns (find ns c 
     (λ c m. falls-more ns f f′ (find ns c .idx) (omega arith) (of-all (λ c. falls f ns (find ns c .idx)) (kidsOf (stateOf (at ns r))) h m))
 
 -- `get_mod`
-mod-depth : (e : Env) (ns : List Node) (f f′ : ℕ) (t : Ty) → falls f ns (find ns t .idx) ≡ true → falls f′ ns (find ns t .idx) ≡ true → getModF e f ns t ≡ getModF e f′ ns t
+mod-depth : (e : Env) (ns : List Node) (f f′ : ℕ) (t : Ty) → falls f ns (find ns t .idx) ≡ true → falls f′ ns (find ns t .idx) ≡ true
+    → getModF e f ns t ≡ getModF e f′ ns t
 unfolding getModF
 mod-depth e ns zero f′ t h h′ = absurd (falls-none ns (find ns t .idx) h)
 mod-depth e ns (suc f) zero t h h′ = absurd (falls-none ns (find ns t .idx) h′)
 mod-depth e ns (suc f) (suc f′) t h h′ = go (stateAt ns t) (λ c m. mod-depth e ns f f′ c (falls-kid f ns t c h m) (falls-kid f′ ns t c h′ m))
   where
-    go : (st : State) → ((c : Ty) → List·Memᴰ c (kidsOf st) → getModF e f ns c ≡ getModF e f′ ns c) → modOfState e (getModF e f ns) st ≡ modOfState e (getModF e f′ ns) st
+    go : (st : State) → ((c : Ty) → List·Memᴰ c (kidsOf st) → getModF e f ns c ≡ getModF e f′ ns c)
+        → modOfState e (getModF e f ns) st ≡ modOfState e (getModF e f′ ns) st
     go (Unknown p) ih = refl
     go InferenceFailed ih = refl
     go (Known i k) ih = at (eqb (k .head .code) REF)
@@ -179,22 +182,26 @@ module _ (Q : Ty → Type 0) where
       (tt, (t, (o, (p, (p, (p, (p, (f, (s, (c, (tt, (q, (tt, (tt, (tt, tt)))))))))))))))
 
 -- the types that a type's text shows are children of its root's kind
-subs-pieces : (Q : Ty → Type 0) (e : Env) (ns : List Node) (t : Ty) → ((i : Bool) (c : Ty) → List·Memᴰ c (kidsOf (stateAt ns t)) → Q (flip i c)) → Subs Q (pieces e ns t)
+subs-pieces : (Q : Ty → Type 0) (e : Env) (ns : List Node) (t : Ty)
+    → ((i : Bool) (c : Ty) → List·Memᴰ c (kidsOf (stateAt ns t)) → Q (flip i c)) → Subs Q (pieces e ns t)
 unfolding pieces
 subs-pieces Q e ns t h = go (stateAt ns t) h
   where
     go : (st : State) → ((i : Bool) (c : Ty) → List·Memᴰ c (kidsOf st) → Q (flip i c)) → Subs Q (statePieces e (isNil ns) (find ns t) st)
     go (Unknown p) h = tt
     go InferenceFailed h = tt
-    go (Known j k) h = subs-pick Q (xor j (find ns t .inv) && not (selfDual (k .head))) _ _ (subs-kind Q e (isNil ns) false k h) (subs-kind Q e (isNil ns) (xor j (find ns t .inv)) k h)
+    go (Known j k) h = subs-pick Q (xor j (find ns t .inv) && not (selfDual (k .head))) _ _ (subs-kind Q e (isNil ns) false k h)
+        (subs-kind Q e (isNil ns) (xor j (find ns t .inv)) k h)
 
 -- `show`
-show-depth : (e : Env) (ns : List Node) (f f′ : ℕ) (t : Ty) → falls f ns (find ns t .idx) ≡ true → falls f′ ns (find ns t .idx) ≡ true → showF e f ns t ≡ showF e f′ ns t
+show-depth : (e : Env) (ns : List Node) (f f′ : ℕ) (t : Ty) → falls f ns (find ns t .idx) ≡ true → falls f′ ns (find ns t .idx) ≡ true
+    → showF e f ns t ≡ showF e f′ ns t
 unfolding showF
 show-depth e ns zero f′ t h h′ = absurd (falls-none ns (find ns t .idx) h)
 show-depth e ns (suc f) zero t h h′ = absurd (falls-none ns (find ns t .idx) h′)
 show-depth e ns (suc f) (suc f′) t h h′ = render-same (showF e f ns) (showF e f′ ns) (pieces e ns t)
-    (subs-pieces (λ t. showF e f ns t ≡ showF e f′ ns t) e ns t (λ i c m. show-depth e ns f f′ (flip i c) (same f i c (falls-kid f ns t c h m)) (same f′ i c (falls-kid f′ ns t c h′ m))))
+    (subs-pieces (λ t. showF e f ns t ≡ showF e f′ ns t) e ns t
+    (λ i c m. show-depth e ns f f′ (flip i c) (same f i c (falls-kid f ns t c h m)) (same f′ i c (falls-kid f′ ns t c h′ m))))
   where
     same : (f : ℕ) (i : Bool) (c : Ty) → falls f ns (find ns c .idx) ≡ true → falls f ns (find ns (flip i c) .idx) ≡ true
     same f i c h = rw (find-idx ns (flip i c) ∙ sym (find-idx ns c)) h

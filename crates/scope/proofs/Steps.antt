@@ -89,7 +89,10 @@ module _ (e : Env) (s : Store) (ok : SoundFacts e s) where
       → P (step s (newCall e (reads s) a))
   unfolding newCall
   new-cases P a z f = step-cases P
-      (outside s (a .kids) ∷ (not (makeable (e .texts) (kindMade e a .head) (length (a .kids))), 4) ∷ (not (defined e (kindMade e a .head)), 5) ∷ roomTests s 1 (length (a .kids)))
+      (outside s (a .kids)
+      ∷ (not (makeable (e .texts) (kindMade e a .head) (length (a .kids))), 4)
+      ∷ (not (defined e (kindMade e a .head)), 5)
+      ∷ roomTests s 1 (length (a .kids)))
       _ z (λ t. f (new-kept e s (kindMade e a) ok
       (record {
         made = record {

@@ -75,8 +75,8 @@ module _ (e : Env) where
 
     module _ (l : Plan) (h : Inside (length ns) (l .pairs)) where
       pub carry-seen : Sim ns (carry (e .texts) ns l) (Seen.run (Seen.unify (e .texts) (length ns) (length ns)) (view ns) (l .base) (l .pairs))
-      carry-seen = run-sim (length ns) (Stable e (length ns)) (unify (e .texts)) (Seen.unify (e .texts) (length ns) (length ns)) (keeps (length ns) .step (length ns))
-          (unify-call (e .texts) (length ns) (Stable e (length ns)) (keeps (length ns))) ns (l .base) (l .pairs) (ok .forest) refl nodes-stable h
+      carry-seen = run-sim (length ns) (Stable e (length ns)) (unify (e .texts)) (Seen.unify (e .texts) (length ns) (length ns))
+          (keeps (length ns) .step (length ns)) (unify-call (e .texts) (length ns) (Stable e (length ns)) (keeps (length ns))) ns (l .base) (l .pairs) (ok .forest) refl nodes-stable h
 
       pub carry-nodes : SoundNodes e (carry (e .texts) ns l .nodes)
       carry-nodes = sim-sound carry-seen
