@@ -9,3 +9,4 @@ pub mod Fuel
 pub mod Inside
 pub mod ViewFits
 pub mod Sol
+pub mod Marks
