@@ -10,3 +10,4 @@ pub mod Inside
 pub mod ViewFits
 pub mod Sol
 pub mod Marks
+pub mod MarkLaws

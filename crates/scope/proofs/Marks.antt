@@ -21,7 +21,7 @@ use Rattle.scope.proofs.Meet.{tf}
 
 -- what the walk uses of a sound store's nodes
 pub record Walkable (ns : List Node) : Type 0 where
-  pub free : Good (view ns)
+  pub good : Good (view ns)
   pub inside : (t : Ty) → t .idx < length ns → find ns t .idx < length ns
   pub tops : (t : Ty) → t .idx < length ns → isRoot (at ns (find ns t .idx)) ≡ true
   pub kids : (a : ℕ) (c : Ty) → List·Memᴰ c (kidsOf (stateOf (at ns a))) → c .idx < length ns
@@ -220,8 +220,8 @@ over-then {ns} {xs} {ys} {zs} {t} {ts} p q = record {
     only i e h (inr z) = let o = p .only i e z in (o .0, first (o .1), o .2)
 
 module _ (ns : List Node) (w : Walkable ns) where
-  root-top : (t : Ty) → view ns .rep (find ns t .idx) ≡ ty false (find ns t .idx)
-  root-top t = rw (← rep-idx ns t) (w .free .idem (t .idx))
+  pub root-top : (t : Ty) → view ns .rep (find ns t .idx) ≡ ty false (find ns t .idx)
+  root-top t = rw (← rep-idx ns t) (w .good .idem (t .idx))
 
   -- a root is marked, then its children are walked over
   over-root : (ms ms′ : List ℕ) (t : Ty) → find ns t .idx < length ms → getD ms (find ns t .idx) 0 ≡ 0
