@@ -6,7 +6,7 @@ use mathlib.Core.Logic.{_≢_, _⊎_, inl, inr, _↔_}
 use Prim.Native.Nat.{ℕ, zero, suc, _+_, _≤_, _<_}
 use native.Mathlib.Omega.{arith}
 use lib.Dec.{eqb}
-use lib.ListN.{length, getD, replicate, length-replicate}
+use lib.ListN.{length, getD, replicate, length-replicate, getD-replicate}
 use borrow.Author.Tests.{eqb-true, eqb-false, eq-eqb, ne-eqb, not-true}
 use Rattle.scope.specs.Base.{pick, all, any, from}
 use Rattle.scope.specs.Types.{Ty, ty}
@@ -28,10 +28,6 @@ kid-reach : {g : View} {a y i : ℕ} → Kid g a y → Reach g y i → Below g a
 kid-reach {g} {a} k (inl e) = subst (Below g a) e (one k)
 kid-reach k (inr b) = more k b
 
-below-reached : {ns : List Node} {ms : List ℕ} {r a i : ℕ} → ((j : ℕ) → getD ms j 0 ≡ 0) → Reached ns ms r a → Below (view ns) a i → Reached ns ms r i
-below-reached z h (one {x = x} k) = next h k (z x)
-below-reached z h (more {y = y} k b) = below-reached z (next h k (z y)) b
-
 reached-reach : {ns : List Node} {ms : List ℕ} {r i : ℕ} → Reached ns ms r i → Reach (view ns) r i
 reached-reach (start e) = inl refl
 reached-reach {ns} {ms} {r} (next {a = a} {x = x} h k e) = inr (go (reached-reach h))
@@ -40,30 +36,47 @@ reached-reach {ns} {ms} {r} (next {a = a} {x = x} h k e) = inr (go (reached-reac
     go (inl q) = subst (λ (b : ℕ). Below (view ns) b x) (sym q) (one k)
     go (inr b) = below-join b (one k)
 
--- no marks
-abbrev pub clear : ℕ → List ℕ
-clear m = replicate m 0
+-- no root is marked
+pub record Clear (ns : List Node) (ms : List ℕ) : Type 0 where
+  pub room : length ns ≤ length ms
+  pub none : (i : ℕ) → i < length ns → getD ms i 0 ≡ 0
 
-clear-at : (m i : ℕ) → getD (clear m) i 0 ≡ 0
-clear-at zero i = refl
-clear-at (suc m) zero = refl
-clear-at (suc m) (suc i) = clear-at m i
+pub clear-zeros : (ns : List Node) (m : ℕ) → length ns ≤ m → Clear ns (replicate m 0)
+clear-zeros ns m l = record { room = omega (arith, length-replicate {A = ℕ} m 0); none = λ i h. getD-replicate m i 0 0 (omega arith) }
 
--- with no marks at first, what the type leads to
-pub related-clear : {ns : List Node} → Walkable ns → (m : ℕ) → length ns ≤ m → (t : Ty) → t .idx < length ns → (i : ℕ)
-    → (getD (findRelated ns t (clear m)) i 0 ≢ 0) ↔ Reach (view ns) (find ns t .idx) i
-related-clear {ns} w m l t h i = (λ q. out (k .marks i .0 q), λ r. k .marks i .1 (inr (into r)))
-  where
-    k : Marked ns (find ns t .idx) (clear m) (findRelated ns t (clear m))
-    k = related-marked w (clear m) t (omega (arith, length-replicate {A = ℕ} m 0)) h
+module _ {ns : List Node} (w : Walkable ns) where
+  child-inside : (a : ℕ) (c : Ty) → List·Memᴰ c (kidsOf (stateOf (at ns a))) → find ns c .idx < length ns
+  child-inside a c m = w .inside c (w .kids a c m)
 
-    out : (getD (clear m) i 0 ≢ 0) ⊎ Reached ns (clear m) (find ns t .idx) i → Reach (view ns) (find ns t .idx) i
-    out (inl z) = absurd (z (clear-at m i))
-    out (inr r) = reached-reach r
+  kid-inside : {a x : ℕ} → Kid (view ns) a x → x < length ns
+  kid-inside {a} k = let c = kid-in ns k in rw (← c .2) (child-inside a (c .0) (c .1))
 
-    into : Reach (view ns) (find ns t .idx) i → Reached ns (clear m) (find ns t .idx) i
-    into (inl e) = subst (Reached ns (clear m) (find ns t .idx)) e (start (clear-at m (find ns t .idx)))
-    into (inr b) = below-reached (clear-at m) (start (clear-at m (find ns t .idx))) b
+  below-inside : {a i : ℕ} → Below (view ns) a i → i < length ns
+  below-inside (one k) = kid-inside k
+  below-inside (more k b) = below-inside b
+
+  below-reached : {ms : List ℕ} {r a i : ℕ} → Clear ns ms → Reached ns ms r a → Below (view ns) a i → Reached ns ms r i
+  below-reached z h (one {x = x} k) = next h k (z .none x (kid-inside k))
+  below-reached z h (more {y = y} k b) = below-reached z (next h k (z .none y (kid-inside k))) b
+
+  -- with no marks at first, what the type leads to
+  pub related-clear : {ms : List ℕ} → Clear ns ms → (t : Ty) → t .idx < length ns → (i : ℕ) → i < length ns
+      → (getD (findRelated ns t ms) i 0 ≢ 0) ↔ Reach (view ns) (find ns t .idx) i
+  related-clear {ms} z t h i hi = (λ q. out (k .marks i .0 q), λ r. k .marks i .1 (inr (into r)))
+    where
+      k : Marked ns (find ns t .idx) ms (findRelated ns t ms)
+      k = related-marked w ms t (z .room) h
+
+      out : (getD ms i 0 ≢ 0) ⊎ Reached ns ms (find ns t .idx) i → Reach (view ns) (find ns t .idx) i
+      out (inl q) = absurd (q (z .none i hi))
+      out (inr r) = reached-reach r
+
+      first : Reached ns ms (find ns t .idx) (find ns t .idx)
+      first = start (z .none (find ns t .idx) (w .inside t h))
+
+      into : Reach (view ns) (find ns t .idx) i → Reached ns ms (find ns t .idx) i
+      into (inl e) = subst (Reached ns ms (find ns t .idx)) e first
+      into (inr b) = below-reached z first b
 
 -- tests
 same-bool : (a b : Bool) → (a ≡ true → b ≡ true) → (b ≡ true → a ≡ true) → a ≡ b
@@ -94,6 +107,11 @@ and-left false b e = e
 and-right : (a b : Bool) → (a && b) ≡ true → b ≡ true
 and-right true b e = e
 and-right false b e = tf (sym e)
+
+from-mem : (i n : ℕ) {j : ℕ} → List·Memᴰ j (from i n) → j < i + n
+from-mem i zero m = elim m [ ]
+from-mem i (suc n) (List·Memᴰ·head e) = omega arith
+from-mem i (suc n) (List·Memᴰ·tail m) = omega (arith, from-mem (suc i) n m)
 
 module _ {A : Type 0} (p : A → Bool) where
   all-yes : {xs : List A} {x : A} → List·Memᴰ x xs → all p xs ≡ true → p x ≡ true
@@ -131,9 +149,6 @@ reach-occurs (suc f) ns {x} {y} (inr (more k b)) =
     or-true (eqb y x) _ (any-true (λ c. occurs f ns x (find ns c .idx)) (c .1) (reach-occurs f ns (inr (rw (c .2) b))))
 
 module _ {ns : List Node} (w : Walkable ns) where
-  kid-inside : (a : ℕ) (c : Ty) → List·Memᴰ c (kidsOf (stateOf (at ns a))) → find ns c .idx < length ns
-  kid-inside a c m = w .inside c (w .kids a c m)
-
   -- and with depth enough only of that
   occurs-reach : (f x y : ℕ) (ls : List ℕ) → view ns .rep y ≡ ty false y → y < length ns → Chain (view ns) y ls → free (length ns) ls ≤ f
       → occurs f ns x y ≡ true → Reach (view ns) y x
@@ -152,20 +167,23 @@ module _ {ns : List Node} (w : Walkable ns) where
       go false s r ih =
           let z = any-yes p (kidsOf (stateOf (at ns y))) r in
           let k : Kid (view ns) y (find ns (z .0) .idx) = kid-of ns y (z .0) t (z .1) in
-          inr (kid-reach k (ih (find ns (z .0) .idx) (y ∷ ls) (root-top ns w (z .0)) (kid-inside y (z .0) (z .1)) (chain-step k c) (fuel-step (w .good) c h q) (z .2)))
+          inr (kid-reach k (ih (find ns (z .0) .idx) (y ∷ ls) (root-top ns w (z .0)) (child-inside w y (z .0) (z .1)) (chain-step k c) (fuel-step (w .good) c h q) (z .2)))
 
   top-at : (t : Ty) → isRoot (at ns (t .idx)) ≡ true → view ns .rep (t .idx) ≡ ty false (t .idx)
   top-at t e = rw (root-find ns t e) at (root-top ns w t)
 
-  -- `occurs` of a root x in a root
-  pub occurs-marks : (m : ℕ) → length ns ≤ m → (x : ℕ) (t : Ty) → isRoot (at ns (t .idx)) ≡ true → t .idx < length ns
-      → occurs (length ns) ns x (t .idx) ≡ not (eqb (getD (findRelated ns t (clear m)) x 0) 0)
-  occurs-marks m l x t e h = same-bool (occurs (length ns) ns x (t .idx)) (not (eqb (getD (findRelated ns t (clear m)) x 0) 0))
-      (λ o. ap not (ne-eqb (getD (findRelated ns t (clear m)) x 0) 0 (r .1 (rw (root-find ns t e) (occurs-reach (length ns) x (t .idx) [] (top-at t e) h cnil (free-nil (length ns)) o)))))
-      (λ o. reach-occurs (length ns) ns (rw (root-find ns t e) at (r .0 (eqb-false (getD (findRelated ns t (clear m)) x 0) 0 (not-true (eqb (getD (findRelated ns t (clear m)) x 0) 0) o)))))
+  -- is x the root, or in what its kind holds?
+  pub occurs-marks : {ms : List ℕ} → Clear ns ms → (x : ℕ) (t : Ty) → x < length ns → t .idx < length ns → isRoot (at ns (t .idx)) ≡ true
+      → occurs (length ns) ns x (t .idx) ≡ not (eqb (getD (findRelated ns t ms) x 0) 0)
+  occurs-marks {ms} z x t hx h e = same-bool (occurs (length ns) ns x (t .idx)) (not (eqb mark 0))
+      (λ o. ap not (ne-eqb mark 0 (r .1 (occurs-reach (length ns) x (t .idx) [] (top-at t e) h cnil (free-nil (length ns)) o))))
+      (λ o. reach-occurs (length ns) ns (r .0 (eqb-false mark 0 (not-true (eqb mark 0) o))))
     where
-      r : (getD (findRelated ns t (clear m)) x 0 ≢ 0) ↔ Reach (view ns) (find ns t .idx) x
-      r = related-clear w m l t h x
+      mark : ℕ
+      mark = getD (findRelated ns t ms) x 0
+
+      r : (mark ≢ 0) ↔ Reach (view ns) (t .idx) x
+      r = rw (root-find ns t e) at (related-clear w z t h x hx)
 
 -- a state that lets a type be its own inverse, children apart
 abbrev pub good : Bool → State → Bool
@@ -220,41 +238,42 @@ module _ {ns : List Node} (w : Walkable ns) (param : Bool) where
   good-self zero a ls t h c q g = absurd (fuel-out (w .good) c h q)
   good-self (suc f) a ls t h c q g = self-step f a ∙ ap₂ _&&_ (g a (inl refl)) (all-true (λ c. selfInverseAt param f ns (find ns c .idx)) (kidsOf (stateOf (at ns a)))
       (λ x m. let k = kid-of ns a x t m in
-      good-self f (find ns x .idx) (a ∷ ls) (root-top ns w x) (kid-inside w a x m) (chain-step k c) (fuel-step (w .good) c h q) (λ i r. g i (inr (kid-reach k r)))))
-
-  -- whatever is reached is in the store
-  below-inside : {a i : ℕ} → Below (view ns) a i → i < length ns
-  below-inside {a} (one k) = let c = kid-in ns k in rw (← c .2) (kid-inside w a (c .0) (c .1))
-  below-inside (more k b) = below-inside b
+      good-self f (find ns x .idx) (a ∷ ls) (root-top ns w x) (child-inside w a x m) (chain-step k c) (fuel-step (w .good) c h q) (λ i r. g i (inr (kid-reach k r)))))
 
   -- `self_inverse`: every marked root has a good state
-  pub self-marks : (m : ℕ) → length ns ≤ m → (t : Ty) → t .idx < length ns
-      → selfInverseOf ns t param ≡ all (λ i. eqb (getD (findRelated ns t (clear m)) i 0) 0 || good param (stateOf (at ns i))) (from 0 (length ns))
+  pub self-marks : {ms : List ℕ} → Clear ns ms → (t : Ty) → t .idx < length ns
+      → selfInverseOf ns t param ≡ all (λ i. eqb (getD (findRelated ns t ms) i 0) 0 || good param (stateOf (at ns i))) (from 0 (length ns))
   unfolding selfInverseOf
-  self-marks m l t h = same-bool (selfInverseAt param (length ns) ns (find ns t .idx)) (all p (from 0 (length ns)))
-      (λ e. all-true p (from 0 (length ns)) (λ i q. tested i (λ z. self-good (length ns) (find ns t .idx) e i (related-clear w m l t h i .0 z)) (same? (mark i) 0)))
-      (λ e. good-self (length ns) (find ns t .idx) [] (root-top ns w t) (w .inside t h) cnil (free-nil (length ns))
-      (λ i r. passed i (related-clear w m l t h i .1 r) (all-yes p (mem-from 0 (length ns) i (omega arith) (inside i r)) e)))
+  self-marks {ms} z t h = same-bool (selfInverseAt param (length ns) ns r) (all p (from 0 (length ns)))
+      (λ e. all-true p (from 0 (length ns)) (λ i m. tested i (λ o. self-good (length ns) r e i (led i m o)) (same? (mark i) 0)))
+      (λ e. good-self (length ns) r [] (root-top ns w t) (w .inside t h) cnil (free-nil (length ns))
+      (λ i q. passed i (related-clear w z t h i (inside i q) .1 q) (all-yes p (mem-from 0 (length ns) i (omega arith) (omega (arith, inside i q))) e)))
     where
+      r : ℕ
+      r = find ns t .idx
+
       mark : ℕ → ℕ
-      mark i = getD (findRelated ns t (clear m)) i 0
+      mark i = getD (findRelated ns t ms) i 0
 
       p : ℕ → Bool
       p i = eqb (mark i) 0 || good param (stateOf (at ns i))
 
+      led : (i : ℕ) → List·Memᴰ i (from 0 (length ns)) → mark i ≢ 0 → Reach (view ns) r i
+      led i m o = related-clear w z t h i (omega (arith, from-mem 0 (length ns) m)) .0 o
+
       tested : (i : ℕ) → (mark i ≢ 0 → good param (stateOf (at ns i)) ≡ true) → (mark i ≡ 0) ⊎ (mark i ≢ 0) → p i ≡ true
       tested i g (inl e) = rw (eq-eqb (mark i) 0 e) refl
-      tested i g (inr z) = or-true (eqb (mark i) 0) (good param (stateOf (at ns i))) (g z)
+      tested i g (inr o) = or-true (eqb (mark i) 0) (good param (stateOf (at ns i))) (g o)
 
       passed : (i : ℕ) → mark i ≢ 0 → p i ≡ true → good param (stateOf (at ns i)) ≡ true
-      passed i z e = ap (λ (b : Bool). b || good param (stateOf (at ns i))) (sym (ne-eqb (mark i) 0 z)) ∙ e
+      passed i o e = ap (λ (b : Bool). b || good param (stateOf (at ns i))) (sym (ne-eqb (mark i) 0 o)) ∙ e
 
-      inside : (i : ℕ) → Reach (view ns) (find ns t .idx) i → i < 0 + length ns
+      inside : (i : ℕ) → Reach (view ns) r i → i < length ns
       inside i (inl e) = omega (arith, w .inside t h, e)
-      inside i (inr b) = omega (arith, below-inside b)
+      inside i (inr b) = below-inside w b
 
   -- the same at a root, as `unify` asks it
-  pub self-at-marks : (m : ℕ) → length ns ≤ m → (t : Ty) → isRoot (at ns (t .idx)) ≡ true → t .idx < length ns
-      → selfInverseAt param (length ns) ns (t .idx) ≡ all (λ i. eqb (getD (findRelated ns t (clear m)) i 0) 0 || good param (stateOf (at ns i))) (from 0 (length ns))
+  pub self-at-marks : {ms : List ℕ} → Clear ns ms → (t : Ty) → t .idx < length ns → isRoot (at ns (t .idx)) ≡ true
+      → selfInverseAt param (length ns) ns (t .idx) ≡ all (λ i. eqb (getD (findRelated ns t ms) i 0) 0 || good param (stateOf (at ns i))) (from 0 (length ns))
   unfolding selfInverseOf
-  self-at-marks m l t e h = ap (selfInverseAt param (length ns) ns) (sym (root-find ns t e)) ∙ self-marks m l t h
+  self-at-marks z t h e = ap (selfInverseAt param (length ns) ns) (sym (root-find ns t e)) ∙ self-marks z t h

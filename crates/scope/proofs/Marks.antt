@@ -60,7 +60,7 @@ rep-idx : (ns : List Node) (t : Ty) → view ns .rep (t .idx) .idx ≡ find ns t
 unfolding view find
 rep-idx ns t = climb-idx (length ns) ns (ty false (t .idx)) t refl
 
--- a child as the nodes have it, and as the view has it
+-- a child as the nodes have it is one as the view has it, and back
 pub kid-of : (ns : List Node) (a : ℕ) (c : Ty) → view ns .rep a ≡ ty false a → List·Memᴰ c (kidsOf (stateOf (at ns a))) → Kid (view ns) a (find ns c .idx)
 unfolding view
 kid-of ns a c top m = go (stateOf (at ns a)) refl m
@@ -169,7 +169,8 @@ unmarked-grown ns {ms} {ms′} g = count-le (blank ns ms′) (blank ns ms) (blan
 unmarked-set : (ns : List Node) (ms : List ℕ) (r : ℕ) → r < length ns → r < length ms → isRoot (at ns r) ≡ true → getD ms r 0 ≡ 0
     → unmarked ns (set ms r 1) < unmarked ns ms
 unfolding unmarked
-unmarked-set ns ms r hn hm t e = count-lt (blank ns (set ms r 1)) (blank ns ms) (blank-grown ns (grown-set ms r hm e)) (from 0 (length ns)) (mem-from 0 (length ns) r (omega arith) (omega arith))
+unmarked-set ns ms r hn hm t e =
+    count-lt (blank ns (set ms r 1)) (blank ns ms) (blank-grown ns (grown-set ms r hm e)) (from 0 (length ns)) (mem-from 0 (length ns) r (omega arith) (omega arith))
     (rw (t, getD-set-same ms r 1 0 hm) refl) (rw (t, e) refl)
 
 reached-less : {ns : List Node} {ms ms′ : List ℕ} {r i : ℕ} → Grown ms ms′ → Reached ns ms′ r i → Reached ns ms r i
@@ -350,3 +351,9 @@ module _ {ns : List Node} (w : Walkable ns) (ms : List ℕ) (t : Ty) (l : length
 
   pub related-fuel : (f : ℕ) → length ns ≤ f → relatedF f ns ms t ≡ findRelated ns t ms
   related-fuel f u = related-enough f (omega (arith, unmarked-top ns ms))
+
+  -- one root, with no depth
+  pub related-unfold : findRelated ns t ms
+      ≡ relatedRoot (λ xs u. findRelated ns u xs) (eqb (getD ms (find ns t .idx) 0) 0) ms (find ns t .idx) (kidsOf (stateAt ns t))
+  unfolding findRelated
+  related-unfold = sym (related-fuel (suc (length ns)) (omega arith)) ∙ related-step (length ns) ns ms t
