@@ -24,7 +24,7 @@ use Rattle.scope.proofs.SoundLaws.{Fine, Kinds, kinds-held, SoundNodes,
 use Rattle.scope.proofs.SoundKept.{Kept, fine-more, remembers-more}
 
 module _ (e : Env) where
-  sound-kids : {ns : List Node} → SoundNodes e ns → (r : ℕ) (c : Ty) → List·Memᴰ c (kidsOf (stateOf (at ns r))) → c .idx < length ns
+  pub sound-kids : {ns : List Node} → SoundNodes e ns → (r : ℕ) (c : Ty) → List·Memᴰ c (kidsOf (stateOf (at ns r))) → c .idx < length ns
   unfolding view
   sound-kids {ns} ok r c = go (stateOf (at ns r)) refl
     where

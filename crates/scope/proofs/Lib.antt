@@ -50,6 +50,7 @@ pub mod Sizes
 pub mod Sol
 pub mod SoundKept
 pub mod SoundLaws
+pub mod SoundWalks
 pub mod Stay
 pub mod Steps
 pub mod Table
