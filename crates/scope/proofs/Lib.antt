@@ -24,6 +24,8 @@ pub mod LaterSteps
 pub mod Laws
 pub mod MakeKept
 pub mod Mapping
+pub mod MarkLaws
+pub mod Marks
 pub mod Meet
 pub mod Merge
 pub mod Moves
@@ -56,3 +58,4 @@ pub mod UnifyKept
 pub mod View
 pub mod ViewFits
 pub mod ViewLaws
+pub mod Walks
