@@ -2,3 +2,4 @@
 pub mod Lists
 pub mod Cells
 pub mod Laws
+pub mod ChildLaws
