@@ -3,3 +3,4 @@ pub mod Lists
 pub mod Cells
 pub mod Laws
 pub mod ChildLaws
+pub mod LinkLaws
