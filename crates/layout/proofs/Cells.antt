@@ -1,11 +1,11 @@
 -- A node's twelve words as a cell: the cell is known by its fields, scope's cell at i is made of the words at i, and a cell that scope reads as a
 -- node is read as the same node by the code. Every law of nodes goes through `node-words` and `clean-words`, which speak of the words at i alone.
 -- Assumes nothing.
-use mathlib.Core.Path.{_≡_, refl, ap, sym, _∙_, subst}
+use mathlib.Core.Path.{_≡_, refl, ap, sym, subst}
 use mathlib.Core.Bool.{Bool, true, false, _&&_}
-use mathlib.Core.Option.{Option, none, some}
-use mathlib.Core.List.{List, [], _∷_}
-use Prim.Native.Nat.{ℕ, _+_, _*_, _/_, _-_, _<_, _≤_}
+use mathlib.Core.Option.{none, some}
+use mathlib.Core.List.{List, []}
+use Prim.Native.Nat.{ℕ, _+_, _*_, _/_, _-_, _<_}
 use native.Mathlib.Omega.{arith}
 use lib.Dec.{eqb, leb, leb·zero}
 use lib.ListN.{length, getD, take, drop, length-drop, List·getD-eq-default}
@@ -17,9 +17,8 @@ use Rattle.scope.specs.Types.{tyOf}
 use Rattle.scope.specs.Nodes as nodes
 use Rattle.scope.specs.Sound.{nodeIn, kindBare, namesClean, kindIn}
 use Rattle.layout.specs.Words.{nodeField, slotAt, cellAt, nodeAt, nodeClean}
-use Rattle.layout.specs.Meaning.{flagOf, cellBy, cellIn, wordsOf, kindOf, nodeOf, cellOf, cellWords, cellMeans, kindCell, kindMeans, nodeMeans, kindFits, nodeFits, slotIn, slotMeans}
+use Rattle.layout.specs.Meaning.{flagOf, cellBy, cellIn, nodeOf, cellOf, cellWords, cellMeans, kindCell, kindMeans, nodeMeans, kindFits, nodeFits, slotIn, slotMeans}
 use Rattle.layout.specs.declared.Cell.{Cell}
-use Rattle.layout.specs.declared.TypeState.{TypeState}
 use Rattle.layout.specs.declared.TypeState.the-variants.{Known, Unknown, InferenceFailed}
 use Rattle.layout.specs.declared.TypeNode.{TypeNode}
 use Rattle.layout.specs.declared.TypeNode.the-variants.{Root, Child}
@@ -39,6 +38,13 @@ pub slot-part : (ks : List ℕ) (i : ℕ) → slotMeans (slotIn (take (length ks
 slot-part ks i =
     rw (take-all (length ks - i * 4) (drop (i * 4) ks) (simp length-drop (omega arith)))
     (rw (getD-drop (i * 4) ks 0 0, getD-drop (i * 4) ks 1 0, getD-drop (i * 4) ks 2 0, getD-drop (i * 4) ks 3 0))
+
+-- where node i's part starts, and how long it is
+pub cell-start : (i : ℕ) → (i + 1) * 12 - 12 ≡ i * 12
+cell-start i = omega arith
+
+pub cell-length : (i : ℕ) → (i + 1) * 12 - ((i + 1) * 12 - 12) ≡ 12
+cell-length i = omega arith
 
 -- field k of node i is word k of its part
 pub field-word : (ws : List ℕ) (i k : ℕ) → k < 12 → getD (cellWords ws i) k 0 ≡ nodeField ws i k

@@ -4,18 +4,18 @@
 use mathlib.Core.Path.{_≡_, refl, ap, sym, _∙_}
 use mathlib.Core.Bool.{Bool, true, false}
 use mathlib.Core.List.{List, [], _∷_, _++_}
-use Prim.Native.Nat.{ℕ, suc, _+_, _*_, _<_, _≤_}
+use Prim.Native.Nat.{ℕ, _+_, _*_, _<_, _≤_}
 use native.Mathlib.Omega.{arith}
 use native.Mathlib.Numerals.{add-one}
 use lib.Dec.{eqb, ltb}
-use lib.ListN.{length, getD, drop, set, length-set, List·getD-eq-default}
-use lib.Seq.{getD-set-same, getD-set-other, set-out, ext-getD}
+use lib.ListN.{length, drop, set, length-set, List·getD-eq-default}
+use lib.Seq.{getD-set-same, getD-set-other, ext-getD}
 use borrow.Author.Tests.{lt-ltb, le-ltb, ltb-true, ltb-false, eqb-true, eqb-false}
-use Rattle.scope.specs.Base.{pick, orElse}
+use Rattle.scope.specs.Base.{orElse}
 use Rattle.scope.specs.Limits.{NONE}
 use Rattle.scope.specs.Nodes as nodes
 use Rattle.layout.specs.Words.{nodeWords, nodeAt, nodeClean, decode}
-use Rattle.layout.specs.Meaning.{cellIn, wordsOf, nodeOf, cellOf, cellWords, readAt, putAt, nodeMeans, nodeFits, Clean}
+use Rattle.layout.specs.Meaning.{cellIn, wordsOf, cellOf, cellWords, readAt, putAt, nodeMeans, nodeFits, Clean}
 use Rattle.layout.specs.declared.TypeNode.{TypeNode}
 use Rattle.layout.proofs.Lists.{part-here, part-other, drop-past, length-part, length-from, get-from, map-snoc, same-from}
 use Rattle.layout.proofs.Cells.{cellNode, cellClean, node-words, clean-words, says, cell-says, cell-clean}

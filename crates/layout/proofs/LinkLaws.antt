@@ -1,21 +1,21 @@
 -- Which nodes are children, and of which parents, is said by the node words alone: a child's cell has no children, and any other cell is a root's
 -- whatever its children are. So what the code reads is a child exactly where the store has that child.
 -- Assumes nothing.
-use mathlib.Core.Path.{_≡_, refl, ap, sym, _∙_, subst, subst⁻¹}
+use mathlib.Core.Path.{_≡_, refl, ap, sym, _∙_, subst⁻¹}
 use mathlib.Core.Bool.{Bool, true, false, _&&_}
 use mathlib.Core.Option.{Option, none, some}
-use mathlib.Core.List.{List, [], _∷_, map, map-map}
-use Prim.Native.Nat.{ℕ, _+_, _*_, _<_, _≤_}
+use mathlib.Core.List.{List, [], map, map-map}
+use Prim.Native.Nat.{ℕ, _+_, _<_}
 use native.Mathlib.Omega.{arith}
 use lib.Dec.{eqb, ltb, leb}
-use lib.ListN.{length, getD, List·getD-map}
-use borrow.Author.Tests.{eqb-true, eq-eqb, eqb-false, ltb-true, ltb-false, le-leb}
+use lib.ListN.{getD, List·getD-map}
+use borrow.Author.Tests.{eqb-true, eqb-false, ltb-true, ltb-false, le-leb}
 use Rattle.scope.specs.Base.{pick, from, isSome, orElse}
 use Rattle.scope.specs.Types.{Ty, tyOf}
 use Rattle.scope.specs.Nodes as nodes
 use Rattle.scope.specs.Sound.{nodeIn, kindBare, namesClean, kindIn}
 use Rattle.types.specs.declared.«Type».{«Type»}
-use Rattle.layout.specs.Words.{nodeWords, nodeField, slotAt, firstAt, countAt, cellAt, nodeAt, nodeClean, decode}
+use Rattle.layout.specs.Words.{nodeField, slotAt, firstAt, countAt, cellAt, nodeAt, nodeClean, decode}
 use Rattle.layout.specs.Meaning.{cellIn, cellOf, nodeOf, cellWords, cellMeans, readAt, putAt, nodeMeans, parentOf, Clean, Linked}
 use Rattle.layout.specs.declared.Cell.{Cell}
 use Rattle.layout.specs.declared.TypeState.{TypeState}
@@ -23,7 +23,7 @@ use Rattle.layout.specs.declared.TypeState.the-variants.{Known, Unknown,
 use Rattle.layout.specs.declared.TypeNode.{TypeNode}
 use Rattle.layout.specs.declared.TypeNode.the-variants.{Root, Child}
 use Rattle.layout.proofs.Lists.{and-both, and-right, length-from, same-from}
-use Rattle.layout.proofs.Cells.{retag, cellNode, cellFirst, field-word, node-words, clean-words, cell-words, says}
+use Rattle.layout.proofs.Cells.{retag, cellNode, cellFirst, field-word, node-words, cell-words, says}
 use Rattle.layout.proofs.Laws.{past, decode-get, decode-past, words-here, words-there, length-put}
 
 -- a child's cell says the same whatever the children's words are
