@@ -10,7 +10,7 @@ use Rattle.layout.proofs.Lists.{all-from, from-all}
 use Rattle.shape.specs.declared.Up.{Up}
 use Rattle.shape.specs.declared.Up.the-variants.{Root, Parent}
 use Rattle.shape.specs.Walks.{Graph, ends, InRow, Closed, degBy, toBy, upward, Leads, here, more}
-use Rattle.shape.proofs.Lists.{is-false, all-not, all-find, count-most, count-more}
+use Rattle.shape.proofs.Lists.{is-false, same-test, all-not, all-find, count-most, count-more}
 
 module _ (g : Graph) where
   pub ends-none : (v : ℕ) → ends g 0 v ≡ false
@@ -60,3 +60,51 @@ module _ (g : Graph) where
     -- one more node before walks that end
     pub ends-before : (v : ℕ) → v < n → ((i : ℕ) → InRow g v i → ends g n (g .to i) ≡ true) → ends g n v ≡ true
     ends-before v l f = ends-within v l (ends-from n v f)
+
+-- parents
+
+deg-most : (u : Up) → degBy u ≤ 1
+deg-most (Root z) = omega arith
+deg-most (Parent u) = omega arith
+
+module _ (p : ℕ → Up) where
+  -- a node's one place is its own number
+  pub row-up : (v u : ℕ) → p v ≡ Parent u → InRow (upward p) v v
+  row-up v u e = record { from = omega arith; below = rw e (omega arith) }
+
+  row-own : (v i : ℕ) → InRow (upward p) v i → i ≡ v
+  row-own v i r = omega (arith, r .from, r .below, deg-most (p v))
+
+  row-root : (v z i : ℕ) → p v ≡ Root z → InRow (upward p) v i → ⊥
+  row-root v z i e r = let l : i < v + 0 = rw e at (r .below) in omega (arith, r .from)
+
+  module _ (n : ℕ) (inside : (v : ℕ) → v < n → toBy (p v) < n) where
+    up-closed : Closed (upward p) n
+    up-closed = record { inside = λ v i l r. rw (row-own v i r) (inside v l) }
+
+    up-below : (v u : ℕ) → v < n → p v ≡ Parent u → u < n
+    up-below v u l e = rw e at (inside v l)
+
+    pub leads-below : {v r : ℕ} → Leads p v r → v < n → r < n
+    leads-below (here e) l = l
+    leads-below (more {v = v} {u = u} e k) l = leads-below k (up-below v u l e)
+
+    -- who comes to a root does so within n nodes
+    pub leads-ends : {v r : ℕ} → Leads p v r → v < n → ends (upward p) n v ≡ true
+    leads-ends (here {v = v} {z = z} e) l = ends-before (upward p) n up-closed v l (λ i r. absurd (row-root v z i e r))
+    leads-ends (more {v = v} {u = u} e k) l =
+        let t = leads-ends k (up-below v u l e) in
+        ends-before (upward p) n up-closed v l (λ i r. rw (row-own v i r, e) t)
+
+    pub up-within : (v : ℕ) → v < n → ends (upward p) (suc n) v ≡ true → ends (upward p) n v ≡ true
+    up-within = ends-within (upward p) n up-closed
+
+  -- the bound at a root, and below a parent
+  pub ends-root : (d v z : ℕ) → p v ≡ Root z → ends (upward p) (suc d) v ≡ true
+  ends-root d v z e = ends-from (upward p) d v (λ i r. absurd (row-root v z i e r))
+
+  pub ends-up : (d v u : ℕ) → p v ≡ Parent u → ends (upward p) (suc d) v ≡ ends (upward p) d u
+  ends-up d v u e =
+      same-test (ends (upward p) (suc d) v) (ends (upward p) d u)
+      (λ t. rw e at (ends-on (upward p) d v v t (row-up v u e)))
+      (λ t. ends-from (upward p) d v (λ i r. rw (row-own v i r, e) t))

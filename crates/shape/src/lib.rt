@@ -93,12 +93,17 @@ fn climb(ws: &[u32], n: u32, roots: &mut Table, v: u32, depth: u32) -> u32
     if depth == 0 {
         return 0;
     }
-    let r = match up_of(ws, n, v) {
-        Up::Root(_) => v + 1,
-        Up::Parent(p) => climb(ws, n, roots, p, depth - 1),
-    };
-    roots[v as usize] = r;
-    r
+    match up_of(ws, n, v) {
+        Up::Root(_) => {
+            roots[v as usize] = v + 1;
+            v + 1
+        }
+        Up::Parent(p) => {
+            let r = climb(ws, n, roots, p, depth - 1);
+            roots[v as usize] = r;
+            r
+        }
+    }
 }
 
 // Whether every node has a root; then roots holds one more than each.
@@ -138,12 +143,14 @@ fn sizes_ok(ws: &[u32], n: u32, roots: &Table) -> bool
     tally(roots, n, &mut counts);
     let mut v: u32 = 0;
     while v < n {
-        if let Up::Root(size) = up_of(ws, n, v) {
-            if size != at(&counts, v) {
+        let up = up_of(ws, n, v);
+        let count = at(&counts, v);
+        v += 1;
+        if let Up::Root(size) = up {
+            if size != count {
                 return false;
             }
         }
-        v += 1;
     }
     true
 }
