@@ -34,17 +34,20 @@ pub record Forest (ws : List ℕ) (n : ℕ) : Type 0 where
 
 -- a root that is known is right
 pub record Right (p : ℕ → Up) (roots : List ℕ) : Type 0 where
+  pub long : length roots ≡ MAX-NODES
   pub right : (v : ℕ) → 0 < getD roots v 0 → Leads p v (rootOf roots v)
 
 -- `climb`: up from v
-pub record Climbs (ws roots : List ℕ) (n v depth : ℕ) : Type 0 where
+pub record Climbs (ws roots : List ℕ) (n v : ℕ) : Type 0 where
   pub forest : Forest ws n
   pub right : Right (ups ws n) roots
   pub node : v < n
 
-pub record Climbed (p : ℕ → Up) (depth v : ℕ) (roots : List ℕ) (r : ℕ) : Type 0 where
+-- roots that were known stay known, and v's is kept; where there is none, more than depth nodes stand above v, v counted
+pub record Climbed (p : ℕ → Up) (depth v : ℕ) (roots₀ roots : List ℕ) (r : ℕ) : Type 0 where
   pub right : Right p roots
-  pub found : 0 < r → Leads p v (r - 1)
+  pub stay : (u : ℕ) → 0 < getD roots₀ u 0 → 0 < getD roots u 0
+  pub kept : r ≡ getD roots v 0
   pub lost : r ≡ 0 → ends (upward p) depth v ≡ false
 
 -- every node below n has its root
@@ -69,6 +72,7 @@ pub record Rooted (roots : List ℕ) (n : ℕ) : Type 0 where
 
 pub record Tallies (roots counts : List ℕ) (n : ℕ) : Type 0 where
   pub rooted : Rooted roots n
+  pub long : length counts ≡ MAX-NODES
   pub zeros : (v : ℕ) → v < n → getD counts v 0 ≡ 0
 
 pub record Tallied (roots : List ℕ) (n : ℕ) (counts : List ℕ) : Type 0 where
@@ -78,16 +82,18 @@ pub record Sizes (ws roots : List ℕ) (n : ℕ) : Type 0 where
   pub rooted : Rooted roots n
   pub room : nodeWords n ≤ length ws
 
--- `visit`: on from v, at most depth nodes, v counted. Where a mark is not 0, walks end
+-- where a mark is not 0, walks end
 pub record Marked (g : Graph) (n : ℕ) (marks : List ℕ) : Type 0 where
+  pub long : length marks ≡ MAX-NODES
   pub ended : (v : ℕ) → 0 < getD marks v 0 → ends g n v ≡ true
 
+-- `visit` and `falls_ok`
 pub record Falls (ws ks : List ℕ) (n : ℕ) (roots : List ℕ) : Type 0 where
   pub rooted : Rooted roots n
   pub room : nodeWords n ≤ length ws
   pub below : (v i : ℕ) → v < n → InRow (kids ws ks n roots) v i → kidAt ks i < n
 
-pub record Visits (ws ks : List ℕ) (n : ℕ) (roots marks : List ℕ) (v depth : ℕ) : Type 0 where
+pub record Visits (ws ks : List ℕ) (n : ℕ) (roots marks : List ℕ) (v : ℕ) : Type 0 where
   pub falls : Falls ws ks n roots
   pub marked : Marked (kids ws ks n roots) n marks
   pub node : v < n

@@ -83,8 +83,8 @@ fn root_of(roots: &Table, v: u32) -> u32
 
 // One more than v's root, where fewer than depth parent steps lead there; else 0. roots keeps it for each node on the way.
 fn climb(ws: &[u32], n: u32, roots: &mut Table, v: u32, depth: u32) -> u32
-    requires { ⌜ Climbs (now ws) (now roots) n v depth ⌝ }
-    ensures { λ r. ⌜ Climbed (ups (now (ws .entry)) n) depth v (now (roots .exit)) r ⌝ }
+    requires { ⌜ Climbs (now ws) (now roots) n v ⌝ }
+    ensures { λ r. ⌜ Climbed (ups (now (ws .entry)) n) depth v (now (roots .entry)) (now (roots .exit)) r ⌝ }
 {
     let known = at(roots, v);
     if known != 0 {
@@ -165,7 +165,7 @@ fn visit(
     v: u32,
     depth: u32,
 ) -> bool
-    requires { ⌜ Visits (now ws) (now ks) n (now roots) (now marks) v depth ⌝ }
+    requires { ⌜ Visits (now ws) (now ks) n (now roots) (now marks) v ⌝ }
     ensures { λ r. ⌜ Visited (kids (now (ws .entry)) (now (ks .entry)) n (now (roots .entry))) n depth v (now (marks .exit)) r ⌝ }
 {
     if at(marks, v) != 0 {

@@ -28,42 +28,61 @@ visit-Inv-loop ws ks n roots marks₀ v depth i₀ end marks i = ?
 
 abbrev visit-μ-loop : visit-lts.MeasureT-loop
 visit-μ-loop ws ks n roots marks₀ v depth i₀ end marks i = ?
+
 visit-at-requires : (t : ℕ) → visit-lts.Need-at-requires (visit-claims t) (visit-at t) visit.Post visit-Inv-loop visit-μ-loop
 visit-at-requires t c κs = ?
+
 visit-returns : (t : ℕ) → visit-lts.Need-returns (visit-claims t) (visit-at t) visit.Post visit-Inv-loop visit-μ-loop
 visit-returns t c = ?
+
 visit-returns-2 : (t : ℕ) → visit-lts.Need-returns-2 (visit-claims t) (visit-at t) visit.Post visit-Inv-loop visit-μ-loop
 visit-returns-2 t c = ?
+
 visit-row-of-requires : (t : ℕ) → visit-lts.Need-row-of-requires (visit-claims t) (visit-at t) visit.Post visit-Inv-loop visit-μ-loop
 visit-row-of-requires t c κs = ?
+
 visit-cast-i : (t : ℕ) → visit-lts.Need-cast-i (visit-claims t) (visit-at t) visit.Post visit-Inv-loop visit-μ-loop
 visit-cast-i t c = ?
+
 visit-cast-end : (t : ℕ) → visit-lts.Need-cast-end (visit-claims t) (visit-at t) visit.Post visit-Inv-loop visit-μ-loop
 visit-cast-end t c = ?
+
 visit-add-end : (t : ℕ) → visit-lts.Need-add-end (visit-claims t) (visit-at t) visit.Post visit-Inv-loop visit-μ-loop
 visit-add-end t c = ?
+
 visit-loop-holds : (t : ℕ) → visit-lts.Need-loop-holds (visit-claims t) (visit-at t) visit.Post visit-Inv-loop visit-μ-loop
 visit-loop-holds t c = ?
+
 visit-kid-at-requires : (t : ℕ) → visit-lts.Need-kid-at-requires (visit-claims t) (visit-at t) visit.Post visit-Inv-loop visit-μ-loop
 visit-kid-at-requires t c κs = ?
+
 visit-root-of-requires : (t : ℕ) → visit-lts.Need-root-of-requires (visit-claims t) (visit-at t) visit.Post visit-Inv-loop visit-μ-loop
 visit-root-of-requires t c κs = ?
+
 visit-sub-visit : (t : ℕ) → visit-lts.Need-sub-visit (visit-claims t) (visit-at t) visit.Post visit-Inv-loop visit-μ-loop
 visit-sub-visit t c = ?
+
 visit-visit-requires : (t : ℕ) → visit-lts.Need-visit-requires (visit-claims t) (visit-at t) visit.Post visit-Inv-loop visit-μ-loop
 visit-visit-requires t c κs = ?
+
 visit-returns-3 : (t : ℕ) → visit-lts.Need-returns-3 (visit-claims t) (visit-at t) visit.Post visit-Inv-loop visit-μ-loop
 visit-returns-3 t c = ?
+
 visit-add-i : (t : ℕ) → visit-lts.Need-add-i (visit-claims t) (visit-at t) visit.Post visit-Inv-loop visit-μ-loop
 visit-add-i t c = ?
+
 visit-loop-less : (t : ℕ) → visit-lts.Need-loop-less (visit-claims t) (visit-at t) visit.Post visit-Inv-loop visit-μ-loop
 visit-loop-less t c = ?
+
 visit-loop-again : (t : ℕ) → visit-lts.Need-loop-again (visit-claims t) (visit-at t) visit.Post visit-Inv-loop visit-μ-loop
 visit-loop-again t c = ?
+
 visit-mul-marks : (t : ℕ) → visit-lts.Need-mul-marks (visit-claims t) (visit-at t) visit.Post visit-Inv-loop visit-μ-loop
 visit-mul-marks t c = ?
+
 visit-element-write-marks : (t : ℕ) → visit-lts.Need-element-write-marks (visit-claims t) (visit-at t) visit.Post visit-Inv-loop visit-μ-loop
 visit-element-write-marks t c = ?
+
 visit-returns-4 : (t : ℕ) → visit-lts.Need-returns-4 (visit-claims t) (visit-at t) visit.Post visit-Inv-loop visit-μ-loop
 visit-returns-4 t c = ?
 
