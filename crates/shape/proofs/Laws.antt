@@ -14,11 +14,13 @@ use lib.ListN.{length, getD, set, length-set, replicate}
 use lib.Seq.{getD-set-same, getD-set-other}
 use Rattle.scope.specs.Base.{pick, all, count, from}
 use Rattle.scope.specs.Limits.{MAX-NODES}
+use Rattle.layout.specs.Meaning.{readAt}
 use Rattle.layout.proofs.Lists.{from-all}
 use Rattle.shape.specs.declared.Up.{Up}
 use Rattle.shape.specs.declared.Up.the-variants.{Root, Parent}
 use Rattle.shape.specs.Walks.{Graph, ends, InRow, Closed, upward, toBy, Leads, here, more}
-use Rattle.shape.specs.Read.{ups, kids, kidAt, rootOf, tallied, sizeBy, sizeFits}
+use Rattle.shape.specs.declared.Row.{Row}
+use Rattle.shape.specs.Read.{rowIn, ups, kids, kidAt, rootOf, tallied, sizeBy, sizeFits}
 use Rattle.shape.specs.Asks.{Forest, Right, Climbs, Climbed, Settled, Found, Rooted, Tallies, Tallied, Marked, Falls, Visits, Visited}
 use Rattle.shape.proofs.Lists.{all-not, count-most, count-last}
 use Rattle.shape.proofs.Walks.{ends-none, ends-not, ends-before, ends-up, leads-ends}
@@ -214,6 +216,18 @@ kids-closed {ks = ks} a = record { inside = λ v i l r. a .rooted .below (kidAt 
 
 pub visits-on : {ws ks roots marks marks′ : List ℕ} {n v i k : ℕ} → Visits ws ks n roots marks v → Passed (kids ws ks n roots) n v i marks′ → InRow (kids ws ks n roots) v i → k ≡ rootOf roots (kidAt ks i) → Visits ws ks n roots marks′ k
 visits-on {v = v} {i = i} a w r e = record { falls = a .falls; marked = w .marked; node = rw e (kids-closed (a .falls) .inside v i (a .node) r) }
+
+-- what the code reads of v's row
+pub in-row : {ws ks roots marks marks′ : List ℕ} {n v i : ℕ} {r : Row} → Visits ws ks n roots marks v → r ≡ rowIn (readAt ws n v) → Passed (kids ws ks n roots) n v i marks′ → i < r .first + r .count → InRow (kids ws ks n roots) v i
+in-row a e w l = record { from = w .low; below = rw (← e) l }
+
+pub row-done : {ws ks roots marks : List ℕ} {n v i : ℕ} {r : Row} → Visits ws ks n roots marks v → r ≡ rowIn (readAt ws n v) → r .first + r .count ≤ i → kids ws ks n roots .first v + kids ws ks n roots .deg v ≤ i
+row-done a e l = rw (← e) l
+
+pub kid-known : {ws ks roots marks : List ℕ} {n v i k : ℕ} → Visits ws ks n roots marks v → InRow (kids ws ks n roots) v i → k ≡ kidAt ks i → (k < MAX-NODES) × (0 < getD roots k 0)
+kid-known {ks = ks} {v = v} {i = i} a r e =
+    let l = a .falls .below v i (a .node) r in
+    rw e (omega (arith, a .falls .rooted .few), a .falls .rooted .known (kidAt ks i) l)
 
 -- sizes_ok: the sizes of the first v nodes fit
 
