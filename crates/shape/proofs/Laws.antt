@@ -10,19 +10,18 @@ use native.Mathlib.Omega.{arith}
 use borrow.Author.Count.{below-more}
 use borrow.Author.Tests.{eq-eqb, ne-eqb}
 use lib.Dec.{eqb}
-use lib.ListN.{length, getD, set, length-set, replicate}
+use lib.ListN.{length, getD, set, length-set, replicate, length-replicate}
 use lib.Seq.{getD-set-same, getD-set-other}
 use Rattle.scope.specs.Base.{pick, all, count, from}
 use Rattle.scope.specs.Limits.{MAX-NODES}
 use Rattle.layout.specs.Meaning.{readAt}
-use Rattle.layout.proofs.Lists.{from-all}
 use Rattle.shape.specs.declared.Up.{Up}
 use Rattle.shape.specs.declared.Up.the-variants.{Root, Parent}
 use Rattle.shape.specs.Walks.{Graph, ends, InRow, Closed, upward, toBy, Leads, here, more}
 use Rattle.shape.specs.declared.Row.{Row}
 use Rattle.shape.specs.Read.{rowIn, ups, kids, kidAt, rootOf, tallied, sizeBy, sizeFits}
 use Rattle.shape.specs.Asks.{Forest, Right, Climbs, Climbed, Settled, Found, Rooted, Tallies, Tallied, Marked, Falls, Visits, Visited}
-use Rattle.shape.proofs.Lists.{all-not, count-most, count-last}
+use Rattle.shape.proofs.Lists.{all-stop, all-done, count-most, count-last}
 use Rattle.shape.proofs.Walks.{ends-none, ends-not, ends-before, ends-up, leads-ends}
 
 -- a property of every entry that is not 0, kept by a store
@@ -46,9 +45,21 @@ stored-stay t t′ v h e f u k = go (ℕ-discrete u v)
     go (yes q) = absurd (omega (arith, ap (λ (x : ℕ). getD t x 0) q))
     go (no n) = rw (getD-set-other t′ v u h 0 n) (f u k)
 
+-- a table just made
+pub zeros : (m v : ℕ) → _≡_ {A = ℕ} (getD (replicate m 0) v 0) 0
+zeros zero v = refl
+zeros (suc m) zero = refl
+zeros (suc m) (suc v) = zeros m v
+
+blank-long : length (replicate MAX-NODES 0) ≡ MAX-NODES
+blank-long = length-replicate {A = ℕ} MAX-NODES 0
+
 -- climb
 
 module _ (p : ℕ → Up) where
+  pub right-none : Right p (replicate MAX-NODES 0)
+  right-none = record { long = blank-long; right = λ v l. absurd (omega (arith, zeros MAX-NODES v)) }
+
   right-set : {roots : List ℕ} (v h : ℕ) → v < MAX-NODES → Right p roots → (0 < h → Leads p v (h - 1)) → Right p (set roots v h)
   right-set {roots} v h l r f = record {
     long = length-set roots v h ∙ r .long;
@@ -104,13 +115,13 @@ upto-more a l w z = record {
 
 pub lost-all : {p : ℕ → Up} {n v r : ℕ} {roots roots′ : List ℕ} → v < n → Climbed p n v roots roots′ r → r ≡ 0 → Found p n roots′ false
 lost-all {p} {n} {v} l w z = record {
-  answer = sym (all-not (ends (upward p) n) 0 n v (omega arith) (omega arith) (w .lost z));
+  answer = all-stop (ends (upward p) n) n v l (w .lost z);
   settled = λ e. absurd (false≢true e);
 }
 
 pub found-all : {ws : List ℕ} {n v : ℕ} {roots : List ℕ} → Forest ws n → Upto (ups ws n) n v roots → n ≤ v → Found (ups ws n) n roots true
 found-all {ws} {n} {v} {roots} f a l = record {
-  answer = sym (from-all (ends (upward (ups ws n)) n) 0 n (λ u i j. leads-ends (ups ws n) n (f .inside) (each u (omega arith)) (omega arith)));
+  answer = all-done (ends (upward (ups ws n)) n) n n (omega arith) (λ u k. leads-ends (ups ws n) n (f .inside) (each u k) k);
   settled = λ _. record { leads = each; known = λ u k. a .known u (omega arith) };
 }
   where
@@ -123,6 +134,9 @@ pub record Counted (roots counts : List ℕ) (n v : ℕ) : Type 0 where
   pub most : v ≤ n
   pub long : length counts ≡ MAX-NODES
   pub each : (u : ℕ) → u < n → getD counts u 0 ≡ tallied roots v u
+
+pub tallies-none : {roots : List ℕ} {n : ℕ} → Rooted roots n → Tallies roots (replicate MAX-NODES 0) n
+tallies-none a = record { rooted = a; long = blank-long; zeros = λ v l. zeros MAX-NODES v }
 
 pub counted-none : {roots counts : List ℕ} {n : ℕ} → Tallies roots counts n → Counted roots counts n 0
 counted-none a = record { most = omega arith; long = a .long; each = a .zeros }
@@ -161,6 +175,9 @@ counted-all {roots} {counts} {n} {v} w l =
 -- visit
 
 module _ (g : Graph) (n : ℕ) where
+  pub marked-none : Marked g n (replicate MAX-NODES 0)
+  marked-none = record { long = blank-long; ended = λ v l. absurd (omega (arith, zeros MAX-NODES v)) }
+
   pub visit-marked : {marks : List ℕ} {depth v m : ℕ} → Marked g n marks → m ≡ getD marks v 0 → (m ≡ 0 → ⊥) → Visited g n depth v marks true
   visit-marked {v = v} a e z = record {
     marked = a;
