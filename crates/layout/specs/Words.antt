@@ -58,19 +58,20 @@ abbrev pub countAt : List ℕ → ℕ → ℕ
 countAt ws i = nodeField ws i 11
 
 unfoldable pub cellAt : List ℕ → List ℕ → ℕ → Cell
-cellAt ws ks i = record
-  { tag = nodeField ws i 0
-  ; link = pick (isKnownAt ws i) 0 (nodeField ws i 1)
-  ; size = nodeField ws i 2
-  ; inv = nodeField ws i 3
-  ; code = nodeField ws i 4
-  ; number = nodeField ws i 5
-  ; dual = nodeField ws i 6
-  ; flex = nodeField ws i 7
-  ; text = nodeField ws i 8
-  ; start = nodeField ws i 9
-  ; len = nodeField ws i 10
-  ; kids = slots ks (firstAt ws i) (countAt ws i) }
+cellAt ws ks i = record {
+  tag = nodeField ws i 0;
+  link = pick (isKnownAt ws i) 0 (nodeField ws i 1);
+  size = nodeField ws i 2;
+  inv = nodeField ws i 3;
+  code = nodeField ws i 4;
+  number = nodeField ws i 5;
+  dual = nodeField ws i 6;
+  flex = nodeField ws i 7;
+  text = nodeField ws i 8;
+  start = nodeField ws i 9;
+  len = nodeField ws i 10;
+  kids = slots ks (firstAt ws i) (countAt ws i);
+}
 
 -- the node that stands at i; its fields are within their values where `nodeClean` holds
 unfoldable pub nodeAt : List ℕ → List ℕ → ℕ → Node
@@ -106,21 +107,22 @@ reports h = getD h 6 0 + getD h 7 0 * 4294967296
 
 -- the store that three slices hold
 unfoldable pub storeIn : List ℕ → List ℕ → List ℕ → Store
-storeIn h ws ks = record
-  { nodes = decode ws ks (nodesMade h)
-  ; children = childrenMade h
-  ; nodeRoom = nodeRoom h
-  ; childRoom = childRoom h
-  ; error = remembered (getD h 4 0)
-  ; nil = remembered (getD h 5 0)
-  ; reports = reports h }
+storeIn h ws ks = record {
+  nodes = decode ws ks (nodesMade h);
+  children = childrenMade h;
+  nodeRoom = nodeRoom h;
+  childRoom = childRoom h;
+  error = remembered (getD h 4 0);
+  nil = remembered (getD h 5 0);
+  reports = reports h;
+}
 
 -- the slices are as long as the capacities need
 unfoldable pub longEnough : List ℕ → List ℕ → List ℕ → Bool
 longEnough h ws ks =
-  leb HEAD-WORDS (length h)
-  && (leb (nodesMade h) (nodeRoom h)
-  && (leb (childrenMade h) (childRoom h) && (leb (nodeWords (nodeRoom h)) (length ws) && leb (childWords (childRoom h)) (length ks))))
+    leb HEAD-WORDS (length h)
+    && (leb (nodesMade h) (nodeRoom h)
+    && (leb (childrenMade h) (childRoom h) && (leb (nodeWords (nodeRoom h)) (length ws) && leb (childWords (childRoom h)) (length ks))))
 
 -- words a to e of a list
 abbrev pub between : List ℕ → ℕ → ℕ → List ℕ
@@ -129,8 +131,8 @@ between xs a e = take (e - a) (drop a xs)
 -- "unused numbers": node slots from the count to the capacity, child slots likewise
 unfoldable pub unusedZero : List ℕ → List ℕ → List ℕ → Bool
 unusedZero h ws ks =
-  zeros (between ws (nodeWords (nodesMade h)) (nodeWords (nodeRoom h)))
-  && zeros (between ks (childWords (childrenMade h)) (childWords (childRoom h)))
+    zeros (between ws (nodeWords (nodesMade h)) (nodeWords (nodeRoom h)))
+    && zeros (between ks (childWords (childrenMade h)) (childWords (childRoom h)))
 
 unfoldable pub nodesClean : List ℕ → List ℕ → List ℕ → Bool
 nodesClean h ws ks = all (nodeClean ws ks (childrenMade h)) (from 0 (nodesMade h))
