@@ -51,7 +51,7 @@ zeros zero v = refl
 zeros (suc m) zero = refl
 zeros (suc m) (suc v) = zeros m v
 
-blank-long : length (replicate MAX-NODES 0) ≡ MAX-NODES
+blank-long : length {A = ℕ} (replicate MAX-NODES 0) ≡ MAX-NODES
 blank-long = length-replicate {A = ℕ} MAX-NODES 0
 
 -- climb

@@ -8,14 +8,16 @@ use Prim.Native.Nat.{ℕ, zero, suc, _+_, _-_, _≤_, _<_}
 use native.Mathlib.Omega.{arith}
 use borrow.Author.Tests.{ltb-true}
 use lib.Dec.{eqb}
-use lib.ListN.{length, getD}
+use lib.ListN.{length, getD, replicate}
 use Rattle.scope.specs.Base.{all, count, from}
+use Rattle.scope.specs.Limits.{MAX-NODES}
 use Rattle.scope.specs.Types.{Ty, ty, flip, tyOf}
 use Rattle.scope.specs.Nodes.{Node, State, at, isRoot, hop, climb, find, stateOf, kidsOf}
 use Rattle.scope.specs.Nodes as nodes
 use Rattle.scope.specs.Sound.{rooted, falls, treeSize, sizeIs, inStore, shapeSound}
-use Rattle.layout.specs.Words.{slotAt}
+use Rattle.layout.specs.Words.{slotAt, decode}
 use Rattle.layout.proofs.Lists.{all-from}
+use Rattle.layout.proofs.Laws.{length-decode, read-node}
 use Rattle.layout.specs.Meaning.{readAt, nodeMeans, stateMeans, kindMeans}
 use Rattle.layout.specs.declared.TypeState.{TypeState}
 use Rattle.layout.specs.declared.TypeState.the-variants.{Known, Unknown, InferenceFailed}
@@ -25,9 +27,10 @@ use Rattle.shape.specs.declared.Up.{Up}
 use Rattle.shape.specs.declared.Up.the-variants.{Root, Parent}
 use Rattle.shape.specs.Walks.{Graph, ends, InRow, Closed, upward, toBy, Leads, here, more}
 use Rattle.shape.specs.Read.{upIn, rowIn, rowBy, kidAt, ups, rootOf, kids, tallied, sizeBy, sizeFits}
-use Rattle.shape.specs.Asks.{nodeInside, Settled}
+use Rattle.shape.specs.Asks.{nodeInside, Shaped, Forest, Settled, Founds, Found, Rooted, Sizes, Falls}
 use Rattle.shape.proofs.Lists.{same-test, all-same, all-map, count-same}
 use Rattle.shape.proofs.Walks.{ends-none, ends-more, ends-root, ends-up, up-within, leads-ends, leads-below}
+use Rattle.shape.proofs.Laws.{right-none}
 
 -- one step up from scope's node
 abbrev upNode : Node → Up
@@ -175,3 +178,45 @@ module _ (ws ks : List ℕ) (n : ℕ) (ns : List Node) (size : length ns ≡ n) 
         → shapeSound ns ≡ (all (sizeFits ws n roots) (from 0 n) && all (ends (kids ws ks n roots) n) (from 0 n))
     unfolding shapeSound
     shape-found e = rw (rooted-all, e, sizes-all, falls-all)
+
+-- for words that `shape_ok` is handed
+
+module _ (ws ks : List ℕ) (n : ℕ) (s : Shaped ws ks n) where
+  node : (v : ℕ) → at (decode ws ks n) v ≡ nodeMeans ks (readAt ws n v)
+  node v = sym (read-node ws ks (s .made) n (s .clean) v)
+
+  pub founds : Founds ws (replicate MAX-NODES 0) n
+  founds = record {
+    forest = record { few = s .few; room = s .clean .room; inside = ups-inside ws ks n (decode ws ks n) (length-decode ws ks n) node (s .inside) };
+    right = right-none (ups ws n);
+  }
+
+  pub not-rooted : {roots : List ℕ} {r : Bool} → Found (ups ws n) n roots r → r ≡ false → false ≡ shapeSound (decode ws ks n)
+  not-rooted f e = sym (shape-lost ws ks n (decode ws ks n) (length-decode ws ks n) node (s .inside) (sym (f .answer) ∙ e))
+
+  module _ (roots : List ℕ) (r : Bool) (f : Found (ups ws n) n roots r) (e : r ≡ true) where
+    rooted-roots : Rooted roots n
+    rooted-roots = record {
+      few = s .few;
+      known = f .settled e .known;
+      below = roots-below ws ks n (decode ws ks n) (length-decode ws ks n) node (s .inside) roots (f .settled e);
+    }
+
+    pub sizes : Sizes ws roots n
+    sizes = record { rooted = rooted-roots; room = s .clean .room }
+
+    pub falling : Falls ws ks n roots
+    falling = record {
+      rooted = rooted-roots;
+      room = s .clean .room;
+      below = kids-inside ws ks n (decode ws ks n) (length-decode ws ks n) node (s .inside) roots;
+    }
+
+    rest : shapeSound (decode ws ks n) ≡ (all (sizeFits ws n roots) (from 0 n) && all (ends (kids ws ks n roots) n) (from 0 n))
+    rest = shape-found ws ks n (decode ws ks n) (length-decode ws ks n) node (s .inside) roots (f .settled e) (sym (f .answer) ∙ e)
+
+    pub not-sized : {z : Bool} → z ≡ all (sizeFits ws n roots) (from 0 n) → z ≡ false → false ≡ shapeSound (decode ws ks n)
+    not-sized p q = sym (rest ∙ rw (← p, q))
+
+    pub sized : {z d : Bool} → z ≡ all (sizeFits ws n roots) (from 0 n) → z ≡ true → d ≡ all (ends (kids ws ks n roots) n) (from 0 n) → d ≡ shapeSound (decode ws ks n)
+    sized p q t = t ∙ sym (rest ∙ rw (← p, q))
