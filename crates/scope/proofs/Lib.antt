@@ -50,7 +50,6 @@ pub mod Sizes
 pub mod Sol
 pub mod SoundKept
 pub mod SoundLaws
-pub mod SoundWalks
 pub mod Stay
 pub mod Steps
 pub mod Table
@@ -60,3 +59,4 @@ pub mod UnifyKept
 pub mod View
 pub mod ViewFits
 pub mod ViewLaws
+pub mod Walks

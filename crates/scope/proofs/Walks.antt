@@ -1,4 +1,4 @@
--- `find_related` may walk a sound store: its roots are in it, nothing contains itself, and a Param has no child. Assumes nothing.
+-- A sound store's nodes can be walked: what the laws of marks ask. Assumes nothing.
 use mathlib.Core.Path.{_≡_, refl, ap, sym, _∙_}
 use mathlib.Core.List.{List, [], _∷_}
 use mathlib.Core.Bool.{true}
@@ -33,9 +33,9 @@ param-childless e k m q =
     and-left (shapeFits (rowOf (k .head .code) .shape) n) _ (and-right (leb n MAX-WIDTH) _ (and-right (ltb (k .head .code) 15) _ (m .made))) in
     none-left (k .kids) (eqb-true n 0 (ap (λ (c : ℕ). shapeFits (rowOf c .shape) n) (sym q) ∙ s))
 
-pub sound-walkable : (e : Env) {ns : List Node} → SoundNodes e ns → Walkable ns
+pub sound-walkable : (e : Env) (ns : List Node) → SoundNodes e ns → Walkable ns
 unfolding view
-sound-walkable e {ns} ok = record {
+sound-walkable e ns ok = record {
   good = ok .good;
   inside = find-inside (ok .forest);
   tops = λ t h. rw (find-idx ns t, rep-root (ok .forest) (t .idx) .2) refl;

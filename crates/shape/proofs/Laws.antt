@@ -1,0 +1,259 @@
+-- One law for each way out of a function, and for each turn of a loop. A table that is right stays right where a number is stored that is.
+-- Assumes nothing.
+use mathlib.Core.Path.{_≡_, refl, sym, ap, _∙_}
+use mathlib.Core.Bool.{Bool, true, false, false≢true}
+use mathlib.Core.List.{List}
+use Prim.Native.Nat.{ℕ, zero, suc, _+_, _-_, _≤_, _<_}
+use native.Mathlib.Decide.{ℕ-discrete}
+use native.Mathlib.Numerals.{add-one}
+use native.Mathlib.Omega.{arith}
+use borrow.Author.Count.{below-more}
+use borrow.Author.Tests.{eq-eqb, ne-eqb}
+use lib.Dec.{eqb}
+use lib.ListN.{length, getD, set, length-set, replicate, length-replicate}
+use lib.Seq.{getD-set-same, getD-set-other}
+use Rattle.scope.specs.Base.{pick, all, count, from}
+use Rattle.scope.specs.Limits.{MAX-NODES}
+use Rattle.layout.specs.Meaning.{readAt}
+use Rattle.shape.specs.declared.Up.{Up}
+use Rattle.shape.specs.declared.Up.the-variants.{Root, Parent}
+use Rattle.shape.specs.Walks.{Graph, ends, InRow, Closed, upward, toBy, Leads, here, more}
+use Rattle.shape.specs.declared.Row.{Row}
+use Rattle.shape.specs.Read.{rowIn, ups, kids, kidAt, rootOf, tallied, sizeBy, sizeFits}
+use Rattle.shape.specs.Asks.{Forest, Right, Climbs, Climbed, Settled, Found, Rooted, Tallies, Tallied, Marked, Falls, Visits, Visited}
+use Rattle.shape.proofs.Lists.{all-stop, all-done, count-most, count-last}
+use Rattle.shape.proofs.Walks.{ends-none, ends-not, ends-before, ends-up, leads-ends}
+
+-- a property of every entry that is not 0, kept by a store
+stored : (P : ℕ → ℕ → Type 0) (t : List ℕ) (v h : ℕ) → v < length t → ((u : ℕ) → 0 < getD t u 0 → P u (getD t u 0)) → (0 < h → P v h)
+    → (u : ℕ) → 0 < getD (set t v h) u 0 → P u (getD (set t v h) u 0)
+stored P t v h l f g u = go (ℕ-discrete u v)
+  where
+    go : Dec (u ≡ v) → 0 < getD (set t v h) u 0 → P u (getD (set t v h) u 0)
+    go (yes e) k =
+        let z : getD (set t v h) u 0 ≡ h = ap (λ (x : ℕ). getD (set t v h) x 0) e ∙ getD-set-same t v h 0 l in
+        rw (z, e) (g (omega arith))
+    go (no n) k =
+        let z : getD (set t v h) u 0 ≡ getD t u 0 = getD-set-other t v u h 0 n in
+        rw z (f u (omega arith))
+
+-- entries that are not 0 stay so where one that is 0 is stored over
+stored-stay : (t t′ : List ℕ) (v h : ℕ) → getD t v 0 ≡ 0 → ((u : ℕ) → 0 < getD t u 0 → 0 < getD t′ u 0) → (u : ℕ) → 0 < getD t u 0 → 0 < getD (set t′ v h) u 0
+stored-stay t t′ v h e f u k = go (ℕ-discrete u v)
+  where
+    go : Dec (u ≡ v) → 0 < getD (set t′ v h) u 0
+    go (yes q) = absurd (omega (arith, ap (λ (x : ℕ). getD t x 0) q))
+    go (no n) = rw (getD-set-other t′ v u h 0 n) (f u k)
+
+-- a table just made
+pub zeros : (m v : ℕ) → _≡_ {A = ℕ} (getD (replicate m 0) v 0) 0
+zeros zero v = refl
+zeros (suc m) zero = refl
+zeros (suc m) (suc v) = zeros m v
+
+blank-long : length {A = ℕ} (replicate MAX-NODES 0) ≡ MAX-NODES
+blank-long = length-replicate {A = ℕ} MAX-NODES 0
+
+-- climb
+
+module _ (p : ℕ → Up) where
+  pub right-none : Right p (replicate MAX-NODES 0)
+  right-none = record { long = blank-long; right = λ v l. absurd (omega (arith, zeros MAX-NODES v)) }
+
+  right-set : {roots : List ℕ} (v h : ℕ) → v < MAX-NODES → Right p roots → (0 < h → Leads p v (h - 1)) → Right p (set roots v h)
+  right-set {roots} v h l r f = record {
+    long = length-set roots v h ∙ r .long;
+    right = stored (λ u x. Leads p u (x - 1)) roots v h (omega (arith, r .long)) (r .right) f;
+  }
+
+  pub climb-known : {roots : List ℕ} {depth v known : ℕ} → Right p roots → known ≡ getD roots v 0 → (known ≡ 0 → ⊥) → Climbed p depth v roots roots known
+  climb-known r e z = record { right = r; stay = λ u l. l; kept = e; lost = λ q. absurd (z q) }
+
+  pub climb-deep : {roots : List ℕ} {depth v : ℕ} → Right p roots → 0 ≡ getD roots v 0 → depth ≡ 0 → Climbed p depth v roots roots 0
+  climb-deep {v = v} r e z = record { right = r; stay = λ u l. l; kept = e; lost = λ _. rw z (ends-none (upward p) v) }
+
+  pub climb-root : {roots : List ℕ} {depth v z : ℕ} → v < MAX-NODES → Right p roots → getD roots v 0 ≡ 0 → p v ≡ Root z → Climbed p depth v roots (set roots v (v + 1)) (v + 1)
+  climb-root {roots} {v = v} l r e f =
+      let q : v + 1 - 1 ≡ v = omega arith in
+      record {
+        right = right-set v (v + 1) l r (λ _. rw q (here f));
+        stay = stored-stay roots roots v (v + 1) e (λ u k. k);
+        kept = sym (getD-set-same roots v (v + 1) 0 (omega (arith, r .long)));
+        lost = λ z. absurd (omega arith);
+      }
+
+  pub climb-parent : {roots₀ roots : List ℕ} {depth v u r : ℕ} → v < MAX-NODES → getD roots₀ v 0 ≡ 0 → (depth ≡ 0 → ⊥) → p v ≡ Parent u
+      → Climbed p (depth - 1) u roots₀ roots r → Climbed p depth v roots₀ (set roots v r) r
+  climb-parent {roots₀} {roots} {depth} {v} {u} {r} l e z f w =
+      let d : depth ≡ suc (depth - 1) = omega arith in
+      record {
+        right = right-set v r l (w .right) (λ k. more f (rw (w .kept) (w .right .right u (omega (arith, w .kept)))));
+        stay = stored-stay roots₀ roots v r e (w .stay);
+        kept = sym (getD-set-same roots v r 0 (omega (arith, w .right .long)));
+        lost = λ q. rw d (ends-up p (depth - 1) v u f ∙ w .lost q);
+      }
+
+pub climbs-up : {ws roots : List ℕ} {n v u : ℕ} → Climbs ws roots n v → ups ws n v ≡ Parent u → Climbs ws roots n u
+climbs-up {v = v} a e = record { forest = a .forest; right = a .right; node = rw e at (a .forest .inside v (a .node)) }
+
+-- find_roots: the first v nodes have their roots
+
+pub record Upto (p : ℕ → Up) (n v : ℕ) (roots : List ℕ) : Type 0 where
+  pub most : v ≤ n
+  pub right : Right p roots
+  pub known : (u : ℕ) → u < v → 0 < getD roots u 0
+
+pub upto-none : {p : ℕ → Up} {n : ℕ} {roots : List ℕ} → Right p roots → Upto p n 0 roots
+upto-none r = record { most = omega arith; right = r; known = λ u l. absurd (omega arith) }
+
+pub upto-more : {p : ℕ → Up} {n v r : ℕ} {roots roots′ : List ℕ} → Upto p n v roots → v < n → Climbed p n v roots roots′ r → (r ≡ 0 → ⊥) → Upto p n (v + 1) roots′
+upto-more a l w z = record {
+  most = omega arith;
+  right = w .right;
+  known = below-more _ _ (λ u k. w .stay u (a .known u k)) (omega (arith, w .kept));
+}
+
+pub lost-all : {p : ℕ → Up} {n v r : ℕ} {roots roots′ : List ℕ} → v < n → Climbed p n v roots roots′ r → r ≡ 0 → Found p n roots′ false
+lost-all {p} {n} {v} l w z = record {
+  answer = all-stop (ends (upward p) n) n v l (w .lost z);
+  settled = λ e. absurd (false≢true e);
+}
+
+pub found-all : {ws : List ℕ} {n v : ℕ} {roots : List ℕ} → Forest ws n → Upto (ups ws n) n v roots → n ≤ v → Found (ups ws n) n roots true
+found-all {ws} {n} {v} {roots} f a l = record {
+  answer = all-done (ends (upward (ups ws n)) n) n n (omega arith) (λ u k. leads-ends (ups ws n) n (f .inside) (each u k) k);
+  settled = λ _. record { leads = each; known = λ u k. a .known u (omega arith) };
+}
+  where
+    each : (u : ℕ) → u < n → Leads (ups ws n) u (rootOf roots u)
+    each u k = a .right .right u (a .known u (omega arith))
+
+-- tally: the first v nodes are counted
+
+pub record Counted (roots counts : List ℕ) (n v : ℕ) : Type 0 where
+  pub most : v ≤ n
+  pub long : length counts ≡ MAX-NODES
+  pub each : (u : ℕ) → u < n → getD counts u 0 ≡ tallied roots v u
+
+pub tallies-none : {roots : List ℕ} {n : ℕ} → Rooted roots n → Tallies roots (replicate MAX-NODES 0) n
+tallies-none a = record { rooted = a; long = blank-long; zeros = λ v l. zeros MAX-NODES v }
+
+pub counted-none : {roots counts : List ℕ} {n : ℕ} → Tallies roots counts n → Counted roots counts n 0
+counted-none a = record { most = omega arith; long = a .long; each = a .zeros }
+
+counted-last : (roots : List ℕ) (v u : ℕ) (b : Bool) → eqb (rootOf roots v) u ≡ b → tallied roots (v + 1) u ≡ tallied roots v u + pick b 1 0
+counted-last roots v u b e =
+    let z : 0 + v ≡ v = omega arith in
+    rw add-one (count-last (λ i. eqb (rootOf roots i) u) 0 v ∙ rw (z, e))
+
+pub counted-more : {roots counts : List ℕ} {n v r : ℕ} → Rooted roots n → Counted roots counts n v → v < n → r ≡ rootOf roots v → Counted roots (set counts r (getD counts r 0 + 1)) n (v + 1)
+counted-more {roots} {counts} {n} {v} {r} a w l e = record {
+  most = omega arith;
+  long = length-set counts r (getD counts r 0 + 1) ∙ w .long;
+  each = λ u k. go u k (ℕ-discrete u r);
+}
+  where
+    go : (u : ℕ) → u < n → Dec (u ≡ r) → getD (set counts r (getD counts r 0 + 1)) u 0 ≡ tallied roots (v + 1) u
+    go u k (yes q) =
+        let m : r < length counts = omega (arith, w .long, a .below v l, a .few) in
+        let c = counted-last roots v u true (eq-eqb (rootOf roots v) u (sym (q ∙ e))) in
+        omega (arith, ap (λ (x : ℕ). getD (set counts r (getD counts r 0 + 1)) x 0) q, getD-set-same counts r (getD counts r 0 + 1) 0 m, ap (λ (x : ℕ). getD counts x 0) q, w .each u k, c)
+    go u k (no q) =
+        let c = counted-last roots v u false (ne-eqb (rootOf roots v) u (λ z. q (sym z ∙ sym e))) in
+        omega (arith, getD-set-other counts r u (getD counts r 0 + 1) 0 q, w .each u k, c)
+
+pub counted-small : {roots counts : List ℕ} {n v r : ℕ} → Rooted roots n → Counted roots counts n v → v < n → r ≡ rootOf roots v → (getD counts r 0 < MAX-NODES) × (r < MAX-NODES)
+counted-small {roots} {counts} {n} {v} {r} a w l e =
+    let k : r < n = omega (arith, a .below v l) in
+    (omega (arith, w .each r k, count-most (λ i. eqb (rootOf roots i) r) 0 v, a .few), omega (arith, a .few))
+
+pub counted-all : {roots counts : List ℕ} {n v : ℕ} → Counted roots counts n v → n ≤ v → Tallied roots n counts
+counted-all {roots} {counts} {n} {v} w l =
+    let e : v ≡ n = omega (arith, w .most) in
+    record { each = λ u k. w .each u k ∙ ap (λ (x : ℕ). tallied roots x u) e }
+
+-- visit
+
+module _ (g : Graph) (n : ℕ) where
+  pub marked-none : Marked g n (replicate MAX-NODES 0)
+  marked-none = record { long = blank-long; ended = λ v l. absurd (omega (arith, zeros MAX-NODES v)) }
+
+  pub visit-marked : {marks : List ℕ} {depth v m : ℕ} → Marked g n marks → m ≡ getD marks v 0 → (m ≡ 0 → ⊥) → Visited g n depth v marks true
+  visit-marked {v = v} a e z = record {
+    marked = a;
+    passed = λ _. a .ended v (omega arith);
+    failed = λ q. absurd (false≢true (sym q));
+  }
+
+  pub visit-deep : {marks : List ℕ} {depth v : ℕ} → Marked g n marks → depth ≡ 0 → Visited g n depth v marks false
+  visit-deep {v = v} a e = record { marked = a; passed = λ q. absurd (false≢true q); failed = λ _. rw e (ends-none g v) }
+
+  pub visit-failed : {marks : List ℕ} {depth v i k : ℕ} {r : Bool} → (depth ≡ 0 → ⊥) → InRow g v i → k ≡ g .to i → r ≡ false → Visited g n (depth - 1) k marks r → Visited g n depth v marks false
+  visit-failed {depth = depth} {v = v} {i = i} z l e f w =
+      let d : depth ≡ suc (depth - 1) = omega arith in
+      record {
+        marked = w .marked;
+        passed = λ q. absurd (false≢true q);
+        failed = λ _. rw d (ends-not g (depth - 1) v i l (rw (← e) (w .failed f)));
+      }
+
+  -- the walks on from the first places of v's row, those before i, end
+  pub record Passed (v i : ℕ) (marks : List ℕ) : Type 0 where
+    pub low : g .first v ≤ i
+    pub high : i ≤ g .first v + g .deg v
+    pub marked : Marked g n marks
+    pub ended : (j : ℕ) → g .first v ≤ j → j < i → ends g n (g .to j) ≡ true
+
+  pub passed-none : {v : ℕ} {marks : List ℕ} → Marked g n marks → Passed v (g .first v) marks
+  passed-none a = record { low = omega arith; high = omega arith; marked = a; ended = λ j k l. absurd (omega arith) }
+
+  pub passed-more : {depth v i k : ℕ} {marks marks′ : List ℕ} {r : Bool} → Passed v i marks → i < g .first v + g .deg v → k ≡ g .to i → r ≡ true → Visited g n depth k marks′ r → Passed v (i + 1) marks′
+  passed-more {v = v} {i = i} a l e t w = record {
+    low = omega (arith, a .low);
+    high = omega arith;
+    marked = w .marked;
+    ended = λ j m k. below-more (λ x. g .first v ≤ x → ends g n (g .to x) ≡ true) i (λ x y z. a .ended x z y) (λ _. rw (← e) (w .passed t)) j k m;
+  }
+
+  pub visit-passed : {depth v i : ℕ} {marks : List ℕ} → Closed g n → v < n → n ≤ MAX-NODES → Passed v i marks → g .first v + g .deg v ≤ i → Visited g n depth v (set marks v 1) true
+  visit-passed {v = v} {i = i} {marks = marks} c l m a h =
+      let t : ends g n v ≡ true = ends-before g n c v l (λ j r. a .ended j (r .from) (omega (arith, r .below))) in
+      record {
+        marked = record {
+          long = length-set marks v 1 ∙ a .marked .long;
+          ended = stored (λ u x. ends g n u ≡ true) marks v 1 (omega (arith, a .marked .long)) (a .marked .ended) (λ _. t);
+        };
+        passed = λ _. t;
+        failed = λ q. absurd (false≢true (sym q));
+      }
+
+-- the root of a child is a node
+pub kids-closed : {ws ks roots : List ℕ} {n : ℕ} → Falls ws ks n roots → Closed (kids ws ks n roots) n
+kids-closed {ks = ks} a = record { inside = λ v i l r. a .rooted .below (kidAt ks i) (a .below v i l r) }
+
+pub visits-on : {ws ks roots marks marks′ : List ℕ} {n v i k : ℕ} → Visits ws ks n roots marks v → Passed (kids ws ks n roots) n v i marks′ → InRow (kids ws ks n roots) v i → k ≡ rootOf roots (kidAt ks i) → Visits ws ks n roots marks′ k
+visits-on {v = v} {i = i} a w r e = record { falls = a .falls; marked = w .marked; node = rw e (kids-closed (a .falls) .inside v i (a .node) r) }
+
+-- what the code reads of v's row
+pub in-row : {ws ks roots marks marks′ : List ℕ} {n v i : ℕ} {r : Row} → Visits ws ks n roots marks v → r ≡ rowIn (readAt ws n v) → Passed (kids ws ks n roots) n v i marks′ → i < r .first + r .count → InRow (kids ws ks n roots) v i
+in-row a e w l = record { from = w .low; below = rw (← e) l }
+
+pub row-done : {ws ks roots marks : List ℕ} {n v i : ℕ} {r : Row} → Visits ws ks n roots marks v → r ≡ rowIn (readAt ws n v) → r .first + r .count ≤ i → kids ws ks n roots .first v + kids ws ks n roots .deg v ≤ i
+row-done a e l = rw (← e) l
+
+pub kid-known : {ws ks roots marks : List ℕ} {n v i k : ℕ} → Visits ws ks n roots marks v → InRow (kids ws ks n roots) v i → k ≡ kidAt ks i → (k < MAX-NODES) × (0 < getD roots k 0)
+kid-known {ks = ks} {v = v} {i = i} a r e =
+    let l = a .falls .below v i (a .node) r in
+    rw e (omega (arith, a .falls .rooted .few), a .falls .rooted .known (kidAt ks i) l)
+
+-- sizes_ok: the sizes of the first v nodes fit
+
+module _ (ws roots : List ℕ) (n v : ℕ) where
+  pub size-root : {z m : ℕ} → ups ws n v ≡ Root z → m ≡ tallied roots n v → z ≡ m → sizeFits ws n roots v ≡ true
+  size-root {z} e f q = rw e (eq-eqb z (tallied roots n v) (q ∙ f))
+
+  pub size-other : {z m : ℕ} → ups ws n v ≡ Root z → m ≡ tallied roots n v → (z ≡ m → ⊥) → sizeFits ws n roots v ≡ false
+  size-other {z} e f q = rw e (ne-eqb z (tallied roots n v) (λ x. q (x ∙ sym f)))
+
+  pub size-child : {u : ℕ} → ups ws n v ≡ Parent u → sizeFits ws n roots v ≡ true
+  size-child e = rw e

@@ -1,0 +1,5 @@
+-- The laws that belong to no one function
+pub mod Lists
+pub mod Walks
+pub mod Meets
+pub mod Laws

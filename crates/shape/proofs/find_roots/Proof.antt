@@ -1,0 +1,50 @@
+use Prim.Native.Nat.{_-_}
+use native.Mathlib.Omega.{arith}
+use Rattle.shape.specs.Read.{ups}
+use Rattle.shape.proofs.Laws as laws
+use Rattle.shape.proofs.find_roots.Statement.{statement}
+use Rattle.shape.proofs.find_roots.Tie as tie
+use Rattle.shape.proofs.find_roots.Reads as reads
+use Rattle.shape.proofs.find_roots.Lts as lts
+use Rattle.shape.proofs.climb.Reads as climb-reads
+
+abbrev Inv-loop : tie.InvT-loop
+Inv-loop ws n roots₀ v₀ roots v = laws.Upto (ups ws n) n v roots
+
+abbrev μ-loop : tie.MeasureT-loop
+μ-loop ws n roots₀ v₀ roots v = n - v
+
+loop-holds : tie.Need-loop-holds Inv-loop μ-loop
+loop-holds c = laws.upto-none (c .before .pre .right)
+
+climb-requires : tie.Need-climb-requires Inv-loop μ-loop
+climb-requires c κs = record { forest = c .before .before .before .before .pre .forest; right = c .before .before .loop .inv .right; node = c .before .loop-test .taken }
+
+returns : tie.Need-returns Inv-loop μ-loop
+returns c = laws.lost-all (c .before .before .before .loop-test .taken) (c .before .climb .ensures) (c .if1 .taken)
+
+add-v : tie.Need-add-v Inv-loop μ-loop
+add-v c = omega (arith, c .before .before .before .before .before .before .pre .forest .few, c .before .before .before .loop-test .taken)
+
+loop-less : tie.Need-loop-less Inv-loop μ-loop
+loop-less c = omega (arith, c .before .before .before .loop-test .taken)
+
+loop-again : tie.Need-loop-again Inv-loop μ-loop
+loop-again c = laws.upto-more (c .before .before .before .before .loop .inv) (c .before .before .before .loop-test .taken) (c .before .climb .ensures) (c .if1 .left)
+
+returns-2 : tie.Need-returns-2 Inv-loop μ-loop
+returns-2 c = laws.found-all (c .before .before .before .pre .forest) (c .before .loop .inv) (c .loop-test .left)
+
+pub find-roots-spec : {M : Type 1} → statement M
+find-roots-spec =
+    tie.close
+    (tie.spec
+    Inv-loop
+    μ-loop
+    loop-holds
+    climb-requires
+    returns
+    add-v
+    loop-less
+    loop-again
+    returns-2)

@@ -1,0 +1,104 @@
+-- What each function asks and gives.
+use mathlib.Core.Path.{_≡_}
+use mathlib.Core.List.{List}
+use mathlib.Core.Bool.{Bool, true, false}
+use Prim.Native.Nat.{ℕ, _+_, _-_, _≤_, _<_}
+use lib.ListN.{length, getD}
+use Rattle.scope.specs.Base.{all, from}
+use Rattle.scope.specs.Limits.{MAX-NODES}
+use Rattle.scope.specs.Nodes.{Node, Root, Child, at, kidsOf}
+use Rattle.scope.specs.Sound.{inStore}
+use Rattle.layout.specs.Words.{nodeWords, decode}
+use Rattle.layout.specs.Meaning.{Clean}
+use Rattle.shape.specs.Walks.{Graph, ends, InRow, upward, toBy, Leads}
+use Rattle.shape.specs.declared.Up.{Up}
+use Rattle.shape.specs.Read.{ups, kids, kidAt, rootOf, tallied}
+
+-- a node's parent, or its kind's children, are nodes of the store
+abbrev pub nodeInside : List Node → Node → Bool
+nodeInside ns (Root st z) = all (inStore ns) (kidsOf st)
+nodeInside ns (Child t) = inStore ns t
+
+-- `shape_ok`: clean nodes with so many children made, and every parent and child inside
+pub record Shaped (ws ks : List ℕ) (n : ℕ) : Type 0 where
+  pub made : ℕ
+  pub few : n ≤ MAX-NODES
+  pub clean : Clean ws ks made n
+  pub inside : (i : ℕ) → i < n → nodeInside (decode ws ks n) (at (decode ws ks n) i) ≡ true
+
+-- n nodes whose parents are nodes
+pub record Forest (ws : List ℕ) (n : ℕ) : Type 0 where
+  pub few : n ≤ MAX-NODES
+  pub room : nodeWords n ≤ length ws
+  pub inside : (v : ℕ) → v < n → toBy (ups ws n v) < n
+
+-- a root that is known is right
+pub record Right (p : ℕ → Up) (roots : List ℕ) : Type 0 where
+  pub long : length roots ≡ MAX-NODES
+  pub right : (v : ℕ) → 0 < getD roots v 0 → Leads p v (rootOf roots v)
+
+-- `climb`: up from v
+pub record Climbs (ws roots : List ℕ) (n v : ℕ) : Type 0 where
+  pub forest : Forest ws n
+  pub right : Right (ups ws n) roots
+  pub node : v < n
+
+-- roots that were known stay known, and v's is kept; where there is none, more than depth nodes stand above v, v counted
+pub record Climbed (p : ℕ → Up) (depth v : ℕ) (roots₀ roots : List ℕ) (r : ℕ) : Type 0 where
+  pub right : Right p roots
+  pub stay : (u : ℕ) → 0 < getD roots₀ u 0 → 0 < getD roots u 0
+  pub kept : r ≡ getD roots v 0
+  pub lost : r ≡ 0 → ends (upward p) depth v ≡ false
+
+-- every node below n has its root
+pub record Settled (p : ℕ → Up) (n : ℕ) (roots : List ℕ) : Type 0 where
+  pub leads : (v : ℕ) → v < n → Leads p v (rootOf roots v)
+  pub known : (v : ℕ) → v < n → 0 < getD roots v 0
+
+-- `find_roots`
+pub record Founds (ws roots : List ℕ) (n : ℕ) : Type 0 where
+  pub forest : Forest ws n
+  pub right : Right (ups ws n) roots
+
+pub record Found (p : ℕ → Up) (n : ℕ) (roots : List ℕ) (r : Bool) : Type 0 where
+  pub answer : r ≡ all (ends (upward p) n) (from 0 n)
+  pub settled : r ≡ true → Settled p n roots
+
+-- `tally` and `sizes_ok`: every node below n has a root below n
+pub record Rooted (roots : List ℕ) (n : ℕ) : Type 0 where
+  pub few : n ≤ MAX-NODES
+  pub known : (v : ℕ) → v < n → 0 < getD roots v 0
+  pub below : (v : ℕ) → v < n → rootOf roots v < n
+
+pub record Tallies (roots counts : List ℕ) (n : ℕ) : Type 0 where
+  pub rooted : Rooted roots n
+  pub long : length counts ≡ MAX-NODES
+  pub zeros : (v : ℕ) → v < n → getD counts v 0 ≡ 0
+
+pub record Tallied (roots : List ℕ) (n : ℕ) (counts : List ℕ) : Type 0 where
+  pub each : (v : ℕ) → v < n → getD counts v 0 ≡ tallied roots n v
+
+pub record Sizes (ws roots : List ℕ) (n : ℕ) : Type 0 where
+  pub rooted : Rooted roots n
+  pub room : nodeWords n ≤ length ws
+
+-- where a mark is not 0, walks end
+pub record Marked (g : Graph) (n : ℕ) (marks : List ℕ) : Type 0 where
+  pub long : length marks ≡ MAX-NODES
+  pub ended : (v : ℕ) → 0 < getD marks v 0 → ends g n v ≡ true
+
+-- `visit` and `falls_ok`
+pub record Falls (ws ks : List ℕ) (n : ℕ) (roots : List ℕ) : Type 0 where
+  pub rooted : Rooted roots n
+  pub room : nodeWords n ≤ length ws
+  pub below : (v i : ℕ) → v < n → InRow (kids ws ks n roots) v i → kidAt ks i < n
+
+pub record Visits (ws ks : List ℕ) (n : ℕ) (roots marks : List ℕ) (v : ℕ) : Type 0 where
+  pub falls : Falls ws ks n roots
+  pub marked : Marked (kids ws ks n roots) n marks
+  pub node : v < n
+
+pub record Visited (g : Graph) (n depth v : ℕ) (marks : List ℕ) (r : Bool) : Type 0 where
+  pub marked : Marked g n marks
+  pub passed : r ≡ true → ends g n v ≡ true
+  pub failed : r ≡ false → ends g depth v ≡ false

@@ -1,0 +1,65 @@
+-- What the code reads of a store: the two walks over a store's words.
+use mathlib.Core.List.{List}
+use mathlib.Core.Bool.{Bool, true, false}
+use Prim.Native.Nat.{ℕ, _-_}
+use lib.Dec.{eqb}
+use lib.ListN.{getD}
+use Rattle.scope.specs.Base.{count, from}
+use Rattle.scope.specs.Types.{tyOf}
+use Rattle.layout.specs.Words.{slotAt}
+use Rattle.layout.specs.Meaning.{readAt}
+use Rattle.layout.specs.declared.TypeState.{TypeState}
+use Rattle.layout.specs.declared.TypeState.the-variants.{Known, Unknown, InferenceFailed}
+use Rattle.layout.specs.declared.TypeNode.{TypeNode}
+use Rattle.layout.specs.declared.TypeNode.the-variants.{Root, Child}
+use Rattle.shape.specs.declared.Row.{Row}
+use Rattle.shape.specs.declared.Up.{Up}
+use Rattle.shape.specs.declared.Up.the-variants as up
+use Rattle.shape.specs.Walks.{Graph}
+
+-- one step up
+abbrev pub upIn : TypeNode → Up
+upIn (Root st z) = up.Root z
+upIn (Child t) = up.Parent (tyOf (t .0) .idx)
+
+-- the row of children of a state's kind
+abbrev pub rowBy : TypeState → Row
+rowBy (Known i k) = record { first = k .first; count = k .count }
+rowBy (Unknown s) = record { first = 0; count = 0 }
+rowBy InferenceFailed = record { first = 0; count = 0 }
+
+abbrev pub rowIn : TypeNode → Row
+rowIn (Root st z) = rowBy st
+rowIn (Child t) = record { first = 0; count = 0 }
+
+-- the node of the child at a place
+abbrev pub kidAt : List ℕ → ℕ → ℕ
+kidAt ks i = tyOf (slotAt ks i .type) .idx
+
+-- from each node to its parent
+abbrev pub ups : List ℕ → ℕ → ℕ → Up
+ups ws n v = upIn (readAt ws n v)
+
+-- roots: one more than the root of each node that was settled, and 0 elsewhere
+abbrev pub rootOf : List ℕ → ℕ → ℕ
+rootOf roots v = getD roots v 0 - 1
+
+-- from each node to the roots of its kind's children
+abbrev pub kids : List ℕ → List ℕ → ℕ → List ℕ → Graph
+kids ws ks n roots = record {
+  first = λ v. rowIn (readAt ws n v) .first;
+  deg = λ v. rowIn (readAt ws n v) .count;
+  to = λ i. rootOf roots (kidAt ks i);
+}
+
+-- how many of the first m nodes have the root r
+abbrev pub tallied : List ℕ → ℕ → ℕ → ℕ
+tallied roots m r = count (λ i. eqb (rootOf roots i) r) (from 0 m)
+
+-- a root's size is how many nodes have it as their root
+abbrev pub sizeBy : ℕ → Up → Bool
+sizeBy m (up.Root z) = eqb z m
+sizeBy m (up.Parent u) = true
+
+abbrev pub sizeFits : List ℕ → ℕ → List ℕ → ℕ → Bool
+sizeFits ws n roots v = sizeBy (tallied roots n v) (ups ws n v)
