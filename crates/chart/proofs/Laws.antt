@@ -55,9 +55,6 @@ word-there ws n k h l =
     ap (λ (r : Record). getD (wordsOf r) k 0) (runs-at RECORD-WORDS recordIn (length ws / RECORD-WORDS) ws n noRecord m)
     ∙ (words-in (drop (n * RECORD-WORDS) ws) k l ∙ getD-drop (n * RECORD-WORDS) ws k 0)
 
-pub word-place : (ws : List ℕ) (n k : ℕ) → n < length (recordsOf ws) → k < RECORD-WORDS → n * RECORD-WORDS + k < length ws
-word-place ws n k h l = let m : n < length ws / RECORD-WORDS = rw records-length at h in omega arith
-
 -- past the last record: no sort, and 0 for every other number
 none-there : (ws : List ℕ) (n k : ℕ) → length (recordsOf ws) ≤ n → getD (wordsOf (recordOf ws n)) k 0 ≡ getD (wordsOf noRecord) k 0
 none-there ws n k h = ap (λ (r : Record). getD (wordsOf r) k 0) (List·getD-eq-default (recordsOf ws) noRecord h)

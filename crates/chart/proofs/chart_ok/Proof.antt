@@ -21,7 +21,11 @@ record-count-requires c κs = search needs
 returns-2 : tie.Need-returns-2
 returns-2 c =
     let s = c .before .before .before .before .before .before .args in
-    rw (laws.chart-tests (s .chart .now) (s .beside) (s .rule .now) (s .text .now), eq-eqb (length (s .chart .now) % RECORD-WORDS) 0 (c .before .before .if1 .left), beyond MAX-RECORDS (c .before .record-count .ensures) (c .if2 .taken))
+    rw (
+      laws.chart-tests (s .chart .now) (s .beside) (s .rule .now) (s .text .now),
+      eq-eqb (length (s .chart .now) % RECORD-WORDS) 0 (c .before .before .if1 .left),
+      beyond MAX-RECORDS (c .before .record-count .ensures) (c .if2 .taken),
+    )
 
 texts-ok-requires : tie.Need-texts-ok-requires
 texts-ok-requires c κs = search needs
@@ -29,7 +33,12 @@ texts-ok-requires c κs = search needs
 returns-3 : tie.Need-returns-3
 returns-3 c =
     let s = c .before .before .before .before .before .before .before .before .args in
-    rw (laws.chart-tests (s .chart .now) (s .beside) (s .rule .now) (s .text .now), eq-eqb (length (s .chart .now) % RECORD-WORDS) 0 (c .before .before .before .before .if1 .left), within MAX-RECORDS (c .before .before .before .record-count .ensures) (c .before .before .if2 .left), fails (c .before .texts-ok .ensures) (c .if3 .taken))
+    rw (
+      laws.chart-tests (s .chart .now) (s .beside) (s .rule .now) (s .text .now),
+      eq-eqb (length (s .chart .now) % RECORD-WORDS) 0 (c .before .before .before .before .if1 .left),
+      within MAX-RECORDS (c .before .before .before .record-count .ensures) (c .before .before .if2 .left),
+      fails (c .before .texts-ok .ensures) (c .if3 .taken),
+    )
 
 records-ok-requires : tie.Need-records-ok-requires
 records-ok-requires c κs = search needs
@@ -37,7 +46,13 @@ records-ok-requires c κs = search needs
 returns-4 : tie.Need-returns-4
 returns-4 c =
     let s = c .before .before .before .before .before .before .before .before .before .before .args in
-    rw (laws.chart-tests (s .chart .now) (s .beside) (s .rule .now) (s .text .now), eq-eqb (length (s .chart .now) % RECORD-WORDS) 0 (c .before .before .before .before .before .before .if1 .left), within MAX-RECORDS (c .before .before .before .before .before .record-count .ensures) (c .before .before .before .before .if2 .left), passes (c .before .before .before .texts-ok .ensures) (c .before .before .if3 .left), fails (c .before .records-ok .ensures) (c .if4 .taken))
+    rw (
+      laws.chart-tests (s .chart .now) (s .beside) (s .rule .now) (s .text .now),
+      eq-eqb (length (s .chart .now) % RECORD-WORDS) 0 (c .before .before .before .before .before .before .if1 .left),
+      within MAX-RECORDS (c .before .before .before .before .before .record-count .ensures) (c .before .before .before .before .if2 .left),
+      passes (c .before .before .before .texts-ok .ensures) (c .before .before .if3 .left),
+      fails (c .before .records-ok .ensures) (c .if4 .taken),
+    )
 
 fn-trait-ok-requires : tie.Need-fn-trait-ok-requires
 fn-trait-ok-requires c κs = search needs
@@ -45,7 +60,14 @@ fn-trait-ok-requires c κs = search needs
 returns-5 : tie.Need-returns-5
 returns-5 c =
     let s = c .before .before .before .before .before .before .before .before .before .before .before .before .args in
-    rw (laws.chart-tests (s .chart .now) (s .beside) (s .rule .now) (s .text .now), eq-eqb (length (s .chart .now) % RECORD-WORDS) 0 (c .before .before .before .before .before .before .before .before .if1 .left), within MAX-RECORDS (c .before .before .before .before .before .before .before .record-count .ensures) (c .before .before .before .before .before .before .if2 .left), passes (c .before .before .before .before .before .texts-ok .ensures) (c .before .before .before .before .if3 .left), passes (c .before .before .before .records-ok .ensures) (c .before .before .if4 .left), fails (c .before .fn-trait-ok .ensures) (c .if5 .taken))
+    rw (
+      laws.chart-tests (s .chart .now) (s .beside) (s .rule .now) (s .text .now),
+      eq-eqb (length (s .chart .now) % RECORD-WORDS) 0 (c .before .before .before .before .before .before .before .before .if1 .left),
+      within MAX-RECORDS (c .before .before .before .before .before .before .before .record-count .ensures) (c .before .before .before .before .before .before .if2 .left),
+      passes (c .before .before .before .before .before .texts-ok .ensures) (c .before .before .before .before .if3 .left),
+      passes (c .before .before .before .records-ok .ensures) (c .before .before .if4 .left),
+      fails (c .before .fn-trait-ok .ensures) (c .if5 .taken),
+    )
 
 sigils-ok-requires : tie.Need-sigils-ok-requires
 sigils-ok-requires c κs = search needs
@@ -53,7 +75,15 @@ sigils-ok-requires c κs = search needs
 returns-6 : tie.Need-returns-6
 returns-6 c =
     let s = c .before .before .before .before .before .before .before .before .before .before .before .before .before .args in
-    rw (laws.chart-tests (s .chart .now) (s .beside) (s .rule .now) (s .text .now), eq-eqb (length (s .chart .now) % RECORD-WORDS) 0 (c .before .before .before .before .before .before .before .before .before .if1 .left), within MAX-RECORDS (c .before .before .before .before .before .before .before .before .record-count .ensures) (c .before .before .before .before .before .before .before .if2 .left), passes (c .before .before .before .before .before .before .texts-ok .ensures) (c .before .before .before .before .before .if3 .left), passes (c .before .before .before .before .records-ok .ensures) (c .before .before .before .if4 .left), passes (c .before .before .fn-trait-ok .ensures) (c .before .if5 .left)) (c .sigils-ok .ensures)
+    rw (
+      laws.chart-tests (s .chart .now) (s .beside) (s .rule .now) (s .text .now),
+      eq-eqb (length (s .chart .now) % RECORD-WORDS) 0 (c .before .before .before .before .before .before .before .before .before .if1 .left),
+      within MAX-RECORDS (c .before .before .before .before .before .before .before .before .record-count .ensures) (c .before .before .before .before .before .before .before .if2 .left),
+      passes (c .before .before .before .before .before .before .texts-ok .ensures) (c .before .before .before .before .before .if3 .left),
+      passes (c .before .before .before .before .records-ok .ensures) (c .before .before .before .if4 .left),
+      passes (c .before .before .fn-trait-ok .ensures) (c .before .if5 .left),
+    )
+    (c .sigils-ok .ensures)
 
 pub chart-ok-spec : {M : Type 1} → statement M
 chart-ok-spec =

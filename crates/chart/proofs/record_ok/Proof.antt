@@ -20,7 +20,12 @@ name-ok-requires c κs = search needs
 
 returns-2 : tie.Need-returns-2
 unfolding recordOk
-returns-2 c = rw (within TRAIT-FN-SORT (c .before .before .before .before .sort-at .ensures) (c .before .before .before .if1 .left), ← c .before .before .name-at .ensures, fails (c .before .name-ok .ensures) (c .if2 .taken))
+returns-2 c =
+    rw (
+      within TRAIT-FN-SORT (c .before .before .before .before .sort-at .ensures) (c .before .before .before .if1 .left),
+      ← c .before .before .name-at .ensures,
+      fails (c .before .name-ok .ensures) (c .if2 .taken),
+    )
 
 path-at-requires : tie.Need-path-at-requires
 path-at-requires c κs = search needs
@@ -30,21 +35,45 @@ name-ok-requires-2 c κs = search needs
 
 returns-3 : tie.Need-returns-3
 unfolding recordOk
-returns-3 c = rw (within TRAIT-FN-SORT (c .before .before .before .before .before .before .before .sort-at .ensures) (c .before .before .before .before .before .before .if1 .left), ← c .before .before .before .before .before .name-at .ensures, passes (c .before .before .before .before .name-ok .ensures) (c .before .before .before .if2 .left), ← c .before .before .path-at .ensures, fails (c .before .name-ok2 .ensures) (c .if3 .taken))
+returns-3 c =
+    rw (
+      within TRAIT-FN-SORT (c .before .before .before .before .before .before .before .sort-at .ensures) (c .before .before .before .before .before .before .if1 .left),
+      ← c .before .before .before .before .before .name-at .ensures,
+      passes (c .before .before .before .before .name-ok .ensures) (c .before .before .before .if2 .left),
+      ← c .before .before .path-at .ensures,
+      fails (c .before .name-ok2 .ensures) (c .if3 .taken),
+    )
 
 flag-ok-requires : tie.Need-flag-ok-requires
 flag-ok-requires c κs = search needs
 
 returns-4 : tie.Need-returns-4
 unfolding recordOk
-returns-4 c = rw (within TRAIT-FN-SORT (c .before .before .before .before .before .before .before .before .before .sort-at .ensures) (c .before .before .before .before .before .before .before .before .if1 .left), ← c .before .before .before .before .before .before .before .name-at .ensures, passes (c .before .before .before .before .before .before .name-ok .ensures) (c .before .before .before .before .before .if2 .left), ← c .before .before .before .before .path-at .ensures, passes (c .before .before .before .name-ok2 .ensures) (c .before .before .if3 .left), fails (c .before .flag-ok .ensures) (c .if4 .taken))
+returns-4 c =
+    rw (
+      within TRAIT-FN-SORT (c .before .before .before .before .before .before .before .before .before .sort-at .ensures) (c .before .before .before .before .before .before .before .before .if1 .left),
+      ← c .before .before .before .before .before .before .before .name-at .ensures,
+      passes (c .before .before .before .before .before .before .name-ok .ensures) (c .before .before .before .before .before .if2 .left),
+      ← c .before .before .before .before .path-at .ensures,
+      passes (c .before .before .before .name-ok2 .ensures) (c .before .before .if3 .left),
+      fails (c .before .flag-ok .ensures) (c .if4 .taken),
+    )
 
 trait-ok-requires : tie.Need-trait-ok-requires
 trait-ok-requires c κs = search needs
 
 returns-5 : tie.Need-returns-5
 unfolding recordOk
-returns-5 c = rw (within TRAIT-FN-SORT (c .before .before .before .before .before .before .before .before .before .before .sort-at .ensures) (c .before .before .before .before .before .before .before .before .before .if1 .left), ← c .before .before .before .before .before .before .before .before .name-at .ensures, passes (c .before .before .before .before .before .before .before .name-ok .ensures) (c .before .before .before .before .before .before .if2 .left), ← c .before .before .before .before .before .path-at .ensures, passes (c .before .before .before .before .name-ok2 .ensures) (c .before .before .before .if3 .left), passes (c .before .before .flag-ok .ensures) (c .before .if4 .left)) (c .trait-ok .ensures)
+returns-5 c =
+    rw (
+      within TRAIT-FN-SORT (c .before .before .before .before .before .before .before .before .before .before .sort-at .ensures) (c .before .before .before .before .before .before .before .before .before .if1 .left),
+      ← c .before .before .before .before .before .before .before .before .name-at .ensures,
+      passes (c .before .before .before .before .before .before .before .name-ok .ensures) (c .before .before .before .before .before .before .if2 .left),
+      ← c .before .before .before .before .before .path-at .ensures,
+      passes (c .before .before .before .before .name-ok2 .ensures) (c .before .before .before .if3 .left),
+      passes (c .before .before .flag-ok .ensures) (c .before .if4 .left),
+    )
+    (c .trait-ok .ensures)
 
 pub record-ok-spec : {M : Type 1} → statement M
 record-ok-spec =

@@ -15,10 +15,21 @@ is-trait-requires : tie.Need-is-trait-requires
 is-trait-requires c κs = search needs
 
 returns : tie.Need-returns
-returns c = rw (← c .before .before .sort-at .ensures, eq-eqb (c .before .before .sort-at .result) TRAIT-FN-SORT (c .before .if1 .taken), ← c .before .before .before .trait-at .ensures) (c .is-trait .ensures)
+returns c =
+    rw (
+      ← c .before .before .sort-at .ensures,
+      eq-eqb (c .before .before .sort-at .result) TRAIT-FN-SORT (c .before .if1 .taken),
+      ← c .before .before .before .trait-at .ensures,
+    )
+    (c .is-trait .ensures)
 
 returns-2 : tie.Need-returns-2
-returns-2 c = rw (← c .before .sort-at .ensures, ne-eqb (c .before .sort-at .result) TRAIT-FN-SORT (c .if1 .left), ← c .before .before .trait-at .ensures)
+returns-2 c =
+    rw (
+      ← c .before .sort-at .ensures,
+      ne-eqb (c .before .sort-at .result) TRAIT-FN-SORT (c .if1 .left),
+      ← c .before .before .trait-at .ensures,
+    )
 
 pub trait-ok-spec : {M : Type 1} → statement M
 trait-ok-spec =

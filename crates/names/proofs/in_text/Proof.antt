@@ -23,7 +23,13 @@ text-len-requires c κs = search needs
 
 returns-2 : tie.Need-returns-2
 unfolding inText
-returns-2 c = rw (le-leb (c .before .before .before .before .before .before .before .args .n .text) 1 (c .before .before .before .if1 .left), ← c .text-len .ensures, ← c .before .before .wide .ensures, ← c .before .wide2 .ensures)
+returns-2 c =
+    rw (
+      le-leb (c .before .before .before .before .before .before .before .args .n .text) 1 (c .before .before .before .if1 .left),
+      ← c .text-len .ensures,
+      ← c .before .before .wide .ensures,
+      ← c .before .wide2 .ensures,
+    )
 
 pub in-text-spec : {M : Type 1} → statement M
 in-text-spec =

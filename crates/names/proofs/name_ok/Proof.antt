@@ -15,14 +15,23 @@ returns c = rw (fails (c .before .in-text .ensures) (c .if1 .taken))
 
 returns-2 : tie.Need-returns-2
 unfolding nameOk
-returns-2 c = rw (passes (c .before .before .before .in-text .ensures) (c .before .before .if1 .left), lt-leb 1 (c .before .before .before .before .before .before .args .n .len) (c .if2 .taken))
+returns-2 c =
+    rw (
+      passes (c .before .before .before .in-text .ensures) (c .before .before .if1 .left),
+      lt-leb 1 (c .before .before .before .before .before .before .args .n .len) (c .if2 .taken),
+    )
 
 wide-requires : tie.Need-wide-requires
 wide-requires c κs = search needs
 
 returns-3 : tie.Need-returns-3
 unfolding nameOk
-returns-3 c = rw (passes (c .before .before .before .before .in-text .ensures) (c .before .before .before .if1 .left), le-leb 1 (c .before .before .before .before .before .before .before .args .n .len) (c .before .if2 .left), ← c .wide .ensures)
+returns-3 c =
+    rw (
+      passes (c .before .before .before .before .in-text .ensures) (c .before .before .before .if1 .left),
+      le-leb 1 (c .before .before .before .before .before .before .before .args .n .len) (c .before .if2 .left),
+      ← c .wide .ensures,
+    )
 
 pub name-ok-spec : {M : Type 1} → statement M
 name-ok-spec = tie.close (tie.spec in-text-requires returns returns-2 wide-requires returns-3)
