@@ -132,3 +132,10 @@ unfolding unify
 depth-enough e {ns} ok p q hp hq f h =
     unify-depth e (length ns) f (length ns) ns p q [] (record { forest = ok .forest; len = refl; stable = nodes-stable e ok }) hp hq cnil
     (omega (arith, free-nil (length ns))) (free-nil (length ns))
+
+-- the rule without its depth: `unify` is `meet` of the two roots, with itself for the pairs one level down
+pub unify-rule : (e : Env) {ns : List Node} → SoundNodes e ns → (p q : Ty) → p .idx < length ns → q .idx < length ns
+    → unify (e .texts) ns p q
+    ≡ meet (unifyF (e .texts) (length ns) (length ns)) (e .texts) (length ns) (findMut (findMut ns p) q) (find ns p) (find (findMut ns p) q)
+unfolding unifyF
+unify-rule e {ns} ok p q hp hq = sym (depth-enough e ok p q hp hq (suc (length ns)) (omega arith))
