@@ -51,7 +51,7 @@ zeros zero v = refl
 zeros (suc m) zero = refl
 zeros (suc m) (suc v) = zeros m v
 
-blank-long : length {A = ℕ} (replicate MAX-NODES 0) ≡ MAX-NODES
+pub blank-long : length {A = ℕ} (replicate MAX-NODES 0) ≡ MAX-NODES
 blank-long = length-replicate {A = ℕ} MAX-NODES 0
 
 -- climb
@@ -171,80 +171,6 @@ pub counted-all : {roots counts : List ℕ} {n v : ℕ} → Counted roots counts
 counted-all {roots} {counts} {n} {v} w l =
     let e : v ≡ n = omega (arith, w .most) in
     record { each = λ u k. w .each u k ∙ ap (λ (x : ℕ). tallied roots x u) e }
-
--- visit
-
-module _ (g : Graph) (n : ℕ) where
-  pub marked-none : Marked g n (replicate MAX-NODES 0)
-  marked-none = record { long = blank-long; ended = λ v l. absurd (omega (arith, zeros MAX-NODES v)) }
-
-  pub visit-marked : {marks : List ℕ} {depth v m : ℕ} → Marked g n marks → m ≡ getD marks v 0 → (m ≡ 0 → ⊥) → Visited g n depth v marks true
-  visit-marked {v = v} a e z = record {
-    marked = a;
-    passed = λ _. a .ended v (omega arith);
-    failed = λ q. absurd (false≢true (sym q));
-  }
-
-  pub visit-deep : {marks : List ℕ} {depth v : ℕ} → Marked g n marks → depth ≡ 0 → Visited g n depth v marks false
-  visit-deep {v = v} a e = record { marked = a; passed = λ q. absurd (false≢true q); failed = λ _. rw e (ends-none g v) }
-
-  pub visit-failed : {marks : List ℕ} {depth v i k : ℕ} {r : Bool} → (depth ≡ 0 → ⊥) → InRow g v i → k ≡ g .to i → r ≡ false → Visited g n (depth - 1) k marks r → Visited g n depth v marks false
-  visit-failed {depth = depth} {v = v} {i = i} z l e f w =
-      let d : depth ≡ suc (depth - 1) = omega arith in
-      record {
-        marked = w .marked;
-        passed = λ q. absurd (false≢true q);
-        failed = λ _. rw d (ends-not g (depth - 1) v i l (rw (← e) (w .failed f)));
-      }
-
-  -- the walks on from the first places of v's row, those before i, end
-  pub record Passed (v i : ℕ) (marks : List ℕ) : Type 0 where
-    pub low : g .first v ≤ i
-    pub high : i ≤ g .first v + g .deg v
-    pub marked : Marked g n marks
-    pub ended : (j : ℕ) → g .first v ≤ j → j < i → ends g n (g .to j) ≡ true
-
-  pub passed-none : {v : ℕ} {marks : List ℕ} → Marked g n marks → Passed v (g .first v) marks
-  passed-none a = record { low = omega arith; high = omega arith; marked = a; ended = λ j k l. absurd (omega arith) }
-
-  pub passed-more : {depth v i k : ℕ} {marks marks′ : List ℕ} {r : Bool} → Passed v i marks → i < g .first v + g .deg v → k ≡ g .to i → r ≡ true → Visited g n depth k marks′ r → Passed v (i + 1) marks′
-  passed-more {v = v} {i = i} a l e t w = record {
-    low = omega (arith, a .low);
-    high = omega arith;
-    marked = w .marked;
-    ended = λ j m k. below-more (λ x. g .first v ≤ x → ends g n (g .to x) ≡ true) i (λ x y z. a .ended x z y) (λ _. rw (← e) (w .passed t)) j k m;
-  }
-
-  pub visit-passed : {depth v i : ℕ} {marks : List ℕ} → Closed g n → v < n → n ≤ MAX-NODES → Passed v i marks → g .first v + g .deg v ≤ i → Visited g n depth v (set marks v 1) true
-  visit-passed {v = v} {i = i} {marks = marks} c l m a h =
-      let t : ends g n v ≡ true = ends-before g n c v l (λ j r. a .ended j (r .from) (omega (arith, r .below))) in
-      record {
-        marked = record {
-          long = length-set marks v 1 ∙ a .marked .long;
-          ended = stored (λ u x. ends g n u ≡ true) marks v 1 (omega (arith, a .marked .long)) (a .marked .ended) (λ _. t);
-        };
-        passed = λ _. t;
-        failed = λ q. absurd (false≢true (sym q));
-      }
-
--- the root of a child is a node
-pub kids-closed : {ws ks roots : List ℕ} {n : ℕ} → Falls ws ks n roots → Closed (kids ws ks n roots) n
-kids-closed {ks = ks} a = record { inside = λ v i l r. a .rooted .below (kidAt ks i) (a .below v i l r) }
-
-pub visits-on : {ws ks roots marks marks′ : List ℕ} {n v i k : ℕ} → Visits ws ks n roots marks v → Passed (kids ws ks n roots) n v i marks′ → InRow (kids ws ks n roots) v i → k ≡ rootOf roots (kidAt ks i) → Visits ws ks n roots marks′ k
-visits-on {v = v} {i = i} a w r e = record { falls = a .falls; marked = w .marked; node = rw e (kids-closed (a .falls) .inside v i (a .node) r) }
-
--- what the code reads of v's row
-pub in-row : {ws ks roots marks marks′ : List ℕ} {n v i : ℕ} {r : Row} → Visits ws ks n roots marks v → r ≡ rowIn (readAt ws n v) → Passed (kids ws ks n roots) n v i marks′ → i < r .first + r .count → InRow (kids ws ks n roots) v i
-in-row a e w l = record { from = w .low; below = rw (← e) l }
-
-pub row-done : {ws ks roots marks : List ℕ} {n v i : ℕ} {r : Row} → Visits ws ks n roots marks v → r ≡ rowIn (readAt ws n v) → r .first + r .count ≤ i → kids ws ks n roots .first v + kids ws ks n roots .deg v ≤ i
-row-done a e l = rw (← e) l
-
-pub kid-known : {ws ks roots marks : List ℕ} {n v i k : ℕ} → Visits ws ks n roots marks v → InRow (kids ws ks n roots) v i → k ≡ kidAt ks i → (k < MAX-NODES) × (0 < getD roots k 0)
-kid-known {ks = ks} {v = v} {i = i} a r e =
-    let l = a .falls .below v i (a .node) r in
-    rw e (omega (arith, a .falls .rooted .few), a .falls .rooted .known (kidAt ks i) l)
 
 -- sizes_ok: the sizes of the first v nodes fit
 

@@ -3,3 +3,4 @@ pub mod Lists
 pub mod Walks
 pub mod Meets
 pub mod Laws
+pub mod VisitLaws

@@ -3,8 +3,9 @@ use mathlib.Core.Path.{_≡_}
 use mathlib.Core.List.{List}
 use mathlib.Core.Bool.{Bool, true, false}
 use Prim.Native.Nat.{ℕ, _+_, _-_, _≤_, _<_}
+use lib.Dec.{eqb}
 use lib.ListN.{length, getD}
-use Rattle.scope.specs.Base.{all, from}
+use Rattle.scope.specs.Base.{all, count, from}
 use Rattle.scope.specs.Limits.{MAX-NODES}
 use Rattle.scope.specs.Nodes.{Node, Root, Child, at, kidsOf}
 use Rattle.scope.specs.Sound.{inStore}
@@ -82,10 +83,25 @@ pub record Sizes (ws roots : List ℕ) (n : ℕ) : Type 0 where
   pub rooted : Rooted roots n
   pub room : nodeWords n ≤ length ws
 
--- where a mark is not 0, walks end
+-- `visit` marks a node when it comes to it, and again when it is through with its walks
+abbrev pub OPEN : ℕ
+OPEN = 1
+
+abbrev pub DONE : ℕ
+DONE = 2
+
+-- a node that a visit came to and is not through with
+pub record Open (marks : List ℕ) (v : ℕ) : Type 0 where
+  pub begun : 0 < getD marks v 0
+  pub unfinished : getD marks v 0 ≡ DONE → ⊥
+
 pub record Marked (g : Graph) (n : ℕ) (marks : List ℕ) : Type 0 where
   pub long : length marks ≡ MAX-NODES
-  pub ended : (v : ℕ) → 0 < getD marks v 0 → ends g n v ≡ true
+  pub done : (v : ℕ) → getD marks v 0 ≡ DONE → ends g n v ≡ true
+
+-- how many of the first n nodes no visit came to
+abbrev pub fresh : ℕ → List ℕ → ℕ
+fresh n marks = count (λ v. eqb (getD marks v 0) 0) (from 0 n)
 
 -- `visit` and `falls_ok`
 pub record Falls (ws ks : List ℕ) (n : ℕ) (roots : List ℕ) : Type 0 where
@@ -98,7 +114,11 @@ pub record Visits (ws ks : List ℕ) (n : ℕ) (roots marks : List ℕ) (v : ℕ
   pub marked : Marked (kids ws ks n roots) n marks
   pub node : v < n
 
-pub record Visited (g : Graph) (n depth v : ℕ) (marks : List ℕ) (r : Bool) : Type 0 where
+-- marks stay; where the walks from v end, no node is left open; where they do not, neither end those from nodes that were open, or v's are too long
+-- wherever those are
+pub record Visited (g : Graph) (n v : ℕ) (marks₀ marks : List ℕ) (r : Bool) : Type 0 where
   pub marked : Marked g n marks
+  pub stay : (u : ℕ) → 0 < getD marks₀ u 0 → 0 < getD marks u 0
+  pub shut : r ≡ true → (u : ℕ) → Open marks u → Open marks₀ u
   pub passed : r ≡ true → ends g n v ≡ true
-  pub failed : r ≡ false → ends g depth v ≡ false
+  pub failed : r ≡ false → (d : ℕ) → ((u : ℕ) → Open marks₀ u → ends g d u ≡ false) → ends g d v ≡ false

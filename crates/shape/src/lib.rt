@@ -155,36 +155,35 @@ fn sizes_ok(ws: &[u32], n: u32, roots: &Table) -> bool
     true
 }
 
-// Whether every walk from v to the roots of children has at most depth nodes. marks is 1 at each node from which all walks are known to end.
-fn visit(
-    ws: &[u32],
-    ks: &[u32],
-    n: u32,
-    roots: &Table,
-    marks: &mut Table,
-    v: u32,
-    depth: u32,
-) -> bool
+// What a node's mark says: its walks are being looked at, or all end. Other nodes have 0.
+const OPEN: u32 = 1;
+
+const DONE: u32 = 2;
+
+// Whether every walk from v to the roots of children ends. One that comes back to an open node does not.
+fn visit(ws: &[u32], ks: &[u32], n: u32, roots: &Table, marks: &mut Table, v: u32) -> bool
     requires { ⌜ Visits (now ws) (now ks) n (now roots) (now marks) v ⌝ }
-    ensures { λ r. ⌜ Visited (kids (now (ws .entry)) (now (ks .entry)) n (now (roots .entry))) n depth v (now (marks .exit)) r ⌝ }
+    ensures { λ r. ⌜ Visited (kids (now (ws .entry)) (now (ks .entry)) n (now (roots .entry))) n v (now (marks .entry)) (now (marks .exit)) r ⌝ }
 {
-    if at(marks, v) != 0 {
+    let mark = at(marks, v);
+    if mark == DONE {
         return true;
     }
-    if depth == 0 {
+    if mark != 0 {
         return false;
     }
+    marks[v as usize] = OPEN;
     let row = row_of(ws, n, v);
     let mut i = row.first as usize;
     let end = i + row.count as usize;
     while i < end {
         let r = root_of(roots, kid_at(ks, i));
-        if !visit(ws, ks, n, roots, marks, r, depth - 1) {
+        if !visit(ws, ks, n, roots, marks, r) {
             return false;
         }
         i += 1;
     }
-    marks[v as usize] = 1;
+    marks[v as usize] = DONE;
     true
 }
 
@@ -196,7 +195,7 @@ fn falls_ok(ws: &[u32], ks: &[u32], n: u32, roots: &Table) -> bool
     let mut marks: Table = [0u32; 4096];
     let mut v: u32 = 0;
     while v < n {
-        if !visit(ws, ks, n, roots, &mut marks, v, n) {
+        if !visit(ws, ks, n, roots, &mut marks, v) {
             return false;
         }
         v += 1;

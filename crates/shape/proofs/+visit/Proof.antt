@@ -1,9 +1,10 @@
-use mathlib.Core.Path.{_≡_, ap, _∙_}
+use mathlib.Core.Path.{_≡_, sym, ap, _∙_}
 use native.Mathlib.Omega.{arith}
 use borrow.Author.Needs.{needs}
 use borrow.Author.Tests.{not-true, not-false}
 use Rattle.shape.specs.Read.{kids, rootOf}
-use Rattle.shape.proofs.Laws as laws
+use Rattle.shape.specs.Asks.{fresh}
+use Rattle.shape.proofs.VisitLaws as laws
 use Prim.Native.Nat.{ℕ, _-_, _<_}
 use borrow.Fn.Kinds.{In}
 use borrow.Fn.PlainCycle.{Measures, is, falls, and}
@@ -18,7 +19,7 @@ use Rattle.shape.proofs.+visit.{statement}
 use Rattle.shape.proofs.+visit.Tie.{close}
 
 abbrev μ-visit : Measures 4 visit-kinds.ps ℕ
-μ-visit κs a = a .1 .1 .1 .1 .1 .1 .0
+μ-visit κs a = fresh (a .1 .1 .0) (a .1 .1 .1 .1 .0 .now)
 
 abbrev visit-at : ℕ → In 4 visit-kinds.ps
 visit-at t = and 4 visit-kinds.ps (is 4 visit-kinds.ps μ-visit t) visit.Pre
@@ -30,19 +31,25 @@ abbrev visit-claims : ℕ → visit-lts.Claims
 visit-claims t = (at-reads.Asked, at-reads.Learnt, row-of-reads.Asked, row-of-reads.Learnt, kid-at-reads.Asked, kid-at-reads.Learnt, root-of-reads.Asked, root-of-reads.Learnt, visit-below t, visit.Post)
 
 abbrev visit-Inv-loop : visit-lts.InvT-loop
-visit-Inv-loop ws ks n roots marks₀ v depth i₀ end marks i = laws.Passed (kids ws ks n roots) n v i marks
+visit-Inv-loop ws ks n roots marks₀ v mark i₀ end marks i = laws.Passed (kids ws ks n roots) n v i marks₀ marks
 
 abbrev visit-μ-loop : visit-lts.MeasureT-loop
-visit-μ-loop ws ks n roots marks₀ v depth i₀ end marks i = end - i
+visit-μ-loop ws ks n roots marks₀ v mark i₀ end marks i = end - i
 
 visit-at-requires : (t : ℕ) → visit-lts.Need-at-requires (visit-claims t) (visit-at t) visit.Post visit-Inv-loop visit-μ-loop
-visit-at-requires t c κs = omega (arith, c .before .before .before .pre .1 .node, c .before .before .before .pre .1 .falls .rooted .few)
+visit-at-requires t c κs = omega (arith, laws.mark-small (c .before .before .before .pre .1))
 
 visit-returns : (t : ℕ) → visit-lts.Need-returns (visit-claims t) (visit-at t) visit.Post visit-Inv-loop visit-μ-loop
-visit-returns t c = laws.visit-marked _ _ (c .before .before .before .before .before .pre .1 .marked) (c .before .at .ensures) (c .if1 .taken)
+visit-returns t c = laws.visit-done _ _ (c .before .before .before .before .before .pre .1 .marked) (c .before .at .ensures) (c .if1 .taken)
 
 visit-returns-2 : (t : ℕ) → visit-lts.Need-returns-2 (visit-claims t) (visit-at t) visit.Post visit-Inv-loop visit-μ-loop
-visit-returns-2 t c = laws.visit-deep _ _ (c .before .before .before .before .before .before .pre .1 .marked) (c .if2 .taken)
+visit-returns-2 t c = laws.visit-open _ _ (c .before .before .before .before .before .before .pre .1 .marked) (c .before .before .at .ensures) (c .before .if1 .left) (c .if2 .taken)
+
+visit-mul-marks : (t : ℕ) → visit-lts.Need-mul-marks (visit-claims t) (visit-at t) visit.Post visit-Inv-loop visit-μ-loop
+visit-mul-marks t c = omega (arith, laws.mark-small (c .before .before .before .before .before .before .pre .1))
+
+visit-element-write-marks : (t : ℕ) → visit-lts.Need-element-write-marks (visit-claims t) (visit-at t) visit.Post visit-Inv-loop visit-μ-loop
+visit-element-write-marks t c = omega (arith, laws.mark-small (c .before .before .before .before .before .before .pre .1))
 
 visit-row-of-requires : (t : ℕ) → visit-lts.Need-row-of-requires (visit-claims t) (visit-at t) visit.Post visit-Inv-loop visit-μ-loop
 visit-row-of-requires t c κs = c .before .before .before .before .before .before .pre .1 .falls .room
@@ -57,7 +64,7 @@ visit-add-end : (t : ℕ) → visit-lts.Need-add-end (visit-claims t) (visit-at 
 visit-add-end t c = search needs
 
 visit-loop-holds : (t : ℕ) → visit-lts.Need-loop-holds (visit-claims t) (visit-at t) visit.Post visit-Inv-loop visit-μ-loop
-visit-loop-holds t c = rw (c .before .before .row-of .ensures) (laws.passed-none _ _ (c .before .before .before .before .before .before .before .before .before .pre .1 .marked))
+visit-loop-holds t c = rw (c .before .before .row-of .ensures) (laws.passed-none _ _ (omega (arith, laws.mark-small (c .before .before .before .before .before .before .before .before .before .pre .1))) (c .before .before .before .before .before .before .before .before .before .pre .1 .marked))
 
 visit-kid-at-requires : (t : ℕ) → visit-lts.Need-kid-at-requires (visit-claims t) (visit-at t) visit.Post visit-Inv-loop visit-μ-loop
 visit-kid-at-requires t c κs = search needs
@@ -65,14 +72,11 @@ visit-kid-at-requires t c κs = search needs
 visit-root-of-requires : (t : ℕ) → visit-lts.Need-root-of-requires (visit-claims t) (visit-at t) visit.Post visit-Inv-loop visit-μ-loop
 visit-root-of-requires t c κs = laws.kid-known (c .before .before .before .before .before .before .before .before .before .before .before .before .pre .1) (laws.in-row (c .before .before .before .before .before .before .before .before .before .before .before .before .pre .1) (c .before .before .before .before .before .row-of .ensures) (c .before .before .loop .inv) (c .before .loop-test .taken)) (c .kid-at .ensures)
 
-visit-sub-visit : (t : ℕ) → visit-lts.Need-sub-visit (visit-claims t) (visit-at t) visit.Post visit-Inv-loop visit-μ-loop
-visit-sub-visit t c = omega (arith, c .before .before .before .before .before .before .before .before .if2 .left)
-
 visit-visit-requires : (t : ℕ) → visit-lts.Need-visit-requires (visit-claims t) (visit-at t) visit.Post visit-Inv-loop visit-μ-loop
-visit-visit-requires t c κs = (omega (arith, c .before .before .before .before .before .before .before .before .before .before .before .before .before .before .pre .0, c .before .before .before .before .before .before .before .before .if2 .left), laws.visits-on (c .before .before .before .before .before .before .before .before .before .before .before .before .before .before .pre .1) (c .before .before .before .before .loop .inv) (laws.in-row (c .before .before .before .before .before .before .before .before .before .before .before .before .before .before .pre .1) (c .before .before .before .before .before .before .before .row-of .ensures) (c .before .before .before .before .loop .inv) (c .before .before .before .loop-test .taken)) (c .before .root-of .ensures ∙ ap (rootOf (c .before .before .before .before .before .before .before .before .before .before .before .before .before .before .args .roots .now)) (c .before .before .kid-at .ensures)))
+visit-visit-requires t c κs = (omega (arith, c .before .before .before .before .before .before .before .before .before .before .before .before .before .before .pre .0, laws.fresh-less _ _ (c .before .before .before .before .before .before .before .before .before .before .before .before .before .before .pre .1 .marked) (laws.mark-small (c .before .before .before .before .before .before .before .before .before .before .before .before .before .before .pre .1)) (c .before .before .before .before .loop .inv) (c .before .before .before .before .before .before .before .before .before .before .before .before .before .before .pre .1 .node) (sym (c .before .before .before .before .before .before .before .before .before .before .at .ensures) ∙ c .before .before .before .before .before .before .before .before .if2 .left)), laws.visits-on (c .before .before .before .before .before .before .before .before .before .before .before .before .before .before .pre .1) (c .before .before .before .before .loop .inv) (laws.in-row (c .before .before .before .before .before .before .before .before .before .before .before .before .before .before .pre .1) (c .before .before .before .before .before .before .before .row-of .ensures) (c .before .before .before .before .loop .inv) (c .before .before .before .loop-test .taken)) (c .before .root-of .ensures ∙ ap (rootOf (c .before .before .before .before .before .before .before .before .before .before .before .before .before .before .args .roots .now)) (c .before .before .kid-at .ensures)))
 
 visit-returns-3 : (t : ℕ) → visit-lts.Need-returns-3 (visit-claims t) (visit-at t) visit.Post visit-Inv-loop visit-μ-loop
-visit-returns-3 t c = laws.visit-failed _ _ (c .before .before .before .before .before .before .before .before .before .before .if2 .left) (laws.in-row (c .before .before .before .before .before .before .before .before .before .before .before .before .before .before .before .before .pre .1) (c .before .before .before .before .before .before .before .before .before .row-of .ensures) (c .before .before .before .before .before .before .loop .inv) (c .before .before .before .before .before .loop-test .taken)) (c .before .before .before .root-of .ensures ∙ ap (rootOf (c .before .before .before .before .before .before .before .before .before .before .before .before .before .before .before .before .args .roots .now)) (c .before .before .before .before .kid-at .ensures)) (not-true _ (c .if3 .taken)) (c .before .visit .ensures)
+visit-returns-3 t c = laws.visit-failed _ _ (c .before .before .before .before .before .before .before .before .before .before .before .before .before .before .before .before .pre .1 .marked) (laws.mark-small (c .before .before .before .before .before .before .before .before .before .before .before .before .before .before .before .before .pre .1)) (c .before .before .before .before .before .before .loop .inv) (laws.in-row (c .before .before .before .before .before .before .before .before .before .before .before .before .before .before .before .before .pre .1) (c .before .before .before .before .before .before .before .before .before .row-of .ensures) (c .before .before .before .before .before .before .loop .inv) (c .before .before .before .before .before .loop-test .taken)) (c .before .before .before .root-of .ensures ∙ ap (rootOf (c .before .before .before .before .before .before .before .before .before .before .before .before .before .before .before .before .args .roots .now)) (c .before .before .before .before .kid-at .ensures)) (not-true _ (c .if3 .taken)) (c .before .visit .ensures)
 
 visit-add-i : (t : ℕ) → visit-lts.Need-add-i (visit-claims t) (visit-at t) visit.Post visit-Inv-loop visit-μ-loop
 visit-add-i t c = omega arith
@@ -81,16 +85,16 @@ visit-loop-less : (t : ℕ) → visit-lts.Need-loop-less (visit-claims t) (visit
 visit-loop-less t c = omega (arith, c .before .before .before .before .before .loop-test .taken)
 
 visit-loop-again : (t : ℕ) → visit-lts.Need-loop-again (visit-claims t) (visit-at t) visit.Post visit-Inv-loop visit-μ-loop
-visit-loop-again t c = laws.passed-more _ _ (c .before .before .before .before .before .before .loop .inv) (laws.in-row (c .before .before .before .before .before .before .before .before .before .before .before .before .before .before .before .before .pre .1) (c .before .before .before .before .before .before .before .before .before .row-of .ensures) (c .before .before .before .before .before .before .loop .inv) (c .before .before .before .before .before .loop-test .taken) .below) (c .before .before .before .root-of .ensures ∙ ap (rootOf (c .before .before .before .before .before .before .before .before .before .before .before .before .before .before .before .before .args .roots .now)) (c .before .before .before .before .kid-at .ensures)) (not-false _ (c .if3 .left)) (c .before .visit .ensures)
+visit-loop-again t c = laws.passed-more _ _ (c .before .before .before .before .before .before .loop .inv) (c .before .before .before .root-of .ensures ∙ ap (rootOf (c .before .before .before .before .before .before .before .before .before .before .before .before .before .before .before .before .args .roots .now)) (c .before .before .before .before .kid-at .ensures)) (not-false _ (c .if3 .left)) (c .before .visit .ensures)
 
-visit-mul-marks : (t : ℕ) → visit-lts.Need-mul-marks (visit-claims t) (visit-at t) visit.Post visit-Inv-loop visit-μ-loop
-visit-mul-marks t c = omega (arith, c .before .before .before .before .before .before .before .before .before .before .before .pre .1 .node, c .before .before .before .before .before .before .before .before .before .before .before .pre .1 .falls .rooted .few)
+visit-mul-marks-2 : (t : ℕ) → visit-lts.Need-mul-marks-2 (visit-claims t) (visit-at t) visit.Post visit-Inv-loop visit-μ-loop
+visit-mul-marks-2 t c = omega (arith, laws.mark-small (c .before .before .before .before .before .before .before .before .before .before .before .pre .1))
 
-visit-element-write-marks : (t : ℕ) → visit-lts.Need-element-write-marks (visit-claims t) (visit-at t) visit.Post visit-Inv-loop visit-μ-loop
-visit-element-write-marks t c = omega (arith, c .before .before .before .before .before .before .before .before .before .before .before .pre .1 .node, c .before .before .before .before .before .before .before .before .before .before .before .pre .1 .falls .rooted .few)
+visit-element-write-marks-2 : (t : ℕ) → visit-lts.Need-element-write-marks-2 (visit-claims t) (visit-at t) visit.Post visit-Inv-loop visit-μ-loop
+visit-element-write-marks-2 t c = omega (arith, laws.mark-small (c .before .before .before .before .before .before .before .before .before .before .before .pre .1))
 
 visit-returns-4 : (t : ℕ) → visit-lts.Need-returns-4 (visit-claims t) (visit-at t) visit.Post visit-Inv-loop visit-μ-loop
-visit-returns-4 t c = laws.visit-passed _ _ (laws.kids-closed (c .before .before .before .before .before .before .before .before .before .before .before .pre .1 .falls)) (c .before .before .before .before .before .before .before .before .before .before .before .pre .1 .node) (c .before .before .before .before .before .before .before .before .before .before .before .pre .1 .falls .rooted .few) (c .before .loop .inv) (laws.row-done (c .before .before .before .before .before .before .before .before .before .before .before .pre .1) (c .before .before .before .before .row-of .ensures) (c .loop-test .left))
+visit-returns-4 t c = laws.visit-passed _ _ (c .before .before .before .before .before .before .before .before .before .before .before .pre .1 .marked) (laws.mark-small (c .before .before .before .before .before .before .before .before .before .before .before .pre .1)) (c .before .loop .inv) (laws.kids-closed (c .before .before .before .before .before .before .before .before .before .before .before .pre .1 .falls)) (c .before .before .before .before .before .before .before .before .before .before .before .pre .1 .node) (laws.row-done (c .before .before .before .before .before .before .before .before .before .before .before .pre .1) (c .before .before .before .before .row-of .ensures) (c .loop-test .left))
 
 pub +visit-spec : {M : Type 1} → statement M
 +visit-spec = close μ-visit λ t. visit-lts.spec (
@@ -112,6 +116,8 @@ pub +visit-spec : {M : Type 1} → statement M
     (visit-at-requires t)
     (visit-returns t)
     (visit-returns-2 t)
+    (visit-mul-marks t)
+    (visit-element-write-marks t)
     (visit-row-of-requires t)
     (visit-cast-i t)
     (visit-cast-end t)
@@ -119,12 +125,11 @@ pub +visit-spec : {M : Type 1} → statement M
     (visit-loop-holds t)
     (visit-kid-at-requires t)
     (visit-root-of-requires t)
-    (visit-sub-visit t)
     (visit-visit-requires t)
     (visit-returns-3 t)
     (visit-add-i t)
     (visit-loop-less t)
     (visit-loop-again t)
-    (visit-mul-marks t)
-    (visit-element-write-marks t)
+    (visit-mul-marks-2 t)
+    (visit-element-write-marks-2 t)
     (visit-returns-4 t)
