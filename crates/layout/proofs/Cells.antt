@@ -92,7 +92,7 @@ pub record Says (ks : List ℕ) (c : ℕ) (x : Cell) : Type 0 where
   pub fits : nodeFits ks c (nodeOf x) ≡ true
 
 -- the same cell with a tag that is known
-abbrev retag : ℕ → Cell → Cell
+abbrev pub retag : ℕ → Cell → Cell
 retag t x = record {
   tag = t;
   link = x .link;

@@ -227,6 +227,11 @@ pub record Linked (ws : List ℕ) (n : ℕ) : Type 0 where
   pub room : nodeWords n ≤ length ws
   pub bare : (i : ℕ) → i < n → nodeField ws i 0 ≡ CHILD-TAG → isSome (sound.nodeIn (cellAt ws [] i)) ≡ true
 
+-- a node's parent, if it is a child
+abbrev pub parentOf : nodes.Node → Option Ty
+parentOf (nodes.Root st z) = none
+parentOf (nodes.Child t) = some t
+
 -- the children's words agree on the first c children
 pub record Kept (c : ℕ) (ks ks′ : List ℕ) : Type 0 where
   pub same : (i : ℕ) → i < c → slotAt ks′ i ≡ slotAt ks i
