@@ -30,7 +30,7 @@ unfoldable pub planMeans : List ℕ → Texts → Plan → scope.Plan
 planMeans ks x (Answer r) = answers (answerOf r)
 planMeans ks x (Run r) = runPlan (r .inv .0) (kidsFrom ks (r .a) (r .na)) (kidsFrom ks (r .b) (r .nb))
 planMeans ks x (Object r) =
-  objectPlan x (r .inv .0) (namesFrom ks (r .a) (r .na)) (kidsFrom ks (r .a) (r .na)) (namesFrom ks (r .b) (r .nb)) (kidsFrom ks (r .b) (r .nb))
+    objectPlan x (r .inv .0) (namesFrom ks (r .a) (r .na)) (kidsFrom ks (r .a) (r .na)) (namesFrom ks (r .b) (r .nb)) (kidsFrom ks (r .b) (r .nb))
 planMeans ks x (Signature r) = signaturePlan (r .inv .0) (kidsFrom ks (r .a) (r .na)) (kidsFrom ks (r .b) (r .nb))
 
 -- whatever the children are, r says whether two kinds are equal, children apart

@@ -3,7 +3,6 @@
 ghost use mathlib.Core.Path.{_≡_};
 ghost use Rattle.names.specs.Place.{texts};
 ghost use Rattle.plan.specs.Meaning.{SameKinds, crossesKind, Planned};
-
 use kinds::CLOSURE;
 use kinds::DEFAULT;
 use kinds::ERROR;
