@@ -4,3 +4,4 @@ pub mod Cells
 pub mod Laws
 pub mod ChildLaws
 pub mod LinkLaws
+pub mod StoreLaws
