@@ -36,7 +36,7 @@ stateAt ws n i = nodeState (readAt ws n i)
 abbrev pub sizeAt : List ℕ → ℕ → ℕ → ℕ
 sizeAt ws n i = nodeSize (readAt ws n i)
 
--- scope's `turn` and `orState`, of the code's states
+-- scope's `turn`, `orState` and `kept`, of the code's states
 
 abbrev pub turned : Bool → TypeState → TypeState
 turned i (Known j k) = Known (record { 0 = xor i (j .0) }) k
@@ -47,6 +47,10 @@ abbrev pub firstKnown : TypeState → TypeState → TypeState
 firstKnown (Known i k) b = Known i k
 firstKnown (Unknown s) b = b
 firstKnown InferenceFailed b = b
+
+-- the state that a staying root takes, from those that the two types see and its own
+abbrev pub keptOf : Bool → TypeState → TypeState → TypeState → TypeState
+keptOf i sa sb own = turned i (firstKnown sa (firstKnown sb own))
 
 -- n nodes have room in ws, and the sizes of two of them add up to a number of 32 bits; in a sound store all sizes together do
 pub record Adds (ws : List ℕ) (n : ℕ) (a b : Ty) : Type 0 where

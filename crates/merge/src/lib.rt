@@ -5,9 +5,8 @@ ghost use Prim.Native.Nat.{_≤_};
 ghost use lib.ListN.{length};
 ghost use Rattle.scope.specs.Types.{tyOf};
 ghost use Rattle.layout.specs.Words.{nodeWords};
-ghost use Rattle.merge.specs.Meaning.{nodeState, nodeSize, sizeAt, stateAt, turned, firstKnown};
+ghost use Rattle.merge.specs.Meaning.{nodeState, nodeSize, sizeAt, stateAt, turned, firstKnown, keptOf};
 ghost use Rattle.merge.specs.Meaning.{Adds, Joined, Merged, Bound, Settled};
-
 use layout::NONE;
 use layout::TypeNode;
 use layout::TypeState;
@@ -94,17 +93,24 @@ fn first_known(a: TypeState, b: TypeState) -> TypeState
     }
 }
 
+// The state that a staying root takes: the kind of either, as its type sees it, or its own state.
+fn kept(inv: Inverted, sa: TypeState, sb: TypeState, own: TypeState) -> TypeState
+    ensures { λ r. ⌜ r ≡ keptOf (inv .0) sa sb own ⌝ }
+{
+    turn(inv, first_known(sa, first_known(sb, own)))
+}
+
 // "They merge and keep the kind"; "The staying root keeps its own span or failed mark."
 pub fn bind(ws: &mut [u32], n: u32, a: Type, b: Type)
     requires { ⌜ Adds (now ws) n (tyOf (a .0)) (tyOf (b .0)) ⌝ }
     ensures { λ _. ⌜ Bound (now (ws .entry)) (now (ws .exit)) n (tyOf (a .0)) (tyOf (b .0)) ⌝ }
 {
-    let sa = turn(a.inv(), state_at(ws, n, a));
-    let sb = turn(b.inv(), state_at(ws, n, b));
-    let first = first_known(sa, first_known(sb, sa));
-    let second = first_known(sa, first_known(sb, sb));
-    let ka = turn(a.inv(), first);
-    let kb = turn(b.inv(), second);
+    let ia = a.inv();
+    let ib = b.inv();
+    let sa = turn(ia, state_at(ws, n, a));
+    let sb = turn(ib, state_at(ws, n, b));
+    let ka = kept(ia, sa, sb, sa);
+    let kb = kept(ib, sa, sb, sb);
     merge(ws, n, a, b, ka, kb);
 }
 
