@@ -5,11 +5,10 @@ use mathlib.Core.Path.{_≡_, refl, ap, sym, _∙_}
 use mathlib.Core.Bool.{Bool, true, false}
 use mathlib.Core.List.{List}
 use Prim.Native.Nat.{ℕ, _+_, _<_, _≤_}
-use native.Mathlib.Omega.{arith}
 use lib.Dec.{ltb}
-use lib.ListN.{length, drop, set}
+use lib.ListN.{length, set}
 use borrow.Author.Tests.{lt-ltb, le-ltb}
-use Rattle.scope.specs.Base.{pick, xor}
+use Rattle.scope.specs.Base.{xor}
 use Rattle.scope.specs.Types.{Ty, tyOf, flip}
 use Rattle.scope.specs.Nodes as nodes
 use Rattle.scope.specs.Answers as answers
@@ -28,7 +27,7 @@ use Rattle.layout.specs.declared.TypeState.the-variants.{Known, Unknown, Infere
 use Rattle.layout.specs.declared.TypeNode.{TypeNode}
 use Rattle.layout.specs.declared.TypeNode.the-variants.{Root, Child}
 use Rattle.layout.proofs.Laws.{length-put, tail-put, decode-put, clean-put, read-node, read-fits}
-use Rattle.merge.specs.Meaning.{nodeState, nodeSize, stateAt, sizeAt, turned, firstKnown, keptOf, Adds, Joined, Merged, Bound, Settled}
+use Rattle.merge.specs.Meaning.{nodeState, nodeSize, stateAt, sizeAt, turned, firstKnown, keptOf, Joined, Merged, Bound, Settled}
 
 -- states
 

@@ -1,19 +1,19 @@
 -- One law for each way out of `same_kinds`, `crosses` and `plan_of`: what the tests on the way showed gives what scope's definition picks there. A kind's
 -- head says the code's numbers whatever the children are; its names matter for a Key, which has its own, and for an Object, which has its children's.
 -- Assumes nothing.
-use mathlib.Core.Path.{_≡_, refl, ap, sym, _∙_}
-use mathlib.Core.Bool.{Bool, true, false, not, _&&_, _||_, and-true, and-false, or-true}
+use mathlib.Core.Path.{_≡_, refl, sym, _∙_}
+use mathlib.Core.Bool.{Bool, true, false, not, _||_, and-true, and-false, or-true}
 use mathlib.Core.List.{List, []}
-use mathlib.Core.Option.{Option, none, some}
+use mathlib.Core.Option.{none, some}
 use Prim.Native.Nat.{ℕ}
 use lib.Dec.{eqb}
 use borrow.Author.Tests.{eq-eqb, ne-eqb, eqb-true, not-true, not-false}
 use Rattle.scope.specs.Base.{pick}
 use Rattle.scope.specs.Names.{Texts, name, bytes, bytesOr, eqBytes}
 use Rattle.scope.specs.Kinds.{KEY, OBJECT, CLOSURE, ERROR, DEFAULT, rowOf, rows, dualBy, selfDual}
-use Rattle.scope.specs.Unify.{firstName, sameHead, kidsPlan, objectPlan, signaturePlan, runPlan}
+use Rattle.scope.specs.Unify.{firstName, sameHead, kidsPlan}
 use Rattle.scope.specs.Unify as scope
-use Rattle.scope.specs.Sound.{nameIn, namesIn}
+use Rattle.scope.specs.Sound.{namesIn}
 use Rattle.types.specs.declared.Inverted.{Inverted}
 use Rattle.types.specs.declared.UnifyResult.the-variants.{Failure, Indeterminate}
 use Rattle.layout.proofs.Lists.{and-left}

@@ -1,7 +1,7 @@
 -- What the code's plan means, with the children's words ks: scope's plan.
 use mathlib.Core.Path.{_≡_}
 use mathlib.Core.List.{List, map}
-use mathlib.Core.Bool.{Bool, not, _&&_, _||_}
+use mathlib.Core.Bool.{Bool, not, _&&_}
 use mathlib.Core.Option.{Option}
 use Prim.Native.Nat.{ℕ}
 use lib.Dec.{eqb}
@@ -15,7 +15,6 @@ use Rattle.types.specs.Answers.{answerOf}
 use Rattle.layout.specs.Words.{slots}
 use Rattle.layout.specs.Meaning.{kindMeans}
 use Rattle.layout.specs.declared.Kind.{Kind}
-use Rattle.plan.specs.declared.Runs.{Runs}
 use Rattle.plan.specs.declared.Plan.{Plan}
 use Rattle.plan.specs.declared.Plan.the-variants.{Answer, Run, Object, Signature}
 

@@ -37,7 +37,14 @@ same-length c = search needs
 
 returns : tie.Need-returns
 returns c =
-    bind-law _ _ _ _ _ _ _ _ _ _ _ _ _ (c .before .before .before .before .before .before .before .before .before .before .before .before .before .inv .ensures) (c .before .before .before .before .before .before .before .before .before .before .before .before .inv2 .ensures) (c .before .before .before .before .before .before .before .before .before .before .state-at .ensures) (c .before .before .before .before .before .before .before .state-at2 .ensures) (c .before .before .before .before .before .before .before .before .before .turn .ensures) (c .before .before .before .before .before .before .turn2 .ensures) (c .before .before .before .before .before .kept .ensures) (c .before .before .before .before .kept2 .ensures) (c .before .before .merge .ensures)
+    bind-law _ _ _ _ _ _ _ _ _ _ _ _ _
+    (c .before .before .before .before .before .before .before .before .before .before .before .before .before .inv .ensures)
+    (c .before .before .before .before .before .before .before .before .before .before .before .before .inv2 .ensures)
+    (c .before .before .before .before .before .before .before .before .before .before .state-at .ensures)
+    (c .before .before .before .before .before .before .before .state-at2 .ensures)
+    (c .before .before .before .before .before .before .before .before .before .turn .ensures)
+    (c .before .before .before .before .before .before .turn2 .ensures) (c .before .before .before .before .before .kept .ensures)
+    (c .before .before .before .before .kept2 .ensures) (c .before .before .merge .ensures)
 
 pub bind-spec : {M : Type 1} → statement M
 bind-spec =

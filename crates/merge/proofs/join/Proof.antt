@@ -37,8 +37,13 @@ same-length c = search needs
 
 returns : tie.Need-returns
 returns c =
-    join-law _ _ _ _ _ _ _ _ _ _ _ _ _ (c .before .before .before .before .before .before .before .before .before .before .before .before .before .before .before .before .before .pre .room)
-    (c .before .before .before .before .before .before .before .before .before .before .before .before .before .before .size-at .ensures) (c .before .before .before .before .before .before .before .before .before .before .before .before .size-at2 .ensures) (c .before .before .before .before .before .before .before .before .before .before .before .inv .ensures) (c .before .before .before .before .before .before .before .before .before .before .invert-if .ensures) (c .before .before .before .before .before .before .before .before .idx .ensures) (c .before .before .before .idx2 .ensures)
+    join-law _ _ _ _ _ _ _ _ _ _ _ _ _
+    (c .before .before .before .before .before .before .before .before .before .before .before .before .before .before .before .before .before .pre .room)
+    (c .before .before .before .before .before .before .before .before .before .before .before .before .before .before .size-at .ensures)
+    (c .before .before .before .before .before .before .before .before .before .before .before .before .size-at2 .ensures)
+    (c .before .before .before .before .before .before .before .before .before .before .before .inv .ensures)
+    (c .before .before .before .before .before .before .before .before .before .before .invert-if .ensures)
+    (c .before .before .before .before .before .before .before .before .idx .ensures) (c .before .before .before .idx2 .ensures)
     (c .before .before .before .before .before .before .before .put-node .ensures) (c .before .before .put-node2 .ensures)
 
 pub join-spec : {M : Type 1} → statement M

@@ -21,13 +21,17 @@ same-length : tie.Need-same-length
 same-length c = search needs
 
 returns : tie.Need-returns
-returns c = merge-first _ _ _ _ _ _ _ _ _ (c .before .before .before .before .before .before .before .size-at .ensures) (c .before .before .before .before .before .size-at2 .ensures) (c .before .before .before .before .if1 .taken) (c .before .before .join .ensures)
+returns c =
+    merge-first _ _ _ _ _ _ _ _ _ (c .before .before .before .before .before .before .before .size-at .ensures)
+    (c .before .before .before .before .before .size-at2 .ensures) (c .before .before .before .before .if1 .taken) (c .before .before .join .ensures)
 
 same-length-2 : tie.Need-same-length-2
 same-length-2 c = search needs
 
 returns-2 : tie.Need-returns-2
-returns-2 c = merge-second _ _ _ _ _ _ _ _ _ (c .before .before .before .before .before .before .before .size-at .ensures) (c .before .before .before .before .before .size-at2 .ensures) (c .before .before .before .before .if1 .left) (c .before .before .join2 .ensures)
+returns-2 c =
+    merge-second _ _ _ _ _ _ _ _ _ (c .before .before .before .before .before .before .before .size-at .ensures)
+    (c .before .before .before .before .before .size-at2 .ensures) (c .before .before .before .before .if1 .left) (c .before .before .join2 .ensures)
 
 pub merge-spec : {M : Type 1} → statement M
 merge-spec =

@@ -28,7 +28,10 @@ same-length : tie.Need-same-length
 same-length c = search needs
 
 returns : tie.Need-returns
-returns c = settle-merges _ _ _ _ _ _ _ _ (c .before .before .before .before .before .before .before .before .enum-told .given .1) (c .before .before .before .before .before .before .state-at .ensures) (c .before .before .before .before .state-at2 .ensures) (c .before .before .merge .ensures)
+returns c =
+    settle-merges _ _ _ _ _ _ _ _ (c .before .before .before .before .before .before .before .before .enum-told .given .1)
+    (c .before .before .before .before .before .before .state-at .ensures) (c .before .before .before .before .state-at2 .ensures)
+    (c .before .before .merge .ensures)
 
 returns-2 : tie.Need-returns-2
 returns-2 c = settle-stays _ _ _ _ _ _ (c .enum-told2 .given .1) refl

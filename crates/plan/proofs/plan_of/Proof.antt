@@ -23,18 +23,26 @@ same-kinds-requires : tie.Need-same-kinds-requires
 same-kinds-requires c κs = search needs
 
 returns-3 : tie.Need-returns-3
-returns-3 c = plan-unequal _ _ _ _ (c .before .before .before .before .if1 .left) (c .before .before .if2 .left) (c .before .same-kinds .result) (c .before .same-kinds .ensures) (c .if3 .taken)
+returns-3 c =
+    plan-unequal _ _ _ _ (c .before .before .before .before .if1 .left) (c .before .before .if2 .left) (c .before .same-kinds .result)
+    (c .before .same-kinds .ensures) (c .if3 .taken)
 
 crosses-requires : tie.Need-crosses-requires
 crosses-requires c κs = search needs
 
 returns-4 : tie.Need-returns-4
 returns-4 c =
-    plan-crossed _ _ _ _ (c .before .before .before .before .before .before .before .if1 .left) (c .before .before .before .before .before .if2 .left) (c .before .before .before .before .same-kinds .result) (c .before .crosses .result) (c .before .before .before .before .same-kinds .ensures) (c .before .before .if4 .taken) (c .before .crosses .ensures) (c .if5 .taken)
+    plan-crossed _ _ _ _ (c .before .before .before .before .before .before .before .if1 .left) (c .before .before .before .before .before .if2 .left)
+    (c .before .before .before .before .same-kinds .result) (c .before .crosses .result) (c .before .before .before .before .same-kinds .ensures)
+    (c .before .before .if4 .taken) (c .before .crosses .ensures) (c .if5 .taken)
 
 -- what holds past the test of inversions
 met : (c : lts.Joined4 (same-kinds-reads.Asked, same-kinds-reads.Learnt, crosses-reads.Asked, crosses-reads.Learnt) reads.Pre reads.Post)
-    → Meets (texts (now (c .before .before .before .before .before .before .before .before .before .args .rule)) (now (c .before .before .before .before .before .before .before .before .before .args .text))) (c .before .before .before .before .before .before .before .before .before .args .k) (c .before .before .before .before .before .before .before .before .before .args .m) (c .before .before .before .before .before .before .before .before .before .args .inv .0)
+    → Meets
+    (texts (now (c .before .before .before .before .before .before .before .before .before .args .rule)) (now (c .before .before .before .before .before .before .before .before .before .args .text)))
+    (c .before .before .before .before .before .before .before .before .before .args .k)
+    (c .before .before .before .before .before .before .before .before .before .args .m)
+    (c .before .before .before .before .before .before .before .before .before .args .inv .0)
 met c =
     let a = c .before .before .before .before .before .before .before .before .before .args in
     meets _ _ _ _ (c .before .before .before .before .before .if1 .left) (c .before .before .before .if2 .left)
