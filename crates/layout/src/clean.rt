@@ -1,0 +1,184 @@
+// The words' part of refusal 8, "a field outside its values, or unused numbers not zero": whether three slices, of any lengths, hold a store at all.
+// Whether that store is sound is not asked here.
+//
+// A node's run of children is read once for that node. Runs may overlap, so the time is that of the nodes and of all their runs. A run is at most
+// the children made, 16,384 where the capacities are within their limits; soundness allows a kind 255.
+ghost use mathlib.Core.Path.{_≡_};
+ghost use mathlib.Core.Bool.{true};
+ghost use Prim.Native.Nat.{_+_, _*_, _≤_};
+ghost use lib.ListN.{length};
+ghost use Rattle.scope.specs.Base.{all, from};
+ghost use Rattle.scope.specs.Sound.{zeros, namesClean};
+ghost use Rattle.layout.specs.Words.{NODE-WORDS, KNOWN-TAG, nodeWords, between, longEnough, unusedZero, nodeClean, clean};
+ghost use Rattle.layout.specs.Meaning.{cellMeans};
+ghost use Rattle.layout.specs.Clean.{nameOk, slotsOk, namedOf, plainClean, knownClean};
+use crate::CHILD_TAG;
+use crate::Cell;
+use crate::FAILED_TAG;
+use crate::HEAD_WORDS;
+use crate::KNOWN_TAG;
+use crate::NODE_WORDS;
+use crate::UNKNOWN_TAG;
+use crate::child_at;
+use crate::child_words;
+use crate::node_words;
+use crate::read_cell;
+use crate::read_header;
+use kinds::CHILD_NAMES;
+use kinds::OWN_NAME;
+use kinds::PARAMETER_NAMES;
+use kinds::row_of;
+
+// A node's words from here on are its kind's, but for the link.
+const KIND_WORDS: usize = 3;
+
+// The slices are as long as the capacities need.
+fn long_enough(h: &[u32], ws: &[u32], ks: &[u32]) -> bool
+    ensures { λ r. ⌜ r ≡ longEnough (now (h .entry)) (now (ws .entry)) (now (ks .entry)) ⌝ }
+{
+    let x = read_header(h);
+    HEAD_WORDS <= h.len()
+        && x.nodes <= x.node_room
+        && x.children <= x.child_room
+        && node_words(x.node_room) <= ws.len()
+        && child_words(x.child_room) <= ks.len()
+}
+
+// The words from a to e are zero.
+fn zero_between(s: &[u32], a: usize, e: usize) -> bool
+    requires { ⌜ e ≤ length (now s) ⌝ }
+    ensures { λ r. ⌜ r ≡ zeros (between (now (s .entry)) a e) ⌝ }
+{
+    let mut i = a;
+    while i < e {
+        if s[i] != 0 {
+            return false;
+        }
+        i += 1;
+    }
+    true
+}
+
+// The slots from the counts to the capacities.
+fn unused_zero(h: &[u32], ws: &[u32], ks: &[u32]) -> bool
+    requires { ⌜ longEnough (now h) (now ws) (now ks) ≡ true ⌝ }
+    ensures { λ r. ⌜ r ≡ unusedZero (now (h .entry)) (now (ws .entry)) (now (ks .entry)) ⌝ }
+{
+    let x = read_header(h);
+    zero_between(ws, node_words(x.nodes), node_words(x.node_room))
+        && zero_between(ks, child_words(x.children), child_words(x.child_room))
+}
+
+// A name's words: a name where there may be one, or zeros.
+fn name_ok(named: bool, text: u32, start: u32, len: u32) -> bool
+    ensures { λ r. ⌜ r ≡ nameOk named text start len ⌝ }
+{
+    if len != 0 {
+        return named;
+    }
+    text == 0 && start == 0
+}
+
+// The names of the children a to e.
+fn slots_ok(named: bool, ks: &[u32], a: usize, e: usize) -> bool
+    ensures { λ r. ⌜ r ≡ slotsOk named (now (ks .entry)) a e ⌝ }
+{
+    let mut i = a;
+    while i < e {
+        let s = child_at(ks, i);
+        if !name_ok(named, s.text, s.start, s.len) {
+            return false;
+        }
+        i += 1;
+    }
+    true
+}
+
+// How many of n children, from the first on, may have a name; a Closure's return has none.
+fn named_of(names: u8, n: usize) -> usize
+    ensures { λ r. ⌜ r ≡ namedOf names n ⌝ }
+{
+    if names == CHILD_NAMES {
+        return n;
+    }
+    if names == PARAMETER_NAMES && n != 0 {
+        return n - 1;
+    }
+    0
+}
+
+// The kind's own name and its children's, by its row.
+fn names_clean(ks: &[u32], x: Cell) -> bool
+    requires { ⌜ x .tag ≡ KNOWN-TAG ⌝ }
+    ensures { λ r. ⌜ r ≡ namesClean (cellMeans (now (ks .entry)) x) ⌝ }
+{
+    let names = row_of(x.code).names;
+    let first = x.link as usize;
+    let n = x.count as usize;
+    let named = first + named_of(names, n);
+    name_ok(names == OWN_NAME, x.text, x.start, x.len)
+        && slots_ok(true, ks, first, named)
+        && slots_ok(false, ks, named, first + n)
+}
+
+// A Known node, with c children made.
+fn known_clean(ks: &[u32], c: u32, x: Cell) -> bool
+    requires { ⌜ x .tag ≡ KNOWN-TAG ⌝ }
+    ensures { λ r. ⌜ r ≡ knownClean (now (ks .entry)) c x ⌝ }
+{
+    x.link as u64 + x.count as u64 <= c as u64
+        && x.inv <= 1
+        && x.dual <= 1
+        && names_clean(ks, x)
+}
+
+// The first three words of any other node.
+fn plain_clean(x: Cell) -> bool
+    ensures { λ r. ⌜ r ≡ plainClean x ⌝ }
+{
+    if x.tag == CHILD_TAG {
+        return x.size == 0;
+    }
+    if x.tag == UNKNOWN_TAG {
+        return true;
+    }
+    x.tag == FAILED_TAG && x.link == 0
+}
+
+fn node_clean(ws: &[u32], ks: &[u32], c: u32, i: u32) -> bool
+    requires { ⌜ i * NODE-WORDS + NODE-WORDS ≤ length (now ws) ⌝ }
+    ensures { λ r. ⌜ r ≡ nodeClean (now (ws .entry)) (now (ks .entry)) c i ⌝ }
+{
+    let a = i as usize * NODE_WORDS;
+    let e = a + NODE_WORDS;
+    let x = read_cell(&ws[a..e]);
+    if x.tag == KNOWN_TAG {
+        return known_clean(ks, c, x);
+    }
+    plain_clean(x) && zero_between(ws, a + KIND_WORDS, e)
+}
+
+fn nodes_clean(ws: &[u32], ks: &[u32], n: u32, c: u32) -> bool
+    requires { ⌜ nodeWords n ≤ length (now ws) ⌝ }
+    ensures { λ r. ⌜ r ≡ all (nodeClean (now (ws .entry)) (now (ks .entry)) c) (from 0 n) ⌝ }
+{
+    let mut i: u32 = 0;
+    while i < n {
+        if !node_clean(ws, ks, c, i) {
+            return false;
+        }
+        i += 1;
+    }
+    true
+}
+
+// No field is outside its values, no unused number is not zero, and no slice is too short.
+pub fn clean(h: &[u32], ws: &[u32], ks: &[u32]) -> bool
+    ensures { λ r. ⌜ r ≡ clean (now (h .entry)) (now (ws .entry)) (now (ks .entry)) ⌝ }
+{
+    if !long_enough(h, ws, ks) {
+        return false;
+    }
+    let x = read_header(h);
+    unused_zero(h, ws, ks) && nodes_clean(ws, ks, x.nodes, x.children)
+}
