@@ -1,3 +1,4 @@
 -- The laws that belong to no one function
 pub mod Lists
 pub mod Cells
+pub mod CleanLaws

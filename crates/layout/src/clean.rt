@@ -29,7 +29,7 @@ use kinds::OWN_NAME;
 use kinds::PARAMETER_NAMES;
 use kinds::row_of;
 
-// A node's words from here on are its kind's, but for the link.
+// A node's words from here on are its kind's.
 const KIND_WORDS: usize = 3;
 
 // The slices are as long as the capacities need.
@@ -37,11 +37,16 @@ fn long_enough(h: &[u32], ws: &[u32], ks: &[u32]) -> bool
     ensures { λ r. ⌜ r ≡ longEnough (now (h .entry)) (now (ws .entry)) (now (ks .entry)) ⌝ }
 {
     let x = read_header(h);
-    HEAD_WORDS <= h.len()
-        && x.nodes <= x.node_room
-        && x.children <= x.child_room
-        && node_words(x.node_room) <= ws.len()
-        && child_words(x.child_room) <= ks.len()
+    if h.len() < HEAD_WORDS {
+        return false;
+    }
+    if x.node_room < x.nodes {
+        return false;
+    }
+    if x.child_room < x.children {
+        return false;
+    }
+    node_words(x.node_room) <= ws.len() && child_words(x.child_room) <= ks.len()
 }
 
 // The words from a to e are zero.
@@ -101,10 +106,14 @@ fn named_of(names: u8, n: usize) -> usize
     if names == CHILD_NAMES {
         return n;
     }
-    if names == PARAMETER_NAMES && n != 0 {
-        return n - 1;
+    if n == 0 {
+        return 0;
     }
-    0
+    if names == PARAMETER_NAMES {
+        n - 1
+    } else {
+        0
+    }
 }
 
 // The kind's own name and its children's, by its row.
@@ -116,9 +125,10 @@ fn names_clean(ks: &[u32], x: Cell) -> bool
     let first = x.link as usize;
     let n = x.count as usize;
     let named = first + named_of(names, n);
-    name_ok(names == OWN_NAME, x.text, x.start, x.len)
-        && slots_ok(true, ks, first, named)
-        && slots_ok(false, ks, named, first + n)
+    if !name_ok(names == OWN_NAME, x.text, x.start, x.len) {
+        return false;
+    }
+    slots_ok(true, ks, first, named) && slots_ok(false, ks, named, first + n)
 }
 
 // A Known node, with c children made.
@@ -126,10 +136,13 @@ fn known_clean(ks: &[u32], c: u32, x: Cell) -> bool
     requires { ⌜ x .tag ≡ KNOWN-TAG ⌝ }
     ensures { λ r. ⌜ r ≡ knownClean (now (ks .entry)) c x ⌝ }
 {
-    x.link as u64 + x.count as u64 <= c as u64
-        && x.inv <= 1
-        && x.dual <= 1
-        && names_clean(ks, x)
+    if (c as u64) < x.link as u64 + x.count as u64 {
+        return false;
+    }
+    if 1 < x.inv {
+        return false;
+    }
+    x.dual <= 1 && names_clean(ks, x)
 }
 
 // The first three words of any other node.
@@ -151,11 +164,12 @@ fn node_clean(ws: &[u32], ks: &[u32], c: u32, i: u32) -> bool
 {
     let a = i as usize * NODE_WORDS;
     let e = a + NODE_WORDS;
-    let x = read_cell(&ws[a..e]);
+    let s = &ws[a..e];
+    let x = read_cell(s);
     if x.tag == KNOWN_TAG {
         return known_clean(ks, c, x);
     }
-    plain_clean(x) && zero_between(ws, a + KIND_WORDS, e)
+    plain_clean(x) && zero_between(s, KIND_WORDS, NODE_WORDS)
 }
 
 fn nodes_clean(ws: &[u32], ks: &[u32], n: u32, c: u32) -> bool
