@@ -9,11 +9,12 @@ use Prim.Native.Nat.{ℕ, zero, suc, _+_, _*_, _-_, _≤_, _<_}
 use native.Mathlib.Omega.{arith}
 use native.Mathlib.Numerals.{add-one}
 use native.Mathlib.Decide.{decLe}
-use lib.Dec.{eqb, leb}
+use lib.Dec.{eqb, leb, leb·zero}
 use lib.ListN.{length, getD, take, drop}
 use lib.Seq.{drop-cons}
 use borrow.Author.Tests.{eqb-true, eq-eqb, ne-eqb, leb-true}
 use Rattle.scope.specs.Base.{pick, all, from, isSome}
+use Rattle.scope.specs.Types.{tyOf}
 use Rattle.scope.specs.Nodes as nodes
 use Rattle.scope.specs.Kinds.{rowOf, OWN-NAME, CHILD-NAMES, PARAMETER-NAMES}
 use Rattle.scope.specs.Sound.{Slot, zeros, nameClean, slotClean, slotBare, front, last, namesClean, kindBare, nodeIn}
@@ -23,7 +24,7 @@ use Rattle.layout.specs.declared.Cell.{Cell}
 use Rattle.layout.specs.declared.Header.{Header}
 use Rattle.layout.specs.Clean.{nameOk, slotOk, slotsOk, namedOf, plainClean, knownClean}
 use Rattle.layout.proofs.Lists.{and-left, and-right, length-from}
-use Rattle.layout.proofs.Cells.{cellClean}
+use Rattle.layout.proofs.Cells.{cellFirst, cellClean}
 
 -- a test over the numbers from a to e
 
@@ -185,17 +186,47 @@ some-pick : (b : Bool) (v : nodes.Node) → isSome (pick b (some v) none) ≡ b
 some-pick true v = refl
 some-pick false v = refl
 
+plain-by : (o p q s l b : Bool) (u v w : nodes.Node)
+    → isSome (pick o (pick (s && b) (some u) none) (pick p (pick b (some v) none) (pick q (pick (l && b) (some w) none) none)))
+    ≡ (pick o s (pick p true (pick q l false)) && b)
+plain-by true p q s l b u v w = some-pick (s && b) u
+plain-by false true q s l b u v w = some-pick b v
+plain-by false false true s l b u v w = some-pick (l && b) w
+plain-by false false false s l b u v w = refl
+
 module _ (ks : List ℕ) (c : ℕ) (x : Cell) where
   pub cell-known : x .tag ≡ KNOWN-TAG → cellClean ks c x ≡ knownClean ks c x
   cell-known e = rw (eq-eqb (x .tag) KNOWN-TAG e)
 
+  known-some : x .tag ≡ KNOWN-TAG
+      → isSome (nodeIn (cellMeans ks x)) ≡ (leb (x .inv) 1 && (leb (x .dual) 1 && namesClean (cellMeans ks x)))
+  unfolding nodeIn
+  known-some e = rw e (some-pick _ _)
+
   pub known-parts : x .tag ≡ KNOWN-TAG → knownClean ks c x
       ≡ (leb (x .link + x .count) c && (leb (x .inv) 1 && (leb (x .dual) 1 && namesClean (cellMeans ks x))))
-  known-parts e = ?
+  known-parts e = ap (λ (b : Bool). leb (x .link + x .count) c && b) (known-some e)
+
+  plain-some : (x .tag ≡ KNOWN-TAG → ⊥) → isSome (nodeIn (cellMeans ks x)) ≡ (plainClean x && kindBare (cellMeans ks x))
+  unfolding nodeIn
+  plain-some e =
+      rw (ne-eqb (x .tag) KNOWN-TAG e)
+      (plain-by (eqb (x .tag) 0) (eqb (x .tag) 1) (eqb (x .tag) 2) (eqb (x .size) 0) (eqb (x .link) 0) _
+      (nodes.Child (tyOf (x .link))) (nodes.Root (nodes.Unknown (x .link)) (x .size)) (nodes.Root nodes.InferenceFailed (x .size)))
+
+  -- a node without a kind has no children, so it asks for no room
+  bare-room : (b : Bool) → eqb (x .count) 0 ≡ b → eqb (x .tag) KNOWN-TAG ≡ false
+      → (leb (cellFirst x + x .count) c && (plainClean x && kindBare (cellMeans ks x))) ≡ (plainClean x && kindBare (cellMeans ks x))
+  bare-room true q e = let z : x .count ≡ 0 = eqb-true (x .count) 0 q in rw (e, z, leb·zero)
+  bare-room false q e = rw (length-from (slotAt ks) (cellFirst x) (x .count), q, and-false, and-false, and-false, and-false)
 
   pub cell-plain : (x .tag ≡ KNOWN-TAG → ⊥) → cellClean ks c x ≡ (plainClean x && kindBare (cellMeans ks x))
-  cell-plain e = ?
+  cell-plain e =
+      ap (λ (b : Bool). leb (cellFirst x + x .count) c && b) (plain-some e)
+      ∙ bare-room (eqb (x .count) 0) refl (ne-eqb (x .tag) KNOWN-TAG e)
 
 -- a node without a kind has zeros for its kind's words
 pub bare-words : (ks s : List ℕ) → length s ≡ NODE-WORDS → zeros (between s 3 NODE-WORDS) ≡ kindBare (cellMeans ks (cellIn s))
-bare-words ks s h = zeros-run s 3 12 (omega arith) ∙ ?
+bare-words ks s h =
+    zeros-run s 3 12 (omega arith)
+    ∙ rw (length-from (slotAt ks) (cellFirst (cellIn s)) (getD s 11 0)) (simp (and-assoc, and-true))
