@@ -10,8 +10,8 @@ use native.Mathlib.Omega.{arith}
 use native.Mathlib.Numerals.{add-one}
 use native.Mathlib.Decide.{decLe}
 use lib.Dec.{eqb, leb, leb·zero}
-use lib.ListN.{length, getD, take, drop}
-use lib.Seq.{drop-cons}
+use lib.ListN.{length, getD, take, drop, length-drop}
+use lib.Seq.{drop-cons, length-take-le}
 use borrow.Author.Tests.{eqb-true, eq-eqb, ne-eqb, leb-true}
 use Rattle.scope.specs.Base.{pick, all, from, isSome}
 use Rattle.scope.specs.Types.{tyOf}
@@ -19,12 +19,12 @@ use Rattle.scope.specs.Nodes as nodes
 use Rattle.scope.specs.Kinds.{rowOf, OWN-NAME, CHILD-NAMES, PARAMETER-NAMES}
 use Rattle.scope.specs.Sound.{Slot, zeros, nameClean, slotClean, slotBare, front, last, namesClean, kindBare, nodeIn}
 use Rattle.layout.specs.Words.{HEAD-WORDS, NODE-WORDS, KNOWN-TAG, nodeWords, childWords, between, slotAt, slots, longEnough, unusedZero, nodeClean, nodesClean}
-use Rattle.layout.specs.Meaning.{headerIn, cellIn, cellMeans}
+use Rattle.layout.specs.Meaning.{headerIn, cellIn, cellWords, cellMeans}
 use Rattle.layout.specs.declared.Cell.{Cell}
 use Rattle.layout.specs.declared.Header.{Header}
 use Rattle.layout.specs.Clean.{nameOk, slotOk, slotsOk, namedOf, plainClean, knownClean}
 use Rattle.layout.proofs.Lists.{and-left, and-right, length-from}
-use Rattle.layout.proofs.Cells.{cellFirst, cellClean}
+use Rattle.layout.proofs.Cells.{cellFirst, cellClean, clean-words}
 
 -- a test over the numbers from a to e
 
@@ -37,6 +37,9 @@ module _ (p : ℕ → Bool) (a e : ℕ) where
 
   pub run-end : e ≤ a → all p (from a (e - a)) ≡ true
   run-end h = let z : e - a ≡ 0 = omega arith in rw z
+
+pub run-whole : (p : ℕ → Bool) (n : ℕ) → all p (from 0 n) ≡ all p (from 0 (n - 0))
+run-whole p n = let z : n - 0 ≡ n = omega arith in rw z
 
 -- the same of what stands there
 
@@ -169,13 +172,11 @@ module _ (ks : List ℕ) where
   names-by d x i n l true q = rw (eqb-true d OWN-NAME q)
   names-by d x i n l false q = rw q
 
-  pub names-run : (x : Cell) → x .tag ≡ KNOWN-TAG
-      → namesClean (cellMeans ks x)
-      ≡ (nameOk (eqb (rowOf (x .code) .names) OWN-NAME) (x .text) (x .start) (x .len)
-      && kidsRun (x .link) (x .count) (namedOf (rowOf (x .code) .names) (x .count)))
-  names-run x e =
-      let d : ℕ = rowOf (x .code) .names in
-      rw (eq-eqb (x .tag) KNOWN-TAG e)
+  -- d is what names the kind's row has, and m how many children may have one
+  pub names-run : (x : Cell) (d m : ℕ) → x .tag ≡ KNOWN-TAG → d ≡ rowOf (x .code) .names → m ≡ namedOf d (x .count)
+      → namesClean (cellMeans ks x) ≡ (nameOk (eqb d OWN-NAME) (x .text) (x .start) (x .len) && kidsRun (x .link) (x .count) m)
+  names-run x d m t e f =
+      rw (eq-eqb (x .tag) KNOWN-TAG t, ← e, f)
       (names-by d (x .text) (x .start) (x .len) (slots ks (x .link) (x .count)) (eqb d OWN-NAME) refl
       ∙ ap (λ (b : Bool). nameOk (eqb d OWN-NAME) (x .text) (x .start) (x .len) && b)
       (kids-ok (eqb d CHILD-NAMES) (eqb d PARAMETER-NAMES) (x .link) (x .count)))
@@ -230,3 +231,19 @@ pub bare-words : (ks s : List ℕ) → length s ≡ NODE-WORDS → zeros (betwee
 bare-words ks s h =
     zeros-run s 3 12 (omega arith)
     ∙ rw (length-from (slotAt ks) (cellFirst (cellIn s)) (getD s 11 0)) (simp (and-assoc, and-true))
+
+-- node i, whose cell is x
+
+module _ (ws ks : List ℕ) (c i : ℕ) (x : Cell) (e : x ≡ cellIn (cellWords ws i)) where
+  node-cell : nodeClean ws ks c i ≡ cellClean ks c x
+  node-cell = clean-words ws ks c i ∙ ap (cellClean ks c) (sym e)
+
+  pub node-known : x .tag ≡ KNOWN-TAG → nodeClean ws ks c i ≡ knownClean ks c x
+  node-known t = node-cell ∙ cell-known ks c x t
+
+  pub node-plain : i * NODE-WORDS + NODE-WORDS ≤ length ws → (x .tag ≡ KNOWN-TAG → ⊥)
+      → nodeClean ws ks c i ≡ (plainClean x && zeros (between (cellWords ws i) 3 NODE-WORDS))
+  node-plain h t =
+      node-cell ∙ (cell-plain ks c x t
+      ∙ ap (λ (b : Bool). plainClean x && b) (ap (λ y. kindBare (cellMeans ks y)) e
+      ∙ sym (bare-words ks (cellWords ws i) (length-take-le 12 (drop (i * 12) ws) (simp length-drop (omega arith))))))

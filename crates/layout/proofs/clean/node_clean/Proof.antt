@@ -1,3 +1,9 @@
+-- `layout::clean::node_clean` meets its contract. The part that is read is the node's; a Known node is tested by `known_clean`, and any other node has
+-- zeros for its kind's words.
+-- Assumes nothing.
+use mathlib.Core.Path.{sym, _∙_}
+use native.Mathlib.Nat.{add-sub-cancel-left}
+use Rattle.layout.proofs.CleanLaws.{node-known, node-plain}
 use borrow.Author.Needs.{needs}
 use Rattle.layout.proofs.clean.node_clean.Statement.{statement}
 use Rattle.layout.proofs.clean.node_clean.Tie as tie
@@ -24,15 +30,15 @@ read-cell-requires c κs = search needs
 known-clean-requires : tie.Need-known-clean-requires
 known-clean-requires c κs = search needs
 returns : tie.Need-returns
-returns c = ?
+returns c = c .known-clean .ensures ∙ sym (node-known (c .before .before .before .before .before .before .before .args .ws .now) (c .before .before .before .before .before .before .before .args .ks .now) (c .before .before .before .before .before .before .before .args .c) (c .before .before .before .before .before .before .before .args .i) (c .before .before .before .read-cell .result) (rw add-sub-cancel-left at (c .before .before .before .read-cell .ensures)) (c .before .if1 .taken))
 plain-clean-requires : tie.Need-plain-clean-requires
 plain-clean-requires c κs = search needs
 zero-between-requires : tie.Need-zero-between-requires
 zero-between-requires c κs = search needs
 returns-2 : tie.Need-returns-2
-returns-2 c = ?
+returns-2 c = rw (node-plain (c .before .before .before .before .before .before .before .before .before .args .ws .now) (c .before .before .before .before .before .before .before .before .before .args .ks .now) (c .before .before .before .before .before .before .before .before .before .args .c) (c .before .before .before .before .before .before .before .before .before .args .i) (c .before .before .before .before .before .read-cell .result) (rw add-sub-cancel-left at (c .before .before .before .before .before .read-cell .ensures)) (c .before .before .before .before .before .before .before .before .before .pre) (c .before .before .before .if1 .left), ← (c .before .before .plain-clean .ensures), c .before .if2 .taken) (rw add-sub-cancel-left at (c .zero-between .ensures))
 returns-3 : tie.Need-returns-3
-returns-3 c = ?
+returns-3 c = rw (node-plain (c .before .before .before .before .before .before .before .before .args .ws .now) (c .before .before .before .before .before .before .before .before .args .ks .now) (c .before .before .before .before .before .before .before .before .args .c) (c .before .before .before .before .before .before .before .before .args .i) (c .before .before .before .before .read-cell .result) (rw add-sub-cancel-left at (c .before .before .before .before .read-cell .ensures)) (c .before .before .before .before .before .before .before .before .pre) (c .before .before .if1 .left), ← (c .before .plain-clean .ensures), c .if2 .left)
 
 pub node-clean-spec : {M : Type 1} → statement M
 node-clean-spec =

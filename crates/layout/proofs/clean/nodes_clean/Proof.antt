@@ -1,3 +1,12 @@
+-- `layout::clean::nodes_clean` meets its contract. The invariant: the nodes from i on are clean just where all are. The measure is what is left.
+-- Assumes nothing.
+use mathlib.Core.Path.{_≡_, sym, _∙_}
+use Prim.Native.Nat.{_-_}
+use borrow.Author.Needs.{needs}
+use borrow.Author.Tests.{not-true, not-false}
+use Rattle.scope.specs.Base.{all, from}
+use Rattle.layout.specs.Words.{nodeClean}
+use Rattle.layout.proofs.CleanLaws.{run-whole, run-step, run-stop, run-end}
 use Rattle.layout.proofs.clean.nodes_clean.Statement.{statement}
 use Rattle.layout.proofs.clean.nodes_clean.Tie as tie
 use Rattle.layout.proofs.clean.nodes_clean.Reads as reads
@@ -5,24 +14,24 @@ use Rattle.layout.proofs.clean.nodes_clean.Lts as lts
 use Rattle.layout.proofs.clean.node_clean.Reads as node-clean-reads
 
 abbrev Inv-loop : tie.InvT-loop
-Inv-loop ws ks n c i₀ i = ?
+Inv-loop ws ks n c i₀ i = all (nodeClean ws ks c) (from 0 n) ≡ all (nodeClean ws ks c) (from i (n - i))
 
 abbrev μ-loop : tie.MeasureT-loop
-μ-loop ws ks n c i₀ i = ?
+μ-loop ws ks n c i₀ i = n - i
 loop-holds : tie.Need-loop-holds Inv-loop μ-loop
-loop-holds c = ?
+loop-holds c = run-whole (nodeClean (c .before .before .args .ws .now) (c .before .before .args .ks .now) (c .before .before .args .c)) (c .before .before .args .n)
 node-clean-requires : tie.Need-node-clean-requires Inv-loop μ-loop
-node-clean-requires c κs = ?
+node-clean-requires c κs = search needs
 returns : tie.Need-returns Inv-loop μ-loop
-returns c = ?
+returns c = sym (c .before .before .before .loop .inv ∙ run-stop (nodeClean (c .before .before .before .before .before .before .args .ws .now) (c .before .before .before .before .before .before .args .ks .now) (c .before .before .before .before .before .before .args .c)) (c .before .before .before .loop .i) (c .before .before .before .before .before .before .args .n) (c .before .before .loop-test .taken) (sym (c .before .node-clean .ensures) ∙ not-true _ (c .if1 .taken)))
 add-i : tie.Need-add-i Inv-loop μ-loop
-add-i c = ?
+add-i c = search needs
 loop-less : tie.Need-loop-less Inv-loop μ-loop
-loop-less c = ?
+loop-less c = search needs
 loop-again : tie.Need-loop-again Inv-loop μ-loop
-loop-again c = ?
+loop-again c = c .before .before .before .loop .inv ∙ run-step (nodeClean (c .before .before .before .before .before .before .args .ws .now) (c .before .before .before .before .before .before .args .ks .now) (c .before .before .before .before .before .before .args .c)) (c .before .before .before .loop .i) (c .before .before .before .before .before .before .args .n) (c .before .before .loop-test .taken) (sym (c .before .node-clean .ensures) ∙ not-false _ (c .if1 .left))
 returns-2 : tie.Need-returns-2 Inv-loop μ-loop
-returns-2 c = ?
+returns-2 c = sym (c .before .loop .inv ∙ run-end (nodeClean (c .before .before .before .before .args .ws .now) (c .before .before .before .before .args .ks .now) (c .before .before .before .before .args .c)) (c .before .loop .i) (c .before .before .before .before .args .n) (c .loop-test .left))
 
 pub nodes-clean-spec : {M : Type 1} → statement M
 nodes-clean-spec =

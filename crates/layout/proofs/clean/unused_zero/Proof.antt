@@ -1,3 +1,7 @@
+-- `layout::clean::unused_zero` meets its contract: the two parts that are tested are those of `unusedZero`, and slices that are long enough have them.
+-- Assumes nothing.
+use native.Mathlib.Omega.{arith}
+use Rattle.layout.proofs.CleanLaws.{unused-by, room}
 use borrow.Author.Needs.{needs}
 use Rattle.layout.proofs.clean.unused_zero.Statement.{statement}
 use Rattle.layout.proofs.clean.unused_zero.Tie as tie
@@ -14,17 +18,17 @@ node-words-requires c κs = search needs
 node-words-requires-2 : tie.Need-node-words-requires-2
 node-words-requires-2 c κs = search needs
 zero-between-requires : tie.Need-zero-between-requires
-zero-between-requires c κs = ?
+zero-between-requires c κs = omega (arith, c .node-words2 .ensures, room (c .before .before .before .before .before .before .args .h .now) (c .before .before .before .before .before .before .args .ws .now) (c .before .before .before .before .before .before .args .ks .now) (c .before .before .read-header .result) (c .before .before .read-header .ensures) (c .before .before .before .before .before .before .pre) .node-room)
 child-words-requires : tie.Need-child-words-requires
 child-words-requires c κs = search needs
 child-words-requires-2 : tie.Need-child-words-requires-2
 child-words-requires-2 c κs = search needs
 zero-between-requires-2 : tie.Need-zero-between-requires-2
-zero-between-requires-2 c κs = ?
+zero-between-requires-2 c κs = omega (arith, c .child-words2 .ensures, room (c .before .before .before .before .before .before .before .before .before .before .args .h .now) (c .before .before .before .before .before .before .before .before .before .before .args .ws .now) (c .before .before .before .before .before .before .before .before .before .before .args .ks .now) (c .before .before .before .before .before .before .read-header .result) (c .before .before .before .before .before .before .read-header .ensures) (c .before .before .before .before .before .before .before .before .before .before .pre) .child-room)
 returns : tie.Need-returns
-returns c = ?
+returns c = rw (unused-by (c .before .before .before .before .before .before .before .before .before .before .before .args .h .now) (c .before .before .before .before .before .before .before .before .before .before .before .args .ws .now) (c .before .before .before .before .before .before .before .before .before .before .before .args .ks .now) (c .before .before .before .before .before .before .before .read-header .result) (c .before .before .before .before .before .before .before .read-header .ensures), ← (c .before .before .before .before .before .before .node-words .ensures), ← (c .before .before .before .before .before .node-words2 .ensures), ← (c .before .before .child-words .ensures), ← (c .before .child-words2 .ensures), ← (c .before .before .before .before .zero-between .ensures), c .before .before .before .if1 .taken, c .zero-between2 .ensures)
 returns-2 : tie.Need-returns-2
-returns-2 c = ?
+returns-2 c = rw (unused-by (c .before .before .before .before .before .before .before .before .args .h .now) (c .before .before .before .before .before .before .before .before .args .ws .now) (c .before .before .before .before .before .before .before .before .args .ks .now) (c .before .before .before .before .read-header .result) (c .before .before .before .before .read-header .ensures), ← (c .before .before .before .node-words .ensures), ← (c .before .before .node-words2 .ensures), ← (c .before .zero-between .ensures), c .if1 .left)
 
 pub unused-zero-spec : {M : Type 1} → statement M
 unused-zero-spec =
