@@ -18,7 +18,7 @@ use Rattle.scope.specs.Types.{tyOf}
 use Rattle.scope.specs.Nodes as nodes
 use Rattle.scope.specs.Kinds.{rowOf, OWN-NAME, CHILD-NAMES, PARAMETER-NAMES}
 use Rattle.scope.specs.Sound.{Slot, zeros, nameClean, slotClean, slotBare, front, last, namesClean, kindBare, nodeIn}
-use Rattle.layout.specs.Words.{HEAD-WORDS, NODE-WORDS, KNOWN-TAG, nodeWords, childWords, between, slotAt, slots, longEnough, unusedZero, nodeClean, nodesClean}
+use Rattle.layout.specs.Words.{HEAD-WORDS, NODE-WORDS, KNOWN-TAG, nodeWords, childWords, between, slotAt, slots, longEnough, unusedZero, nodeClean, nodesClean, clean}
 use Rattle.layout.specs.Meaning.{headerIn, cellIn, cellWords, cellMeans}
 use Rattle.layout.specs.declared.Cell.{Cell}
 use Rattle.layout.specs.declared.Header.{Header}
@@ -247,3 +247,7 @@ module _ (ws ks : List ℕ) (c i : ℕ) (x : Cell) (e : x ≡ cellIn (cellWords 
       node-cell ∙ (cell-plain ks c x t
       ∙ ap (λ (b : Bool). plainClean x && b) (ap (λ y. kindBare (cellMeans ks y)) e
       ∙ sym (bare-words ks (cellWords ws i) (length-take-le 12 (drop (i * 12) ws) (simp length-drop (omega arith))))))
+
+pub clean-parts : (h ws ks : List ℕ) → clean h ws ks ≡ (longEnough h ws ks && (unusedZero h ws ks && nodesClean h ws ks))
+unfolding clean
+clean-parts h ws ks = refl
