@@ -109,11 +109,7 @@ fn named_of(names: u8, n: usize) -> usize
     if n == 0 {
         return 0;
     }
-    if names == PARAMETER_NAMES {
-        n - 1
-    } else {
-        0
-    }
+    if names == PARAMETER_NAMES { n - 1 } else { 0 }
 }
 
 // The kind's own name and its children's, by its row.

@@ -9,14 +9,19 @@ use Rattle.layout.proofs.clean.named_of.Statement.{statement}
 use Rattle.layout.proofs.clean.named_of.Tie as tie
 use Rattle.layout.proofs.clean.named_of.Reads as reads
 use Rattle.layout.proofs.clean.named_of.Lts as lts
+
 returns : tie.Need-returns
 returns c = rw (eq-eqb _ _ (c .if1 .taken))
+
 returns-2 : tie.Need-returns-2
 returns-2 c = omega (arith, named-most (c .before .before .args .names) (c .before .before .args .n), c .if2 .taken)
+
 sub-result : tie.Need-sub-result
 sub-result c = search needs
+
 returns-3 : tie.Need-returns-3
 returns-3 c = rw (ne-eqb _ _ (c .before .before .if1 .left), eq-eqb _ _ (c .if3 .taken))
+
 returns-4 : tie.Need-returns-4
 returns-4 c = rw (ne-eqb _ _ (c .before .before .if1 .left), ne-eqb _ _ (c .if3 .left))
 

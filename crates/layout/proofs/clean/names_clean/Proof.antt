@@ -14,28 +14,40 @@ use Rattle.kinds.proofs.row_of.Reads as row-of-reads
 use Rattle.layout.proofs.clean.name_ok.Reads as name-ok-reads
 use Rattle.layout.proofs.clean.named_of.Reads as named-of-reads
 use Rattle.layout.proofs.clean.slots_ok.Reads as slots-ok-reads
+
 row-of-requires : tie.Need-row-of-requires
 row-of-requires c κs = search needs
+
 cast-first : tie.Need-cast-first
 cast-first c = search needs
+
 cast-n : tie.Need-cast-n
 cast-n c = search needs
+
 named-of-requires : tie.Need-named-of-requires
 named-of-requires c κs = search needs
+
 add-named : tie.Need-add-named
 add-named c = omega (arith, c .named-of .ensures, named-most (c .before .before .before .row-of .result .names) (c .before .before .before .before .before .args .x .count))
+
 name-ok-requires : tie.Need-name-ok-requires
 name-ok-requires c κs = search needs
+
 returns : tie.Need-returns
 returns c = rw (names-run (c .before .before .before .before .before .before .before .args .ks .now) (c .before .before .before .before .before .before .before .args .x) (c .before .before .before .before .before .row-of .result .names) (c .before .before .named-of .result) (c .before .before .before .before .before .before .before .pre) (ap (λ r. r .names) (c .before .before .before .before .before .row-of .ensures)) (c .before .before .named-of .ensures), ← (c .before .name-ok .ensures), not-true (c .before .name-ok .result) (c .if1 .taken))
+
 slots-ok-requires : tie.Need-slots-ok-requires
 slots-ok-requires c κs = search needs
+
 add-slots-ok : tie.Need-add-slots-ok
 add-slots-ok c = omega (arith, c .before .before .before .before .before .before .struct-known)
+
 slots-ok-requires-2 : tie.Need-slots-ok-requires-2
 slots-ok-requires-2 c κs = search needs
+
 returns-2 : tie.Need-returns-2
 returns-2 c = rw (names-run (c .before .before .before .before .before .before .before .before .before .before .args .ks .now) (c .before .before .before .before .before .before .before .before .before .before .args .x) (c .before .before .before .before .before .before .before .before .row-of .result .names) (c .before .before .before .before .before .named-of .result) (c .before .before .before .before .before .before .before .before .before .before .pre) (ap (λ r. r .names) (c .before .before .before .before .before .before .before .before .row-of .ensures)) (c .before .before .before .before .before .named-of .ensures), ← (c .before .before .before .before .name-ok .ensures), not-false (c .before .before .before .before .name-ok .result) (c .before .before .before .if1 .left), ← (c .before .before .slots-ok .ensures), c .before .if2 .taken, c .slots-ok2 .ensures)
+
 returns-3 : tie.Need-returns-3
 returns-3 c = rw (names-run (c .before .before .before .before .before .before .before .before .before .args .ks .now) (c .before .before .before .before .before .before .before .before .before .args .x) (c .before .before .before .before .before .before .before .row-of .result .names) (c .before .before .before .before .named-of .result) (c .before .before .before .before .before .before .before .before .before .pre) (ap (λ r. r .names) (c .before .before .before .before .before .before .before .row-of .ensures)) (c .before .before .before .before .named-of .ensures), ← (c .before .before .before .name-ok .ensures), not-false (c .before .before .before .name-ok .result) (c .before .before .if1 .left), ← (c .before .slots-ok .ensures), c .if2 .left)
 

@@ -13,30 +13,43 @@ use Rattle.layout.proofs.clean.known_clean.Reads as known-clean-reads
 use Rattle.layout.proofs.clean.plain_clean.Reads as plain-clean-reads
 use Rattle.layout.proofs.clean.zero_between.Reads as zero-between-reads
 use Rattle.layout.proofs.read_cell.Reads as read-cell-reads
+
 mul-a : tie.Need-mul-a
 mul-a c = search needs
+
 add-e : tie.Need-add-e
 add-e c = search needs
+
 mul-s : tie.Need-mul-s
 mul-s c = search needs
+
 sub-s : tie.Need-sub-s
 sub-s c = search needs
+
 part-s-start : tie.Need-part-s-start
 part-s-start c = search needs
+
 part-s-end : tie.Need-part-s-end
 part-s-end c = search needs
+
 read-cell-requires : tie.Need-read-cell-requires
 read-cell-requires c κs = search needs
+
 known-clean-requires : tie.Need-known-clean-requires
 known-clean-requires c κs = search needs
+
 returns : tie.Need-returns
 returns c = c .known-clean .ensures ∙ sym (node-known (c .before .before .before .before .before .before .before .args .ws .now) (c .before .before .before .before .before .before .before .args .ks .now) (c .before .before .before .before .before .before .before .args .c) (c .before .before .before .before .before .before .before .args .i) (c .before .before .before .read-cell .result) (rw add-sub-cancel-left at (c .before .before .before .read-cell .ensures)) (c .before .if1 .taken))
+
 plain-clean-requires : tie.Need-plain-clean-requires
 plain-clean-requires c κs = search needs
+
 zero-between-requires : tie.Need-zero-between-requires
 zero-between-requires c κs = search needs
+
 returns-2 : tie.Need-returns-2
 returns-2 c = rw (node-plain (c .before .before .before .before .before .before .before .before .before .args .ws .now) (c .before .before .before .before .before .before .before .before .before .args .ks .now) (c .before .before .before .before .before .before .before .before .before .args .c) (c .before .before .before .before .before .before .before .before .before .args .i) (c .before .before .before .before .before .read-cell .result) (rw add-sub-cancel-left at (c .before .before .before .before .before .read-cell .ensures)) (c .before .before .before .before .before .before .before .before .before .pre) (c .before .before .before .if1 .left), ← (c .before .before .plain-clean .ensures), c .before .if2 .taken) (rw add-sub-cancel-left at (c .zero-between .ensures))
+
 returns-3 : tie.Need-returns-3
 returns-3 c = rw (node-plain (c .before .before .before .before .before .before .before .before .args .ws .now) (c .before .before .before .before .before .before .before .before .args .ks .now) (c .before .before .before .before .before .before .before .before .args .c) (c .before .before .before .before .before .before .before .before .args .i) (c .before .before .before .before .read-cell .result) (rw add-sub-cancel-left at (c .before .before .before .before .read-cell .ensures)) (c .before .before .before .before .before .before .before .before .pre) (c .before .before .if1 .left), ← (c .before .plain-clean .ensures), c .if2 .left)
 

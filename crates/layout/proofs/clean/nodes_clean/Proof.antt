@@ -18,18 +18,25 @@ Inv-loop ws ks n c i₀ i = all (nodeClean ws ks c) (from 0 n) ≡ all (nodeClea
 
 abbrev μ-loop : tie.MeasureT-loop
 μ-loop ws ks n c i₀ i = n - i
+
 loop-holds : tie.Need-loop-holds Inv-loop μ-loop
 loop-holds c = run-whole (nodeClean (c .before .before .args .ws .now) (c .before .before .args .ks .now) (c .before .before .args .c)) (c .before .before .args .n)
+
 node-clean-requires : tie.Need-node-clean-requires Inv-loop μ-loop
 node-clean-requires c κs = search needs
+
 returns : tie.Need-returns Inv-loop μ-loop
 returns c = sym (c .before .before .before .loop .inv ∙ run-stop (nodeClean (c .before .before .before .before .before .before .args .ws .now) (c .before .before .before .before .before .before .args .ks .now) (c .before .before .before .before .before .before .args .c)) (c .before .before .before .loop .i) (c .before .before .before .before .before .before .args .n) (c .before .before .loop-test .taken) (sym (c .before .node-clean .ensures) ∙ not-true _ (c .if1 .taken)))
+
 add-i : tie.Need-add-i Inv-loop μ-loop
 add-i c = search needs
+
 loop-less : tie.Need-loop-less Inv-loop μ-loop
 loop-less c = search needs
+
 loop-again : tie.Need-loop-again Inv-loop μ-loop
 loop-again c = c .before .before .before .loop .inv ∙ run-step (nodeClean (c .before .before .before .before .before .before .args .ws .now) (c .before .before .before .before .before .before .args .ks .now) (c .before .before .before .before .before .before .args .c)) (c .before .before .before .loop .i) (c .before .before .before .before .before .before .args .n) (c .before .before .loop-test .taken) (sym (c .before .node-clean .ensures) ∙ not-false _ (c .if1 .left))
+
 returns-2 : tie.Need-returns-2 Inv-loop μ-loop
 returns-2 c = sym (c .before .loop .inv ∙ run-end (nodeClean (c .before .before .before .before .args .ws .now) (c .before .before .before .before .args .ks .now) (c .before .before .before .before .args .c)) (c .before .loop .i) (c .before .before .before .before .args .n) (c .loop-test .left))
 

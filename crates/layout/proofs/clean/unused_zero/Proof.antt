@@ -11,22 +11,31 @@ use Rattle.layout.proofs.child_words.Reads as child-words-reads
 use Rattle.layout.proofs.clean.zero_between.Reads as zero-between-reads
 use Rattle.layout.proofs.node_words.Reads as node-words-reads
 use Rattle.layout.proofs.read_header.Reads as read-header-reads
+
 read-header-requires : tie.Need-read-header-requires
 read-header-requires c κs = search needs
+
 node-words-requires : tie.Need-node-words-requires
 node-words-requires c κs = search needs
+
 node-words-requires-2 : tie.Need-node-words-requires-2
 node-words-requires-2 c κs = search needs
+
 zero-between-requires : tie.Need-zero-between-requires
 zero-between-requires c κs = omega (arith, c .node-words2 .ensures, room (c .before .before .before .before .before .before .args .h .now) (c .before .before .before .before .before .before .args .ws .now) (c .before .before .before .before .before .before .args .ks .now) (c .before .before .read-header .result) (c .before .before .read-header .ensures) (c .before .before .before .before .before .before .pre) .node-room)
+
 child-words-requires : tie.Need-child-words-requires
 child-words-requires c κs = search needs
+
 child-words-requires-2 : tie.Need-child-words-requires-2
 child-words-requires-2 c κs = search needs
+
 zero-between-requires-2 : tie.Need-zero-between-requires-2
 zero-between-requires-2 c κs = omega (arith, c .child-words2 .ensures, room (c .before .before .before .before .before .before .before .before .before .before .args .h .now) (c .before .before .before .before .before .before .before .before .before .before .args .ws .now) (c .before .before .before .before .before .before .before .before .before .before .args .ks .now) (c .before .before .before .before .before .before .read-header .result) (c .before .before .before .before .before .before .read-header .ensures) (c .before .before .before .before .before .before .before .before .before .before .pre) .child-room)
+
 returns : tie.Need-returns
 returns c = rw (unused-by (c .before .before .before .before .before .before .before .before .before .before .before .args .h .now) (c .before .before .before .before .before .before .before .before .before .before .before .args .ws .now) (c .before .before .before .before .before .before .before .before .before .before .before .args .ks .now) (c .before .before .before .before .before .before .before .read-header .result) (c .before .before .before .before .before .before .before .read-header .ensures), ← (c .before .before .before .before .before .before .node-words .ensures), ← (c .before .before .before .before .before .node-words2 .ensures), ← (c .before .before .child-words .ensures), ← (c .before .child-words2 .ensures), ← (c .before .before .before .before .zero-between .ensures), c .before .before .before .if1 .taken, c .zero-between2 .ensures)
+
 returns-2 : tie.Need-returns-2
 returns-2 c = rw (unused-by (c .before .before .before .before .before .before .before .before .args .h .now) (c .before .before .before .before .before .before .before .before .args .ws .now) (c .before .before .before .before .before .before .before .before .args .ks .now) (c .before .before .before .before .read-header .result) (c .before .before .before .before .read-header .ensures), ← (c .before .before .before .node-words .ensures), ← (c .before .before .node-words2 .ensures), ← (c .before .zero-between .ensures), c .if1 .left)
 
