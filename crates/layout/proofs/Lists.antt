@@ -7,11 +7,11 @@ use mathlib.Core.List.{List, [], _∷_, _++_, append-nil, map, map-append}
 use Prim.Native.Nat.{ℕ, zero, suc, _+_, _-_, _<_, _≤_}
 use native.Mathlib.Omega.{arith}
 use native.Mathlib.Nat.{add-sub-cancel-left}
-use lib.ListN.{length, getD, take, drop, take-append-drop, length-drop, drop-of-length-le, length-map}
+use lib.ListN.{length, getD, take, drop, take-append-drop, length-drop, drop-of-length-le}
 use lib.Seq.{sets, sets-eq, take-at, drop-at, take-append-le, drop-append-le, drop-drop, length-take-le}
-use borrow.Rule.Slice.PartMut.{midOf, putMid, drop-put}
-use lib.Dec.{eqb}
-use borrow.Author.Tests.{eqb-true, eqb-false}
+use borrow.Rule.Slice.PartMut.{midOf, putMid, drop-put, same-len-mid}
+use lib.Dec.{eqb, ltb}
+use borrow.Author.Tests.{eqb-true, eqb-false, ltb-true, ltb-false}
 use Rattle.scope.specs.Base.{all, from}
 
 -- tests
@@ -65,6 +65,19 @@ part-cut b j a xs ys g h =
 pub part-before : (b j a : ℕ) (xs ys : List ℕ) → b + j ≤ a → a ≤ length xs → midOf b j (take a xs ++ ys) ≡ midOf b j xs
 part-before b j a xs ys g h =
     part-cut b j a xs ys g h ∙ (sym (part-cut b j a xs (drop a xs) g h) ∙ ap (midOf b j) (take-append-drop a xs))
+
+-- another part of the same length
+part-by : (t : Bool) (a k b : ℕ) (xs ys : List ℕ) → length ys ≡ k → a + k ≤ length xs → (b < a → b + k ≤ a) → (a ≤ b → a + k ≤ b) → ltb b a ≡ t
+    → midOf b k (putMid a k xs ys) ≡ midOf b k xs
+part-by true a k b xs ys e h p q t = part-before b k a xs (ys ++ drop k (drop a xs)) (p (ltb-true b a t)) (omega arith)
+part-by false a k b xs ys e h p q t = part-after a k xs ys e h b k (q (ltb-false b a t))
+
+pub part-other : (a k b : ℕ) (xs ys : List ℕ) → length ys ≡ k → a + k ≤ length xs → (b < a → b + k ≤ a) → (a ≤ b → a + k ≤ b)
+    → midOf b k (putMid a k xs ys) ≡ midOf b k xs
+part-other a k b xs ys e h p q = part-by (ltb b a) a k b xs ys e h p q refl
+
+pub length-part : (a k : ℕ) (xs ys : List ℕ) → length ys ≡ k → a + k ≤ length xs → length (putMid a k xs ys) ≡ length xs
+length-part a k xs ys e h = same-len-mid a k xs ys (e ∙ sym (length-take-le k (drop a xs) (simp length-drop (omega arith))))
 
 -- over the numbers from i on
 

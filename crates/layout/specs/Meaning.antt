@@ -7,14 +7,14 @@ use mathlib.Core.Option.{Option, none, some}
 use Prim.Native.Nat.{ℕ, _+_, _*_, _/_, _%_, _≤_, _<_}
 use lib.Dec.{eqb, ltb, leb}
 use lib.ListN.{length, getD, take, drop}
-use Rattle.scope.specs.Base.{pick, isSome, orElse}
+use Rattle.scope.specs.Base.{pick, isSome}
 use Rattle.scope.specs.Limits.{NONE}
 use Rattle.scope.specs.Types.{Ty, tyOf}
 use Rattle.scope.specs.Nodes as nodes
 use Rattle.scope.specs.Sound as sound
 use Rattle.types.specs.declared.«Type».{«Type»}
 use Rattle.types.specs.declared.Inverted.{Inverted}
-use Rattle.layout.specs.Words.{NODE-WORDS, CHILD-WORDS, HEAD-WORDS, KNOWN-TAG, nodeWords, nodeField, slotAt, slots, cellAt, nodeClean, nodesMade, childrenMade, nodeRoom, childRoom, reports}
+use Rattle.layout.specs.Words.{NODE-WORDS, CHILD-WORDS, HEAD-WORDS, KNOWN-TAG, nodeWords, childWords, nodeField, slotAt, slots, cellAt, nodeClean, nodesMade, childrenMade, nodeRoom, childRoom, reports}
 use Rattle.layout.specs.declared.Kind.{Kind}
 use Rattle.layout.specs.declared.Cell.{Cell}
 use Rattle.layout.specs.declared.Slot.{Slot}
@@ -227,6 +227,11 @@ pub record Linked (ws : List ℕ) (n : ℕ) : Type 0 where
   pub room : nodeWords n ≤ length ws
   pub bare : (i : ℕ) → i < n → nodeField ws i 0 ≡ CHILD-TAG → isSome (sound.nodeIn (cellAt ws [] i)) ≡ true
 
+-- a node's parent, if it is a child
+abbrev pub parentOf : nodes.Node → Option Ty
+parentOf (nodes.Root st z) = none
+parentOf (nodes.Child t) = some t
+
 -- the children's words agree on the first c children
 pub record Kept (c : ℕ) (ks ks′ : List ℕ) : Type 0 where
   pub same : (i : ℕ) → i < c → slotAt ks′ i ≡ slotAt ks i
@@ -282,3 +287,20 @@ storeMeans x ns = record {
   nil = rememberedMeans (x .nil);
   reports = x .reports;
 }
+
+-- three slices are as long as the counts and capacities in h need
+pub record Lies (h ws ks : List ℕ) : Type 0 where
+  pub head : HEAD-WORDS ≤ length h
+  pub nodes : nodesMade h ≤ nodeRoom h
+  pub children : childrenMade h ≤ childRoom h
+  pub nodeSlots : nodeWords (nodeRoom h) ≤ length ws
+  pub childSlots : childWords (childRoom h) ≤ length ks
+
+-- the store in h′ ws′ ks′ has grown out of the one in h ws ks, and its unused words have not been written
+pub record Grown (h ws ks h′ ws′ ks′ : List ℕ) : Type 0 where
+  pub nodeRooms : nodeRoom h′ ≡ nodeRoom h
+  pub childRooms : childRoom h′ ≡ childRoom h
+  pub nodes : nodesMade h ≤ nodesMade h′
+  pub children : childrenMade h ≤ childrenMade h′
+  pub nodeTail : drop (nodeWords (nodesMade h′)) ws′ ≡ drop (nodeWords (nodesMade h′)) ws
+  pub childTail : drop (childWords (childrenMade h′)) ks′ ≡ drop (childWords (childrenMade h′)) ks

@@ -266,8 +266,8 @@ pub fn node_at(ws: &[u32], n: u32, i: TypeIdx) -> TypeNode
             size: 0,
         };
     }
-    let a = i.0 as usize * NODE_WORDS;
-    let e = a + NODE_WORDS;
+    let e = (i.0 as usize + 1) * NODE_WORDS;
+    let a = e - NODE_WORDS;
     node_of(read_cell(&ws[a..e]))
 }
 
@@ -279,9 +279,9 @@ pub fn put_node(ws: &mut [u32], n: u32, i: TypeIdx, node: TypeNode)
     if n <= i.0 {
         return;
     }
-    let a = i.0 as usize * NODE_WORDS;
-    let e = a + NODE_WORDS;
-    write_cell(&mut ws[a..e], cell_of(node));
+    let end = (i.0 as usize + 1) * NODE_WORDS;
+    let start = end - NODE_WORDS;
+    write_cell(&mut ws[start..end], cell_of(node));
 }
 
 fn read_slot(s: &[u32]) -> Slot
@@ -319,6 +319,13 @@ pub fn child_at(ks: &[u32], i: usize) -> Slot
     }
     let a = i * CHILD_WORDS;
     read_slot(&ks[a..])
+}
+
+// Child j of a kind.
+pub fn child_of(ks: &[u32], k: Kind, j: u32) -> Slot
+    ensures { λ r. ⌜ slotMeans r ≡ slotAt (now (ks .entry)) (k .first + j) ⌝ }
+{
+    child_at(ks, k.first as usize + j as usize)
 }
 
 pub fn put_child(ks: &mut [u32], i: usize, c: Slot)

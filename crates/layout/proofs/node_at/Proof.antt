@@ -1,29 +1,28 @@
 -- `layout::node_at` meets its contract. The part that is read starts at the node and is as long as one; past the nodes the test of readAt fails.
 -- Assumes nothing.
 use mathlib.Core.Path.{ap, _∙_}
-use native.Mathlib.Nat.{add-sub-cancel-left}
 use borrow.Author.Tests.{lt-ltb, le-ltb}
 use Rattle.layout.specs.Meaning.{nodeOf, readAt}
+use Rattle.layout.proofs.Cells.{cell-start, cell-length}
 use borrow.Author.Needs.{needs}
 use Rattle.layout.proofs.node_at.Statement.{statement}
 use Rattle.layout.proofs.node_at.Tie as tie
-use Rattle.layout.proofs.node_at.Reads as reads
-use Rattle.layout.proofs.node_at.Lts as lts
-use Rattle.layout.proofs.node_of.Reads as node-of-reads
-use Rattle.layout.proofs.read_cell.Reads as read-cell-reads
 
 returns : tie.Need-returns
 unfolding readAt
 returns c = rw (le-ltb _ _ (c .if1 .taken))
 
-cast-a : tie.Need-cast-a
-cast-a c = search needs
-
-mul-a : tie.Need-mul-a
-mul-a c = search needs
+cast-e : tie.Need-cast-e
+cast-e c = search needs
 
 add-e : tie.Need-add-e
 add-e c = search needs
+
+mul-e : tie.Need-mul-e
+mul-e c = search needs
+
+sub-a : tie.Need-sub-a
+sub-a c = search needs
 
 mul-read-cell : tie.Need-mul-read-cell
 mul-read-cell c = search needs
@@ -45,16 +44,17 @@ node-of-requires c κs = search needs
 
 returns-2 : tie.Need-returns-2
 unfolding readAt
-returns-2 c = rw (lt-ltb _ _ (c .before .before .before .before .if1 .left)) (c .node-of .ensures ∙ ap nodeOf (rw add-sub-cancel-left at (c .before .read-cell .ensures)))
+returns-2 c = rw (lt-ltb _ _ (c .before .before .before .before .if1 .left)) (c .node-of .ensures ∙ ap nodeOf (rw (cell-length, cell-start) at (c .before .read-cell .ensures)))
 
 pub node-at-spec : {M : Type 1} → statement M
 node-at-spec =
     tie.close
     (tie.spec
     returns
-    cast-a
-    mul-a
+    cast-e
     add-e
+    mul-e
+    sub-a
     mul-read-cell
     sub-read-cell
     part-read-cell-start

@@ -3,10 +3,6 @@
 use borrow.Author.Needs.{needs}
 use Rattle.layout.proofs.read_header.Statement.{statement}
 use Rattle.layout.proofs.read_header.Tie as tie
-use Rattle.layout.proofs.read_header.Reads as reads
-use Rattle.layout.proofs.read_header.Lts as lts
-use Rattle.layout.proofs.remembered_of.Reads as remembered-of-reads
-use Rattle.layout.proofs.word.Reads as word-reads
 
 word-requires : tie.Need-word-requires
 word-requires c κs = search needs

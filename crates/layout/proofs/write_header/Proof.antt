@@ -7,9 +7,6 @@ use Rattle.layout.specs.Meaning.{headerWords, putHeader}
 use borrow.Author.Needs.{needs}
 use Rattle.layout.proofs.write_header.Statement.{statement}
 use Rattle.layout.proofs.write_header.Tie as tie
-use Rattle.layout.proofs.write_header.Reads as reads
-use Rattle.layout.proofs.write_header.Lts as lts
-use Rattle.layout.proofs.remembered_word.Reads as remembered-word-reads
 
 slice-write-h : tie.Need-slice-write-h
 slice-write-h c = search needs
