@@ -12,18 +12,18 @@ use native.Mathlib.Decide.{decLe}
 use lib.Dec.{eqb, leb, leb·zero}
 use lib.ListN.{length, getD, take, drop, length-drop}
 use lib.Seq.{drop-cons, length-take-le}
-use borrow.Author.Tests.{eqb-true, eq-eqb, ne-eqb, leb-true}
+use borrow.Author.Tests.{eqb-true, eq-eqb, ne-eqb}
 use Rattle.scope.specs.Base.{pick, all, from, isSome}
 use Rattle.scope.specs.Types.{tyOf}
 use Rattle.scope.specs.Nodes as nodes
 use Rattle.scope.specs.Kinds.{rowOf, OWN-NAME, CHILD-NAMES, PARAMETER-NAMES}
 use Rattle.scope.specs.Sound.{Slot, zeros, nameClean, slotClean, slotBare, front, last, namesClean, kindBare, nodeIn}
-use Rattle.layout.specs.Words.{HEAD-WORDS, NODE-WORDS, KNOWN-TAG, nodeWords, childWords, between, slotAt, slots, longEnough, unusedZero, nodeClean, nodesClean, clean}
+use Rattle.layout.specs.Words.{HEAD-WORDS, NODE-WORDS, KNOWN-TAG, nodeWords, childWords, between, slotAt, slots, longEnough, unusedZero, nodeClean, nodesClean}
 use Rattle.layout.specs.Meaning.{headerIn, cellIn, cellWords, cellMeans}
 use Rattle.layout.specs.declared.Cell.{Cell}
 use Rattle.layout.specs.declared.Header.{Header}
 use Rattle.layout.specs.Clean.{nameOk, slotOk, slotsOk, namedOf, plainClean, knownClean}
-use Rattle.layout.proofs.Lists.{and-left, and-right, length-from}
+use Rattle.layout.proofs.Lists.{length-from}
 use Rattle.layout.proofs.Cells.{cellFirst, cellClean, clean-words}
 
 -- a test over the numbers from a to e
@@ -107,27 +107,6 @@ module _ (h ws ks : List ℕ) (x : Header) (e : x ≡ headerIn h) where
   pub nodes-by : nodesClean h ws ks ≡ all (nodeClean ws ks (x .children)) (from 0 (x .nodes))
   unfolding nodesClean
   nodes-by = rw e
-
-  -- what slices that are long enough have
-  pub record Room : Type 0 where
-    pub some-nodes : x .nodes ≤ x .«node_room»
-    pub node-room : nodeWords (x .«node_room») ≤ length ws
-    pub child-room : childWords (x .«child_room») ≤ length ks
-
-  pub room : longEnough h ws ks ≡ true → Room
-  room l =
-      let a : Bool = leb HEAD-WORDS (length h) in
-      let b : Bool = leb (x .nodes) (x .«node_room») in
-      let c : Bool = leb (x .children) (x .«child_room») in
-      let d : Bool = leb (nodeWords (x .«node_room»)) (length ws) in
-      let f : Bool = leb (childWords (x .«child_room»)) (length ks) in
-      let g : (b && (c && (d && f))) ≡ true = and-right a (b && (c && (d && f))) (sym long-by ∙ l) in
-      let k : (d && f) ≡ true = and-right c (d && f) (and-right b (c && (d && f)) g) in
-      record {
-        some-nodes = leb-true _ _ (and-left b (c && (d && f)) g);
-        node-room = leb-true _ _ (and-left d f k);
-        child-room = leb-true _ _ (and-right d f k);
-      }
 
 -- a kind's names: its own, those of the children that may have one, and the others
 
@@ -247,7 +226,3 @@ module _ (ws ks : List ℕ) (c i : ℕ) (x : Cell) (e : x ≡ cellIn (cellWords 
       node-cell ∙ (cell-plain ks c x t
       ∙ ap (λ (b : Bool). plainClean x && b) (ap (λ y. kindBare (cellMeans ks y)) e
       ∙ sym (bare-words ks (cellWords ws i) (length-take-le 12 (drop (i * 12) ws) (simp length-drop (omega arith))))))
-
-pub clean-parts : (h ws ks : List ℕ) → clean h ws ks ≡ (longEnough h ws ks && (unusedZero h ws ks && nodesClean h ws ks))
-unfolding clean
-clean-parts h ws ks = refl

@@ -4,13 +4,12 @@
 // A node's run of children is read once for that node. Runs may overlap, so the time is that of the nodes and of all their runs. A run is at most
 // the children made, 16,384 where the capacities are within their limits; soundness allows a kind 255.
 ghost use mathlib.Core.Path.{_≡_};
-ghost use mathlib.Core.Bool.{true};
 ghost use Prim.Native.Nat.{_+_, _*_, _≤_};
 ghost use lib.ListN.{length};
 ghost use Rattle.scope.specs.Base.{all, from};
 ghost use Rattle.scope.specs.Sound.{zeros, namesClean};
 ghost use Rattle.layout.specs.Words.{NODE-WORDS, KNOWN-TAG, nodeWords, between, longEnough, unusedZero, nodeClean, clean};
-ghost use Rattle.layout.specs.Meaning.{cellMeans};
+ghost use Rattle.layout.specs.Meaning.{cellMeans, Lies};
 ghost use Rattle.layout.specs.Clean.{nameOk, slotsOk, namedOf, plainClean, knownClean};
 use crate::CHILD_TAG;
 use crate::Cell;
@@ -66,7 +65,7 @@ fn zero_between(s: &[u32], a: usize, e: usize) -> bool
 
 // The slots from the counts to the capacities.
 fn unused_zero(h: &[u32], ws: &[u32], ks: &[u32]) -> bool
-    requires { ⌜ longEnough (now h) (now ws) (now ks) ≡ true ⌝ }
+    requires { ⌜ Lies (now h) (now ws) (now ks) ⌝ }
     ensures { λ r. ⌜ r ≡ unusedZero (now (h .entry)) (now (ws .entry)) (now (ks .entry)) ⌝ }
 {
     let x = read_header(h);

@@ -6,9 +6,6 @@ use Rattle.layout.proofs.CleanLaws.{known-parts}
 use borrow.Author.Needs.{needs}
 use Rattle.layout.proofs.clean.known_clean.Statement.{statement}
 use Rattle.layout.proofs.clean.known_clean.Tie as tie
-use Rattle.layout.proofs.clean.known_clean.Reads as reads
-use Rattle.layout.proofs.clean.known_clean.Lts as lts
-use Rattle.layout.proofs.clean.names_clean.Reads as names-clean-reads
 
 cast-if1 : tie.Need-cast-if1
 cast-if1 c = search needs
@@ -20,19 +17,45 @@ add-if1 : tie.Need-add-if1
 add-if1 c = search needs
 
 returns : tie.Need-returns
-returns c = rw (known-parts (c .before .before .before .before .args .ks .now) (c .before .before .before .before .args .c) (c .before .before .before .before .args .x) (c .before .before .before .before .pre), lt-leb _ _ (c .if1 .taken))
+returns c =
+    let a = c .before .before .before .before .args in
+    rw (
+      known-parts (a .ks .now) (a .c) (a .x) (c .before .before .before .before .pre),
+      lt-leb _ _ (c .if1 .taken),
+    )
 
 returns-2 : tie.Need-returns-2
-returns-2 c = rw (known-parts (c .before .before .before .before .before .before .args .ks .now) (c .before .before .before .before .before .before .args .c) (c .before .before .before .before .before .before .args .x) (c .before .before .before .before .before .before .pre), le-leb _ _ (c .before .before .if1 .left), lt-leb _ _ (c .if2 .taken))
+returns-2 c =
+    let a = c .before .before .before .before .before .before .args in
+    rw (
+      known-parts (a .ks .now) (a .c) (a .x) (c .before .before .before .before .before .before .pre),
+      le-leb _ _ (c .before .before .if1 .left),
+      lt-leb _ _ (c .if2 .taken),
+    )
 
 names-clean-requires : tie.Need-names-clean-requires
 names-clean-requires c κs = search needs
 
 returns-3 : tie.Need-returns-3
-returns-3 c = rw (known-parts (c .before .before .before .before .before .before .before .before .before .args .ks .now) (c .before .before .before .before .before .before .before .before .before .args .c) (c .before .before .before .before .before .before .before .before .before .args .x) (c .before .before .before .before .before .before .before .before .before .pre), le-leb _ _ (c .before .before .before .before .before .if1 .left), le-leb _ _ (c .before .before .before .if2 .left), le-leb _ _ (c .before .if3 .taken), c .names-clean .ensures)
+returns-3 c =
+    let a = c .before .before .before .before .before .before .before .before .before .args in
+    rw (
+      known-parts (a .ks .now) (a .c) (a .x) (c .before .before .before .before .before .before .before .before .before .pre),
+      le-leb _ _ (c .before .before .before .before .before .if1 .left),
+      le-leb _ _ (c .before .before .before .if2 .left),
+      le-leb _ _ (c .before .if3 .taken),
+      c .names-clean .ensures,
+    )
 
 returns-4 : tie.Need-returns-4
-returns-4 c = rw (known-parts (c .before .before .before .before .before .before .before .before .args .ks .now) (c .before .before .before .before .before .before .before .before .args .c) (c .before .before .before .before .before .before .before .before .args .x) (c .before .before .before .before .before .before .before .before .pre), le-leb _ _ (c .before .before .before .before .if1 .left), le-leb _ _ (c .before .before .if2 .left), lt-leb _ _ (c .if3 .left))
+returns-4 c =
+    let a = c .before .before .before .before .before .before .before .before .args in
+    rw (
+      known-parts (a .ks .now) (a .c) (a .x) (c .before .before .before .before .before .before .before .before .pre),
+      le-leb _ _ (c .before .before .before .before .if1 .left),
+      le-leb _ _ (c .before .before .if2 .left),
+      lt-leb _ _ (c .if3 .left),
+    )
 
 pub known-clean-spec : {M : Type 1} → statement M
 known-clean-spec =

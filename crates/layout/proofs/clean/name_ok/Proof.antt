@@ -6,8 +6,6 @@ use borrow.Author.Tests.{eq-eqb, ne-eqb}
 use Rattle.layout.proofs.CleanLaws.{name-none, name-some}
 use Rattle.layout.proofs.clean.name_ok.Statement.{statement}
 use Rattle.layout.proofs.clean.name_ok.Tie as tie
-use Rattle.layout.proofs.clean.name_ok.Reads as reads
-use Rattle.layout.proofs.clean.name_ok.Lts as lts
 
 returns : tie.Need-returns
 returns c =

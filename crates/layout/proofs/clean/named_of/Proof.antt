@@ -7,8 +7,6 @@ use Rattle.layout.proofs.CleanLaws.{named-most}
 use borrow.Author.Needs.{needs}
 use Rattle.layout.proofs.clean.named_of.Statement.{statement}
 use Rattle.layout.proofs.clean.named_of.Tie as tie
-use Rattle.layout.proofs.clean.named_of.Reads as reads
-use Rattle.layout.proofs.clean.named_of.Lts as lts
 
 returns : tie.Need-returns
 returns c = rw (eq-eqb _ _ (c .if1 .taken))

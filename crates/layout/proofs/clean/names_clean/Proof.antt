@@ -8,12 +8,6 @@ use Rattle.layout.proofs.CleanLaws.{named-most, names-run}
 use borrow.Author.Needs.{needs}
 use Rattle.layout.proofs.clean.names_clean.Statement.{statement}
 use Rattle.layout.proofs.clean.names_clean.Tie as tie
-use Rattle.layout.proofs.clean.names_clean.Reads as reads
-use Rattle.layout.proofs.clean.names_clean.Lts as lts
-use Rattle.kinds.proofs.row_of.Reads as row-of-reads
-use Rattle.layout.proofs.clean.name_ok.Reads as name-ok-reads
-use Rattle.layout.proofs.clean.named_of.Reads as named-of-reads
-use Rattle.layout.proofs.clean.slots_ok.Reads as slots-ok-reads
 
 row-of-requires : tie.Need-row-of-requires
 row-of-requires c κs = search needs
@@ -34,7 +28,16 @@ name-ok-requires : tie.Need-name-ok-requires
 name-ok-requires c κs = search needs
 
 returns : tie.Need-returns
-returns c = rw (names-run (c .before .before .before .before .before .before .before .args .ks .now) (c .before .before .before .before .before .before .before .args .x) (c .before .before .before .before .before .row-of .result .names) (c .before .before .named-of .result) (c .before .before .before .before .before .before .before .pre) (ap (λ r. r .names) (c .before .before .before .before .before .row-of .ensures)) (c .before .before .named-of .ensures), ← (c .before .name-ok .ensures), not-true (c .before .name-ok .result) (c .if1 .taken))
+returns c =
+    let a = c .before .before .before .before .before .before .before .args in
+    let r = c .before .before .before .before .before .row-of in
+    let n = c .before .before .named-of in
+    let o = c .before .name-ok in
+    rw (
+      names-run (a .ks .now) (a .x) (r .result .names) (n .result) (c .before .before .before .before .before .before .before .pre) (ap (λ y. y .names) (r .ensures)) (n .ensures),
+      ← (o .ensures),
+      not-true (o .result) (c .if1 .taken),
+    )
 
 slots-ok-requires : tie.Need-slots-ok-requires
 slots-ok-requires c κs = search needs
@@ -46,10 +49,33 @@ slots-ok-requires-2 : tie.Need-slots-ok-requires-2
 slots-ok-requires-2 c κs = search needs
 
 returns-2 : tie.Need-returns-2
-returns-2 c = rw (names-run (c .before .before .before .before .before .before .before .before .before .before .args .ks .now) (c .before .before .before .before .before .before .before .before .before .before .args .x) (c .before .before .before .before .before .before .before .before .row-of .result .names) (c .before .before .before .before .before .named-of .result) (c .before .before .before .before .before .before .before .before .before .before .pre) (ap (λ r. r .names) (c .before .before .before .before .before .before .before .before .row-of .ensures)) (c .before .before .before .before .before .named-of .ensures), ← (c .before .before .before .before .name-ok .ensures), not-false (c .before .before .before .before .name-ok .result) (c .before .before .before .if1 .left), ← (c .before .before .slots-ok .ensures), c .before .if2 .taken, c .slots-ok2 .ensures)
+returns-2 c =
+    let a = c .before .before .before .before .before .before .before .before .before .before .args in
+    let r = c .before .before .before .before .before .before .before .before .row-of in
+    let n = c .before .before .before .before .before .named-of in
+    let o = c .before .before .before .before .name-ok in
+    rw (
+      names-run (a .ks .now) (a .x) (r .result .names) (n .result) (c .before .before .before .before .before .before .before .before .before .before .pre) (ap (λ y. y .names) (r .ensures)) (n .ensures),
+      ← (o .ensures),
+      not-false (o .result) (c .before .before .before .if1 .left),
+      ← (c .before .before .slots-ok .ensures),
+      c .before .if2 .taken,
+      c .slots-ok2 .ensures,
+    )
 
 returns-3 : tie.Need-returns-3
-returns-3 c = rw (names-run (c .before .before .before .before .before .before .before .before .before .args .ks .now) (c .before .before .before .before .before .before .before .before .before .args .x) (c .before .before .before .before .before .before .before .row-of .result .names) (c .before .before .before .before .named-of .result) (c .before .before .before .before .before .before .before .before .before .pre) (ap (λ r. r .names) (c .before .before .before .before .before .before .before .row-of .ensures)) (c .before .before .before .before .named-of .ensures), ← (c .before .before .before .name-ok .ensures), not-false (c .before .before .before .name-ok .result) (c .before .before .if1 .left), ← (c .before .slots-ok .ensures), c .if2 .left)
+returns-3 c =
+    let a = c .before .before .before .before .before .before .before .before .before .args in
+    let r = c .before .before .before .before .before .before .before .row-of in
+    let n = c .before .before .before .before .named-of in
+    let o = c .before .before .before .name-ok in
+    rw (
+      names-run (a .ks .now) (a .x) (r .result .names) (n .result) (c .before .before .before .before .before .before .before .before .before .pre) (ap (λ y. y .names) (r .ensures)) (n .ensures),
+      ← (o .ensures),
+      not-false (o .result) (c .before .before .if1 .left),
+      ← (c .before .slots-ok .ensures),
+      c .if2 .left,
+    )
 
 pub names-clean-spec : {M : Type 1} → statement M
 names-clean-spec =

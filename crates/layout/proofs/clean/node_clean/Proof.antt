@@ -7,12 +7,6 @@ use Rattle.layout.proofs.CleanLaws.{node-known, node-plain}
 use borrow.Author.Needs.{needs}
 use Rattle.layout.proofs.clean.node_clean.Statement.{statement}
 use Rattle.layout.proofs.clean.node_clean.Tie as tie
-use Rattle.layout.proofs.clean.node_clean.Reads as reads
-use Rattle.layout.proofs.clean.node_clean.Lts as lts
-use Rattle.layout.proofs.clean.known_clean.Reads as known-clean-reads
-use Rattle.layout.proofs.clean.plain_clean.Reads as plain-clean-reads
-use Rattle.layout.proofs.clean.zero_between.Reads as zero-between-reads
-use Rattle.layout.proofs.read_cell.Reads as read-cell-reads
 
 mul-a : tie.Need-mul-a
 mul-a c = search needs
@@ -39,7 +33,10 @@ known-clean-requires : tie.Need-known-clean-requires
 known-clean-requires c κs = search needs
 
 returns : tie.Need-returns
-returns c = c .known-clean .ensures ∙ sym (node-known (c .before .before .before .before .before .before .before .args .ws .now) (c .before .before .before .before .before .before .before .args .ks .now) (c .before .before .before .before .before .before .before .args .c) (c .before .before .before .before .before .before .before .args .i) (c .before .before .before .read-cell .result) (rw add-sub-cancel-left at (c .before .before .before .read-cell .ensures)) (c .before .if1 .taken))
+returns c =
+    let a = c .before .before .before .before .before .before .before .args in
+    let x = c .before .before .before .read-cell in
+    c .known-clean .ensures ∙ sym (node-known (a .ws .now) (a .ks .now) (a .c) (a .i) (x .result) (rw add-sub-cancel-left at (x .ensures)) (c .before .if1 .taken))
 
 plain-clean-requires : tie.Need-plain-clean-requires
 plain-clean-requires c κs = search needs
@@ -48,10 +45,24 @@ zero-between-requires : tie.Need-zero-between-requires
 zero-between-requires c κs = search needs
 
 returns-2 : tie.Need-returns-2
-returns-2 c = rw (node-plain (c .before .before .before .before .before .before .before .before .before .args .ws .now) (c .before .before .before .before .before .before .before .before .before .args .ks .now) (c .before .before .before .before .before .before .before .before .before .args .c) (c .before .before .before .before .before .before .before .before .before .args .i) (c .before .before .before .before .before .read-cell .result) (rw add-sub-cancel-left at (c .before .before .before .before .before .read-cell .ensures)) (c .before .before .before .before .before .before .before .before .before .pre) (c .before .before .before .if1 .left), ← (c .before .before .plain-clean .ensures), c .before .if2 .taken) (rw add-sub-cancel-left at (c .zero-between .ensures))
+returns-2 c =
+    let a = c .before .before .before .before .before .before .before .before .before .args in
+    let x = c .before .before .before .before .before .read-cell in
+    rw (
+      node-plain (a .ws .now) (a .ks .now) (a .c) (a .i) (x .result) (rw add-sub-cancel-left at (x .ensures)) (c .before .before .before .before .before .before .before .before .before .pre) (c .before .before .before .if1 .left),
+      ← (c .before .before .plain-clean .ensures),
+      c .before .if2 .taken,
+    ) (rw add-sub-cancel-left at (c .zero-between .ensures))
 
 returns-3 : tie.Need-returns-3
-returns-3 c = rw (node-plain (c .before .before .before .before .before .before .before .before .args .ws .now) (c .before .before .before .before .before .before .before .before .args .ks .now) (c .before .before .before .before .before .before .before .before .args .c) (c .before .before .before .before .before .before .before .before .args .i) (c .before .before .before .before .read-cell .result) (rw add-sub-cancel-left at (c .before .before .before .before .read-cell .ensures)) (c .before .before .before .before .before .before .before .before .pre) (c .before .before .if1 .left), ← (c .before .plain-clean .ensures), c .if2 .left)
+returns-3 c =
+    let a = c .before .before .before .before .before .before .before .before .args in
+    let x = c .before .before .before .before .read-cell in
+    rw (
+      node-plain (a .ws .now) (a .ks .now) (a .c) (a .i) (x .result) (rw add-sub-cancel-left at (x .ensures)) (c .before .before .before .before .before .before .before .before .pre) (c .before .before .if1 .left),
+      ← (c .before .plain-clean .ensures),
+      c .if2 .left,
+    )
 
 pub node-clean-spec : {M : Type 1} → statement M
 node-clean-spec =

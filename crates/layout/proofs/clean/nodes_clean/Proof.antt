@@ -9,9 +9,6 @@ use Rattle.layout.specs.Words.{nodeClean}
 use Rattle.layout.proofs.CleanLaws.{run-whole, run-step, run-stop, run-end}
 use Rattle.layout.proofs.clean.nodes_clean.Statement.{statement}
 use Rattle.layout.proofs.clean.nodes_clean.Tie as tie
-use Rattle.layout.proofs.clean.nodes_clean.Reads as reads
-use Rattle.layout.proofs.clean.nodes_clean.Lts as lts
-use Rattle.layout.proofs.clean.node_clean.Reads as node-clean-reads
 
 abbrev Inv-loop : tie.InvT-loop
 Inv-loop ws ks n c i₀ i = all (nodeClean ws ks c) (from 0 n) ≡ all (nodeClean ws ks c) (from i (n - i))
@@ -26,7 +23,10 @@ node-clean-requires : tie.Need-node-clean-requires Inv-loop μ-loop
 node-clean-requires c κs = search needs
 
 returns : tie.Need-returns Inv-loop μ-loop
-returns c = sym (c .before .before .before .loop .inv ∙ run-stop (nodeClean (c .before .before .before .before .before .before .args .ws .now) (c .before .before .before .before .before .before .args .ks .now) (c .before .before .before .before .before .before .args .c)) (c .before .before .before .loop .i) (c .before .before .before .before .before .before .args .n) (c .before .before .loop-test .taken) (sym (c .before .node-clean .ensures) ∙ not-true _ (c .if1 .taken)))
+returns c =
+    let p = nodeClean (c .before .before .before .before .before .before .args .ws .now) (c .before .before .before .before .before .before .args .ks .now) (c .before .before .before .before .before .before .args .c) in
+    let q = sym (c .before .node-clean .ensures) ∙ not-true _ (c .if1 .taken) in
+    sym (c .before .before .before .loop .inv ∙ run-stop p (c .before .before .before .loop .i) (c .before .before .before .before .before .before .args .n) (c .before .before .loop-test .taken) q)
 
 add-i : tie.Need-add-i Inv-loop μ-loop
 add-i c = search needs
@@ -35,10 +35,15 @@ loop-less : tie.Need-loop-less Inv-loop μ-loop
 loop-less c = search needs
 
 loop-again : tie.Need-loop-again Inv-loop μ-loop
-loop-again c = c .before .before .before .loop .inv ∙ run-step (nodeClean (c .before .before .before .before .before .before .args .ws .now) (c .before .before .before .before .before .before .args .ks .now) (c .before .before .before .before .before .before .args .c)) (c .before .before .before .loop .i) (c .before .before .before .before .before .before .args .n) (c .before .before .loop-test .taken) (sym (c .before .node-clean .ensures) ∙ not-false _ (c .if1 .left))
+loop-again c =
+    let p = nodeClean (c .before .before .before .before .before .before .args .ws .now) (c .before .before .before .before .before .before .args .ks .now) (c .before .before .before .before .before .before .args .c) in
+    let q = sym (c .before .node-clean .ensures) ∙ not-false _ (c .if1 .left) in
+    c .before .before .before .loop .inv ∙ run-step p (c .before .before .before .loop .i) (c .before .before .before .before .before .before .args .n) (c .before .before .loop-test .taken) q
 
 returns-2 : tie.Need-returns-2 Inv-loop μ-loop
-returns-2 c = sym (c .before .loop .inv ∙ run-end (nodeClean (c .before .before .before .before .args .ws .now) (c .before .before .before .before .args .ks .now) (c .before .before .before .before .args .c)) (c .before .loop .i) (c .before .before .before .before .args .n) (c .loop-test .left))
+returns-2 c =
+    let p = nodeClean (c .before .before .before .before .args .ws .now) (c .before .before .before .before .args .ks .now) (c .before .before .before .before .args .c) in
+    sym (c .before .loop .inv ∙ run-end p (c .before .loop .i) (c .before .before .before .before .args .n) (c .loop-test .left))
 
 pub nodes-clean-spec : {M : Type 1} → statement M
 nodes-clean-spec =

@@ -3,8 +3,6 @@
 use borrow.Author.Tests.{eq-eqb, ne-eqb}
 use Rattle.layout.proofs.clean.plain_clean.Statement.{statement}
 use Rattle.layout.proofs.clean.plain_clean.Tie as tie
-use Rattle.layout.proofs.clean.plain_clean.Reads as reads
-use Rattle.layout.proofs.clean.plain_clean.Lts as lts
 
 returns : tie.Need-returns
 returns c = rw (eq-eqb _ _ (c .before .if1 .taken))

@@ -13,10 +13,6 @@ use Rattle.layout.specs.Clean.{slotOk}
 use Rattle.layout.proofs.CleanLaws.{okAt, run-step, run-stop, run-end, all-map}
 use Rattle.layout.proofs.clean.slots_ok.Statement.{statement}
 use Rattle.layout.proofs.clean.slots_ok.Tie as tie
-use Rattle.layout.proofs.clean.slots_ok.Reads as reads
-use Rattle.layout.proofs.clean.slots_ok.Lts as lts
-use Rattle.layout.proofs.child_at.Reads as child-at-reads
-use Rattle.layout.proofs.clean.name_ok.Reads as name-ok-reads
 
 abbrev Inv-loop : tie.InvT-loop
 Inv-loop named ks a e i₀ i = all (okAt named ks) (from a (e - a)) ≡ all (okAt named ks) (from i (e - i))

@@ -1,16 +1,11 @@
 -- `layout::clean::unused_zero` meets its contract: the two parts that are tested are those of `unusedZero`, and slices that are long enough have them.
 -- Assumes nothing.
+use mathlib.Core.Path.{ap}
 use native.Mathlib.Omega.{arith}
-use Rattle.layout.proofs.CleanLaws.{unused-by, room}
+use Rattle.layout.proofs.CleanLaws.{unused-by}
 use borrow.Author.Needs.{needs}
 use Rattle.layout.proofs.clean.unused_zero.Statement.{statement}
 use Rattle.layout.proofs.clean.unused_zero.Tie as tie
-use Rattle.layout.proofs.clean.unused_zero.Reads as reads
-use Rattle.layout.proofs.clean.unused_zero.Lts as lts
-use Rattle.layout.proofs.child_words.Reads as child-words-reads
-use Rattle.layout.proofs.clean.zero_between.Reads as zero-between-reads
-use Rattle.layout.proofs.node_words.Reads as node-words-reads
-use Rattle.layout.proofs.read_header.Reads as read-header-reads
 
 read-header-requires : tie.Need-read-header-requires
 read-header-requires c κs = search needs
@@ -22,7 +17,7 @@ node-words-requires-2 : tie.Need-node-words-requires-2
 node-words-requires-2 c κs = search needs
 
 zero-between-requires : tie.Need-zero-between-requires
-zero-between-requires c κs = omega (arith, c .node-words2 .ensures, room (c .before .before .before .before .before .before .args .h .now) (c .before .before .before .before .before .before .args .ws .now) (c .before .before .before .before .before .before .args .ks .now) (c .before .before .read-header .result) (c .before .before .read-header .ensures) (c .before .before .before .before .before .before .pre) .node-room)
+zero-between-requires c κs = omega (arith, c .node-words2 .ensures, ap (λ x. x .«node_room») (c .before .before .read-header .ensures), c .before .before .before .before .before .before .pre .nodeSlots)
 
 child-words-requires : tie.Need-child-words-requires
 child-words-requires c κs = search needs
@@ -31,13 +26,34 @@ child-words-requires-2 : tie.Need-child-words-requires-2
 child-words-requires-2 c κs = search needs
 
 zero-between-requires-2 : tie.Need-zero-between-requires-2
-zero-between-requires-2 c κs = omega (arith, c .child-words2 .ensures, room (c .before .before .before .before .before .before .before .before .before .before .args .h .now) (c .before .before .before .before .before .before .before .before .before .before .args .ws .now) (c .before .before .before .before .before .before .before .before .before .before .args .ks .now) (c .before .before .before .before .before .before .read-header .result) (c .before .before .before .before .before .before .read-header .ensures) (c .before .before .before .before .before .before .before .before .before .before .pre) .child-room)
+zero-between-requires-2 c κs = omega (arith, c .child-words2 .ensures, ap (λ x. x .«child_room») (c .before .before .before .before .before .before .read-header .ensures), c .before .before .before .before .before .before .before .before .before .before .pre .childSlots)
 
 returns : tie.Need-returns
-returns c = rw (unused-by (c .before .before .before .before .before .before .before .before .before .before .before .args .h .now) (c .before .before .before .before .before .before .before .before .before .before .before .args .ws .now) (c .before .before .before .before .before .before .before .before .before .before .before .args .ks .now) (c .before .before .before .before .before .before .before .read-header .result) (c .before .before .before .before .before .before .before .read-header .ensures), ← (c .before .before .before .before .before .before .node-words .ensures), ← (c .before .before .before .before .before .node-words2 .ensures), ← (c .before .before .child-words .ensures), ← (c .before .child-words2 .ensures), ← (c .before .before .before .before .zero-between .ensures), c .before .before .before .if1 .taken, c .zero-between2 .ensures)
+returns c =
+    let a = c .before .before .before .before .before .before .before .before .before .before .before .args in
+    let x = c .before .before .before .before .before .before .before .read-header in
+    rw (
+      unused-by (a .h .now) (a .ws .now) (a .ks .now) (x .result) (x .ensures),
+      ← (c .before .before .before .before .before .before .node-words .ensures),
+      ← (c .before .before .before .before .before .node-words2 .ensures),
+      ← (c .before .before .child-words .ensures),
+      ← (c .before .child-words2 .ensures),
+      ← (c .before .before .before .before .zero-between .ensures),
+      c .before .before .before .if1 .taken,
+      c .zero-between2 .ensures,
+    )
 
 returns-2 : tie.Need-returns-2
-returns-2 c = rw (unused-by (c .before .before .before .before .before .before .before .before .args .h .now) (c .before .before .before .before .before .before .before .before .args .ws .now) (c .before .before .before .before .before .before .before .before .args .ks .now) (c .before .before .before .before .read-header .result) (c .before .before .before .before .read-header .ensures), ← (c .before .before .before .node-words .ensures), ← (c .before .before .node-words2 .ensures), ← (c .before .zero-between .ensures), c .if1 .left)
+returns-2 c =
+    let a = c .before .before .before .before .before .before .before .before .args in
+    let x = c .before .before .before .before .read-header in
+    rw (
+      unused-by (a .h .now) (a .ws .now) (a .ks .now) (x .result) (x .ensures),
+      ← (c .before .before .before .node-words .ensures),
+      ← (c .before .before .node-words2 .ensures),
+      ← (c .before .zero-between .ensures),
+      c .if1 .left,
+    )
 
 pub unused-zero-spec : {M : Type 1} → statement M
 unused-zero-spec =

@@ -9,8 +9,6 @@ use Rattle.scope.specs.Base.{all, from}
 use Rattle.layout.proofs.CleanLaws.{zeroAt, run-step, run-stop, run-end, zeros-run}
 use Rattle.layout.proofs.clean.zero_between.Statement.{statement}
 use Rattle.layout.proofs.clean.zero_between.Tie as tie
-use Rattle.layout.proofs.clean.zero_between.Reads as reads
-use Rattle.layout.proofs.clean.zero_between.Lts as lts
 
 abbrev Inv-loop : tie.InvT-loop
 Inv-loop s a e i₀ i = all (zeroAt s) (from a (e - a)) ≡ all (zeroAt s) (from i (e - i))
