@@ -2,7 +2,7 @@
 -- hold, and the names of a kind's children are a run that may have names and a run that may not.
 -- Assumes nothing.
 use mathlib.Core.Path.{_≡_, refl, ap, sym, _∙_}
-use mathlib.Core.Bool.{Bool, true, false, not, _&&_, _||_, and-assoc, and-true, and-false}
+use mathlib.Core.Bool.{Bool, true, false, _&&_, and-assoc, and-true, and-false}
 use mathlib.Core.List.{List, [], _∷_, map}
 use mathlib.Core.Option.{none, some}
 use Prim.Native.Nat.{ℕ, zero, suc, _+_, _*_, _-_, _≤_, _<_}
@@ -43,7 +43,7 @@ run-whole p n = let z : n - 0 ≡ n = omega arith in rw z
 
 -- the same of what stands there
 
-pub all-map : {A : Type 0} (q : A → Bool) (f : ℕ → A) (l : List ℕ) → all q (map f l) ≡ all (λ i. q (f i)) l
+all-map : {A : Type 0} (q : A → Bool) (f : ℕ → A) (l : List ℕ) → all q (map f l) ≡ all (λ i. q (f i)) l
 all-map q f [] = refl
 all-map q f (i ∷ l) = ap (λ (b : Bool). q (f i) && b) (all-map q f l)
 
@@ -76,6 +76,9 @@ name-some false x i n z = rw (ne-eqb n 0 z, and-false, and-false)
 -- child i's name passes
 abbrev pub okAt : Bool → List ℕ → ℕ → Bool
 okAt named ks i = slotOk named (slotAt ks i)
+
+pub slots-run : (named : Bool) (ks : List ℕ) (a e : ℕ) → slotsOk named ks a e ≡ all (okAt named ks) (from a (e - a))
+slots-run named ks a e = all-map (slotOk named) (slotAt ks) (from a (e - a))
 
 -- which children may have a name
 

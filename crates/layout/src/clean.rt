@@ -1,8 +1,8 @@
-// The words' part of refusal 8, "a field outside its values, or unused numbers not zero": whether three slices, of any lengths, hold a store at all.
-// Whether that store is sound is not asked here.
+// The words' part of refusal 8: whether three slices, of any lengths, hold a store at all. "A field outside its values" and "unused numbers not zero"
+// are found here, and slices that are too short; whether the store is sound is not asked.
 //
-// A node's run of children is read once for that node. Runs may overlap, so the time is that of the nodes and of all their runs. A run is at most
-// the children made, 16,384 where the capacities are within their limits; soundness allows a kind 255.
+// A node's run of children is read once for that node. Runs may overlap, so the time goes with the nodes and the lengths of all their runs. A run is
+// at most the children made, 16,384 where the capacities are within their limits. Soundness allows a kind 255 children, but `clean` does not say so.
 ghost use mathlib.Core.Path.{_≡_};
 ghost use Prim.Native.Nat.{_+_, _*_, _≤_};
 ghost use lib.ListN.{length};

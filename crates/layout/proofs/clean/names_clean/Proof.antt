@@ -29,12 +29,13 @@ name-ok-requires c κs = search needs
 
 returns : tie.Need-returns
 returns c =
+    let b = c .before .before .before .before .before .before .before in
     let a = c .before .before .before .before .before .before .before .args in
     let r = c .before .before .before .before .before .row-of in
     let n = c .before .before .named-of in
     let o = c .before .name-ok in
     rw (
-      names-run (a .ks .now) (a .x) (r .result .names) (n .result) (c .before .before .before .before .before .before .before .pre) (ap (λ y. y .names) (r .ensures)) (n .ensures),
+      names-run (a .ks .now) (a .x) (r .result .names) (n .result) (b .pre) (ap (λ y. y .names) (r .ensures)) (n .ensures),
       ← (o .ensures),
       not-true (o .result) (c .if1 .taken),
     )
@@ -50,12 +51,13 @@ slots-ok-requires-2 c κs = search needs
 
 returns-2 : tie.Need-returns-2
 returns-2 c =
+    let b = c .before .before .before .before .before .before .before .before .before .before in
     let a = c .before .before .before .before .before .before .before .before .before .before .args in
     let r = c .before .before .before .before .before .before .before .before .row-of in
     let n = c .before .before .before .before .before .named-of in
     let o = c .before .before .before .before .name-ok in
     rw (
-      names-run (a .ks .now) (a .x) (r .result .names) (n .result) (c .before .before .before .before .before .before .before .before .before .before .pre) (ap (λ y. y .names) (r .ensures)) (n .ensures),
+      names-run (a .ks .now) (a .x) (r .result .names) (n .result) (b .pre) (ap (λ y. y .names) (r .ensures)) (n .ensures),
       ← (o .ensures),
       not-false (o .result) (c .before .before .before .if1 .left),
       ← (c .before .before .slots-ok .ensures),
@@ -65,12 +67,13 @@ returns-2 c =
 
 returns-3 : tie.Need-returns-3
 returns-3 c =
+    let b = c .before .before .before .before .before .before .before .before .before in
     let a = c .before .before .before .before .before .before .before .before .before .args in
     let r = c .before .before .before .before .before .before .before .row-of in
     let n = c .before .before .before .before .named-of in
     let o = c .before .before .before .name-ok in
     rw (
-      names-run (a .ks .now) (a .x) (r .result .names) (n .result) (c .before .before .before .before .before .before .before .before .before .pre) (ap (λ y. y .names) (r .ensures)) (n .ensures),
+      names-run (a .ks .now) (a .x) (r .result .names) (n .result) (b .pre) (ap (λ y. y .names) (r .ensures)) (n .ensures),
       ← (o .ensures),
       not-false (o .result) (c .before .before .if1 .left),
       ← (c .before .slots-ok .ensures),

@@ -36,7 +36,8 @@ returns : tie.Need-returns
 returns c =
     let a = c .before .before .before .before .before .before .before .args in
     let x = c .before .before .before .read-cell in
-    c .known-clean .ensures ∙ sym (node-known (a .ws .now) (a .ks .now) (a .c) (a .i) (x .result) (rw add-sub-cancel-left at (x .ensures)) (c .before .if1 .taken))
+    c .known-clean .ensures
+    ∙ sym (node-known (a .ws .now) (a .ks .now) (a .c) (a .i) (x .result) (rw add-sub-cancel-left at (x .ensures)) (c .before .if1 .taken))
 
 plain-clean-requires : tie.Need-plain-clean-requires
 plain-clean-requires c κs = search needs
@@ -46,20 +47,22 @@ zero-between-requires c κs = search needs
 
 returns-2 : tie.Need-returns-2
 returns-2 c =
+    let b = c .before .before .before .before .before .before .before .before .before in
     let a = c .before .before .before .before .before .before .before .before .before .args in
     let x = c .before .before .before .before .before .read-cell in
     rw (
-      node-plain (a .ws .now) (a .ks .now) (a .c) (a .i) (x .result) (rw add-sub-cancel-left at (x .ensures)) (c .before .before .before .before .before .before .before .before .before .pre) (c .before .before .before .if1 .left),
+      node-plain (a .ws .now) (a .ks .now) (a .c) (a .i) (x .result) (rw add-sub-cancel-left at (x .ensures)) (b .pre) (c .before .before .before .if1 .left),
       ← (c .before .before .plain-clean .ensures),
       c .before .if2 .taken,
     ) (rw add-sub-cancel-left at (c .zero-between .ensures))
 
 returns-3 : tie.Need-returns-3
 returns-3 c =
+    let b = c .before .before .before .before .before .before .before .before in
     let a = c .before .before .before .before .before .before .before .before .args in
     let x = c .before .before .before .before .read-cell in
     rw (
-      node-plain (a .ws .now) (a .ks .now) (a .c) (a .i) (x .result) (rw add-sub-cancel-left at (x .ensures)) (c .before .before .before .before .before .before .before .before .pre) (c .before .before .if1 .left),
+      node-plain (a .ws .now) (a .ks .now) (a .c) (a .i) (x .result) (rw add-sub-cancel-left at (x .ensures)) (b .pre) (c .before .before .if1 .left),
       ← (c .before .plain-clean .ensures),
       c .if2 .left,
     )

@@ -17,16 +17,19 @@ abbrev μ-loop : tie.MeasureT-loop
 μ-loop ws ks n c i₀ i = n - i
 
 loop-holds : tie.Need-loop-holds Inv-loop μ-loop
-loop-holds c = run-whole (nodeClean (c .before .before .args .ws .now) (c .before .before .args .ks .now) (c .before .before .args .c)) (c .before .before .args .n)
+loop-holds c =
+    let a = c .before .before .args in
+    run-whole (nodeClean (a .ws .now) (a .ks .now) (a .c)) (a .n)
 
 node-clean-requires : tie.Need-node-clean-requires Inv-loop μ-loop
 node-clean-requires c κs = search needs
 
 returns : tie.Need-returns Inv-loop μ-loop
 returns c =
-    let p = nodeClean (c .before .before .before .before .before .before .args .ws .now) (c .before .before .before .before .before .before .args .ks .now) (c .before .before .before .before .before .before .args .c) in
+    let a = c .before .before .before .before .before .before .args in
+    let o = c .before .before .before .loop in
     let q = sym (c .before .node-clean .ensures) ∙ not-true _ (c .if1 .taken) in
-    sym (c .before .before .before .loop .inv ∙ run-stop p (c .before .before .before .loop .i) (c .before .before .before .before .before .before .args .n) (c .before .before .loop-test .taken) q)
+    sym (o .inv ∙ run-stop (nodeClean (a .ws .now) (a .ks .now) (a .c)) (o .i) (a .n) (c .before .before .loop-test .taken) q)
 
 add-i : tie.Need-add-i Inv-loop μ-loop
 add-i c = search needs
@@ -36,14 +39,16 @@ loop-less c = search needs
 
 loop-again : tie.Need-loop-again Inv-loop μ-loop
 loop-again c =
-    let p = nodeClean (c .before .before .before .before .before .before .args .ws .now) (c .before .before .before .before .before .before .args .ks .now) (c .before .before .before .before .before .before .args .c) in
+    let a = c .before .before .before .before .before .before .args in
+    let o = c .before .before .before .loop in
     let q = sym (c .before .node-clean .ensures) ∙ not-false _ (c .if1 .left) in
-    c .before .before .before .loop .inv ∙ run-step p (c .before .before .before .loop .i) (c .before .before .before .before .before .before .args .n) (c .before .before .loop-test .taken) q
+    o .inv ∙ run-step (nodeClean (a .ws .now) (a .ks .now) (a .c)) (o .i) (a .n) (c .before .before .loop-test .taken) q
 
 returns-2 : tie.Need-returns-2 Inv-loop μ-loop
 returns-2 c =
-    let p = nodeClean (c .before .before .before .before .args .ws .now) (c .before .before .before .before .args .ks .now) (c .before .before .before .before .args .c) in
-    sym (c .before .loop .inv ∙ run-end p (c .before .loop .i) (c .before .before .before .before .args .n) (c .loop-test .left))
+    let a = c .before .before .before .before .args in
+    let o = c .before .loop in
+    sym (o .inv ∙ run-end (nodeClean (a .ws .now) (a .ks .now) (a .c)) (o .i) (a .n) (c .loop-test .left))
 
 pub nodes-clean-spec : {M : Type 1} → statement M
 nodes-clean-spec =

@@ -2,15 +2,12 @@
 -- The measure is what is left.
 -- Assumes nothing.
 use mathlib.Core.Path.{_≡_, refl, sym, ap, _∙_}
-use mathlib.Core.Bool.{Bool}
-use Prim.Native.Nat.{ℕ, _-_}
+use Prim.Native.Nat.{_-_}
 use borrow.Author.Needs.{needs}
 use borrow.Author.Tests.{not-true, not-false}
 use Rattle.scope.specs.Base.{all, from}
-use Rattle.scope.specs.Sound.{Slot}
-use Rattle.layout.specs.Words.{slotAt}
 use Rattle.layout.specs.Clean.{slotOk}
-use Rattle.layout.proofs.CleanLaws.{okAt, run-step, run-stop, run-end, all-map}
+use Rattle.layout.proofs.CleanLaws.{okAt, run-step, run-stop, run-end, slots-run}
 use Rattle.layout.proofs.clean.slots_ok.Statement.{statement}
 use Rattle.layout.proofs.clean.slots_ok.Tie as tie
 
@@ -31,11 +28,10 @@ name-ok-requires c κs = search needs
 
 returns : tie.Need-returns Inv-loop μ-loop
 returns c =
-    let n = c .before .before .before .before .before .before .args .named in
-    let ks = c .before .before .before .before .before .before .args .ks .now in
-    let q = sym (ap (slotOk n) (c .before .before .child-at .ensures)) ∙ (sym (c .before .name-ok .ensures) ∙ not-true _ (c .if1 .taken)) in
-    sym (all-map (slotOk n) (slotAt ks) (from (c .before .before .before .before .before .before .args .a) (c .before .before .before .before .before .before .args .e - c .before .before .before .before .before .before .args .a))
-    ∙ (c .before .before .before .before .loop .inv ∙ run-stop (okAt n ks) (c .before .before .before .before .loop .i) (c .before .before .before .before .before .before .args .e) (c .before .before .before .loop-test .taken) q))
+    let a = c .before .before .before .before .before .before .args in
+    let o = c .before .before .before .before .loop in
+    let q = sym (ap (slotOk (a .named)) (c .before .before .child-at .ensures)) ∙ (sym (c .before .name-ok .ensures) ∙ not-true _ (c .if1 .taken)) in
+    sym (slots-run (a .named) (a .ks .now) (a .a) (a .e) ∙ (o .inv ∙ run-stop (okAt (a .named) (a .ks .now)) (o .i) (a .e) (c .before .before .before .loop-test .taken) q))
 
 add-i : tie.Need-add-i Inv-loop μ-loop
 add-i c = search needs
@@ -45,16 +41,16 @@ loop-less c = search needs
 
 loop-again : tie.Need-loop-again Inv-loop μ-loop
 loop-again c =
-    let n = c .before .before .before .before .before .before .args .named in
-    let q = sym (ap (slotOk n) (c .before .before .child-at .ensures)) ∙ (sym (c .before .name-ok .ensures) ∙ not-false _ (c .if1 .left)) in
-    c .before .before .before .before .loop .inv ∙ run-step (okAt n (c .before .before .before .before .before .before .args .ks .now)) (c .before .before .before .before .loop .i) (c .before .before .before .before .before .before .args .e) (c .before .before .before .loop-test .taken) q
+    let a = c .before .before .before .before .before .before .args in
+    let o = c .before .before .before .before .loop in
+    let q = sym (ap (slotOk (a .named)) (c .before .before .child-at .ensures)) ∙ (sym (c .before .name-ok .ensures) ∙ not-false _ (c .if1 .left)) in
+    o .inv ∙ run-step (okAt (a .named) (a .ks .now)) (o .i) (a .e) (c .before .before .before .loop-test .taken) q
 
 returns-2 : tie.Need-returns-2 Inv-loop μ-loop
 returns-2 c =
-    let n = c .before .before .before .args .named in
-    let ks = c .before .before .before .args .ks .now in
-    sym (all-map (slotOk n) (slotAt ks) (from (c .before .before .before .args .a) (c .before .before .before .args .e - c .before .before .before .args .a))
-    ∙ (c .before .loop .inv ∙ run-end (okAt n ks) (c .before .loop .i) (c .before .before .before .args .e) (c .loop-test .left)))
+    let a = c .before .before .before .args in
+    let o = c .before .loop in
+    sym (slots-run (a .named) (a .ks .now) (a .a) (a .e) ∙ (o .inv ∙ run-end (okAt (a .named) (a .ks .now)) (o .i) (a .e) (c .loop-test .left)))
 
 pub slots-ok-spec : {M : Type 1} → statement M
 slots-ok-spec =

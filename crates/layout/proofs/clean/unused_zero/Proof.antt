@@ -17,7 +17,10 @@ node-words-requires-2 : tie.Need-node-words-requires-2
 node-words-requires-2 c κs = search needs
 
 zero-between-requires : tie.Need-zero-between-requires
-zero-between-requires c κs = omega (arith, c .node-words2 .ensures, ap (λ x. x .«node_room») (c .before .before .read-header .ensures), c .before .before .before .before .before .before .pre .nodeSlots)
+zero-between-requires c κs =
+    let b = c .before .before .before .before .before .before in
+    let x = c .before .before .read-header in
+    omega (arith, c .node-words2 .ensures, ap (λ y. y .«node_room») (x .ensures), b .pre .nodeSlots)
 
 child-words-requires : tie.Need-child-words-requires
 child-words-requires c κs = search needs
@@ -26,7 +29,10 @@ child-words-requires-2 : tie.Need-child-words-requires-2
 child-words-requires-2 c κs = search needs
 
 zero-between-requires-2 : tie.Need-zero-between-requires-2
-zero-between-requires-2 c κs = omega (arith, c .child-words2 .ensures, ap (λ x. x .«child_room») (c .before .before .before .before .before .before .read-header .ensures), c .before .before .before .before .before .before .before .before .before .before .pre .childSlots)
+zero-between-requires-2 c κs =
+    let b = c .before .before .before .before .before .before .before .before .before .before in
+    let x = c .before .before .before .before .before .before .read-header in
+    omega (arith, c .child-words2 .ensures, ap (λ y. y .«child_room») (x .ensures), b .pre .childSlots)
 
 returns : tie.Need-returns
 returns c =

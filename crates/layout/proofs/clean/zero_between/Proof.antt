@@ -27,8 +27,11 @@ shared-slice-read-if1 c = search needs
 
 returns : tie.Need-returns Inv-loop μ-loop
 returns c =
-    let s = c .before .before .before .before .args .s .now in
-    sym (zeros-run s (c .before .before .before .before .args .a) (c .before .before .before .before .args .e) (c .before .before .before .before .pre) ∙ (c .before .before .before .loop .inv ∙ run-stop (zeroAt s) (c .before .before .before .loop .i) (c .before .before .before .before .args .e) (c .before .before .loop-test .taken) (ne-eqb _ _ (c .if1 .taken))))
+    let b = c .before .before .before .before in
+    let a = c .before .before .before .before .args in
+    let o = c .before .before .before .loop in
+    sym (zeros-run (a .s .now) (a .a) (a .e) (b .pre)
+    ∙ (o .inv ∙ run-stop (zeroAt (a .s .now)) (o .i) (a .e) (c .before .before .loop-test .taken) (ne-eqb _ _ (c .if1 .taken))))
 
 add-i : tie.Need-add-i Inv-loop μ-loop
 add-i c = search needs
@@ -37,12 +40,17 @@ loop-less : tie.Need-loop-less Inv-loop μ-loop
 loop-less c = search needs
 
 loop-again : tie.Need-loop-again Inv-loop μ-loop
-loop-again c = c .before .before .before .loop .inv ∙ run-step (zeroAt (c .before .before .before .before .args .s .now)) (c .before .before .before .loop .i) (c .before .before .before .before .args .e) (c .before .before .loop-test .taken) (eq-eqb _ _ (c .if1 .left))
+loop-again c =
+    let a = c .before .before .before .before .args in
+    let o = c .before .before .before .loop in
+    o .inv ∙ run-step (zeroAt (a .s .now)) (o .i) (a .e) (c .before .before .loop-test .taken) (eq-eqb _ _ (c .if1 .left))
 
 returns-2 : tie.Need-returns-2 Inv-loop μ-loop
 returns-2 c =
-    let s = c .before .before .args .s .now in
-    sym (zeros-run s (c .before .before .args .a) (c .before .before .args .e) (c .before .before .pre) ∙ (c .before .loop .inv ∙ run-end (zeroAt s) (c .before .loop .i) (c .before .before .args .e) (c .loop-test .left)))
+    let b = c .before .before in
+    let a = c .before .before .args in
+    let o = c .before .loop in
+    sym (zeros-run (a .s .now) (a .a) (a .e) (b .pre) ∙ (o .inv ∙ run-end (zeroAt (a .s .now)) (o .i) (a .e) (c .loop-test .left)))
 
 pub zero-between-spec : {M : Type 1} → statement M
 zero-between-spec =
