@@ -6,3 +6,4 @@ pub mod ChildLaws
 pub mod KindLaws
 pub mod LinkLaws
 pub mod StoreLaws
+pub mod CleanLaws
