@@ -33,7 +33,8 @@ fn size_of(v: TypeNode) -> u32
     }
 }
 
-fn state_at(ws: &[u32], n: u32, t: Type) -> TypeState
+// What the node of a type is, whether or not it is inverted.
+pub fn state_at(ws: &[u32], n: u32, t: Type) -> TypeState
     requires { ⌜ nodeWords n ≤ length (now ws) ⌝ }
     ensures { λ r. ⌜ r ≡ stateAt (now (ws .entry)) n (tyOf (t .0) .idx) ⌝ }
 {
