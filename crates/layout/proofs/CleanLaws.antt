@@ -114,11 +114,11 @@ module _ (h ws ks : List ℕ) (x : Header) (e : x ≡ headerIn h) where
 -- a kind's names: its own, those of the children that may have one, and the others
 
 module _ (ks : List ℕ) where
-  front-slots : (i n : ℕ) → front (slots ks i (suc n)) ≡ slots ks i n
+  pub front-slots : (i n : ℕ) → front (slots ks i (suc n)) ≡ slots ks i n
   front-slots i zero = refl
   front-slots i (suc n) = ap (λ (l : List Slot). slotAt ks i ∷ l) (front-slots (suc i) n)
 
-  last-slots : (i n : ℕ) → last (slots ks i (suc n)) ≡ slots ks (i + n) 1
+  pub last-slots : (i n : ℕ) → last (slots ks i (suc n)) ≡ slots ks (i + n) 1
   last-slots i zero = ap (λ (j : ℕ). slots ks j 1) (omega arith)
   last-slots i (suc n) = last-slots (suc i) n ∙ ap (λ (j : ℕ). slots ks j 1) (omega arith)
 
