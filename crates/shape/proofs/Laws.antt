@@ -93,6 +93,9 @@ module _ (p : ℕ → Up) where
         lost = λ q. rw d (ends-up p (depth - 1) v u f ∙ w .lost q);
       }
 
+pub climbs-small : {ws roots : List ℕ} {n v : ℕ} → Climbs ws roots n v → v < MAX-NODES
+climbs-small a = omega (arith, a .node, a .forest .few)
+
 pub climbs-up : {ws roots : List ℕ} {n v u : ℕ} → Climbs ws roots n v → ups ws n v ≡ Parent u → Climbs ws roots n u
 climbs-up {v = v} a e = record { forest = a .forest; right = a .right; node = rw e at (a .forest .inside v (a .node)) }
 

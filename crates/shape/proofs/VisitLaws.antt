@@ -175,6 +175,9 @@ module _ (g : Graph) (n : ℕ) where
     shut = λ u o. a .shut u (w .shut t u o);
   }
 
+  pub visits-not : {v : ℕ} {marks marks′ : List ℕ} {r : Bool} → Tried v marks → r ≡ false → Visited g n v marks marks′ r → ends g n v ≡ false
+  visits-not a t w = w .failed t n (λ u o. absurd (a .shut u o))
+
 -- the root of a child is a node
 pub kids-closed : {ws ks roots : List ℕ} {n : ℕ} → Falls ws ks n roots → Closed (kids ws ks n roots) n
 kids-closed {ks = ks} a = record { inside = λ v i l r. a .rooted .below (kidAt ks i) (a .below v i l r) }
