@@ -4,7 +4,7 @@
 use mathlib.Core.Path.{_≡_, refl, sym, ap, _∙_}
 use mathlib.Core.Bool.{Bool, true, false, _&&_, false≢true}
 use mathlib.Core.List.{List, [], _∷_, map}
-use Prim.Native.Nat.{ℕ, zero, suc, _+_, _-_, _≤_, _<_}
+use Prim.Native.Nat.{ℕ, zero, suc, _+_, _<_}
 use native.Mathlib.Omega.{arith}
 use borrow.Author.Tests.{ltb-true}
 use lib.Dec.{eqb}
@@ -14,22 +14,21 @@ use Rattle.scope.specs.Limits.{MAX-NODES}
 use Rattle.scope.specs.Chart.{Env}
 use Rattle.scope.specs.Kinds.{makeable, defined, flagIs}
 use Rattle.scope.specs.Types.{Ty, ty, flip, tyOf}
-use Rattle.scope.specs.Nodes.{Node, State, at, isRoot, hop, climb, find, stateOf, kidsOf}
+use Rattle.scope.specs.Nodes.{Node, at, hop, climb, find, stateOf, kidsOf}
 use Rattle.scope.specs.Nodes as nodes
 use Rattle.scope.specs.Sound.{rooted, falls, treeSize, sizeIs, inStore, kindSound, nodeSound, shapeSound}
 use Rattle.layout.specs.Words.{slotAt, decode}
 use Rattle.layout.proofs.Lists.{and-left, and-right, all-from}
 use Rattle.layout.proofs.Laws.{length-decode, read-node}
-use Rattle.layout.specs.Meaning.{readAt, nodeMeans, stateMeans, kindMeans}
-use Rattle.layout.specs.declared.TypeState.{TypeState}
+use Rattle.layout.specs.Meaning.{readAt, nodeMeans, kindMeans}
 use Rattle.layout.specs.declared.TypeState.the-variants.{Known, Unknown, InferenceFailed}
 use Rattle.layout.specs.declared.TypeNode.{TypeNode}
 use Rattle.layout.specs.declared.TypeNode.the-variants as read
 use Rattle.shape.specs.declared.Up.{Up}
 use Rattle.shape.specs.declared.Up.the-variants.{Root, Parent}
-use Rattle.shape.specs.Walks.{Graph, ends, InRow, Closed, upward, toBy, Leads, here, more}
-use Rattle.shape.specs.Read.{upIn, rowIn, rowBy, kidAt, ups, rootOf, kids, tallied, sizeBy, sizeFits}
-use Rattle.shape.specs.Asks.{nodeInside, Shaped, Forest, Settled, Founds, Found, Rooted, Sizes, Falls}
+use Rattle.shape.specs.Walks.{ends, InRow, upward, toBy, Leads, here, more}
+use Rattle.shape.specs.Read.{upIn, rowIn, kidAt, ups, rootOf, kids, tallied, sizeBy, sizeFits}
+use Rattle.shape.specs.Asks.{nodeInside, Shaped, Settled, Founds, Found, Rooted, Sizes, Falls}
 use Rattle.shape.proofs.Lists.{same-test, all-same, all-map, count-same}
 use Rattle.shape.proofs.Walks.{ends-none, ends-more, ends-root, ends-up, up-within, leads-ends, leads-below}
 use Rattle.shape.proofs.Laws.{right-none}

@@ -1,7 +1,7 @@
 -- `shape::climb` meets its contract, by the depth that is left. A root that is known is returned; a root is its own; any other node has its parent's,
 -- which is kept whatever it is: 0 stands where 0 stood. Each way out is a law.
 -- Assumes nothing.
-use mathlib.Core.Path.{_≡_, sym, _∙_}
+use mathlib.Core.Path.{sym, _∙_}
 use native.Mathlib.Omega.{arith}
 use borrow.Author.Needs.{needs}
 use Rattle.shape.proofs.Laws as laws

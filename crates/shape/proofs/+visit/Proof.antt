@@ -1,7 +1,7 @@
 -- `shape::visit` meets its contract, by the number of nodes that no visit came to: v is one of them before it is marked, and none after.
 -- The loop's invariant: the walks on from the places passed end, and no node is open that was not open where the loop began.
 -- Assumes nothing.
-use mathlib.Core.Path.{_≡_, sym, ap, _∙_}
+use mathlib.Core.Path.{sym, ap, _∙_}
 use native.Mathlib.Omega.{arith}
 use borrow.Author.Needs.{needs}
 use borrow.Author.Tests.{not-true, not-false}
