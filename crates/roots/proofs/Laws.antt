@@ -2,11 +2,11 @@
 -- invariants, for all words of children: what is left to do gives what the whole does.
 -- Assumes nothing.
 use mathlib.Core.Path.{_≡_, refl, ap, sym, _∙_}
-use mathlib.Core.Bool.{Bool, true, false}
+use mathlib.Core.Bool.{Bool, true}
 use mathlib.Core.List.{List}
 use Prim.Native.Nat.{ℕ, zero, suc, _+_, _-_, _*_, _<_, _≤_}
 use native.Mathlib.Omega.{arith}
-use lib.ListN.{length, getD, set}
+use lib.ListN.{set}
 use lib.Seq.{getD-set-other}
 use Rattle.scope.specs.Base.{xor}
 use Rattle.scope.specs.Types.{Ty, ty, flip, INV-BIT, tyOf}
@@ -14,12 +14,12 @@ use Rattle.scope.specs.Nodes.{Node, Root, Child, at, isRoot, hop, climb, find, 
 use Rattle.types.specs.declared.«Type».{«Type»}
 use Rattle.types.proofs.Laws.{idx-below, ty-new}
 use Rattle.layout.specs.Words.{NODE-WORDS, nodeField, decode}
-use Rattle.layout.specs.Meaning.{CHILD-TAG, readAt, putAt, Clean, Linked}
+use Rattle.layout.specs.Meaning.{CHILD-TAG, parentOf, readAt, putAt, Linked}
 use Rattle.layout.specs.declared.TypeNode.{TypeNode}
 use Rattle.layout.specs.declared.TypeNode.the-variants as code
 use Rattle.layout.specs.declared.TypeState.{TypeState}
 use Rattle.layout.proofs.Laws.{length-decode, length-put, tail-put, decode-put, clean-put}
-use Rattle.layout.proofs.LinkLaws.{read-child, read-root, child-below, child-field, link-put, linked-put}
+use Rattle.layout.proofs.LinkLaws.{parent-same, read-child, read-root, child-below, child-field, link-put, linked-put}
 use Rattle.roots.specs.Found.{Found, Relinked, FoundMut}
 
 -- find
@@ -42,6 +42,25 @@ pub climb-out : (f : ℕ) (ns : List Node) (t : Ty) → f ≤ 0 → climb f ns t
 unfolding climb
 climb-out zero ns t h = refl
 climb-out (suc f) ns t h = absurd (omega arith)
+
+-- climbing looks at parents alone, and these do not depend on the children's words
+
+hop-same : (v w : Node) (k k′ : Ty → Ty) (t : Ty) → parentOf v ≡ parentOf w → ((u : Ty) → k u ≡ k′ u) → hop v k t ≡ hop w k′ t
+hop-same (Root st z) (Root st′ z′) k k′ t e g = refl
+hop-same (Root st z) (Child u) k k′ t e g = let y : _≡_ {A = ℕ} 0 1 = cc in absurd (omega arith)
+hop-same (Child u) (Root st z) k k′ t e g = let y : _≡_ {A = ℕ} 0 1 = cc in absurd (omega arith)
+hop-same (Child u) (Child u′) k k′ t e g = let y : u ≡ u′ = cc in g (flip (t .inv) u) ∙ ap (λ (x : Ty). k′ (flip (t .inv) x)) y
+
+pub climb-parents : (f : ℕ) (ns ms : List Node) (t : Ty) → ((i : ℕ) → parentOf (at ns i) ≡ parentOf (at ms i)) → climb f ns t ≡ climb f ms t
+unfolding climb
+climb-parents zero ns ms t e = refl
+climb-parents (suc f) ns ms t e =
+    hop-same (at ns (t .idx)) (at ms (t .idx)) (climb f ns) (climb f ms) t (e (t .idx)) (λ u. climb-parents f ns ms u e)
+
+pub find-kids : (ws ks ks′ : List ℕ) (n : ℕ) (t : Ty) → find (decode ws ks n) t ≡ find (decode ws ks′ n) t
+unfolding find
+find-kids ws ks ks′ n t =
+    rw (length-decode ws ks n, length-decode ws ks′ n) (climb-parents n (decode ws ks n) (decode ws ks′ n) t (parent-same ws ks ks′ n))
 
 -- f steps from node i with the inversion b lead where n steps from i₀ with b₀ do
 pub record Climbs (ws : List ℕ) (n : ℕ) (b₀ : Bool) (i₀ : ℕ) (b : Bool) (i f : ℕ) : Type 0 where

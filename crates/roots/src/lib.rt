@@ -32,15 +32,15 @@ pub fn find_mut(ws: &mut [u32], n: u32, t: Type) -> Type
     let root = find(ws, n, t);
     let mut inv = t.inv();
     let mut cur = t.idx();
-    let mut left = n;
-    while 0 < left {
-        let TypeNode::Child(parent) = layout::node_at(ws, n, cur) else {
+    let mut rest = n;
+    while 0 < rest {
+        let TypeNode::Child(prev_parent) = layout::node_at(ws, n, cur) else {
             return root;
         };
         layout::put_node(ws, n, cur, TypeNode::Child(root.invert_if(inv)));
-        inv = inv.xor(parent.inv());
-        cur = parent.idx();
-        left -= 1;
+        inv = inv.xor(prev_parent.inv());
+        cur = prev_parent.idx();
+        rest -= 1;
     }
     root
 }

@@ -1,16 +1,10 @@
 -- `roots::find` meets its contract. The invariant: what is left to climb gives what the whole climb gives. The measure is the number of steps left.
 -- Assumes nothing.
+use native.Mathlib.Omega.{arith}
 use borrow.Author.Needs.{needs}
 use Rattle.roots.proofs.Laws.{Climbs, climbs-start, climbs-up, climbs-root, climbs-out}
 use Rattle.roots.proofs.find.Statement.{statement}
 use Rattle.roots.proofs.find.Tie as tie
-use Rattle.roots.proofs.find.Reads as reads
-use Rattle.roots.proofs.find.Lts as lts
-use Rattle.layout.proofs.node_at.Reads as node-at-reads
-use Rattle.types.proofs.Inverted.xor.Reads as xor-reads
-use Rattle.types.proofs.Type.idx.Reads as idx-reads
-use Rattle.types.proofs.Type.inv.Reads as inv-reads
-use Rattle.types.proofs.Type.new.Reads as new-reads
 
 abbrev Inv-loop : tie.InvT-loop
 Inv-loop ws n inv₀ cur₀ left₀ inv cur left = Climbs ws n (inv₀ .0) (cur₀ .0) (inv .0) (cur .0) left
@@ -40,7 +34,11 @@ new-requires : tie.Need-new-requires Inv-loop μ-loop
 new-requires c κs = search needs
 
 returns : tie.Need-returns Inv-loop μ-loop
-returns c = climbs-root (c .before .before .before .before .before .loop .inv) (c .before .before .before .before .before .before .before .before .before .args .t .0) _ (c .new .ensures) (c .before .before .before .before .before .before .before .inv .ensures) (c .before .before .before .before .before .before .idx .ensures) (c .before .before .before .node-at .ensures) (c .before .enum-told .given .1)
+returns c =
+    let a = c .before .before .before in
+    let l = a .before .before in
+    climbs-root (l .loop .inv) (l .before .before .before .before .args .t .0) _ (c .new .ensures) (l .before .before .inv .ensures)
+    (l .before .idx .ensures) (a .node-at .ensures) (c .before .enum-told .given .1)
 
 inv-requires-2 : tie.Need-inv-requires-2 Inv-loop μ-loop
 inv-requires-2 c κs = search needs
@@ -58,13 +56,22 @@ loop-less : tie.Need-loop-less Inv-loop μ-loop
 loop-less c = search needs
 
 loop-again : tie.Need-loop-again Inv-loop μ-loop
-loop-again c = climbs-up (c .before .before .before .before .before .before .before .before .before .before .before .before .pre) (c .before .before .before .before .before .before .before .before .loop .inv) (c .before .before .before .before .before .before .before .loop-test .taken) (c .before .before .before .before .before .before .node-at .ensures) (c .before .before .before .before .parent .given .1) (c .before .before .inv2 .ensures) (c .before .xor .ensures) (c .idx2 .ensures)
+loop-again c =
+    let k = c .before .before .before .before in
+    let a = k .before .before in
+    let l = a .before .before in
+    let h = a .before .loop-test .taken in
+    climbs-up (l .before .before .before .before .pre) (l .loop .inv) (omega arith) (a .node-at .ensures) (k .parent .given .1)
+    (c .before .before .inv2 .ensures) (c .before .xor .ensures) (c .idx2 .ensures)
 
 new-requires-2 : tie.Need-new-requires-2 Inv-loop μ-loop
 new-requires-2 c κs = search needs
 
 returns-2 : tie.Need-returns-2 Inv-loop μ-loop
-returns-2 c = climbs-out (c .before .before .loop .inv) (c .before .before .before .before .before .before .args .t .0) _ (c .new2 .ensures) (c .before .before .before .before .inv .ensures) (c .before .before .before .idx .ensures) (c .before .loop-test .left)
+returns-2 c =
+    let l = c .before .before in
+    climbs-out (l .loop .inv) (l .before .before .before .before .args .t .0) _ (c .new2 .ensures) (l .before .before .inv .ensures)
+    (l .before .idx .ensures) (omega (arith, c .before .loop-test .left))
 
 pub find-spec : {M : Type 1} → statement M
 find-spec =
