@@ -10,49 +10,18 @@ use native.Mathlib.Omega.{arith}
 use borrow.Author.Count.{below-more}
 use borrow.Author.Tests.{eq-eqb, ne-eqb}
 use lib.Dec.{eqb}
-use lib.ListN.{length, getD, set, length-set, replicate, length-replicate}
+use lib.ListN.{length, getD, set, length-set, replicate}
 use lib.Seq.{getD-set-same, getD-set-other}
-use Rattle.scope.specs.Base.{pick, all, count, from}
+use Rattle.scope.specs.Base.{pick}
 use Rattle.scope.specs.Limits.{MAX-NODES}
-use Rattle.layout.specs.Meaning.{readAt}
 use Rattle.shape.specs.declared.Up.{Up}
 use Rattle.shape.specs.declared.Up.the-variants.{Root, Parent}
-use Rattle.shape.specs.Walks.{Graph, ends, InRow, Closed, upward, toBy, Leads, here, more}
-use Rattle.shape.specs.declared.Row.{Row}
-use Rattle.shape.specs.Read.{rowIn, ups, kids, kidAt, rootOf, tallied, sizeBy, sizeFits}
-use Rattle.shape.specs.Asks.{Forest, Right, Climbs, Climbed, Settled, Found, Rooted, Tallies, Tallied, Marked, Falls, Visits, Visited}
+use Rattle.shape.specs.Walks.{ends, upward, Leads, here, more}
+use Rattle.shape.specs.Read.{ups, rootOf, tallied, sizeFits}
+use Rattle.shape.specs.Asks.{Forest, Right, Climbs, Climbed, Found, Rooted, Tallies, Tallied}
+use Rattle.shape.proofs.Tables.{zeros, blank-long, stored-by}
 use Rattle.shape.proofs.Lists.{all-stop, all-done, count-most, count-last}
-use Rattle.shape.proofs.Walks.{ends-none, ends-not, ends-before, ends-up, leads-ends}
-
--- a property of every entry that is not 0, kept by a store
-stored : (P : ℕ → ℕ → Type 0) (t : List ℕ) (v h : ℕ) → v < length t → ((u : ℕ) → 0 < getD t u 0 → P u (getD t u 0)) → (0 < h → P v h)
-    → (u : ℕ) → 0 < getD (set t v h) u 0 → P u (getD (set t v h) u 0)
-stored P t v h l f g u = go (ℕ-discrete u v)
-  where
-    go : Dec (u ≡ v) → 0 < getD (set t v h) u 0 → P u (getD (set t v h) u 0)
-    go (yes e) k =
-        let z : getD (set t v h) u 0 ≡ h = ap (λ (x : ℕ). getD (set t v h) x 0) e ∙ getD-set-same t v h 0 l in
-        rw (z, e) (g (omega arith))
-    go (no n) k =
-        let z : getD (set t v h) u 0 ≡ getD t u 0 = getD-set-other t v u h 0 n in
-        rw z (f u (omega arith))
-
--- entries that are not 0 stay so where one that is 0 is stored over
-stored-stay : (t t′ : List ℕ) (v h : ℕ) → getD t v 0 ≡ 0 → ((u : ℕ) → 0 < getD t u 0 → 0 < getD t′ u 0) → (u : ℕ) → 0 < getD t u 0 → 0 < getD (set t′ v h) u 0
-stored-stay t t′ v h e f u k = go (ℕ-discrete u v)
-  where
-    go : Dec (u ≡ v) → 0 < getD (set t′ v h) u 0
-    go (yes q) = absurd (omega (arith, ap (λ (x : ℕ). getD t x 0) q))
-    go (no n) = rw (getD-set-other t′ v u h 0 n) (f u k)
-
--- a table just made
-pub zeros : (m v : ℕ) → _≡_ {A = ℕ} (getD (replicate m 0) v 0) 0
-zeros zero v = refl
-zeros (suc m) zero = refl
-zeros (suc m) (suc v) = zeros m v
-
-pub blank-long : length {A = ℕ} (replicate MAX-NODES 0) ≡ MAX-NODES
-blank-long = length-replicate {A = ℕ} MAX-NODES 0
+use Rattle.shape.proofs.Walks.{ends-none, ends-up, leads-ends}
 
 -- climb
 
@@ -63,8 +32,14 @@ module _ (p : ℕ → Up) where
   right-set : {roots : List ℕ} (v h : ℕ) → v < MAX-NODES → Right p roots → (0 < h → Leads p v (h - 1)) → Right p (set roots v h)
   right-set {roots} v h l r f = record {
     long = length-set roots v h ∙ r .long;
-    right = stored (λ u x. Leads p u (x - 1)) roots v h (omega (arith, r .long)) (r .right) f;
+    right = stored-by (λ u x. 0 < x → Leads p u (x - 1)) roots v h (omega (arith, r .long)) f (λ u z. r .right u);
   }
+
+  -- roots that were known stay known where one that was not is stored
+  stay-set : (roots₀ roots : List ℕ) (v h : ℕ) → v < MAX-NODES → Right p roots → getD roots₀ v 0 ≡ 0 → ((u : ℕ) → 0 < getD roots₀ u 0 → 0 < getD roots u 0)
+      → (u : ℕ) → 0 < getD roots₀ u 0 → 0 < getD (set roots v h) u 0
+  stay-set roots₀ roots v h l r e f =
+      stored-by (λ u x. 0 < getD roots₀ u 0 → 0 < x) roots v h (omega (arith, r .long)) (λ k. absurd (omega arith)) (λ u z. f u)
 
   pub climb-known : {roots : List ℕ} {depth v known : ℕ} → Right p roots → known ≡ getD roots v 0 → (known ≡ 0 → ⊥) → Climbed p depth v roots roots known
   climb-known r e z = record { right = r; stay = λ u l. l; kept = e; lost = λ q. absurd (z q) }
@@ -77,7 +52,7 @@ module _ (p : ℕ → Up) where
       let q : v + 1 - 1 ≡ v = omega arith in
       record {
         right = right-set v (v + 1) l r (λ _. rw q (here f));
-        stay = stored-stay roots roots v (v + 1) e (λ u k. k);
+        stay = stay-set roots roots v (v + 1) l r e (λ u k. k);
         kept = sym (getD-set-same roots v (v + 1) 0 (omega (arith, r .long)));
         lost = λ z. absurd (omega arith);
       }
@@ -88,10 +63,13 @@ module _ (p : ℕ → Up) where
       let d : depth ≡ suc (depth - 1) = omega arith in
       record {
         right = right-set v r l (w .right) (λ k. more f (rw (w .kept) (w .right .right u (omega (arith, w .kept)))));
-        stay = stored-stay roots₀ roots v r e (w .stay);
+        stay = stay-set roots₀ roots v r l (w .right) e (w .stay);
         kept = sym (getD-set-same roots v r 0 (omega (arith, w .right .long)));
         lost = λ q. rw d (ends-up p (depth - 1) v u f ∙ w .lost q);
       }
+
+pub climbs-small : {ws roots : List ℕ} {n v : ℕ} → Climbs ws roots n v → v < MAX-NODES
+climbs-small a = omega (arith, a .node, a .forest .few)
 
 pub climbs-up : {ws roots : List ℕ} {n v u : ℕ} → Climbs ws roots n v → ups ws n v ≡ Parent u → Climbs ws roots n u
 climbs-up {v = v} a e = record { forest = a .forest; right = a .right; node = rw e at (a .forest .inside v (a .node)) }

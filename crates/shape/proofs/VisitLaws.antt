@@ -1,7 +1,7 @@
 -- The ways out of `visit`, and the turns of its loop. A visit that fails came back to an open node, and each open node lies on the way to the next: if
 -- walks from nodes open before are longer than d nodes, then so are those from v, by one node less at a time.
 -- Assumes nothing.
-use mathlib.Core.Path.{_≡_, refl, sym, ap, _∙_}
+use mathlib.Core.Path.{_≡_, refl, sym, _∙_}
 use mathlib.Core.Bool.{Bool, true, false, false≢true}
 use mathlib.Core.List.{List}
 use Prim.Native.Nat.{ℕ, zero, suc, _+_, _≤_, _<_}
@@ -20,15 +20,7 @@ use Rattle.shape.specs.Read.{rowIn, kids, kidAt, rootOf}
 use Rattle.shape.specs.Asks.{OPEN, DONE, Open, Marked, fresh, Falls, Visits, Visited}
 use Rattle.shape.proofs.Lists.{is-false, count-more}
 use Rattle.shape.proofs.Walks.{ends-none, ends-more, ends-not, ends-before}
-use Rattle.shape.proofs.Laws.{blank-long, zeros}
-
--- an entry after a store, by whether it is the one stored
-stored-by : (P : ℕ → ℕ → Type 0) (t : List ℕ) (v h : ℕ) → v < length t → P v h → ((u : ℕ) → (u ≡ v → ⊥) → P u (getD t u 0)) → (u : ℕ) → P u (getD (set t v h) u 0)
-stored-by P t v h l p f u = go (ℕ-discrete u v)
-  where
-    go : Dec (u ≡ v) → P u (getD (set t v h) u 0)
-    go (yes e) = rw (e, getD-set-same t v h 0 l) p
-    go (no z) = rw (getD-set-other t v u h 0 z) (f u z)
+use Rattle.shape.proofs.Tables.{zeros, blank-long, stored-by}
 
 module _ (g : Graph) (n : ℕ) where
   marked-none : Marked g n (replicate MAX-NODES 0)
@@ -174,6 +166,9 @@ module _ (g : Graph) (n : ℕ) where
     ended = below-more _ _ (a .ended) (w .passed t);
     shut = λ u o. a .shut u (w .shut t u o);
   }
+
+  pub visits-not : {v : ℕ} {marks marks′ : List ℕ} {r : Bool} → Tried v marks → r ≡ false → Visited g n v marks marks′ r → ends g n v ≡ false
+  visits-not a t w = w .failed t n (λ u o. absurd (a .shut u o))
 
 -- the root of a child is a node
 pub kids-closed : {ws ks roots : List ℕ} {n : ℕ} → Falls ws ks n roots → Closed (kids ws ks n roots) n

@@ -1,16 +1,16 @@
 -- Walks that end within some number of nodes end within n, where there are n: a node whose longest walk has h + 1 nodes is one of at least h + 1 nodes
 -- whose walks end within as many, since a node that its walk goes through has h. So a walk that never ends is found at depth n.
 -- Assumes nothing.
-use mathlib.Core.Path.{_≡_, refl, sym, ap, _∙_}
-use mathlib.Core.Bool.{Bool, true, false, _&&_, false≢true}
+use mathlib.Core.Path.{_≡_, refl, sym, _∙_}
+use mathlib.Core.Bool.{Bool, true, false, false≢true}
 use Prim.Native.Nat.{ℕ, zero, suc, _+_, _≤_, _<_}
 use native.Mathlib.Omega.{arith}
-use Rattle.scope.specs.Base.{all, count, from}
+use Rattle.scope.specs.Base.{count, from}
 use Rattle.layout.proofs.Lists.{all-from, from-all}
 use Rattle.shape.specs.declared.Up.{Up}
 use Rattle.shape.specs.declared.Up.the-variants.{Root, Parent}
 use Rattle.shape.specs.Walks.{Graph, ends, InRow, Closed, degBy, toBy, upward, Leads, here, more}
-use Rattle.shape.proofs.Lists.{is-false, same-test, all-not, all-find, count-most, count-more}
+use Rattle.shape.proofs.Lists.{is-false, same-test, all-find, count-most, count-more}
 
 module _ (g : Graph) where
   pub ends-none : (v : ℕ) → ends g 0 v ≡ false

@@ -2,7 +2,7 @@
 use mathlib.Core.Path.{_≡_}
 use mathlib.Core.List.{List}
 use mathlib.Core.Bool.{Bool, true, false}
-use Prim.Native.Nat.{ℕ, _+_, _-_, _≤_, _<_}
+use Prim.Native.Nat.{ℕ, _≤_, _<_}
 use lib.Dec.{eqb}
 use lib.ListN.{length, getD}
 use Rattle.scope.specs.Base.{all, count, from}
@@ -38,13 +38,13 @@ pub record Right (p : ℕ → Up) (roots : List ℕ) : Type 0 where
   pub long : length roots ≡ MAX-NODES
   pub right : (v : ℕ) → 0 < getD roots v 0 → Leads p v (rootOf roots v)
 
--- `climb`: up from v
+-- `climb`
 pub record Climbs (ws roots : List ℕ) (n v : ℕ) : Type 0 where
   pub forest : Forest ws n
   pub right : Right (ups ws n) roots
   pub node : v < n
 
--- roots that were known stay known, and v's is kept; where there is none, more than depth nodes stand above v, v counted
+-- roots that were known stay known, and v's is kept; where there is none, the walk up from v has more than depth nodes
 pub record Climbed (p : ℕ → Up) (depth v : ℕ) (roots₀ roots : List ℕ) (r : ℕ) : Type 0 where
   pub right : Right p roots
   pub stay : (u : ℕ) → 0 < getD roots₀ u 0 → 0 < getD roots u 0
@@ -71,6 +71,7 @@ pub record Rooted (roots : List ℕ) (n : ℕ) : Type 0 where
   pub known : (v : ℕ) → v < n → 0 < getD roots v 0
   pub below : (v : ℕ) → v < n → rootOf roots v < n
 
+-- no node is counted yet, and all are
 pub record Tallies (roots counts : List ℕ) (n : ℕ) : Type 0 where
   pub rooted : Rooted roots n
   pub long : length counts ≡ MAX-NODES
@@ -83,18 +84,19 @@ pub record Sizes (ws roots : List ℕ) (n : ℕ) : Type 0 where
   pub rooted : Rooted roots n
   pub room : nodeWords n ≤ length ws
 
--- `visit` marks a node when it comes to it, and again when it is through with its walks
+-- a node's mark while children are followed: it lies on the way, or every walk from it ends
 abbrev pub OPEN : ℕ
 OPEN = 1
 
 abbrev pub DONE : ℕ
 DONE = 2
 
--- a node that a visit came to and is not through with
+-- a node that lies on the way
 pub record Open (marks : List ℕ) (v : ℕ) : Type 0 where
   pub begun : 0 < getD marks v 0
   pub unfinished : getD marks v 0 ≡ DONE → ⊥
 
+-- from a node that is done every walk ends
 pub record Marked (g : Graph) (n : ℕ) (marks : List ℕ) : Type 0 where
   pub long : length marks ≡ MAX-NODES
   pub done : (v : ℕ) → getD marks v 0 ≡ DONE → ends g n v ≡ true
@@ -114,8 +116,8 @@ pub record Visits (ws ks : List ℕ) (n : ℕ) (roots marks : List ℕ) (v : ℕ
   pub marked : Marked (kids ws ks n roots) n marks
   pub node : v < n
 
--- marks stay; where the walks from v end, no node is left open; where they do not, neither end those from nodes that were open, or v's are too long
--- wherever those are
+-- Marks stay. Where the answer is yes, walks from v end and no node is left open that was not. Where it is no, some walk from v is longer than d nodes
+-- for each d for which this is so of the nodes that were open
 pub record Visited (g : Graph) (n v : ℕ) (marks₀ marks : List ℕ) (r : Bool) : Type 0 where
   pub marked : Marked g n marks
   pub stay : (u : ℕ) → 0 < getD marks₀ u 0 → 0 < getD marks u 0

@@ -1,15 +1,16 @@
 // Whether a store's nodes have the shape of sound ones: no parent cycle, each root's size its tree's node count, no child cycle.
 // Each node is climbed from once and visited once, so the time is linear in the nodes and their children.
 ghost use mathlib.Core.Path.{_≡_};
-ghost use Prim.Native.Nat.{_-_, _≤_, _<_};
+ghost use Prim.Native.Nat.{_≤_, _<_};
 ghost use lib.ListN.{length, getD};
 ghost use Rattle.scope.specs.Base.{all, from};
+ghost use Rattle.scope.specs.Limits.{MAX-NODES};
 ghost use Rattle.scope.specs.Sound.{shapeSound};
 ghost use Rattle.layout.specs.Words.{nodeWords, decode};
 ghost use Rattle.layout.specs.Meaning.{readAt};
 ghost use Rattle.shape.specs.Walks.{ends, upward};
 ghost use Rattle.shape.specs.Read.{upIn, rowIn, kidAt, ups, rootOf, kids, sizeFits};
-ghost use Rattle.shape.specs.Asks.{Shaped, Climbs, Climbed, Founds, Found, Rooted, Tallies, Tallied, Sizes, Falls, Visits, Visited};
+ghost use Rattle.shape.specs.Asks.{Shaped, Climbs, Climbed, Founds, Found, Tallies, Tallied, Sizes, Falls, Visits, Visited};
 use layout::TypeNode;
 use layout::TypeState;
 use types::TypeIdx;
@@ -18,9 +19,14 @@ use types::TypeIdx;
 pub const MAX_NODES: usize = 4096;
 
 // A number for each node.
-type Table = [u32; 4096];
+type Table = [u32; MAX_NODES];
 
-// A node to one that climbs: a root with its size, or a node with its parent's.
+// A node's mark while children are followed: it lies on the way, or every walk from it ends. Other nodes have 0.
+const OPEN: u32 = 1;
+
+const DONE: u32 = 2;
+
+// A node to one who climbs: a root with its size, or what has a parent.
 enum Up {
     Root(u32),
     Parent(u32),
@@ -67,7 +73,7 @@ fn kid_at(ks: &[u32], i: usize) -> u32
 }
 
 fn at(t: &Table, v: u32) -> u32
-    requires { ⌜ v < 4096 ⌝ }
+    requires { ⌜ v < MAX-NODES ⌝ }
     ensures { λ r. ⌜ r ≡ getD (now (t .entry)) v 0 ⌝ }
 {
     t[v as usize]
@@ -75,13 +81,13 @@ fn at(t: &Table, v: u32) -> u32
 
 // The root of v.
 fn root_of(roots: &Table, v: u32) -> u32
-    requires { ⌜ (v < 4096) × (0 < getD (now roots) v 0) ⌝ }
+    requires { ⌜ (v < MAX-NODES) × (0 < getD (now roots) v 0) ⌝ }
     ensures { λ r. ⌜ r ≡ rootOf (now (roots .entry)) v ⌝ }
 {
     at(roots, v) - 1
 }
 
-// One more than v's root, where fewer than depth parent steps lead there; else 0. roots keeps it for each node on the way.
+// One more than v's root, where fewer than depth parent steps lead there or it is known; else 0. roots keeps it for each node on the way.
 fn climb(ws: &[u32], n: u32, roots: &mut Table, v: u32, depth: u32) -> u32
     requires { ⌜ Climbs (now ws) (now roots) n v ⌝ }
     ensures { λ r. ⌜ Climbed (ups (now (ws .entry)) n) depth v (now (roots .entry)) (now (roots .exit)) r ⌝ }
@@ -139,7 +145,7 @@ fn sizes_ok(ws: &[u32], n: u32, roots: &Table) -> bool
     requires { ⌜ Sizes (now ws) (now roots) n ⌝ }
     ensures { λ r. ⌜ r ≡ all (sizeFits (now (ws .entry)) n (now (roots .entry))) (from 0 n) ⌝ }
 {
-    let mut counts: Table = [0u32; 4096];
+    let mut counts: Table = [0u32; MAX_NODES];
     tally(roots, n, &mut counts);
     let mut v: u32 = 0;
     while v < n {
@@ -155,12 +161,7 @@ fn sizes_ok(ws: &[u32], n: u32, roots: &Table) -> bool
     true
 }
 
-// What a node's mark says: its walks are being looked at, or all end. Other nodes have 0.
-const OPEN: u32 = 1;
-
-const DONE: u32 = 2;
-
-// Whether every walk from v to the roots of children ends. One that comes back to an open node does not.
+// Whether every walk from v to the roots of children ends. One that comes back to an open node does not, and one to a done node does.
 fn visit(ws: &[u32], ks: &[u32], n: u32, roots: &Table, marks: &mut Table, v: u32) -> bool
     requires { ⌜ Visits (now ws) (now ks) n (now roots) (now marks) v ⌝ }
     ensures { λ r. ⌜ Visited (kids (now (ws .entry)) (now (ks .entry)) n (now (roots .entry))) n v (now (marks .entry)) (now (marks .exit)) r ⌝ }
@@ -192,7 +193,7 @@ fn falls_ok(ws: &[u32], ks: &[u32], n: u32, roots: &Table) -> bool
     requires { ⌜ Falls (now ws) (now ks) n (now roots) ⌝ }
     ensures { λ r. ⌜ r ≡ all (ends (kids (now (ws .entry)) (now (ks .entry)) n (now (roots .entry))) n) (from 0 n) ⌝ }
 {
-    let mut marks: Table = [0u32; 4096];
+    let mut marks: Table = [0u32; MAX_NODES];
     let mut v: u32 = 0;
     while v < n {
         if !visit(ws, ks, n, roots, &mut marks, v) {
@@ -208,7 +209,7 @@ pub fn shape_ok(ws: &[u32], ks: &[u32], n: u32) -> bool
     requires { ⌜ Shaped (now ws) (now ks) n ⌝ }
     ensures { λ r. ⌜ r ≡ shapeSound (decode (now (ws .entry)) (now (ks .entry)) n) ⌝ }
 {
-    let mut roots: Table = [0u32; 4096];
+    let mut roots: Table = [0u32; MAX_NODES];
     if !find_roots(ws, n, &mut roots) {
         return false;
     }

@@ -1,3 +1,6 @@
+-- `shape::falls_ok` meets its contract. The loop's invariant: the walks from the first v nodes end, and no node is open between visits,
+-- so a visit that fails shows walks longer than any number of nodes.
+-- Assumes nothing.
 use Prim.Native.Nat.{_-_}
 use native.Mathlib.Omega.{arith}
 use borrow.Author.Tests.{not-true, not-false}
@@ -6,9 +9,6 @@ use Rattle.shape.proofs.Lists.{all-stop, all-done}
 use Rattle.shape.proofs.VisitLaws as laws
 use Rattle.shape.proofs.falls_ok.Statement.{statement}
 use Rattle.shape.proofs.falls_ok.Tie as tie
-use Rattle.shape.proofs.falls_ok.Reads as reads
-use Rattle.shape.proofs.falls_ok.Lts as lts
-use Rattle.shape.proofs.visit.Reads as visit-reads
 
 abbrev Inv-loop : tie.InvT-loop
 Inv-loop ws ks n roots marks₀ v₀ marks v = laws.Tried (kids ws ks n roots) n v marks
@@ -23,7 +23,9 @@ visit-requires : tie.Need-visit-requires Inv-loop μ-loop
 visit-requires c κs = record { falls = c .before .before .before .before .before .pre; marked = c .before .before .loop .inv .marked; node = c .before .loop-test .taken }
 
 returns : tie.Need-returns Inv-loop μ-loop
-returns c = all-stop _ (c .before .before .before .before .before .before .before .args .n) (c .before .before .before .before .loop .v) (c .before .before .before .loop-test .taken) (c .before .visit .ensures .failed (not-true _ (c .if1 .taken)) (c .before .before .before .before .before .before .before .args .n) (λ u o. absurd (c .before .before .before .before .loop .inv .shut u o)))
+returns c =
+    let long = laws.visits-not _ _ (c .before .before .before .before .loop .inv) (not-true _ (c .if1 .taken)) (c .before .visit .ensures) in
+    all-stop _ (c .before .before .before .before .before .before .before .args .n) (c .before .before .before .before .loop .v) (c .before .before .before .loop-test .taken) long
 
 add-v : tie.Need-add-v Inv-loop μ-loop
 add-v c = omega (arith, c .before .before .before .before .before .before .before .pre .rooted .few, c .before .before .before .loop-test .taken)

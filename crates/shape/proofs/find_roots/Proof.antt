@@ -1,12 +1,12 @@
+-- `shape::find_roots` meets its contract. The loop's invariant: the first v nodes have their roots, since a root that is known stays known.
+-- Who has a root comes to it within n nodes, so a climb that fails shows a parent cycle.
+-- Assumes nothing.
 use Prim.Native.Nat.{_-_}
 use native.Mathlib.Omega.{arith}
 use Rattle.shape.specs.Read.{ups}
 use Rattle.shape.proofs.Laws as laws
 use Rattle.shape.proofs.find_roots.Statement.{statement}
 use Rattle.shape.proofs.find_roots.Tie as tie
-use Rattle.shape.proofs.find_roots.Reads as reads
-use Rattle.shape.proofs.find_roots.Lts as lts
-use Rattle.shape.proofs.climb.Reads as climb-reads
 
 abbrev Inv-loop : tie.InvT-loop
 Inv-loop ws n roots₀ v₀ roots v = laws.Upto (ups ws n) n v roots

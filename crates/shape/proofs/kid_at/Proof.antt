@@ -1,13 +1,11 @@
+-- `shape::kid_at` meets its contract: the node number of the type that `child_at` read.
+-- Assumes nothing.
 use mathlib.Core.Path.{_∙_, ap}
 use Rattle.scope.specs.Types.{tyOf}
 use Rattle.scope.specs.Sound.{Slot}
 use borrow.Author.Needs.{needs}
 use Rattle.shape.proofs.kid_at.Statement.{statement}
 use Rattle.shape.proofs.kid_at.Tie as tie
-use Rattle.shape.proofs.kid_at.Reads as reads
-use Rattle.shape.proofs.kid_at.Lts as lts
-use Rattle.layout.proofs.child_at.Reads as child-at-reads
-use Rattle.types.proofs.Type.idx.Reads as idx-reads
 
 child-at-requires : tie.Need-child-at-requires
 child-at-requires c κs = search needs

@@ -1,9 +1,8 @@
+-- `shape::row_of` meets its contract: only a Known root has a row, and each other arm returns the empty one that the definition says.
+-- Assumes nothing.
 use borrow.Author.Needs.{needs}
 use Rattle.shape.proofs.row_of.Statement.{statement}
 use Rattle.shape.proofs.row_of.Tie as tie
-use Rattle.shape.proofs.row_of.Reads as reads
-use Rattle.shape.proofs.row_of.Lts as lts
-use Rattle.layout.proofs.node_at.Reads as node-at-reads
 
 node-at-requires : tie.Need-node-at-requires
 node-at-requires c κs = search needs

@@ -1,30 +1,45 @@
+-- `shape::shape_ok` meets its contract: what the three functions find is what the three parts of `shapeSound` say. Without a root for every node the
+-- first part fails; with them the other two are about those roots.
+-- Assumes nothing.
 use borrow.Author.Tests.{not-true, not-false}
 use Rattle.shape.proofs.Meets as meets
 use Rattle.shape.proofs.shape_ok.Statement.{statement}
 use Rattle.shape.proofs.shape_ok.Tie as tie
-use Rattle.shape.proofs.shape_ok.Reads as reads
-use Rattle.shape.proofs.shape_ok.Lts as lts
-use Rattle.shape.proofs.falls_ok.Reads as falls-ok-reads
-use Rattle.shape.proofs.find_roots.Reads as find-roots-reads
-use Rattle.shape.proofs.sizes_ok.Reads as sizes-ok-reads
 
 find-roots-requires : tie.Need-find-roots-requires
-find-roots-requires c κs = meets.founds (c .before .before .before .args .ws .now) (c .before .before .before .args .ks .now) (c .before .before .before .args .n) (c .before .before .before .pre)
+find-roots-requires c κs =
+    let s = c .before .before .before in
+    meets.founds (s .args .ws .now) (s .args .ks .now) (s .args .n) (s .pre)
 
 returns : tie.Need-returns
-returns c = meets.not-rooted (c .before .before .before .before .before .args .ws .now) (c .before .before .before .before .before .args .ks .now) (c .before .before .before .before .before .args .n) (c .before .before .before .before .before .pre) (c .before .find-roots .ensures) (not-true _ (c .if1 .taken))
+returns c =
+    let s = c .before .before .before .before .before in
+    meets.not-rooted (s .args .ws .now) (s .args .ks .now) (s .args .n) (s .pre) (c .before .find-roots .ensures) (not-true _ (c .if1 .taken))
 
 sizes-ok-requires : tie.Need-sizes-ok-requires
-sizes-ok-requires c κs = meets.sizes (c .before .before .before .before .before .before .args .ws .now) (c .before .before .before .before .before .before .args .ks .now) (c .before .before .before .before .before .before .args .n) (c .before .before .before .before .before .before .pre) _ _ (c .before .before .find-roots .ensures) (not-false _ (c .before .if1 .left))
+sizes-ok-requires c κs =
+    let s = c .before .before .before .before .before .before in
+    let f = c .before .before .find-roots in
+    meets.sizes (s .args .ws .now) (s .args .ks .now) (s .args .n) (s .pre) _ _ (f .ensures) (not-false _ (c .before .if1 .left))
 
 returns-2 : tie.Need-returns-2
-returns-2 c = meets.not-sized (c .before .before .before .before .before .before .before .before .args .ws .now) (c .before .before .before .before .before .before .before .before .args .ks .now) (c .before .before .before .before .before .before .before .before .args .n) (c .before .before .before .before .before .before .before .before .pre) _ _ (c .before .before .before .before .find-roots .ensures) (not-false _ (c .before .before .before .if1 .left)) (c .before .sizes-ok .ensures) (not-true _ (c .if2 .taken))
+returns-2 c =
+    let s = c .before .before .before .before .before .before .before .before in
+    let f = c .before .before .before .before .find-roots in
+    meets.not-sized (s .args .ws .now) (s .args .ks .now) (s .args .n) (s .pre) _ _ (f .ensures) (not-false _ (c .before .before .before .if1 .left)) (c .before .sizes-ok .ensures) (not-true _ (c .if2 .taken))
 
 falls-ok-requires : tie.Need-falls-ok-requires
-falls-ok-requires c κs = meets.falling (c .before .before .before .before .before .before .before .before .before .args .ws .now) (c .before .before .before .before .before .before .before .before .before .args .ks .now) (c .before .before .before .before .before .before .before .before .before .args .n) (c .before .before .before .before .before .before .before .before .before .pre) _ _ (c .before .before .before .before .before .find-roots .ensures) (not-false _ (c .before .before .before .before .if1 .left))
+falls-ok-requires c κs =
+    let s = c .before .before .before .before .before .before .before .before .before in
+    let f = c .before .before .before .before .before .find-roots in
+    meets.falling (s .args .ws .now) (s .args .ks .now) (s .args .n) (s .pre) _ _ (f .ensures) (not-false _ (c .before .before .before .before .if1 .left))
 
 returns-3 : tie.Need-returns-3
-returns-3 c = meets.sized (c .before .before .before .before .before .before .before .before .before .before .args .ws .now) (c .before .before .before .before .before .before .before .before .before .before .args .ks .now) (c .before .before .before .before .before .before .before .before .before .before .args .n) (c .before .before .before .before .before .before .before .before .before .before .pre) _ _ (c .before .before .before .before .before .before .find-roots .ensures) (not-false _ (c .before .before .before .before .before .if1 .left)) (c .before .before .before .sizes-ok .ensures) (not-false _ (c .before .before .if2 .left)) (c .falls-ok .ensures)
+returns-3 c =
+    let s = c .before .before .before .before .before .before .before .before .before .before in
+    let f = c .before .before .before .before .before .before .find-roots in
+    let z = c .before .before .before .sizes-ok in
+    meets.sized (s .args .ws .now) (s .args .ks .now) (s .args .n) (s .pre) _ _ (f .ensures) (not-false _ (c .before .before .before .before .before .if1 .left)) (z .ensures) (not-false _ (c .before .before .if2 .left)) (c .falls-ok .ensures)
 
 pub shape-ok-spec : {M : Type 1} → statement M
 shape-ok-spec =

@@ -1,3 +1,5 @@
+-- `shape::sizes_ok` meets its contract. The loop's invariant: the sizes of the first v nodes fit the counts, which `tally` made of all nodes.
+-- Assumes nothing.
 use mathlib.Core.Path.{_≡_, sym, _∙_}
 use mathlib.Core.Bool.{true}
 use Prim.Native.Nat.{ℕ, _-_, _≤_, _<_}
@@ -9,11 +11,6 @@ use Rattle.shape.proofs.Lists.{all-stop, all-done}
 use Rattle.shape.proofs.Laws as laws
 use Rattle.shape.proofs.sizes_ok.Statement.{statement}
 use Rattle.shape.proofs.sizes_ok.Tie as tie
-use Rattle.shape.proofs.sizes_ok.Reads as reads
-use Rattle.shape.proofs.sizes_ok.Lts as lts
-use Rattle.shape.proofs.at.Reads as at-reads
-use Rattle.shape.proofs.tally.Reads as tally-reads
-use Rattle.shape.proofs.up_of.Reads as up-of-reads
 
 abbrev Inv-loop : tie.InvT-loop
 Inv-loop ws n roots counts v₀ v = (v ≤ n) × ((u : ℕ) → u < v → sizeFits ws n roots u ≡ true)
@@ -40,13 +37,23 @@ enum-known-up : tie.Need-enum-known-up Inv-loop μ-loop
 enum-known-up c = search needs
 
 returns : tie.Need-returns Inv-loop μ-loop
-returns c = all-stop _ (c .before .before .before .before .before .before .before .before .before .before .before .before .args .n) (c .before .before .before .before .before .before .before .before .loop .v) (c .before .before .before .before .before .before .before .loop-test .taken) (laws.size-other (c .before .before .before .before .before .before .before .before .before .before .before .before .args .ws .now) (c .before .before .before .before .before .before .before .before .before .before .before .before .args .roots .now) (c .before .before .before .before .before .before .before .before .before .before .before .before .args .n) (c .before .before .before .before .before .before .before .before .loop .v) (sym (c .before .before .before .before .before .before .up-of .ensures) ∙ c .before .before .up .given .1) (c .before .before .before .before .at .ensures ∙ c .before .before .before .before .before .before .before .before .before .tally .ensures .each (c .before .before .before .before .before .before .before .before .loop .v) (c .before .before .before .before .before .before .before .loop-test .taken)) (c .if1 .taken))
+returns c =
+    let s = c .before .before .before .before .before .before .before .before .before .before .before .before in
+    let l = c .before .before .before .before .before .before .before .before .loop in
+    let up = sym (c .before .before .before .before .before .before .up-of .ensures) ∙ c .before .before .up .given .1 in
+    let count = c .before .before .before .before .at .ensures ∙ c .before .before .before .before .before .before .before .before .before .tally .ensures .each (l .v) (c .before .before .before .before .before .before .before .loop-test .taken) in
+    all-stop _ (s .args .n) (l .v) (c .before .before .before .before .before .before .before .loop-test .taken) (laws.size-other (s .args .ws .now) (s .args .roots .now) (s .args .n) (l .v) up count (c .if1 .taken))
 
 loop-less : tie.Need-loop-less Inv-loop μ-loop
 loop-less c = omega (arith, c .before .before .before .before .before .before .before .loop-test .taken)
 
 loop-again : tie.Need-loop-again Inv-loop μ-loop
-loop-again c = (omega (arith, c .before .before .before .before .before .before .before .loop-test .taken), below-more _ _ (c .before .before .before .before .before .before .before .before .loop .inv .1) (laws.size-root (c .before .before .before .before .before .before .before .before .before .before .before .before .args .ws .now) (c .before .before .before .before .before .before .before .before .before .before .before .before .args .roots .now) (c .before .before .before .before .before .before .before .before .before .before .before .before .args .n) (c .before .before .before .before .before .before .before .before .loop .v) (sym (c .before .before .before .before .before .before .up-of .ensures) ∙ c .before .before .up .given .1) (c .before .before .before .before .at .ensures ∙ c .before .before .before .before .before .before .before .before .before .tally .ensures .each (c .before .before .before .before .before .before .before .before .loop .v) (c .before .before .before .before .before .before .before .loop-test .taken)) (c .if1 .left)))
+loop-again c =
+    let s = c .before .before .before .before .before .before .before .before .before .before .before .before in
+    let l = c .before .before .before .before .before .before .before .before .loop in
+    let up = sym (c .before .before .before .before .before .before .up-of .ensures) ∙ c .before .before .up .given .1 in
+    let count = c .before .before .before .before .at .ensures ∙ c .before .before .before .before .before .before .before .before .before .tally .ensures .each (l .v) (c .before .before .before .before .before .before .before .loop-test .taken) in
+    (omega (arith, c .before .before .before .before .before .before .before .loop-test .taken), below-more _ _ (l .inv .1) (laws.size-root (s .args .ws .now) (s .args .roots .now) (s .args .n) (l .v) up count (c .if1 .left)))
 
 enum-told : tie.Need-enum-told Inv-loop μ-loop
 enum-told c = search needs
@@ -55,7 +62,11 @@ loop-less-2 : tie.Need-loop-less-2 Inv-loop μ-loop
 loop-less-2 c = omega (arith, c .before .before .before .before .before .loop-test .taken)
 
 loop-again-2 : tie.Need-loop-again-2 Inv-loop μ-loop
-loop-again-2 c = (omega (arith, c .before .before .before .before .before .loop-test .taken), below-more _ _ (c .before .before .before .before .before .before .loop .inv .1) (laws.size-child (c .before .before .before .before .before .before .before .before .before .before .args .ws .now) (c .before .before .before .before .before .before .before .before .before .before .args .roots .now) (c .before .before .before .before .before .before .before .before .before .before .args .n) (c .before .before .before .before .before .before .loop .v) (sym (c .before .before .before .before .up-of .ensures) ∙ c .enum-told .given .1)))
+loop-again-2 c =
+    let s = c .before .before .before .before .before .before .before .before .before .before in
+    let l = c .before .before .before .before .before .before .loop in
+    let up = sym (c .before .before .before .before .up-of .ensures) ∙ c .enum-told .given .1 in
+    (omega (arith, c .before .before .before .before .before .loop-test .taken), below-more _ _ (l .inv .1) (laws.size-child (s .args .ws .now) (s .args .roots .now) (s .args .n) (l .v) up))
 
 returns-2 : tie.Need-returns-2 Inv-loop μ-loop
 returns-2 c = all-done _ (c .before .before .before .before .before .args .n) (c .before .loop .v) (c .loop-test .left) (c .before .loop .inv .1)

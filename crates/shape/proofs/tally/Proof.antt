@@ -1,12 +1,12 @@
-use Prim.Native.Nat.{_-_}
+-- `shape::tally` meets its contract. The loop's invariant: the first v nodes are counted, each at its root. A count is at most v, so it fits.
+-- Assumes nothing.
+use Prim.Native.Nat.{_-_, _<_}
 use native.Mathlib.Omega.{arith}
+use lib.ListN.{getD}
+use Rattle.scope.specs.Limits.{MAX-NODES}
 use Rattle.shape.proofs.Laws as laws
 use Rattle.shape.proofs.tally.Statement.{statement}
 use Rattle.shape.proofs.tally.Tie as tie
-use Rattle.shape.proofs.tally.Reads as reads
-use Rattle.shape.proofs.tally.Lts as lts
-use Rattle.shape.proofs.at.Reads as at-reads
-use Rattle.shape.proofs.root_of.Reads as root-of-reads
 
 abbrev Inv-loop : tie.InvT-loop
 Inv-loop roots n counts₀ v₀ counts v = laws.Counted roots counts n v
@@ -21,19 +21,27 @@ root-of-requires : tie.Need-root-of-requires Inv-loop μ-loop
 root-of-requires c κs = (omega (arith, c .before .before .pre .rooted .few, c .loop-test .taken), c .before .before .pre .rooted .known _ (c .loop-test .taken))
 
 at-requires : tie.Need-at-requires Inv-loop μ-loop
-at-requires c κs = laws.counted-small (c .before .before .before .before .pre .rooted) (c .before .before .before .loop .inv) (c .before .before .loop-test .taken) (c .before .root-of .ensures) .1
+at-requires c κs =
+    let s = c .before .before .before .before in
+    laws.counted-small (s .pre .rooted) (c .before .before .before .loop .inv) (c .before .before .loop-test .taken) (c .before .root-of .ensures) .1
+
+-- the root's count, and the root
+root-small : (c : tie.After-at Inv-loop μ-loop) → (getD (c .before .before .before .before .loop .counts) (c .before .before .root-of .result) 0 < MAX-NODES) × (c .before .before .root-of .result < MAX-NODES)
+root-small c =
+    let s = c .before .before .before .before .before in
+    laws.counted-small (s .pre .rooted) (c .before .before .before .before .loop .inv) (c .before .before .before .loop-test .taken) (c .before .before .root-of .ensures)
 
 add-counts : tie.Need-add-counts Inv-loop μ-loop
-add-counts c = omega (arith, c .at .ensures, laws.counted-small (c .before .before .before .before .before .pre .rooted) (c .before .before .before .before .loop .inv) (c .before .before .before .loop-test .taken) (c .before .before .root-of .ensures))
+add-counts c = omega (arith, c .at .ensures, root-small c)
 
 cast-counts : tie.Need-cast-counts Inv-loop μ-loop
-cast-counts c = omega (arith, laws.counted-small (c .before .before .before .before .before .pre .rooted) (c .before .before .before .before .loop .inv) (c .before .before .before .loop-test .taken) (c .before .before .root-of .ensures))
+cast-counts c = omega (arith, root-small c)
 
 mul-counts : tie.Need-mul-counts Inv-loop μ-loop
-mul-counts c = omega (arith, laws.counted-small (c .before .before .before .before .before .pre .rooted) (c .before .before .before .before .loop .inv) (c .before .before .before .loop-test .taken) (c .before .before .root-of .ensures))
+mul-counts c = omega (arith, root-small c)
 
 element-write-counts : tie.Need-element-write-counts Inv-loop μ-loop
-element-write-counts c = laws.counted-small (c .before .before .before .before .before .pre .rooted) (c .before .before .before .before .loop .inv) (c .before .before .before .loop-test .taken) (c .before .before .root-of .ensures) .1
+element-write-counts c = root-small c .1
 
 add-v : tie.Need-add-v Inv-loop μ-loop
 add-v c = omega (arith, c .before .before .before .before .before .pre .rooted .few, c .before .before .before .loop-test .taken)
@@ -42,7 +50,9 @@ loop-less : tie.Need-loop-less Inv-loop μ-loop
 loop-less c = omega (arith, c .before .before .before .loop-test .taken)
 
 loop-again : tie.Need-loop-again Inv-loop μ-loop
-loop-again c = rw (c .at .ensures) (laws.counted-more (c .before .before .before .before .before .pre .rooted) (c .before .before .before .before .loop .inv) (c .before .before .before .loop-test .taken) (c .before .before .root-of .ensures))
+loop-again c =
+    let s = c .before .before .before .before .before in
+    rw (c .at .ensures) (laws.counted-more (s .pre .rooted) (c .before .before .before .before .loop .inv) (c .before .before .before .loop-test .taken) (c .before .before .root-of .ensures))
 
 returns : tie.Need-returns Inv-loop μ-loop
 returns c = laws.counted-all (c .before .loop .inv) (c .loop-test .left)

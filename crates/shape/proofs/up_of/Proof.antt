@@ -1,10 +1,8 @@
+-- `shape::up_of` meets its contract: each arm returns what the definition says of the node that `node_at` read there.
+-- Assumes nothing.
 use borrow.Author.Needs.{needs}
 use Rattle.shape.proofs.up_of.Statement.{statement}
 use Rattle.shape.proofs.up_of.Tie as tie
-use Rattle.shape.proofs.up_of.Reads as reads
-use Rattle.shape.proofs.up_of.Lts as lts
-use Rattle.layout.proofs.node_at.Reads as node-at-reads
-use Rattle.types.proofs.Type.idx.Reads as idx-reads
 
 node-at-requires : tie.Need-node-at-requires
 node-at-requires c κs = search needs
