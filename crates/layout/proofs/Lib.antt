@@ -1,0 +1,7 @@
+-- The laws that belong to no one function
+pub mod Lists
+pub mod Cells
+pub mod Laws
+pub mod ChildLaws
+pub mod LinkLaws
+pub mod StoreLaws

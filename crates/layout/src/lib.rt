@@ -1,0 +1,387 @@
+// A store in three lent slices of numbers: where each number lies, and how a node, a child and the header are read and written.
+// Nothing above this crate reads a word: it uses these functions and the laws of proofs/.
+ghost use mathlib.Core.Path.{_≡_};
+ghost use Prim.Native.Nat.{_+_, _*_, _≤_, _<_};
+ghost use lib.ListN.{length, getD};
+ghost use Rattle.layout.specs.Words.{NODE-WORDS, CHILD-WORDS, HEAD-WORDS, nodeWords, childWords, slotAt};
+ghost use Rattle.layout.specs.Meaning.{flagOf, cellIn, wordsOf, nodeOf, plainCell, knownCell, cellOf, readAt, putAt};
+ghost use Rattle.layout.specs.Meaning.{slotIn, slotWords, slotMeans, putSlot, rememberedOf, rememberedWord, headerIn, putHeader};
+use types::Inverted;
+use types::Type;
+use types::TypeIdx;
+
+pub const HEAD_WORDS: usize = 8;
+
+pub const NODE_WORDS: usize = 12;
+
+pub const CHILD_WORDS: usize = 4;
+
+// Span::NONE, and no type where one is remembered.
+pub const NONE: u32 = 4_294_967_295;
+
+// The weight of the report count's upper half.
+pub const HALF: u64 = 4_294_967_296;
+
+// What a node is, in its first word.
+pub const CHILD_TAG: u32 = 0;
+
+pub const UNKNOWN_TAG: u32 = 1;
+
+pub const FAILED_TAG: u32 = 2;
+
+pub const KNOWN_TAG: u32 = 3;
+
+// A kind: its code, its number, its self-dual flag, its Flex, its own name, and its children, which lie from `first` on.
+pub struct Kind {
+    pub code: u32,
+    pub number: u32,
+    pub dual: bool,
+    pub flex: u32,
+    pub text: u32,
+    pub start: u32,
+    pub len: u32,
+    pub first: u32,
+    pub count: u32,
+}
+
+// The state of a type variable.
+pub enum TypeState {
+    Known(Inverted, Kind),
+    // Not yet inferred: the span at which an error would be issued.
+    Unknown(u32),
+    InferenceFailed,
+}
+
+// A node in the union-find tree for the unification of type variables.
+pub enum TypeNode {
+    // The size of the tree rooted at this node.
+    Root { state: TypeState, size: u32 },
+    Child(Type),
+}
+
+// A node's twelve words.
+pub struct Cell {
+    pub tag: u32,
+    pub link: u32,
+    pub size: u32,
+    pub inv: u32,
+    pub code: u32,
+    pub number: u32,
+    pub dual: u32,
+    pub flex: u32,
+    pub text: u32,
+    pub start: u32,
+    pub len: u32,
+    pub count: u32,
+}
+
+// A child of a kind: its type, and its name or zeros.
+pub struct Slot {
+    pub ty: Type,
+    pub text: u32,
+    pub start: u32,
+    pub len: u32,
+}
+
+// A type that `error` or `nil` returns again, if there is one.
+pub enum Remembered {
+    Is(Type),
+    Nothing,
+}
+
+// What of a store is no node: the counts, the capacities, the remembered types and the report count.
+pub struct Header {
+    pub nodes: u32,
+    pub children: u32,
+    pub node_room: u32,
+    pub child_room: u32,
+    pub error: Remembered,
+    pub nil: Remembered,
+    pub reports: u64,
+}
+
+// How many words n nodes take, and n children.
+pub fn node_words(n: u32) -> usize
+    ensures { λ r. ⌜ r ≡ nodeWords n ⌝ }
+{
+    n as usize * NODE_WORDS
+}
+
+pub fn child_words(n: u32) -> usize
+    ensures { λ r. ⌜ r ≡ childWords n ⌝ }
+{
+    n as usize * CHILD_WORDS
+}
+
+// The i-th word, and 0 past the end.
+fn word(s: &[u32], i: usize) -> u32
+    ensures { λ r. ⌜ r ≡ getD (now (s .entry)) i 0 ⌝ }
+{
+    if i < s.len() { s[i] } else { 0 }
+}
+
+fn flag(b: bool) -> u32
+    ensures { λ r. ⌜ r ≡ flagOf b ⌝ }
+{
+    if b { 1 } else { 0 }
+}
+
+fn read_cell(s: &[u32]) -> Cell
+    requires { ⌜ length (now s) ≡ NODE-WORDS ⌝ }
+    ensures { λ r. ⌜ r ≡ cellIn (now (s .entry)) ⌝ }
+{
+    Cell {
+        tag: s[0],
+        link: s[1],
+        size: s[2],
+        inv: s[3],
+        code: s[4],
+        number: s[5],
+        dual: s[6],
+        flex: s[7],
+        text: s[8],
+        start: s[9],
+        len: s[10],
+        count: s[11],
+    }
+}
+
+fn write_cell(s: &mut [u32], c: Cell)
+    requires { ⌜ length (now s) ≡ NODE-WORDS ⌝ }
+    ensures { λ _. ⌜ now (s .exit) ≡ wordsOf c ⌝ }
+{
+    s[0] = c.tag;
+    s[1] = c.link;
+    s[2] = c.size;
+    s[3] = c.inv;
+    s[4] = c.code;
+    s[5] = c.number;
+    s[6] = c.dual;
+    s[7] = c.flex;
+    s[8] = c.text;
+    s[9] = c.start;
+    s[10] = c.len;
+    s[11] = c.count;
+}
+
+// A Known node's link is the place of its first child.
+fn node_of(c: Cell) -> TypeNode
+    ensures { λ r. ⌜ r ≡ nodeOf c ⌝ }
+{
+    if c.tag == CHILD_TAG {
+        return TypeNode::Child(Type(c.link));
+    }
+    let size = c.size;
+    if c.tag == UNKNOWN_TAG {
+        return TypeNode::Root {
+            state: TypeState::Unknown(c.link),
+            size,
+        };
+    }
+    if c.tag == FAILED_TAG {
+        return TypeNode::Root {
+            state: TypeState::InferenceFailed,
+            size,
+        };
+    }
+    let kind = Kind {
+        code: c.code,
+        number: c.number,
+        dual: c.dual == 1,
+        flex: c.flex,
+        text: c.text,
+        start: c.start,
+        len: c.len,
+        first: c.link,
+        count: c.count,
+    };
+    TypeNode::Root {
+        state: TypeState::Known(Inverted(c.inv == 1), kind),
+        size,
+    }
+}
+
+// The words of a node without a kind.
+fn plain_cell(tag: u32, link: u32, size: u32) -> Cell
+    ensures { λ r. ⌜ r ≡ plainCell tag link size ⌝ }
+{
+    Cell {
+        tag,
+        link,
+        size,
+        inv: 0,
+        code: 0,
+        number: 0,
+        dual: 0,
+        flex: 0,
+        text: 0,
+        start: 0,
+        len: 0,
+        count: 0,
+    }
+}
+
+fn known_cell(inv: Inverted, k: Kind, size: u32) -> Cell
+    ensures { λ r. ⌜ r ≡ knownCell inv k size ⌝ }
+{
+    Cell {
+        tag: KNOWN_TAG,
+        link: k.first,
+        size,
+        inv: flag(inv.0),
+        code: k.code,
+        number: k.number,
+        dual: flag(k.dual),
+        flex: k.flex,
+        text: k.text,
+        start: k.start,
+        len: k.len,
+        count: k.count,
+    }
+}
+
+fn cell_of(n: TypeNode) -> Cell
+    ensures { λ r. ⌜ r ≡ cellOf n ⌝ }
+{
+    match n {
+        TypeNode::Child(t) => plain_cell(CHILD_TAG, t.0, 0),
+        TypeNode::Root { state, size } => match state {
+            TypeState::Unknown(span) => plain_cell(UNKNOWN_TAG, span, size),
+            TypeState::InferenceFailed => plain_cell(FAILED_TAG, 0, size),
+            TypeState::Known(inv, kind) => known_cell(inv, kind, size),
+        },
+    }
+}
+
+// The node i of n; past them a root of no size.
+pub fn node_at(ws: &[u32], n: u32, i: TypeIdx) -> TypeNode
+    requires { ⌜ nodeWords n ≤ length (now ws) ⌝ }
+    ensures { λ r. ⌜ r ≡ readAt (now (ws .entry)) n (i .0) ⌝ }
+{
+    if n <= i.0 {
+        return TypeNode::Root {
+            state: TypeState::Unknown(NONE),
+            size: 0,
+        };
+    }
+    let e = (i.0 as usize + 1) * NODE_WORDS;
+    let a = e - NODE_WORDS;
+    node_of(read_cell(&ws[a..e]))
+}
+
+// Another node i of n; past them nothing changes.
+pub fn put_node(ws: &mut [u32], n: u32, i: TypeIdx, node: TypeNode)
+    requires { ⌜ nodeWords n ≤ length (now ws) ⌝ }
+    ensures { λ _. ⌜ now (ws .exit) ≡ putAt (now (ws .entry)) n (i .0) node ⌝ }
+{
+    if n <= i.0 {
+        return;
+    }
+    let end = (i.0 as usize + 1) * NODE_WORDS;
+    let start = end - NODE_WORDS;
+    write_cell(&mut ws[start..end], cell_of(node));
+}
+
+fn read_slot(s: &[u32]) -> Slot
+    ensures { λ r. ⌜ r ≡ slotIn (now (s .entry)) ⌝ }
+{
+    Slot {
+        ty: Type(word(s, 0)),
+        text: word(s, 1),
+        start: word(s, 2),
+        len: word(s, 3),
+    }
+}
+
+fn write_slot(s: &mut [u32], c: Slot)
+    requires { ⌜ length (now s) ≡ CHILD-WORDS ⌝ }
+    ensures { λ _. ⌜ now (s .exit) ≡ slotWords c ⌝ }
+{
+    s[0] = c.ty.0;
+    s[1] = c.text;
+    s[2] = c.start;
+    s[3] = c.len;
+}
+
+// The child i; past the end zeros.
+pub fn child_at(ks: &[u32], i: usize) -> Slot
+    ensures { λ r. ⌜ slotMeans r ≡ slotAt (now (ks .entry)) i ⌝ }
+{
+    if ks.len() / CHILD_WORDS < i {
+        return Slot {
+            ty: Type(0),
+            text: 0,
+            start: 0,
+            len: 0,
+        };
+    }
+    let a = i * CHILD_WORDS;
+    read_slot(&ks[a..])
+}
+
+// Child j of a kind.
+pub fn child_of(ks: &[u32], k: Kind, j: u32) -> Slot
+    ensures { λ r. ⌜ slotMeans r ≡ slotAt (now (ks .entry)) (k .first + j) ⌝ }
+{
+    child_at(ks, k.first as usize + j as usize)
+}
+
+pub fn put_child(ks: &mut [u32], i: usize, c: Slot)
+    requires { ⌜ i * CHILD-WORDS + CHILD-WORDS ≤ length (now ks) ⌝ }
+    ensures { λ _. ⌜ now (ks .exit) ≡ putSlot (now (ks .entry)) i c ⌝ }
+{
+    let a = i * CHILD_WORDS;
+    let e = a + CHILD_WORDS;
+    write_slot(&mut ks[a..e], c);
+}
+
+fn remembered_of(w: u32) -> Remembered
+    ensures { λ r. ⌜ r ≡ rememberedOf w ⌝ }
+{
+    if w == NONE {
+        Remembered::Nothing
+    } else {
+        Remembered::Is(Type(w))
+    }
+}
+
+fn remembered_word(t: Remembered) -> u32
+    ensures { λ r. ⌜ r ≡ rememberedWord t ⌝ }
+{
+    match t {
+        Remembered::Is(t) => t.0,
+        Remembered::Nothing => NONE,
+    }
+}
+
+pub fn read_header(h: &[u32]) -> Header
+    ensures { λ r. ⌜ r ≡ headerIn (now (h .entry)) ⌝ }
+{
+    let low = word(h, 6) as u64;
+    let high = word(h, 7) as u64;
+    Header {
+        nodes: word(h, 0),
+        children: word(h, 1),
+        node_room: word(h, 2),
+        child_room: word(h, 3),
+        error: remembered_of(word(h, 4)),
+        nil: remembered_of(word(h, 5)),
+        reports: low + high * HALF,
+    }
+}
+
+pub fn write_header(h: &mut [u32], x: Header)
+    requires { ⌜ HEAD-WORDS ≤ length (now h) ⌝ }
+    ensures { λ _. ⌜ now (h .exit) ≡ putHeader (now (h .entry)) x ⌝ }
+{
+    let error = x.error;
+    let nil = x.nil;
+    h[0] = x.nodes;
+    h[1] = x.children;
+    h[2] = x.node_room;
+    h[3] = x.child_room;
+    h[4] = remembered_word(error);
+    h[5] = remembered_word(nil);
+    h[6] = (x.reports % HALF) as u32;
+    h[7] = (x.reports / HALF) as u32;
+}
