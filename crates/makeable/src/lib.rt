@@ -4,7 +4,7 @@
 // A kind's width is tested before its children are read: the time is that of the nodes and of at most 255 children each, whose names are at most 255 bytes.
 ghost use mathlib.Core.Path.{_≡_};
 ghost use mathlib.Core.List.{List, [], _∷_, map};
-ghost use Prim.Native.Nat.{_≤_};
+ghost use Prim.Native.Nat.{_+_, _≤_};
 ghost use lib.ListN.{length};
 ghost use Rattle.scope.specs.Base.{all};
 ghost use Rattle.scope.specs.Names.{name, namedOrNone};
@@ -15,9 +15,9 @@ ghost use Rattle.scope.specs.Sound.{slotName, inStore, kindSound, nodeSound, re
 ghost use Rattle.scope.specs.Sound as sound;
 ghost use Rattle.names.specs.Place.{texts, nameIn};
 ghost use Rattle.chart.specs.Env.{chartIn, chartAlone};
-ghost use Rattle.layout.specs.Words.{nodeWords, slots, decode};
+ghost use Rattle.layout.specs.Words.{nodeWords, slotAt, slots, decode};
 ghost use Rattle.layout.specs.Meaning.{kindMeans, nodeMeans, rememberedMeans};
-ghost use Rattle.makeable.specs.Nodes.{CleanNodes, narrow, narrowNodes};
+ghost use Rattle.makeable.specs.Nodes.{placeOf, CleanNodes, narrow, narrowNodes};
 use kinds::AS_CHART;
 use kinds::CHILD_NAMES;
 use kinds::ERROR;
@@ -25,7 +25,6 @@ use kinds::OWN_NAME;
 use kinds::PARAMETER_NAMES;
 use layout::Kind;
 use layout::Remembered;
-use layout::Slot;
 use layout::TypeNode;
 use layout::TypeState;
 use names::Name;
@@ -49,10 +48,11 @@ fn own_name(k: Kind) -> Name
     }
 }
 
-// A child's name; its length is 0 where there is none.
-fn name_of(s: Slot) -> Name
-    ensures { λ r. ⌜ nameIn r ≡ name (s .text) (s .start) (s .len) ⌝ }
+// The name of child j; its length is 0 where there is none.
+fn child_name(ks: &[u32], k: Kind, j: u32) -> Name
+    ensures { λ r. ⌜ nameIn r ≡ placeOf (slotAt (now (ks .entry)) (k .first + j)) ⌝ }
 {
+    let s = layout::child_of(ks, k, j);
     Name {
         text: s.text,
         start: s.start,
@@ -81,7 +81,7 @@ fn child_names_fit<'a>(k: Kind, ks: &[u32], rule: &'a [u8], text: &'a [u8]) -> b
     };
     let mut j: u32 = 0;
     while j < k.count {
-        let next = name_of(layout::child_of(ks, k, j));
+        let next = child_name(ks, k, j);
         if !names::name_ok(next, rule, text) {
             return false;
         }
@@ -100,7 +100,7 @@ fn parameter_names_fit(k: Kind, n: u32, ks: &[u32], rule: &[u8], text: &[u8]) ->
 {
     let mut j: u32 = 0;
     while j < n {
-        if !name_or_none(name_of(layout::child_of(ks, k, j)), rule, text) {
+        if !name_or_none(child_name(ks, k, j), rule, text) {
             return false;
         }
         j += 1;
