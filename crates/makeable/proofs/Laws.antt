@@ -14,11 +14,13 @@ use Rattle.scope.specs.Base.{all, from}
 use Rattle.scope.specs.Limits.{MAX-WIDTH}
 use Rattle.scope.specs.Chart.{Env}
 use Rattle.scope.specs.Types.{Ty, tyOf}
-use Rattle.scope.specs.Kinds.{Head, makeable, defined, flagOf, flagIs}
+use Rattle.scope.specs.Names.{Texts}
+use Rattle.scope.specs.Kinds.{Head, rowOf, shapeFits, namesOk, flexOk, numberOk, makeable, defined, flagOf, flagIs}
 use Rattle.scope.specs.Nodes as nodes
 use Rattle.scope.specs.Sound as sound
 use Rattle.scope.specs.Sound.{inStore, kindSound, nodeSound, roomSound, soundStore, sound}
 use Rattle.types.specs.declared.Inverted.{Inverted}
+use Rattle.names.specs.Place.{texts}
 use Rattle.chart.specs.Words.{recordsOf}
 use Rattle.chart.specs.Env.{envOf, chartIn, chartAlone}
 use Rattle.chart.specs.declared.Beside.{Beside}
@@ -34,7 +36,7 @@ use Rattle.layout.proofs.Lists.{and-left, and-right, all-from, from-all}
 use Rattle.layout.proofs.ChildLaws.{length-kids, kid-at}
 use Rattle.layout.proofs.Laws.{past, length-decode, read-node}
 use Rattle.layout.proofs.StoreLaws.{clean-nodes}
-use Rattle.makeable.specs.Nodes.{narrow, narrowNodes}
+use Rattle.makeable.specs.Nodes.{CleanNodes, narrow, narrowNodes}
 use Rattle.makeable.proofs.NameLaws.{and-false}
 
 -- a test of the numbers from i to n, one by one
@@ -90,12 +92,32 @@ module _ (e : Env) (ws : List ℕ) (same : e .records ≡ recordsOf ws) (ks : Li
   unfolding kindMeans
   flag-chart = flag-by e (chartAlone ws) same (kindMeans ks k .head) (kindMeans [] k .head) refl refl refl
 
+-- the tests of a kind, one after the other
+
+pub made-tests : (x : Texts) (ks : List ℕ) (k : Kind) (n : ℕ)
+    → makeable x (kindMeans ks k .head) n
+    ≡ (ltb (k .code) 15
+    && (leb n MAX-WIDTH
+    && (shapeFits (rowOf (k .code) .shape) n
+    && (namesOk x (rowOf (k .code) .names) (kindMeans ks k .head .names) n
+    && (flexOk (k .code) (k .flex) && numberOk (rowOf (k .code) .number) (k .number))))))
+unfolding makeable kindMeans
+made-tests x ks k n = refl
+
+pub kind-tests : (ws rule text ks : List ℕ) (k : Kind) (ns : List nodes.Node)
+    → kindSound (chartIn ws rule text) ns (kindMeans ks k)
+    ≡ (makeable (texts rule text) (kindMeans ks k .head) (k .count)
+    && (defined (chartAlone ws) (kindMeans [] k .head) && (flagIs (chartAlone ws) (kindMeans [] k .head) && all (inStore ns) (kindMeans ks k .kids))))
+unfolding kindSound
+kind-tests ws rule text ks k ns =
+    rw (length-kids ks k, defined-chart (chartIn ws rule text) ws refl ks k, flag-chart (chartIn ws rule text) ws refl ks k)
+
 -- what is read of the nodes
 
 pub inside-length : (ns ns′ : List nodes.Node) → length ns ≡ length ns′ → (ts : List Ty) → all (inStore ns) ts ≡ all (inStore ns′) ts
 inside-length ns ns′ e ts = ap (λ (n : ℕ). all (λ (t : Ty). ltb (t .idx) n) ts) e
 
-module _ (e e′ : Env) (ns ns′ : List nodes.Node) (same : e .records ≡ e′ .records) (texts : e .texts ≡ e′ .texts) (len : length ns ≡ length ns′) where
+module _ (e e′ : Env) (ns ns′ : List nodes.Node) (same : e .records ≡ e′ .records) (texts′ : e .texts ≡ e′ .texts) (len : length ns ≡ length ns′) where
   -- a kind's test reads the records, the texts and the number of nodes
   pub kind-sound-reads : (k : nodes.Kind) → kindSound e ns k ≡ kindSound e′ ns′ k
   unfolding kindSound
@@ -117,6 +139,19 @@ pub nodes-beside : (ws : List ℕ) (b : Beside) (rule text : List ℕ) (ns : Lis
 nodes-beside ws b rule text ns =
     all-same (nodeSound (envOf ws b rule text) ns) (nodeSound (chartIn ws rule text) ns)
     (node-sound-reads (envOf ws b rule text) (chartIn ws rule text) ns ns refl refl refl) ns
+
+-- the nodes of clean words, by their places
+
+module _ (ws ks : List ℕ) (n : ℕ) (cl : CleanNodes ws ks n) (i : ℕ) where
+  pub node-below : i < n → i < length (decode ws ks n)
+  node-below h = rw (length-decode ws ks n) h
+
+  pub nodes-past : n ≤ i → length (decode ws ks n) ≤ i
+  nodes-past h = rw (length-decode ws ks n) h
+
+  -- the node at i, where the code has read it
+  pub node-there : (v : TypeNode) → v ≡ readAt ws n i → getD (decode ws ks n) i past ≡ nodeMeans ks v
+  node-there v e = sym (read-node ws ks (cl .made) n (cl .clean) i) ∙ ap (nodeMeans ks) (sym e)
 
 -- "255 children a kind"
 

@@ -11,7 +11,7 @@ use native.Mathlib.Omega.{arith}
 use lib.Dec.{eqb, leb}
 use lib.ListN.{length, getD, drop, length-map, drop-of-length-le, List·getD-map}
 use lib.Seq.{drop-cons}
-use borrow.Author.Tests.{eq-eqb, eqb-true}
+use borrow.Author.Tests.{eq-eqb, ne-eqb, eqb-true}
 use Rattle.scope.specs.Base.{pick, all, from}
 use Rattle.scope.specs.Names.{Texts, Name, name, bytes, inText, nameOk, ltBytes, ascending, bytesOr, named, namedOrNone}
 use Rattle.scope.specs.Kinds.{rowOf, OWN-NAME, CHILD-NAMES, PARAMETER-NAMES, objectNamesOk, namesOk}
@@ -71,8 +71,16 @@ length-names ks i n = length-map (slots ks i n) slotName ∙ length-slots ks i n
 abbrev bare : Slot
 bare = record { type = 0; text = 0; start = 0; len = 0 }
 
-pub name-there : (ks : List ℕ) (i n j : ℕ) → j < n → getD (childNames ks i n) j none ≡ nameOr (placeOf (slotAt ks (i + j)))
-name-there ks i n j h = List·getD-map slotName (slots ks i n) j bare ∙ ap slotName (slots-get ks i n j bare h)
+module _ (ks : List ℕ) (i n j : ℕ) where
+  pub name-below : j < n → j < length (childNames ks i n)
+  name-below h = rw (length-names ks i n) h
+
+  pub names-past : n ≤ j → length (childNames ks i n) ≤ j
+  names-past h = rw (length-names ks i n) h
+
+  -- the j-th name, where the code has read its place
+  pub name-there : j < n → (m : Name) → m ≡ placeOf (slotAt ks (i + j)) → getD (childNames ks i n) j none ≡ nameOr m
+  name-there h m e = List·getD-map slotName (slots ks i n) j bare ∙ (ap slotName (slots-get ks i n j bare h) ∙ ap nameOr (sym e))
 
 -- "strictly ascending", held against the name before
 
@@ -139,24 +147,28 @@ module _ (x : Texts) (ks : List ℕ) (k : Kind) where
   abbrev pub namesTest : Bool
   namesTest = namesOk x asked (kindMeans ks k .head .names) (k .count)
 
-  pub own-names : asked ≡ OWN-NAME → namesTest ≡ nameOk x (name (k .text) (k .start) (k .len))
-  unfolding namesOk kindMeans
-  own-names e = rw (eq-eqb asked OWN-NAME e) (and-true (named x (nameIn (k .text) (k .start) (k .len))) ∙ named-or x (name (k .text) (k .start) (k .len)))
+  -- d is what the code's row asks for
+  module _ (d : ℕ) (row : d ≡ asked) where
+    pub own-names : d ≡ OWN-NAME → namesTest ≡ nameOk x (name (k .text) (k .start) (k .len))
+    unfolding namesOk kindMeans
+    own-names e =
+        rw (← row, eq-eqb d OWN-NAME e)
+        (and-true (named x (nameIn (k .text) (k .start) (k .len))) ∙ named-or x (name (k .text) (k .start) (k .len)))
 
-  pub child-names : asked ≡ CHILD-NAMES → namesTest ≡ objectNamesOk x (childNames ks (k .first) (k .count))
-  unfolding namesOk kindMeans
-  child-names e = rw (e, eq-eqb (length (childNames ks (k .first) (k .count))) (k .count) (length-names ks (k .first) (k .count)))
+    pub child-names : d ≡ CHILD-NAMES → namesTest ≡ objectNamesOk x (childNames ks (k .first) (k .count))
+    unfolding namesOk kindMeans
+    child-names e = rw (← row, e, eq-eqb (length (childNames ks (k .first) (k .count))) (k .count) (length-names ks (k .first) (k .count)))
 
-  pub parameter-names : asked ≡ PARAMETER-NAMES → 0 < k .count → namesTest ≡ all (namedOrNone x) (childNames ks (k .first) (k .count - 1))
-  unfolding namesOk kindMeans
-  parameter-names e h =
-      let z : suc (length (childNames ks (k .first) (k .count - 1))) ≡ k .count = omega (arith, length-names ks (k .first) (k .count - 1)) in
-      rw (e, front-slots ks (k .first) (k .count) h, eq-eqb (suc (length (childNames ks (k .first) (k .count - 1)))) (k .count) z)
+    pub parameter-names : d ≡ PARAMETER-NAMES → (k .count ≡ 0 → ⊥) → namesTest ≡ all (namedOrNone x) (childNames ks (k .first) (k .count - 1))
+    unfolding namesOk kindMeans
+    parameter-names e h =
+        let z : suc (length (childNames ks (k .first) (k .count - 1))) ≡ k .count = omega (arith, length-names ks (k .first) (k .count - 1)) in
+        rw (← row, e, front-slots ks (k .first) (k .count) (omega arith), eq-eqb (suc (length (childNames ks (k .first) (k .count - 1)))) (k .count) z)
 
-  pub no-return : asked ≡ PARAMETER-NAMES → k .count ≡ 0 → namesTest ≡ false
-  unfolding namesOk kindMeans
-  no-return e z = rw (e, z)
+    pub no-return : d ≡ PARAMETER-NAMES → k .count ≡ 0 → namesTest ≡ false
+    unfolding namesOk kindMeans
+    no-return e z = rw (← row, e, z)
 
-  pub no-names : eqb asked OWN-NAME ≡ false → eqb asked CHILD-NAMES ≡ false → eqb asked PARAMETER-NAMES ≡ false → namesTest ≡ true
-  unfolding namesOk kindMeans
-  no-names o p q = rw (o, p, q)
+    pub no-names : (d ≡ OWN-NAME → ⊥) → (d ≡ CHILD-NAMES → ⊥) → (d ≡ PARAMETER-NAMES → ⊥) → namesTest ≡ true
+    unfolding namesOk kindMeans
+    no-names o p q = rw (← row, ne-eqb d OWN-NAME o, ne-eqb d CHILD-NAMES p, ne-eqb d PARAMETER-NAMES q)

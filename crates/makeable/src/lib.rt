@@ -32,12 +32,6 @@ use scope::MAX_WIDTH;
 use types::Type;
 use types::TypeIdx;
 
-fn wide(x: u32) -> usize
-    ensures { λ r. ⌜ r ≡ x ⌝ }
-{
-    x as usize
-}
-
 fn own_name(k: Kind) -> Name
     ensures { λ r. ⌜ nameIn r ≡ name (k .text) (k .start) (k .len) ⌝ }
 {
@@ -135,7 +129,7 @@ pub fn can_be_made<'a>(k: Kind, ks: &[u32], rule: &'a [u8], text: &'a [u8]) -> b
     if k.code > ERROR {
         return false;
     }
-    let n = wide(k.count);
+    let n = k.count as usize;
     if n > MAX_WIDTH {
         return false;
     }
@@ -279,7 +273,7 @@ fn is_narrow(node: TypeNode) -> bool
     match node {
         TypeNode::Child(_) => true,
         TypeNode::Root { state, size: _ } => match state {
-            TypeState::Known(_, kind) => wide(kind.count) <= MAX_WIDTH,
+            TypeState::Known(_, kind) => kind.count as usize <= MAX_WIDTH,
             TypeState::Unknown(_) => true,
             TypeState::InferenceFailed => true,
         },

@@ -1,4 +1,4 @@
--- `makeable::is_narrow` meets its contract, by the cases of a node; a width of 32 bits is compared in 64.
+-- `makeable::is_narrow` meets its contract, by the cases of a node.
 -- Assumes nothing.
 use borrow.Author.Needs.{needs}
 use Rattle.makeable.proofs.is_narrow.Statement.{statement}
@@ -13,8 +13,8 @@ enum-known-node c = search needs
 enum-known-state : tie.Need-enum-known-state
 enum-known-state c = search needs
 
-wide-requires : tie.Need-wide-requires
-wide-requires c κs = search needs
+cast-result : tie.Need-cast-result
+cast-result c = search needs
 
 enum-told-2 : tie.Need-enum-told-2
 enum-told-2 c = search needs
@@ -26,7 +26,7 @@ returns : tie.Need-returns
 returns c = search needs
 
 returns-2 : tie.Need-returns-2
-returns-2 c = rw (c .before .before .before .before .before .node .given .1, c .before .before .state .given .1, c .wide .ensures)
+returns-2 c = rw (c .before .before .before .before .before .node .given .1, c .before .before .state .given .1)
 
 returns-3 : tie.Need-returns-3
 returns-3 c = search needs
@@ -41,7 +41,7 @@ is-narrow-spec =
     enum-told
     enum-known-node
     enum-known-state
-    wide-requires
+    cast-result
     enum-told-2
     enum-told-3
     returns
