@@ -1,0 +1,36 @@
+-- What the code tests before it reads a store, what any numbers are as a chart, and a refusal's number.
+use mathlib.Core.List.{List, [], _∷_}
+use mathlib.Core.Bool.{Bool, _&&_}
+use mathlib.Core.Option.{Option, none, some}
+use Prim.Native.Nat.{ℕ, _%_}
+use lib.Dec.{eqb, leb}
+use lib.ListN.{length}
+use Rattle.scope.specs.Base.{pick}
+use Rattle.scope.specs.Limits.{MAX-NODES, MAX-CHILDREN, NONE}
+use Rattle.scope.specs.Chart.{Env, noRecord}
+use Rattle.names.specs.Place.{texts}
+use Rattle.chart.specs.declared.Beside.{Beside}
+use Rattle.chart.specs.Words.{RECORD-WORDS}
+use Rattle.chart.specs.Env.{envOf}
+use Rattle.layout.specs.Words.{nodesMade, nodeRoom, childRoom, clean}
+use Rattle.makeable.specs.Nodes.{narrowNodes}
+
+-- "Nodes 0 to 4,096; children over all nodes ever made 0 to 16,384"
+abbrev pub within : List ℕ → Bool
+within h = leb (nodeRoom h) MAX-NODES && leb (childRoom h) MAX-CHILDREN
+
+-- the numbers say a store, its capacities are within the limits, and no kind of it is too wide
+unfoldable pub readable : List ℕ → List ℕ → List ℕ → Bool
+readable h ws ks = within h && (narrowNodes ws (nodesMade h) && clean h ws ks)
+
+-- the chart of numbers that are no whole records: one of a definition without a sort, which refusal 2 turns back
+abbrev pub noChart : Env
+noChart = record { records = noRecord ∷ []; fnTrait = NONE; sigils = []; texts = texts [] [] }
+
+-- what every call reads, of any numbers
+unfoldable pub envIn : List ℕ → Beside → List ℕ → List ℕ → Env
+envIn ws b rule text = pick (eqb (length ws % RECORD-WORDS) 0) (envOf ws b rule text) noChart
+
+-- a refusal as the code answers it: 0 is none
+abbrev pub codeOf : ℕ → Option ℕ
+codeOf n = pick (eqb n 0) none (some n)

@@ -1,0 +1,91 @@
+// Refusals 2 and 8, which every call on a store can answer: of a chart and texts that break a limit, and of a store that is not sound.
+// Any numbers at all may be lent. Capacities and widths are tested first, so each later test looks at no more than 4,096 nodes with 255 children each.
+ghost use mathlib.Core.Path.{_≡_};
+ghost use Rattle.scope.specs.Sound.{sound};
+ghost use Rattle.scope.specs.Calls.{firstBroken, lentTests};
+ghost use Rattle.chart.specs.Env.{chartIn};
+ghost use Rattle.layout.specs.Words.{lentOf};
+ghost use Rattle.sound.specs.Tests.{readable, envIn, codeOf};
+use chart::Beside;
+use scope::MAX_CHILDREN;
+use scope::MAX_NODES;
+
+// No refusal stands.
+pub const NO_REFUSAL: u32 = 0;
+
+// "chart or texts break a limit, sort, flag or range"
+pub const BAD_CHART: u32 = 2;
+
+// A store that is not sound.
+pub const UNSOUND: u32 = 8;
+
+// The numbers say a store, its capacities are within the limits, and no kind of it is too wide.
+fn readable(h: &[u32], ws: &[u32], ks: &[u32]) -> bool
+    ensures { λ r. ⌜ r ≡ readable (now (h .entry)) (now (ws .entry)) (now (ks .entry)) ⌝ }
+{
+    let x = layout::read_header(h);
+    if x.node_room as usize > MAX_NODES {
+        return false;
+    }
+    if x.child_room as usize > MAX_CHILDREN {
+        return false;
+    }
+    if ws.len() < layout::node_words(x.nodes) {
+        return false;
+    }
+    if !makeable::widths_ok(ws, x.nodes) {
+        return false;
+    }
+    layout::clean::clean(h, ws, ks)
+}
+
+// Whether refusal 8 does not stand, with this chart and these texts.
+pub fn store_sound<'a>(
+    chart: &[u32],
+    rule: &'a [u8],
+    text: &'a [u8],
+    h: &[u32],
+    ws: &[u32],
+    ks: &[u32],
+) -> bool
+    ensures { λ r. ⌜ r ≡ sound (chartIn (now (chart .entry)) (now (rule .entry)) (now (text .entry))) (lentOf (now (h .entry)) (now (ws .entry)) (now (ks .entry))) ⌝ }
+{
+    if !readable(h, ws, ks) {
+        return false;
+    }
+    let x = layout::read_header(h);
+    let n = x.nodes;
+    let error = x.error;
+    let nil = x.nil;
+    if !makeable::nodes_sound(ws, ks, n, chart, rule, text) {
+        return false;
+    }
+    if !makeable::remembered_inside(error, n) {
+        return false;
+    }
+    if !makeable::remembered_inside(nil, n) {
+        return false;
+    }
+    shape::shape_ok(ws, ks, n)
+}
+
+// The first of refusals 2 and 8 that stands, and 0 where none does.
+pub fn refusal<'a>(
+    chart: &[u32],
+    beside: Beside,
+    rule: &'a [u8],
+    text: &'a [u8],
+    h: &[u32],
+    ws: &[u32],
+    ks: &[u32],
+) -> u32
+    ensures { λ r. ⌜ firstBroken (lentTests (envIn (now (chart .entry)) beside (now (rule .entry)) (now (text .entry))) (lentOf (now (h .entry)) (now (ws .entry)) (now (ks .entry)))) ≡ codeOf r ⌝ }
+{
+    if !chart::chart_ok(chart, beside, rule, text) {
+        return BAD_CHART;
+    }
+    if !store_sound(chart, rule, text, h, ws, ks) {
+        return UNSOUND;
+    }
+    NO_REFUSAL
+}
