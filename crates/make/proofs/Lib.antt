@@ -1,0 +1,5 @@
+-- The laws that belong to no one function
+pub mod Blank
+pub mod Parts
+pub mod Laws
+pub mod MakeLaws
