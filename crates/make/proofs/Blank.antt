@@ -7,8 +7,9 @@ use mathlib.Core.List.{List, [], _∷_, _++_}
 use Prim.Native.Nat.{ℕ, zero, suc, _+_, _-_, _<_, _≤_}
 use native.Mathlib.Omega.{arith}
 use lib.Dec.{eqb, ltb}
-use lib.ListN.{length, getD, take, drop, replicate, length-append, length-take, length-drop, length-replicate, getD-replicate, List·getD-append}
+use lib.ListN.{length, getD, take, drop, set, replicate, length-append, length-take, length-drop, length-replicate, getD-replicate, List·getD-append}
 use lib.Seq.{getD-take, getD-drop, drop-at}
+use borrow.Author.Fill.{fill-more}
 use borrow.Author.Tests.{eqb-true, eq-eqb, ltb-true, ltb-false}
 use Rattle.scope.specs.Sound.{zeros}
 use Rattle.layout.specs.Words.{between}
@@ -73,3 +74,15 @@ module _ (xs : List ℕ) (a : ℕ) where
   -- zeros up to a and zeros from a on are zeros
   pub blank-cleared : (e : ℕ) → Blank xs a e → Blank (cleared xs a) 0 e
   blank-cleared e z i l h = by-side (ltb i a) e z i refl h
+
+-- one word after the other
+
+module _ (xs : List ℕ) (i : ℕ) {ys : List ℕ} (q : ys ≡ cleared xs i) where
+  pub cleared-length : i ≤ length xs → length ys ≡ length xs
+  cleared-length h = ap length q ∙ length-cleared xs i h
+
+  pub cleared-more : i < length xs → set ys i 0 ≡ cleared xs (i + 1)
+  cleared-more h = ap (λ (l : List ℕ). set l i 0) q ∙ fill-more i 0 xs h
+
+pub cleared-end : (xs : List ℕ) (i e : ℕ) {ys : List ℕ} → ys ≡ cleared xs i → i ≡ e → ys ≡ cleared xs e
+cleared-end xs i e q z = q ∙ ap (cleared xs) z

@@ -3,3 +3,5 @@ pub mod Blank
 pub mod Parts
 pub mod Laws
 pub mod MakeLaws
+pub mod GivenLaws
+pub mod VarLaws

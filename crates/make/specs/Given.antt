@@ -72,8 +72,8 @@ pub record KindReady (h ws ks : List ℕ) (k : NewKind) (ts ns : List ℕ) : Typ
 abbrev pub kept : Bool → ℕ → ℕ
 kept b w = pick b w 0
 
-abbrev pub ownNamed : NewKind → Bool
-ownNamed k = ownsName (k .code) && not (eqb (k .len) 0)
+abbrev pub ownNamed : ℕ → ℕ → Bool
+ownNamed c len = ownsName c && not (eqb len 0)
 
 abbrev pub kindWritten : NewKind → ℕ → ℕ → Kind
 kindWritten k first count = record {
@@ -81,9 +81,9 @@ kindWritten k first count = record {
   number = k .number;
   dual = k .dual;
   flex = k .flex;
-  text = kept (ownNamed k) (k .text);
-  start = kept (ownNamed k) (k .start);
-  len = kept (ownNamed k) (k .len);
+  text = kept (ownNamed (k .code) (k .len)) (k .text);
+  start = kept (ownNamed (k .code) (k .len)) (k .start);
+  len = kept (ownNamed (k .code) (k .len)) (k .len);
   first = first;
   count = count;
 }

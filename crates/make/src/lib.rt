@@ -13,7 +13,7 @@ ghost use Rattle.layout.specs.Words as words;
 ghost use Rattle.layout.specs.Meaning.{HALF};
 ghost use Rattle.make.specs.Holds.{Became, Openable, Ready, MadeIs, MadeAllIs};
 ghost use Rattle.make.specs.Header.{Pushable, Pushed, cleared, fresh, bareKind};
-ghost use Rattle.make.specs.Given.{KindReady, Put, kindGiven, kindWritten, kept, slotGiven};
+ghost use Rattle.make.specs.Given.{KindReady, Put, kindGiven, kindWritten, kept, ownNamed, slotGiven};
 use kinds::ERROR;
 use kinds::OWN_NAME;
 use kinds::TUPLE;
@@ -202,12 +202,23 @@ fn keep(on: bool, w: u32) -> u32
     if on { w } else { 0 }
 }
 
+// A kind of this code has a name of its own, and a name of this length is one.
+fn has_name(code: u32, len: u32) -> bool
+    ensures { λ r. ⌜ r ≡ ownNamed code len ⌝ }
+{
+    let row = kinds::row_of(code);
+    if row.names == OWN_NAME {
+        len != 0
+    } else {
+        false
+    }
+}
+
 // The kind's numbers as they are written; a name of its own only where it has one.
 fn kind_of(k: NewKind, first: u32, count: u32) -> Kind
     ensures { λ r. ⌜ r ≡ kindWritten k first count ⌝ }
 {
-    let row = kinds::row_of(k.code);
-    let named = row.names == OWN_NAME && k.len != 0;
+    let named = has_name(k.code, k.len);
     Kind {
         code: k.code,
         number: k.number,
