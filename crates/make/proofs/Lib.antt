@@ -5,3 +5,5 @@ pub mod Laws
 pub mod MakeLaws
 pub mod GivenLaws
 pub mod VarLaws
+pub mod OpenLaws
+pub mod NewLaws

@@ -64,10 +64,10 @@ vars-types s p (suc n) = ap suc (vars-types (newVar s p .store) p n)
 written-length : (ts : List Ty) (out : List ℕ) → length ts ≤ length out → length (written ts out) ≡ length out
 written-length ts out h = simp (length-append, length-map) (omega (arith, length-drop (length ts) out))
 
-written-more : (ts : List Ty) (t : Ty) (out : List ℕ) → length ts < length out → set (written ts out) (length ts) (wordOf t) ≡ written (ts ++ (t ∷ [])) out
-written-more ts t out h =
-    let e : length (ts ++ (t ∷ [])) ≡ suc (length ts) = length-append ts (t ∷ []) ∙ omega arith in
-    rw (drop-cons out (length ts) 0 h, set-at (map wordOf ts) (getD out (length ts) 0) (drop (suc (length ts)) out) (wordOf t) (length ts) (length-map ts wordOf))
+written-more : (ts : List Ty) (t : Ty) (out : List ℕ) (i : ℕ) → length ts ≡ i → i < length out → set (written ts out) i (wordOf t) ≡ written (ts ++ (t ∷ [])) out
+written-more ts t out i z h =
+    let e : length (ts ++ (t ∷ [])) ≡ suc i = length-append ts (t ∷ []) ∙ omega arith in
+    rw (z, drop-cons out i 0 h, set-at (map wordOf ts) (getD out i 0) (drop (suc i) out) (wordOf t) i (length-map ts wordOf ∙ z))
     (rw (e, map-append wordOf ts (t ∷ []), append-assoc) refl)
 
 -- the loop
@@ -98,25 +98,21 @@ module _ {h₀ ws₀ ks h ws out₀ out : List ℕ} (p i : ℕ) (o : MadeAllIs h
 
   pub vars-more : {h′ ws′ out′ : List ℕ} {t : «Type»} → MadeIs h ws ks h′ ws′ ks t (newVar (storeIn h ws ks) p) → i < length out₀ → t .0 < 4294967296
       → out′ ≡ set out i (t .0) → MadeAllIs h₀ ws₀ ks h′ ws′ ks out₀ out′ (newVars was p (i + 1))
+  unfolding newVar
   vars-more {t = t} m l b q =
-      let v : Left was (made .store) i = vars-left was p i in
       let m′ = rw (o .store .holds .is) at m in
-      let z : length (made .types) ≡ i = vars-types was p i in
       let w : t .0 ≡ wordOf (newVar (made .store) p .type) = word-is (t .0) b (m′ .type) in
       rw (vars-more-is was p i) (record {
         types = q
             ∙ (ap (λ (l : List ℕ). set l i (t .0)) (o .types)
-            ∙ (rw (w, ← z) (written-more (made .types) (newVar (made .store) p .type) out₀ (rw z l))));
-        store = record {
-          holds = m′ .store .holds;
-          beyond = ?;
-        };
+            ∙ rw w (written-more (made .types) (newVar (made .store) p .type) out₀ i (vars-types was p i) l));
+        store = record { holds = m′ .store .holds; beyond = beyond-trans (o .store .beyond) (m′ .store .beyond) };
       })
 
-pub vars-none : {h ws ks out : List ℕ} {p n : ℕ} → Ready h ws ks n 0 → MadeAllIs h ws ks h ws ks out out (newVars (storeIn h ws ks) p 0)
+pub vars-none : {h ws ks out : List ℕ} {n : ℕ} (p : ℕ) → Ready h ws ks n 0 → MadeAllIs h ws ks h ws ks out out (newVars (storeIn h ws ks) p 0)
 unfolding newVars
-vars-none r = record { types = refl; store = record { holds = record { clean = r .clean; is = refl }; beyond = beyond-refl } }
+vars-none p r = record { types = refl; store = record { holds = record { clean = r .clean; is = refl }; beyond = beyond-refl } }
 
-pub vars-end : {h₀ ws₀ ks h ws out₀ out : List ℕ} {p i n : ℕ} → MadeAllIs h₀ ws₀ ks h ws ks out₀ out (newVars (storeIn h₀ ws₀ ks) p i) → i ≡ n
+pub vars-end : {h₀ ws₀ ks h ws out₀ out : List ℕ} (p : ℕ) {i n : ℕ} → MadeAllIs h₀ ws₀ ks h ws ks out₀ out (newVars (storeIn h₀ ws₀ ks) p i) → i ≡ n
     → MadeAllIs h₀ ws₀ ks h ws ks out₀ out (newVars (storeIn h₀ ws₀ ks) p n)
-vars-end o e = rw e at o
+vars-end p o e = rw e at o
