@@ -105,17 +105,17 @@ same-shift f g a b (suc n) e =
     let y : b + 0 ≡ b = omega arith in
     let first : f a ≡ g b = ap f (sym x) ∙ (e 0 (omega arith) ∙ ap g y) in
     let next : (i : ℕ) → i < n → f (suc a + i) ≡ g (suc b + i) =
-        λ i h.
-        let p : suc a + i ≡ a + suc i = omega arith in
-        let q : b + suc i ≡ suc b + i = omega arith in
-        ap f p ∙ (e (suc i) (omega arith) ∙ ap g q) in
+    λ i h.
+    let p : suc a + i ≡ a + suc i = omega arith in
+    let q : b + suc i ≡ suc b + i = omega arith in
+    ap f p ∙ (e (suc i) (omega arith) ∙ ap g q) in
     rw (first, same-shift f g (suc a) (suc b) n next) refl
 
 pub map-get : {A : Type 0} (f : ℕ → A) (l : List ℕ) → map (λ i. f (getD l i 0)) (from 0 (length l)) ≡ map f l
 map-get f [] = refl
 map-get f (x ∷ l) =
     let one : (i : ℕ) → i < length l → f (getD (x ∷ l) (1 + i) 0) ≡ f (getD l (0 + i) 0) =
-        λ i h. let p : 1 + i ≡ suc i = omega arith in let q : 0 + i ≡ i = omega arith in rw (p, q) refl in
+    λ i h. let p : 1 + i ≡ suc i = omega arith in let q : 0 + i ≡ i = omega arith in rw (p, q) refl in
     ap (λ (m : List _). f x ∷ m) (same-shift (λ i. f (getD (x ∷ l) i 0)) (λ i. f (getD l i 0)) 1 0 (length l) one ∙ map-get f l)
 
 pub front-from : {A : Type 0} (f : ℕ → A) (i n : ℕ) → sound.front (map f (from i (suc n))) ≡ map f (from i n)

@@ -7,12 +7,15 @@ use mathlib.Core.Option.{Option}
 use mathlib.Core.List.{List, [], _∷_, _++_, map, map-map}
 use Prim.Native.Nat.{ℕ, zero, suc, _+_, _*_, _/_, _<_, _≤_}
 use native.Mathlib.Omega.{arith}
-use lib.Dec.{eqb, leb}
+use lib.Dec.{eqb, ltb, leb}
 use lib.ListN.{length, getD, drop, length-append, length-map}
 use borrow.Author.Tests.{le-leb, lt-leb, leb-true, leb-false, eqb-true}
 use Rattle.scope.specs.Base.{pick, all, from}
 use Rattle.scope.specs.Types.{tyOf}
-use Rattle.scope.specs.Kinds.{rowOf, OWN-NAME, CHILD-NAMES, PARAMETER-NAMES}
+use Rattle.scope.specs.Limits.{MAX-WIDTH}
+use Rattle.scope.specs.Names.{Texts, Name, namedOrNone}
+use Rattle.scope.specs.Names as names
+use Rattle.scope.specs.Kinds.{rowOf, OWN-NAME, CHILD-NAMES, PARAMETER-NAMES, shapeFits, objectNamesOk, namesOk, flexOk, numberOk, makeable}
 use Rattle.scope.specs.Nodes as nodes
 use Rattle.scope.specs.Sound as sound
 use Rattle.scope.specs.Make.{nextType, pushed, new}
@@ -22,10 +25,10 @@ use Rattle.layout.specs.Meaning.{HALF, slotMeans, headerIn, kindCell, kindMeans
 use Rattle.layout.specs.declared.Header.{Header}
 use Rattle.layout.specs.declared.Kind.{Kind}
 use Rattle.layout.specs.declared.TypeState.the-variants.{Known}
-use Rattle.layout.proofs.Lists.{and-both, length-from, same-from}
+use Rattle.layout.proofs.Lists.{and-both, and-left, and-right, length-from, same-from}
 use Rattle.make.specs.Holds.{Ready, MadeIs}
 use Rattle.make.specs.Header.{Pushed}
-use Rattle.make.specs.Given.{nameGiven, namesGiven, ownGiven, kindGiven, namesFit, kindWritten, slotGiven, KindReady, Put}
+use Rattle.make.specs.Given.{nameGiven, namesGiven, ownGiven, kindGiven, countFits, namesFit, kindWritten, slotGiven, KindReady, Put}
 use Rattle.make.specs.declared.NewKind.{NewKind}
 use Rattle.make.proofs.Parts.{Parts, clean-parts}
 use Rattle.make.proofs.MakeLaws.{RoomIn, ready-room, pushed-made}
@@ -167,3 +170,26 @@ pub kind-made : {h ws ks h′ ws′ ks′ ts ns : List ℕ} {k : NewKind} {x : H
     → Pushed h ws h′ ws′ x (length ts) (x .error) (x .nil) (Known (record { 0 = false }) y) t
     → MadeIs h ws ks h′ ws′ ks′ t (new (storeIn h ws ks) (kindGiven k ts ns))
 kind-made r e o l q p = kind-in r (rw e at o) l (rw (q, e) at p)
+
+-- what scope's `makeable` says of the names is enough
+
+counts-by : (a b c : Bool) (x : Texts) (d n : ℕ) (ns : List (Option Name)) → eqb d OWN-NAME ≡ a → eqb d CHILD-NAMES ≡ b → eqb d PARAMETER-NAMES ≡ c
+    → namesOk x d ns n ≡ true → countFits d (length ns) n ≡ true
+unfolding namesOk
+counts-by true b c x d n ns e f g h = rw e (and-left (eqb (length ns) 1) (all (names.named x) ns) (rw e at h))
+counts-by false true c x d n ns e f g h = rw (e, f) (and-left (eqb (length ns) n) (objectNamesOk x ns) (rw (e, f) at h))
+counts-by false false true x d n ns e f g h = rw (e, f, g) (and-left (eqb (suc (length ns)) n) (all (namedOrNone x) ns) (rw (e, f, g) at h))
+counts-by false false false x d n ns e f g h = rw (e, f, g) (rw (e, f, g) at h)
+
+pub makeable-names : (x : Texts) (k : nodes.Kind) → makeable x (k .head) (length (k .kids)) ≡ true → namesFit k ≡ true
+unfolding makeable namesFit
+makeable-names x k h =
+    let r = rowOf (k .head .code) in
+    let d : ℕ = r .names in
+    let n : ℕ = length (k .kids) in
+    let ns : List (Option Name) = k .head .names in
+    let f : Bool = flexOk (k .head .code) (k .head .flex) && numberOk (r .number) (k .head .number) in
+    let a = and-right (ltb (k .head .code) 15) (leb n MAX-WIDTH && (shapeFits (r .shape) n && (namesOk x d ns n && f))) h in
+    let b = and-right (leb n MAX-WIDTH) (shapeFits (r .shape) n && (namesOk x d ns n && f)) a in
+    let c = and-left (namesOk x d ns n) f (and-right (shapeFits (r .shape) n) (namesOk x d ns n && f) b) in
+    counts-by (eqb d OWN-NAME) (eqb d CHILD-NAMES) (eqb d PARAMETER-NAMES) x d n ns refl refl refl c

@@ -43,9 +43,16 @@ loop-less : tie.Need-loop-less Inv-loop μ-loop
 loop-less c = omega arith
 
 loop-again : tie.Need-loop-again Inv-loop μ-loop
-loop-again c =
-    (omega arith, (c .before .before .before .before .new-var .kept .0 ∙ c .before .before .before .before .before .before .before .before .loop .inv .1 .0, (c .before .before .before .before .new-var .kept .1 .0 ∙ c .before .before .before .before .before .before .before .before .loop .inv .1 .1 .0,
-    vars-more (c .before .before .before .before .before .before .before .before .before .before .before .before .before .args .span) (c .before .before .before .before .before .before .before .before .loop .i) (c .before .before .before .before .before .before .before .before .loop .inv .1 .1 .1) (c .before .before .before .before .new-var .ensures) (omega (arith, c .before .before .before .before .before .before .before .before .before .before .before .before .before .pre .1)) (omega (arith, c .before .before .before .before .new-var .ok)) refl)))
+loop-again c = (
+  omega arith,
+  (
+    c .before .before .before .before .new-var .kept .0 ∙ c .before .before .before .before .before .before .before .before .loop .inv .1 .0,
+    (
+      c .before .before .before .before .new-var .kept .1 .0 ∙ c .before .before .before .before .before .before .before .before .loop .inv .1 .1 .0,
+      vars-more (c .before .before .before .before .before .before .before .before .before .before .before .before .before .args .span) (c .before .before .before .before .before .before .before .before .loop .i) (c .before .before .before .before .before .before .before .before .loop .inv .1 .1 .1) (c .before .before .before .before .new-var .ensures) (omega (arith, c .before .before .before .before .before .before .before .before .before .before .before .before .before .pre .1)) (omega (arith, c .before .before .before .before .new-var .ok)) refl,
+    ),
+  ),
+)
 
 same-length : tie.Need-same-length Inv-loop μ-loop
 same-length c = c .before .loop .inv .1 .0
