@@ -1,0 +1,29 @@
+-- `make::new_var` meets its contract. The header read is the store's, and the push of an Unknown is what newVar does.
+-- Assumes nothing.
+use borrow.Author.Needs.{needs}
+use Rattle.make.proofs.MakeLaws.{pushable, var-made}
+use Rattle.make.proofs.new_var.Statement.{statement}
+use Rattle.make.proofs.new_var.Tie as tie
+use Rattle.make.proofs.new_var.Reads as reads
+use Rattle.make.proofs.new_var.Lts as lts
+use Rattle.layout.proofs.read_header.Reads as read-header-reads
+use Rattle.make.proofs.push.Reads as push-reads
+
+read-header-requires : tie.Need-read-header-requires
+read-header-requires c κs = search needs
+
+push-requires : tie.Need-push-requires
+push-requires c κs = pushable (c .before .before .read-header .result) (c .before .before .before .before .before .before .before .pre) (c .before .before .read-header .ensures)
+
+same-length : tie.Need-same-length
+same-length c = search needs
+
+same-length-2 : tie.Need-same-length-2
+same-length-2 c = search needs
+
+returns : tie.Need-returns
+returns c = var-made (c .before .before .before .before .before .before .before .before .before .before .before .before .pre) (c .before .before .before .before .before .before .before .read-header .ensures) (c .before .before .before .before .push .ensures)
+
+pub new-var-spec : {M : Type 1} → statement M
+new-var-spec =
+    tie.close (tie.spec read-header-requires push-requires same-length same-length-2 returns)

@@ -1,0 +1,66 @@
+-- `make::put_children` meets its contract. The loop's invariant: the first i children stand, the slots before `first` and after them are as they
+-- were, and the words are as many. The measure is what is left of the children.
+-- Assumes nothing.
+use mathlib.Core.Path.{_≡_, refl, _∙_}
+use Prim.Native.Nat.{_≤_, _-_}
+use native.Mathlib.Omega.{arith}
+use lib.ListN.{length}
+use borrow.Author.Needs.{needs}
+use Rattle.make.specs.Given.{Put}
+use Rattle.make.proofs.GivenLaws.{put-none, put-more, put-end}
+use Rattle.make.proofs.put_children.Statement.{statement}
+use Rattle.make.proofs.put_children.Tie as tie
+use Rattle.make.proofs.put_children.Reads as reads
+use Rattle.make.proofs.put_children.Lts as lts
+use Rattle.layout.proofs.put_child.Reads as put-child-reads
+use Rattle.make.proofs.slot_of.Reads as slot-of-reads
+
+abbrev Inv-loop : tie.InvT-loop
+Inv-loop ks₀ first types names from n i₀ ks i = (i ≤ n) × ((length ks ≡ length ks₀) × Put types names first i ks₀ ks)
+
+abbrev μ-loop : tie.MeasureT-loop
+μ-loop ks₀ first types names from n i₀ ks i = n - i
+
+loop-holds : tie.Need-loop-holds Inv-loop μ-loop
+loop-holds c = (omega arith, (refl, put-none))
+
+add-put-child : tie.Need-add-put-child Inv-loop μ-loop
+add-put-child c = omega arith
+
+slot-of-requires : tie.Need-slot-of-requires Inv-loop μ-loop
+slot-of-requires c κs = omega arith
+
+put-child-requires : tie.Need-put-child-requires Inv-loop μ-loop
+put-child-requires c κs = omega arith
+
+add-i : tie.Need-add-i Inv-loop μ-loop
+add-i c = omega arith
+
+loop-less : tie.Need-loop-less Inv-loop μ-loop
+loop-less c = omega arith
+
+loop-again : tie.Need-loop-again Inv-loop μ-loop
+loop-again c =
+    (omega arith, (c .before .before .put-child .kept .0 ∙ c .before .before .before .before .before .before .loop .inv .1 .0, put-more (c .before .before .before .before .before .before .before .before .before .before .args .types .now) (c .before .before .before .before .before .before .before .before .before .before .args .names .now) (c .before .before .before .before .before .before .before .before .before .before .args .first) (c .before .before .before .before .before .before .loop .i) (c .before .before .before .before .before .before .loop .inv .1 .1) (omega arith) (c .before .before .before .slot-of .ensures) (c .before .before .put-child .ensures)))
+
+same-length : tie.Need-same-length Inv-loop μ-loop
+same-length c = c .before .loop .inv .1 .0
+
+returns : tie.Need-returns Inv-loop μ-loop
+returns c = put-end (c .before .loop .inv .1 .1) (omega arith)
+
+pub put-children-spec : {M : Type 1} → statement M
+put-children-spec =
+    tie.close
+    (tie.spec
+    Inv-loop
+    μ-loop
+    loop-holds
+    add-put-child
+    slot-of-requires
+    put-child-requires
+    add-i
+    loop-less
+    loop-again
+    same-length
+    returns)

@@ -1,0 +1,63 @@
+-- `make::reset` meets its contract. The used words are cleared and the others are 0, and the header keeps the capacities and the report count.
+-- Assumes nothing.
+use Rattle.make.proofs.OpenLaws.{reset-nodes, reset-children, reset-head, reset-became}
+use borrow.Author.Needs.{needs}
+use Rattle.make.proofs.reset.Statement.{statement}
+use Rattle.make.proofs.reset.Tie as tie
+use Rattle.make.proofs.reset.Reads as reads
+use Rattle.make.proofs.reset.Lts as lts
+use Rattle.layout.proofs.child_words.Reads as child-words-reads
+use Rattle.layout.proofs.node_words.Reads as node-words-reads
+use Rattle.layout.proofs.read_header.Reads as read-header-reads
+use Rattle.layout.proofs.write_header.Reads as write-header-reads
+use Rattle.make.proofs.clear.Reads as clear-reads
+use Rattle.make.proofs.no_nodes.Reads as no-nodes-reads
+
+read-header-requires : tie.Need-read-header-requires
+read-header-requires c κs = search needs
+
+node-words-requires : tie.Need-node-words-requires
+node-words-requires c κs = search needs
+
+clear-requires : tie.Need-clear-requires
+clear-requires c κs = reset-nodes (c .before .before .before .before .before .before .before .args .h .now) (c .before .before .before .before .before .before .before .args .ws .now) (c .before .before .before .before .before .before .before .args .ks .now) (c .before .before .before .before .before .before .before .pre) (c .before .before .read-header .ensures) (c .node-words .ensures)
+
+child-words-requires : tie.Need-child-words-requires
+child-words-requires c κs = search needs
+
+clear-requires-2 : tie.Need-clear-requires-2
+clear-requires-2 c κs = reset-children (c .before .before .before .before .before .before .before .before .before .before .before .before .args .h .now) (c .before .before .before .before .before .before .before .before .before .before .before .before .args .ws .now) (c .before .before .before .before .before .before .before .before .before .before .before .before .args .ks .now) (c .before .before .before .before .before .before .before .before .before .before .before .before .pre) (c .before .before .before .before .before .before .before .read-header .ensures) (c .child-words .ensures)
+
+no-nodes-requires : tie.Need-no-nodes-requires
+no-nodes-requires c κs = search needs
+
+write-header-requires : tie.Need-write-header-requires
+write-header-requires c κs = reset-head (c .before .before .before .before .before .before .before .before .before .before .before .before .before .before .before .before .before .args .h .now) (c .before .before .before .before .before .before .before .before .before .before .before .before .before .before .before .before .before .args .ws .now) (c .before .before .before .before .before .before .before .before .before .before .before .before .before .before .before .before .before .args .ks .now) (c .before .before .before .before .before .before .before .before .before .before .before .before .before .before .before .before .before .pre) (c .before .before .before .before .before .before .before .before .before .before .before .before .read-header .ensures)
+
+same-length : tie.Need-same-length
+same-length c = search needs
+
+same-length-2 : tie.Need-same-length-2
+same-length-2 c = search needs
+
+same-length-3 : tie.Need-same-length-3
+same-length-3 c = search needs
+
+returns : tie.Need-returns
+returns c = reset-became (c .before .before .before .before .before .before .before .before .before .before .before .before .before .before .before .before .before .before .before .before .args .h .now) (c .before .before .before .before .before .before .before .before .before .before .before .before .before .before .before .before .before .before .before .before .args .ws .now) (c .before .before .before .before .before .before .before .before .before .before .before .before .before .before .before .before .before .before .before .before .args .ks .now) (c .before .before .before .before .before .before .before .before .before .before .before .before .before .before .before .before .before .before .before .before .pre) (c .before .before .before .before .before .before .before .before .before .before .before .before .before .before .before .read-header .ensures) (c .before .before .before .before .before .before .before .before .before .before .before .before .before .node-words .ensures) (c .before .before .before .before .before .before .before .before .before .before .before .before .clear .ensures) (c .before .before .before .before .before .before .before .before .child-words .ensures) (c .before .before .before .before .before .before .before .clear2 .ensures) (c .before .before .before .no-nodes .ensures) (c .before .before .write-header .ensures)
+
+pub reset-spec : {M : Type 1} → statement M
+reset-spec =
+    tie.close
+    (tie.spec
+    read-header-requires
+    node-words-requires
+    clear-requires
+    child-words-requires
+    clear-requires-2
+    no-nodes-requires
+    write-header-requires
+    same-length
+    same-length-2
+    same-length-3
+    returns)
