@@ -16,7 +16,7 @@ use Rattle.scope.specs.Types.{Ty, tyOf}
 use Rattle.scope.specs.Kinds.{TUPLE, selfDual}
 use Rattle.scope.specs.Nodes.{State, Node, at, stateOf, find, kidsOf}
 use Rattle.scope.specs.Nodes as nodes
-use Rattle.scope.specs.Force.{relatedKids, relatedF, nilState, none-mod, modOfState}
+use Rattle.scope.specs.Force.{relatedKids, relatedF, findRelated, nilState, none-mod, modOfState}
 use Rattle.scope.specs.Force as force
 use Rattle.scope.proofs.Marks.{related-new, related-old}
 use Rattle.scope.proofs.MarkLaws.{good}
@@ -27,7 +27,7 @@ use Rattle.layout.specs.declared.Slot.{Slot}
 use Rattle.layout.specs.declared.TypeState.the-variants.{Known, Unknown, InferenceFailed}
 use Rattle.layout.specs.declared.TypeNode.{TypeNode}
 use Rattle.layout.specs.declared.TypeNode.the-variants.{Root, Child}
-use Rattle.layout.proofs.Laws.{read-node}
+use Rattle.layout.proofs.Laws.{length-decode, read-node}
 use Rattle.layout.proofs.ChildLaws.{length-kids, kid-at}
 use Rattle.roots.specs.Found.{Found}
 use Rattle.walk.specs.declared.Held.{Held}
@@ -136,6 +136,11 @@ pub mark-kids : {ws ks : List ℕ} {n i : ℕ} (depth : ℕ) (ms : List ℕ) (t 
 mark-kids {ws} {ks} {n} {i} depth ms t s h r m e w v o =
     let z : getD ms i 0 ≡ 0 = eqb-true (getD ms i 0) 0 (not-false (eqb (getD ms i 0) 0) (sym m ∙ e)) in
     rw (w, ← kids-read i (s .clean) v o) (sym (mark-new depth (decode ws ks n) ms t h r z))
+
+-- a depth of n is what `find_related` walks
+pub mark-whole : (ws ks : List ℕ) (n : ℕ) (ms : List ℕ) (t : Ty) → relatedF n (decode ws ks n) ms t ≡ findRelated (decode ws ks n) t ms
+unfolding findRelated
+mark-whole ws ks n ms t = rw (length-decode ws ks n) refl
 
 -- what is left of a kind's children, from j on, gives what all of them give
 pub record Turn (g : List ℕ → Ty → List ℕ) (ks : List ℕ) (k : Kind) (ms₀ ms : List ℕ) (j : ℕ) : Type 0 where
