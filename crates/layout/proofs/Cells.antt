@@ -17,7 +17,7 @@ use Rattle.scope.specs.Types.{tyOf}
 use Rattle.scope.specs.Nodes as nodes
 use Rattle.scope.specs.Sound.{zeros, nodeIn, kindBare, namesClean, kindIn}
 use Rattle.layout.specs.Words.{nodeField, slotAt, cellAt, nodeAt, nodeClean}
-use Rattle.layout.specs.Meaning.{flagOf, cellBy, cellIn, wordsOf, nodeOf, plainCell, cellOf, cellWords, cellMeans, kindCell, kindMeans, nodeMeans, kindFits, nodeFits, slotIn, slotMeans}
+use Rattle.layout.specs.Meaning.{flagWord, cellBy, cellIn, wordsOf, nodeOf, plainCell, cellOf, cellWords, cellMeans, kindCell, kindMeans, nodeMeans, kindFits, nodeFits, slotIn, slotMeans}
 use Rattle.layout.specs.declared.Cell.{Cell}
 use Rattle.layout.specs.declared.TypeState.the-variants.{Known, Unknown, InferenceFailed}
 use Rattle.layout.specs.declared.TypeNode.{TypeNode}
@@ -130,19 +130,19 @@ some-true false v e = e
 
 -- flags, and zeros
 
-flag-back : (b : Bool) → eqb (flagOf b) 1 ≡ b
+flag-back : (b : Bool) → eqb (flagWord b) 1 ≡ b
 flag-back true = refl
 flag-back false = refl
 
-flag-small : (b : Bool) → leb (flagOf b) 1 ≡ true
+flag-small : (b : Bool) → leb (flagWord b) 1 ≡ true
 flag-small true = refl
 flag-small false = refl
 
-flag-by : (b : Bool) (w : ℕ) → eqb w 1 ≡ b → w ≤ 1 → flagOf b ≡ w
+flag-by : (b : Bool) (w : ℕ) → eqb w 1 ≡ b → w ≤ 1 → flagWord b ≡ w
 flag-by true w q h = sym (eqb-true w 1 q)
 flag-by false w q h = let z : w ≡ 1 → ⊥ = eqb-false w 1 q in omega arith
 
-flag-word : (w : ℕ) → leb w 1 ≡ true → flagOf (eqb w 1) ≡ w
+flag-word : (w : ℕ) → leb w 1 ≡ true → flagWord (eqb w 1) ≡ w
 flag-word w h = flag-by (eqb w 1) w refl (leb-true w 1 h)
 
 zeros-get : (l : List ℕ) → zeros l ≡ true → (k : ℕ) → getD l k 0 ≡ 0

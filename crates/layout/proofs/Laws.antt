@@ -163,6 +163,13 @@ module _ (ws ks : List ℕ) (c n : ℕ) (cl : Clean ws ks c n) where
   pub read-fits : (i : ℕ) → nodeFits ks c (readAt ws n i) ≡ true
   read-fits i = fits-by (ltb i n) i refl
 
+  -- the same of a node that was read
+  pub read-is : {v : TypeNode} (i : ℕ) → v ≡ readAt ws n i → nodes.at (decode ws ks n) i ≡ nodeMeans ks v
+  read-is i e = sym (read-node i) ∙ ap (nodeMeans ks) (sym e)
+
+  pub read-is-fit : {v : TypeNode} (i : ℕ) → v ≡ readAt ws n i → nodeFits ks c v ≡ true
+  read-is-fit i e = ap (nodeFits ks c) e ∙ read-fits i
+
   -- what the code reads, put back, changes nothing
   back-by : (t : Bool) (i : ℕ) → ltb i n ≡ t → putAt ws n i (readAt ws n i) ≡ ws
   unfolding putAt readAt

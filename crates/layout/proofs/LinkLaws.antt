@@ -8,7 +8,7 @@ use mathlib.Core.List.{List, [], map, map-map}
 use Prim.Native.Nat.{ℕ, _+_, _*_, _<_, _≤_}
 use native.Mathlib.Omega.{arith}
 use lib.Dec.{eqb, ltb, leb}
-use lib.ListN.{length, getD, take, drop, set, length-drop, List·getD-map}
+use lib.ListN.{length, getD, drop, set, length-drop, List·getD-map}
 use lib.Seq.{length-take-le}
 use borrow.Author.Tests.{eqb-true, eqb-false, ltb-true, ltb-false, lt-ltb, le-leb}
 use Rattle.scope.specs.Base.{pick, from, isSome, orElse}
@@ -18,7 +18,7 @@ use Rattle.scope.specs.Sound.{nodeIn, kindBare, namesClean, kindIn}
 use Rattle.types.specs.declared.«Type».{«Type»}
 use borrow.Rule.Slice.PartMut.{set-mid-at}
 use Rattle.layout.specs.Words.{NODE-WORDS, nodeWords, nodeField, slotAt, firstAt, countAt, cellAt, nodeAt, nodeClean, decode}
-use Rattle.layout.specs.Meaning.{cellIn, wordsOf, cellOf, pasteAt, nodeOf, cellWords, cellMeans, readAt, putAt, nodeMeans, parentOf, Clean, Linked}
+use Rattle.layout.specs.Meaning.{CHILD-TAG, cellIn, wordsOf, cellOf, pasteAt, nodeOf, cellWords, cellMeans, readAt, putAt, nodeMeans, parentOf, Clean, Linked}
 use Rattle.layout.specs.declared.Cell.{Cell}
 use Rattle.layout.specs.declared.TypeState.{TypeState}
 use Rattle.layout.specs.declared.TypeState.the-variants.{Known, Unknown, InferenceFailed}
@@ -99,12 +99,14 @@ module _ (ws : List ℕ) (n : ℕ) (i : ℕ) where
   unfolding readAt
   child-cell t e = rw (in-by (ltb i n) t refl e) at e
 
+  pub child-field : (t : «Type») → readAt ws n i ≡ Child t → nodeField ws i 0 ≡ CHILD-TAG
+  child-field t e = sym (field-word ws i 0 (omega arith)) ∙ child-tag here t (child-cell t e)
+
   module _ (l : Linked ws n) (t : «Type») (e : readAt ws n i ≡ Child t) where
     bare-some : (ks : List ℕ) → isSome (nodeIn (cellMeans ks here)) ≡ true
     bare-some ks =
         let z : here .tag ≡ 0 = child-tag here t (child-cell t e) in
-        let w : nodeField ws i 0 ≡ 0 = sym (field-word ws i 0 (omega arith)) ∙ z in
-        ap isSome (bare-kids ks [] here z ∙ ap nodeIn (sym (cell-words ws [] i))) ∙ l .bare i (child-below t e) w
+        ap isSome (bare-kids ks [] here z ∙ ap nodeIn (sym (cell-words ws [] i))) ∙ l .bare i (child-below t e) (child-field t e)
 
     bare-says : (ks : List ℕ) → Says ks (cellFirst here + here .count) here
     bare-says ks =

@@ -35,8 +35,8 @@ UNKNOWN-TAG = 1
 abbrev pub FAILED-TAG : ℕ
 FAILED-TAG = 2
 
-abbrev pub flagOf : Bool → ℕ
-flagOf b = pick b 1 0
+abbrev pub flagWord : Bool → ℕ
+flagWord b = pick b 1 0
 
 abbrev pub typeOf : ℕ → «Type»
 typeOf w = record { 0 = w }
@@ -69,8 +69,8 @@ wordsOf c =
 
 -- a cell as a node, and back; a Known node's link is the place of its first child
 
-abbrev pub kindOf : Cell → Kind
-kindOf c = record {
+abbrev pub cellKind : Cell → Kind
+cellKind c = record {
   code = c .code;
   number = c .number;
   dual = eqb (c .dual) 1;
@@ -87,7 +87,7 @@ nodeOf c =
     pick (eqb (c .tag) CHILD-TAG) (Child (typeOf (c .link)))
     (pick (eqb (c .tag) UNKNOWN-TAG) (Root (Unknown (c .link)) (c .size))
     (pick (eqb (c .tag) FAILED-TAG) (Root InferenceFailed (c .size))
-    (Root (Known (record { 0 = eqb (c .inv) 1 }) (kindOf c)) (c .size))))
+    (Root (Known (record { 0 = eqb (c .inv) 1 }) (cellKind c)) (c .size))))
 
 abbrev pub plainCell : ℕ → ℕ → ℕ → Cell
 plainCell t l z = record {
@@ -110,10 +110,10 @@ knownCell i k z = record {
   tag = KNOWN-TAG;
   link = k .first;
   size = z;
-  inv = flagOf (i .0);
+  inv = flagWord (i .0);
   code = k .code;
   number = k .number;
-  dual = flagOf (k .dual);
+  dual = flagWord (k .dual);
   flex = k .flex;
   text = k .text;
   start = k .start;

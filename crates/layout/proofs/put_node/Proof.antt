@@ -46,7 +46,9 @@ same-length c = search needs
 
 returns-2 : tie.Need-returns-2
 unfolding putAt
-returns-2 c = rw (lt-ltb _ _ (c .before .before .before .before .before .before .if1 .left), cell-length, cell-start, c .before .before .write-cell .ensures, c .before .before .before .cell-of .ensures)
+returns-2 c =
+    let w = c .before .before in
+    rw (lt-ltb _ _ (w .before .before .before .before .if1 .left), cell-length, cell-start, w .write-cell .ensures, w .before .cell-of .ensures)
 
 pub put-node-spec : {M : Type 1} → statement M
 put-node-spec =
