@@ -9,7 +9,7 @@ use native.Mathlib.Numerals.{add-one}
 use native.Mathlib.Omega.{arith}
 use lib.Dec.{ltb, leb}
 use lib.ListN.{length, getD}
-use borrow.Author.Tests.{leb-true, le-leb}
+use borrow.Author.Tests.{lt-ltb, leb-true, le-leb}
 use Rattle.scope.specs.Base.{all, from}
 use Rattle.scope.specs.Limits.{MAX-WIDTH}
 use Rattle.scope.specs.Chart.{Env}
@@ -19,24 +19,25 @@ use Rattle.scope.specs.Kinds.{Head, rowOf, shapeFits, namesOk, flexOk, numberOk
 use Rattle.scope.specs.Nodes as nodes
 use Rattle.scope.specs.Sound as sound
 use Rattle.scope.specs.Sound.{inStore, kindSound, nodeSound, roomSound, soundStore, sound}
-use Rattle.types.specs.declared.Inverted.{Inverted}
 use Rattle.names.specs.Place.{texts}
 use Rattle.chart.specs.Words.{recordsOf}
 use Rattle.chart.specs.Env.{envOf, chartIn, chartAlone}
 use Rattle.chart.specs.declared.Beside.{Beside}
 use Rattle.chart.proofs.Laws.{all-at}
-use Rattle.layout.specs.Words.{slotAt, decode, nodesMade, childrenMade, storeIn, clean, lentOf}
-use Rattle.layout.specs.Meaning.{slotMeans, kindMeans, nodeMeans, readAt, Clean}
+use Rattle.layout.specs.Words.{slotAt, countAt, decode, nodesMade, childrenMade, storeIn, clean, lentOf}
+use Rattle.layout.specs.Meaning.{cellIn, cellOf, cellWords, slotMeans, kindMeans, nodeMeans, readAt, Clean}
+use Rattle.layout.specs.declared.Cell.{Cell}
 use Rattle.layout.specs.declared.Kind.{Kind}
 use Rattle.layout.specs.declared.Slot.{Slot}
 use Rattle.layout.specs.declared.TypeState.the-variants.{Known, Unknown, InferenceFailed}
 use Rattle.layout.specs.declared.TypeNode.{TypeNode}
 use Rattle.layout.specs.declared.TypeNode.the-variants.{Root, Child}
 use Rattle.layout.proofs.Lists.{and-left, and-right, all-from, from-all}
+use Rattle.layout.proofs.Cells.{clean-words, field-word, says}
 use Rattle.layout.proofs.ChildLaws.{length-kids, kid-at}
 use Rattle.layout.proofs.Laws.{past, length-decode, read-node}
 use Rattle.layout.proofs.StoreLaws.{clean-nodes}
-use Rattle.makeable.specs.Nodes.{CleanNodes, narrow, narrowNodes}
+use Rattle.makeable.specs.Nodes.{narrowNodes}
 use Rattle.makeable.proofs.NameLaws.{and-false}
 
 -- a test of the numbers from i to n, one by one
@@ -140,20 +141,25 @@ nodes-beside ws b rule text ns =
     all-same (nodeSound (envOf ws b rule text) ns) (nodeSound (chartIn ws rule text) ns)
     (node-sound-reads (envOf ws b rule text) (chartIn ws rule text) ns ns refl refl refl) ns
 
--- the nodes of clean words, by their places
+-- the nodes that words say, by their places
 
-module _ (ws ks : List ℕ) (n : ℕ) (cl : CleanNodes ws ks n) (i : ℕ) where
+module _ (ws ks : List ℕ) (n i : ℕ) where
   pub node-below : i < n → i < length (decode ws ks n)
   node-below h = rw (length-decode ws ks n) h
 
   pub nodes-past : n ≤ i → length (decode ws ks n) ≤ i
   nodes-past h = rw (length-decode ws ks n) h
 
-  -- the node at i, where the code has read it
-  pub node-there : (v : TypeNode) → v ≡ readAt ws n i → getD (decode ws ks n) i past ≡ nodeMeans ks v
-  node-there v e = sym (read-node ws ks (cl .made) n (cl .clean) i) ∙ ap (nodeMeans ks) (sym e)
-
 -- "255 children a kind"
+
+-- a node's words where the code has read its cell
+pub count-cell : (ws : List ℕ) (i : ℕ) {x : Cell} → x ≡ cellIn (cellWords ws i) → x .count ≡ countAt ws i
+count-cell ws i e = ap (λ (y : Cell). y .count) e ∙ field-word ws i 11 (omega arith)
+
+-- each node, by its words
+pub narrow-count : (ws : List ℕ) (n : ℕ) → narrowNodes ws n ≡ true → (i : ℕ) → i < n → countAt ws i ≤ MAX-WIDTH
+unfolding narrowNodes
+narrow-count ws n h i l = leb-true (countAt ws i) MAX-WIDTH (all-from (λ j. leb (countAt ws j) MAX-WIDTH) 0 n h i (omega arith) (omega arith))
 
 made-narrow : (e : Env) (ns : List nodes.Node) (k : nodes.Kind) → kindSound e ns k ≡ true → length (k .kids) ≤ MAX-WIDTH
 unfolding kindSound makeable
@@ -161,32 +167,31 @@ made-narrow e ns k h =
     let m : Bool = makeable (e .texts) (k .head) (length (k .kids)) in
     leb-true (length (k .kids)) MAX-WIDTH (and-left (leb (length (k .kids)) MAX-WIDTH) _ (and-right (ltb (k .head .code) 15) _ (and-left m _ h)))
 
-sound-narrow : (e : Env) (ks : List ℕ) (ns : List nodes.Node) (v : TypeNode) → nodeSound e ns (nodeMeans ks v) ≡ true → narrow v ≡ true
-sound-narrow e ks ns (Root (Known i k) z) h =
-    le-leb (k .count) MAX-WIDTH (subst (λ (n : ℕ). n ≤ MAX-WIDTH) (length-kids ks k) (made-narrow e ns (kindMeans ks k) h))
-sound-narrow e ks ns (Root (Unknown s) z) h = refl
-sound-narrow e ks ns (Root InferenceFailed z) h = refl
-sound-narrow e ks ns (Child t) h = refl
-
--- each node that the words say
-pub narrow-node : (ws : List ℕ) (n : ℕ) → narrowNodes ws n ≡ true → (i : ℕ) → i < n → narrow (readAt ws n i) ≡ true
-unfolding narrowNodes
-narrow-node ws n h i l = all-from (λ j. narrow (readAt ws n j)) 0 n h i (omega arith) (omega arith)
-
-pub narrow-kind : (ws : List ℕ) (n : ℕ) → narrowNodes ws n ≡ true → (i : ℕ) → i < n → {v : Inverted} {k : Kind} {z : ℕ} → readAt ws n i ≡ Root (Known v k) z
-    → k .count ≤ MAX-WIDTH
-narrow-kind ws n h i l {v} {k} {z} q = leb-true (k .count) MAX-WIDTH (ap narrow (sym q) ∙ narrow-node ws n h i l)
+-- a node without a kind has no words for children
+sound-narrow : (e : Env) (ks : List ℕ) (ns : List nodes.Node) (v : TypeNode) → nodeSound e ns (nodeMeans ks v) ≡ true → cellOf v .count ≤ MAX-WIDTH
+sound-narrow e ks ns (Root (Known i k) z) h = subst (λ (n : ℕ). n ≤ MAX-WIDTH) (length-kids ks k) (made-narrow e ns (kindMeans ks k) h)
+sound-narrow e ks ns (Root (Unknown s) z) h = omega arith
+sound-narrow e ks ns (Root InferenceFailed z) h = omega arith
+sound-narrow e ks ns (Child t) h = omega arith
 
 module _ (e : Env) (ws ks : List ℕ) where
+  -- the words of a clean node are those of the node that they say
+  count-read : (c n : ℕ) → Clean ws ks c n → (i : ℕ) → i < n → cellOf (readAt ws n i) .count ≡ countAt ws i
+  unfolding readAt
+  count-read c n cl i h =
+      let x = cellIn (cellWords ws i) in
+      rw (lt-ltb i n h) (count-cell ws i (says ks c x (sym (clean-words ws ks c i) ∙ cl .each i h) .back))
+
   pub sound-widths : (c n : ℕ) → Clean ws ks c n → all (nodeSound e (decode ws ks n)) (decode ws ks n) ≡ true → narrowNodes ws n ≡ true
   unfolding narrowNodes
   sound-widths c n cl h =
       let ns : List nodes.Node = decode ws ks n in
-      from-all (λ i. narrow (readAt ws n i)) 0 n
-      (λ i a b. sound-narrow e ks ns (readAt ws n i)
-      (ap (nodeSound e ns) (read-node ws ks c n cl i) ∙ all-at (nodeSound e ns) ns past i h (rw length-decode (omega arith))))
+      from-all (λ i. leb (countAt ws i) MAX-WIDTH) 0 n
+      (λ i a b. le-leb (countAt ws i) MAX-WIDTH (subst (λ (m : ℕ). m ≤ MAX-WIDTH) (count-read c n cl i (omega arith))
+      (sound-narrow e ks ns (readAt ws n i)
+      (ap (nodeSound e ns) (read-node ws ks c n cl i) ∙ all-at (nodeSound e ns) ns past i h (rw length-decode (omega arith))))))
 
-  -- a store with a wider kind is not sound
+  -- nodes with a wider kind are not sound
   pub wide-nodes : (c n : ℕ) → Clean ws ks c n → narrowNodes ws n ≡ false → all (nodeSound e (decode ws ks n)) (decode ws ks n) ≡ false
   wide-nodes c n cl w = go (all (nodeSound e (decode ws ks n)) (decode ws ks n)) refl
     where
@@ -203,6 +208,6 @@ module _ (e : Env) (ws ks : List ℕ) where
   lent-by true h q w = rw q (store-by h q w)
   lent-by false h q w = rw q refl
 
-  -- nor are three slices that say one, whatever else they hold
+  -- nor is what three slices say with one among them, whatever else they hold
   pub wide-unsound : (h : List ℕ) → narrowNodes ws (nodesMade h) ≡ false → sound e (lentOf h ws ks) ≡ false
   wide-unsound h w = lent-by (clean h ws ks) h refl w

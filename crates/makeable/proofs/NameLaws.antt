@@ -21,6 +21,7 @@ use Rattle.layout.specs.Words.{slotAt, slots}
 use Rattle.layout.specs.Meaning.{kindMeans}
 use Rattle.layout.specs.declared.Kind.{Kind}
 use Rattle.layout.proofs.ChildLaws.{length-slots, slots-get}
+use Rattle.layout.proofs.KindLaws.{names-own, names-child, names-parameters}
 use Rattle.makeable.specs.Nodes.{placeOf}
 
 pub and-true : (a : Bool) → (a && true) ≡ a
@@ -150,24 +151,26 @@ module _ (x : Texts) (ks : List ℕ) (k : Kind) where
   -- d is what the code's row asks for
   module _ (d : ℕ) (row : d ≡ asked) where
     pub own-names : d ≡ OWN-NAME → namesTest ≡ nameOk x (name (k .text) (k .start) (k .len))
-    unfolding namesOk kindMeans
+    unfolding namesOk
     own-names e =
-        rw (← row, eq-eqb d OWN-NAME e)
+        rw (names-own ks k (sym row ∙ e), ← row, e)
         (and-true (named x (nameIn (k .text) (k .start) (k .len))) ∙ named-or x (name (k .text) (k .start) (k .len)))
 
     pub child-names : d ≡ CHILD-NAMES → namesTest ≡ objectNamesOk x (childNames ks (k .first) (k .count))
-    unfolding namesOk kindMeans
-    child-names e = rw (← row, e, eq-eqb (length (childNames ks (k .first) (k .count))) (k .count) (length-names ks (k .first) (k .count)))
+    unfolding namesOk
+    child-names e =
+        rw (names-child ks k (sym row ∙ e), ← row, e, eq-eqb (length (childNames ks (k .first) (k .count))) (k .count) (length-names ks (k .first) (k .count)))
 
     pub parameter-names : d ≡ PARAMETER-NAMES → (k .count ≡ 0 → ⊥) → namesTest ≡ all (namedOrNone x) (childNames ks (k .first) (k .count - 1))
-    unfolding namesOk kindMeans
+    unfolding namesOk
     parameter-names e h =
-        let z : suc (length (childNames ks (k .first) (k .count - 1))) ≡ k .count = omega (arith, length-names ks (k .first) (k .count - 1)) in
-        rw (← row, e, front-slots ks (k .first) (k .count) (omega arith), eq-eqb (suc (length (childNames ks (k .first) (k .count - 1)))) (k .count) z)
+        let n : ℕ = length (childNames ks (k .first) (k .count - 1)) in
+        let z : suc n ≡ k .count = omega (arith, length-names ks (k .first) (k .count - 1)) in
+        rw (names-parameters ks k (sym row ∙ e), ← row, e, front-slots ks (k .first) (k .count) (omega arith), eq-eqb (suc n) (k .count) z)
 
     pub no-return : d ≡ PARAMETER-NAMES → k .count ≡ 0 → namesTest ≡ false
-    unfolding namesOk kindMeans
-    no-return e z = rw (← row, e, z)
+    unfolding namesOk
+    no-return e z = rw (names-parameters ks k (sym row ∙ e), ← row, e, z)
 
     pub no-names : (d ≡ OWN-NAME → ⊥) → (d ≡ CHILD-NAMES → ⊥) → (d ≡ PARAMETER-NAMES → ⊥) → namesTest ≡ true
     unfolding namesOk kindMeans

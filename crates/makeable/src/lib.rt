@@ -17,7 +17,7 @@ ghost use Rattle.names.specs.Place.{texts, nameIn};
 ghost use Rattle.chart.specs.Env.{chartIn, chartAlone};
 ghost use Rattle.layout.specs.Words.{nodeWords, slotAt, slots, decode};
 ghost use Rattle.layout.specs.Meaning.{kindMeans, nodeMeans, rememberedMeans};
-ghost use Rattle.makeable.specs.Nodes.{placeOf, CleanNodes, narrow, narrowNodes};
+ghost use Rattle.makeable.specs.Nodes.{placeOf, CleanNodes, narrowNodes};
 use kinds::AS_CHART;
 use kinds::CHILD_NAMES;
 use kinds::ERROR;
@@ -267,19 +267,6 @@ pub fn nodes_sound<'a>(
     true
 }
 
-fn is_narrow(node: TypeNode) -> bool
-    ensures { λ r. ⌜ r ≡ narrow node ⌝ }
-{
-    match node {
-        TypeNode::Child(_) => true,
-        TypeNode::Root { state, size: _ } => match state {
-            TypeState::Known(_, kind) => kind.count as usize <= MAX_WIDTH,
-            TypeState::Unknown(_) => true,
-            TypeState::InferenceFailed => true,
-        },
-    }
-}
-
 // "255 children a kind": a store that fails this is not sound, and one that passes has few enough children for every later test.
 pub fn widths_ok(ws: &[u32], n: u32) -> bool
     requires { ⌜ nodeWords n ≤ length (now ws) ⌝ }
@@ -287,7 +274,8 @@ pub fn widths_ok(ws: &[u32], n: u32) -> bool
 {
     let mut i: u32 = 0;
     while i < n {
-        if !is_narrow(layout::node_at(ws, n, TypeIdx(i))) {
+        let cell = layout::cell_at(ws, TypeIdx(i));
+        if cell.count as usize > MAX_WIDTH {
             return false;
         }
         i += 1;

@@ -11,8 +11,8 @@ use Rattle.names.proofs.Tests.{passes, fails}
 use Rattle.chart.specs.Env.{chartIn}
 use Rattle.chart.proofs.Laws.{all-step, all-fails, all-end}
 use Rattle.layout.specs.Words.{decode}
-use Rattle.layout.proofs.Laws.{past, length-decode}
-use Rattle.makeable.proofs.Laws.{node-below, nodes-past, node-there}
+use Rattle.layout.proofs.Laws.{past, length-decode, read-is}
+use Rattle.makeable.proofs.Laws.{node-below, nodes-past}
 use Rattle.makeable.proofs.nodes_sound.Statement.{statement}
 use Rattle.makeable.proofs.nodes_sound.Tie as tie
 
@@ -38,8 +38,8 @@ returns c =
     let l = c .before .before .before .before .loop in
     let ns = decode (a .ws .now) (a .ks .now) (a .n) in
     let p = nodeSound (chartIn (a .chart .now) (a .rule .now) (a .text .now)) ns in
-    sym (all-fails p ns past (l .i) (node-below (a .ws .now) (a .ks .now) (a .n) (c .before .before .before .before .before .before .before .before .before .before .pre) (l .i) (c .before .before .before .loop-test .taken))
-    (ap p (node-there (a .ws .now) (a .ks .now) (a .n) (c .before .before .before .before .before .before .before .before .before .before .pre) (l .i) (c .before .before .node-at .result) (c .before .before .node-at .ensures))
+    sym (all-fails p ns past (l .i) (node-below (a .ws .now) (a .ks .now) (a .n) (l .i) (c .before .before .before .loop-test .taken))
+    (ap p (read-is (a .ws .now) (a .ks .now) (c .before .before .before .before .before .before .before .before .before .before .pre .made) (a .n) (c .before .before .before .before .before .before .before .before .before .before .pre .clean) (l .i) (c .before .before .node-at .ensures))
     ∙ fails (c .before .node-sound .ensures ns (length-decode (a .ws .now) (a .ks .now) (a .n))) (c .if1 .taken))) ∙ l .inv
 
 add-i : tie.Need-add-i Inv-loop μ-loop
@@ -54,8 +54,8 @@ loop-again c =
     let l = c .before .before .before .before .loop in
     let ns = decode (a .ws .now) (a .ks .now) (a .n) in
     let p = nodeSound (chartIn (a .chart .now) (a .rule .now) (a .text .now)) ns in
-    sym (all-step p ns past (l .i) (node-below (a .ws .now) (a .ks .now) (a .n) (c .before .before .before .before .before .before .before .before .before .before .pre) (l .i) (c .before .before .before .loop-test .taken))
-    (ap p (node-there (a .ws .now) (a .ks .now) (a .n) (c .before .before .before .before .before .before .before .before .before .before .pre) (l .i) (c .before .before .node-at .result) (c .before .before .node-at .ensures))
+    sym (all-step p ns past (l .i) (node-below (a .ws .now) (a .ks .now) (a .n) (l .i) (c .before .before .before .loop-test .taken))
+    (ap p (read-is (a .ws .now) (a .ks .now) (c .before .before .before .before .before .before .before .before .before .before .pre .made) (a .n) (c .before .before .before .before .before .before .before .before .before .before .pre .clean) (l .i) (c .before .before .node-at .ensures))
     ∙ passes (c .before .node-sound .ensures ns (length-decode (a .ws .now) (a .ks .now) (a .n))) (c .if1 .left))) ∙ l .inv
 
 returns-2 : tie.Need-returns-2 Inv-loop μ-loop
@@ -64,7 +64,7 @@ returns-2 c =
     let l = c .before .loop in
     let ns = decode (a .ws .now) (a .ks .now) (a .n) in
     sym (all-end (nodeSound (chartIn (a .chart .now) (a .rule .now) (a .text .now)) ns) ns past (l .i)
-    (nodes-past (a .ws .now) (a .ks .now) (a .n) (c .before .before .before .before .before .before .before .pre) (l .i) (c .loop-test .left))) ∙ l .inv
+    (nodes-past (a .ws .now) (a .ks .now) (a .n) (l .i) (c .loop-test .left))) ∙ l .inv
 
 pub nodes-sound-spec : {M : Type 1} → statement M
 nodes-sound-spec =

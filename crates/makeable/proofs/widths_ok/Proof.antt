@@ -1,21 +1,22 @@
 -- `makeable::widths_ok` meets its contract. The loop's invariant: the nodes from i on are narrow if and only if all are. The measure is what is left
 -- of them.
 -- Assumes nothing.
-use mathlib.Core.Path.{_≡_, refl, sym, ap, _∙_}
-use Prim.Native.Nat.{ℕ, _+_, _≤_, _-_}
+use mathlib.Core.Path.{_≡_, sym, ap, _∙_}
+use Prim.Native.Nat.{ℕ, _-_}
 use native.Mathlib.Omega.{arith}
 use borrow.Author.Needs.{needs}
-use lib.ListN.{drop}
+use lib.Dec.{leb}
 use Rattle.scope.specs.Base.{all, from}
-use Rattle.names.proofs.Tests.{passes, fails}
-use Rattle.layout.specs.Meaning.{readAt}
-use Rattle.makeable.specs.Nodes.{narrow, narrowNodes}
-use Rattle.makeable.proofs.Laws.{run-step, run-fails, run-end}
+use Rattle.scope.specs.Limits.{MAX-WIDTH}
+use Rattle.names.proofs.Tests.{within, beyond}
+use Rattle.layout.specs.Words.{countAt}
+use Rattle.makeable.specs.Nodes.{narrowNodes}
+use Rattle.makeable.proofs.Laws.{run-step, run-fails, run-end, count-cell}
 use Rattle.makeable.proofs.widths_ok.Statement.{statement}
 use Rattle.makeable.proofs.widths_ok.Tie as tie
 
 abbrev Inv-loop : tie.InvT-loop
-Inv-loop ws n i₀ i = all (λ j. narrow (readAt ws n j)) (from i (n - i)) ≡ narrowNodes ws n
+Inv-loop ws n i₀ i = all (λ j. leb (countAt ws j) MAX-WIDTH) (from i (n - i)) ≡ narrowNodes ws n
 
 abbrev μ-loop : tie.MeasureT-loop
 μ-loop ws n i₀ i = n - i
@@ -25,19 +26,19 @@ unfolding narrowNodes
 loop-holds c =
     let a = c .before .args in
     let z : a .n - 0 ≡ a .n = omega arith in
-    ap (λ (m : ℕ). all (λ j. narrow (readAt (a .ws .now) (a .n) j)) (from 0 m)) z
+    ap (λ (m : ℕ). all (λ j. leb (countAt (a .ws .now) j) MAX-WIDTH) (from 0 m)) z
 
-node-at-requires : tie.Need-node-at-requires Inv-loop μ-loop
-node-at-requires c κs = search needs
+cell-at-requires : tie.Need-cell-at-requires Inv-loop μ-loop
+cell-at-requires c κs = omega arith
 
-is-narrow-requires : tie.Need-is-narrow-requires Inv-loop μ-loop
-is-narrow-requires c κs = search needs
+cast-if1 : tie.Need-cast-if1 Inv-loop μ-loop
+cast-if1 c = search needs
 
 returns : tie.Need-returns Inv-loop μ-loop
 returns c =
     let a = c .before .before .before .before .before .before .args in
-    sym (run-fails (λ j. narrow (readAt (a .ws .now) (a .n) j)) (c .before .before .before .before .loop .i) (a .n) (c .before .before .before .loop-test .taken)
-    (ap narrow (sym (c .before .before .node-at .ensures)) ∙ fails (c .before .is-narrow .ensures) (c .if1 .taken))) ∙ c .before .before .before .before .loop .inv
+    sym (run-fails (λ j. leb (countAt (a .ws .now) j) MAX-WIDTH) (c .before .before .before .before .loop .i) (a .n) (c .before .before .before .loop-test .taken)
+    (beyond MAX-WIDTH (count-cell (a .ws .now) (c .before .before .before .before .loop .i) (c .before .before .cell-at .ensures)) (c .if1 .taken))) ∙ c .before .before .before .before .loop .inv
 
 add-i : tie.Need-add-i Inv-loop μ-loop
 add-i c = omega arith
@@ -48,13 +49,11 @@ loop-less c = omega arith
 loop-again : tie.Need-loop-again Inv-loop μ-loop
 loop-again c =
     let a = c .before .before .before .before .before .before .args in
-    sym (run-step (λ j. narrow (readAt (a .ws .now) (a .n) j)) (c .before .before .before .before .loop .i) (a .n) (c .before .before .before .loop-test .taken)
-    (ap narrow (sym (c .before .before .node-at .ensures)) ∙ passes (c .before .is-narrow .ensures) (c .if1 .left))) ∙ c .before .before .before .before .loop .inv
+    sym (run-step (λ j. leb (countAt (a .ws .now) j) MAX-WIDTH) (c .before .before .before .before .loop .i) (a .n) (c .before .before .before .loop-test .taken)
+    (within MAX-WIDTH (count-cell (a .ws .now) (c .before .before .before .before .loop .i) (c .before .before .cell-at .ensures)) (c .if1 .left))) ∙ c .before .before .before .before .loop .inv
 
 returns-2 : tie.Need-returns-2 Inv-loop μ-loop
-returns-2 c =
-    let a = c .before .before .before .args in
-    sym (run-end (λ j. narrow (readAt (a .ws .now) (a .n) j)) (c .before .loop .i) (a .n) (c .loop-test .left)) ∙ c .before .loop .inv
+returns-2 c = sym (run-end (λ j. leb (countAt (c .before .before .before .args .ws .now) j) MAX-WIDTH) (c .before .loop .i) (c .before .before .before .args .n) (c .loop-test .left)) ∙ c .before .loop .inv
 
 pub widths-ok-spec : {M : Type 1} → statement M
 widths-ok-spec =
@@ -63,8 +62,8 @@ widths-ok-spec =
     Inv-loop
     μ-loop
     loop-holds
-    node-at-requires
-    is-narrow-requires
+    cell-at-requires
+    cast-if1
     returns
     add-i
     loop-less
