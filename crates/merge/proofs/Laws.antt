@@ -1,0 +1,213 @@
+-- Merging in words: what a put of one node after another makes of the nodes that the words hold, and what the code's states mean. A law's premises are
+-- what the callees ensure; each holds whatever the children's words are.
+-- Assumes nothing.
+use mathlib.Core.Path.{_≡_, refl, ap, sym, _∙_}
+use mathlib.Core.Bool.{Bool, true, false}
+use mathlib.Core.List.{List}
+use Prim.Native.Nat.{ℕ, _+_, _<_, _≤_}
+use native.Mathlib.Omega.{arith}
+use lib.Dec.{ltb}
+use lib.ListN.{length, drop, set}
+use borrow.Author.Tests.{lt-ltb, le-ltb}
+use Rattle.scope.specs.Base.{pick, xor}
+use Rattle.scope.specs.Types.{Ty, tyOf, flip}
+use Rattle.scope.specs.Nodes as nodes
+use Rattle.scope.specs.Answers as answers
+use Rattle.scope.specs.Unify as scope
+use Rattle.types.specs.Answers.{answerOf, isSuccess}
+use Rattle.types.specs.declared.«Type».{«Type»}
+use Rattle.types.specs.declared.Inverted.{Inverted}
+use Rattle.types.specs.declared.UnifyResult.{UnifyResult}
+use Rattle.types.specs.declared.UnifyResult.the-variants.{Success, Failure, Indeterminate}
+use Rattle.types.proofs.Laws.{inverted-eq}
+use Rattle.layout.specs.Words.{nodeWords, decode}
+use Rattle.layout.specs.Meaning.{readAt, putAt, stateMeans, stateFits, nodeMeans, nodeFits, Clean}
+use Rattle.layout.specs.declared.Kind.{Kind}
+use Rattle.layout.specs.declared.TypeState.{TypeState}
+use Rattle.layout.specs.declared.TypeState.the-variants.{Known, Unknown, InferenceFailed}
+use Rattle.layout.specs.declared.TypeNode.{TypeNode}
+use Rattle.layout.specs.declared.TypeNode.the-variants.{Root, Child}
+use Rattle.layout.proofs.Laws.{length-put, tail-put, decode-put, clean-put, read-node, read-fits}
+use Rattle.merge.specs.Meaning.{nodeState, nodeSize, stateAt, sizeAt, turned, firstKnown, keptOf, Adds, Joined, Merged, Bound, Settled}
+
+-- states
+
+pub turned-known : (r : Inverted) (i : Bool) (j : Inverted) (k : Kind) → r .0 ≡ xor i (j .0) → Known r k ≡ turned i (Known j k)
+turned-known r i j k e = ap (λ (x : Inverted). Known x k) (inverted-eq r (record { 0 = xor i (j .0) }) e)
+
+state-node : (ks : List ℕ) (v : TypeNode) → stateMeans ks (nodeState v) ≡ nodes.stateOf (nodeMeans ks v)
+state-node ks (Root st z) = refl
+state-node ks (Child t) = refl
+
+size-node : (ks : List ℕ) (v : TypeNode) → nodeSize v ≡ nodes.sizeOf (nodeMeans ks v)
+size-node ks (Root st z) = refl
+size-node ks (Child t) = refl
+
+fits-node : (ks : List ℕ) (c : ℕ) (v : TypeNode) → nodeFits ks c v ≡ true → stateFits ks c (nodeState v) ≡ true
+fits-node ks c (Root st z) h = h
+fits-node ks c (Child t) h = refl
+
+pub turned-means : (ks : List ℕ) (i : Bool) (st : TypeState) → stateMeans ks (turned i st) ≡ scope.turn i (stateMeans ks st)
+turned-means ks i (Known j k) = refl
+turned-means ks i (Unknown s) = refl
+turned-means ks i InferenceFailed = refl
+
+pub turned-fits : (ks : List ℕ) (c : ℕ) (i : Bool) (st : TypeState) → stateFits ks c (turned i st) ≡ stateFits ks c st
+turned-fits ks c i (Known j k) = refl
+turned-fits ks c i (Unknown s) = refl
+turned-fits ks c i InferenceFailed = refl
+
+pub first-means : (ks : List ℕ) (a b : TypeState) → stateMeans ks (firstKnown a b) ≡ scope.orState (stateMeans ks a) (stateMeans ks b)
+first-means ks (Known i k) b = refl
+first-means ks (Unknown s) b = refl
+first-means ks InferenceFailed b = refl
+
+pub first-fits : (ks : List ℕ) (c : ℕ) (a b : TypeState) → stateFits ks c a ≡ true → stateFits ks c b ≡ true → stateFits ks c (firstKnown a b) ≡ true
+first-fits ks c (Known i k) b f g = f
+first-fits ks c (Unknown s) b f g = g
+first-fits ks c InferenceFailed b f g = g
+
+-- what the code reads at i, where the words are clean
+
+module _ (ws ks : List ℕ) (c n : ℕ) (cl : Clean ws ks c n) (i : ℕ) where
+  pub state-read : stateMeans ks (stateAt ws n i) ≡ nodes.stateOf (nodes.at (decode ws ks n) i)
+  state-read = state-node ks (readAt ws n i) ∙ ap nodes.stateOf (read-node ws ks c n cl i)
+
+  pub size-read : sizeAt ws n i ≡ nodes.sizeOf (nodes.at (decode ws ks n) i)
+  size-read = size-node ks (readAt ws n i) ∙ ap nodes.sizeOf (read-node ws ks c n cl i)
+
+  pub state-fits : stateFits ks c (stateAt ws n i) ≡ true
+  state-fits = fits-node ks c (readAt ws n i) (read-fits ws ks c n cl i)
+
+-- `join`: one put after the other
+
+module _ (ws : List ℕ) (n : ℕ) (w l : Ty) (st : TypeState) (room : nodeWords n ≤ length ws) (p : «Type») (link : tyOf (p .0) ≡ flip (l .inv) w) where
+  abbrev stays : TypeNode
+  stays = Root st (sizeAt ws n (w .idx) + sizeAt ws n (l .idx))
+
+  abbrev once : List ℕ
+  once = putAt ws n (w .idx) stays
+
+  once-room : nodeWords n ≤ length once
+  once-room = rw (length-put ws n room (w .idx) stays) room
+
+  module _ (ks : List ℕ) (c : ℕ) (cl : Clean ws ks c n) (fits : stateFits ks c st ≡ true) where
+    once-nodes : decode once ks n
+        ≡ set (decode ws ks n) (w .idx) (nodes.Root (stateMeans ks st) (nodes.sizeOf (nodes.at (decode ws ks n) (w .idx)) + nodes.sizeOf (nodes.at (decode ws ks n) (l .idx))))
+    once-nodes =
+        rw (← size-read ws ks c n cl (w .idx), ← size-read ws ks c n cl (l .idx)) (decode-put ws n room (w .idx) stays ks c fits)
+
+    twice-nodes : decode (putAt once n (l .idx) (Child p)) ks n ≡ scope.join (decode ws ks n) w l (stateMeans ks st)
+    twice-nodes =
+        decode-put once n once-room (l .idx) (Child p) ks c refl
+        ∙ (ap (λ (t : Ty). set (decode once ks n) (l .idx) (nodes.Child t)) link
+        ∙ ap (λ (ns : List nodes.Node). set ns (l .idx) (nodes.Child (flip (l .inv) w))) once-nodes)
+
+  twice : Joined ws (putAt once n (l .idx) (Child p)) n w l st
+  twice = record {
+    tail = tail-put once n once-room (l .idx) (Child p) ∙ tail-put ws n room (w .idx) stays;
+    clean = λ ks c cl f. clean-put once ks c n (clean-put ws ks c n cl (w .idx) stays f) (l .idx) (Child p) refl;
+    nodes = twice-nodes;
+  }
+
+pub join-law : (ws ws₁ ws₂ : List ℕ) (n : ℕ) (w l : Ty) (st : TypeState) (y z i j : ℕ) (b : Bool) (p : «Type») → nodeWords n ≤ length ws
+    → y ≡ sizeAt ws n (w .idx) → z ≡ sizeAt ws n (l .idx) → b ≡ l .inv → tyOf (p .0) ≡ flip b w → i ≡ w .idx → j ≡ l .idx
+    → ws₁ ≡ putAt ws n i (Root st (y + z)) → ws₂ ≡ putAt ws₁ n j (Child p) → Joined ws ws₂ n w l st
+join-law ws ws₁ ws₂ n w l st y z i j b p room ey ez eb ep ei ej e₁ e₂ =
+    rw (e₂, e₁, ei, ej, ey, ez) (twice ws n w l st room p (ep ∙ ap (λ (d : Bool). flip d w) eb))
+
+-- `merge`: which root stays
+
+module _ (ws ws′ : List ℕ) (n : ℕ) (a b : Ty) (sa sb : TypeState) (y z : ℕ) (ey : y ≡ sizeAt ws n (b .idx)) (ez : z ≡ sizeAt ws n (a .idx)) where
+  test-read : (ks : List ℕ) (c : ℕ) → Clean ws ks c n → scope.stays (decode ws ks n) a b ≡ ltb y z
+  test-read ks c cl = rw (← size-read ws ks c n cl (b .idx), ← size-read ws ks c n cl (a .idx), ey, ez)
+
+  pub merge-first : y < z → Joined ws ws′ n a b sa → Merged ws ws′ n a b sa sb
+  unfolding scope.merge
+  merge-first h j = record {
+    tail = j .tail;
+    clean = λ ks c cl f g. j .clean ks c cl f;
+    nodes = λ ks c cl f g. rw (test-read ks c cl, lt-ltb y z h) (j .nodes ks c cl f);
+  }
+
+  pub merge-second : z ≤ y → Joined ws ws′ n b a sb → Merged ws ws′ n a b sa sb
+  unfolding scope.merge
+  merge-second h j = record {
+    tail = j .tail;
+    clean = λ ks c cl f g. j .clean ks c cl g;
+    nodes = λ ks c cl f g. rw (test-read ks c cl, le-ltb y z h) (j .nodes ks c cl g);
+  }
+
+-- `bind`: each root comes with the kind of either, or its own state
+
+kept-means : (ks : List ℕ) (i : Bool) (sa sb own : TypeState)
+    → stateMeans ks (keptOf i sa sb own) ≡ scope.turn i (scope.orState (stateMeans ks sa) (scope.orState (stateMeans ks sb) (stateMeans ks own)))
+kept-means ks i sa sb own =
+    turned-means ks i (firstKnown sa (firstKnown sb own))
+    ∙ ap (scope.turn i) (first-means ks sa (firstKnown sb own) ∙ ap (scope.orState (stateMeans ks sa)) (first-means ks sb own))
+
+kept-fits : (ks : List ℕ) (c : ℕ) (i : Bool) (sa sb own : TypeState) → stateFits ks c sa ≡ true → stateFits ks c sb ≡ true → stateFits ks c own ≡ true
+    → stateFits ks c (keptOf i sa sb own) ≡ true
+kept-fits ks c i sa sb own f g h =
+    turned-fits ks c i (firstKnown sa (firstKnown sb own)) ∙ first-fits ks c sa (firstKnown sb own) f (first-fits ks c sb own g h)
+
+-- what a type sees at its root
+abbrev seen : List ℕ → ℕ → Ty → TypeState
+seen ws n a = turned (a .inv) (stateAt ws n (a .idx))
+
+module _ (ws ks : List ℕ) (c n : ℕ) (cl : Clean ws ks c n) where
+  seen-means : (a : Ty) → stateMeans ks (seen ws n a) ≡ scope.turn (a .inv) (scope.stateIn (decode ws ks n) a)
+  seen-means a = turned-means ks (a .inv) (stateAt ws n (a .idx)) ∙ ap (scope.turn (a .inv)) (state-read ws ks c n cl (a .idx))
+
+  seen-fits : (a : Ty) → stateFits ks c (seen ws n a) ≡ true
+  seen-fits a = turned-fits ks c (a .inv) (stateAt ws n (a .idx)) ∙ state-fits ws ks c n cl (a .idx)
+
+  kept-read : (w a b : Ty) → stateMeans ks (keptOf (w .inv) (seen ws n a) (seen ws n b) (seen ws n w)) ≡ scope.kept (decode ws ks n) w a b
+  kept-read w a b =
+      kept-means ks (w .inv) (seen ws n a) (seen ws n b) (seen ws n w) ∙ rw (seen-means a, seen-means b, seen-means w)
+
+  kept-reads : (w a b : Ty) → stateFits ks c (keptOf (w .inv) (seen ws n a) (seen ws n b) (seen ws n w)) ≡ true
+  kept-reads w a b = kept-fits ks c (w .inv) (seen ws n a) (seen ws n b) (seen ws n w) (seen-fits a) (seen-fits b) (seen-fits w)
+
+module _ (ws ws′ : List ℕ) (n : ℕ) (a b : Ty) where
+  bound : Merged ws ws′ n a b (keptOf (a .inv) (seen ws n a) (seen ws n b) (seen ws n a)) (keptOf (b .inv) (seen ws n a) (seen ws n b) (seen ws n b))
+      → Bound ws ws′ n a b
+  bound m = record {
+    tail = m .tail;
+    clean = λ ks c cl. m .clean ks c cl (kept-reads ws ks c n cl a a b) (kept-reads ws ks c n cl b a b);
+    nodes = λ ks c cl.
+        rw (← kept-read ws ks c n cl a a b, ← kept-read ws ks c n cl b a b)
+        (ap (λ (ns : List nodes.Node). scope.out ns answers.Success) (sym (m .nodes ks c cl (kept-reads ws ks c n cl a a b) (kept-reads ws ks c n cl b a b))));
+  }
+
+  pub bind-law : (i j : Bool) (ra rb sa sb ka kb : TypeState) → i ≡ a .inv → j ≡ b .inv → ra ≡ stateAt ws n (a .idx) → rb ≡ stateAt ws n (b .idx)
+      → sa ≡ turned i ra → sb ≡ turned j rb → ka ≡ keptOf i sa sb sa → kb ≡ keptOf j sa sb sb → Merged ws ws′ n a b ka kb → Bound ws ws′ n a b
+  bind-law i j ra rb sa sb ka kb ei ej ea eb ta tb ea′ eb′ m = bound (rw (ea′, eb′, ta, tb, ea, eb, ei, ej) at m)
+
+  -- `settle`: "Only Success merges"
+
+  pub settle-merges : (r : UnifyResult) (sa sb : TypeState) → r ≡ Success → sa ≡ stateAt ws n (a .idx) → sb ≡ stateAt ws n (b .idx)
+      → Merged ws ws′ n a b sa sb → Settled ws ws′ n a b r Success
+  unfolding scope.settle
+  settle-merges r sa sb e ea eb m =
+      let m′ : Merged ws ws′ n a b (stateAt ws n (a .idx)) (stateAt ws n (b .idx)) = rw (ea, eb) at m in
+      record {
+        tail = m .tail;
+        clean = λ ks c cl. m′ .clean ks c cl (state-fits ws ks c n cl (a .idx)) (state-fits ws ks c n cl (b .idx));
+        nodes = λ ks c cl.
+            rw (e, ← state-read ws ks c n cl (a .idx), ← state-read ws ks c n cl (b .idx))
+            (ap (λ (ns : List nodes.Node). scope.out ns answers.Success) (sym (m′ .nodes ks c cl (state-fits ws ks c n cl (a .idx)) (state-fits ws ks c n cl (b .idx)))));
+      }
+
+settle-idle : (ns : List nodes.Node) (a b : Ty) (q : UnifyResult) → isSuccess (answerOf q) ≡ false → scope.settle ns a b (answerOf q) ≡ scope.out ns (answerOf q)
+unfolding scope.settle
+settle-idle ns a b Success h = cc
+settle-idle ns a b Failure h = refl
+settle-idle ns a b Indeterminate h = refl
+
+pub settle-stays : (ws : List ℕ) (n : ℕ) (a b : Ty) (r q : UnifyResult) → r ≡ q → isSuccess (answerOf q) ≡ false → Settled ws ws n a b r q
+settle-stays ws n a b r q e h = record {
+  tail = refl;
+  clean = λ ks c cl. cl;
+  nodes = λ ks c cl. rw e (settle-idle (decode ws ks n) a b q h);
+}

@@ -1,0 +1,83 @@
+-- What merging two roots asks of the node words and does to them: scope's join, merge, bind and settle on the nodes that the words hold, whatever
+-- their children's words ks are.
+use mathlib.Core.Path.{_≡_}
+use mathlib.Core.Bool.{Bool, true, false}
+use mathlib.Core.List.{List}
+use Prim.Native.Nat.{ℕ, _+_, _<_, _≤_}
+use lib.ListN.{length, drop}
+use Rattle.scope.specs.Base.{xor}
+use Rattle.scope.specs.Limits.{NONE}
+use Rattle.scope.specs.Types.{Ty}
+use Rattle.scope.specs.Answers as answers
+use Rattle.scope.specs.Unify as scope
+use Rattle.types.specs.Answers.{answerOf}
+use Rattle.types.specs.declared.UnifyResult.{UnifyResult}
+use Rattle.layout.specs.Words.{nodeWords, decode}
+use Rattle.layout.specs.Meaning.{readAt, stateMeans, stateFits, Clean}
+use Rattle.layout.specs.declared.TypeState.{TypeState}
+use Rattle.layout.specs.declared.TypeState.the-variants.{Known, Unknown, InferenceFailed}
+use Rattle.layout.specs.declared.TypeNode.{TypeNode}
+use Rattle.layout.specs.declared.TypeNode.the-variants.{Root, Child}
+
+-- a child has no state of its own, and no size
+
+abbrev pub nodeState : TypeNode → TypeState
+nodeState (Root st z) = st
+nodeState (Child t) = Unknown NONE
+
+abbrev pub nodeSize : TypeNode → ℕ
+nodeSize (Root st z) = z
+nodeSize (Child t) = 0
+
+-- what the code reads at i
+abbrev pub stateAt : List ℕ → ℕ → ℕ → TypeState
+stateAt ws n i = nodeState (readAt ws n i)
+
+abbrev pub sizeAt : List ℕ → ℕ → ℕ → ℕ
+sizeAt ws n i = nodeSize (readAt ws n i)
+
+-- scope's `turn`, `orState` and `kept`, of the code's states
+
+abbrev pub turned : Bool → TypeState → TypeState
+turned i (Known j k) = Known (record { 0 = xor i (j .0) }) k
+turned i (Unknown s) = Unknown s
+turned i InferenceFailed = InferenceFailed
+
+abbrev pub firstKnown : TypeState → TypeState → TypeState
+firstKnown (Known i k) b = Known i k
+firstKnown (Unknown s) b = b
+firstKnown InferenceFailed b = b
+
+-- the state that a staying root takes, from those that the two types see and its own
+abbrev pub keptOf : Bool → TypeState → TypeState → TypeState → TypeState
+keptOf i sa sb own = turned i (firstKnown sa (firstKnown sb own))
+
+-- n nodes have room in ws, and the sizes of two of them add up to a number of 32 bits; in a sound store all sizes together do
+pub record Adds (ws : List ℕ) (n : ℕ) (a b : Ty) : Type 0 where
+  pub room : nodeWords n ≤ length ws
+  pub sizes : sizeAt ws n (a .idx) + sizeAt ws n (b .idx) < 4294967296
+
+-- ws′ after ws: the words past the n nodes are as they were; where ws was clean with c children in ks, so is ws′, and it holds the nodes that scope says
+
+pub record Joined (ws ws′ : List ℕ) (n : ℕ) (w l : Ty) (st : TypeState) : Type 0 where
+  pub tail : drop (nodeWords n) ws′ ≡ drop (nodeWords n) ws
+  pub clean : (ks : List ℕ) (c : ℕ) → Clean ws ks c n → stateFits ks c st ≡ true → Clean ws′ ks c n
+  pub nodes : (ks : List ℕ) (c : ℕ) → Clean ws ks c n → stateFits ks c st ≡ true
+      → decode ws′ ks n ≡ scope.join (decode ws ks n) w l (stateMeans ks st)
+
+pub record Merged (ws ws′ : List ℕ) (n : ℕ) (a b : Ty) (sa sb : TypeState) : Type 0 where
+  pub tail : drop (nodeWords n) ws′ ≡ drop (nodeWords n) ws
+  pub clean : (ks : List ℕ) (c : ℕ) → Clean ws ks c n → stateFits ks c sa ≡ true → stateFits ks c sb ≡ true → Clean ws′ ks c n
+  pub nodes : (ks : List ℕ) (c : ℕ) → Clean ws ks c n → stateFits ks c sa ≡ true → stateFits ks c sb ≡ true
+      → decode ws′ ks n ≡ scope.merge (decode ws ks n) a b (stateMeans ks sa) (stateMeans ks sb)
+
+-- scope's `bind` where neither root occurs in the other
+pub record Bound (ws ws′ : List ℕ) (n : ℕ) (a b : Ty) : Type 0 where
+  pub tail : drop (nodeWords n) ws′ ≡ drop (nodeWords n) ws
+  pub clean : (ks : List ℕ) (c : ℕ) → Clean ws ks c n → Clean ws′ ks c n
+  pub nodes : (ks : List ℕ) (c : ℕ) → Clean ws ks c n → scope.bindIf (decode ws ks n) a b false ≡ scope.out (decode ws′ ks n) answers.Success
+
+pub record Settled (ws ws′ : List ℕ) (n : ℕ) (a b : Ty) (r q : UnifyResult) : Type 0 where
+  pub tail : drop (nodeWords n) ws′ ≡ drop (nodeWords n) ws
+  pub clean : (ks : List ℕ) (c : ℕ) → Clean ws ks c n → Clean ws′ ks c n
+  pub nodes : (ks : List ℕ) (c : ℕ) → Clean ws ks c n → scope.settle (decode ws ks n) a b (answerOf r) ≡ scope.out (decode ws′ ks n) (answerOf q)

@@ -1,0 +1,132 @@
+// Two roots become one: "The first root stays if its size is larger; on equal sizes it becomes the child." The node words change as scope's join, merge,
+// bind and settle say of the nodes that they hold. Nothing here reads a child's words.
+ghost use mathlib.Core.Path.{_≡_};
+ghost use Prim.Native.Nat.{_≤_};
+ghost use lib.ListN.{length};
+ghost use Rattle.scope.specs.Types.{tyOf};
+ghost use Rattle.layout.specs.Words.{nodeWords};
+ghost use Rattle.merge.specs.Meaning.{nodeState, nodeSize, sizeAt, stateAt, turned, firstKnown, keptOf};
+ghost use Rattle.merge.specs.Meaning.{Adds, Joined, Merged, Bound, Settled};
+use layout::NONE;
+use layout::TypeNode;
+use layout::TypeState;
+use types::Inverted;
+use types::Type;
+use types::UnifyResult;
+
+// A child has no state of its own, and no size.
+fn state_of(v: TypeNode) -> TypeState
+    ensures { λ r. ⌜ r ≡ nodeState v ⌝ }
+{
+    match v {
+        TypeNode::Root { state, size: _ } => state,
+        TypeNode::Child(_) => TypeState::Unknown(NONE),
+    }
+}
+
+fn size_of(v: TypeNode) -> u32
+    ensures { λ r. ⌜ r ≡ nodeSize v ⌝ }
+{
+    match v {
+        TypeNode::Root { state: _, size } => size,
+        TypeNode::Child(_) => 0,
+    }
+}
+
+fn state_at(ws: &[u32], n: u32, t: Type) -> TypeState
+    requires { ⌜ nodeWords n ≤ length (now ws) ⌝ }
+    ensures { λ r. ⌜ r ≡ stateAt (now (ws .entry)) n (tyOf (t .0) .idx) ⌝ }
+{
+    state_of(layout::node_at(ws, n, t.idx()))
+}
+
+fn size_at(ws: &[u32], n: u32, t: Type) -> u32
+    requires { ⌜ nodeWords n ≤ length (now ws) ⌝ }
+    ensures { λ r. ⌜ r ≡ sizeAt (now (ws .entry)) n (tyOf (t .0) .idx) ⌝ }
+{
+    size_of(layout::node_at(ws, n, t.idx()))
+}
+
+// The root w stays with the state, and l becomes its child.
+pub fn join(ws: &mut [u32], n: u32, w: Type, l: Type, state: TypeState)
+    requires { ⌜ Adds (now ws) n (tyOf (w .0)) (tyOf (l .0)) ⌝ }
+    ensures { λ _. ⌜ Joined (now (ws .entry)) (now (ws .exit)) n (tyOf (w .0)) (tyOf (l .0)) state ⌝ }
+{
+    let size = size_at(ws, n, w) + size_at(ws, n, l);
+    let inv = l.inv();
+    let parent = w.invert_if(inv);
+    layout::put_node(ws, n, w.idx(), TypeNode::Root { state, size });
+    layout::put_node(ws, n, l.idx(), TypeNode::Child(parent));
+}
+
+// Each root comes with the state that it has if it stays.
+pub fn merge(ws: &mut [u32], n: u32, a: Type, b: Type, sa: TypeState, sb: TypeState)
+    requires { ⌜ Adds (now ws) n (tyOf (a .0)) (tyOf (b .0)) ⌝ }
+    ensures { λ _. ⌜ Merged (now (ws .entry)) (now (ws .exit)) n (tyOf (a .0)) (tyOf (b .0)) sa sb ⌝ }
+{
+    if size_at(ws, n, b) < size_at(ws, n, a) {
+        join(ws, n, a, b, sa);
+    } else {
+        join(ws, n, b, a, sb);
+    }
+}
+
+// A state as a type of its root sees it, and back.
+fn turn(inv: Inverted, state: TypeState) -> TypeState
+    ensures { λ r. ⌜ r ≡ turned (inv .0) state ⌝ }
+{
+    match state {
+        TypeState::Known(i, kind) => TypeState::Known(inv.xor(i), kind),
+        TypeState::Unknown(span) => TypeState::Unknown(span),
+        TypeState::InferenceFailed => TypeState::InferenceFailed,
+    }
+}
+
+// The first that has a kind, or else the second.
+fn first_known(a: TypeState, b: TypeState) -> TypeState
+    ensures { λ r. ⌜ r ≡ firstKnown a b ⌝ }
+{
+    match a {
+        TypeState::Known(i, kind) => TypeState::Known(i, kind),
+        TypeState::Unknown(_) => b,
+        TypeState::InferenceFailed => b,
+    }
+}
+
+// The state that a staying root takes: the kind of either, as its type sees it, or its own state.
+fn kept(inv: Inverted, sa: TypeState, sb: TypeState, own: TypeState) -> TypeState
+    ensures { λ r. ⌜ r ≡ keptOf (inv .0) sa sb own ⌝ }
+{
+    turn(inv, first_known(sa, first_known(sb, own)))
+}
+
+// "They merge and keep the kind"; "The staying root keeps its own span or failed mark."
+pub fn bind(ws: &mut [u32], n: u32, a: Type, b: Type)
+    requires { ⌜ Adds (now ws) n (tyOf (a .0)) (tyOf (b .0)) ⌝ }
+    ensures { λ _. ⌜ Bound (now (ws .entry)) (now (ws .exit)) n (tyOf (a .0)) (tyOf (b .0)) ⌝ }
+{
+    let ia = a.inv();
+    let ib = b.inv();
+    let sa = turn(ia, state_at(ws, n, a));
+    let sb = turn(ib, state_at(ws, n, b));
+    let ka = kept(ia, sa, sb, sa);
+    let kb = kept(ib, sa, sb, sb);
+    merge(ws, n, a, b, ka, kb);
+}
+
+// "Only Success merges."
+pub fn settle(ws: &mut [u32], n: u32, a: Type, b: Type, r: UnifyResult) -> UnifyResult
+    requires { ⌜ Adds (now ws) n (tyOf (a .0)) (tyOf (b .0)) ⌝ }
+    ensures { λ q. ⌜ Settled (now (ws .entry)) (now (ws .exit)) n (tyOf (a .0)) (tyOf (b .0)) r q ⌝ }
+{
+    match r {
+        UnifyResult::Success => {
+            let sa = state_at(ws, n, a);
+            let sb = state_at(ws, n, b);
+            merge(ws, n, a, b, sa, sb);
+            UnifyResult::Success
+        }
+        UnifyResult::Failure => UnifyResult::Failure,
+        UnifyResult::Indeterminate => UnifyResult::Indeterminate,
+    }
+}

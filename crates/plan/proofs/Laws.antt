@@ -1,0 +1,140 @@
+-- One law for each way out of `same_kinds`, `crosses` and `plan_of`: what the tests on the way showed gives what scope's definition picks there. A kind's
+-- head says the code's numbers whatever the children are; its names matter for a Key, which has its own, and for an Object, which has its children's.
+-- Assumes nothing.
+use mathlib.Core.Path.{_≡_, refl, ap, sym, _∙_}
+use mathlib.Core.Bool.{Bool, true, false, not, _&&_, _||_, and-true, and-false, or-true}
+use mathlib.Core.List.{List, []}
+use mathlib.Core.Option.{Option, none, some}
+use Prim.Native.Nat.{ℕ}
+use lib.Dec.{eqb}
+use borrow.Author.Tests.{eq-eqb, ne-eqb, eqb-true, not-true, not-false}
+use Rattle.scope.specs.Base.{pick}
+use Rattle.scope.specs.Names.{Texts, name, bytes, bytesOr, eqBytes}
+use Rattle.scope.specs.Kinds.{KEY, OBJECT, CLOSURE, ERROR, DEFAULT, rowOf, rows, dualBy, selfDual}
+use Rattle.scope.specs.Unify.{firstName, sameHead, kidsPlan, objectPlan, signaturePlan, runPlan}
+use Rattle.scope.specs.Unify as scope
+use Rattle.scope.specs.Sound.{nameIn, namesIn}
+use Rattle.types.specs.declared.Inverted.{Inverted}
+use Rattle.types.specs.declared.UnifyResult.the-variants.{Failure, Indeterminate}
+use Rattle.layout.proofs.Lists.{and-left}
+use Rattle.layout.specs.Meaning.{kindCell, kindMeans}
+use Rattle.layout.specs.declared.Kind.{Kind}
+use Rattle.plan.specs.Meaning.{namesFrom, planMeans, SameKinds, crossesKind, Planned}
+use Rattle.plan.specs.declared.Runs.{Runs}
+use Rattle.plan.specs.declared.Plan.the-variants.{Answer, Run, Object, Signature}
+
+-- names: a Key's own, which is none where its length is 0, and an Object's
+
+own-name-by : (b : Bool) (x : Texts) (t i n : ℕ) → eqb n 0 ≡ b → bytesOr x (pick b none (some (name t i n))) ≡ bytes x (name t i n)
+unfolding bytes
+own-name-by true x t i n e = rw (eqb-true n 0 e)
+own-name-by false x t i n e = refl
+
+key-name : (x : Texts) (ks : List ℕ) (k : Kind) → k .code ≡ KEY → firstName x (namesIn (kindCell ks k)) ≡ bytes x (name (k .text) (k .start) (k .len))
+unfolding rowOf rows
+key-name x ks k e = rw e (own-name-by (eqb (k .len) 0) x (k .text) (k .start) (k .len) refl)
+
+object-names : (ks : List ℕ) (k : Kind) → k .code ≡ OBJECT → namesIn (kindCell ks k) ≡ namesFrom ks (k .first) (k .count)
+unfolding rowOf rows
+object-names ks k e = rw e refl
+
+-- `same_kinds`
+
+module _ (x : Texts) (k m : Kind) where
+  pub same-code : (k .code ≡ m .code → ⊥) → SameKinds x k m false
+  unfolding sameHead kindMeans
+  same-code h = record { is = λ ks. rw (ne-eqb (k .code) (m .code) h) }
+
+  pub same-number : k .code ≡ m .code → (k .number ≡ m .number → ⊥) → SameKinds x k m false
+  unfolding sameHead kindMeans
+  same-number e h = record { is = λ ks. rw (eq-eqb (k .code) (m .code) e, ne-eqb (k .number) (m .number) h) }
+
+  pub same-plain : k .code ≡ m .code → k .number ≡ m .number → (k .code ≡ KEY → ⊥) → SameKinds x k m true
+  unfolding sameHead kindMeans
+  same-plain e f h = record { is = λ ks. rw (eq-eqb (k .code) (m .code) e, eq-eqb (k .number) (m .number) f, ne-eqb (k .code) KEY h) }
+
+  pub same-key : (r : Bool) → k .code ≡ m .code → k .number ≡ m .number → k .code ≡ KEY
+      → r ≡ eqBytes (bytes x (name (k .text) (k .start) (k .len))) (bytes x (name (m .text) (m .start) (m .len))) → SameKinds x k m r
+  unfolding sameHead kindMeans
+  same-key r e f h b = record {
+    is = λ ks. rw (eq-eqb (k .code) (m .code) e, eq-eqb (k .number) (m .number) f, eq-eqb (k .code) KEY h, key-name x ks k h, key-name x ks m (sym e ∙ h)) b;
+  }
+
+  same-codes : SameKinds x k m true → k .code ≡ m .code
+  unfolding sameHead kindMeans
+  same-codes s = eqb-true (k .code) (m .code) (and-left (eqb (k .code) (m .code)) _ (sym (s .is [])))
+
+-- `crosses`: Default does not, any other kind as it is self-dual
+
+pub default-stays : (k : Kind) → k .code ≡ DEFAULT → false ≡ crossesKind k
+default-stays k e = rw (eq-eqb (k .code) DEFAULT e) (sym (and-false (dualBy (rowOf (k .code) .dual) (k .dual))))
+
+pub other-crosses : (k : Kind) (r : Bool) → (k .code ≡ DEFAULT → ⊥) → r ≡ dualBy (rowOf (k .code) .dual) (k .dual) → r ≡ crossesKind k
+other-crosses k r h e = rw (ne-eqb (k .code) DEFAULT h) (e ∙ sym (and-true (dualBy (rowOf (k .code) .dual) (k .dual))))
+
+-- `plan_of`
+
+-- no Error, equal kinds, and their inversions agree or they cross
+pub record Meets (x : Texts) (k m : Kind) (i : Bool) : Type 0 where
+  pub sound : (k .code ≡ ERROR → ⊥) × (m .code ≡ ERROR → ⊥)
+  pub same : SameKinds x k m true
+  pub free : (not i || crossesKind k) ≡ true
+
+pub free-plain : (i t : Bool) → i ≡ false → (not i || t) ≡ true
+free-plain i t e = rw e
+
+pub free-crossed : (i r t : Bool) → r ≡ t → not r ≡ false → (not i || t) ≡ true
+free-crossed i r t e h = rw (sym e ∙ not-false r h) (or-true (not i))
+
+module _ (x : Texts) (k m : Kind) (i : Bool) where
+  pub plan-error : k .code ≡ ERROR → Planned x k m i (Answer Indeterminate)
+  unfolding planMeans scope.plan kindMeans
+  plan-error e = record { means = λ ks. rw (eq-eqb (k .code) ERROR e) }
+
+  pub plan-against-error : (k .code ≡ ERROR → ⊥) → m .code ≡ ERROR → Planned x k m i (Answer Indeterminate)
+  unfolding planMeans scope.plan kindMeans
+  plan-against-error h e = record { means = λ ks. rw (ne-eqb (k .code) ERROR h, eq-eqb (m .code) ERROR e) }
+
+  module _ (h : k .code ≡ ERROR → ⊥) (g : m .code ≡ ERROR → ⊥) where
+    pub plan-unequal : (r : Bool) → SameKinds x k m r → not r ≡ true → Planned x k m i (Answer Failure)
+    unfolding planMeans scope.plan kindMeans
+    plan-unequal r s e = record {
+      means = λ ks. rw (ne-eqb (k .code) ERROR h, ne-eqb (m .code) ERROR g, sym (s .is ks) ∙ not-true r e);
+    }
+
+    pub plan-crossed : (r t : Bool) → SameKinds x k m r → i ≡ true → t ≡ crossesKind k → not t ≡ true → Planned x k m i (Answer Failure)
+    unfolding planMeans scope.plan scope.crosses selfDual kindMeans
+    plan-crossed r t s e f n = record {
+      means = λ ks. rw (ne-eqb (k .code) ERROR h, ne-eqb (m .code) ERROR g, e, sym f ∙ not-true t n, and-false (sameHead x (kindMeans ks k .head) (kindMeans ks m .head)));
+    }
+
+    pub meets : (r : Bool) → SameKinds x k m r → not r ≡ false → (not i || crossesKind k) ≡ true → Meets x k m i
+    meets r s e f = record { sound = (h, g); same = record { is = λ ks. sym (not-false r e) ∙ s .is ks }; free = f }
+
+  -- two kinds that meet: what is to be done with their children
+
+  plan-kids : Meets x k m i → (ks : List ℕ) → scope.plan x (kindMeans ks k) (kindMeans ks m) i ≡ kidsPlan x i (kindMeans ks k) (kindMeans ks m)
+  unfolding scope.plan scope.crosses selfDual kindMeans
+  plan-kids d ks = rw (ne-eqb (k .code) ERROR (d .sound .0), ne-eqb (m .code) ERROR (d .sound .1), sym (d .same .is ks), d .free)
+
+  abbrev runs : Inverted → Runs
+  runs j = record { a = k .first; na = k .count; b = m .first; nb = m .count; inv = j }
+
+module _ (x : Texts) (k m : Kind) (j : Inverted) (d : Meets x k m (j .0)) where
+  pub plan-object : k .code ≡ OBJECT → Planned x k m (j .0) (Object (runs x k m (j .0) j))
+  unfolding planMeans kidsPlan kindMeans
+  plan-object e = record {
+    means = λ ks. sym (plan-kids x k m (j .0) d ks ∙ rw (eq-eqb (k .code) OBJECT e, object-names ks k e, object-names ks m (sym (same-codes x k m (d .same)) ∙ e)));
+  }
+
+  pub plan-closure : (k .code ≡ OBJECT → ⊥) → k .code ≡ CLOSURE → Planned x k m (j .0) (Signature (runs x k m (j .0) j))
+  unfolding planMeans kidsPlan kindMeans
+  plan-closure h e = record {
+    means = λ ks. sym (plan-kids x k m (j .0) d ks ∙ rw (ne-eqb (k .code) OBJECT h, eq-eqb (k .code) CLOSURE e));
+  }
+
+  pub plan-run : (k .code ≡ OBJECT → ⊥) → (k .code ≡ CLOSURE → ⊥) → Planned x k m (j .0) (Run (runs x k m (j .0) j))
+  unfolding planMeans kidsPlan kindMeans
+  plan-run h g = record {
+    means = λ ks. sym (plan-kids x k m (j .0) d ks ∙ rw (ne-eqb (k .code) OBJECT h, ne-eqb (k .code) CLOSURE g));
+  }
