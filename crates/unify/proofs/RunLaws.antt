@@ -7,6 +7,7 @@ use mathlib.Core.List.{List, [], _∷_, _++_, List·Memᴰ, List·Memᴰ·head, 
 use mathlib.Core.Option.{Option, none, some}
 use Prim.Native.Nat.{ℕ, zero, suc, _+_, _-_, _<_, _≤_}
 use native.Mathlib.Omega.{arith}
+use native.Mathlib.Decide.{ℕ-discrete}
 use lib.Dec.{eqb}
 use lib.ListN.{length, drop, length-map}
 use borrow.Author.Tests.{eq-eqb, ne-eqb, eqb-true}
@@ -19,7 +20,9 @@ use Rattle.scope.specs.Unify.{Plan, Out, out, run, unifyF, answers, onto, zippe
 use Rattle.scope.specs.Sound as sound
 use Rattle.scope.specs.Sound.{slotName}
 use Rattle.types.specs.Answers.{answerOf}
+use Rattle.types.specs.declared.«Type».{«Type»}
 use Rattle.types.specs.declared.UnifyResult.{UnifyResult}
+use Rattle.types.specs.declared.UnifyResult.the-variants as code
 use Rattle.layout.specs.Words.{nodeWords, slotAt, slots, decode}
 use Rattle.layout.specs.Meaning.{Clean}
 use Rattle.layout.proofs.ChildLaws.{length-slots}
@@ -158,7 +161,7 @@ none-left n i h = omega arith
 -- children from a place on
 
 kid-length : (ks : List ℕ) (a n : ℕ) → length (kidsFrom ks a n) ≡ n
-kid-length ks a n = length-map {f = λ s. tyOf (s .type)} (slots ks a n) ∙ length-slots ks a n
+kid-length ks a n = length-map (slots ks a n) (λ s. tyOf (s .type)) ∙ length-slots ks a n
 
 abbrev kidTy : List ℕ → ℕ → Ty
 kidTy ks i = tyOf (slotAt ks i .type)
@@ -238,10 +241,10 @@ module _ (x : Texts) (ks : List ℕ) (s : Runs) where
   objectRest i =
       sharedNames x (s .inv .0) (namesFrom ks (s .a + i) (s .na - i)) (kidsFrom ks (s .a + i) (s .na - i)) (namesFrom ks (s .b) (s .nb)) (kidsFrom ks (s .b) (s .nb))
 
-  pub object-whole : {r : UnifyResult} → answerOf r ≡ ofBool (eqb (s .na) (s .nb))
+  pub object-whole : (r : UnifyResult) → answerOf r ≡ ofBool (eqb (s .na) (s .nb))
       → planMeans ks x (Object s) ≡ record { base = both (answerOf r) (objectRest 0 .base); pairs = objectRest 0 .pairs }
   unfolding planMeans objectPlan
-  object-whole e =
+  object-whole r e =
       let z : s .na - 0 ≡ s .na = omega arith in
       let p : s .a + 0 ≡ s .a = omega arith in
       rw (kid-length ks (s .a) (s .na), kid-length ks (s .b) (s .nb), ← e, z, p) refl
@@ -253,15 +256,125 @@ module _ (x : Texts) (ks : List ℕ) (s : Runs) where
       let p : s .a + (i + 1) ≡ suc (s .a + i) = omega arith in
       rw (one-more (s .na) i h, p, ← slot-bytes x (slotAt ks (s .a + i))) refl
 
-  module _ (i : ℕ) (h : i < s .na) {m : Name} {f : Sought} (em : m ≡ slotPlace (slotAt ks (s .a + i))) (ef : soughtMeans f ≡ soughtIn x ks m (s .b) (s .nb)) where
+  module _ (i : ℕ) (h : i < s .na) {m : Name} (f : Sought) (em : m ≡ slotPlace (slotAt ks (s .a + i))) (ef : soughtMeans f ≡ soughtIn x ks m (s .b) (s .nb)) where
     object-to : {g : Sought} → f ≡ g → objectRest i ≡ shared (s .inv .0) (kidTy ks (s .a + i)) (soughtMeans g) (objectRest (i + 1))
     object-to e = object-step i h ∙ ap (λ (o : Option Ty). shared (s .inv .0) (kidTy ks (s .a + i)) o (objectRest (i + 1)))
         (ap (λ (k : Name). soughtIn x ks k (s .b) (s .nb)) (sym em) ∙ (sym ef ∙ ap soughtMeans e))
 
-    module _ {ws₀ : List ℕ} {n d : ℕ} {o : Out} {ws : List ℕ} {r : UnifyResult} (g : Going x ws₀ ks n d o ws (both (answerOf r) (objectRest i .base)) (objectRest i .pairs)) where
-      pub object-none : {r′ : UnifyResult} → f ≡ found.Nothing → answerOf r′ ≡ both (answerOf r) Failure
+    module _ {ws₀ : List ℕ} {n d : ℕ} {o : Out} {ws : List ℕ} (r : UnifyResult) (g : Going x ws₀ ks n d o ws (both (answerOf r) (objectRest i .base)) (objectRest i .pairs)) where
+      pub object-none : (r′ : UnifyResult) → f ≡ found.Nothing → answerOf r′ ≡ both (answerOf r) Failure
           → Going x ws₀ ks n d o ws (both (answerOf r′) (objectRest (i + 1) .base)) (objectRest (i + 1) .pairs)
-      object-none {r′} e q =
+      object-none r′ e q =
           let l = object-to e in
           going-to (ap (λ (t : Plan). both (answerOf r) (t .base)) l ∙ (both-fails (answerOf r) (objectRest (i + 1) .base) ∙ ap (λ (t : Answer). both t (objectRest (i + 1) .base)) (sym q)))
           (ap (λ (t : Plan). t .pairs) l) g
+
+      -- the name is there: one pair, and the rest
+      pub object-found : (t : «Type») → f ≡ found.Is t
+          → Going x ws₀ ks n d o ws (both (answerOf r) (objectRest (i + 1) .base))
+          ((kidTy ks (s .a + i), flip (s .inv .0) (tyOf (t .0))) ∷ objectRest (i + 1) .pairs)
+      object-found t e = let l = object-to e in going-to (ap (λ (p : Plan). both (answerOf r) (p .base)) l) (ap (λ (p : Plan). p .pairs) l) g
+
+  pub object-over : (i : ℕ) → s .na ≤ i → objectRest i ≡ answers Success
+  unfolding sharedNames
+  object-over i h = rw (none-left (s .na) i h) refl
+
+-- a signature: its parameters, then its returns
+
+front-kids : (ks : List ℕ) (a n : ℕ) → parameters (kidsFrom ks a n) ≡ kidsFrom ks a (n - 1)
+front-kids ks a zero = refl
+front-kids ks a (suc zero) = refl
+front-kids ks a (suc (suc n)) =
+    let e : suc (suc n) - 1 ≡ suc n = omega arith in
+    let f : suc n - 1 ≡ n = omega arith in
+    rw (e, front-kids ks (suc a) (suc n), f) refl
+
+last-kid : (ks : List ℕ) (a n : ℕ) → 0 < n → returned (kidsFrom ks a n) ≡ kidTy ks (a + (n - 1)) ∷ []
+last-kid ks a zero h = absurd (omega arith)
+last-kid ks a (suc zero) h = let e : a + (suc zero - 1) ≡ a = omega arith in rw e refl
+last-kid ks a (suc (suc n)) h =
+    let e : suc a + (suc n - 1) ≡ a + (suc (suc n) - 1) = omega arith in
+    rw (last-kid ks (suc a) (suc n) (omega arith), e) refl
+
+no-kid : (ks : List ℕ) (a n : ℕ) → n ≡ 0 → returned (kidsFrom ks a n) ≡ []
+no-kid ks a n e = rw e refl
+
+-- `returns`
+module _ (ks : List ℕ) (s : Runs) where
+  pub returns-none : (r : UnifyResult) → s .na ≡ 0 → answerOf r ≡ ofBool (eqb (s .nb) 0) → returnsMean (back.Lacking r) ≡ returnsPlan ks s
+  unfolding runPlan
+  returns-none r e q = rw (no-kid ks (s .a) (s .na) e) (go (ℕ-discrete (s .nb) 0))
+    where
+      go : Dec (s .nb ≡ 0) → answers (answerOf r) ≡ runPlan (s .inv .0) [] (returned (kidsFrom ks (s .b) (s .nb)))
+      go (yes z) = unfold runPlan zipped in rw (no-kid ks (s .b) (s .nb) z, q, eq-eqb (s .nb) 0 z) refl
+      go (no z) = unfold runPlan zipped in rw (last-kid ks (s .b) (s .nb) (omega arith), q, ne-eqb (s .nb) 0 z) refl
+
+  pub returns-lack : (s .na ≡ 0 → ⊥) → s .nb ≡ 0 → returnsMean (back.Lacking code.Failure) ≡ returnsPlan ks s
+  unfolding runPlan
+  returns-lack h e = rw (last-kid ks (s .a) (s .na) (omega arith), no-kid ks (s .b) (s .nb) e) refl
+
+  pub returns-pair : (x y z : «Type») → (s .na ≡ 0 → ⊥) → (s .nb ≡ 0 → ⊥) → x .0 ≡ slotAt ks (s .a + (s .na - 1)) .type
+      → z .0 ≡ slotAt ks (s .b + (s .nb - 1)) .type → tyOf (y .0) ≡ flip (s .inv .0) (tyOf (z .0)) → returnsMean (back.Pair x y) ≡ returnsPlan ks s
+  unfolding runPlan zipped
+  returns-pair x y z h g ex ez ey =
+      rw (last-kid ks (s .a) (s .na) (omega arith), last-kid ks (s .b) (s .nb) (omega arith), ey, ex, ez) refl
+
+module _ (x : Texts) (ks : List ℕ) (s : Runs) {p : Runs} (ep : Parameters s p) (t : Returned) (et : returnsMean t ≡ returnsPlan ks s) where
+  pub signature-split : planMeans ks x (Signature s) ≡ after (planMeans ks x (Run p)) (returnsMean t)
+  unfolding planMeans signaturePlan
+  signature-split =
+      rw (ep .a, ep .na, ep .b, ep .nb, ep .inv, et, front-kids ks (s .a) (s .na), front-kids ks (s .b) (s .nb)) refl
+
+module _ (x : Texts) (ks : List ℕ) {s : Runs} {p : Runs} (ep : Parameters s p) where
+  parameters-plan : planMeans ks x (Run p) ≡ runPlan (s .inv .0) (parameters (kidsFrom ks (s .a) (s .na))) (parameters (kidsFrom ks (s .b) (s .nb)))
+  unfolding planMeans
+  parameters-plan = rw (ep .a, ep .na, ep .b, ep .nb, ep .inv, front-kids ks (s .a) (s .na), front-kids ks (s .b) (s .nb)) refl
+
+  pub parameters-pairs : {ws : List ℕ} {n : ℕ} → Pairs x ws ks n (planMeans ks x (Signature s) .pairs) → Pairs x ws ks n (planMeans ks x (Run p) .pairs)
+  unfolding planMeans signaturePlan
+  parameters-pairs {ws} {n} g = record {
+    ready = g .ready;
+    inside = subst (λ (l : Plan). Inside n (l .pairs)) (sym parameters-plan)
+        (λ q m. g .inside q (Memᴰ·append-left (runPlan (s .inv .0) (returned (kidsFrom ks (s .a) (s .na))) (returned (kidsFrom ks (s .b) (s .nb))) .pairs) m));
+  }
+
+  module _ {ws ws₁ : List ℕ} {n : ℕ} (d : ℕ) {q : UnifyResult} (g : Pairs x ws ks n (planMeans ks x (Signature s) .pairs))
+      (l : Leaves ws ks ws₁ n (does (unifyF x n d) (decode ws ks n) (planMeans ks x (Run p))) q) (t : Returned) (et : returnsMean t ≡ returnsPlan ks s) where
+    pub after-parameters : Ready x ws₁ ks n
+    after-parameters = ready-run (g .ready) d (planMeans ks x (Run p) .base) (planMeans ks x (Run p) .pairs) (parameters-pairs g .inside) l
+
+    returns-inside : Inside n (returnsMean t .pairs)
+    returns-inside r m = g .inside r (rw (signature-split x ks s ep t et) (Memᴰ·append-right (planMeans ks x (Run p) .pairs) m))
+
+    pub returns-in : {y z : «Type»} → t ≡ back.Pair y z → Pair x ws₁ ks n (tyOf (y .0)) (tyOf (z .0))
+    returns-in {y} {z} e =
+        let h = returns-inside (tyOf (y .0), tyOf (z .0)) (rw e (List·Memᴰ·head refl)) in
+        record { ready = after-parameters; first = h .0; second = h .1 }
+
+    -- the whole from its two parts
+    whole : does (unifyF x n d) (decode ws ks n) (planMeans ks x (Signature s))
+        ≡ out (does (unifyF x n d) (decode ws₁ ks n) (returnsMean t) .nodes) (both (answerOf q) (does (unifyF x n d) (decode ws₁ ks n) (returnsMean t) .answer))
+    whole =
+        ap (does (unifyF x n d) (decode ws ks n)) (signature-split x ks s ep t et)
+        ∙ (does-after (unifyF x n d) (decode ws ks n) (planMeans ks x (Run p)) (returnsMean t)
+        ∙ ap (λ (o : Out). out (does (unifyF x n d) (o .nodes) (returnsMean t) .nodes) (both (o .answer) (does (unifyF x n d) (o .nodes) (returnsMean t) .answer))) (l .same))
+
+    pub signature-lacking : (r v : UnifyResult) → t ≡ back.Lacking r → answerOf v ≡ both (answerOf q) (answerOf r)
+        → Leaves ws ks ws₁ n (does (unifyF x n d) (decode ws ks n) (planMeans ks x (Signature s))) v
+    unfolding run
+    signature-lacking r v e f = record { same = whole ∙ rw (e, f) refl; clean = l .clean; tail = l .tail }
+
+    pub signature-pair : (y z : «Type») {ws₂ : List ℕ} (r v : UnifyResult) → t ≡ back.Pair y z
+        → Leaves ws₁ ks ws₂ n (unifyF x n d (decode ws₁ ks n) (tyOf (y .0)) (tyOf (z .0))) r → answerOf v ≡ both (answerOf q) (answerOf r)
+        → Leaves ws ks ws₂ n (does (unifyF x n d) (decode ws ks n) (planMeans ks x (Signature s))) v
+    unfolding run
+    signature-pair y z r v e m f = record {
+      same = whole ∙ rw (e, m .same, f) refl;
+      clean = λ c cl. m .clean c (l .clean c cl);
+      tail = m .tail ∙ l .tail;
+    }
+
+-- a plan that only answers
+pub answer-leaves : (x : Texts) (ws ks : List ℕ) (n d : ℕ) (r : UnifyResult) → Leaves ws ks ws n (does (unifyF x n d) (decode ws ks n) (planMeans ks x (plans.Answer r))) r
+unfolding planMeans run
+answer-leaves x ws ks n d r = record { same = refl; clean = λ c cl. cl; tail = refl }
