@@ -21,11 +21,13 @@ use Rattle.scope.proofs.PlanLaws.{plan-left, plan-right}
 use Rattle.scope.proofs.ImportKept.{sound-kids}
 use Rattle.types.specs.Answers.{answerOf}
 use Rattle.types.specs.declared.Inverted.{Inverted}
+use Rattle.types.proofs.Laws.{inverted-eq}
 use Rattle.types.specs.declared.UnifyResult.{UnifyResult}
 use Rattle.types.specs.declared.UnifyResult.the-variants.{Success, Failure}
 use Rattle.layout.specs.Words.{decode}
 use Rattle.layout.specs.Meaning.{readAt, kindMeans, nodeMeans}
 use Rattle.layout.specs.declared.Kind.{Kind}
+use Rattle.layout.specs.declared.TypeState.{TypeState}
 use Rattle.layout.specs.declared.TypeState.the-variants.{Known, Unknown, InferenceFailed}
 use Rattle.layout.specs.declared.TypeNode.{TypeNode}
 use Rattle.layout.specs.declared.TypeNode.the-variants.{Root, Child}
@@ -185,3 +187,15 @@ module _ (x : Texts) (ws ks : List ℕ) (n : ℕ) (a b : Ty) (pre : Tops x ws ks
             let y = plan-right x (kindMeans ks k) (kindMeans ks m) i q w in
             (kids-of a state-a (q .0) (plan-left x (kindMeans ks k) (kindMeans ks m) i q w), rw (y .2) (kids-of b state-b (y .0) (y .1))));
       }
+
+-- `kind_at`
+
+module _ (ws : List ℕ) (n : ℕ) (t : Ty) {v : TypeNode} {i : ℕ} (ei : i ≡ t .idx) (ev : v ≡ readAt ws n i) where
+  pub held-root : {st : TypeState} {z : ℕ} {j r : Inverted} {k : Kind} {b : Bool} → v ≡ Root st z → st ≡ Known j k → b ≡ t .inv → r .0 ≡ xor (j .0) b
+      → Is r k ≡ heldIn (t .inv) (readAt ws n (t .idx))
+  held-root {z = z} {j = j} {r = r} {k = k} er es eb ex =
+      ap (λ (q : Inverted). Is q k) (inverted-eq r (record { 0 = xor (j .0) (t .inv) }) (ex ∙ ap (xor (j .0)) eb))
+      ∙ ap (heldIn (t .inv)) (ap (λ (s : TypeState). Root s z) (sym es) ∙ (sym er ∙ (ev ∙ ap (readAt ws n) ei)))
+
+  pub held-none : {w : TypeNode} → v ≡ w → Nothing ≡ heldIn (t .inv) w → Nothing ≡ heldIn (t .inv) (readAt ws n (t .idx))
+  held-none e h = h ∙ ap (heldIn (t .inv)) (sym e ∙ (ev ∙ ap (readAt ws n) ei))
