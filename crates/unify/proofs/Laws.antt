@@ -14,6 +14,7 @@ use Rattle.scope.specs.Nodes.{Node, at, isRoot, sizeOf, find, findMut}
 use Rattle.scope.specs.Answers.{Answer, both}
 use Rattle.scope.specs.Answers as answers
 use Rattle.scope.specs.Unify.{Out, out, run, settle, meet, unifyF}
+use Rattle.scope.specs.Unify as scope
 use Rattle.scope.proofs.View.{View, view}
 use Rattle.scope.proofs.Paths.{Forest, Tidied, find-idx, find-inside, rep-root, find-mut-tidied, tidied-forest, tidied-trans, tidied-view}
 use Rattle.scope.proofs.Sizes.{size-le}
@@ -32,7 +33,7 @@ use Rattle.plan.specs.declared.Plan.{Plan}
 use Rattle.merge.specs.Meaning.{Adds, Bound, Settled}
 use Rattle.merge.proofs.Laws.{size-read}
 use Rattle.unify.specs.Asks.{Ready, Pair, Tops, Inside, Pairs}
-use Rattle.unify.specs.Leaves.{does, Leaves, metBy, Met}
+use Rattle.unify.specs.Leaves.{does, Leaves, metBy, pairsOf, Met}
 use Rattle.unify.specs.declared.Meeting.{Meeting}
 use Rattle.unify.specs.declared.Meeting.the-variants.{Done, Bind, Kids}
 use Rattle.unify.proofs.Kept.{pair-sound, run-sound}
@@ -189,3 +190,14 @@ module _ {x : Texts} {ws ks ws₂ : List ℕ} {n d : ℕ} {p q a b : Ty} (c : Cl
         clean = λ k cl. o .clean ks k (l .clean k (c .clean k cl));
         tail = o .tail ∙ (l .tail ∙ c .tail);
       }
+
+  -- what the children ask, and what settling asks after them
+
+  pub kids-pairs : {k l : Plan} → m ≡ Kids k → k ≡ l → Pairs x ws₂ ks n (planMeans ks x l .pairs)
+  kids-pairs e f = record { ready = c .tops .pair .ready; inside = subst (λ (v : Meeting). Inside n (pairsOf x ks v)) (e ∙ ap Kids f) (met .inside) }
+
+  pub kids-adds : {ws₃ : List ℕ} (l : scope.Plan) {r : UnifyResult} → Inside n (l .pairs) → Leaves ws₂ ks ws₃ n (does u (decode ws₂ ks n) l) r → Adds ws₃ n a b
+  kids-adds l h v = ready-adds (ready-run (c .tops .pair .ready) (d - 1) (l .base) (l .pairs) h v) a b (c .tops .pair .first) (c .tops .pair .second)
+
+  pub tops-adds : Adds ws₂ n a b
+  tops-adds = ready-adds (c .tops .pair .ready) a b (c .tops .pair .first) (c .tops .pair .second)

@@ -199,3 +199,6 @@ module _ (ws : List ℕ) (n : ℕ) (t : Ty) {v : TypeNode} {i : ℕ} (ei : i ≡
 
   pub held-none : {w : TypeNode} → v ≡ w → Nothing ≡ heldIn (t .inv) w → Nothing ≡ heldIn (t .inv) (readAt ws n (t .idx))
   held-none e h = h ∙ ap (heldIn (t .inv)) (sym e ∙ (ev ∙ ap (readAt ws n) ei))
+
+  pub held-bare : {st st′ : TypeState} {z : ℕ} → v ≡ Root st z → st ≡ st′ → Nothing ≡ heldIn (t .inv) (Root st′ z) → Nothing ≡ heldIn (t .inv) (readAt ws n (t .idx))
+  held-bare {z = z} er es = held-none (er ∙ ap (λ (s : TypeState). Root s z) es)

@@ -378,3 +378,56 @@ module _ (x : Texts) (ks : List ℕ) {s : Runs} {p : Runs} (ep : Parameters s p)
 pub answer-leaves : (x : Texts) (ws ks : List ℕ) (n d : ℕ) (r : UnifyResult) → Leaves ws ks ws n (does (unifyF x n d) (decode ws ks n) (planMeans ks x (plans.Answer r))) r
 unfolding planMeans run
 answer-leaves x ws ks n d r = record { same = refl; clean = λ c cl. cl; tail = refl }
+
+-- the loops' steps, as the code takes them
+
+module _ {x : Texts} {ws₀ ks : List ℕ} {n d : ℕ} {o : Out} {ws : List ℕ} (s : Runs) (i : ℕ) where
+  module _ {base : Answer} {ps : List (Ty × Ty)} (a b t : ℕ) (ea : a ≡ slotAt ks (s .a + i) .type) (eb : tyOf b ≡ flip (s .inv .0) (tyOf t))
+      (g : Going x ws₀ ks n d o ws base ((kidTy ks (s .a + i), flip (s .inv .0) (tyOf t)) ∷ ps)) where
+    going-as : Going x ws₀ ks n d o ws base ((tyOf a, tyOf b) ∷ ps)
+    going-as = going-to refl (ap (λ (v : Ty). (v, flip (s .inv .0) (tyOf t)) ∷ ps) (ap tyOf (sym ea)) ∙ ap (λ (v : Ty). (tyOf a, v) ∷ ps) (sym eb)) g
+
+  module _ (r : UnifyResult) (h : i < s .na) (a b t : ℕ) (ea : a ≡ slotAt ks (s .a + i) .type) (et : t ≡ slotAt ks (s .b + i) .type)
+      (eb : tyOf b ≡ flip (s .inv .0) (tyOf t)) (g : Going x ws₀ ks n d o ws (answerOf r) (runRest ks s i)) where
+    at-pair : Going x ws₀ ks n d o ws (answerOf r) ((tyOf a, tyOf b) ∷ runRest ks s (i + 1))
+    at-pair = going-as a b t ea eb (going-to refl (run-more x ks s i h ∙ ap (λ (v : Ty). (kidTy ks (s .a + i), flip (s .inv .0) v) ∷ runRest ks s (i + 1)) (ap tyOf (sym et))) g)
+
+    pub run-pair : Pair x ws ks n (tyOf a) (tyOf b)
+    run-pair = going-pair at-pair
+
+    pub run-next : {ws′ : List ℕ} {q : UnifyResult} (r′ : UnifyResult) → Leaves ws ks ws′ n (unifyF x n d (decode ws ks n) (tyOf a) (tyOf b)) q
+        → answerOf r′ ≡ both (answerOf r) (answerOf q) → Going x ws₀ ks n d o ws′ (answerOf r′) (runRest ks s (i + 1))
+    run-next r′ l e = going-to (sym e) refl (going-on at-pair l)
+
+  -- an object's name that is there
+  module _ (r : UnifyResult) (h : i < s .na) {m : Name} (f : Sought) (em : m ≡ slotPlace (slotAt ks (s .a + i))) (ef : soughtMeans f ≡ soughtIn x ks m (s .b) (s .nb))
+      (t : «Type») (et : f ≡ found.Is t) (a b : ℕ) (ea : a ≡ slotAt ks (s .a + i) .type) (eb : tyOf b ≡ flip (s .inv .0) (tyOf (t .0)))
+      (g : Going x ws₀ ks n d o ws (both (answerOf r) (objectRest x ks s i .base)) (objectRest x ks s i .pairs)) where
+    at-name : Going x ws₀ ks n d o ws (both (answerOf r) (objectRest x ks s (i + 1) .base)) ((tyOf a, tyOf b) ∷ objectRest x ks s (i + 1) .pairs)
+    at-name = going-as a b (t .0) ea eb (object-found x ks s i h f em ef r g t et)
+
+    pub name-pair : Pair x ws ks n (tyOf a) (tyOf b)
+    name-pair = going-pair at-name
+
+    pub name-next : {ws′ : List ℕ} {q : UnifyResult} (r′ : UnifyResult) → Leaves ws ks ws′ n (unifyF x n d (decode ws ks n) (tyOf a) (tyOf b)) q
+        → answerOf r′ ≡ both (answerOf r) (answerOf q)
+        → Going x ws₀ ks n d o ws′ (both (answerOf r′) (objectRest x ks s (i + 1) .base)) (objectRest x ks s (i + 1) .pairs)
+    name-next {ws′} {q} r′ l e =
+        going-to (both-turn (answerOf r) (objectRest x ks s (i + 1) .base) (answerOf q) ∙ ap (λ (v : Answer). both v (objectRest x ks s (i + 1) .base)) (sym e)) refl
+        (going-on at-name l)
+
+-- their ends
+
+module _ {x : Texts} {ws₀ ks : List ℕ} {n d : ℕ} {o : Out} {ws : List ℕ} (s : Runs) (i : ℕ) (h : s .na ≤ i) (r : UnifyResult) where
+  pub run-ends : Going x ws₀ ks n d o ws (answerOf r) (runRest ks s i) → Leaves ws₀ ks ws n o r
+  run-ends g = going-end refl (going-to refl (run-over x ks s i h) g)
+
+  pub object-ends : Going x ws₀ ks n d o ws (both (answerOf r) (objectRest x ks s i .base)) (objectRest x ks s i .pairs) → Leaves ws₀ ks ws n o r
+  object-ends g =
+      let e = object-over x ks s i h in
+      going-end (both-swap (answerOf r) Success) (going-to (ap (λ (l : Plan). both (answerOf r) (l .base)) e) (ap (λ (l : Plan). l .pairs) e) g)
+
+pub run-fails : (x : Texts) (ws ks : List ℕ) (n d : ℕ) (s : Runs) → (s .na ≡ s .nb → ⊥)
+    → Leaves ws ks ws n (does (unifyF x n d) (decode ws ks n) (planMeans ks x (Run s))) code.Failure
+unfolding run
+run-fails x ws ks n d s h = record { same = ap (does (unifyF x n d) (decode ws ks n)) (run-differ x ks s h); clean = λ c cl. cl; tail = refl }

@@ -1,8 +1,8 @@
 -- `unify::kind_at` meets its contract: a Known root's kind, its inversion combined with the type's.
 -- Assumes nothing.
-use mathlib.Core.Path.{refl, _∙_}
+use mathlib.Core.Path.{refl}
 use Rattle.scope.specs.Types.{tyOf}
-use Rattle.unify.proofs.MeetLaws.{held-root, held-none}
+use Rattle.unify.proofs.MeetLaws.{held-root, held-none, held-bare}
 use borrow.Author.Needs.{needs}
 use Rattle.unify.proofs.kind_at.Statement.{statement}
 use Rattle.unify.proofs.kind_at.Tie as tie
@@ -38,10 +38,10 @@ returns : tie.Need-returns
 returns c = held-root (c .before .before .before .before .before .before .before .before .before .before .before .args .ws .now) (c .before .before .before .before .before .before .before .before .before .before .before .args .n) (tyOf (c .before .before .before .before .before .before .before .before .before .before .before .args .t .0)) (c .before .before .before .before .before .before .before .before .before .idx .ensures) (c .before .before .before .before .before .before .before .before .node-at .ensures) (c .before .before .before .before .before .before .state .given .1) (c .before .before .before .state2 .given .1) (c .before .inv .ensures) (c .xor .ensures)
 
 returns-2 : tie.Need-returns-2
-returns-2 c = ?
+returns-2 c = held-bare (c .before .before .before .before .before .before .before .before .args .ws .now) (c .before .before .before .before .before .before .before .before .args .n) (tyOf (c .before .before .before .before .before .before .before .before .args .t .0)) (c .before .before .before .before .before .before .idx .ensures) (c .before .before .before .before .before .node-at .ensures) (c .before .before .before .state .given .1) (c .enum-told .given .1) refl
 
 returns-3 : tie.Need-returns-3
-returns-3 c = ?
+returns-3 c = held-bare (c .before .before .before .before .before .before .before .before .args .ws .now) (c .before .before .before .before .before .before .before .before .args .n) (tyOf (c .before .before .before .before .before .before .before .before .args .t .0)) (c .before .before .before .before .before .before .idx .ensures) (c .before .before .before .before .before .node-at .ensures) (c .before .before .before .state .given .1) (c .enum-told2 .given .1) refl
 
 returns-4 : tie.Need-returns-4
 returns-4 c = held-none (c .before .before .before .before .before .args .ws .now) (c .before .before .before .before .before .args .n) (tyOf (c .before .before .before .before .before .args .t .0)) (c .before .before .before .idx .ensures) (c .before .before .node-at .ensures) (c .enum-told3 .given .1) refl
