@@ -3,3 +3,4 @@ pub mod Kept
 pub mod Laws
 pub mod RunLaws
 pub mod MeetLaws
+pub mod ListLaws

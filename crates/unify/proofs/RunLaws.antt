@@ -91,7 +91,7 @@ module _ (u : List Node → Ty → Ty → Out) where
       ∙ run-base (u ns (p .0) (p .1) .nodes) b (both r (u ns (p .0) (p .1) .answer)) ps
 
   -- one plan after another
-  does-after : (ns : List Node) (l m : Plan)
+  pub does-after : (ns : List Node) (l m : Plan)
       → does u ns (after l m) ≡ out (does u (does u ns l .nodes) m .nodes) (both (does u ns l .answer) (does u (does u ns l .nodes) m .answer))
   does-after ns l m =
       run-append ns (both (l .base) (m .base)) (l .pairs) (m .pairs)

@@ -10,7 +10,7 @@ use Rattle.scope.specs.Names.{Texts, Name, name, bytes}
 use Rattle.scope.specs.Types.{Ty, tyOf}
 use Rattle.scope.specs.Nodes.{Node}
 use Rattle.scope.specs.Answers.{Success}
-use Rattle.scope.specs.Unify.{Out, out, run, answers, runPlan, returned, seek, bind, bindIf, settle, sameNode, meet}
+use Rattle.scope.specs.Unify.{Out, out, run, answers, after, runPlan, returned, seek, bind, bindIf, settle, sameNode, meet}
 use Rattle.scope.specs.Unify as scope
 use Rattle.scope.specs.Sound as sound
 use Rattle.types.specs.Answers.{answerOf}
@@ -35,6 +35,10 @@ use Rattle.unify.specs.declared.Sought.the-variants.{Is, Nothing}
 -- what a plan asks, each pair by u
 abbrev pub does : (List Node → Ty → Ty → Out) → List Node → scope.Plan → Out
 does u ns l = run u ns (l .base) (l .pairs)
+
+-- what two signatures ask: their parameters, then their returns
+abbrev pub sigPlan : List Ty → Ty → List Ty → Ty → scope.Plan
+sigPlan xs r ys q = after (runPlan false xs ys) (runPlan false (r ∷ []) (q ∷ []))
 
 -- ws′ after ws holds o's nodes, and r is its answer; clean words stay clean, and the words past the n nodes are as they were
 pub record Leaves (ws ks ws′ : List ℕ) (n : ℕ) (o : Out) (r : UnifyResult) : Type 0 where

@@ -2,10 +2,11 @@
 // read first, then their children are unified, then the answer is settled. The words of the nodes change as scope's `unify` says of the nodes.
 ghost use mathlib.Core.Path.{_≡_};
 ghost use Prim.Native.Nat.{_+_, _-_, _≤_};
+ghost use mathlib.Core.List.{map};
 ghost use lib.ListN.{length};
 ghost use Rattle.scope.specs.Types.{tyOf};
 ghost use Rattle.scope.specs.Names.{bytes};
-ghost use Rattle.scope.specs.Unify.{unifyF};
+ghost use Rattle.scope.specs.Unify.{runPlan, unifyF, unifyTypes, unifyFnSig};
 ghost use Rattle.scope.specs.Unify as scope;
 ghost use Rattle.names.specs.Place.{texts, nameIn};
 ghost use Rattle.layout.specs.Words.{nodeWords, slotAt, decode};
@@ -13,7 +14,7 @@ ghost use Rattle.layout.specs.Meaning.{readAt};
 ghost use Rattle.plan.specs.Meaning.{planMeans};
 ghost use Rattle.plan.specs.declared.Plan.the-variants as plans;
 ghost use Rattle.unify.specs.Asks.{Pair, Tops, Roots, Pairs};
-ghost use Rattle.unify.specs.Leaves.{does, Leaves, heldIn, slotPlace, Same, Bare, Met, soughtMeans, soughtIn, Parameters, returnsMean, returnsPlan};
+ghost use Rattle.unify.specs.Leaves.{does, sigPlan, Leaves, heldIn, slotPlace, Same, Bare, Met, soughtMeans, soughtIn, Parameters, returnsMean, returnsPlan};
 use layout::Kind;
 use layout::TypeNode;
 use layout::TypeState;
@@ -285,4 +286,56 @@ pub fn unify_objects<'a>(ws: &mut [u32], ks: &[u32], n: u32, rule: &'a [u8], tex
         }
     }
     r
+}
+
+// A pair of types, as deep as there are nodes.
+pub fn unify_all<'a>(ws: &mut [u32], ks: &[u32], n: u32, rule: &'a [u8], text: &'a [u8], a: Type, b: Type) -> UnifyResult
+    requires { ⌜ Pair (texts (now rule) (now text)) (now ws) (now ks) n (tyOf (a .0)) (tyOf (b .0)) ⌝ }
+    ensures { λ r. ⌜ Leaves (now (ws .entry)) (now (ks .entry)) (now (ws .exit)) n
+        (scope.unify (texts (now (rule .entry)) (now (text .entry))) (decode (now (ws .entry)) (now (ks .entry)) n) (tyOf (a .0)) (tyOf (b .0))) r ⌝ }
+{
+    unify(ws, ks, n, rule, text, a, b, n)
+}
+
+// Two lent lists of types, the second's inverted if inv says so.
+pub fn unify_lists<'a>(ws: &mut [u32], ks: &[u32], n: u32, rule: &'a [u8], text: &'a [u8], xs: &[u32], ys: &[u32], inv: Inverted) -> UnifyResult
+    requires { ⌜ Pairs (texts (now rule) (now text)) (now ws) (now ks) n (runPlan (inv .0) (map tyOf (now xs)) (map tyOf (now ys)) .pairs) ⌝ }
+    ensures { λ r. ⌜ Leaves (now (ws .entry)) (now (ks .entry)) (now (ws .exit)) n
+        (unifyTypes (texts (now (rule .entry)) (now (text .entry))) (decode (now (ws .entry)) (now (ks .entry)) n)
+        (map tyOf (now (xs .entry))) (map tyOf (now (ys .entry))) (inv .0)) r ⌝ }
+{
+    if xs.len() != ys.len() {
+        return UnifyResult::Failure;
+    }
+    let mut r = UnifyResult::Success;
+    let mut i: usize = 0;
+    while i < xs.len() {
+        let x = Type(xs[i]);
+        let y = Type(ys[i]).invert_if(inv);
+        i += 1;
+        r = r.and(unify(ws, ks, n, rule, text, x, y, n));
+    }
+    r
+}
+
+// Two signatures: their parameters, then their returns, whatever the parameters answered.
+pub fn unify_fn_sig<'a>(
+    ws: &mut [u32],
+    ks: &[u32],
+    n: u32,
+    rule: &'a [u8],
+    text: &'a [u8],
+    xs: &[u32],
+    a: Type,
+    ys: &[u32],
+    b: Type,
+) -> UnifyResult
+    requires { ⌜ Pairs (texts (now rule) (now text)) (now ws) (now ks) n (sigPlan (map tyOf (now xs)) (tyOf (a .0)) (map tyOf (now ys)) (tyOf (b .0)) .pairs) ⌝ }
+    ensures { λ r. ⌜ Leaves (now (ws .entry)) (now (ks .entry)) (now (ws .exit)) n
+        (unifyFnSig (texts (now (rule .entry)) (now (text .entry))) (decode (now (ws .entry)) (now (ks .entry)) n)
+        (map tyOf (now (xs .entry))) (tyOf (a .0)) (map tyOf (now (ys .entry))) (tyOf (b .0))) r ⌝ }
+{
+    let q = unify_lists(ws, ks, n, rule, text, xs, ys, Inverted(false));
+    let r = unify(ws, ks, n, rule, text, a, b, n);
+    q.and(r)
 }

@@ -201,25 +201,25 @@ unify-returns-4 : (t : ℕ) → unify-lts.Need-returns-4 (unify-claims t) (unify
 unify-returns-4 t c = way-kids (climbed (c .before .before .before .before .before .before .before .before .before .before .before .before .before .before .before .before .before .before .before .before .before .before .before .before .before .args .a .0) (c .before .before .before .before .before .before .before .before .before .before .before .before .before .before .before .before .before .before .before .before .before .before .before .before .before .args .b .0) (c .before .before .before .before .before .before .before .before .before .before .before .before .before .before .before .before .before .before .before .before .before .before .before .before .before .pre .1) (c .before .before .before .before .before .before .before .before .before .before .before .before .before .before .before .before .before .before .before .before .before .before .before .before .before .args .depth) (c .before .before .before .before .before .before .before .before .before .before .before .before .before .before .before .before .before .before .before .before .if1 .left) (c .before .before .before .before .before .before .before .before .before .before .before .before .before .before .before .before .before .before .find-mut .ensures) (c .before .before .before .before .before .before .before .before .before .before .before .before .before .before .find-mut2 .ensures)) (c .before .before .before .before .before .before .before .before .before .before .meet .ensures) (c .before .before .before .before .before .before .before .before .m2 .given .1 ∙ ap Kids (c .before .before .before .before .before .p .given .1)) (answer-leaves (texts (c .before .before .before .before .before .before .before .before .before .before .before .before .before .before .before .before .before .before .before .before .before .before .before .before .before .args .rule .now) (c .before .before .before .before .before .before .before .before .before .before .before .before .before .before .before .before .before .before .before .before .before .before .before .before .before .args .text .now)) _ (c .before .before .before .before .before .before .before .before .before .before .before .before .before .before .before .before .before .before .before .before .before .before .before .before .before .args .ks .now) (c .before .before .before .before .before .before .before .before .before .before .before .before .before .before .before .before .before .before .before .before .before .before .before .before .before .args .n) (c .before .before .before .before .before .before .before .before .before .before .before .before .before .before .before .before .before .before .before .before .before .before .before .before .before .args .depth - 1) _) (c .before .before .settle .ensures)
 
 unify-same-length-4 : (t : ℕ) → unify-lts.Need-same-length-4 (unify-claims t) (unify-at t) unify.Post
-unify-same-length-4 t c = search needs
+unify-same-length-4 t c = c .before .before .settle2 .kept .0 ∙ (c .before .before .before .before .before .before .unify-types .kept .0 ∙ (c .before .before .before .before .before .before .before .before .before .before .before .before .before .before .before .before .before .before .find-mut2 .kept .0 ∙ c .before .before .before .before .before .before .before .before .before .before .before .before .before .before .before .before .before .before .before .before .before .before .find-mut .kept .0))
 
 unify-returns-5 : (t : ℕ) → unify-lts.Need-returns-5 (unify-claims t) (unify-at t) unify.Post
 unify-returns-5 t c = way-kids (climbed (c .before .before .before .before .before .before .before .before .before .before .before .before .before .before .before .before .before .before .before .before .before .before .before .before .before .before .before .before .before .args .a .0) (c .before .before .before .before .before .before .before .before .before .before .before .before .before .before .before .before .before .before .before .before .before .before .before .before .before .before .before .before .before .args .b .0) (c .before .before .before .before .before .before .before .before .before .before .before .before .before .before .before .before .before .before .before .before .before .before .before .before .before .before .before .before .before .pre .1) (c .before .before .before .before .before .before .before .before .before .before .before .before .before .before .before .before .before .before .before .before .before .before .before .before .before .before .before .before .before .args .depth) (c .before .before .before .before .before .before .before .before .before .before .before .before .before .before .before .before .before .before .before .before .before .before .before .before .if1 .left) (c .before .before .before .before .before .before .before .before .before .before .before .before .before .before .before .before .before .before .before .before .before .before .find-mut .ensures) (c .before .before .before .before .before .before .before .before .before .before .before .before .before .before .before .before .before .before .find-mut2 .ensures)) (c .before .before .before .before .before .before .before .before .before .before .before .before .before .before .meet .ensures) (c .before .before .before .before .before .before .before .before .before .before .before .before .m2 .given .1 ∙ ap Kids (c .before .before .before .before .before .before .before .before .before .p2 .given .1)) (c .before .before .before .before .before .before .unify-types .ensures) (c .before .before .settle2 .ensures)
 
 unify-same-length-5 : (t : ℕ) → unify-lts.Need-same-length-5 (unify-claims t) (unify-at t) unify.Post
-unify-same-length-5 t c = search needs
+unify-same-length-5 t c = c .before .before .settle3 .kept .0 ∙ (c .before .before .before .before .before .before .unify-objects .kept .0 ∙ (c .before .before .before .before .before .before .before .before .before .before .before .before .before .before .before .before .before .before .find-mut2 .kept .0 ∙ c .before .before .before .before .before .before .before .before .before .before .before .before .before .before .before .before .before .before .before .before .before .before .find-mut .kept .0))
 
 unify-returns-6 : (t : ℕ) → unify-lts.Need-returns-6 (unify-claims t) (unify-at t) unify.Post
 unify-returns-6 t c = way-kids (climbed (c .before .before .before .before .before .before .before .before .before .before .before .before .before .before .before .before .before .before .before .before .before .before .before .before .before .before .before .before .before .args .a .0) (c .before .before .before .before .before .before .before .before .before .before .before .before .before .before .before .before .before .before .before .before .before .before .before .before .before .before .before .before .before .args .b .0) (c .before .before .before .before .before .before .before .before .before .before .before .before .before .before .before .before .before .before .before .before .before .before .before .before .before .before .before .before .before .pre .1) (c .before .before .before .before .before .before .before .before .before .before .before .before .before .before .before .before .before .before .before .before .before .before .before .before .before .before .before .before .before .args .depth) (c .before .before .before .before .before .before .before .before .before .before .before .before .before .before .before .before .before .before .before .before .before .before .before .before .if1 .left) (c .before .before .before .before .before .before .before .before .before .before .before .before .before .before .before .before .before .before .before .before .before .before .find-mut .ensures) (c .before .before .before .before .before .before .before .before .before .before .before .before .before .before .before .before .before .before .find-mut2 .ensures)) (c .before .before .before .before .before .before .before .before .before .before .before .before .before .before .meet .ensures) (c .before .before .before .before .before .before .before .before .before .before .before .before .m2 .given .1 ∙ ap Kids (c .before .before .before .before .before .before .before .before .before .p3 .given .1)) (c .before .before .before .before .before .before .unify-objects .ensures) (c .before .before .settle3 .ensures)
 
 unify-same-length-6 : (t : ℕ) → unify-lts.Need-same-length-6 (unify-claims t) (unify-at t) unify.Post
-unify-same-length-6 t c = search needs
+unify-same-length-6 t c = c .before .before .settle4 .kept .0 ∙ (c .before .before .before .before .before .before .before .before .before .before .before .unify-types2 .kept .0 ∙ (c .before .before .before .before .before .before .before .before .before .before .before .before .before .before .before .before .before .before .before .before .before .before .before .before .find-mut2 .kept .0 ∙ c .before .before .before .before .before .before .before .before .before .before .before .before .before .before .before .before .before .before .before .before .before .before .before .before .before .before .before .before .find-mut .kept .0))
 
 unify-returns-7 : (t : ℕ) → unify-lts.Need-returns-7 (unify-claims t) (unify-at t) unify.Post
 unify-returns-7 t c = way-kids (climbed (c .before .before .before .before .before .before .before .before .before .before .before .before .before .before .before .before .before .before .before .before .before .before .before .before .before .before .before .before .before .before .before .before .before .before .before .args .a .0) (c .before .before .before .before .before .before .before .before .before .before .before .before .before .before .before .before .before .before .before .before .before .before .before .before .before .before .before .before .before .before .before .before .before .before .before .args .b .0) (c .before .before .before .before .before .before .before .before .before .before .before .before .before .before .before .before .before .before .before .before .before .before .before .before .before .before .before .before .before .before .before .before .before .before .before .pre .1) (c .before .before .before .before .before .before .before .before .before .before .before .before .before .before .before .before .before .before .before .before .before .before .before .before .before .before .before .before .before .before .before .before .before .before .before .args .depth) (c .before .before .before .before .before .before .before .before .before .before .before .before .before .before .before .before .before .before .before .before .before .before .before .before .before .before .before .before .before .before .if1 .left) (c .before .before .before .before .before .before .before .before .before .before .before .before .before .before .before .before .before .before .before .before .before .before .before .before .before .before .before .before .find-mut .ensures) (c .before .before .before .before .before .before .before .before .before .before .before .before .before .before .before .before .before .before .before .before .before .before .before .before .find-mut2 .ensures)) (c .before .before .before .before .before .before .before .before .before .before .before .before .before .before .before .before .before .before .before .before .meet .ensures) (c .before .before .before .before .before .before .before .before .before .before .before .before .before .before .before .before .before .before .m2 .given .1 ∙ ap Kids (c .before .before .before .before .before .before .before .before .before .before .before .before .before .before .before .p4 .given .1)) (signature-lacking (texts (c .before .before .before .before .before .before .before .before .before .before .before .before .before .before .before .before .before .before .before .before .before .before .before .before .before .before .before .before .before .before .before .before .before .before .before .args .rule .now) (c .before .before .before .before .before .before .before .before .before .before .before .before .before .before .before .before .before .before .before .before .before .before .before .before .before .before .before .before .before .before .before .before .before .before .before .args .text .now)) (c .before .before .before .before .before .before .before .before .before .before .before .before .before .before .before .before .before .before .before .before .before .before .before .before .before .before .before .before .before .before .before .before .before .before .before .args .ks .now) (c .before .before .before .before .before .before .before .before .before .before .before .before .parameters .ensures) (c .before .before .before .before .before .before .before .before .before .before .before .before .before .before .before .before .before .before .before .before .before .before .before .before .before .before .before .before .before .before .before .before .before .before .before .args .depth - 1) (kids-pairs (climbed (c .before .before .before .before .before .before .before .before .before .before .before .before .before .before .before .before .before .before .before .before .before .before .before .before .before .before .before .before .before .before .before .before .before .before .before .args .a .0) (c .before .before .before .before .before .before .before .before .before .before .before .before .before .before .before .before .before .before .before .before .before .before .before .before .before .before .before .before .before .before .before .before .before .before .before .args .b .0) (c .before .before .before .before .before .before .before .before .before .before .before .before .before .before .before .before .before .before .before .before .before .before .before .before .before .before .before .before .before .before .before .before .before .before .before .pre .1) (c .before .before .before .before .before .before .before .before .before .before .before .before .before .before .before .before .before .before .before .before .before .before .before .before .before .before .before .before .before .before .before .before .before .before .before .args .depth) (c .before .before .before .before .before .before .before .before .before .before .before .before .before .before .before .before .before .before .before .before .before .before .before .before .before .before .before .before .before .before .if1 .left) (c .before .before .before .before .before .before .before .before .before .before .before .before .before .before .before .before .before .before .before .before .before .before .before .before .before .before .before .before .find-mut .ensures) (c .before .before .before .before .before .before .before .before .before .before .before .before .before .before .before .before .before .before .before .before .before .before .before .before .find-mut2 .ensures)) (c .before .before .before .before .before .before .before .before .before .before .before .before .before .before .before .before .before .before .before .before .meet .ensures) (c .before .before .before .before .before .before .before .before .before .before .before .before .before .before .before .before .before .before .m2 .given .1) (c .before .before .before .before .before .before .before .before .before .before .before .before .before .before .before .p4 .given .1)) (c .before .before .before .before .before .before .before .before .before .before .before .unify-types2 .ensures) (c .before .before .before .before .before .before .before .before .returns .result) (c .before .before .before .before .before .before .before .before .returns .ensures) _ (c .before .before .before .and .result) (c .before .before .before .before .before .before .t .given .1) (c .before .before .before .and .ensures)) (c .before .before .settle4 .ensures)
 
 unify-same-length-7 : (t : ℕ) → unify-lts.Need-same-length-7 (unify-claims t) (unify-at t) unify.Post
-unify-same-length-7 t c = search needs
+unify-same-length-7 t c = c .before .before .settle5 .kept .0 ∙ (c .before .before .before .before .before .before .before .unify .kept .0 ∙ (c .before .before .before .before .before .before .before .before .before .before .before .before .before .before .before .unify-types2 .kept .0 ∙ (c .before .before .before .before .before .before .before .before .before .before .before .before .before .before .before .before .before .before .before .before .before .before .before .before .before .before .before .before .find-mut2 .kept .0 ∙ c .before .before .before .before .before .before .before .before .before .before .before .before .before .before .before .before .before .before .before .before .before .before .before .before .before .before .before .before .before .before .before .before .find-mut .kept .0)))
 
 unify-returns-8 : (t : ℕ) → unify-lts.Need-returns-8 (unify-claims t) (unify-at t) unify.Post
 unify-returns-8 t c = way-kids (climbed (c .before .before .before .before .before .before .before .before .before .before .before .before .before .before .before .before .before .before .before .before .before .before .before .before .before .before .before .before .before .before .before .before .before .before .before .before .before .before .before .args .a .0) (c .before .before .before .before .before .before .before .before .before .before .before .before .before .before .before .before .before .before .before .before .before .before .before .before .before .before .before .before .before .before .before .before .before .before .before .before .before .before .before .args .b .0) (c .before .before .before .before .before .before .before .before .before .before .before .before .before .before .before .before .before .before .before .before .before .before .before .before .before .before .before .before .before .before .before .before .before .before .before .before .before .before .before .pre .1) (c .before .before .before .before .before .before .before .before .before .before .before .before .before .before .before .before .before .before .before .before .before .before .before .before .before .before .before .before .before .before .before .before .before .before .before .before .before .before .before .args .depth) (c .before .before .before .before .before .before .before .before .before .before .before .before .before .before .before .before .before .before .before .before .before .before .before .before .before .before .before .before .before .before .before .before .before .before .if1 .left) (c .before .before .before .before .before .before .before .before .before .before .before .before .before .before .before .before .before .before .before .before .before .before .before .before .before .before .before .before .before .before .before .before .find-mut .ensures) (c .before .before .before .before .before .before .before .before .before .before .before .before .before .before .before .before .before .before .before .before .before .before .before .before .before .before .before .before .find-mut2 .ensures)) (c .before .before .before .before .before .before .before .before .before .before .before .before .before .before .before .before .before .before .before .before .before .before .before .before .meet .ensures) (c .before .before .before .before .before .before .before .before .before .before .before .before .before .before .before .before .before .before .before .before .before .before .m2 .given .1 ∙ ap Kids (c .before .before .before .before .before .before .before .before .before .before .before .before .before .before .before .before .before .before .before .p4 .given .1)) (signature-pair (texts (c .before .before .before .before .before .before .before .before .before .before .before .before .before .before .before .before .before .before .before .before .before .before .before .before .before .before .before .before .before .before .before .before .before .before .before .before .before .before .before .args .rule .now) (c .before .before .before .before .before .before .before .before .before .before .before .before .before .before .before .before .before .before .before .before .before .before .before .before .before .before .before .before .before .before .before .before .before .before .before .before .before .before .before .args .text .now)) (c .before .before .before .before .before .before .before .before .before .before .before .before .before .before .before .before .before .before .before .before .before .before .before .before .before .before .before .before .before .before .before .before .before .before .before .before .before .before .before .args .ks .now) (c .before .before .before .before .before .before .before .before .before .before .before .before .before .before .before .before .parameters .ensures) (c .before .before .before .before .before .before .before .before .before .before .before .before .before .before .before .before .before .before .before .before .before .before .before .before .before .before .before .before .before .before .before .before .before .before .before .before .before .before .before .args .depth - 1) (kids-pairs (climbed (c .before .before .before .before .before .before .before .before .before .before .before .before .before .before .before .before .before .before .before .before .before .before .before .before .before .before .before .before .before .before .before .before .before .before .before .before .before .before .before .args .a .0) (c .before .before .before .before .before .before .before .before .before .before .before .before .before .before .before .before .before .before .before .before .before .before .before .before .before .before .before .before .before .before .before .before .before .before .before .before .before .before .before .args .b .0) (c .before .before .before .before .before .before .before .before .before .before .before .before .before .before .before .before .before .before .before .before .before .before .before .before .before .before .before .before .before .before .before .before .before .before .before .before .before .before .before .pre .1) (c .before .before .before .before .before .before .before .before .before .before .before .before .before .before .before .before .before .before .before .before .before .before .before .before .before .before .before .before .before .before .before .before .before .before .before .before .before .before .before .args .depth) (c .before .before .before .before .before .before .before .before .before .before .before .before .before .before .before .before .before .before .before .before .before .before .before .before .before .before .before .before .before .before .before .before .before .before .if1 .left) (c .before .before .before .before .before .before .before .before .before .before .before .before .before .before .before .before .before .before .before .before .before .before .before .before .before .before .before .before .before .before .before .before .find-mut .ensures) (c .before .before .before .before .before .before .before .before .before .before .before .before .before .before .before .before .before .before .before .before .before .before .before .before .before .before .before .before .find-mut2 .ensures)) (c .before .before .before .before .before .before .before .before .before .before .before .before .before .before .before .before .before .before .before .before .before .before .before .before .meet .ensures) (c .before .before .before .before .before .before .before .before .before .before .before .before .before .before .before .before .before .before .before .before .before .before .m2 .given .1) (c .before .before .before .before .before .before .before .before .before .before .before .before .before .before .before .before .before .before .before .p4 .given .1)) (c .before .before .before .before .before .before .before .before .before .before .before .before .before .before .before .unify-types2 .ensures) (c .before .before .before .before .before .before .before .before .before .before .before .before .returns .result) (c .before .before .before .before .before .before .before .before .before .before .before .before .returns .ensures) _ _ _ (c .before .before .before .and2 .result) (c .before .before .before .before .before .before .before .before .before .before .t2 .given .1) (c .before .before .before .before .before .before .before .unify .ensures) (c .before .before .before .and2 .ensures)) (c .before .before .settle5 .ensures)
