@@ -20,6 +20,7 @@ use Rattle.scope.proofs.Paths.{Forest, Tidied, find-idx, find-inside, rep-root,
 use Rattle.scope.proofs.Sizes.{size-le}
 use Rattle.scope.proofs.SoundLaws.{SoundNodes}
 use Rattle.scope.proofs.SoundKept.{tidied-nodes}
+use Rattle.scope.proofs.Walks.{sound-walkable}
 use Rattle.types.specs.Answers.{answerOf}
 use Rattle.types.specs.declared.UnifyResult.{UnifyResult}
 use Rattle.types.specs.declared.UnifyResult.the-variants.{Success, Failure}
@@ -28,6 +29,7 @@ use Rattle.layout.specs.Meaning.{Clean, Linked}
 use Rattle.layout.proofs.Laws.{length-decode}
 use Rattle.layout.proofs.LinkLaws.{clean-linked}
 use Rattle.roots.specs.Found.{FoundMut}
+use Rattle.walk.specs.Asks.{Walks}
 use Rattle.plan.specs.Meaning.{planMeans}
 use Rattle.plan.specs.declared.Plan.{Plan}
 use Rattle.merge.specs.Meaning.{Adds, Bound, Settled}
@@ -43,6 +45,13 @@ use Rattle.unify.proofs.Kept.{pair-sound, run-sound}
 module _ {x : Texts} {ws ks : List ℕ} {n : ℕ} (r : Ready x ws ks n) where
   pub ready-linked : Linked ws n
   ready-linked = clean-linked ws ks (r .children) n (r .clean)
+
+  pub ready-walks : Walks ws ks n
+  ready-walks = record {
+    stands = record { made = r .children; clean = r .clean };
+    few = r .small;
+    walkable = sound-walkable (r .env) (decode ws ks n) (r .sound);
+  }
 
   pub ready-with : {ws′ : List ℕ} → ((c : ℕ) → Clean ws ks c n → Clean ws′ ks c n) → SoundNodes (r .env) (decode ws′ ks n) → Ready x ws′ ks n
   ready-with {ws′} cl s = record {

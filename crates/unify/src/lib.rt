@@ -23,7 +23,6 @@ use plan::Plan;
 use plan::Runs;
 use types::Inverted;
 use types::Type;
-use types::TypeIdx;
 use types::UnifyResult;
 
 // What two roots ask for: nothing more, a merge, or their children first.
@@ -65,18 +64,6 @@ fn kind_at(ws: &[u32], n: u32, t: Type) -> Held
     }
 }
 
-fn occurs(ws: &[u32], ks: &[u32], n: u32, x: TypeIdx, y: Type) -> bool
-    ensures { λ r. ⌜ r ≡ scope.occurs n (decode (now (ws .entry)) (now (ks .entry)) n) (x .0) (tyOf (y .0) .idx) ⌝ }
-{
-    false
-}
-
-fn self_inverse(ws: &[u32], ks: &[u32], n: u32, t: Type, param: bool) -> bool
-    ensures { λ r. ⌜ r ≡ scope.selfInverseOf (decode (now (ws .entry)) (now (ks .entry)) n) (tyOf (t .0)) param ⌝ }
-{
-    false
-}
-
 // "Same node: Success if the inversions agree or `self_inverse` holds, else Failure."
 fn same_node(ws: &[u32], ks: &[u32], n: u32, a: Type, b: Type) -> UnifyResult
     requires { ⌜ Roots (now ws) (now ks) n (tyOf (a .0)) (tyOf (b .0)) ⌝ }
@@ -84,7 +71,7 @@ fn same_node(ws: &[u32], ks: &[u32], n: u32, a: Type, b: Type) -> UnifyResult
 {
     let inv = a.inv().xor(b.inv());
     if inv.0 {
-        return UnifyResult::from_bool(self_inverse(ws, ks, n, a, false));
+        return UnifyResult::from_bool(walk::self_inverse(ws, ks, n, a, false));
     }
     UnifyResult::Success
 }
@@ -94,10 +81,10 @@ fn without_kind(ws: &[u32], ks: &[u32], n: u32, a: Type, b: Type) -> Meeting
     requires { ⌜ Roots (now ws) (now ks) n (tyOf (a .0)) (tyOf (b .0)) ⌝ }
     ensures { λ r. ⌜ Bare (now (ws .entry)) (now (ks .entry)) n (tyOf (a .0)) (tyOf (b .0)) r ⌝ }
 {
-    if occurs(ws, ks, n, a.idx(), b) {
+    if walk::occurs(ws, ks, n, a.idx(), b) {
         return Meeting::Done(UnifyResult::Failure);
     }
-    if occurs(ws, ks, n, b.idx(), a) {
+    if walk::occurs(ws, ks, n, b.idx(), a) {
         return Meeting::Done(UnifyResult::Failure);
     }
     Meeting::Bind

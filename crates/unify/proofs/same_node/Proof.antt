@@ -2,6 +2,7 @@
 -- Assumes nothing.
 use Rattle.scope.specs.Types.{tyOf}
 use Rattle.unify.proofs.MeetLaws.{same-agrees, same-crossed}
+use Rattle.unify.proofs.Laws.{ready-walks}
 use borrow.Author.Needs.{needs}
 use Rattle.unify.proofs.same_node.Statement.{statement}
 use Rattle.unify.proofs.same_node.Tie as tie
@@ -16,7 +17,7 @@ xor-requires : tie.Need-xor-requires
 xor-requires c κs = search needs
 
 self-inverse-requires : tie.Need-self-inverse-requires
-self-inverse-requires c κs = search needs
+self-inverse-requires c κs = record { walks = ready-walks (@pre .tops .pair .ready); inside = @pre .tops .pair .first }
 
 from-bool-requires : tie.Need-from-bool-requires
 from-bool-requires c κs = search needs

@@ -1,0 +1,162 @@
+-- The laws of one node and of the walk. What scope's definitions take from a node's state they take from its kind alone, which is what the code
+-- reads. A walk marks a root, and then what is left of the run of its children gives what the whole run gives.
+-- Assumes nothing.
+use mathlib.Core.Path.{_≡_, refl, ap, sym, _∙_}
+use mathlib.Core.Bool.{Bool, true, false, not, _&&_}
+use mathlib.Core.List.{List, [], _∷_}
+use Prim.Native.Nat.{ℕ, zero, suc, _+_, _-_, _≤_, _<_}
+use native.Mathlib.Omega.{arith}
+use native.Mathlib.Numerals.{add-one}
+use lib.Dec.{eqb}
+use lib.ListN.{length, getD, set, drop, drop-of-length-le}
+use lib.Seq.{drop-cons}
+use borrow.Author.Tests.{eqb-true, eqb-false, not-true, not-false}
+use Rattle.scope.specs.Chart.{Env}
+use Rattle.scope.specs.Types.{Ty, tyOf}
+use Rattle.scope.specs.Kinds.{TUPLE, selfDual}
+use Rattle.scope.specs.Nodes.{State, Node, at, stateOf, find, kidsOf}
+use Rattle.scope.specs.Nodes as nodes
+use Rattle.scope.specs.Force.{relatedKids, relatedF, findRelated, nilState, none-mod, modOfState}
+use Rattle.scope.specs.Force as force
+use Rattle.scope.proofs.Marks.{related-new, related-old}
+use Rattle.scope.proofs.MarkLaws.{good}
+use Rattle.layout.specs.Words.{slotAt, decode}
+use Rattle.layout.specs.Meaning.{slotMeans, kindMeans, nodeMeans, readAt, Clean}
+use Rattle.layout.specs.declared.Kind.{Kind}
+use Rattle.layout.specs.declared.Slot.{Slot}
+use Rattle.layout.specs.declared.TypeState.the-variants.{Known, Unknown, InferenceFailed}
+use Rattle.layout.specs.declared.TypeNode.{TypeNode}
+use Rattle.layout.specs.declared.TypeNode.the-variants.{Root, Child}
+use Rattle.layout.proofs.Laws.{length-decode, read-node}
+use Rattle.layout.proofs.ChildLaws.{length-kids, kid-at}
+use Rattle.roots.specs.Found.{Found}
+use Rattle.walk.specs.declared.Held.{Held}
+use Rattle.walk.specs.declared.Held.the-variants.{Is, Nothing}
+use Rattle.walk.specs.Read.{heldIn, goodBy}
+use Rattle.walk.specs.Asks.{Stands}
+
+-- one node
+
+abbrev pub kidsBy : List ℕ → Held → List Ty
+kidsBy ks (Is k) = kindMeans ks k .kids
+kidsBy ks Nothing = []
+
+abbrev pub nilBy : Held → Bool
+nilBy (Is k) = eqb (k .code) TUPLE && eqb (k .count) 0
+nilBy Nothing = false
+
+abbrev pub modIn : Env → (Ty → force.Mod) → List ℕ → Held → force.Mod
+modIn e g ks (Is k) = modOfState e g (nodes.Known false (kindMeans ks k))
+modIn e g ks Nothing = none-mod
+
+kids-held : (ks : List ℕ) (v : TypeNode) → kidsOf (stateOf (nodeMeans ks v)) ≡ kidsBy ks (heldIn v)
+kids-held ks (Root (Known i k) z) = refl
+kids-held ks (Root (Unknown s) z) = refl
+kids-held ks (Root InferenceFailed z) = refl
+kids-held ks (Child t) = refl
+
+good-held : (param : Bool) (ks : List ℕ) (v : TypeNode) → good param (stateOf (nodeMeans ks v)) ≡ goodBy param (heldIn v)
+unfolding kindMeans selfDual
+good-held param ks (Root (Known i k) z) = refl
+good-held param ks (Root (Unknown s) z) = refl
+good-held param ks (Root InferenceFailed z) = refl
+good-held param ks (Child t) = refl
+
+nil-kind : (ks : List ℕ) (i : Bool) (k : Kind) → nilState (nodes.Known i (kindMeans ks k)) ≡ nilBy (Is k)
+unfolding kindMeans
+nil-kind ks i k = ap (λ (m : ℕ). eqb (k .code) TUPLE && eqb m 0) (length-kids ks k)
+
+nil-held : (ks : List ℕ) (v : TypeNode) → nilState (stateOf (nodeMeans ks v)) ≡ nilBy (heldIn v)
+nil-held ks (Root (Known i k) z) = nil-kind ks (i .0) k
+nil-held ks (Root (Unknown s) z) = refl
+nil-held ks (Root InferenceFailed z) = refl
+nil-held ks (Child t) = refl
+
+mod-held : (e : Env) (g : Ty → force.Mod) (ks : List ℕ) (v : TypeNode) → modOfState e g (stateOf (nodeMeans ks v)) ≡ modIn e g ks (heldIn v)
+mod-held e g ks (Root (Known i k) z) = refl
+mod-held e g ks (Root (Unknown s) z) = refl
+mod-held e g ks (Root InferenceFailed z) = refl
+mod-held e g ks (Child t) = refl
+
+-- what f takes from the state of a node it takes, as h, from what the code reads there
+module _ (i : ℕ) {ws ks : List ℕ} {c n : ℕ} (cl : Clean ws ks c n) {r : Held} (e : r ≡ heldIn (readAt ws n i)) where
+  read-by : {A : Type 0} (f : State → A) (h : Held → A) → ((v : TypeNode) → f (stateOf (nodeMeans ks v)) ≡ h (heldIn v))
+      → {q : Held} → r ≡ q → f (stateOf (at (decode ws ks n) i)) ≡ h q
+  read-by f h each s = ap (λ (v : Node). f (stateOf v)) (sym (read-node ws ks c n cl i)) ∙ (each (readAt ws n i) ∙ ap h (sym e ∙ s))
+
+  pub kids-read : {q : Held} → r ≡ q → kidsOf (stateOf (at (decode ws ks n) i)) ≡ kidsBy ks q
+  kids-read = read-by kidsOf (kidsBy ks) (kids-held ks)
+
+  pub good-read : (param : Bool) {q : Held} → r ≡ q → good param (stateOf (at (decode ws ks n) i)) ≡ goodBy param q
+  good-read param = read-by (good param) (goodBy param) (good-held param ks)
+
+  pub nil-read : {q : Held} → r ≡ q → nilState (stateOf (at (decode ws ks n) i)) ≡ nilBy q
+  nil-read = read-by nilState nilBy (nil-held ks)
+
+  pub mod-read : (x : Env) (g : Ty → force.Mod) {q : Held} → r ≡ q → modOfState x g (stateOf (at (decode ws ks n) i)) ≡ modIn x g ks q
+  mod-read x g = read-by (modOfState x g) (modIn x g ks) (mod-held x g ks)
+
+-- the root that the code finds
+pub root-is : {ws : List ℕ} {n t r i : ℕ} → Found ws n t r → i ≡ tyOf r .idx → (ks : List ℕ) → i ≡ find (decode ws ks n) (tyOf t) .idx
+root-is f e ks = e ∙ ap (λ (u : Ty). u .idx) (f .root ks)
+
+-- child j of a kind, and those after it
+pub kid-next : (ks : List ℕ) (k : Kind) (j : ℕ) (s : Slot) → j < k .count → slotMeans s ≡ slotAt ks (k .first + j)
+    → drop j (kindMeans ks k .kids) ≡ tyOf (s .ty .0) ∷ drop (j + 1) (kindMeans ks k .kids)
+kid-next ks k j s h e =
+    let ts : List Ty = kindMeans ks k .kids in
+    let l : j < length ts = omega (arith, length-kids ks k) in
+    let x : getD ts j (tyOf (slotAt ks 0 .type)) ≡ tyOf (s .ty .0) = kid-at ks k j (slotAt ks 0) h ∙ ap (λ w. tyOf (w .type)) (sym e) in
+    drop-cons ts j (tyOf (slotAt ks 0 .type)) l ∙ rw (x, add-one j) refl
+
+pub kid-none : (ks : List ℕ) (k : Kind) (j : ℕ) → k .count ≤ j → drop j (kindMeans ks k .kids) ≡ []
+kid-none ks k j h = drop-of-length-le (kindMeans ks k .kids) {i = j} (omega (arith, length-kids ks k))
+
+-- the walk: a depth of none, a root that is marked, a root that is not
+
+pub mark-shallow : (depth : ℕ) (ns : List Node) (ms : List ℕ) (t : Ty) → depth ≡ 0 → ms ≡ relatedF depth ns ms t
+unfolding relatedF
+mark-shallow depth ns ms t e = rw e refl
+
+pub mark-met : (depth : ℕ) (ns : List Node) (ms : List ℕ) (t : Ty) {i : ℕ} {b : Bool} → i ≡ find ns t .idx
+    → b ≡ not (eqb (getD ms i 0) 0) → b ≡ true → ms ≡ relatedF depth ns ms t
+mark-met depth ns ms t {i} {b} r m e =
+    sym (related-old depth ns ms t (λ z. eqb-false (getD ms i 0) 0 (not-true (eqb (getD ms i 0) 0) (sym m ∙ e)) (rw r z)))
+
+mark-new : (depth : ℕ) (ns : List Node) (ms : List ℕ) (t : Ty) {i : ℕ} → (depth ≡ 0 → ⊥) → i ≡ find ns t .idx → getD ms i 0 ≡ 0
+    → relatedF depth ns ms t ≡ relatedKids (relatedF (depth - 1) ns) (set ms i 1) (kidsOf (stateOf (at ns i)))
+mark-new zero ns ms t h r e = absurd (h refl)
+mark-new (suc f) ns ms t h r e = let k : suc f - 1 ≡ f = omega arith in rw (k, r) (related-new f ns ms t (rw r at e))
+
+-- the children of a root just marked
+pub mark-kids : {ws ks : List ℕ} {n i : ℕ} (depth : ℕ) (ms : List ℕ) (t : Ty) {ms′ : List ℕ} {b : Bool} {v q : Held} → Stands ws ks n
+    → (depth ≡ 0 → ⊥) → i ≡ find (decode ws ks n) t .idx → b ≡ not (eqb (getD ms i 0) 0) → b ≡ false → ms′ ≡ set ms i 1
+    → v ≡ heldIn (readAt ws n i) → v ≡ q
+    → relatedKids (relatedF (depth - 1) (decode ws ks n)) ms′ (kidsBy ks q) ≡ relatedF depth (decode ws ks n) ms t
+mark-kids {ws} {ks} {n} {i} depth ms t s h r m e w v o =
+    let z : getD ms i 0 ≡ 0 = eqb-true (getD ms i 0) 0 (not-false (eqb (getD ms i 0) 0) (sym m ∙ e)) in
+    rw (w, ← kids-read i (s .clean) v o) (sym (mark-new depth (decode ws ks n) ms t h r z))
+
+-- a depth of n is what `find_related` walks
+pub mark-whole : (ws ks : List ℕ) (n : ℕ) (ms : List ℕ) (t : Ty) → relatedF n (decode ws ks n) ms t ≡ findRelated (decode ws ks n) t ms
+unfolding findRelated
+mark-whole ws ks n ms t = rw (length-decode ws ks n) refl
+
+-- what is left of a kind's children, from j on, gives what all of them give
+pub record Turn (g : List ℕ → Ty → List ℕ) (ks : List ℕ) (k : Kind) (ms₀ ms : List ℕ) (j : ℕ) : Type 0 where
+  pub left : relatedKids g ms (drop j (kindMeans ks k .kids)) ≡ relatedKids g ms₀ (kindMeans ks k .kids)
+  pub long : length ms ≡ length ms₀
+
+pub turn-start : (g : List ℕ → Ty → List ℕ) (ks : List ℕ) (k : Kind) (ms : List ℕ) → Turn g ks k ms ms 0
+turn-start g ks k ms = record { left = refl; long = refl }
+
+module _ {g : List ℕ → Ty → List ℕ} {ks : List ℕ} {k : Kind} {ms₀ ms : List ℕ} {j : ℕ} (c : Turn g ks k ms₀ ms j) where
+  pub turn-next : {ms′ : List ℕ} (s : Slot) → j < k .count → slotMeans s ≡ slotAt ks (k .first + j) → ms′ ≡ g ms (tyOf (s .ty .0))
+      → length ms′ ≡ length ms → Turn g ks k ms₀ ms′ (j + 1)
+  turn-next s h e w l = record {
+    left = rw w (sym (ap (relatedKids g ms) (kid-next ks k j s h e)) ∙ c .left);
+    long = l ∙ c .long;
+  }
+
+  pub turn-end : k .count ≤ j → ms ≡ relatedKids g ms₀ (kindMeans ks k .kids)
+  turn-end h = sym (ap (relatedKids g ms) (kid-none ks k j h)) ∙ c .left

@@ -1,0 +1,54 @@
+-- What the code reads of a node: its kind, if it has one. Beside it what a kind tells without its children: whether a type can be its own inverse,
+-- and the answer of `get_mod`.
+use mathlib.Core.List.{List}
+use mathlib.Core.Bool.{Bool, true, false, _||_}
+use Prim.Native.Nat.{ℕ}
+use lib.Dec.{eqb}
+use lib.ListN.{getD}
+use Rattle.scope.specs.Base.{pick}
+use Rattle.scope.specs.Chart.{Record, noRecord}
+use Rattle.scope.specs.Kinds.{PARAM, ERROR, rowOf, dualBy}
+use Rattle.scope.specs.Force.{none-mod, mod-of, error-mod, hasDef}
+use Rattle.scope.specs.Force as force
+use Rattle.layout.specs.Meaning.{readAt}
+use Rattle.layout.specs.declared.Kind.{Kind}
+use Rattle.layout.specs.declared.TypeState.{TypeState}
+use Rattle.layout.specs.declared.TypeState.the-variants.{Known, Unknown, InferenceFailed}
+use Rattle.layout.specs.declared.TypeNode.{TypeNode}
+use Rattle.layout.specs.declared.TypeNode.the-variants.{Root, Child}
+use Rattle.walk.specs.declared.Held.{Held}
+use Rattle.walk.specs.declared.Held.the-variants as held
+use Rattle.walk.specs.declared.Mod.{Mod}
+use Rattle.walk.specs.declared.Mod.the-variants.{Nothing, Def, Error}
+
+-- a node's kind
+abbrev pub heldBy : TypeState → Held
+heldBy (Known i k) = held.Is k
+heldBy (Unknown s) = held.Nothing
+heldBy InferenceFailed = held.Nothing
+
+abbrev pub heldIn : TypeNode → Held
+heldIn (Root st z) = heldBy st
+heldIn (Child t) = held.Nothing
+
+-- a kind that lets a type be its own inverse, children apart
+abbrev pub goodKind : Bool → Kind → Bool
+goodKind param k = pick (eqb (k .code) PARAM) param (dualBy (rowOf (k .code) .dual) (k .dual))
+
+abbrev pub goodBy : Bool → Held → Bool
+goodBy param (held.Is k) = goodKind param k
+goodBy param held.Nothing = false
+
+-- a node without a mark, or with a good kind
+abbrev pub goodAt : List ℕ → ℕ → List ℕ → Bool → ℕ → Bool
+goodAt ws n ms param i = eqb (getD ms i 0) 0 || goodBy param (heldIn (readAt ws n i))
+
+-- what the code's answers mean
+abbrev pub modMeans : Mod → force.Mod
+modMeans Nothing = none-mod
+modMeans (Def d) = mod-of d
+modMeans Error = error-mod
+
+-- `get_mod` of a kind that is no Ref, by its code and its number
+abbrev pub modBy : List Record → ℕ → ℕ → force.Mod
+modBy rs c n = pick (hasDef c) (mod-of (getD rs n noRecord .def)) (pick (eqb c ERROR) error-mod none-mod)
