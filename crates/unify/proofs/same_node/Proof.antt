@@ -17,7 +17,7 @@ xor-requires : tie.Need-xor-requires
 xor-requires c κs = search needs
 
 self-inverse-requires : tie.Need-self-inverse-requires
-self-inverse-requires c κs = record { walks = ready-walks (@pre .tops .pair .ready); inside = @pre .tops .pair .first }
+self-inverse-requires c κs = record { walks = ready-walks (c .before .before .before .before .before .before .pre .tops .pair .ready); inside = c .before .before .before .before .before .before .pre .tops .pair .first }
 
 from-bool-requires : tie.Need-from-bool-requires
 from-bool-requires c κs = search needs

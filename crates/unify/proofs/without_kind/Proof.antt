@@ -13,7 +13,7 @@ idx-requires : tie.Need-idx-requires
 idx-requires c κs = search needs
 
 occurs-requires : tie.Need-occurs-requires
-occurs-requires c κs = record { walks = ready-walks (@pre .tops .pair .ready); node = subst (λ (i : ℕ). i < @args .n) (sym (@idx .ensures)) (@pre .tops .pair .first); inside = @pre .tops .pair .second; root = @pre .tops .second }
+occurs-requires c κs = record { walks = ready-walks (c .before .before .before .pre .tops .pair .ready); node = subst (λ (i : ℕ). i < c .before .before .before .args .n) (sym (c .idx .ensures)) (c .before .before .before .pre .tops .pair .first); inside = c .before .before .before .pre .tops .pair .second; root = c .before .before .before .pre .tops .second }
 
 returns : tie.Need-returns
 returns c = bare-first (c .before .before .before .before .before .args .ws .now) (c .before .before .before .before .before .args .ks .now) (c .before .before .before .before .before .args .n) (tyOf (c .before .before .before .before .before .args .a .0)) (tyOf (c .before .before .before .before .before .args .b .0)) (c .before .before .idx .ensures) (c .before .occurs .ensures) (c .if1 .taken)
@@ -22,7 +22,7 @@ idx-requires-2 : tie.Need-idx-requires-2
 idx-requires-2 c κs = search needs
 
 occurs-requires-2 : tie.Need-occurs-requires-2
-occurs-requires-2 c κs = record { walks = ready-walks (@pre .tops .pair .ready); node = subst (λ (i : ℕ). i < @args .n) (sym (@idx2 .ensures)) (@pre .tops .pair .second); inside = @pre .tops .pair .first; root = @pre .tops .first }
+occurs-requires-2 c κs = record { walks = ready-walks (c .before .before .before .before .before .before .pre .tops .pair .ready); node = subst (λ (i : ℕ). i < c .before .before .before .before .before .before .args .n) (sym (c .idx2 .ensures)) (c .before .before .before .before .before .before .pre .tops .pair .second); inside = c .before .before .before .before .before .before .pre .tops .pair .first; root = c .before .before .before .before .before .before .pre .tops .first }
 
 returns-2 : tie.Need-returns-2
 returns-2 c = bare-second (c .before .before .before .before .before .before .before .before .args .ws .now) (c .before .before .before .before .before .before .before .before .args .ks .now) (c .before .before .before .before .before .before .before .before .args .n) (tyOf (c .before .before .before .before .before .before .before .before .args .a .0)) (tyOf (c .before .before .before .before .before .before .before .before .args .b .0)) (c .before .before .before .before .before .idx .ensures) (c .before .before .before .before .occurs .ensures) (c .before .before .before .if1 .left) (c .before .before .idx2 .ensures) (c .before .occurs2 .ensures) (c .if2 .taken)
