@@ -1,0 +1,6 @@
+-- The laws that belong to no one function
+pub mod Kept
+pub mod Laws
+pub mod RunLaws
+pub mod MeetLaws
+pub mod ListLaws

@@ -1,0 +1,41 @@
+-- `unify::same_node` meets its contract: Success where the inversions agree, else as `self_inverse` says of the root.
+-- Assumes nothing.
+use Rattle.scope.specs.Types.{tyOf}
+use Rattle.unify.proofs.MeetLaws.{same-agrees, same-crossed}
+use Rattle.unify.proofs.Laws.{ready-walks}
+use borrow.Author.Needs.{needs}
+use Rattle.unify.proofs.same_node.Statement.{statement}
+use Rattle.unify.proofs.same_node.Tie as tie
+
+inv-requires : tie.Need-inv-requires
+inv-requires c κs = search needs
+
+inv-requires-2 : tie.Need-inv-requires-2
+inv-requires-2 c κs = search needs
+
+xor-requires : tie.Need-xor-requires
+xor-requires c κs = search needs
+
+self-inverse-requires : tie.Need-self-inverse-requires
+self-inverse-requires c κs = record { walks = ready-walks (c .before .before .before .before .before .before .pre .tops .pair .ready); inside = c .before .before .before .before .before .before .pre .tops .pair .first }
+
+from-bool-requires : tie.Need-from-bool-requires
+from-bool-requires c κs = search needs
+
+returns : tie.Need-returns
+returns c = same-crossed (c .before .before .before .before .before .before .before .before .args .ws .now) (c .before .before .before .before .before .before .before .before .args .ks .now) (c .before .before .before .before .before .before .before .before .args .n) (tyOf (c .before .before .before .before .before .before .before .before .args .a .0)) (tyOf (c .before .before .before .before .before .before .before .before .args .b .0)) (c .from-bool .result) (c .before .before .before .before .before .before .before .before .pre .tops .first) (c .before .before .before .before .before .inv .ensures) (c .before .before .before .before .inv2 .ensures) (c .before .before .before .xor .ensures) (c .before .before .if1 .taken) (c .before .self-inverse .ensures) (c .from-bool .ensures)
+
+returns-2 : tie.Need-returns-2
+returns-2 c = same-agrees (c .before .before .before .before .before .before .args .ws .now) (c .before .before .before .before .before .before .args .ks .now) (c .before .before .before .before .before .before .args .n) (tyOf (c .before .before .before .before .before .before .args .a .0)) (tyOf (c .before .before .before .before .before .before .args .b .0)) (c .before .before .before .inv .ensures) (c .before .before .inv2 .ensures) (c .before .xor .ensures) (c .if1 .left)
+
+pub same-node-spec : {M : Type 1} → statement M
+same-node-spec =
+    tie.close
+    (tie.spec
+    inv-requires
+    inv-requires-2
+    xor-requires
+    self-inverse-requires
+    from-bool-requires
+    returns
+    returns-2)

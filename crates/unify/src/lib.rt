@@ -1,0 +1,328 @@
+// "The functions that unify a pair, a run and an object call each other in turn", depth falling from the node count. What is to be done with two roots is
+// read first, then their children are unified, then the answer is settled. The words of the nodes change as scope's `unify` says of the nodes.
+ghost use mathlib.Core.Path.{_≡_};
+ghost use Prim.Native.Nat.{_+_, _-_, _≤_};
+ghost use mathlib.Core.List.{map};
+ghost use lib.ListN.{length};
+ghost use Rattle.scope.specs.Types.{tyOf};
+ghost use Rattle.scope.specs.Names.{bytes};
+ghost use Rattle.scope.specs.Unify.{runPlan, unifyF, unifyTypes, unifyFnSig};
+ghost use Rattle.scope.specs.Unify as scope;
+ghost use Rattle.names.specs.Place.{texts, nameIn};
+ghost use Rattle.layout.specs.Words.{nodeWords, slotAt, decode};
+ghost use Rattle.layout.specs.Meaning.{readAt};
+ghost use Rattle.plan.specs.Meaning.{planMeans};
+ghost use Rattle.plan.specs.declared.Plan.the-variants as plans;
+ghost use Rattle.unify.specs.Asks.{Pair, Tops, Roots, Pairs};
+ghost use Rattle.unify.specs.Leaves.{does, sigPlan, Leaves, heldIn, slotPlace, Same, Bare, Met, soughtMeans, soughtIn, Parameters, returnsMean, returnsPlan};
+use layout::Kind;
+use layout::TypeNode;
+use layout::TypeState;
+use names::Name;
+use plan::Plan;
+use plan::Runs;
+use types::Inverted;
+use types::Type;
+use types::UnifyResult;
+
+// What two roots ask for: nothing more, a merge, or their children first.
+pub enum Meeting {
+    Done(UnifyResult),
+    Bind,
+    Kids(Plan),
+}
+
+// A root's inversion, as a type sees it, and its kind.
+pub enum Held {
+    Is(Inverted, Kind),
+    Nothing,
+}
+
+// A signature's returns: a pair, or what their number answers.
+pub enum Returned {
+    Lacking(UnifyResult),
+    Pair(Type, Type),
+}
+
+// The type beside a name.
+pub enum Sought {
+    Is(Type),
+    Nothing,
+}
+
+fn kind_at(ws: &[u32], n: u32, t: Type) -> Held
+    requires { ⌜ nodeWords n ≤ length (now ws) ⌝ }
+    ensures { λ r. ⌜ r ≡ heldIn (tyOf (t .0) .inv) (readAt (now (ws .entry)) n (tyOf (t .0) .idx)) ⌝ }
+{
+    match layout::node_at(ws, n, t.idx()) {
+        TypeNode::Root { state, size: _ } => match state {
+            TypeState::Known(i, kind) => Held::Is(i.xor(t.inv()), kind),
+            TypeState::Unknown(_) => Held::Nothing,
+            TypeState::InferenceFailed => Held::Nothing,
+        },
+        TypeNode::Child(_) => Held::Nothing,
+    }
+}
+
+// "Same node: Success if the inversions agree or `self_inverse` holds, else Failure."
+fn same_node(ws: &[u32], ks: &[u32], n: u32, a: Type, b: Type) -> UnifyResult
+    requires { ⌜ Roots (now ws) (now ks) n (tyOf (a .0)) (tyOf (b .0)) ⌝ }
+    ensures { λ r. ⌜ Same (now (ws .entry)) (now (ks .entry)) n (tyOf (a .0)) (tyOf (b .0)) r ⌝ }
+{
+    let inv = a.inv().xor(b.inv());
+    if inv.0 {
+        return UnifyResult::from_bool(walk::self_inverse(ws, ks, n, a, false));
+    }
+    UnifyResult::Success
+}
+
+// "If either has no kind: Failure if one occurs in the other, else they merge."
+fn without_kind(ws: &[u32], ks: &[u32], n: u32, a: Type, b: Type) -> Meeting
+    requires { ⌜ Roots (now ws) (now ks) n (tyOf (a .0)) (tyOf (b .0)) ⌝ }
+    ensures { λ r. ⌜ Bare (now (ws .entry)) (now (ks .entry)) n (tyOf (a .0)) (tyOf (b .0)) r ⌝ }
+{
+    if walk::occurs(ws, ks, n, a.idx(), b) {
+        return Meeting::Done(UnifyResult::Failure);
+    }
+    if walk::occurs(ws, ks, n, b.idx(), a) {
+        return Meeting::Done(UnifyResult::Failure);
+    }
+    Meeting::Bind
+}
+
+// Two roots, and nothing is changed.
+fn meet<'a>(ws: &[u32], ks: &[u32], n: u32, rule: &'a [u8], text: &'a [u8], a: Type, b: Type) -> Meeting
+    requires { ⌜ Tops (texts (now rule) (now text)) (now ws) (now ks) n (tyOf (a .0)) (tyOf (b .0)) ⌝ }
+    ensures { λ r. ⌜ Met (texts (now (rule .entry)) (now (text .entry))) (now (ws .entry)) (now (ks .entry)) n (tyOf (a .0)) (tyOf (b .0)) r ⌝ }
+{
+    let ia = a.idx();
+    let ib = b.idx();
+    if ia.0 == ib.0 {
+        return Meeting::Done(same_node(ws, ks, n, a, b));
+    }
+    let Held::Is(i, k) = kind_at(ws, n, a) else {
+        return without_kind(ws, ks, n, a, b);
+    };
+    let Held::Is(j, m) = kind_at(ws, n, b) else {
+        return without_kind(ws, ks, n, a, b);
+    };
+    Meeting::Kids(plan::plan_of(k, m, i.xor(j), rule, text))
+}
+
+// A child of a run.
+fn place(a: u32, i: u32) -> usize
+    ensures { λ r. ⌜ r ≡ a + i ⌝ }
+{
+    a as usize + i as usize
+}
+
+fn kid(ks: &[u32], a: u32, i: u32) -> Type
+    ensures { λ r. ⌜ r .0 ≡ slotAt (now (ks .entry)) (a + i) .type ⌝ }
+{
+    layout::child_at(ks, place(a, i)).ty
+}
+
+fn kid_name(ks: &[u32], a: u32, i: u32) -> Name
+    ensures { λ r. ⌜ nameIn r ≡ slotPlace (slotAt (now (ks .entry)) (a + i)) ⌝ }
+{
+    let s = layout::child_at(ks, place(a, i));
+    Name {
+        text: s.text,
+        start: s.start,
+        len: s.len,
+    }
+}
+
+// The type beside a name among count children from b on.
+fn seek<'a>(ks: &[u32], name: Name, b: u32, count: u32, rule: &'a [u8], text: &'a [u8]) -> Sought
+    ensures { λ r. ⌜ soughtMeans r ≡ soughtIn (texts (now (rule .entry)) (now (text .entry))) (now (ks .entry)) (nameIn name) b count ⌝ }
+{
+    let mut j: u32 = 0;
+    while j < count {
+        if names::same_name(name, kid_name(ks, b, j), rule, text) {
+            return Sought::Is(kid(ks, b, j));
+        }
+        j += 1;
+    }
+    Sought::Nothing
+}
+
+// All but one.
+fn less(n: u32) -> u32
+    ensures { λ r. ⌜ r ≡ n - 1 ⌝ }
+{
+    if n == 0 { 0 } else { n - 1 }
+}
+
+// A signature's parameters: all children but the last.
+fn parameters(s: Runs) -> Runs
+    ensures { λ r. ⌜ Parameters s r ⌝ }
+{
+    let inv = s.inv;
+    Runs {
+        a: s.a,
+        na: less(s.na),
+        b: s.b,
+        nb: less(s.nb),
+        inv,
+    }
+}
+
+// Its returns: the last children.
+fn returns(ks: &[u32], s: Runs) -> Returned
+    ensures { λ r. ⌜ returnsMean r ≡ returnsPlan (now (ks .entry)) s ⌝ }
+{
+    if s.na == 0 {
+        return Returned::Lacking(UnifyResult::from_bool(s.nb == 0));
+    }
+    if s.nb == 0 {
+        return Returned::Lacking(UnifyResult::Failure);
+    }
+    let inv = s.inv;
+    let x = kid(ks, s.a, s.na - 1);
+    let y = kid(ks, s.b, s.nb - 1);
+    Returned::Pair(x, y.invert_if(inv))
+}
+
+// A pair of types, at a depth.
+pub fn unify<'a>(ws: &mut [u32], ks: &[u32], n: u32, rule: &'a [u8], text: &'a [u8], a: Type, b: Type, depth: u32) -> UnifyResult
+    requires { ⌜ Pair (texts (now rule) (now text)) (now ws) (now ks) n (tyOf (a .0)) (tyOf (b .0)) ⌝ }
+    ensures { λ r. ⌜ Leaves (now (ws .entry)) (now (ks .entry)) (now (ws .exit)) n
+        (unifyF (texts (now (rule .entry)) (now (text .entry))) n depth (decode (now (ws .entry)) (now (ks .entry)) n) (tyOf (a .0)) (tyOf (b .0))) r ⌝ }
+{
+    if depth == 0 {
+        return UnifyResult::Failure;
+    }
+    let ra = roots::find_mut(ws, n, a);
+    let rb = roots::find_mut(ws, n, b);
+    let m = meet(ws, ks, n, rule, text, ra, rb);
+    match m {
+        Meeting::Done(r) => r,
+        Meeting::Bind => {
+            merge::bind(ws, n, ra, rb);
+            UnifyResult::Success
+        }
+        Meeting::Kids(p) => match p {
+            Plan::Answer(r) => merge::settle(ws, n, ra, rb, r),
+            Plan::Run(s) => {
+                let r = unify_types(ws, ks, n, rule, text, s, depth - 1);
+                merge::settle(ws, n, ra, rb, r)
+            }
+            Plan::Object(s) => {
+                let r = unify_objects(ws, ks, n, rule, text, s, depth - 1);
+                merge::settle(ws, n, ra, rb, r)
+            }
+            Plan::Signature(s) => {
+                let q = unify_types(ws, ks, n, rule, text, parameters(s), depth - 1);
+                let t = returns(ks, s);
+                match t {
+                    Returned::Lacking(r) => merge::settle(ws, n, ra, rb, q.and(r)),
+                    Returned::Pair(x, y) => {
+                        let r = unify(ws, ks, n, rule, text, x, y, depth - 1);
+                        merge::settle(ws, n, ra, rb, q.and(r))
+                    }
+                }
+            }
+        },
+    }
+}
+
+// Two runs of children: "no pair is skipped after a Failure", and "Runs of different length answer Failure and unify nothing".
+pub fn unify_types<'a>(ws: &mut [u32], ks: &[u32], n: u32, rule: &'a [u8], text: &'a [u8], s: Runs, depth: u32) -> UnifyResult
+    requires { ⌜ Pairs (texts (now rule) (now text)) (now ws) (now ks) n (planMeans (now ks) (texts (now rule) (now text)) (plans.Run s) .pairs) ⌝ }
+    ensures { λ r. ⌜ Leaves (now (ws .entry)) (now (ks .entry)) (now (ws .exit)) n
+        (does (unifyF (texts (now (rule .entry)) (now (text .entry))) n depth) (decode (now (ws .entry)) (now (ks .entry)) n)
+        (planMeans (now (ks .entry)) (texts (now (rule .entry)) (now (text .entry))) (plans.Run s))) r ⌝ }
+{
+    if s.na != s.nb {
+        return UnifyResult::Failure;
+    }
+    let inv = s.inv;
+    let mut r = UnifyResult::Success;
+    let mut i: u32 = 0;
+    while i < s.na {
+        let x = kid(ks, s.a, i);
+        let y = kid(ks, s.b, i).invert_if(inv);
+        i += 1;
+        r = r.and(unify(ws, ks, n, rule, text, x, y, depth));
+    }
+    r
+}
+
+// Two objects: "Objects of different length or names answer Failure and still unify their shared names, in a's order".
+pub fn unify_objects<'a>(ws: &mut [u32], ks: &[u32], n: u32, rule: &'a [u8], text: &'a [u8], s: Runs, depth: u32) -> UnifyResult
+    requires { ⌜ Pairs (texts (now rule) (now text)) (now ws) (now ks) n (planMeans (now ks) (texts (now rule) (now text)) (plans.Object s) .pairs) ⌝ }
+    ensures { λ r. ⌜ Leaves (now (ws .entry)) (now (ks .entry)) (now (ws .exit)) n
+        (does (unifyF (texts (now (rule .entry)) (now (text .entry))) n depth) (decode (now (ws .entry)) (now (ks .entry)) n)
+        (planMeans (now (ks .entry)) (texts (now (rule .entry)) (now (text .entry))) (plans.Object s))) r ⌝ }
+{
+    let inv = s.inv;
+    let mut r = UnifyResult::from_bool(s.na == s.nb);
+    let mut i: u32 = 0;
+    while i < s.na {
+        let x = kid(ks, s.a, i);
+        let f = seek(ks, kid_name(ks, s.a, i), s.b, s.nb, rule, text);
+        i += 1;
+        match f {
+            Sought::Is(t) => {
+                r = r.and(unify(ws, ks, n, rule, text, x, t.invert_if(inv), depth));
+            }
+            Sought::Nothing => {
+                r = r.and(UnifyResult::Failure);
+            }
+        }
+    }
+    r
+}
+
+// A pair of types, as deep as there are nodes.
+pub fn unify_all<'a>(ws: &mut [u32], ks: &[u32], n: u32, rule: &'a [u8], text: &'a [u8], a: Type, b: Type) -> UnifyResult
+    requires { ⌜ Pair (texts (now rule) (now text)) (now ws) (now ks) n (tyOf (a .0)) (tyOf (b .0)) ⌝ }
+    ensures { λ r. ⌜ Leaves (now (ws .entry)) (now (ks .entry)) (now (ws .exit)) n
+        (scope.unify (texts (now (rule .entry)) (now (text .entry))) (decode (now (ws .entry)) (now (ks .entry)) n) (tyOf (a .0)) (tyOf (b .0))) r ⌝ }
+{
+    unify(ws, ks, n, rule, text, a, b, n)
+}
+
+// Two lent lists of types, the second's inverted if inv says so.
+pub fn unify_lists<'a>(ws: &mut [u32], ks: &[u32], n: u32, rule: &'a [u8], text: &'a [u8], xs: &[u32], ys: &[u32], inv: Inverted) -> UnifyResult
+    requires { ⌜ Pairs (texts (now rule) (now text)) (now ws) (now ks) n (runPlan (inv .0) (map tyOf (now xs)) (map tyOf (now ys)) .pairs) ⌝ }
+    ensures { λ r. ⌜ Leaves (now (ws .entry)) (now (ks .entry)) (now (ws .exit)) n
+        (unifyTypes (texts (now (rule .entry)) (now (text .entry))) (decode (now (ws .entry)) (now (ks .entry)) n)
+        (map tyOf (now (xs .entry))) (map tyOf (now (ys .entry))) (inv .0)) r ⌝ }
+{
+    if xs.len() != ys.len() {
+        return UnifyResult::Failure;
+    }
+    let mut r = UnifyResult::Success;
+    let mut i: usize = 0;
+    while i < xs.len() {
+        let x = Type(xs[i]);
+        let y = Type(ys[i]).invert_if(inv);
+        i += 1;
+        r = r.and(unify(ws, ks, n, rule, text, x, y, n));
+    }
+    r
+}
+
+// Two signatures: their parameters, then their returns, whatever the parameters answered.
+pub fn unify_fn_sig<'a>(
+    ws: &mut [u32],
+    ks: &[u32],
+    n: u32,
+    rule: &'a [u8],
+    text: &'a [u8],
+    xs: &[u32],
+    a: Type,
+    ys: &[u32],
+    b: Type,
+) -> UnifyResult
+    requires { ⌜ Pairs (texts (now rule) (now text)) (now ws) (now ks) n (sigPlan (map tyOf (now xs)) (tyOf (a .0)) (map tyOf (now ys)) (tyOf (b .0)) .pairs) ⌝ }
+    ensures { λ r. ⌜ Leaves (now (ws .entry)) (now (ks .entry)) (now (ws .exit)) n
+        (unifyFnSig (texts (now (rule .entry)) (now (text .entry))) (decode (now (ws .entry)) (now (ks .entry)) n)
+        (map tyOf (now (xs .entry))) (tyOf (a .0)) (map tyOf (now (ys .entry))) (tyOf (b .0))) r ⌝ }
+{
+    let q = unify_lists(ws, ks, n, rule, text, xs, ys, Inverted(false));
+    let r = unify(ws, ks, n, rule, text, a, b, n);
+    q.and(r)
+}
