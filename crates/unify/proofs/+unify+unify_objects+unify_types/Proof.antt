@@ -79,6 +79,7 @@ unify-types-at t =
 abbrev unify-types-below : ℕ → In 3 unify-types-kinds.ps
 unify-types-below t =
     and 3 unify-types-kinds.ps (falls 3 unify-types-kinds.ps _<_ μ-unify-types t) unify-types.Pre
+
 abbrev unify-claims : ℕ → unify-lts.Claims
 unify-claims t = (find-mut-reads.Asked, find-mut-reads.Learnt, meet-reads.Asked, meet-reads.Learnt, bind-reads.Asked, bind-reads.Learnt, settle-reads.Asked, settle-reads.Learnt, unify-types-below t, unify-types.Post, unify-objects-below t, unify-objects.Post, parameters-reads.Asked, parameters-reads.Learnt, returns-reads.Asked, returns-reads.Learnt, and-reads.Asked, and-reads.Learnt, unify-below t, unify.Post)
 
@@ -87,7 +88,6 @@ unify-objects-claims t = (from-bool-reads.Asked, from-bool-reads.Learnt, kid-rea
 
 abbrev unify-types-claims : ℕ → unify-types-lts.Claims
 unify-types-claims t = (kid-reads.Asked, kid-reads.Learnt, invert-if-reads.Asked, invert-if-reads.Learnt, unify-below t, unify.Post, and-reads.Asked, and-reads.Learnt)
-
 
 unify-returns : (t : ℕ) → unify-lts.Need-returns (unify-claims t) (unify-at t) unify.Post
 unify-returns t c = no-depth (texts (c .before .before .before .before .before .args .rule .now) (c .before .before .before .before .before .args .text .now)) (c .before .before .before .before .before .args .ws .now) (c .before .before .before .before .before .args .ks .now) (c .before .before .before .before .before .args .n) (c .before .before .before .before .before .args .depth) (tyOf (c .before .before .before .before .before .args .a .0)) (tyOf (c .before .before .before .before .before .args .b .0)) (c .if1 .taken)
