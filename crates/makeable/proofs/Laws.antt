@@ -79,9 +79,14 @@ module _ (e e′ : Env) (same : e .records ≡ e′ .records) where
   unfolding defined
   defined-by h h′ c n = rw (same, c, n)
 
+  -- the chart's flag of a code and a number
+  pub flag-reads : (c n : ℕ) → flagOf e c n ≡ flagOf e′ c n
+  unfolding flagOf
+  flag-reads c n = rw same
+
   flag-by : (h h′ : Head) → h .code ≡ h′ .code → h .number ≡ h′ .number → h .dual ≡ h′ .dual → flagIs e h ≡ flagIs e′ h′
-  unfolding flagIs flagOf
-  flag-by h h′ c n d = rw (same, c, n, d)
+  unfolding flagIs
+  flag-by h h′ c n d = rw (c, n, d, flag-reads (h′ .code) (h′ .number))
 
 -- a kind's definition and flag are read in the chart's records alone, whatever stands beside them, and not in its children
 module _ (e : Env) (ws : List ℕ) (same : e .records ≡ recordsOf ws) (ks : List ℕ) (k : Kind) where
@@ -130,6 +135,13 @@ module _ (e e′ : Env) (ns ns′ : List nodes.Node) (same : e .records ≡ e′
   node-sound-reads (nodes.Root nodes.InferenceFailed z) = refl
   node-sound-reads (nodes.Child t) = ap (ltb (t .idx)) len
 
+-- the children of a sound kind are inside
+pub kind-inside : (e : Env) (ns : List nodes.Node) (k : nodes.Kind) → kindSound e ns k ≡ true → all (inStore ns) (k .kids) ≡ true
+unfolding kindSound
+kind-inside e ns k h =
+    let f : Bool = flagIs e (k .head) in
+    and-right f _ (and-right (defined e (k .head)) _ (and-right (makeable (e .texts) (k .head) (length (k .kids))) _ h))
+
 all-same : {A : Type 0} (p q : A → Bool) → ((a : A) → p a ≡ q a) → (l : List A) → all p l ≡ all q l
 all-same p q h [] = refl
 all-same p q h (a ∷ l) = rw (h a, all-same p q h l)
@@ -174,20 +186,20 @@ sound-narrow e ks ns (Root (Unknown s) z) h = omega arith
 sound-narrow e ks ns (Root InferenceFailed z) h = omega arith
 sound-narrow e ks ns (Child t) h = omega arith
 
-module _ (e : Env) (ws ks : List ℕ) where
-  -- the words of a clean node are those of the node that they say
-  count-read : (c n : ℕ) → Clean ws ks c n → (i : ℕ) → i < n → cellOf (readAt ws n i) .count ≡ countAt ws i
-  unfolding readAt
-  count-read c n cl i h =
-      let x = cellIn (cellWords ws i) in
-      rw (lt-ltb i n h) (count-cell ws i (says ks c x (sym (clean-words ws ks c i) ∙ cl .each i h) .back))
+-- the words of a clean node are those of the node that they say
+count-read : (ws ks : List ℕ) (c n : ℕ) → Clean ws ks c n → (i : ℕ) → i < n → cellOf (readAt ws n i) .count ≡ countAt ws i
+unfolding readAt
+count-read ws ks c n cl i h =
+    let x = cellIn (cellWords ws i) in
+    rw (lt-ltb i n h) (count-cell ws i (says ks c x (sym (clean-words ws ks c i) ∙ cl .each i h) .back))
 
+module _ (e : Env) (ws ks : List ℕ) where
   pub sound-widths : (c n : ℕ) → Clean ws ks c n → all (nodeSound e (decode ws ks n)) (decode ws ks n) ≡ true → narrowNodes ws n ≡ true
   unfolding narrowNodes
   sound-widths c n cl h =
       let ns : List nodes.Node = decode ws ks n in
       from-all (λ i. leb (countAt ws i) MAX-WIDTH) 0 n
-      (λ i a b. le-leb (countAt ws i) MAX-WIDTH (subst (λ (m : ℕ). m ≤ MAX-WIDTH) (count-read c n cl i (omega arith))
+      (λ i a b. le-leb (countAt ws i) MAX-WIDTH (subst (λ (m : ℕ). m ≤ MAX-WIDTH) (count-read ws ks c n cl i (omega arith))
       (sound-narrow e ks ns (readAt ws n i)
       (ap (nodeSound e ns) (read-node ws ks c n cl i) ∙ all-at (nodeSound e ns) ns past i h (rw length-decode (omega arith))))))
 

@@ -8,11 +8,11 @@ use mathlib.Core.List.{List, [], _∷_, map}
 use Prim.Native.Nat.{ℕ, zero, suc, _+_, _-_, _≤_, _<_}
 use native.Mathlib.Numerals.{add-one}
 use native.Mathlib.Omega.{arith}
-use lib.Dec.{eqb, leb}
+use lib.Dec.{eqb}
 use lib.ListN.{length, getD, drop, length-map, drop-of-length-le, List·getD-map}
 use lib.Seq.{drop-cons}
 use borrow.Author.Tests.{eq-eqb, ne-eqb, eqb-true}
-use Rattle.scope.specs.Base.{pick, all, from}
+use Rattle.scope.specs.Base.{all, from}
 use Rattle.scope.specs.Names.{Texts, Name, name, bytes, inText, nameOk, ltBytes, ascending, bytesOr, named, namedOrNone}
 use Rattle.scope.specs.Kinds.{rowOf, OWN-NAME, CHILD-NAMES, PARAMETER-NAMES, objectNamesOk, namesOk}
 use Rattle.scope.specs.Sound.{Slot, nameIn, slotName, front}

@@ -3,7 +3,7 @@
 //
 // A kind's width is tested before its children are read: the time is that of the nodes and of at most 255 children each, whose names are at most 255 bytes.
 ghost use mathlib.Core.Path.{_≡_};
-ghost use mathlib.Core.List.{List, [], _∷_, map};
+ghost use mathlib.Core.List.{List, [], map};
 ghost use Prim.Native.Nat.{_+_, _≤_};
 ghost use lib.ListN.{length};
 ghost use Rattle.scope.specs.Base.{all};
@@ -102,7 +102,7 @@ fn parameter_names_fit(k: Kind, n: u32, ks: &[u32], rule: &[u8], text: &[u8]) ->
     true
 }
 
-// The names that the kind's row asks for.
+// The names that the kind's row asks for. Each child is read, so a caller tests the width first, as can_be_made does; kids_inside likewise.
 pub fn names_fit<'a>(k: Kind, ks: &[u32], rule: &'a [u8], text: &'a [u8]) -> bool
     ensures { λ r. ⌜ r ≡ namesOk (texts (now (rule .entry)) (now (text .entry))) (rowOf (k .code) .names) (kindMeans (now (ks .entry)) k .head .names) (k .count) ⌝ }
 {

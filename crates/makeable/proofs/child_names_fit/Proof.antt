@@ -1,7 +1,7 @@
 -- `makeable::child_names_fit` meets its contract. The loop's invariant: the names from j on, with the last one passed before them, are ascending if and
 -- only if all names are. The measure is what is left of the children.
 -- Assumes nothing.
-use mathlib.Core.Path.{_≡_, sym, ap, _∙_}
+use mathlib.Core.Path.{_≡_, sym, _∙_}
 use Prim.Native.Nat.{_-_}
 use native.Mathlib.Omega.{arith}
 use borrow.Author.Needs.{needs}

@@ -1,4 +1,5 @@
--- `makeable::node_sound` meets its contract, by the cases of a node.
+-- `makeable::node_sound` meets its contract, by the cases of a node: a child's parent and a Known root's kind are tested by the functions for
+-- them, and any other root passes, as `nodeSound` says.
 -- Assumes nothing.
 use mathlib.Core.Path.{refl}
 use borrow.Author.Needs.{needs}
