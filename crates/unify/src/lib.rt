@@ -91,7 +91,15 @@ fn without_kind(ws: &[u32], ks: &[u32], n: u32, a: Type, b: Type) -> Meeting
 }
 
 // Two roots, and nothing is changed.
-fn meet<'a>(ws: &[u32], ks: &[u32], n: u32, rule: &'a [u8], text: &'a [u8], a: Type, b: Type) -> Meeting
+fn meet<'a>(
+    ws: &[u32],
+    ks: &[u32],
+    n: u32,
+    rule: &'a [u8],
+    text: &'a [u8],
+    a: Type,
+    b: Type,
+) -> Meeting
     requires { ⌜ Tops (texts (now rule) (now text)) (now ws) (now ks) n (tyOf (a .0)) (tyOf (b .0)) ⌝ }
     ensures { λ r. ⌜ Met (texts (now (rule .entry)) (now (text .entry))) (now (ws .entry)) (now (ks .entry)) n (tyOf (a .0)) (tyOf (b .0)) r ⌝ }
 {
@@ -185,7 +193,16 @@ fn returns(ks: &[u32], s: Runs) -> Returned
 }
 
 // A pair of types, at a depth.
-pub fn unify<'a>(ws: &mut [u32], ks: &[u32], n: u32, rule: &'a [u8], text: &'a [u8], a: Type, b: Type, depth: u32) -> UnifyResult
+pub fn unify<'a>(
+    ws: &mut [u32],
+    ks: &[u32],
+    n: u32,
+    rule: &'a [u8],
+    text: &'a [u8],
+    a: Type,
+    b: Type,
+    depth: u32,
+) -> UnifyResult
     requires { ⌜ Pair (texts (now rule) (now text)) (now ws) (now ks) n (tyOf (a .0)) (tyOf (b .0)) ⌝ }
     ensures { λ r. ⌜ Leaves (now (ws .entry)) (now (ks .entry)) (now (ws .exit)) n
         (unifyF (texts (now (rule .entry)) (now (text .entry))) n depth (decode (now (ws .entry)) (now (ks .entry)) n) (tyOf (a .0)) (tyOf (b .0))) r ⌝ }
@@ -228,7 +245,15 @@ pub fn unify<'a>(ws: &mut [u32], ks: &[u32], n: u32, rule: &'a [u8], text: &'a [
 }
 
 // Two runs of children: "no pair is skipped after a Failure", and "Runs of different length answer Failure and unify nothing".
-pub fn unify_types<'a>(ws: &mut [u32], ks: &[u32], n: u32, rule: &'a [u8], text: &'a [u8], s: Runs, depth: u32) -> UnifyResult
+pub fn unify_types<'a>(
+    ws: &mut [u32],
+    ks: &[u32],
+    n: u32,
+    rule: &'a [u8],
+    text: &'a [u8],
+    s: Runs,
+    depth: u32,
+) -> UnifyResult
     requires { ⌜ Pairs (texts (now rule) (now text)) (now ws) (now ks) n (planMeans (now ks) (texts (now rule) (now text)) (plans.Run s) .pairs) ⌝ }
     ensures { λ r. ⌜ Leaves (now (ws .entry)) (now (ks .entry)) (now (ws .exit)) n
         (does (unifyF (texts (now (rule .entry)) (now (text .entry))) n depth) (decode (now (ws .entry)) (now (ks .entry)) n)
@@ -250,7 +275,15 @@ pub fn unify_types<'a>(ws: &mut [u32], ks: &[u32], n: u32, rule: &'a [u8], text:
 }
 
 // Two objects: "Objects of different length or names answer Failure and still unify their shared names, in a's order".
-pub fn unify_objects<'a>(ws: &mut [u32], ks: &[u32], n: u32, rule: &'a [u8], text: &'a [u8], s: Runs, depth: u32) -> UnifyResult
+pub fn unify_objects<'a>(
+    ws: &mut [u32],
+    ks: &[u32],
+    n: u32,
+    rule: &'a [u8],
+    text: &'a [u8],
+    s: Runs,
+    depth: u32,
+) -> UnifyResult
     requires { ⌜ Pairs (texts (now rule) (now text)) (now ws) (now ks) n (planMeans (now ks) (texts (now rule) (now text)) (plans.Object s) .pairs) ⌝ }
     ensures { λ r. ⌜ Leaves (now (ws .entry)) (now (ks .entry)) (now (ws .exit)) n
         (does (unifyF (texts (now (rule .entry)) (now (text .entry))) n depth) (decode (now (ws .entry)) (now (ks .entry)) n)
@@ -258,11 +291,11 @@ pub fn unify_objects<'a>(ws: &mut [u32], ks: &[u32], n: u32, rule: &'a [u8], tex
 {
     let inv = s.inv;
     let mut r = UnifyResult::from_bool(s.na == s.nb);
-    let mut i: u32 = 0;
-    while i < s.na {
-        let x = kid(ks, s.a, i);
-        let f = seek(ks, kid_name(ks, s.a, i), s.b, s.nb, rule, text);
-        i += 1;
+    let mut j: u32 = 0;
+    while j < s.na {
+        let x = kid(ks, s.a, j);
+        let f = seek(ks, kid_name(ks, s.a, j), s.b, s.nb, rule, text);
+        j += 1;
         match f {
             Sought::Is(t) => {
                 r = r.and(unify(ws, ks, n, rule, text, x, t.invert_if(inv), depth));
@@ -276,7 +309,15 @@ pub fn unify_objects<'a>(ws: &mut [u32], ks: &[u32], n: u32, rule: &'a [u8], tex
 }
 
 // A pair of types, as deep as there are nodes.
-pub fn unify_all<'a>(ws: &mut [u32], ks: &[u32], n: u32, rule: &'a [u8], text: &'a [u8], a: Type, b: Type) -> UnifyResult
+pub fn unify_all<'a>(
+    ws: &mut [u32],
+    ks: &[u32],
+    n: u32,
+    rule: &'a [u8],
+    text: &'a [u8],
+    a: Type,
+    b: Type,
+) -> UnifyResult
     requires { ⌜ Pair (texts (now rule) (now text)) (now ws) (now ks) n (tyOf (a .0)) (tyOf (b .0)) ⌝ }
     ensures { λ r. ⌜ Leaves (now (ws .entry)) (now (ks .entry)) (now (ws .exit)) n
         (scope.unify (texts (now (rule .entry)) (now (text .entry))) (decode (now (ws .entry)) (now (ks .entry)) n) (tyOf (a .0)) (tyOf (b .0))) r ⌝ }
@@ -285,7 +326,16 @@ pub fn unify_all<'a>(ws: &mut [u32], ks: &[u32], n: u32, rule: &'a [u8], text: &
 }
 
 // Two lent lists of types, the second's inverted if inv says so.
-pub fn unify_lists<'a>(ws: &mut [u32], ks: &[u32], n: u32, rule: &'a [u8], text: &'a [u8], xs: &[u32], ys: &[u32], inv: Inverted) -> UnifyResult
+pub fn unify_lists<'a>(
+    ws: &mut [u32],
+    ks: &[u32],
+    n: u32,
+    rule: &'a [u8],
+    text: &'a [u8],
+    xs: &[u32],
+    ys: &[u32],
+    inv: Inverted,
+) -> UnifyResult
     requires { ⌜ Pairs (texts (now rule) (now text)) (now ws) (now ks) n (runPlan (inv .0) (map tyOf (now xs)) (map tyOf (now ys)) .pairs) ⌝ }
     ensures { λ r. ⌜ Leaves (now (ws .entry)) (now (ks .entry)) (now (ws .exit)) n
         (unifyTypes (texts (now (rule .entry)) (now (text .entry))) (decode (now (ws .entry)) (now (ks .entry)) n)
