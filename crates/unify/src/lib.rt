@@ -291,11 +291,11 @@ pub fn unify_objects<'a>(
 {
     let inv = s.inv;
     let mut r = UnifyResult::from_bool(s.na == s.nb);
-    let mut i: u32 = 0;
-    while i < s.na {
-        let x = kid(ks, s.a, i);
-        let f = seek(ks, kid_name(ks, s.a, i), s.b, s.nb, rule, text);
-        i += 1;
+    let mut j: u32 = 0;
+    while j < s.na {
+        let x = kid(ks, s.a, j);
+        let f = seek(ks, kid_name(ks, s.a, j), s.b, s.nb, rule, text);
+        j += 1;
         match f {
             Sought::Is(t) => {
                 r = r.and(unify(ws, ks, n, rule, text, x, t.invert_if(inv), depth));

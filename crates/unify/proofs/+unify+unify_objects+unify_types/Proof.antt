@@ -225,12 +225,12 @@ unify-returns-8 : (t : ℕ) → unify-lts.Need-returns-8 (unify-claims t) (unify
 unify-returns-8 t c = way-kids (climbed (c .before .before .before .before .before .before .before .before .before .before .before .before .before .before .before .before .before .before .before .before .before .before .before .before .before .before .before .before .before .before .before .before .before .before .before .before .before .before .before .args .a .0) (c .before .before .before .before .before .before .before .before .before .before .before .before .before .before .before .before .before .before .before .before .before .before .before .before .before .before .before .before .before .before .before .before .before .before .before .before .before .before .before .args .b .0) (c .before .before .before .before .before .before .before .before .before .before .before .before .before .before .before .before .before .before .before .before .before .before .before .before .before .before .before .before .before .before .before .before .before .before .before .before .before .before .before .pre .1) (c .before .before .before .before .before .before .before .before .before .before .before .before .before .before .before .before .before .before .before .before .before .before .before .before .before .before .before .before .before .before .before .before .before .before .before .before .before .before .before .args .depth) (c .before .before .before .before .before .before .before .before .before .before .before .before .before .before .before .before .before .before .before .before .before .before .before .before .before .before .before .before .before .before .before .before .before .before .if1 .left) (c .before .before .before .before .before .before .before .before .before .before .before .before .before .before .before .before .before .before .before .before .before .before .before .before .before .before .before .before .before .before .before .before .find-mut .ensures) (c .before .before .before .before .before .before .before .before .before .before .before .before .before .before .before .before .before .before .before .before .before .before .before .before .before .before .before .before .find-mut2 .ensures)) (c .before .before .before .before .before .before .before .before .before .before .before .before .before .before .before .before .before .before .before .before .before .before .before .before .meet .ensures) (c .before .before .before .before .before .before .before .before .before .before .before .before .before .before .before .before .before .before .before .before .before .before .m2 .given .1 ∙ ap Kids (c .before .before .before .before .before .before .before .before .before .before .before .before .before .before .before .before .before .before .before .p4 .given .1)) (signature-pair (texts (c .before .before .before .before .before .before .before .before .before .before .before .before .before .before .before .before .before .before .before .before .before .before .before .before .before .before .before .before .before .before .before .before .before .before .before .before .before .before .before .args .rule .now) (c .before .before .before .before .before .before .before .before .before .before .before .before .before .before .before .before .before .before .before .before .before .before .before .before .before .before .before .before .before .before .before .before .before .before .before .before .before .before .before .args .text .now)) (c .before .before .before .before .before .before .before .before .before .before .before .before .before .before .before .before .before .before .before .before .before .before .before .before .before .before .before .before .before .before .before .before .before .before .before .before .before .before .before .args .ks .now) (c .before .before .before .before .before .before .before .before .before .before .before .before .before .before .before .before .parameters .ensures) (c .before .before .before .before .before .before .before .before .before .before .before .before .before .before .before .before .before .before .before .before .before .before .before .before .before .before .before .before .before .before .before .before .before .before .before .before .before .before .before .args .depth - 1) (kids-pairs (climbed (c .before .before .before .before .before .before .before .before .before .before .before .before .before .before .before .before .before .before .before .before .before .before .before .before .before .before .before .before .before .before .before .before .before .before .before .before .before .before .before .args .a .0) (c .before .before .before .before .before .before .before .before .before .before .before .before .before .before .before .before .before .before .before .before .before .before .before .before .before .before .before .before .before .before .before .before .before .before .before .before .before .before .before .args .b .0) (c .before .before .before .before .before .before .before .before .before .before .before .before .before .before .before .before .before .before .before .before .before .before .before .before .before .before .before .before .before .before .before .before .before .before .before .before .before .before .before .pre .1) (c .before .before .before .before .before .before .before .before .before .before .before .before .before .before .before .before .before .before .before .before .before .before .before .before .before .before .before .before .before .before .before .before .before .before .before .before .before .before .before .args .depth) (c .before .before .before .before .before .before .before .before .before .before .before .before .before .before .before .before .before .before .before .before .before .before .before .before .before .before .before .before .before .before .before .before .before .before .if1 .left) (c .before .before .before .before .before .before .before .before .before .before .before .before .before .before .before .before .before .before .before .before .before .before .before .before .before .before .before .before .before .before .before .before .find-mut .ensures) (c .before .before .before .before .before .before .before .before .before .before .before .before .before .before .before .before .before .before .before .before .before .before .before .before .before .before .before .before .find-mut2 .ensures)) (c .before .before .before .before .before .before .before .before .before .before .before .before .before .before .before .before .before .before .before .before .before .before .before .before .meet .ensures) (c .before .before .before .before .before .before .before .before .before .before .before .before .before .before .before .before .before .before .before .before .before .before .m2 .given .1) (c .before .before .before .before .before .before .before .before .before .before .before .before .before .before .before .before .before .before .before .p4 .given .1)) (c .before .before .before .before .before .before .before .before .before .before .before .before .before .before .before .unify-types2 .ensures) (c .before .before .before .before .before .before .before .before .before .before .before .before .returns .result) (c .before .before .before .before .before .before .before .before .before .before .before .before .returns .ensures) _ _ _ (c .before .before .before .and2 .result) (c .before .before .before .before .before .before .before .before .before .before .t2 .given .1) (c .before .before .before .before .before .before .before .unify .ensures) (c .before .before .before .and2 .ensures)) (c .before .before .settle5 .ensures)
 
 abbrev unify-objects-Inv-loop : unify-objects-lts.InvT-loop
-unify-objects-Inv-loop ws₀ ks n rule text s depth inv r₀ i₀ ws r i =
+unify-objects-Inv-loop ws₀ ks n rule text s depth inv r₀ j₀ ws r j =
     (length ws ≡ length ws₀)
-    × Going (texts rule text) ws₀ ks n depth (does (unifyF (texts rule text) n depth) (decode ws₀ ks n) (planMeans ks (texts rule text) (plans.Object s))) ws (both (answerOf r) (objectRest (texts rule text) ks s i .base)) (objectRest (texts rule text) ks s i .pairs)
+    × Going (texts rule text) ws₀ ks n depth (does (unifyF (texts rule text) n depth) (decode ws₀ ks n) (planMeans ks (texts rule text) (plans.Object s))) ws (both (answerOf r) (objectRest (texts rule text) ks s j .base)) (objectRest (texts rule text) ks s j .pairs)
 
 abbrev unify-objects-μ-loop : unify-objects-lts.MeasureT-loop
-unify-objects-μ-loop ws₀ ks n rule text s depth inv r₀ i₀ ws r i = s .na - i
+unify-objects-μ-loop ws₀ ks n rule text s depth inv r₀ j₀ ws r j = s .na - j
 
 unify-objects-from-bool-requires : (t : ℕ) → unify-objects-lts.Need-from-bool-requires (unify-objects-claims t) (unify-objects-at t) unify-objects.Post unify-objects-Inv-loop unify-objects-μ-loop
 unify-objects-from-bool-requires t c κs = search needs
@@ -247,8 +247,8 @@ unify-objects-kid-name-requires t c κs = search needs
 unify-objects-seek-requires : (t : ℕ) → unify-objects-lts.Need-seek-requires (unify-objects-claims t) (unify-objects-at t) unify-objects.Post unify-objects-Inv-loop unify-objects-μ-loop
 unify-objects-seek-requires t c κs = search needs
 
-unify-objects-add-i : (t : ℕ) → unify-objects-lts.Need-add-i (unify-objects-claims t) (unify-objects-at t) unify-objects.Post unify-objects-Inv-loop unify-objects-μ-loop
-unify-objects-add-i t c = search needs
+unify-objects-add-j : (t : ℕ) → unify-objects-lts.Need-add-j (unify-objects-claims t) (unify-objects-at t) unify-objects.Post unify-objects-Inv-loop unify-objects-μ-loop
+unify-objects-add-j t c = search needs
 
 unify-objects-enum-known-f : (t : ℕ) → unify-objects-lts.Need-enum-known-f (unify-objects-claims t) (unify-objects-at t) unify-objects.Post unify-objects-Inv-loop unify-objects-μ-loop
 unify-objects-enum-known-f t c = search needs
@@ -257,7 +257,7 @@ unify-objects-invert-if-requires : (t : ℕ) → unify-objects-lts.Need-invert-i
 unify-objects-invert-if-requires t c κs = search needs
 
 unify-objects-unify-requires : (t : ℕ) → unify-objects-lts.Need-unify-requires (unify-objects-claims t) (unify-objects-at t) unify-objects.Post unify-objects-Inv-loop unify-objects-μ-loop
-unify-objects-unify-requires t c κs = (omega (arith, c .before .before .before .before .before .before .before .before .before .before .before .before .before .before .before .before .before .before .pre .0), name-pair (c .before .before .before .before .before .before .before .before .before .before .before .before .before .before .before .before .before .before .args .s) (c .before .before .before .before .before .before .before .before .before .before .loop .i) (c .before .before .before .before .before .before .before .before .before .before .loop .r) (c .before .before .before .before .before .before .before .before .if1 .taken) (c .before .before .before .before .before .seek .result) (c .before .before .before .before .before .before .kid-name .ensures) (c .before .before .before .before .before .seek .ensures) (c .before .before .before .f .given .0 .0) (c .before .before .before .f .given .1) (c .before .before .before .before .before .before .before .kid .result .0) (c .invert-if .result .0) (c .before .before .before .before .before .before .before .kid .ensures) (c .invert-if .ensures) (c .before .before .before .before .before .before .before .before .before .before .loop .inv .1))
+unify-objects-unify-requires t c κs = (omega (arith, c .before .before .before .before .before .before .before .before .before .before .before .before .before .before .before .before .before .before .pre .0), name-pair (c .before .before .before .before .before .before .before .before .before .before .before .before .before .before .before .before .before .before .args .s) (c .before .before .before .before .before .before .before .before .before .before .loop .j) (c .before .before .before .before .before .before .before .before .before .before .loop .r) (c .before .before .before .before .before .before .before .before .if1 .taken) (c .before .before .before .before .before .seek .result) (c .before .before .before .before .before .before .kid-name .ensures) (c .before .before .before .before .before .seek .ensures) (c .before .before .before .f .given .0 .0) (c .before .before .before .f .given .1) (c .before .before .before .before .before .before .before .kid .result .0) (c .invert-if .result .0) (c .before .before .before .before .before .before .before .kid .ensures) (c .invert-if .ensures) (c .before .before .before .before .before .before .before .before .before .before .loop .inv .1))
 
 unify-objects-and-requires : (t : ℕ) → unify-objects-lts.Need-and-requires (unify-objects-claims t) (unify-objects-at t) unify-objects.Post unify-objects-Inv-loop unify-objects-μ-loop
 unify-objects-and-requires t c κs = search needs
@@ -266,7 +266,7 @@ unify-objects-loop-less : (t : ℕ) → unify-objects-lts.Need-loop-less (unify-
 unify-objects-loop-less t c = search needs
 
 unify-objects-loop-again : (t : ℕ) → unify-objects-lts.Need-loop-again (unify-objects-claims t) (unify-objects-at t) unify-objects.Post unify-objects-Inv-loop unify-objects-μ-loop
-unify-objects-loop-again t c = (c .before .before .before .unify .kept .0 ∙ c .before .before .before .before .before .before .before .before .before .before .before .before .before .before .loop .inv .0, name-next (c .before .before .before .before .before .before .before .before .before .before .before .before .before .before .before .before .before .before .before .before .before .before .args .s) (c .before .before .before .before .before .before .before .before .before .before .before .before .before .before .loop .i) (c .before .before .before .before .before .before .before .before .before .before .before .before .before .before .loop .r) (c .before .before .before .before .before .before .before .before .before .before .before .before .if1 .taken) (c .before .before .before .before .before .before .before .before .before .seek .result) (c .before .before .before .before .before .before .before .before .before .before .kid-name .ensures) (c .before .before .before .before .before .before .before .before .before .seek .ensures) (c .before .before .before .before .before .before .before .f .given .0 .0) (c .before .before .before .before .before .before .before .f .given .1) (c .before .before .before .before .before .before .before .before .before .before .before .kid .result .0) (c .before .before .before .before .invert-if .result .0) (c .before .before .before .before .before .before .before .before .before .before .before .kid .ensures) (c .before .before .before .before .invert-if .ensures) (c .before .before .before .before .before .before .before .before .before .before .before .before .before .before .loop .inv .1) (c .and .result) (c .before .before .before .unify .ensures) (c .and .ensures))
+unify-objects-loop-again t c = (c .before .before .before .unify .kept .0 ∙ c .before .before .before .before .before .before .before .before .before .before .before .before .before .before .loop .inv .0, name-next (c .before .before .before .before .before .before .before .before .before .before .before .before .before .before .before .before .before .before .before .before .before .before .args .s) (c .before .before .before .before .before .before .before .before .before .before .before .before .before .before .loop .j) (c .before .before .before .before .before .before .before .before .before .before .before .before .before .before .loop .r) (c .before .before .before .before .before .before .before .before .before .before .before .before .if1 .taken) (c .before .before .before .before .before .before .before .before .before .seek .result) (c .before .before .before .before .before .before .before .before .before .before .kid-name .ensures) (c .before .before .before .before .before .before .before .before .before .seek .ensures) (c .before .before .before .before .before .before .before .f .given .0 .0) (c .before .before .before .before .before .before .before .f .given .1) (c .before .before .before .before .before .before .before .before .before .before .before .kid .result .0) (c .before .before .before .before .invert-if .result .0) (c .before .before .before .before .before .before .before .before .before .before .before .kid .ensures) (c .before .before .before .before .invert-if .ensures) (c .before .before .before .before .before .before .before .before .before .before .before .before .before .before .loop .inv .1) (c .and .result) (c .before .before .before .unify .ensures) (c .and .ensures))
 
 unify-objects-enum-told : (t : ℕ) → unify-objects-lts.Need-enum-told (unify-objects-claims t) (unify-objects-at t) unify-objects.Post unify-objects-Inv-loop unify-objects-μ-loop
 unify-objects-enum-told t c = search needs
@@ -278,13 +278,13 @@ unify-objects-loop-less-2 : (t : ℕ) → unify-objects-lts.Need-loop-less-2 (un
 unify-objects-loop-less-2 t c = search needs
 
 unify-objects-loop-again-2 : (t : ℕ) → unify-objects-lts.Need-loop-again-2 (unify-objects-claims t) (unify-objects-at t) unify-objects.Post unify-objects-Inv-loop unify-objects-μ-loop
-unify-objects-loop-again-2 t c = (c .before .before .before .before .before .before .before .before .loop .inv .0, object-none (texts (c .before .before .before .before .before .before .before .before .before .before .before .before .before .before .before .before .args .rule .now) (c .before .before .before .before .before .before .before .before .before .before .before .before .before .before .before .before .args .text .now)) (c .before .before .before .before .before .before .before .before .before .before .before .before .before .before .before .before .args .ks .now) (c .before .before .before .before .before .before .before .before .before .before .before .before .before .before .before .before .args .s) (c .before .before .before .before .before .before .before .before .loop .i) (c .before .before .before .before .before .before .if1 .taken) (c .before .before .before .seek .result) (c .before .before .before .before .kid-name .ensures) (c .before .before .before .seek .ensures) (c .before .before .before .before .before .before .before .before .loop .r) (c .before .before .before .before .before .before .before .before .loop .inv .1) (c .and2 .result) (c .before .enum-told .given .1) (c .and2 .ensures))
+unify-objects-loop-again-2 t c = (c .before .before .before .before .before .before .before .before .loop .inv .0, object-none (texts (c .before .before .before .before .before .before .before .before .before .before .before .before .before .before .before .before .args .rule .now) (c .before .before .before .before .before .before .before .before .before .before .before .before .before .before .before .before .args .text .now)) (c .before .before .before .before .before .before .before .before .before .before .before .before .before .before .before .before .args .ks .now) (c .before .before .before .before .before .before .before .before .before .before .before .before .before .before .before .before .args .s) (c .before .before .before .before .before .before .before .before .loop .j) (c .before .before .before .before .before .before .if1 .taken) (c .before .before .before .seek .result) (c .before .before .before .before .kid-name .ensures) (c .before .before .before .seek .ensures) (c .before .before .before .before .before .before .before .before .loop .r) (c .before .before .before .before .before .before .before .before .loop .inv .1) (c .and2 .result) (c .before .enum-told .given .1) (c .and2 .ensures))
 
 unify-objects-same-length : (t : ℕ) → unify-objects-lts.Need-same-length (unify-objects-claims t) (unify-objects-at t) unify-objects.Post unify-objects-Inv-loop unify-objects-μ-loop
 unify-objects-same-length t c = c .before .before .loop .inv .0
 
 unify-objects-returns : (t : ℕ) → unify-objects-lts.Need-returns (unify-objects-claims t) (unify-objects-at t) unify-objects.Post unify-objects-Inv-loop unify-objects-μ-loop
-unify-objects-returns t c = object-ends (c .before .before .before .before .before .before .before .before .before .before .args .s) (c .before .before .loop .i) (c .if1 .left) (c .before .before .loop .r) (c .before .before .loop .inv .1)
+unify-objects-returns t c = object-ends (c .before .before .before .before .before .before .before .before .before .before .args .s) (c .before .before .loop .j) (c .if1 .left) (c .before .before .loop .r) (c .before .before .loop .inv .1)
 
 abbrev unify-types-Inv-loop : unify-types-lts.InvT-loop
 unify-types-Inv-loop ws₀ ks n rule text s depth inv r₀ i₀ ws r i =
@@ -390,7 +390,7 @@ pub +unify+unify-objects+unify-types-spec : {M : Type 1} → statement M
     (unify-objects-kid-requires t)
     (unify-objects-kid-name-requires t)
     (unify-objects-seek-requires t)
-    (unify-objects-add-i t)
+    (unify-objects-add-j t)
     (unify-objects-enum-known-f t)
     (unify-objects-invert-if-requires t)
     (unify-objects-unify-requires t)
