@@ -9,7 +9,7 @@ use Prim.Native.Nat.{ℕ, _%_, _≤_, _<_}
 use native.Mathlib.Omega.{arith}
 use lib.Dec.{eqb, leb}
 use lib.ListN.{length, getD}
-use borrow.Author.Tests.{le-leb, lt-leb, leb-true}
+use borrow.Author.Tests.{eq-eqb, le-leb, lt-leb, leb-true}
 use Rattle.scope.specs.Base.{all}
 use Rattle.scope.specs.Limits.{MAX-NODES, MAX-CHILDREN}
 use Rattle.scope.specs.Chart.{Env, recordOk, chartOk}
@@ -203,6 +203,10 @@ module _ (ws : List ℕ) (b : Beside) (rule text : List ℕ) where
   whole-by : eqb (length ws % RECORD-WORDS) 0 ≡ true → envIn ws b rule text ≡ envOf ws b rule text
   unfolding envIn
   whole-by q = rw q
+
+  -- whole records are the chart that `chart` reads
+  pub env-records : length ws % RECORD-WORDS ≡ 0 → envIn ws b rule text ≡ envOf ws b rule text
+  env-records q = whole-by (eq-eqb (length ws % RECORD-WORDS) 0 q)
 
   torn-by : eqb (length ws % RECORD-WORDS) 0 ≡ false → envIn ws b rule text ≡ noChart
   unfolding envIn
