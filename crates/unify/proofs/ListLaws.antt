@@ -1,4 +1,4 @@
--- `unify`, `unify_types` and `unify_fn_sig` as scope has them: the depth is the node count, and it stays. What is left of two lent lists gives the whole.
+-- `unify`, `unify_types`, `unify_fn_sig` and `unify_impl_type` as scope has them: the depth is the node count, and it stays. What is left of two lent lists gives the whole.
 -- Assumes nothing.
 use mathlib.Core.Path.{_≡_, refl, ap, sym, subst, _∙_}
 use mathlib.Core.Bool.{Bool, false}
@@ -13,14 +13,16 @@ use borrow.Author.Tests.{eq-eqb, ne-eqb}
 use Rattle.scope.specs.Names.{Texts}
 use Rattle.scope.specs.Types.{Ty, tyOf, flip}
 use Rattle.scope.specs.Answers.{Answer, Success, Failure, both}
-use Rattle.scope.specs.Unify.{Plan, Out, out, run, answers, zipped, runPlan, after, unifyF, unify, carry, unifyTypes, unifyFnSig}
+use Rattle.scope.specs.Unify.{Plan, Out, out, run, answers, zipped, runPlan, after, unifyF, unify, carry, unifyTypes, unifyFnSig, ImplType, implPlan, unifyImplType}
 use Rattle.types.specs.Answers.{answerOf}
 use Rattle.types.specs.declared.UnifyResult.{UnifyResult}
 use Rattle.types.specs.declared.UnifyResult.the-variants as code
 use Rattle.layout.specs.Words.{decode}
 use Rattle.layout.proofs.Laws.{length-decode}
 use Rattle.unify.specs.Asks.{Ready, Pair, Inside, Pairs}
-use Rattle.unify.specs.Leaves.{does, sigPlan, Leaves}
+use Rattle.unify.specs.Leaves.{does, sigPlan, implMeans, Leaves}
+use Rattle.unify.specs.declared.Impl.{Impl}
+use Rattle.unify.specs.declared.Impl.the-variants as impl
 use Rattle.unify.proofs.Kept.{carry-depth}
 use Rattle.unify.proofs.Laws.{ready-run}
 use Rattle.unify.proofs.RunLaws.{Going, going-start, going-to, going-pair, going-on, going-end, does-after}
@@ -126,3 +128,34 @@ module _ {x : Texts} {ws ks : List ℕ} {n : ℕ} (xs ys : List ℕ) (a b : Ty) 
       clean = λ c cl. m .clean c (l .clean c cl);
       tail = m .tail ∙ l .tail;
     }
+
+-- two traits
+
+impl-says : (x : Texts) (ws ks : List ℕ) (n : ℕ) (a b : ImplType) (r : UnifyResult) → implPlan a b ≡ answers (answerOf r)
+    → Leaves ws ks ws n (unifyImplType x (decode ws ks n) a b) r
+unfolding unifyImplType run
+impl-says x ws ks n a b r e = record { same = ap (carry x (decode ws ks n)) e; clean = λ c cl. cl; tail = refl }
+
+module _ (x : Texts) (ws ks : List ℕ) (n : ℕ) (a b : Impl) (xs ys : List ℕ) where
+  pub impl-error : a ≡ impl.Error → Leaves ws ks ws n (unifyImplType x (decode ws ks n) (implMeans a xs) (implMeans b ys)) code.Indeterminate
+  impl-error e = impl-says x ws ks n (implMeans a xs) (implMeans b ys) code.Indeterminate (rw e refl)
+
+  module _ {i : ℕ} (ea : a ≡ impl.Trait i) where
+    pub impl-against : b ≡ impl.Error → Leaves ws ks ws n (unifyImplType x (decode ws ks n) (implMeans a xs) (implMeans b ys)) code.Indeterminate
+    impl-against e = impl-says x ws ks n (implMeans a xs) (implMeans b ys) code.Indeterminate (rw (ea, e) refl)
+
+    module _ {j : ℕ} (eb : b ≡ impl.Trait j) where
+      pub impl-other : (i ≡ j → ⊥) → Leaves ws ks ws n (unifyImplType x (decode ws ks n) (implMeans a xs) (implMeans b ys)) code.Failure
+      impl-other h = impl-says x ws ks n (implMeans a xs) (implMeans b ys) code.Failure (rw (ea, eb, ne-eqb i j h) refl)
+
+      module _ (h : i ≡ j) where
+        impl-plan : implPlan (implMeans a xs) (implMeans b ys) ≡ runPlan false (map tyOf xs) (map tyOf ys)
+        impl-plan = rw (ea, eb, eq-eqb i j h) refl
+
+        pub impl-pairs : Pairs x ws ks n (implPlan (implMeans a xs) (implMeans b ys) .pairs) → Pairs x ws ks n (runPlan false (map tyOf xs) (map tyOf ys) .pairs)
+        impl-pairs p = subst (λ (l : Plan). Pairs x ws ks n (l .pairs)) impl-plan p
+
+        pub impl-lists : {ws′ : List ℕ} {r : UnifyResult} → Leaves ws ks ws′ n (unifyTypes x (decode ws ks n) (map tyOf xs) (map tyOf ys) false) r
+            → Leaves ws ks ws′ n (unifyImplType x (decode ws ks n) (implMeans a xs) (implMeans b ys)) r
+        unfolding unifyImplType unifyTypes
+        impl-lists {ws′} {r} l = subst (λ (p : Plan). Leaves ws ks ws′ n (carry x (decode ws ks n) p) r) (sym impl-plan) l

@@ -1,7 +1,7 @@
 -- What unifying leaves: scope's nodes and answer, in words; and what its parts read.
 use mathlib.Core.Path.{_≡_}
 use mathlib.Core.Bool.{Bool, false}
-use mathlib.Core.List.{List, [], _∷_}
+use mathlib.Core.List.{List, [], _∷_, map}
 use mathlib.Core.Option.{Option, none, some}
 use Prim.Native.Nat.{ℕ, _-_}
 use lib.ListN.{drop}
@@ -11,6 +11,7 @@ use Rattle.scope.specs.Types.{Ty, tyOf}
 use Rattle.scope.specs.Nodes.{Node}
 use Rattle.scope.specs.Answers.{Success}
 use Rattle.scope.specs.Unify.{Out, out, run, answers, after, runPlan, returned, seek, bind, bindIf, settle, sameNode, meet}
+use Rattle.scope.specs.Unify.{ImplType, Trait, Error}
 use Rattle.scope.specs.Unify as scope
 use Rattle.scope.specs.Sound as sound
 use Rattle.types.specs.Answers.{answerOf}
@@ -25,6 +26,8 @@ use Rattle.plan.specs.declared.Runs.{Runs}
 use Rattle.unify.specs.Asks.{Inside}
 use Rattle.unify.specs.declared.Meeting.{Meeting}
 use Rattle.unify.specs.declared.Meeting.the-variants.{Done, Bind, Kids}
+use Rattle.unify.specs.declared.Impl.{Impl}
+use Rattle.unify.specs.declared.Impl.the-variants as impl
 use Rattle.unify.specs.declared.Held.{Held}
 use Rattle.unify.specs.declared.Held.the-variants as held
 use Rattle.unify.specs.declared.Returned.{Returned}
@@ -39,6 +42,11 @@ does u ns l = run u ns (l .base) (l .pairs)
 -- what two signatures ask: their parameters, then their returns
 abbrev pub sigPlan : List Ty → Ty → List Ty → Ty → scope.Plan
 sigPlan xs r ys q = after (runPlan false xs ys) (runPlan false (r ∷ []) (q ∷ []))
+
+-- a trait over lent types, or an error
+abbrev pub implMeans : Impl → List ℕ → ImplType
+implMeans (impl.Trait i) xs = Trait i (map tyOf xs)
+implMeans impl.Error xs = Error
 
 -- ws′ after ws holds o's nodes, and r is its answer; clean words stay clean, and the words past the n nodes are as they were
 pub record Leaves (ws ks ws′ : List ℕ) (n : ℕ) (o : Out) (r : UnifyResult) : Type 0 where

@@ -5,8 +5,7 @@ ghost use Prim.Native.Nat.{_+_, _-_, _≤_};
 ghost use mathlib.Core.List.{map};
 ghost use lib.ListN.{length};
 ghost use Rattle.scope.specs.Types.{tyOf};
-ghost use Rattle.scope.specs.Names.{bytes};
-ghost use Rattle.scope.specs.Unify.{runPlan, unifyF, unifyTypes, unifyFnSig};
+ghost use Rattle.scope.specs.Unify.{runPlan, implPlan, unifyF, unifyTypes, unifyFnSig, unifyImplType};
 ghost use Rattle.scope.specs.Unify as scope;
 ghost use Rattle.names.specs.Place.{texts, nameIn};
 ghost use Rattle.layout.specs.Words.{nodeWords, slotAt, decode};
@@ -14,7 +13,7 @@ ghost use Rattle.layout.specs.Meaning.{readAt};
 ghost use Rattle.plan.specs.Meaning.{planMeans};
 ghost use Rattle.plan.specs.declared.Plan.the-variants as plans;
 ghost use Rattle.unify.specs.Asks.{Pair, Tops, Roots, Pairs};
-ghost use Rattle.unify.specs.Leaves.{does, sigPlan, Leaves, heldIn, slotPlace, Same, Bare, Met, soughtMeans, soughtIn, Parameters, returnsMean, returnsPlan};
+ghost use Rattle.unify.specs.Leaves.{does, sigPlan, implMeans, Leaves, heldIn, slotPlace, Same, Bare, Met, soughtMeans, soughtIn, Parameters, returnsMean, returnsPlan};
 use layout::Kind;
 use layout::TypeNode;
 use layout::TypeState;
@@ -42,6 +41,12 @@ pub enum Held {
 pub enum Returned {
     Lacking(UnifyResult),
     Pair(Type, Type),
+}
+
+// A trait, by its number, or an error.
+pub enum Impl {
+    Trait(u32),
+    Error,
 }
 
 // The type beside a name.
@@ -375,4 +380,33 @@ pub fn unify_fn_sig<'a>(
     let q = unify_lists(ws, ks, n, rule, text, xs, ys, Inverted(false));
     let r = unify(ws, ks, n, rule, text, a, b, n);
     q.and(r)
+}
+
+// Two traits over lent types, or errors.
+pub fn unify_impl_type<'a>(
+    ws: &mut [u32],
+    ks: &[u32],
+    n: u32,
+    rule: &'a [u8],
+    text: &'a [u8],
+    a: Impl,
+    xs: &[u32],
+    b: Impl,
+    ys: &[u32],
+) -> UnifyResult
+    requires { ⌜ Pairs (texts (now rule) (now text)) (now ws) (now ks) n (implPlan (implMeans a (now xs)) (implMeans b (now ys)) .pairs) ⌝ }
+    ensures { λ r. ⌜ Leaves (now (ws .entry)) (now (ks .entry)) (now (ws .exit)) n
+        (unifyImplType (texts (now (rule .entry)) (now (text .entry))) (decode (now (ws .entry)) (now (ks .entry)) n)
+        (implMeans a (now (xs .entry))) (implMeans b (now (ys .entry)))) r ⌝ }
+{
+    let Impl::Trait(i) = a else {
+        return UnifyResult::Indeterminate;
+    };
+    let Impl::Trait(j) = b else {
+        return UnifyResult::Indeterminate;
+    };
+    if i != j {
+        return UnifyResult::Failure;
+    }
+    unify_lists(ws, ks, n, rule, text, xs, ys, Inverted(false))
 }
