@@ -2,26 +2,27 @@
 -- definition at what the code reads, and for `get_mod` that looking through the Refs that are left gives what looking through all gives.
 -- Assumes nothing.
 use mathlib.Core.Path.{_≡_, refl, ap, sym, _∙_}
-use mathlib.Core.Bool.{Bool, true, false, not, _&&_, _||_, false≢true}
+use mathlib.Core.Bool.{Bool, true, false, not, _||_, false≢true}
 use mathlib.Core.List.{List, [], _∷_}
 use Prim.Native.Nat.{ℕ, zero, suc, _+_, _-_, _≤_, _<_}
 use native.Mathlib.Omega.{arith}
 use lib.Dec.{eqb}
 use lib.ListN.{length, getD, replicate}
 use borrow.Author.Tests.{eq-eqb, ne-eqb, not-true, not-false}
-use Rattle.scope.specs.Base.{all, any, from}
+use Rattle.scope.specs.Base.{all, from}
 use Rattle.scope.specs.Limits.{MAX-NODES}
 use Rattle.scope.specs.Chart.{Env}
 use Rattle.scope.specs.Types.{Ty, tyOf}
 use Rattle.scope.specs.Kinds.{REF}
 use Rattle.scope.specs.Nodes.{Node, at, isRoot, stateOf, find, kidsOf}
-use Rattle.scope.specs.Nodes as nodes
 use Rattle.scope.specs.Unify.{occurs, selfInverseAt, selfInverseOf}
 use Rattle.scope.specs.Force.{findRelated, isNil, none-mod, modOfRef, modOfState, getModF, getMod}
 use Rattle.scope.specs.Force as force
+use Rattle.scope.proofs.SoundLaws.{SoundNodes}
+use Rattle.scope.proofs.Walks.{sound-walkable}
 use Rattle.scope.proofs.MarkLaws.{Clear, clear-zeros, occurs-marks, good, self-marks, self-at-marks}
 use Rattle.layout.specs.Words.{slotAt, decode}
-use Rattle.layout.specs.Meaning.{slotMeans, kindMeans, readAt}
+use Rattle.layout.specs.Meaning.{slotMeans, kindMeans, readAt, Clean}
 use Rattle.layout.specs.declared.Kind.{Kind}
 use Rattle.layout.specs.declared.Slot.{Slot}
 use Rattle.layout.proofs.Lists.{all-from, from-all}
@@ -35,6 +36,14 @@ use Rattle.walk.specs.declared.Mod.the-variants as mods
 use Rattle.walk.specs.Read.{heldIn, goodBy, goodAt, modMeans, modBy}
 use Rattle.walk.specs.Asks.{Stands, Walks, Occurs, Inverses, Nil, Modded}
 use Rattle.walk.proofs.Laws.{kidsBy, nilBy, modIn, kids-read, good-read, nil-read, mod-read, root-is, kid-next, kid-none}
+
+-- sound nodes can be walked
+pub sound-walks : (e : Env) {ws ks : List ℕ} {c n : ℕ} → Clean ws ks c n → n ≤ MAX-NODES → SoundNodes e (decode ws ks n) → Walks ws ks n
+sound-walks e {ws} {ks} {c} {n} cl few ok = record {
+  stands = record { made = c; clean = cl };
+  few = few;
+  walkable = sound-walkable e (decode ws ks n) ok;
+}
 
 -- a table of marks without a mark
 clear : {ws ks : List ℕ} {n : ℕ} → Walks ws ks n → Clear (decode ws ks n) (replicate MAX-NODES 0)

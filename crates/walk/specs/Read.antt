@@ -1,7 +1,7 @@
 -- What the code reads of a node: its kind, if it has one. Beside it what a kind tells without its children: whether a type can be its own inverse,
 -- and the answer of `get_mod`.
 use mathlib.Core.List.{List}
-use mathlib.Core.Bool.{Bool, true, false, _||_}
+use mathlib.Core.Bool.{Bool, false, _||_}
 use Prim.Native.Nat.{ℕ}
 use lib.Dec.{eqb}
 use lib.ListN.{getD}

@@ -1,6 +1,6 @@
 -- `walk::mark` meets its contract. The measure is the depth. A root is marked before its children are walked from; the loop's invariant: what is
 -- left of them gives what all of them give. Assumes nothing.
-use mathlib.Core.Path.{sym, _∙_}
+use mathlib.Core.Path.{_∙_}
 use Prim.Native.Nat.{ℕ, _-_, _<_}
 use native.Mathlib.Omega.{arith}
 use borrow.Author.Needs.{needs}
@@ -56,7 +56,9 @@ mark-same-length : (t : ℕ) → mark-lts.Need-same-length (mark-claims t) (mark
 mark-same-length t c = search needs
 
 mark-returns-2 : (t : ℕ) → mark-lts.Need-returns-2 (mark-claims t) (mark-at t) mark.Post mark-Inv-loop mark-μ-loop
-mark-returns-2 t c = mark-met _ _ _ _ (root-is (c .before .before .before .before .find .ensures) (c .before .before .before .idx .ensures) _) (c .before .is-marked .ensures) (c .if2 .taken)
+mark-returns-2 t c =
+    let s = c .before in
+    mark-met _ _ _ _ (root-is (s .before .before .before .find .ensures) (s .before .before .idx .ensures) _) (s .is-marked .ensures) (c .if2 .taken)
 
 mark-set-mark-requires : (t : ℕ) → mark-lts.Need-set-mark-requires (mark-claims t) (mark-at t) mark.Post mark-Inv-loop mark-μ-loop
 mark-set-mark-requires t c κs = search needs
@@ -75,8 +77,13 @@ mark-same-length-2 t c = c .before .before .before .before .before .set-mark .ke
 
 mark-returns-3 : (t : ℕ) → mark-lts.Need-returns-3 (mark-claims t) (mark-at t) mark.Post mark-Inv-loop mark-μ-loop
 mark-returns-3 t c =
-    mark-kids (c .before .before .before .before .before .before .before .before .before .before .before .before .before .before .before .before .args .depth) _ _ (c .before .before .before .before .before .before .before .before .before .before .before .before .before .before .before .before .pre .1) (c .before .before .before .before .before .before .before .before .before .before .before .before .if1 .left) (root-is (c .before .before .before .before .before .before .before .before .before .before .before .find .ensures) (c .before .before .before .before .before .before .before .before .before .before .idx .ensures) _) (c .before .before .before .before .before .before .before .before .is-marked .ensures) (c .before .before .before .before .before .before .before .if2 .left)
-    (c .before .before .before .before .before .set-mark .ensures) (c .before .before .kind-at .ensures) (c .enum-told .given .1)
+    let k = c .before .before in
+    let m = k .before .before .before in
+    let b = m .before .before .before in
+    let f = b .before .before .before in
+    let s = f .before .before .before .before .before in
+    mark-kids (s .args .depth) _ _ (s .pre .1) (f .before .if1 .left) (root-is (f .find .ensures) (b .before .before .idx .ensures) _) (b .is-marked .ensures) (m .before .before .if2 .left)
+    (m .set-mark .ensures) (k .kind-at .ensures) (c .enum-told .given .1)
 
 mark-loop-holds : (t : ℕ) → mark-lts.Need-loop-holds (mark-claims t) (mark-at t) mark.Post mark-Inv-loop mark-μ-loop
 mark-loop-holds t c = turn-start _ _ _ _
@@ -85,47 +92,50 @@ mark-child-of-requires : (t : ℕ) → mark-lts.Need-child-of-requires (mark-cla
 mark-child-of-requires t c κs = search needs
 
 mark-sub-mark : (t : ℕ) → mark-lts.Need-sub-mark (mark-claims t) (mark-at t) mark.Post mark-Inv-loop mark-μ-loop
-mark-sub-mark t c = omega (arith, c .before .before .before .before .before .before .before .before .before .before .before .before .before .before .before .before .before .before .before .if1 .left)
+mark-sub-mark t c =
+    let k = c .before .before .before .before .before .before .before .before .before in
+    let f = k .before .before .before .before .before .before .before .before .before in
+    omega (arith, f .before .if1 .left)
 
 mark-mark-requires : (t : ℕ) → mark-lts.Need-mark-requires (mark-claims t) (mark-at t) mark.Post mark-Inv-loop mark-μ-loop
-mark-mark-requires t c κs = (omega (arith, c .before .before .before .before .before .before .before .before .before .before .before .before .before .before .before .before .before .before .before .before .before .before .before .pre .0, c .before .before .before .before .before .before .before .before .before .before .before .before .before .before .before .before .before .before .before .if1 .left), c .before .before .before .before .before .before .before .before .before .before .before .before .before .before .before .before .before .before .before .before .before .before .before .pre .1)
+mark-mark-requires t c κs =
+    let k = c .before .before .before .before .before .before .before .before .before in
+    let f = k .before .before .before .before .before .before .before .before .before in
+    let s = f .before .before .before .before .before in
+    (omega (arith, s .pre .0, f .before .if1 .left), s .pre .1)
 
 mark-add-j : (t : ℕ) → mark-lts.Need-add-j (mark-claims t) (mark-at t) mark.Post mark-Inv-loop mark-μ-loop
-mark-add-j t c = omega (arith, c .before .before .before .before .before .before .if3 .taken, c .before .before .before .before .before .before .before .struct-known .given .1 .1 .1 .1 .1 .1 .1 .1 .0)
+mark-add-j t c =
+    let a = c .before .before .before .before .before in
+    omega (arith, a .before .if3 .taken, a .before .before .struct-known .given .1 .1 .1 .1 .1 .1 .1 .1 .0)
 
 mark-loop-less : (t : ℕ) → mark-lts.Need-loop-less (mark-claims t) (mark-at t) mark.Post mark-Inv-loop mark-μ-loop
 mark-loop-less t c = omega (arith, c .before .before .before .before .before .before .if3 .taken)
 
 mark-loop-again : (t : ℕ) → mark-lts.Need-loop-again (mark-claims t) (mark-at t) mark.Post mark-Inv-loop mark-μ-loop
-mark-loop-again t c = turn-next (c .before .before .before .before .before .before .before .before .loop .inv) (c .before .before .before .before .before .child-of .result) (c .before .before .before .before .before .before .if3 .taken) (c .before .before .before .before .before .child-of .ensures) (c .before .before .mark .ensures) (c .before .before .mark .kept .1 .1 .1 .0)
+mark-loop-again t c =
+    let m = c .before .before in
+    let a = m .before .before .before in
+    let l = a .before .before .before in
+    turn-next (l .loop .inv) (a .child-of .result) (a .before .if3 .taken) (a .child-of .ensures) (m .mark .ensures) (m .mark .kept .1 .1 .1 .0)
 
 mark-same-length-3 : (t : ℕ) → mark-lts.Need-same-length-3 (mark-claims t) (mark-at t) mark.Post mark-Inv-loop mark-μ-loop
 mark-same-length-3 t c = c .before .before .loop .inv .long ∙ c .before .before .before .before .before .before .before .before .before .set-mark .kept .0
 
 mark-returns-4 : (t : ℕ) → mark-lts.Need-returns-4 (mark-claims t) (mark-at t) mark.Post mark-Inv-loop mark-μ-loop
 mark-returns-4 t c =
-    turn-end (c .before .before .loop .inv) (c .if3 .left)
-    ∙ mark-kids (c .before .before .before .before .before .before .before .before .before .before .before .before .before .before .before .before .before .before .before .before .args .depth) _ _ (c .before .before .before .before .before .before .before .before .before .before .before .before .before .before .before .before .before .before .before .before .pre .1) (c .before .before .before .before .before .before .before .before .before .before .before .before .before .before .before .before .if1 .left) (root-is (c .before .before .before .before .before .before .before .before .before .before .before .before .before .before .before .find .ensures) (c .before .before .before .before .before .before .before .before .before .before .before .before .before .before .idx .ensures) _) (c .before .before .before .before .before .before .before .before .before .before .before .before .is-marked .ensures) (c .before .before .before .before .before .before .before .before .before .before .before .if2 .left)
-    (c .before .before .before .before .before .before .before .before .before .set-mark .ensures) (c .before .before .before .before .before .before .kind-at .ensures) (c .before .before .before .before .kind .given .1)
-
+    let l = c .before .before in
+    let k = l .before .before .before .before in
+    let m = k .before .before .before in
+    let b = m .before .before .before in
+    let f = b .before .before .before in
+    let s = f .before .before .before .before .before in
+    turn-end (l .loop .inv) (c .if3 .left)
+    ∙ mark-kids (s .args .depth) _ _ (s .pre .1) (f .before .if1 .left) (root-is (f .find .ensures) (b .before .before .idx .ensures) _) (b .is-marked .ensures) (m .before .before .if2 .left)
+    (m .set-mark .ensures) (k .kind-at .ensures) (l .before .before .kind .given .1)
 
 pub +mark-spec : {M : Type 1} → statement M
-+mark-spec = close μ-mark λ t. mark-lts.spec (
-  find-reads.Asked,
-  find-reads.Learnt,
-  idx-reads.Asked,
-  idx-reads.Learnt,
-  is-marked-reads.Asked,
-  is-marked-reads.Learnt,
-  set-mark-reads.Asked,
-  set-mark-reads.Learnt,
-  kind-at-reads.Asked,
-  kind-at-reads.Learnt,
-  child-of-reads.Asked,
-  child-of-reads.Learnt,
-  mark-below t,
-  mark.Post,
-)
++mark-spec = close μ-mark λ t. mark-lts.spec (mark-claims t)
     (mark-at t)
     mark.Post
     mark-Inv-loop

@@ -32,27 +32,41 @@ good-at-requires c κs = search needs
 
 returns : tie.Need-returns Inv-loop μ-loop
 returns c =
-    all-fail (goodAt (c .before .before .before .before .before .before .before .before .args .ws .now) (c .before .before .before .before .before .before .before .before .args .n) (c .before .before .before .before .before .before .before .before .args .marks .now) (c .before .before .before .before .before .before .before .before .args .param)) (c .before .before .before .before .before .before .before .before .args .n) (c .before .before .before .before .before .loop .i) (c .before .before .before .before .loop-test .taken)
-    (good-test (c .before .before .before .before .before .before .before .before .args .ws .now) (c .before .before .before .before .before .before .before .before .args .n) (c .before .before .before .before .before .before .before .before .args .marks .now) (c .before .before .before .before .before .before .before .before .args .param) (c .before .before .before .before .before .loop .i) (c .before .before .before .is-marked .ensures) (c .before .before .if1 .taken) (c .before .good-at .ensures) (not-true _ (c .if2 .taken)))
+    let b = c .before .before .before in
+    let l = b .before .before in
+    let s = l .before .before .before .args in
+    all-fail (goodAt (s .ws .now) (s .n) (s .marks .now) (s .param)) (s .n) (l .loop .i) (b .before .loop-test .taken)
+    (good-test (s .ws .now) (s .n) (s .marks .now) (s .param) (l .loop .i) (b .is-marked .ensures) (c .before .before .if1 .taken) (c .before .good-at .ensures) (not-true _ (c .if2 .taken)))
 
 loop-less : tie.Need-loop-less Inv-loop μ-loop
 loop-less c = omega (arith, c .before .before .before .before .loop-test .taken)
 
 loop-again : tie.Need-loop-again Inv-loop μ-loop
 loop-again c =
-    (omega (arith, c .before .before .before .before .loop-test .taken), below-more _ _ (c .before .before .before .before .before .loop .inv .1)
-    (good-test (c .before .before .before .before .before .before .before .before .args .ws .now) (c .before .before .before .before .before .before .before .before .args .n) (c .before .before .before .before .before .before .before .before .args .marks .now) (c .before .before .before .before .before .before .before .before .args .param) (c .before .before .before .before .before .loop .i) (c .before .before .before .is-marked .ensures) (c .before .before .if1 .taken) (c .before .good-at .ensures) (not-false _ (c .if2 .left))))
+    let b = c .before .before .before in
+    let l = b .before .before in
+    let s = l .before .before .before .args in (
+      omega (arith, b .before .loop-test .taken),
+      below-more _ _ (l .loop .inv .1)
+          (good-test (s .ws .now) (s .n) (s .marks .now) (s .param) (l .loop .i) (b .is-marked .ensures) (c .before .before .if1 .taken) (c .before .good-at .ensures) (not-false _ (c .if2 .left))),
+    )
 
 loop-less-2 : tie.Need-loop-less-2 Inv-loop μ-loop
 loop-less-2 c = omega (arith, c .before .before .loop-test .taken)
 
 loop-again-2 : tie.Need-loop-again-2 Inv-loop μ-loop
 loop-again-2 c =
-    (omega (arith, c .before .before .loop-test .taken), below-more _ _ (c .before .before .before .loop .inv .1)
-    (good-skip (c .before .before .before .before .before .before .args .ws .now) (c .before .before .before .before .before .before .args .n) (c .before .before .before .before .before .before .args .marks .now) (c .before .before .before .before .before .before .args .param) (c .before .before .before .loop .i) (c .before .is-marked .ensures) (c .if1 .left)))
+    let b = c .before in
+    let l = b .before .before in
+    let s = l .before .before .before .args in (
+      omega (arith, b .before .loop-test .taken),
+      below-more _ _ (l .loop .inv .1) (good-skip (s .ws .now) (s .n) (s .marks .now) (s .param) (l .loop .i) (b .is-marked .ensures) (c .if1 .left)),
+    )
 
 returns-2 : tie.Need-returns-2 Inv-loop μ-loop
-returns-2 c = all-pass (goodAt (c .before .before .before .before .args .ws .now) (c .before .before .before .before .args .n) (c .before .before .before .before .args .marks .now) (c .before .before .before .before .args .param)) (c .before .before .before .before .args .n) (c .before .loop .i) (c .loop-test .left) (c .before .loop .inv .1)
+returns-2 c =
+    let s = c .before .before .before .before .args in
+    all-pass (goodAt (s .ws .now) (s .n) (s .marks .now) (s .param)) (s .n) (c .before .loop .i) (c .loop-test .left) (c .before .loop .inv .1)
 
 pub all-good-spec : {M : Type 1} → statement M
 all-good-spec =

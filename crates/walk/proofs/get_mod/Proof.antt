@@ -33,16 +33,34 @@ enum-told : tie.Need-enum-told Inv-loop μ-loop
 enum-told c = search needs
 
 returns : tie.Need-returns Inv-loop μ-loop
-returns c = looks-none (c .before .before .before .before .before .before .loop .inv) (c .before .before .before .before .before .before .before .before .before .before .pre) (omega (arith, c .before .before .before .before .before .loop-test .taken)) (root-is (c .before .before .before .before .find .ensures) (c .before .before .before .idx .ensures) _) (c .before .before .kind-at .ensures) (c .enum-told .given .1)
+returns c =
+    let k = c .before .before in
+    let f = k .before .before in
+    let l = f .before .before in
+    let s = l .before .before .before .before in
+    let h = f .before .loop-test .taken in
+    looks-none (l .loop .inv) (s .pre) (omega arith) (root-is (f .find .ensures) (k .before .idx .ensures) _) (k .kind-at .ensures) (c .enum-told .given .1)
 
 mod-of-requires : tie.Need-mod-of-requires Inv-loop μ-loop
 mod-of-requires c κs = search needs
 
 returns-2 : tie.Need-returns-2 Inv-loop μ-loop
-returns-2 c = looks-kind (c .before .before .before .before .before .before .before .before .before .before .loop .inv) (c .before .before .before .before .before .before .before .before .before .before .before .before .before .before .pre) (omega (arith, c .before .before .before .before .before .before .before .before .before .loop-test .taken)) (root-is (c .before .before .before .before .before .before .before .before .find .ensures) (c .before .before .before .before .before .before .before .idx .ensures) _) (c .before .before .before .before .before .before .kind-at .ensures) (c .before .before .before .before .kind .given .1) (c .before .if1 .taken) (c .mod-of .ensures)
+returns-2 c =
+    let k = c .before .before .before .before .before .before in
+    let f = k .before .before in
+    let l = f .before .before in
+    let s = l .before .before .before .before in
+    let h = f .before .loop-test .taken in
+    looks-kind (l .loop .inv) (s .pre) (omega arith) (root-is (f .find .ensures) (k .before .idx .ensures) _) (k .kind-at .ensures) (c .before .before .before .before .kind .given .1) (c .before .if1 .taken) (c .mod-of .ensures)
 
 returns-3 : tie.Need-returns-3 Inv-loop μ-loop
-returns-3 c = looks-bare (c .before .before .before .before .before .before .before .before .before .before .before .loop .inv) (c .before .before .before .before .before .before .before .before .before .before .before .before .before .before .before .pre) (omega (arith, c .before .before .before .before .before .before .before .before .before .before .loop-test .taken)) (root-is (c .before .before .before .before .before .before .before .before .before .find .ensures) (c .before .before .before .before .before .before .before .before .idx .ensures) _) (c .before .before .before .before .before .before .before .kind-at .ensures) (c .before .before .before .before .before .kind .given .1) (c .before .before .if1 .left) (c .if2 .taken)
+returns-3 c =
+    let k = c .before .before .before .before .before .before .before in
+    let f = k .before .before in
+    let l = f .before .before in
+    let s = l .before .before .before .before in
+    let h = f .before .loop-test .taken in
+    looks-bare (l .loop .inv) (s .pre) (omega arith) (root-is (f .find .ensures) (k .before .idx .ensures) _) (k .kind-at .ensures) (c .before .before .before .before .before .kind .given .1) (c .before .before .if1 .left) (c .if2 .taken)
 
 child-of-requires : tie.Need-child-of-requires Inv-loop μ-loop
 child-of-requires c κs = search needs
@@ -54,7 +72,14 @@ loop-less : tie.Need-loop-less Inv-loop μ-loop
 loop-less c = search needs
 
 loop-again : tie.Need-loop-again Inv-loop μ-loop
-loop-again c = looks-on (c .before .before .before .before .before .before .before .before .before .before .before .before .before .loop .inv) (c .before .before .before .before .before .before .before .before .before .before .before .before .before .before .before .before .before .pre) (omega (arith, c .before .before .before .before .before .before .before .before .before .before .before .before .loop-test .taken)) (root-is (c .before .before .before .before .before .before .before .before .before .before .before .find .ensures) (c .before .before .before .before .before .before .before .before .before .before .idx .ensures) _) (c .before .before .before .before .before .before .before .before .before .kind-at .ensures) (c .before .before .before .before .before .before .before .kind .given .1) (c .before .child-of .result) (c .before .before .before .before .if1 .left) (omega (arith, c .before .before .if2 .left)) (c .before .child-of .ensures)
+loop-again c =
+    let k = c .before .before .before .before .before .before .before .before .before in
+    let f = k .before .before in
+    let l = f .before .before in
+    let s = l .before .before .before .before in
+    let h = f .before .loop-test .taken in
+    looks-on (l .loop .inv) (s .pre) (omega arith) (root-is (f .find .ensures) (k .before .idx .ensures) _) (k .kind-at .ensures) (c .before .before .before .before .before .before .before .kind .given .1) (c .before .child-of .result) (c .before .before .before .before .if1 .left)
+    (omega (arith, c .before .before .if2 .left)) (c .before .child-of .ensures)
 
 returns-4 : tie.Need-returns-4 Inv-loop μ-loop
 returns-4 c = looks-out (c .before .loop .inv) (omega (arith, c .loop-test .left))

@@ -1,8 +1,5 @@
 -- `walk::is_marked` meets its contract: past the end getD gives 0, which is no mark.
 -- Assumes nothing.
-use mathlib.Core.Bool.{not}
-use mathlib.Core.Path.{ap, sym}
-use lib.Dec.{eqb}
 use lib.ListN.{List·getD-eq-default}
 use borrow.Author.Needs.{needs}
 use Rattle.walk.proofs.is_marked.Statement.{statement}

@@ -23,13 +23,19 @@ enum-told : tie.Need-enum-told
 enum-told c = search needs
 
 returns : tie.Need-returns
-returns c = nil-is (c .before .before .before .before .find .ensures) (c .before .before .before .idx .ensures) (c .before .before .kind-at .ensures) (c .enum-told .given .1) refl
+returns c =
+    let k = c .before .before in
+    nil-is (k .before .before .find .ensures) (k .before .idx .ensures) (k .kind-at .ensures) (c .enum-told .given .1) refl
 
 returns-2 : tie.Need-returns-2
-returns-2 c = nil-is (c .before .before .before .before .before .before .before .before .find .ensures) (c .before .before .before .before .before .before .before .idx .ensures) (c .before .before .before .before .before .before .kind-at .ensures) (c .before .before .before .before .kind .given .1) (rw (eq-eqb _ _ (c .before .if1 .taken)))
+returns-2 c =
+    let k = c .before .before .before .before .before .before in
+    nil-is (k .before .before .find .ensures) (k .before .idx .ensures) (k .kind-at .ensures) (c .before .before .before .before .kind .given .1) (rw (eq-eqb _ _ (c .before .if1 .taken)))
 
 returns-3 : tie.Need-returns-3
-returns-3 c = nil-is (c .before .before .before .before .before .before .before .find .ensures) (c .before .before .before .before .before .before .idx .ensures) (c .before .before .before .before .before .kind-at .ensures) (c .before .before .before .kind .given .1) (rw (ne-eqb _ _ (c .if1 .left)))
+returns-3 c =
+    let k = c .before .before .before .before .before in
+    nil-is (k .before .before .find .ensures) (k .before .idx .ensures) (k .kind-at .ensures) (c .before .before .before .kind .given .1) (rw (ne-eqb _ _ (c .if1 .left)))
 
 pub is-nil-spec : {M : Type 1} → statement M
 is-nil-spec =

@@ -1,6 +1,5 @@
 -- `walk::mod_of` meets its contract: the tests are those of modBy, and the def number is that of the chart's record.
 -- Assumes nothing.
-use mathlib.Core.Path.{ap}
 use borrow.Author.Needs.{needs}
 use borrow.Author.Tests.{eq-eqb, ne-eqb}
 use Rattle.walk.proofs.mod_of.Statement.{statement}

@@ -24,12 +24,17 @@ enum-told : tie.Need-enum-told
 enum-told c = search needs
 
 returns-2 : tie.Need-returns-2
-returns-2 c = occurs-none (c .before .before .before .before .before .before .before .before .before .pre) (c .before .before .before .before .before .before .idx .ensures) (c .before .before .before .if1 .left) (c .before .before .kind-at .ensures) (c .enum-told .given .1) refl
+returns-2 c =
+    let k = c .before .before in
+    let s = k .before .before .before .before in
+    occurs-none (s .before .before .before .pre) (s .idx .ensures) (k .before .if1 .left) (k .kind-at .ensures) (c .enum-told .given .1) refl
 
 returns-3 : tie.Need-returns-3
 returns-3 c =
-    occurs-none (c .before .before .before .before .before .before .before .before .before .before .before .before .pre) (c .before .before .before .before .before .before .before .before .before .idx .ensures) (c .before .before .before .before .before .before .if1 .left) (c .before .before .before .before .before .kind-at .ensures) (c .before .before .before .kind .given .1)
-    (kid-none (c .before .before .before .before .before .before .before .before .before .before .before .before .args .ks .now) _ 0 (omega (arith, c .if2 .taken)))
+    let k = c .before .before .before .before .before in
+    let s = k .before .before .before .before in
+    occurs-none (s .before .before .before .pre) (s .idx .ensures) (k .before .if1 .left) (k .kind-at .ensures) (c .before .before .before .kind .given .1)
+    (kid-none (s .before .before .before .args .ks .now) _ 0 (omega (arith, c .if2 .taken)))
 
 slice-aggregate-find-related : tie.Need-slice-aggregate-find-related
 slice-aggregate-find-related c = search needs
@@ -44,7 +49,11 @@ is-marked-requires : tie.Need-is-marked-requires
 is-marked-requires c κs = search needs
 
 returns-4 : tie.Need-returns-4
-returns-4 c = occurs-walk (c .before .before .before .before .before .before .before .before .before .before .before .before .before .before .before .before .before .pre) (c .before .before .before .find-related .ensures) (c .is-marked .ensures)
+returns-4 c =
+    let f = c .before .before .before in
+    let k = f .before .before .before .before .before .before .before in
+    let s = k .before .before .before .before in
+    occurs-walk (s .before .before .before .pre) (f .find-related .ensures) (c .is-marked .ensures)
 
 pub occurs-spec : {M : Type 1} → statement M
 occurs-spec =
