@@ -121,10 +121,6 @@ unify-deep x n zero ns p q h = absurd (h refl)
 unify-deep x n (suc d) ns p q h = let e : suc d - 1 ≡ d = omega arith in rw e refl
 
 module _ {x : Texts} {ws ks : List ℕ} {n : ℕ} (p q : ℕ) (pre : Pair x ws ks n (tyOf p) (tyOf q)) where
-  -- the second find's words are linked too
-  pub find-linked : {ws₁ : List ℕ} {a : ℕ} → FoundMut ws n ws₁ p a → Linked ws₁ n
-  find-linked f = f .words .linked
-
   pub climbed : (d : ℕ) {ws₁ ws₂ : List ℕ} {a b : ℕ} → (d ≡ 0 → ⊥) → FoundMut ws n ws₁ p a → FoundMut ws₁ n ws₂ q b
       → Climbed x ws ks ws₂ n d (tyOf p) (tyOf q) (tyOf a) (tyOf b)
   climbed d {ws₁} {ws₂} {a} {b} h f g = record {

@@ -2,18 +2,19 @@
 // read first, then their children are unified, then the answer is settled. The words of the nodes change as scope's `unify` says of the nodes.
 ghost use mathlib.Core.Path.{_≡_};
 ghost use Prim.Native.Nat.{_+_, _-_, _≤_};
-ghost use mathlib.Core.List.{map};
 ghost use lib.ListN.{length};
 ghost use Rattle.scope.specs.Types.{tyOf};
-ghost use Rattle.scope.specs.Unify.{runPlan, implPlan, unifyF, unifyTypes, unifyFnSig, unifyImplType};
-ghost use Rattle.scope.specs.Unify as scope;
+ghost use Rattle.scope.specs.Unify.{unifyF};
 ghost use Rattle.names.specs.Place.{texts, nameIn};
 ghost use Rattle.layout.specs.Words.{nodeWords, slotAt, decode};
 ghost use Rattle.layout.specs.Meaning.{readAt};
 ghost use Rattle.plan.specs.Meaning.{planMeans};
 ghost use Rattle.plan.specs.declared.Plan.the-variants as plans;
 ghost use Rattle.unify.specs.Asks.{Pair, Tops, Roots, Pairs};
-ghost use Rattle.unify.specs.Leaves.{does, sigPlan, implMeans, Leaves, heldIn, slotPlace, Same, Bare, Met, soughtMeans, soughtIn, Parameters, returnsMean, returnsPlan};
+ghost use Rattle.unify.specs.Leaves.{does, Leaves, heldIn, slotPlace, Same, Bare, Met, soughtMeans, soughtIn, Parameters, returnsMean, returnsPlan};
+
+pub mod lists; // whole pairs, and lent lists of types
+
 use layout::Kind;
 use layout::TypeNode;
 use layout::TypeState;
@@ -311,102 +312,4 @@ pub fn unify_objects<'a>(
         }
     }
     r
-}
-
-// A pair of types, as deep as there are nodes.
-pub fn unify_all<'a>(
-    ws: &mut [u32],
-    ks: &[u32],
-    n: u32,
-    rule: &'a [u8],
-    text: &'a [u8],
-    a: Type,
-    b: Type,
-) -> UnifyResult
-    requires { ⌜ Pair (texts (now rule) (now text)) (now ws) (now ks) n (tyOf (a .0)) (tyOf (b .0)) ⌝ }
-    ensures { λ r. ⌜ Leaves (now (ws .entry)) (now (ks .entry)) (now (ws .exit)) n
-        (scope.unify (texts (now (rule .entry)) (now (text .entry))) (decode (now (ws .entry)) (now (ks .entry)) n) (tyOf (a .0)) (tyOf (b .0))) r ⌝ }
-{
-    unify(ws, ks, n, rule, text, a, b, n)
-}
-
-// Two lent lists of types, the second's inverted if inv says so.
-pub fn unify_lists<'a>(
-    ws: &mut [u32],
-    ks: &[u32],
-    n: u32,
-    rule: &'a [u8],
-    text: &'a [u8],
-    xs: &[u32],
-    ys: &[u32],
-    inv: Inverted,
-) -> UnifyResult
-    requires { ⌜ Pairs (texts (now rule) (now text)) (now ws) (now ks) n (runPlan (inv .0) (map tyOf (now xs)) (map tyOf (now ys)) .pairs) ⌝ }
-    ensures { λ r. ⌜ Leaves (now (ws .entry)) (now (ks .entry)) (now (ws .exit)) n
-        (unifyTypes (texts (now (rule .entry)) (now (text .entry))) (decode (now (ws .entry)) (now (ks .entry)) n)
-        (map tyOf (now (xs .entry))) (map tyOf (now (ys .entry))) (inv .0)) r ⌝ }
-{
-    if xs.len() != ys.len() {
-        return UnifyResult::Failure;
-    }
-    let mut r = UnifyResult::Success;
-    let mut i: usize = 0;
-    while i < xs.len() {
-        let x = Type(xs[i]);
-        let y = Type(ys[i]).invert_if(inv);
-        i += 1;
-        r = r.and(unify(ws, ks, n, rule, text, x, y, n));
-    }
-    r
-}
-
-// Two signatures: their parameters, then their returns, whatever the parameters answered.
-pub fn unify_fn_sig<'a>(
-    ws: &mut [u32],
-    ks: &[u32],
-    n: u32,
-    rule: &'a [u8],
-    text: &'a [u8],
-    xs: &[u32],
-    a: Type,
-    ys: &[u32],
-    b: Type,
-) -> UnifyResult
-    requires { ⌜ Pairs (texts (now rule) (now text)) (now ws) (now ks) n (sigPlan (map tyOf (now xs)) (tyOf (a .0)) (map tyOf (now ys)) (tyOf (b .0)) .pairs) ⌝ }
-    ensures { λ r. ⌜ Leaves (now (ws .entry)) (now (ks .entry)) (now (ws .exit)) n
-        (unifyFnSig (texts (now (rule .entry)) (now (text .entry))) (decode (now (ws .entry)) (now (ks .entry)) n)
-        (map tyOf (now (xs .entry))) (tyOf (a .0)) (map tyOf (now (ys .entry))) (tyOf (b .0))) r ⌝ }
-{
-    let q = unify_lists(ws, ks, n, rule, text, xs, ys, Inverted(false));
-    let r = unify(ws, ks, n, rule, text, a, b, n);
-    q.and(r)
-}
-
-// Two traits over lent types, or errors.
-pub fn unify_impl_type<'a>(
-    ws: &mut [u32],
-    ks: &[u32],
-    n: u32,
-    rule: &'a [u8],
-    text: &'a [u8],
-    a: Impl,
-    xs: &[u32],
-    b: Impl,
-    ys: &[u32],
-) -> UnifyResult
-    requires { ⌜ Pairs (texts (now rule) (now text)) (now ws) (now ks) n (implPlan (implMeans a (now xs)) (implMeans b (now ys)) .pairs) ⌝ }
-    ensures { λ r. ⌜ Leaves (now (ws .entry)) (now (ks .entry)) (now (ws .exit)) n
-        (unifyImplType (texts (now (rule .entry)) (now (text .entry))) (decode (now (ws .entry)) (now (ks .entry)) n)
-        (implMeans a (now (xs .entry))) (implMeans b (now (ys .entry)))) r ⌝ }
-{
-    let Impl::Trait(i) = a else {
-        return UnifyResult::Indeterminate;
-    };
-    let Impl::Trait(j) = b else {
-        return UnifyResult::Indeterminate;
-    };
-    if i != j {
-        return UnifyResult::Failure;
-    }
-    unify_lists(ws, ks, n, rule, text, xs, ys, Inverted(false))
 }

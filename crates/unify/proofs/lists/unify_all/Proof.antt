@@ -1,11 +1,11 @@
--- `unify::unify_all` meets its contract: the node count is the depth that scope's `unify` starts with.
+-- `unify::lists::unify_all` meets its contract: the node count is the depth that scope's `unify` starts with.
 -- Assumes nothing.
 use Rattle.scope.specs.Types.{tyOf}
 use Rattle.names.specs.Place.{texts}
 use Rattle.unify.proofs.ListLaws.{whole-depth}
 use borrow.Author.Needs.{needs}
-use Rattle.unify.proofs.unify_all.Statement.{statement}
-use Rattle.unify.proofs.unify_all.Tie as tie
+use Rattle.unify.proofs.lists.unify_all.Statement.{statement}
+use Rattle.unify.proofs.lists.unify_all.Tie as tie
 
 unify-requires : tie.Need-unify-requires
 unify-requires c κs = search needs

@@ -1,10 +1,10 @@
--- `unify::unify_fn_sig` meets its contract: the parameters as two lists, then the returns as a pair.
+-- `unify::lists::unify_fn_sig` meets its contract: the parameters as two lists, then the returns as a pair.
 -- Assumes nothing.
 use Rattle.scope.specs.Types.{tyOf}
 use Rattle.unify.proofs.ListLaws.{sig-front, sig-back, sig-law}
 use borrow.Author.Needs.{needs}
-use Rattle.unify.proofs.unify_fn_sig.Statement.{statement}
-use Rattle.unify.proofs.unify_fn_sig.Tie as tie
+use Rattle.unify.proofs.lists.unify_fn_sig.Statement.{statement}
+use Rattle.unify.proofs.lists.unify_fn_sig.Tie as tie
 
 unify-lists-requires : tie.Need-unify-lists-requires
 unify-lists-requires c κs = sig-front (c .before .before .before .before .before .before .before .args .xs .now) (c .before .before .before .before .before .before .before .args .ys .now) (tyOf (c .before .before .before .before .before .before .before .args .a .0)) (tyOf (c .before .before .before .before .before .before .before .args .b .0)) (c .before .before .before .before .before .before .before .pre)

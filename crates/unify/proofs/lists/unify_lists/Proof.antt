@@ -1,4 +1,4 @@
--- `unify::unify_lists` meets its contract. The invariant: the pairs from i on give what all give. The measure is what is left of the first list.
+-- `unify::lists::unify_lists` meets its contract. The invariant: the pairs from i on give what all give. The measure is what is left of the first list.
 -- Assumes nothing.
 use mathlib.Core.Path.{_≡_, refl, _∙_}
 use mathlib.Core.List.{map}
@@ -12,8 +12,8 @@ use Rattle.layout.specs.Words.{decode}
 use Rattle.unify.proofs.RunLaws.{Going}
 use Rattle.unify.proofs.ListLaws.{listRest, lists-differ, lists-start, entry-pair, entry-next, lists-end}
 use borrow.Author.Needs.{needs}
-use Rattle.unify.proofs.unify_lists.Statement.{statement}
-use Rattle.unify.proofs.unify_lists.Tie as tie
+use Rattle.unify.proofs.lists.unify_lists.Statement.{statement}
+use Rattle.unify.proofs.lists.unify_lists.Tie as tie
 
 abbrev Inv-loop : tie.InvT-loop
 Inv-loop ws₀ ks n rule text xs ys inv r₀ i₀ ws r i =

@@ -1,10 +1,10 @@
--- `unify::unify_impl_type` meets its contract: an error answers Indeterminate, different traits Failure, and the same trait unifies its types as two lists.
+-- `unify::lists::unify_impl_type` meets its contract: an error answers Indeterminate, different traits Failure, and the same trait unifies its types as two lists.
 -- Assumes nothing.
 use Rattle.names.specs.Place.{texts}
 use Rattle.unify.proofs.ListLaws.{impl-error, impl-against, impl-other, impl-pairs, impl-lists}
 use borrow.Author.Needs.{needs}
-use Rattle.unify.proofs.unify_impl_type.Statement.{statement}
-use Rattle.unify.proofs.unify_impl_type.Tie as tie
+use Rattle.unify.proofs.lists.unify_impl_type.Statement.{statement}
+use Rattle.unify.proofs.lists.unify_impl_type.Tie as tie
 
 enum-known-a : tie.Need-enum-known-a
 enum-known-a c = search needs

@@ -1,0 +1,112 @@
+// What other callers unify: a pair as deep as there are nodes, and lent lists of types. Each is what scope's definition of the same name is.
+ghost use mathlib.Core.List.{map};
+ghost use Rattle.scope.specs.Types.{tyOf};
+ghost use Rattle.scope.specs.Unify.{runPlan, implPlan, unifyTypes, unifyFnSig, unifyImplType};
+ghost use Rattle.scope.specs.Unify as scope;
+ghost use Rattle.names.specs.Place.{texts};
+ghost use Rattle.layout.specs.Words.{decode};
+ghost use Rattle.unify.specs.Asks.{Pair, Pairs};
+ghost use Rattle.unify.specs.Leaves.{sigPlan, implMeans, Leaves};
+use super::Impl;
+use super::unify;
+use types::Inverted;
+use types::Type;
+use types::UnifyResult;
+
+// A pair of types, as deep as there are nodes.
+pub fn unify_all<'a>(
+    ws: &mut [u32],
+    ks: &[u32],
+    n: u32,
+    rule: &'a [u8],
+    text: &'a [u8],
+    a: Type,
+    b: Type,
+) -> UnifyResult
+    requires { ⌜ Pair (texts (now rule) (now text)) (now ws) (now ks) n (tyOf (a .0)) (tyOf (b .0)) ⌝ }
+    ensures { λ r. ⌜ Leaves (now (ws .entry)) (now (ks .entry)) (now (ws .exit)) n
+        (scope.unify (texts (now (rule .entry)) (now (text .entry))) (decode (now (ws .entry)) (now (ks .entry)) n) (tyOf (a .0)) (tyOf (b .0))) r ⌝ }
+{
+    unify(ws, ks, n, rule, text, a, b, n)
+}
+
+// Two lent lists of types, the second's inverted if inv says so.
+pub fn unify_lists<'a>(
+    ws: &mut [u32],
+    ks: &[u32],
+    n: u32,
+    rule: &'a [u8],
+    text: &'a [u8],
+    xs: &[u32],
+    ys: &[u32],
+    inv: Inverted,
+) -> UnifyResult
+    requires { ⌜ Pairs (texts (now rule) (now text)) (now ws) (now ks) n (runPlan (inv .0) (map tyOf (now xs)) (map tyOf (now ys)) .pairs) ⌝ }
+    ensures { λ r. ⌜ Leaves (now (ws .entry)) (now (ks .entry)) (now (ws .exit)) n
+        (unifyTypes (texts (now (rule .entry)) (now (text .entry))) (decode (now (ws .entry)) (now (ks .entry)) n)
+        (map tyOf (now (xs .entry))) (map tyOf (now (ys .entry))) (inv .0)) r ⌝ }
+{
+    if xs.len() != ys.len() {
+        return UnifyResult::Failure;
+    }
+    let mut r = UnifyResult::Success;
+    let mut i: usize = 0;
+    while i < xs.len() {
+        let x = Type(xs[i]);
+        let y = Type(ys[i]).invert_if(inv);
+        i += 1;
+        r = r.and(unify(ws, ks, n, rule, text, x, y, n));
+    }
+    r
+}
+
+// Two signatures: their parameters, then their returns, whatever the parameters answered.
+pub fn unify_fn_sig<'a>(
+    ws: &mut [u32],
+    ks: &[u32],
+    n: u32,
+    rule: &'a [u8],
+    text: &'a [u8],
+    xs: &[u32],
+    a: Type,
+    ys: &[u32],
+    b: Type,
+) -> UnifyResult
+    requires { ⌜ Pairs (texts (now rule) (now text)) (now ws) (now ks) n (sigPlan (map tyOf (now xs)) (tyOf (a .0)) (map tyOf (now ys)) (tyOf (b .0)) .pairs) ⌝ }
+    ensures { λ r. ⌜ Leaves (now (ws .entry)) (now (ks .entry)) (now (ws .exit)) n
+        (unifyFnSig (texts (now (rule .entry)) (now (text .entry))) (decode (now (ws .entry)) (now (ks .entry)) n)
+        (map tyOf (now (xs .entry))) (tyOf (a .0)) (map tyOf (now (ys .entry))) (tyOf (b .0))) r ⌝ }
+{
+    let q = unify_lists(ws, ks, n, rule, text, xs, ys, Inverted(false));
+    let r = unify(ws, ks, n, rule, text, a, b, n);
+    q.and(r)
+}
+
+// Two traits over lent types, or errors.
+pub fn unify_impl_type<'a>(
+    ws: &mut [u32],
+    ks: &[u32],
+    n: u32,
+    rule: &'a [u8],
+    text: &'a [u8],
+    a: Impl,
+    xs: &[u32],
+    b: Impl,
+    ys: &[u32],
+) -> UnifyResult
+    requires { ⌜ Pairs (texts (now rule) (now text)) (now ws) (now ks) n (implPlan (implMeans a (now xs)) (implMeans b (now ys)) .pairs) ⌝ }
+    ensures { λ r. ⌜ Leaves (now (ws .entry)) (now (ks .entry)) (now (ws .exit)) n
+        (unifyImplType (texts (now (rule .entry)) (now (text .entry))) (decode (now (ws .entry)) (now (ks .entry)) n)
+        (implMeans a (now (xs .entry))) (implMeans b (now (ys .entry)))) r ⌝ }
+{
+    let Impl::Trait(i) = a else {
+        return UnifyResult::Indeterminate;
+    };
+    let Impl::Trait(j) = b else {
+        return UnifyResult::Indeterminate;
+    };
+    if i != j {
+        return UnifyResult::Failure;
+    }
+    unify_lists(ws, ks, n, rule, text, xs, ys, Inverted(false))
+}
