@@ -3,27 +3,26 @@
 -- Assumes nothing.
 use mathlib.Core.Path.{_≡_, refl, ap, sym, _∙_, subst}
 use mathlib.Core.Bool.{Bool, true, false, _&&_}
-use mathlib.Core.Option.{Option, none, some}
+use mathlib.Core.Option.{none, some}
 use mathlib.Core.List.{List, [], _∷_}
-use Prim.Native.Nat.{ℕ, _+_, _*_, _/_, _-_, _<_, _≤_}
+use Prim.Native.Nat.{ℕ, zero, suc, _+_, _*_, _/_, _-_, _<_, _≤_}
 use native.Mathlib.Omega.{arith}
 use lib.Dec.{eqb, leb, leb·zero}
 use lib.ListN.{length, getD, take, drop, length-drop, List·getD-eq-default}
-use lib.Seq.{getD-take, getD-drop, take-all}
-use borrow.Author.Tests.{eqb-true}
+use lib.Seq.{getD-take, getD-drop, take-all, ext-getD}
+use borrow.Author.Tests.{eqb-true, eqb-false, leb-true}
 use Rattle.scope.specs.Base.{pick, isSome, orElse}
 use Rattle.scope.specs.Limits.{NONE}
 use Rattle.scope.specs.Types.{tyOf}
 use Rattle.scope.specs.Nodes as nodes
-use Rattle.scope.specs.Sound.{nodeIn, kindBare, namesClean, kindIn}
+use Rattle.scope.specs.Sound.{zeros, nodeIn, kindBare, namesClean, kindIn}
 use Rattle.layout.specs.Words.{nodeField, slotAt, cellAt, nodeAt, nodeClean}
-use Rattle.layout.specs.Meaning.{flagOf, cellBy, cellIn, wordsOf, kindOf, nodeOf, cellOf, cellWords, cellMeans, kindCell, kindMeans, nodeMeans, kindFits, nodeFits, slotIn, slotMeans}
+use Rattle.layout.specs.Meaning.{flagWord, cellBy, cellIn, wordsOf, nodeOf, plainCell, cellOf, cellWords, cellMeans, kindCell, kindMeans, nodeMeans, kindFits, nodeFits, slotIn, slotMeans}
 use Rattle.layout.specs.declared.Cell.{Cell}
-use Rattle.layout.specs.declared.TypeState.{TypeState}
 use Rattle.layout.specs.declared.TypeState.the-variants.{Known, Unknown, InferenceFailed}
 use Rattle.layout.specs.declared.TypeNode.{TypeNode}
 use Rattle.layout.specs.declared.TypeNode.the-variants.{Root, Child}
-use Rattle.layout.proofs.Lists.{and-both, and-left, and-right}
+use Rattle.layout.proofs.Lists.{and-both, and-left, and-right, length-from, get-from}
 
 -- children: a part's words, and zeros past the end
 
@@ -39,6 +38,13 @@ pub slot-part : (ks : List ℕ) (i : ℕ) → slotMeans (slotIn (take (length ks
 slot-part ks i =
     rw (take-all (length ks - i * 4) (drop (i * 4) ks) (simp length-drop (omega arith)))
     (rw (getD-drop (i * 4) ks 0 0, getD-drop (i * 4) ks 1 0, getD-drop (i * 4) ks 2 0, getD-drop (i * 4) ks 3 0))
+
+-- where node i's part starts, and how long it is
+pub cell-start : (i : ℕ) → (i + 1) * 12 - 12 ≡ i * 12
+cell-start i = omega arith
+
+pub cell-length : (i : ℕ) → (i + 1) * 12 - ((i + 1) * 12 - 12) ≡ 12
+cell-length i = omega arith
 
 -- field k of node i is word k of its part
 pub field-word : (ws : List ℕ) (i k : ℕ) → k < 12 → getD (cellWords ws i) k 0 ≡ nodeField ws i k
@@ -60,6 +66,11 @@ cell-ext f g h = rw (
   h 10 (omega arith),
   h 11 (omega arith),
 )
+
+-- twelve words are those of their cell
+pub words-back : (s : List ℕ) → length s ≡ 12 → wordsOf (cellIn s) ≡ s
+words-back s e =
+    ext-getD 0 (wordsOf (cellIn s)) s (sym e) (λ k h. get-from (λ (j : ℕ). getD s j 0) 0 12 k 0 h ∙ ap (λ (j : ℕ). getD s j 0) (omega arith))
 
 cell-fields : (ws : List ℕ) (i : ℕ) → cellIn (cellWords ws i) ≡ cellBy (nodeField ws i)
 cell-fields ws i = cell-ext (λ k. getD (cellWords ws i) k 0) (nodeField ws i) (field-word ws i)
@@ -90,6 +101,7 @@ cell-words ws ks i = sym (ap (cellMeans ks) (cell-fields ws i))
 pub record Says (ks : List ℕ) (c : ℕ) (x : Cell) : Type 0 where
   pub node : nodeIn (cellMeans ks x) ≡ some (nodeMeans ks (nodeOf x))
   pub fits : nodeFits ks c (nodeOf x) ≡ true
+  pub back : cellOf (nodeOf x) ≡ x
 
 -- the same cell with a tag that is known
 abbrev pub retag : ℕ → Cell → Cell
@@ -116,6 +128,48 @@ some-true : (b : Bool) (v : nodes.Node) → isSome (pick b (some v) none) ≡ tr
 some-true true v e = refl
 some-true false v e = e
 
+-- flags, and zeros
+
+flag-back : (b : Bool) → eqb (flagWord b) 1 ≡ b
+flag-back true = refl
+flag-back false = refl
+
+flag-small : (b : Bool) → leb (flagWord b) 1 ≡ true
+flag-small true = refl
+flag-small false = refl
+
+flag-by : (b : Bool) (w : ℕ) → eqb w 1 ≡ b → w ≤ 1 → flagWord b ≡ w
+flag-by true w q h = sym (eqb-true w 1 q)
+flag-by false w q h = let z : w ≡ 1 → ⊥ = eqb-false w 1 q in omega arith
+
+flag-word : (w : ℕ) → leb w 1 ≡ true → flagWord (eqb w 1) ≡ w
+flag-word w h = flag-by (eqb w 1) w refl (leb-true w 1 h)
+
+zeros-get : (l : List ℕ) → zeros l ≡ true → (k : ℕ) → getD l k 0 ≡ 0
+zeros-get [] e k = refl
+zeros-get (x ∷ l) e zero = eqb-true x 0 (and-left (eqb x 0) (zeros l) e)
+zeros-get (x ∷ l) e (suc k) = zeros-get l (and-right (eqb x 0) (zeros l) e) k
+
+-- a cell without a kind has zeros for one
+module _ (ks : List ℕ) (t : ℕ) (x : Cell) where
+  abbrev fieldsOf : List ℕ
+  fieldsOf = x .inv ∷ x .code ∷ x .number ∷ x .dual ∷ x .flex ∷ []
+
+  abbrev nameOf : List ℕ
+  nameOf = x .text ∷ x .start ∷ x .len ∷ []
+
+  abbrev noKids : Bool
+  noKids = eqb (length (cellMeans ks (retag t x) .kids)) 0
+
+  bare-cell : kindBare (cellMeans ks (retag t x)) ≡ true → plainCell t (x .link) (x .size) ≡ retag t x
+  bare-cell h =
+      let p : (zeros nameOf && noKids) ≡ true = and-right (zeros fieldsOf) (zeros nameOf && noKids) h in
+      let f = zeros-get fieldsOf (and-left (zeros fieldsOf) (zeros nameOf && noKids) h) in
+      let g = zeros-get nameOf (and-left (zeros nameOf) noKids p) in
+      let n : x .count ≡ 0 =
+      sym (length-from (slotAt ks) (cellFirst (retag t x)) (x .count)) ∙ eqb-true (length (cellMeans ks (retag t x) .kids)) 0 (and-right (zeros nameOf) noKids p) in
+      rw (f 0, f 1, f 2, f 3, f 4, g 0, g 1, g 2, n)
+
 module _ (ks : List ℕ) (c : ℕ) (x : Cell) where
   -- the two halves of cellClean
   abbrev roomy : Cell → Type 0
@@ -126,24 +180,35 @@ module _ (ks : List ℕ) (c : ℕ) (x : Cell) where
 
   says-child : roomy (retag 0 x) → read (retag 0 x) → Says ks c (retag 0 x)
   unfolding nodeIn nodeOf
-  says-child r h = record {
-    node = some-by (eqb (x .size) 0 && kindBare (cellMeans ks (retag 0 x))) (nodes.Child (tyOf (x .link))) h;
-    fits = refl;
-  }
+  says-child r h =
+      let b : Bool = kindBare (cellMeans ks (retag 0 x)) in
+      let v : nodes.Node = nodes.Child (tyOf (x .link)) in
+      let t : (eqb (x .size) 0 && b) ≡ true = some-true (eqb (x .size) 0 && b) v h in
+      record {
+        node = some-by (eqb (x .size) 0 && b) v h;
+        fits = refl;
+        back = ap (plainCell 0 (x .link)) (sym (eqb-true (x .size) 0 (and-left (eqb (x .size) 0) b t))) ∙ bare-cell ks 0 x (and-right (eqb (x .size) 0) b t);
+      }
 
   says-unknown : roomy (retag 1 x) → read (retag 1 x) → Says ks c (retag 1 x)
   unfolding nodeIn nodeOf
-  says-unknown r h = record {
-    node = some-by (kindBare (cellMeans ks (retag 1 x))) (nodes.Root (nodes.Unknown (x .link)) (x .size)) h;
-    fits = refl;
-  }
+  says-unknown r h =
+      let b : Bool = kindBare (cellMeans ks (retag 1 x)) in
+      let v : nodes.Node = nodes.Root (nodes.Unknown (x .link)) (x .size) in
+      record { node = some-by b v h; fits = refl; back = bare-cell ks 1 x (some-true b v h) }
 
   says-failed : roomy (retag 2 x) → read (retag 2 x) → Says ks c (retag 2 x)
   unfolding nodeIn nodeOf
-  says-failed r h = record {
-    node = some-by (eqb (x .link) 0 && kindBare (cellMeans ks (retag 2 x))) (nodes.Root nodes.InferenceFailed (x .size)) h;
-    fits = refl;
-  }
+  says-failed r h =
+      let b : Bool = kindBare (cellMeans ks (retag 2 x)) in
+      let v : nodes.Node = nodes.Root nodes.InferenceFailed (x .size) in
+      let t : (eqb (x .link) 0 && b) ≡ true = some-true (eqb (x .link) 0 && b) v h in
+      record {
+        node = some-by (eqb (x .link) 0 && b) v h;
+        fits = refl;
+        back = ap (λ (l : ℕ). plainCell 2 l (x .size)) (sym (eqb-true (x .link) 0 (and-left (eqb (x .link) 0) b t)))
+            ∙ bare-cell ks 2 x (and-right (eqb (x .link) 0) b t);
+      }
 
   abbrev namesOk : Bool
   namesOk = namesClean (cellMeans ks (retag 3 x))
@@ -156,11 +221,15 @@ module _ (ks : List ℕ) (c : ℕ) (x : Cell) where
 
   says-known : roomy (retag 3 x) → read (retag 3 x) → Says ks c (retag 3 x)
   unfolding nodeIn nodeOf kindMeans kindFits
-  says-known r h = record {
-    node = some-by knownOk knownNode h;
-    fits = and-both (leb (x .link + x .count) c) namesOk r
-        (and-right (leb (x .dual) 1) namesOk (and-right (leb (x .inv) 1) (leb (x .dual) 1 && namesOk) (some-true knownOk knownNode h)));
-  }
+  says-known r h =
+      let o : knownOk ≡ true = some-true knownOk knownNode h in
+      let i : leb (x .inv) 1 ≡ true = and-left (leb (x .inv) 1) (leb (x .dual) 1 && namesOk) o in
+      let p : (leb (x .dual) 1 && namesOk) ≡ true = and-right (leb (x .inv) 1) (leb (x .dual) 1 && namesOk) o in
+      record {
+        node = some-by knownOk knownNode h;
+        fits = and-both (leb (x .link + x .count) c) namesOk r (and-right (leb (x .dual) 1) namesOk p);
+        back = rw (flag-word (x .inv) i, flag-word (x .dual) (and-left (leb (x .dual) 1) namesOk p));
+      }
 
   says-tag : (t : ℕ) → eqb (x .tag) t ≡ true → (roomy (retag t x) → read (retag t x) → Says ks c (retag t x)) → roomy x → read x → Says ks c x
   says-tag t q =
@@ -186,14 +255,6 @@ module _ (ks : List ℕ) (c : ℕ) (x : Cell) where
       says-by (eqb (x .tag) 0) (eqb (x .tag) 1) (eqb (x .tag) 2) (eqb (x .tag) 3) refl refl refl refl (and-left a b h) (and-right a b h)
 
 -- a node that fits is said by its own cell
-
-flag-back : (b : Bool) → eqb (flagOf b) 1 ≡ b
-flag-back true = refl
-flag-back false = refl
-
-flag-small : (b : Bool) → leb (flagOf b) 1 ≡ true
-flag-small true = refl
-flag-small false = refl
 
 pub cell-says : (ks : List ℕ) (c : ℕ) (v : TypeNode) → nodeFits ks c v ≡ true → nodeIn (cellMeans ks (cellOf v)) ≡ some (nodeMeans ks v)
 unfolding nodeIn kindMeans kindFits

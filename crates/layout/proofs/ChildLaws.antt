@@ -2,25 +2,24 @@
 -- A node's children lie among those made, so words that agree on these give the same cells.
 -- Assumes nothing.
 use mathlib.Core.Path.{_≡_, refl, ap, sym, _∙_}
-use mathlib.Core.Bool.{Bool, true, false, _&&_}
-use mathlib.Core.List.{List, [], _∷_, _++_, map}
-use Prim.Native.Nat.{ℕ, suc, _+_, _*_, _<_, _≤_}
+use mathlib.Core.Bool.{true}
+use mathlib.Core.List.{List, [], _∷_, _++_}
+use Prim.Native.Nat.{ℕ, _+_, _*_, _<_, _≤_}
 use native.Mathlib.Omega.{arith}
 use native.Mathlib.Numerals.{add-one}
 use lib.Dec.{leb}
-use lib.ListN.{length, getD, take, drop, length-map, List·getD-map}
+use lib.ListN.{length, getD, drop, length-map, List·getD-map}
 use lib.Seq.{getD-take, getD-drop}
 use borrow.Author.Tests.{leb-true, le-leb}
 use borrow.Rule.Slice.PartMut.{midOf}
-use Rattle.scope.specs.Base.{from, isSome, orElse}
-use Rattle.scope.specs.Types.{Ty, tyOf}
+use Rattle.scope.specs.Base.{isSome}
+use Rattle.scope.specs.Types.{tyOf}
 use Rattle.scope.specs.Nodes as nodes
 use Rattle.scope.specs.Sound as sound
 use Rattle.layout.specs.Words.{childWords, slotAt, slots, firstAt, countAt, cellAt, nodeAt, nodeClean, decode}
 use Rattle.layout.specs.Meaning.{slotIn, slotWords, slotMeans, putSlot, kindCell, kindMeans, nodeMeans, kindFits, nodeFits, Clean, Kept}
 use Rattle.layout.specs.declared.Slot.{Slot}
 use Rattle.layout.specs.declared.Kind.{Kind}
-use Rattle.layout.specs.declared.TypeState.{TypeState}
 use Rattle.layout.specs.declared.TypeState.the-variants.{Known, Unknown, InferenceFailed}
 use Rattle.layout.specs.declared.TypeNode.{TypeNode}
 use Rattle.layout.specs.declared.TypeNode.the-variants.{Root, Child}
@@ -93,24 +92,25 @@ kept-trans a b = record { same = λ j g. b .same j g ∙ a .same j g }
 pub kept-less : {b c : ℕ} {ks ks′ : List ℕ} → b ≤ c → Kept c ks ks′ → Kept b ks ks′
 kept-less h a = record { same = λ j g. a .same j (omega arith) }
 
+-- a kind that fits has its children among those made
+pub kind-room : (ks : List ℕ) (c : ℕ) (k : Kind) → kindFits ks c k ≡ true → k .first + k .count ≤ c
+unfolding kindFits
+kind-room ks c k h = leb-true (k .first + k .count) c (and-left (leb (k .first + k .count) c) (sound.namesClean (kindCell ks k)) h)
+
 -- words that agree on the children made give the same cells, nodes and kinds
 
 module _ (c : ℕ) (ks ks′ : List ℕ) (kept : Kept c ks ks′) where
   slots-kept : (i n : ℕ) → i + n ≤ c → slots ks′ i n ≡ slots ks i n
   slots-kept i n h = same-from (slotAt ks′) (slotAt ks) i n (λ j a b. kept .same j (omega arith))
 
-  fits-room : (k : Kind) → kindFits ks c k ≡ true → k .first + k .count ≤ c
-  unfolding kindFits
-  fits-room k h = leb-true (k .first + k .count) c (and-left (leb (k .first + k .count) c) (sound.namesClean (kindCell ks k)) h)
-
   pub kind-kept : (k : Kind) → kindFits ks c k ≡ true → kindMeans ks′ k ≡ kindMeans ks k
   unfolding kindMeans
-  kind-kept k h = rw (slots-kept (k .first) (k .count) (fits-room k h))
+  kind-kept k h = rw (slots-kept (k .first) (k .count) (kind-room ks c k h))
 
   pub kind-fits-kept : (c′ : ℕ) (k : Kind) → c ≤ c′ → kindFits ks c k ≡ true → kindFits ks′ c′ k ≡ true
   unfolding kindFits
   kind-fits-kept c′ k g h =
-      let r : k .first + k .count ≤ c = fits-room k h in
+      let r : k .first + k .count ≤ c = kind-room ks c k h in
       and-both (leb (k .first + k .count) c′) (sound.namesClean (kindCell ks′ k)) (le-leb (k .first + k .count) c′ (omega arith))
       (rw (slots-kept (k .first) (k .count) r) (and-right (leb (k .first + k .count) c) (sound.namesClean (kindCell ks k)) h))
 

@@ -4,21 +4,23 @@
 use mathlib.Core.Path.{_≡_, refl, ap, sym, _∙_}
 use mathlib.Core.Bool.{Bool, true, false}
 use mathlib.Core.List.{List, [], _∷_, _++_}
-use Prim.Native.Nat.{ℕ, suc, _+_, _*_, _<_, _≤_}
+use Prim.Native.Nat.{ℕ, _+_, _*_, _<_, _≤_}
 use native.Mathlib.Omega.{arith}
 use native.Mathlib.Numerals.{add-one}
 use lib.Dec.{eqb, ltb}
-use lib.ListN.{length, getD, drop, set, length-set, List·getD-eq-default}
-use lib.Seq.{getD-set-same, getD-set-other, set-out, ext-getD}
+use lib.ListN.{length, drop, set, length-set, length-drop, List·getD-eq-default}
+use lib.Seq.{getD-set-same, getD-set-other, ext-getD, length-take-le}
+use borrow.Rule.Slice.PartMut.{put-same}
 use borrow.Author.Tests.{lt-ltb, le-ltb, ltb-true, ltb-false, eqb-true, eqb-false}
-use Rattle.scope.specs.Base.{pick, orElse}
+use Rattle.scope.specs.Base.{orElse}
 use Rattle.scope.specs.Limits.{NONE}
 use Rattle.scope.specs.Nodes as nodes
 use Rattle.layout.specs.Words.{nodeWords, nodeAt, nodeClean, decode}
-use Rattle.layout.specs.Meaning.{cellIn, wordsOf, nodeOf, cellOf, cellWords, readAt, putAt, nodeMeans, nodeFits, Clean}
+use Rattle.layout.specs.Meaning.{cellIn, wordsOf, cellOf, cellWords, pasteAt, readAt, putAt, nodeMeans, nodeFits, Clean}
+use Rattle.layout.specs.declared.Cell.{Cell}
 use Rattle.layout.specs.declared.TypeNode.{TypeNode}
 use Rattle.layout.proofs.Lists.{part-here, part-other, drop-past, length-part, length-from, get-from, map-snoc, same-from}
-use Rattle.layout.proofs.Cells.{cellNode, cellClean, node-words, clean-words, says, cell-says, cell-clean}
+use Rattle.layout.proofs.Cells.{cellNode, cellClean, words-back, node-words, clean-words, says, cell-says, cell-clean}
 
 -- what stands past the last node
 abbrev pub past : nodes.Node
@@ -160,6 +162,27 @@ module _ (ws ks : List ℕ) (c n : ℕ) (cl : Clean ws ks c n) where
 
   pub read-fits : (i : ℕ) → nodeFits ks c (readAt ws n i) ≡ true
   read-fits i = fits-by (ltb i n) i refl
+
+  -- the same of a node that was read
+  pub read-is : {v : TypeNode} (i : ℕ) → v ≡ readAt ws n i → nodes.at (decode ws ks n) i ≡ nodeMeans ks v
+  read-is i e = sym (read-node i) ∙ ap (nodeMeans ks) (sym e)
+
+  pub read-is-fit : {v : TypeNode} (i : ℕ) → v ≡ readAt ws n i → nodeFits ks c v ≡ true
+  read-is-fit i e = ap (nodeFits ks c) e ∙ read-fits i
+
+  -- what the code reads, put back, changes nothing
+  back-by : (t : Bool) (i : ℕ) → ltb i n ≡ t → putAt ws n i (readAt ws n i) ≡ ws
+  unfolding putAt readAt
+  back-by true i t =
+      let h : i < n = ltb-true i n t in
+      let r : nodeWords n ≤ length ws = cl .room in
+      let k : length (cellWords ws i) ≡ 12 = length-take-le 12 (drop (i * 12) ws) (simp length-drop (omega arith)) in
+      let s = says ks c (cellIn (cellWords ws i)) (sym (clean-words ws ks c i) ∙ cl .each i h) in
+      rw t (ap (λ (x : Cell). pasteAt ws i (wordsOf x)) (s .back) ∙ (ap (pasteAt ws i) (words-back (cellWords ws i) k) ∙ put-same (i * 12) 12 ws))
+  back-by false i t = rw t refl
+
+  pub put-read : (i : ℕ) → putAt ws n i (readAt ws n i) ≡ ws
+  put-read i = back-by (ltb i n) i refl
 
 -- push: a put past the last appends
 module _ (ws : List ℕ) (n : ℕ) (room : nodeWords (n + 1) ≤ length ws) (v : TypeNode) (ks : List ℕ) (c : ℕ) (fits : nodeFits ks c v ≡ true) where

@@ -3,4 +3,6 @@ pub mod Lists
 pub mod Cells
 pub mod Laws
 pub mod ChildLaws
+pub mod KindLaws
 pub mod LinkLaws
+pub mod StoreLaws

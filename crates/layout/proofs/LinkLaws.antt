@@ -1,29 +1,31 @@
 -- Which nodes are children, and of which parents, is said by the node words alone: a child's cell has no children, and any other cell is a root's
 -- whatever its children are. So what the code reads is a child exactly where the store has that child.
 -- Assumes nothing.
-use mathlib.Core.Path.{_≡_, refl, ap, sym, _∙_, subst, subst⁻¹}
+use mathlib.Core.Path.{_≡_, refl, ap, sym, _∙_, subst⁻¹}
 use mathlib.Core.Bool.{Bool, true, false, _&&_}
 use mathlib.Core.Option.{Option, none, some}
-use mathlib.Core.List.{List, [], _∷_, map, map-map}
+use mathlib.Core.List.{List, [], map, map-map}
 use Prim.Native.Nat.{ℕ, _+_, _*_, _<_, _≤_}
 use native.Mathlib.Omega.{arith}
 use lib.Dec.{eqb, ltb, leb}
-use lib.ListN.{length, getD, List·getD-map}
-use borrow.Author.Tests.{eqb-true, eq-eqb, eqb-false, ltb-true, ltb-false, le-leb}
+use lib.ListN.{length, getD, drop, set, length-drop, List·getD-map}
+use lib.Seq.{length-take-le}
+use borrow.Author.Tests.{eqb-true, eqb-false, ltb-true, ltb-false, lt-ltb, le-leb}
 use Rattle.scope.specs.Base.{pick, from, isSome, orElse}
 use Rattle.scope.specs.Types.{Ty, tyOf}
 use Rattle.scope.specs.Nodes as nodes
 use Rattle.scope.specs.Sound.{nodeIn, kindBare, namesClean, kindIn}
 use Rattle.types.specs.declared.«Type».{«Type»}
-use Rattle.layout.specs.Words.{nodeWords, nodeField, slotAt, firstAt, countAt, cellAt, nodeAt, nodeClean, decode}
-use Rattle.layout.specs.Meaning.{cellIn, cellOf, nodeOf, cellWords, cellMeans, readAt, putAt, nodeMeans, parentOf, Clean, Linked}
+use borrow.Rule.Slice.PartMut.{set-mid-at}
+use Rattle.layout.specs.Words.{NODE-WORDS, nodeWords, nodeField, slotAt, firstAt, countAt, cellAt, nodeAt, nodeClean, decode}
+use Rattle.layout.specs.Meaning.{CHILD-TAG, cellIn, wordsOf, cellOf, pasteAt, nodeOf, cellWords, cellMeans, readAt, putAt, nodeMeans, parentOf, Clean, Linked}
 use Rattle.layout.specs.declared.Cell.{Cell}
 use Rattle.layout.specs.declared.TypeState.{TypeState}
 use Rattle.layout.specs.declared.TypeState.the-variants.{Known, Unknown, InferenceFailed}
 use Rattle.layout.specs.declared.TypeNode.{TypeNode}
 use Rattle.layout.specs.declared.TypeNode.the-variants.{Root, Child}
 use Rattle.layout.proofs.Lists.{and-both, and-right, length-from, same-from}
-use Rattle.layout.proofs.Cells.{retag, cellNode, cellFirst, field-word, node-words, clean-words, cell-words, says}
+use Rattle.layout.proofs.Cells.{retag, cellNode, cellFirst, Says, field-word, words-back, node-words, cell-words, says}
 use Rattle.layout.proofs.Laws.{past, decode-get, decode-past, words-here, words-there, length-put}
 
 -- a child's cell says the same whatever the children's words are
@@ -97,20 +99,42 @@ module _ (ws : List ℕ) (n : ℕ) (i : ℕ) where
   unfolding readAt
   child-cell t e = rw (in-by (ltb i n) t refl e) at e
 
+  pub child-field : (t : «Type») → readAt ws n i ≡ Child t → nodeField ws i 0 ≡ CHILD-TAG
+  child-field t e = sym (field-word ws i 0 (omega arith)) ∙ child-tag here t (child-cell t e)
+
   module _ (l : Linked ws n) (t : «Type») (e : readAt ws n i ≡ Child t) where
     bare-some : (ks : List ℕ) → isSome (nodeIn (cellMeans ks here)) ≡ true
     bare-some ks =
         let z : here .tag ≡ 0 = child-tag here t (child-cell t e) in
-        let w : nodeField ws i 0 ≡ 0 = sym (field-word ws i 0 (omega arith)) ∙ z in
-        ap isSome (bare-kids ks [] here z ∙ ap nodeIn (sym (cell-words ws [] i))) ∙ l .bare i (child-below t e) w
+        ap isSome (bare-kids ks [] here z ∙ ap nodeIn (sym (cell-words ws [] i))) ∙ l .bare i (child-below t e) (child-field t e)
+
+    bare-says : (ks : List ℕ) → Says ks (cellFirst here + here .count) here
+    bare-says ks =
+        let c : ℕ = cellFirst here + here .count in
+        says ks c here (and-both (leb c c) (isSome (nodeIn (cellMeans ks here))) (le-leb c c (omega arith)) (bare-some ks))
 
     -- the store has the child that the code reads, whatever the children's words are
     pub read-child : (ks : List ℕ) → nodes.at (decode ws ks n) i ≡ nodes.Child (tyOf (t .0))
     read-child ks =
-        let z : here .tag ≡ 0 = child-tag here t (child-cell t e) in
-        let c : ℕ = cellFirst here + here .count in
-        let s = says ks c here (and-both (leb c c) (isSome (nodeIn (cellMeans ks here))) (le-leb c c (omega arith)) (bare-some ks)) in
-        decode-get ws ks n i (child-below t e) ∙ (node-words ws ks i ∙ (ap (λ o. orElse o past) (s .node) ∙ ap (nodeMeans ks) (child-cell t e)))
+        decode-get ws ks n i (child-below t e)
+        ∙ (node-words ws ks i ∙ (ap (λ o. orElse o past) (bare-says ks .node) ∙ ap (nodeMeans ks) (child-cell t e)))
+
+    child-words : cellWords ws i ≡ wordsOf (cellOf (Child t))
+    child-words =
+        let h : i < n = child-below t e in
+        let r : nodeWords n ≤ length ws = l .room in
+        let k : length (cellWords ws i) ≡ 12 = length-take-le 12 (drop (i * 12) ws) (simp length-drop (omega arith)) in
+        sym (words-back (cellWords ws i) k) ∙ ap wordsOf (sym (bare-says [] .back) ∙ ap cellOf (child-cell t e))
+
+    -- another parent for a child changes one word
+    pub link-put : (u : «Type») → putAt ws n i (Child u) ≡ set ws (i * NODE-WORDS + 1) (u .0)
+    unfolding putAt
+    link-put u =
+        let h : i < n = child-below t e in
+        let r : nodeWords n ≤ length ws = l .room in
+        let k : length (cellWords ws i) ≡ 12 = length-take-le 12 (drop (i * 12) ws) (simp length-drop (omega arith)) in
+        let w : wordsOf (cellOf (Child u)) ≡ set (cellWords ws i) 1 (u .0) = ap (λ (s : List ℕ). set s 1 (u .0)) (sym child-words) in
+        rw (lt-ltb i n h) (ap (pasteAt ws i) w ∙ set-mid-at (i * 12) 12 1 ws (u .0) (omega arith))
 
   root-read : (b : Bool) (st : TypeState) (z : ℕ) → ltb i n ≡ b → readAt ws n i ≡ Root st z → (ks : List ℕ) → nodes.isRoot (nodes.at (decode ws ks n) i) ≡ true
   unfolding readAt

@@ -7,7 +7,7 @@ use mathlib.Core.List.{List, [], _∷_, _++_, append-nil, map, map-append}
 use Prim.Native.Nat.{ℕ, zero, suc, _+_, _-_, _<_, _≤_}
 use native.Mathlib.Omega.{arith}
 use native.Mathlib.Nat.{add-sub-cancel-left}
-use lib.ListN.{length, getD, take, drop, take-append-drop, length-drop, drop-of-length-le, length-map}
+use lib.ListN.{length, getD, take, drop, take-append-drop, length-drop, drop-of-length-le}
 use lib.Seq.{sets, sets-eq, take-at, drop-at, take-append-le, drop-append-le, drop-drop, length-take-le}
 use borrow.Rule.Slice.PartMut.{midOf, putMid, drop-put, same-len-mid}
 use lib.Dec.{eqb, ltb}

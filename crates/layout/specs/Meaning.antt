@@ -7,14 +7,14 @@ use mathlib.Core.Option.{Option, none, some}
 use Prim.Native.Nat.{ℕ, _+_, _*_, _/_, _%_, _≤_, _<_}
 use lib.Dec.{eqb, ltb, leb}
 use lib.ListN.{length, getD, take, drop}
-use Rattle.scope.specs.Base.{pick, isSome, orElse}
+use Rattle.scope.specs.Base.{pick, isSome}
 use Rattle.scope.specs.Limits.{NONE}
 use Rattle.scope.specs.Types.{Ty, tyOf}
 use Rattle.scope.specs.Nodes as nodes
 use Rattle.scope.specs.Sound as sound
 use Rattle.types.specs.declared.«Type».{«Type»}
 use Rattle.types.specs.declared.Inverted.{Inverted}
-use Rattle.layout.specs.Words.{NODE-WORDS, CHILD-WORDS, HEAD-WORDS, KNOWN-TAG, nodeWords, nodeField, slotAt, slots, cellAt, nodeClean, nodesMade, childrenMade, nodeRoom, childRoom, reports}
+use Rattle.layout.specs.Words.{NODE-WORDS, CHILD-WORDS, HEAD-WORDS, KNOWN-TAG, nodeWords, childWords, nodeField, slotAt, slots, cellAt, nodeClean, nodesMade, childrenMade, nodeRoom, childRoom, reports}
 use Rattle.layout.specs.declared.Kind.{Kind}
 use Rattle.layout.specs.declared.Cell.{Cell}
 use Rattle.layout.specs.declared.Slot.{Slot}
@@ -35,8 +35,8 @@ UNKNOWN-TAG = 1
 abbrev pub FAILED-TAG : ℕ
 FAILED-TAG = 2
 
-abbrev pub flagOf : Bool → ℕ
-flagOf b = pick b 1 0
+abbrev pub flagWord : Bool → ℕ
+flagWord b = pick b 1 0
 
 abbrev pub typeOf : ℕ → «Type»
 typeOf w = record { 0 = w }
@@ -69,8 +69,8 @@ wordsOf c =
 
 -- a cell as a node, and back; a Known node's link is the place of its first child
 
-abbrev pub kindOf : Cell → Kind
-kindOf c = record {
+abbrev pub cellKind : Cell → Kind
+cellKind c = record {
   code = c .code;
   number = c .number;
   dual = eqb (c .dual) 1;
@@ -87,7 +87,7 @@ nodeOf c =
     pick (eqb (c .tag) CHILD-TAG) (Child (typeOf (c .link)))
     (pick (eqb (c .tag) UNKNOWN-TAG) (Root (Unknown (c .link)) (c .size))
     (pick (eqb (c .tag) FAILED-TAG) (Root InferenceFailed (c .size))
-    (Root (Known (record { 0 = eqb (c .inv) 1 }) (kindOf c)) (c .size))))
+    (Root (Known (record { 0 = eqb (c .inv) 1 }) (cellKind c)) (c .size))))
 
 abbrev pub plainCell : ℕ → ℕ → ℕ → Cell
 plainCell t l z = record {
@@ -110,10 +110,10 @@ knownCell i k z = record {
   tag = KNOWN-TAG;
   link = k .first;
   size = z;
-  inv = flagOf (i .0);
+  inv = flagWord (i .0);
   code = k .code;
   number = k .number;
-  dual = flagOf (k .dual);
+  dual = flagWord (k .dual);
   flex = k .flex;
   text = k .text;
   start = k .start;
@@ -287,3 +287,20 @@ storeMeans x ns = record {
   nil = rememberedMeans (x .nil);
   reports = x .reports;
 }
+
+-- three slices are as long as the counts and capacities in h need
+pub record Lies (h ws ks : List ℕ) : Type 0 where
+  pub head : HEAD-WORDS ≤ length h
+  pub nodes : nodesMade h ≤ nodeRoom h
+  pub children : childrenMade h ≤ childRoom h
+  pub nodeSlots : nodeWords (nodeRoom h) ≤ length ws
+  pub childSlots : childWords (childRoom h) ≤ length ks
+
+-- the store in h′ ws′ ks′ has grown out of the one in h ws ks, and its unused words have not been written
+pub record Grown (h ws ks h′ ws′ ks′ : List ℕ) : Type 0 where
+  pub nodeRooms : nodeRoom h′ ≡ nodeRoom h
+  pub childRooms : childRoom h′ ≡ childRoom h
+  pub nodes : nodesMade h ≤ nodesMade h′
+  pub children : childrenMade h ≤ childrenMade h′
+  pub nodeTail : drop (nodeWords (nodesMade h′)) ws′ ≡ drop (nodeWords (nodesMade h′)) ws
+  pub childTail : drop (childWords (childrenMade h′)) ks′ ≡ drop (childWords (childrenMade h′)) ks

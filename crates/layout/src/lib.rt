@@ -1,10 +1,10 @@
 // A store in three lent slices of numbers: where each number lies, and how a node, a child and the header are read and written.
 // Nothing above this crate reads a word: it uses these functions and the laws of proofs/.
 ghost use mathlib.Core.Path.{_≡_};
-ghost use Prim.Native.Nat.{_+_, _*_, _≤_, _<_};
+ghost use Prim.Native.Nat.{_+_, _*_, _≤_};
 ghost use lib.ListN.{length, getD};
 ghost use Rattle.layout.specs.Words.{NODE-WORDS, CHILD-WORDS, HEAD-WORDS, nodeWords, childWords, slotAt};
-ghost use Rattle.layout.specs.Meaning.{flagOf, cellIn, wordsOf, nodeOf, plainCell, knownCell, cellOf, readAt, putAt};
+ghost use Rattle.layout.specs.Meaning.{flagWord, cellIn, wordsOf, nodeOf, plainCell, knownCell, cellOf, cellWords, readAt, putAt};
 ghost use Rattle.layout.specs.Meaning.{slotIn, slotWords, slotMeans, putSlot, rememberedOf, rememberedWord, headerIn, putHeader};
 use types::Inverted;
 use types::Type;
@@ -121,7 +121,7 @@ fn word(s: &[u32], i: usize) -> u32
 }
 
 fn flag(b: bool) -> u32
-    ensures { λ r. ⌜ r ≡ flagOf b ⌝ }
+    ensures { λ r. ⌜ r ≡ flagWord b ⌝ }
 {
     if b { 1 } else { 0 }
 }
@@ -253,6 +253,16 @@ fn cell_of(n: TypeNode) -> Cell
     }
 }
 
+// The words of node i.
+pub fn cell_at(ws: &[u32], i: TypeIdx) -> Cell
+    requires { ⌜ i .0 * NODE-WORDS + NODE-WORDS ≤ length (now ws) ⌝ }
+    ensures { λ r. ⌜ r ≡ cellIn (cellWords (now (ws .entry)) (i .0)) ⌝ }
+{
+    let a = i.0 as usize * NODE_WORDS;
+    let e = a + NODE_WORDS;
+    read_cell(&ws[a..e])
+}
+
 // The node i of n; past them a root of no size.
 pub fn node_at(ws: &[u32], n: u32, i: TypeIdx) -> TypeNode
     requires { ⌜ nodeWords n ≤ length (now ws) ⌝ }
@@ -264,9 +274,7 @@ pub fn node_at(ws: &[u32], n: u32, i: TypeIdx) -> TypeNode
             size: 0,
         };
     }
-    let a = i.0 as usize * NODE_WORDS;
-    let e = a + NODE_WORDS;
-    node_of(read_cell(&ws[a..e]))
+    node_of(cell_at(ws, i))
 }
 
 // Another node i of n; past them nothing changes.
@@ -277,9 +285,9 @@ pub fn put_node(ws: &mut [u32], n: u32, i: TypeIdx, node: TypeNode)
     if n <= i.0 {
         return;
     }
-    let a = i.0 as usize * NODE_WORDS;
-    let e = a + NODE_WORDS;
-    write_cell(&mut ws[a..e], cell_of(node));
+    let end = (i.0 as usize + 1) * NODE_WORDS;
+    let start = end - NODE_WORDS;
+    write_cell(&mut ws[start..end], cell_of(node));
 }
 
 fn read_slot(s: &[u32]) -> Slot
@@ -317,6 +325,13 @@ pub fn child_at(ks: &[u32], i: usize) -> Slot
     }
     let a = i * CHILD_WORDS;
     read_slot(&ks[a..])
+}
+
+// Child j of a kind.
+pub fn child_of(ks: &[u32], k: Kind, j: u32) -> Slot
+    ensures { λ r. ⌜ slotMeans r ≡ slotAt (now (ks .entry)) (k .first + j) ⌝ }
+{
+    child_at(ks, k.first as usize + j as usize)
 }
 
 pub fn put_child(ks: &mut [u32], i: usize, c: Slot)

@@ -3,10 +3,6 @@
 use borrow.Author.Needs.{needs}
 use Rattle.layout.proofs.cell_of.Statement.{statement}
 use Rattle.layout.proofs.cell_of.Tie as tie
-use Rattle.layout.proofs.cell_of.Reads as reads
-use Rattle.layout.proofs.cell_of.Lts as lts
-use Rattle.layout.proofs.known_cell.Reads as known-cell-reads
-use Rattle.layout.proofs.plain_cell.Reads as plain-cell-reads
 
 enum-known-n : tie.Need-enum-known-n
 enum-known-n c = search needs

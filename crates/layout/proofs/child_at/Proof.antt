@@ -6,9 +6,6 @@ use Rattle.layout.proofs.Cells.{slot-past, slot-part}
 use borrow.Author.Needs.{needs}
 use Rattle.layout.proofs.child_at.Statement.{statement}
 use Rattle.layout.proofs.child_at.Tie as tie
-use Rattle.layout.proofs.child_at.Reads as reads
-use Rattle.layout.proofs.child_at.Lts as lts
-use Rattle.layout.proofs.read_slot.Reads as read-slot-reads
 
 returns : tie.Need-returns
 returns c = slot-past (c .before .before .args .ks .now) (c .before .before .args .i) (c .if1 .taken)

@@ -3,9 +3,6 @@
 use borrow.Author.Needs.{needs}
 use Rattle.layout.proofs.known_cell.Statement.{statement}
 use Rattle.layout.proofs.known_cell.Tie as tie
-use Rattle.layout.proofs.known_cell.Reads as reads
-use Rattle.layout.proofs.known_cell.Lts as lts
-use Rattle.layout.proofs.flag.Reads as flag-reads
 
 flag-requires : tie.Need-flag-requires
 flag-requires c κs = search needs

@@ -4,8 +4,6 @@ use borrow.Author.Tests.{eq-eqb, ne-eqb}
 use Rattle.layout.specs.Meaning.{nodeOf}
 use Rattle.layout.proofs.node_of.Statement.{statement}
 use Rattle.layout.proofs.node_of.Tie as tie
-use Rattle.layout.proofs.node_of.Reads as reads
-use Rattle.layout.proofs.node_of.Lts as lts
 
 returns : tie.Need-returns
 unfolding nodeOf

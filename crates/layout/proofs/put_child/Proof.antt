@@ -5,9 +5,6 @@ use Rattle.layout.specs.Meaning.{putSlot}
 use borrow.Author.Needs.{needs}
 use Rattle.layout.proofs.put_child.Statement.{statement}
 use Rattle.layout.proofs.put_child.Tie as tie
-use Rattle.layout.proofs.put_child.Reads as reads
-use Rattle.layout.proofs.put_child.Lts as lts
-use Rattle.layout.proofs.write_slot.Reads as write-slot-reads
 
 mul-a : tie.Need-mul-a
 mul-a c = search needs

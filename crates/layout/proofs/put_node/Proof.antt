@@ -1,28 +1,27 @@
 -- `layout::put_node` meets its contract. The part that is lent comes back as putAt pastes it; past the nodes nothing is written.
 -- Assumes nothing.
-use native.Mathlib.Nat.{add-sub-cancel-left}
 use borrow.Author.Tests.{lt-ltb, le-ltb}
 use Rattle.layout.specs.Meaning.{putAt}
+use Rattle.layout.proofs.Cells.{cell-start, cell-length}
 use borrow.Author.Needs.{needs}
 use Rattle.layout.proofs.put_node.Statement.{statement}
 use Rattle.layout.proofs.put_node.Tie as tie
-use Rattle.layout.proofs.put_node.Reads as reads
-use Rattle.layout.proofs.put_node.Lts as lts
-use Rattle.layout.proofs.cell_of.Reads as cell-of-reads
-use Rattle.layout.proofs.write_cell.Reads as write-cell-reads
 
 returns : tie.Need-returns
 unfolding putAt
 returns c = rw (le-ltb _ _ (c .if1 .taken))
 
-cast-a : tie.Need-cast-a
-cast-a c = search needs
+cast-end : tie.Need-cast-end
+cast-end c = search needs
 
-mul-a : tie.Need-mul-a
-mul-a c = search needs
+add-end : tie.Need-add-end
+add-end c = search needs
 
-add-e : tie.Need-add-e
-add-e c = search needs
+mul-end : tie.Need-mul-end
+mul-end c = search needs
+
+sub-start : tie.Need-sub-start
+sub-start c = search needs
 
 mul-write-cell : tie.Need-mul-write-cell
 mul-write-cell c = search needs
@@ -47,16 +46,19 @@ same-length c = search needs
 
 returns-2 : tie.Need-returns-2
 unfolding putAt
-returns-2 c = rw (lt-ltb _ _ (c .before .before .before .before .before .before .if1 .left), add-sub-cancel-left, c .before .before .write-cell .ensures, c .before .before .before .cell-of .ensures)
+returns-2 c =
+    let w = c .before .before in
+    rw (lt-ltb _ _ (w .before .before .before .before .if1 .left), cell-length, cell-start, w .write-cell .ensures, w .before .cell-of .ensures)
 
 pub put-node-spec : {M : Type 1} → statement M
 put-node-spec =
     tie.close
     (tie.spec
     returns
-    cast-a
-    mul-a
-    add-e
+    cast-end
+    add-end
+    mul-end
+    sub-start
     mul-write-cell
     sub-write-cell
     part-write-cell-start

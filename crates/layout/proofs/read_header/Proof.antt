@@ -3,10 +3,6 @@
 use borrow.Author.Needs.{needs}
 use Rattle.layout.proofs.read_header.Statement.{statement}
 use Rattle.layout.proofs.read_header.Tie as tie
-use Rattle.layout.proofs.read_header.Reads as reads
-use Rattle.layout.proofs.read_header.Lts as lts
-use Rattle.layout.proofs.remembered_of.Reads as remembered-of-reads
-use Rattle.layout.proofs.word.Reads as word-reads
 
 word-requires : tie.Need-word-requires
 word-requires c κs = search needs
@@ -51,7 +47,21 @@ add-t13 : tie.Need-add-t13
 add-t13 c = search needs
 
 returns : tie.Need-returns
-returns c = rw (c .before .before .before .before .before .before .before .before .before .word .ensures, c .before .before .before .before .before .before .before .before .word2 .ensures, c .before .before .before .before .before .before .before .word3 .ensures, c .before .before .before .before .before .before .word4 .ensures, c .before .before .before .before .before .word5 .ensures, c .before .before .before .before .word6 .ensures, c .before .before .remembered-of .ensures, c .before .before .before .word7 .ensures, c .remembered-of2 .ensures, c .before .word8 .ensures)
+returns c =
+    let e = c .before .before .before .before in
+    let d = e .before .before .before in
+    rw (
+      d .before .before .word .ensures,
+      d .before .word2 .ensures,
+      d .word3 .ensures,
+      e .before .before .word4 .ensures,
+      e .before .word5 .ensures,
+      e .word6 .ensures,
+      c .before .before .remembered-of .ensures,
+      c .before .before .before .word7 .ensures,
+      c .remembered-of2 .ensures,
+      c .before .word8 .ensures,
+    )
 
 pub read-header-spec : {M : Type 1} → statement M
 read-header-spec =

@@ -3,9 +3,6 @@
 use borrow.Author.Needs.{needs}
 use Rattle.layout.proofs.read_slot.Statement.{statement}
 use Rattle.layout.proofs.read_slot.Tie as tie
-use Rattle.layout.proofs.read_slot.Reads as reads
-use Rattle.layout.proofs.read_slot.Lts as lts
-use Rattle.layout.proofs.word.Reads as word-reads
 
 word-requires : tie.Need-word-requires
 word-requires c κs = search needs

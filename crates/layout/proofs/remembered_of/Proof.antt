@@ -3,8 +3,6 @@
 use borrow.Author.Tests.{eq-eqb, ne-eqb}
 use Rattle.layout.proofs.remembered_of.Statement.{statement}
 use Rattle.layout.proofs.remembered_of.Tie as tie
-use Rattle.layout.proofs.remembered_of.Reads as reads
-use Rattle.layout.proofs.remembered_of.Lts as lts
 
 returns : tie.Need-returns
 returns c = rw (eq-eqb _ _ (c .if1 .taken))

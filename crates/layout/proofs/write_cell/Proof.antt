@@ -7,8 +7,6 @@ use Rattle.layout.proofs.Lists.{sets-all}
 use borrow.Author.Needs.{needs}
 use Rattle.layout.proofs.write_cell.Statement.{statement}
 use Rattle.layout.proofs.write_cell.Tie as tie
-use Rattle.layout.proofs.write_cell.Reads as reads
-use Rattle.layout.proofs.write_cell.Lts as lts
 
 slice-write-s : tie.Need-slice-write-s
 slice-write-s c = search needs

@@ -7,9 +7,6 @@ use Rattle.layout.specs.Meaning.{headerWords, putHeader}
 use borrow.Author.Needs.{needs}
 use Rattle.layout.proofs.write_header.Statement.{statement}
 use Rattle.layout.proofs.write_header.Tie as tie
-use Rattle.layout.proofs.write_header.Reads as reads
-use Rattle.layout.proofs.write_header.Lts as lts
-use Rattle.layout.proofs.remembered_word.Reads as remembered-word-reads
 
 slice-write-h : tie.Need-slice-write-h
 slice-write-h c = search needs
@@ -52,7 +49,11 @@ same-length c = search needs
 
 returns : tie.Need-returns
 unfolding putHeader
-returns c = rw (c .before .before .before .remembered-word .ensures, c .before .before .remembered-word2 .ensures) (sets-eq (headerWords (c .before .before .before .before .before .args .x)) (c .before .before .before .before .before .args .h .now) 0 (c .before .before .before .before .before .pre))
+returns c =
+    let e = c .before .before .before in
+    let s = e .before .before in
+    rw (e .remembered-word .ensures, c .before .before .remembered-word2 .ensures)
+    (sets-eq (headerWords (s .args .x)) (s .args .h .now) 0 (s .pre))
 
 pub write-header-spec : {M : Type 1} → statement M
 write-header-spec =

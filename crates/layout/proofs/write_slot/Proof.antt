@@ -5,8 +5,6 @@ use Rattle.layout.proofs.Lists.{sets-all}
 use borrow.Author.Needs.{needs}
 use Rattle.layout.proofs.write_slot.Statement.{statement}
 use Rattle.layout.proofs.write_slot.Tie as tie
-use Rattle.layout.proofs.write_slot.Reads as reads
-use Rattle.layout.proofs.write_slot.Lts as lts
 
 slice-write-s : tie.Need-slice-write-s
 slice-write-s c = search needs

@@ -1,0 +1,177 @@
+-- The laws of climbing to a root and of pointing a path at it: one step at a child, none at a root, none without fuel. The two records are the loops'
+-- invariants, for all words of children: what is left to do gives what the whole does.
+-- Assumes nothing.
+use mathlib.Core.Path.{_≡_, refl, ap, sym, _∙_}
+use mathlib.Core.Bool.{Bool, true}
+use mathlib.Core.List.{List}
+use Prim.Native.Nat.{ℕ, zero, suc, _+_, _-_, _*_, _<_, _≤_}
+use native.Mathlib.Omega.{arith}
+use lib.ListN.{set}
+use lib.Seq.{getD-set-other}
+use Rattle.scope.specs.Base.{xor}
+use Rattle.scope.specs.Types.{Ty, ty, flip, INV-BIT, tyOf}
+use Rattle.scope.specs.Nodes.{Node, Root, Child, at, isRoot, hop, climb, find, point, compress, findMut}
+use Rattle.types.specs.declared.«Type».{«Type»}
+use Rattle.types.proofs.Laws.{idx-below, ty-new}
+use Rattle.layout.specs.Words.{NODE-WORDS, nodeField, decode}
+use Rattle.layout.specs.Meaning.{CHILD-TAG, parentOf, readAt, putAt, Linked}
+use Rattle.layout.specs.declared.TypeNode.{TypeNode}
+use Rattle.layout.specs.declared.TypeNode.the-variants as code
+use Rattle.layout.specs.declared.TypeState.{TypeState}
+use Rattle.layout.proofs.Laws.{length-decode, length-put, tail-put, decode-put, clean-put}
+use Rattle.layout.proofs.LinkLaws.{parent-same, read-child, read-root, child-below, child-field, link-put, linked-put}
+use Rattle.roots.specs.Found.{Found, Relinked, FoundMut}
+
+-- find
+
+pub climb-up : (f : ℕ) (ns : List Node) (t u : Ty) → 0 < f → at ns (t .idx) ≡ Child u → climb f ns t ≡ climb (f - 1) ns (flip (t .inv) u)
+unfolding climb
+climb-up zero ns t u h e = absurd (omega arith)
+climb-up (suc f) ns t u h e = let k : suc f - 1 ≡ f = omega arith in rw (e, k)
+
+hop-root : (v : Node) (k : Ty → Ty) (t : Ty) → isRoot v ≡ true → hop v k t ≡ t
+hop-root (Root st z) k t e = refl
+hop-root (Child u) k t e = cc
+
+pub climb-root : (f : ℕ) (ns : List Node) (t : Ty) → isRoot (at ns (t .idx)) ≡ true → climb f ns t ≡ t
+unfolding climb
+climb-root zero ns t e = refl
+climb-root (suc f) ns t e = hop-root (at ns (t .idx)) (climb f ns) t e
+
+pub climb-out : (f : ℕ) (ns : List Node) (t : Ty) → f ≤ 0 → climb f ns t ≡ t
+unfolding climb
+climb-out zero ns t h = refl
+climb-out (suc f) ns t h = absurd (omega arith)
+
+-- climbing looks at parents alone, and these do not depend on the children's words
+
+hop-same : (v w : Node) (k k′ : Ty → Ty) (t : Ty) → parentOf v ≡ parentOf w → ((u : Ty) → k u ≡ k′ u) → hop v k t ≡ hop w k′ t
+hop-same (Root st z) (Root st′ z′) k k′ t e g = refl
+hop-same (Root st z) (Child u) k k′ t e g = let y : _≡_ {A = ℕ} 0 1 = cc in absurd (omega arith)
+hop-same (Child u) (Root st z) k k′ t e g = let y : _≡_ {A = ℕ} 0 1 = cc in absurd (omega arith)
+hop-same (Child u) (Child u′) k k′ t e g = let y : u ≡ u′ = cc in g (flip (t .inv) u) ∙ ap (λ (x : Ty). k′ (flip (t .inv) x)) y
+
+pub climb-parents : (f : ℕ) (ns ms : List Node) (t : Ty) → ((i : ℕ) → parentOf (at ns i) ≡ parentOf (at ms i)) → climb f ns t ≡ climb f ms t
+unfolding climb
+climb-parents zero ns ms t e = refl
+climb-parents (suc f) ns ms t e =
+    hop-same (at ns (t .idx)) (at ms (t .idx)) (climb f ns) (climb f ms) t (e (t .idx)) (λ u. climb-parents f ns ms u e)
+
+pub find-kids : (ws ks ks′ : List ℕ) (n : ℕ) (t : Ty) → find (decode ws ks n) t ≡ find (decode ws ks′ n) t
+unfolding find
+find-kids ws ks ks′ n t =
+    rw (length-decode ws ks n, length-decode ws ks′ n) (climb-parents n (decode ws ks n) (decode ws ks′ n) t (parent-same ws ks ks′ n))
+
+-- f steps from node i with the inversion b lead where n steps from i₀ with b₀ do
+pub record Climbs (ws : List ℕ) (n : ℕ) (b₀ : Bool) (i₀ : ℕ) (b : Bool) (i f : ℕ) : Type 0 where
+  pub small : i < INV-BIT
+  pub rest : (ks : List ℕ) → climb f (decode ws ks n) (ty b i) ≡ climb n (decode ws ks n) (ty b₀ i₀)
+
+pub climbs-start : (ws : List ℕ) (n : ℕ) (b : Bool) (i t : ℕ) → i ≡ tyOf t .idx → Climbs ws n b i b i n
+climbs-start ws n b i t e = record { small = rw e (idx-below t); rest = λ ks. refl }
+
+pub climbs-up : {ws : List ℕ} {n : ℕ} {b₀ : Bool} {i₀ : ℕ} {b : Bool} {i f : ℕ} {v : TypeNode} {u : «Type»} {p q : Bool} {j : ℕ}
+    → Linked ws n → Climbs ws n b₀ i₀ b i f → 0 < f → v ≡ readAt ws n i → v ≡ code.Child u
+    → p ≡ tyOf (u .0) .inv → q ≡ xor b p → j ≡ tyOf (u .0) .idx → Climbs ws n b₀ i₀ q j (f - 1)
+climbs-up {ws} {n} {b₀} {i₀} {b} {i} {f} {v} {u} l c h r e x y z = record {
+  small = rw z (idx-below (u .0));
+  rest = λ ks.
+      rw (y, x, z)
+      (sym (climb-up f (decode ws ks n) (ty b i) (tyOf (u .0)) h (read-child ws n i l u (sym r ∙ e) ks)) ∙ c .rest ks);
+}
+
+module _ {ws : List ℕ} {n : ℕ} {b₀ : Bool} {i₀ : ℕ} {b : Bool} {i f : ℕ} (c : Climbs ws n b₀ i₀ b i f) (t r : ℕ)
+    (e : tyOf r ≡ flip b (tyOf i)) (p : b₀ ≡ tyOf t .inv) (q : i₀ ≡ tyOf t .idx) where
+  climbs-end : ((ks : List ℕ) → climb f (decode ws ks n) (ty b i) ≡ ty b i) → Found ws n t r
+  unfolding find
+  climbs-end k = record {
+    root = λ ks. e ∙ (ty-new b i (c .small) ∙ (sym (k ks) ∙ (c .rest ks ∙ rw (length-decode ws ks n, p, q))));
+  }
+
+  pub climbs-root : {v : TypeNode} {st : TypeState} {z : ℕ} → v ≡ readAt ws n i → v ≡ code.Root st z → Found ws n t r
+  climbs-root {v} {st} {z} x y = climbs-end (λ ks. climb-root f (decode ws ks n) (ty b i) (read-root ws n i st z (sym x ∙ y) ks))
+
+  pub climbs-out : f ≤ 0 → Found ws n t r
+  climbs-out h = climbs-end (λ ks. climb-out f (decode ws ks n) (ty b i) h)
+
+-- find_mut
+
+pub compress-up : (f : ℕ) (ns : List Node) (r t u : Ty) → 0 < f → at ns (t .idx) ≡ Child u
+    → compress f ns r t ≡ compress (f - 1) (set ns (t .idx) (Child (flip (t .inv) r))) r (flip (t .inv) u)
+unfolding compress
+compress-up zero ns r t u h e = absurd (omega arith)
+compress-up (suc f) ns r t u h e = let k : suc f - 1 ≡ f = omega arith in rw (e, k)
+
+point-root : (v : Node) (k : List Node → Ty → List Node) (ns : List Node) (r t : Ty) → isRoot v ≡ true → point v k ns r t ≡ ns
+point-root (Root st z) k ns r t e = refl
+point-root (Child u) k ns r t e = cc
+
+pub compress-root : (f : ℕ) (ns : List Node) (r t : Ty) → isRoot (at ns (t .idx)) ≡ true → compress f ns r t ≡ ns
+unfolding compress
+compress-root zero ns r t e = refl
+compress-root (suc f) ns r t e = point-root (at ns (t .idx)) (λ ns′ t′. compress f ns′ r t′) ns r t e
+
+pub compress-out : (f : ℕ) (ns : List Node) (r t : Ty) → f ≤ 0 → compress f ns r t ≡ ns
+unfolding compress
+compress-out zero ns r t h = refl
+compress-out (suc f) ns r t h = absurd (omega arith)
+
+pub relinked-refl : {ws : List ℕ} {n : ℕ} → Linked ws n → Relinked ws n ws
+relinked-refl l = record { long = refl; tail = refl; others = λ p h. refl; linked = l; clean = λ ks c cl. cl }
+
+-- a child of the words now was one before
+tag-before : (ws ws′ : List ℕ) (n i : ℕ) → Relinked ws n ws′ → nodeField ws′ i 0 ≡ CHILD-TAG → nodeField ws i 0 ≡ CHILD-TAG
+tag-before ws ws′ n i w e = sym (w .others (i * NODE-WORDS + 0) (λ j h g z. omega arith)) ∙ e
+
+-- another parent for a child
+module _ (ws ws′ : List ℕ) (n i : ℕ) (u t : «Type») (w : Relinked ws n ws′) (e : readAt ws′ n i ≡ code.Child u) where
+  relinked-put : Relinked ws n (putAt ws′ n i (code.Child t))
+  relinked-put =
+      let room = w .linked .room in
+      record {
+        long = length-put ws′ n room i (code.Child t) ∙ w .long;
+        tail = tail-put ws′ n room i (code.Child t) ∙ w .tail;
+        others = λ p h.
+            rw (link-put ws′ n i (w .linked) u e t)
+            (getD-set-other ws′ (i * NODE-WORDS + 1) p (t .0) 0 (h i (child-below ws′ n i u e) (tag-before ws ws′ n i w (child-field ws′ n i u e))) ∙ w .others p h);
+        linked = linked-put ws′ n (w .linked) i (code.Child t);
+        clean = λ ks c cl. clean-put ws′ ks c n (w .clean ks c cl) i (code.Child t) refl;
+      }
+
+-- f steps of pointing at the root r from node i leave what n steps from i₀ do
+pub record Points (ws : List ℕ) (n r : ℕ) (b₀ : Bool) (i₀ : ℕ) (ws′ : List ℕ) (b : Bool) (i f : ℕ) : Type 0 where
+  pub words : Relinked ws n ws′
+  pub rest : (ks : List ℕ) → compress f (decode ws′ ks n) (tyOf r) (ty b i) ≡ compress n (decode ws ks n) (tyOf r) (ty b₀ i₀)
+
+pub points-start : (ws : List ℕ) (n r : ℕ) (b : Bool) (i : ℕ) → Linked ws n → Points ws n r b i ws b i n
+points-start ws n r b i l = record { words = relinked-refl l; rest = λ ks. refl }
+
+pub points-up : {ws : List ℕ} {n r : ℕ} {b₀ : Bool} {i₀ : ℕ} {ws′ : List ℕ} {b : Bool} {i f : ℕ} {v : TypeNode} {u : «Type»} {ws″ : List ℕ}
+    {p q : Bool} {j : ℕ} (t : «Type») → Points ws n r b₀ i₀ ws′ b i f → 0 < f → v ≡ readAt ws′ n i → v ≡ code.Child u
+    → tyOf (t .0) ≡ flip b (tyOf r) → ws″ ≡ putAt ws′ n i (code.Child t)
+    → p ≡ tyOf (u .0) .inv → q ≡ xor b p → j ≡ tyOf (u .0) .idx → Points ws n r b₀ i₀ ws″ q j (f - 1)
+points-up {ws} {n} {r} {b₀} {i₀} {ws′} {b} {i} {f} {v} {u} t c h o e a w x y z =
+    let room = c .words .linked .room in
+    record {
+      words = rw w (relinked-put ws ws′ n i u t (c .words) (sym o ∙ e));
+      rest = λ ks.
+          rw (w, decode-put ws′ n room i (code.Child t) ks 0 refl, a, y, x, z)
+          (sym (compress-up f (decode ws′ ks n) (tyOf r) (ty b i) (tyOf (u .0)) h (read-child ws′ n i (c .words .linked) u (sym o ∙ e) ks)) ∙ c .rest ks);
+    }
+
+module _ {ws : List ℕ} {n r : ℕ} {b₀ : Bool} {i₀ : ℕ} {ws′ : List ℕ} {b : Bool} {i f : ℕ} (c : Points ws n r b₀ i₀ ws′ b i f) (t : ℕ)
+    (s : Found ws n t r) (p : b₀ ≡ tyOf t .inv) (q : i₀ ≡ tyOf t .idx) where
+  points-end : ((ks : List ℕ) → compress f (decode ws′ ks n) (tyOf r) (ty b i) ≡ decode ws′ ks n) → FoundMut ws n ws′ t r
+  unfolding findMut
+  points-end k = record {
+    root = s .root;
+    nodes = λ ks. sym (k ks) ∙ (c .rest ks ∙ rw (length-decode ws ks n, ← s .root ks, p, q));
+    words = c .words;
+  }
+
+  pub points-root : {v : TypeNode} {st : TypeState} {z : ℕ} → v ≡ readAt ws′ n i → v ≡ code.Root st z → FoundMut ws n ws′ t r
+  points-root {v} {st} {z} x y =
+      points-end (λ ks. compress-root f (decode ws′ ks n) (tyOf r) (ty b i) (read-root ws′ n i st z (sym x ∙ y) ks))
+
+  pub points-out : f ≤ 0 → FoundMut ws n ws′ t r
+  points-out h = points-end (λ ks. compress-out f (decode ws′ ks n) (tyOf r) (ty b i) h)
