@@ -2,28 +2,27 @@
 -- kind does not have are zeros. So the kind that stands in the words is the one that was given, and it fits, whatever its row says of names.
 -- Assumes nothing.
 use mathlib.Core.Path.{_≡_, refl, ap, sym, _∙_}
-use mathlib.Core.Bool.{Bool, true, false, not, _&&_}
-use mathlib.Core.Option.{Option, none, some}
-use mathlib.Core.List.{List, [], _∷_, _++_, map}
-use Prim.Native.Nat.{ℕ, zero, suc, _+_, _*_, _/_, _<_, _≤_}
+use mathlib.Core.Bool.{Bool, true, false, not}
+use mathlib.Core.List.{List, [], _∷_, map}
+use Prim.Native.Nat.{ℕ, zero, suc, _+_, _*_, _<_, _≤_}
 use native.Mathlib.Omega.{arith}
 use native.Mathlib.Nat.{add-zero}
-use lib.Dec.{eqb, leb}
-use lib.ListN.{length, getD, drop}
-use borrow.Author.Count.{below-none, below-more}
-use borrow.Author.Tests.{le-leb, lt-leb, eqb-true, eqb-false, eq-eqb, ne-eqb}
-use Rattle.scope.specs.Base.{pick, all, from}
-use Rattle.scope.specs.Kinds.{rowOf, OWN-NAME, CHILD-NAMES, PARAMETER-NAMES}
+use lib.Dec.{eqb}
+use lib.ListN.{length, getD}
+use borrow.Author.Count.{below-more}
+use borrow.Author.Tests.{le-leb, eqb-true, eq-eqb, ne-eqb}
+use Rattle.scope.specs.Base.{all, from}
+use Rattle.scope.specs.Kinds.{rowOf, OWN-NAME}
 use Rattle.scope.specs.Kinds as kinds
 use Rattle.scope.specs.Sound as sound
 use Rattle.kinds.specs.Rows.{asRow}
 use Rattle.kinds.specs.declared.Row.{Row}
-use Rattle.layout.specs.Words.{childWords, slotAt, slots}
+use Rattle.layout.specs.Words.{childWords, slotAt}
 use Rattle.layout.specs.Meaning.{typeOf, slotMeans, putSlot}
 use Rattle.layout.specs.declared.Slot.{Slot}
-use Rattle.layout.proofs.Lists.{and-both, and-left, and-right, drop-later}
+use Rattle.layout.proofs.Lists.{and-both, drop-later}
 use Rattle.layout.proofs.ChildLaws.{slot-here, slot-there, tail-put-child, kept-put, kept-refl, kept-trans}
-use Rattle.make.specs.Given.{NAME-WORDS, nameField, nameGiven, namesGiven, kept, ownNamed, slotNamed, slotGiven, Put}
+use Rattle.make.specs.Given.{kept, ownNamed, slotGiven, Put}
 
 -- one child
 

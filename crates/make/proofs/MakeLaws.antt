@@ -2,24 +2,24 @@
 -- `error` and `nil` a kind without children, which they remember unless one is remembered already.
 -- Assumes nothing.
 use mathlib.Core.Path.{_≡_, refl, ap, sym, _∙_}
-use mathlib.Core.Bool.{Bool, true, false, not, _&&_}
+use mathlib.Core.Bool.{Bool, true, false}
 use mathlib.Core.Option.{Option, none, some}
-use mathlib.Core.List.{List, [], _∷_, _++_}
-use Prim.Native.Nat.{ℕ, _+_, _*_, _<_, _≤_}
+use mathlib.Core.List.{List}
+use Prim.Native.Nat.{ℕ, _+_, _≤_}
 use native.Mathlib.Omega.{arith}
-use lib.Dec.{eqb, leb, leb·zero}
+use lib.Dec.{eqb}
 use lib.ListN.{length, getD, drop}
 use borrow.Author.Tests.{ne-eqb}
 use Rattle.scope.specs.Limits.{NONE}
 use Rattle.scope.specs.Types.{Ty, ty, tyOf}
 use Rattle.scope.specs.Kinds.{rowOf, rows, NO-NAMES, TUPLE, ERROR}
 use Rattle.scope.specs.Nodes as nodes
-use Rattle.scope.specs.Make.{Made, nextType, push, pushed, bare, new, newVar, again, rememberError, rememberNil, makeError, makeNil}
+use Rattle.scope.specs.Make.{nextType, pushed, bare, new, newVar, again, rememberError, rememberNil, makeError, makeNil}
 use Rattle.scope.specs.Calls.{nodesFor}
 use Rattle.types.specs.declared.«Type».{«Type»}
 use Rattle.types.proofs.Laws.{ty-plain}
-use Rattle.layout.specs.Words.{HEAD-WORDS, nodeWords, childWords, nodesMade, childrenMade, nodeRoom, childRoom, remembered, decode, storeIn, clean}
-use Rattle.layout.specs.Meaning.{typeOf, headerIn, kindMeans, kindFits, stateMeans, stateFits, rememberedOf, rememberedMeans, rememberedFits, Kept}
+use Rattle.layout.specs.Words.{childWords, nodesMade, childrenMade, nodeRoom, childRoom, storeIn, clean}
+use Rattle.layout.specs.Meaning.{typeOf, headerIn, kindMeans, kindFits, stateMeans, stateFits, rememberedOf, rememberedMeans, rememberedFits, Kept, Lies}
 use Rattle.layout.specs.declared.Header.{Header}
 use Rattle.layout.specs.declared.Kind.{Kind}
 use Rattle.layout.specs.declared.Remembered.{Remembered}
@@ -27,9 +27,10 @@ use Rattle.layout.specs.declared.Remembered.the-variants.{Is, Nothing}
 use Rattle.layout.specs.declared.TypeState.{TypeState}
 use Rattle.layout.specs.declared.TypeState.the-variants.{Known, Unknown}
 use Rattle.layout.proofs.ChildLaws.{kept-refl}
-use Rattle.make.specs.Holds.{Holds, Beyond, Became, Ready, MadeIs}
+use Rattle.layout.proofs.KindLaws.{names-none, fits-none}
+use Rattle.layout.proofs.StoreLaws.{clean-lies, remembered-means}
+use Rattle.make.specs.Holds.{Became, Ready, MadeIs}
 use Rattle.make.specs.Header.{Pushable, Pushed, bareKind}
-use Rattle.make.proofs.Parts.{Parts, clean-parts, remembered-read, remembered-fits}
 use Rattle.make.proofs.Laws.{store-count, beyond-refl, push-holds, push-beyond}
 
 -- a store that remembers other types
@@ -62,9 +63,9 @@ ready-room {h} {ws} {ks} r = record {
 
 pushable-in : {h ws ks : List ℕ} {c : ℕ} → Ready h ws ks 1 c → Pushable h ws (headerIn h) c
 pushable-in {h} {ws} {ks} {c} r =
-    let p : Parts (headerIn h) h ws ks = clean-parts h ws ks (r .clean) in
+    let p : Lies h ws ks = clean-lies h ws ks (r .clean) in
     let o : RoomIn h 1 c = ready-room r in
-    record { head = p .head; nodeLen = omega (arith, p .nodeLen, o .nodes); nodes = omega arith; children = omega arith }
+    record { head = p .head; nodeLen = omega (arith, p .nodeSlots, o .nodes); nodes = omega arith; children = omega arith }
 
 pub pushable : {h ws ks : List ℕ} {c : ℕ} (x : Header) → Ready h ws ks 1 c → x ≡ headerIn h → Pushable h ws x c
 pushable x r e = rw e (pushable-in r)
@@ -73,11 +74,10 @@ pushable x r e = rw e (pushable-in r)
 
 pub bare-means : (ks : List ℕ) (c : ℕ) → rowOf c .names ≡ NO-NAMES → kindMeans ks (bareKind c) ≡ bare c
 unfolding kindMeans
-bare-means ks c e = rw e refl
+bare-means ks c e = rw (names-none ks (bareKind c) e) refl
 
 pub bare-fits : (ks : List ℕ) (m c : ℕ) → rowOf c .names ≡ NO-NAMES → kindFits ks m (bareKind c) ≡ true
-unfolding kindFits
-bare-fits ks m c e = rw (e, leb·zero m) refl
+bare-fits ks m c e = fits-none ks (bareKind c) m (omega arith) refl e refl
 
 -- a push
 
@@ -102,6 +102,14 @@ module _ {h ws ks h′ ws′ : List ℕ} {c : ℕ} {st : TypeState} {e z : Remem
         })
 
 -- the types that were remembered
+
+fits-by : (b : Bool) (w : ℕ) → eqb w NONE ≡ b → rememberedFits (rememberedOf w) ≡ true
+fits-by true w e = rw e refl
+fits-by false w e = rw (e, e) refl
+
+remembered-fits : (w : ℕ) → rememberedFits (rememberedOf w) ≡ true
+remembered-fits w = fits-by (eqb w NONE) w refl
+
 abbrev wasError : List ℕ → Remembered
 wasError h = rememberedOf (getD h 4 0)
 
@@ -111,11 +119,11 @@ wasNil h = rememberedOf (getD h 5 0)
 module _ (h ws ks : List ℕ) where
   pub error-is : rememberedMeans (wasError h) ≡ storeIn h ws ks .error
   unfolding storeIn
-  error-is = remembered-read (getD h 4 0)
+  error-is = remembered-means (getD h 4 0)
 
   pub nil-is : rememberedMeans (wasNil h) ≡ storeIn h ws ks .nil
   unfolding storeIn
-  nil-is = remembered-read (getD h 5 0)
+  nil-is = remembered-means (getD h 5 0)
 
 -- new: the same types are remembered
 

@@ -2,35 +2,37 @@
 -- row has no use for is 0. One case for each way in which a row has names.
 -- Assumes nothing.
 use mathlib.Core.Path.{_≡_, refl, ap, sym, _∙_}
-use mathlib.Core.Bool.{Bool, true, false, not, _&&_}
+use mathlib.Core.Bool.{Bool, true, false, _&&_}
 use mathlib.Core.Option.{Option}
 use mathlib.Core.List.{List, [], _∷_, _++_, map, map-map}
 use Prim.Native.Nat.{ℕ, zero, suc, _+_, _*_, _/_, _<_, _≤_}
 use native.Mathlib.Omega.{arith}
 use lib.Dec.{eqb, ltb, leb}
-use lib.ListN.{length, getD, drop, length-append, length-map}
-use borrow.Author.Tests.{le-leb, lt-leb, leb-true, leb-false, eqb-true}
-use Rattle.scope.specs.Base.{pick, all, from}
+use lib.ListN.{length, getD, length-map}
+use borrow.Author.Tests.{le-leb, lt-leb, leb-true, eqb-true, eqb-false, eq-eqb}
+use Rattle.scope.specs.Base.{all, from}
 use Rattle.scope.specs.Types.{tyOf}
 use Rattle.scope.specs.Limits.{MAX-WIDTH}
 use Rattle.scope.specs.Names.{Texts, Name, namedOrNone}
 use Rattle.scope.specs.Names as names
-use Rattle.scope.specs.Kinds.{rowOf, OWN-NAME, CHILD-NAMES, PARAMETER-NAMES, shapeFits, objectNamesOk, namesOk, flexOk, numberOk, makeable}
+use Rattle.scope.specs.Kinds.{Row, rows, noRow, rowOf, NO-NAMES, OWN-NAME, CHILD-NAMES, PARAMETER-NAMES, shapeFits, objectNamesOk, namesOk, flexOk, numberOk, makeable}
 use Rattle.scope.specs.Nodes as nodes
 use Rattle.scope.specs.Sound as sound
-use Rattle.scope.specs.Make.{nextType, pushed, new}
+use Rattle.scope.specs.Sound.{zeros}
+use Rattle.scope.specs.Make.{new}
 use Rattle.types.specs.declared.«Type».{«Type»}
 use Rattle.layout.specs.Words.{childWords, childrenMade, slotAt, slots, storeIn}
-use Rattle.layout.specs.Meaning.{HALF, slotMeans, headerIn, kindCell, kindMeans, kindFits, stateMeans}
+use Rattle.layout.specs.Meaning.{HALF, slotMeans, headerIn, kindMeans, kindFits, Lies}
 use Rattle.layout.specs.declared.Header.{Header}
 use Rattle.layout.specs.declared.Kind.{Kind}
 use Rattle.layout.specs.declared.TypeState.the-variants.{Known}
-use Rattle.layout.proofs.Lists.{and-both, and-left, and-right, length-from, same-from}
+use Rattle.layout.proofs.Lists.{and-left, and-right, length-from, same-from}
+use Rattle.layout.proofs.KindLaws.{names-own, names-child, names-parameters, names-none, fits-own, fits-child, fits-parameters, fits-none}
+use Rattle.layout.proofs.StoreLaws.{clean-lies}
 use Rattle.make.specs.Holds.{Ready, MadeIs}
 use Rattle.make.specs.Header.{Pushed}
 use Rattle.make.specs.Given.{nameGiven, namesGiven, ownGiven, kindGiven, countFits, namesFit, kindWritten, slotGiven, KindReady, Put}
 use Rattle.make.specs.declared.NewKind.{NewKind}
-use Rattle.make.proofs.Parts.{Parts, clean-parts}
 use Rattle.make.proofs.MakeLaws.{RoomIn, ready-room, pushed-made}
 use Rattle.make.proofs.GivenLaws.{kept-name, kept-clean, same-shift, map-get, front-from, last-from, all-from-map}
 
@@ -72,66 +74,96 @@ module _ (ts ns : List ℕ) where
       ∙ (same-from (λ i. sound.slotName (given i)) (nameGiven ns) 0 n (λ j a b. slot-name j (omega arith))
       ∙ ap (λ (m : ℕ). map (nameGiven ns) (from 0 m)) (sym z))
 
+-- every row has names in one of four ways
+
+few : (l : List Row) (i : ℕ) → all (λ r. leb (r .names) 3) l ≡ true → getD l i noRow .names ≤ 3
+few [] i h = omega arith
+few (r ∷ l) zero h = leb-true (r .names) 3 (and-left (leb (r .names) 3) (all (λ x. leb (x .names) 3) l) h)
+few (r ∷ l) (suc i) h = few l i (and-right (leb (r .names) 3) (all (λ x. leb (x .names) 3) l) h)
+
+names-few : (c : ℕ) → rowOf c .names ≤ 3
+unfolding rowOf rows
+names-few c = few rows c refl
+
 -- the names of the kind in words
 
-module _ (k : NewKind) (ts ns : List ℕ) (first : ℕ) (ks : List ℕ) (run : slots ks first (length ts) ≡ map (given ts ns) (from 0 (length ts))) where
-  abbrev cell : sound.Cell
-  cell = kindCell ks (kindWritten k first (length ts))
+module _ (k : NewKind) (ts ns : List ℕ) (first : ℕ) (ks : List ℕ) (all-given : slots ks first (length ts) ≡ map (given ts ns) (from 0 (length ts))) where
+  abbrev written : Kind
+  written = kindWritten k first (length ts)
 
   abbrev row : ℕ
   row = rowOf (k .code) .names
 
   record Named : Type 0 where
-    names : sound.namesIn cell ≡ ownGiven k ++ namesGiven ns
-    clean : sound.namesClean cell ≡ true
+    names : kindMeans ks written .head .names ≡ ownGiven k ++ namesGiven ns
+    fits : kindFits ks (first + length ts) written ≡ true
 
-  named-own : eqb row OWN-NAME ≡ true → length ns / 3 ≡ 0 → Named
-  named-own e z = record {
-    names = rw (e, no-names ts ns z) (ap (λ o. o ∷ []) (kept-name (k .text) (k .start) (k .len)));
-    clean = rw (e, run) (and-both _ _ (kept-clean (k .text) (k .start) (k .len)) (all-bare ts ns (length ts) z));
-  }
+  room : first + length ts ≤ first + length ts
+  room = omega arith
 
-  named-child : eqb row OWN-NAME ≡ false → eqb row CHILD-NAMES ≡ true → length ns / 3 ≡ length ts → Named
-  named-child e f z = record { names = rw (e, f, run) (slot-names ts ns (length ts) z); clean = rw (e, f, run) (all-clean ts ns (length ts)) }
-
-  named-parameters : eqb row OWN-NAME ≡ false → eqb row CHILD-NAMES ≡ false → eqb row PARAMETER-NAMES ≡ true → suc (length ns / 3) ≡ length ts → Named
-  named-parameters e f g z =
-      let m : ℕ = length ns / 3 in
-      let l : slots ks first (length ts) ≡ map (given ts ns) (from 0 (suc m)) = run ∙ ap (λ (n : ℕ). map (given ts ns) (from 0 n)) (sym z) in
+  named-own : row ≡ OWN-NAME → length ns / 3 ≡ 0 → Named
+  named-own e z =
+      let t : eqb row OWN-NAME ≡ true = eq-eqb row OWN-NAME e in
       record {
-        names = rw (e, f, g, l) (rw (front-from (given ts ns) 0 m) (slot-names ts ns m refl));
-        clean = rw (e, f, g, l) (rw (front-from (given ts ns) 0 m, last-from (given ts ns) 0 m)
-            (and-both _ _ (all-clean ts ns m) (and-both _ _ (slot-bare ts ns (0 + m) (omega arith)) refl)));
+        names = names-own ks written e ∙ rw (t, no-names ts ns z) (ap (λ o. o ∷ []) (kept-name (k .text) (k .start) (k .len)));
+        fits = fits-own ks written (first + length ts) room e (rw t (kept-clean (k .text) (k .start) (k .len))) (rw all-given (all-bare ts ns (length ts) z));
       }
 
-  named-none : eqb row OWN-NAME ≡ false → eqb row CHILD-NAMES ≡ false → eqb row PARAMETER-NAMES ≡ false → length ns / 3 ≡ 0 → Named
-  named-none e f g z = record { names = rw (e, f, g, no-names ts ns z) refl; clean = rw (e, f, g, run) (all-bare ts ns (length ts) z) }
+  module _ (o : eqb row OWN-NAME ≡ false) where
+    bare-own : zeros (written .text ∷ written .start ∷ written .len ∷ []) ≡ true
+    bare-own = rw o refl
+
+    named-child : row ≡ CHILD-NAMES → length ns / 3 ≡ length ts → Named
+    named-child e z = record {
+      names = names-child ks written e ∙ rw (o, all-given) (slot-names ts ns (length ts) z);
+      fits = fits-child ks written (first + length ts) room bare-own e (rw all-given (all-clean ts ns (length ts)));
+    }
+
+    named-parameters : row ≡ PARAMETER-NAMES → suc (length ns / 3) ≡ length ts → Named
+    named-parameters e z =
+        let m : ℕ = length ns / 3 in
+        let l : slots ks first (length ts) ≡ map (given ts ns) (from 0 (suc m)) = all-given ∙ ap (λ (n : ℕ). map (given ts ns) (from 0 n)) (sym z) in
+        record {
+          names = names-parameters ks written e ∙ rw (o, l, front-from (given ts ns) 0 m) (slot-names ts ns m refl);
+          fits = fits-parameters ks written (first + length ts) room bare-own e (rw (l, front-from (given ts ns) 0 m) (all-clean ts ns m))
+              (rw (l, last-from (given ts ns) 0 m, slot-bare ts ns (0 + m) (omega arith)) refl);
+        }
+
+    named-none : row ≡ NO-NAMES → length ns / 3 ≡ 0 → Named
+    named-none e z = record {
+      names = names-none ks written e ∙ rw (o, no-names ts ns z) refl;
+      fits = fits-none ks written (first + length ts) room bare-own e (rw all-given (all-bare ts ns (length ts) z));
+    }
 
   named-by : (a b c : Bool) → eqb row OWN-NAME ≡ a → eqb row CHILD-NAMES ≡ b → eqb row PARAMETER-NAMES ≡ c → namesFit (kindGiven k ts ns) ≡ true → Named
   unfolding namesFit kindGiven
-  named-by true b c e f g h = named-own e (omega (arith, eqb-true (suc (length (namesGiven ns))) 1 (rw e at h), names-count ts ns))
+  named-by true b c e f g h =
+      named-own (eqb-true row OWN-NAME e) (omega (arith, eqb-true (suc (length (namesGiven ns))) 1 (rw e at h), names-count ts ns))
   named-by false true c e f g h =
-      named-child e f (omega (arith, eqb-true (length (namesGiven ns)) (length (map tyOf ts)) (rw (e, f) at h), names-count ts ns, length-map ts tyOf))
+      named-child e (eqb-true row CHILD-NAMES f)
+      (omega (arith, eqb-true (length (namesGiven ns)) (length (map tyOf ts)) (rw (e, f) at h), names-count ts ns, length-map ts tyOf))
   named-by false false true e f g h =
-      named-parameters e f g
+      named-parameters e (eqb-true row PARAMETER-NAMES g)
       (omega (arith, eqb-true (suc (length (namesGiven ns))) (length (map tyOf ts)) (rw (e, f, g) at h), names-count ts ns, length-map ts tyOf))
   named-by false false false e f g h =
-      named-none e f g (omega (arith, eqb-true (length (namesGiven ns)) 0 (rw (e, f, g) at h), names-count ts ns))
+      let a : row ≡ OWN-NAME → ⊥ = eqb-false row OWN-NAME e in
+      let b : row ≡ CHILD-NAMES → ⊥ = eqb-false row CHILD-NAMES f in
+      let c : row ≡ PARAMETER-NAMES → ⊥ = eqb-false row PARAMETER-NAMES g in
+      named-none e (omega (arith, names-few (k .code))) (omega (arith, eqb-true (length (namesGiven ns)) 0 (rw (e, f, g) at h), names-count ts ns))
 
   module _ (fit : namesFit (kindGiven k ts ns) ≡ true) where
     named : Named
     named = named-by (eqb row OWN-NAME) (eqb row CHILD-NAMES) (eqb row PARAMETER-NAMES) refl refl refl fit
 
     kids-are : map (λ s. tyOf (s .type)) (slots ks first (length ts)) ≡ map tyOf ts
-    kids-are = rw run (map-map (λ s. tyOf (s .type)) (given ts ns) (from 0 (length ts)) ∙ map-get tyOf ts)
+    kids-are = rw all-given (map-map (λ s. tyOf (s .type)) (given ts ns) (from 0 (length ts)) ∙ map-get tyOf ts)
 
-    given-means : kindMeans ks (kindWritten k first (length ts)) ≡ kindGiven k ts ns
+    given-means : kindMeans ks written ≡ kindGiven k ts ns
     unfolding kindMeans kindGiven
     given-means = rw (named .names, kids-are) refl
 
-    given-fits : kindFits ks (first + length ts) (kindWritten k first (length ts)) ≡ true
-    unfolding kindFits
-    given-fits = and-both _ _ (le-leb (first + length ts) (first + length ts) (omega arith)) (named .clean)
+    given-fits : kindFits ks (first + length ts) written ≡ true
+    given-fits = named .fits
 
 put-run : {ts ns ks ks′ : List ℕ} {first : ℕ} → Put ts ns first (length ts) ks ks′ → slots ks′ first (length ts) ≡ map (given ts ns) (from 0 (length ts))
 put-run {ts} {ns} {ks′ = ks′} {first = first} o =
@@ -146,9 +178,9 @@ kids-count k ts ns = length-map ts tyOf
 
 children-in : {h ws ks : List ℕ} {n : ℕ} → Ready h ws ks 1 n → (childrenMade h + n < HALF) × (childWords (childrenMade h + n) ≤ length ks)
 children-in {h} {ws} {ks} {n} r =
-    let p : Parts (headerIn h) h ws ks = clean-parts h ws ks (r .clean) in
+    let p : Lies h ws ks = clean-lies h ws ks (r .clean) in
     let o : RoomIn h 1 n = ready-room r in
-    (omega arith, omega (arith, p .childLen, o .children))
+    (omega arith, omega (arith, p .childSlots, o .children))
 
 pub children-room : {h ws ks : List ℕ} {x : Header} {n : ℕ} → Ready h ws ks 1 n → x ≡ headerIn h
     → (x .children + n < HALF) × (childWords (x .children + n) ≤ length ks)

@@ -1,43 +1,58 @@
 -- A store without nodes: once the words of its slots are 0 and its header is written, the slices hold it. `open` clears all slots that the
 -- capacities need; `reset` the used ones, since in clean words the others are 0.
 -- Assumes nothing.
-use mathlib.Core.Path.{_≡_, refl, ap, sym, _∙_}
-use mathlib.Core.Bool.{true}
-use mathlib.Core.List.{List, []}
-use Prim.Native.Nat.{ℕ, _*_, _<_, _≤_}
+use mathlib.Core.Path.{_≡_, refl, ap, _∙_}
+use mathlib.Core.Bool.{Bool, true, _&&_}
+use mathlib.Core.List.{List}
+use Prim.Native.Nat.{ℕ, _≤_}
 use native.Mathlib.Omega.{arith}
-use lib.ListN.{length, drop}
+use lib.ListN.{length}
 use Rattle.scope.specs.Nodes.{opened}
 use Rattle.scope.specs.Force.{withReports, reset}
-use Rattle.layout.specs.Words.{HEAD-WORDS, nodeWords, childWords, nodesMade, childrenMade, nodeRoom, childRoom, reports, decode, storeIn, clean}
-use Rattle.layout.specs.Meaning.{headerIn, putHeader, storeMeans}
+use Rattle.scope.specs.Sound.{zeros}
+use Rattle.layout.specs.Words.{HEAD-WORDS, nodeWords, childWords, nodesMade, childrenMade, nodeRoom, childRoom, reports, decode, storeIn, between, unusedZero, clean}
+use Rattle.layout.specs.Meaning.{headerIn, putHeader, storeMeans, Clean, Lies}
 use Rattle.layout.specs.declared.Header.{Header}
-use Rattle.layout.proofs.Lists.{drop-later}
-use Rattle.make.specs.Holds.{Holds, Beyond, Became, Openable}
+use Rattle.layout.proofs.Lists.{and-both, and-left, and-right, drop-later}
+use Rattle.layout.proofs.StoreLaws.{tail-put-header, length-put-header, store-put, clean-lies, clean-unused, clean-of}
+use Rattle.make.specs.Holds.{Holds, Became, Openable}
 use Rattle.make.specs.Header.{cleared, fresh}
-use Rattle.make.proofs.Blank.{Blank, drop-cleared, length-cleared, blank-cleared}
-use Rattle.make.proofs.Parts.{Parts, clean-parts, drop-head, holds-put-head}
+use Rattle.make.proofs.Blank.{Blank, zeros-blank, blank-zeros, drop-cleared, length-cleared, blank-cleared}
 
 module _ (h ws ks : List ℕ) (n c r : ℕ) (head : HEAD-WORDS ≤ length h) (nodeLen : nodeWords n ≤ length ws) (childLen : childWords c ≤ length ks)
     (nodeRest : Blank ws 0 (nodeWords n)) (childRest : Blank ks 0 (childWords c)) where
-  fresh-parts : Parts (fresh n c r) h ws ks
-  fresh-parts = record {
-    head = head;
+  abbrev h′ : List ℕ
+  h′ = putHeader h (fresh n c r)
+
+  fresh-lies : Lies h′ ws ks
+  unfolding putHeader
+  fresh-lies = record {
+    head = omega (arith, length-put-header h (fresh n c r) head, head);
     nodes = omega arith;
     children = omega arith;
-    nodeLen = nodeLen;
-    childLen = childLen;
-    nodeRest = nodeRest;
-    childRest = childRest;
-    each = record { room = omega arith; each = λ i g. absurd (omega arith) };
+    nodeSlots = nodeLen;
+    childSlots = childLen;
   }
+
+  fresh-unused : unusedZero h′ ws ks ≡ true
+  unfolding unusedZero putHeader
+  fresh-unused =
+      and-both (zeros (between ws 0 (nodeWords n))) (zeros (between ks 0 (childWords c)))
+      (blank-zeros ws 0 (nodeWords n) nodeRest) (blank-zeros ks 0 (childWords c) childRest)
+
+  fresh-each : Clean ws ks 0 0
+  fresh-each = record { room = omega arith; each = λ i g. absurd (omega arith) }
+
+  fresh-clean : clean h′ ws ks ≡ true
+  unfolding putHeader
+  fresh-clean = clean-of h′ ws ks fresh-lies fresh-unused fresh-each
 
   fresh-store : storeMeans (fresh n c r) (decode ws ks 0) ≡ withReports (opened n c) r
   unfolding decode
   fresh-store = refl
 
-  fresh-holds : Holds (putHeader h (fresh n c r)) ws ks (withReports (opened n c) r)
-  fresh-holds = rw (← fresh-store) (holds-put-head h (fresh n c r) fresh-parts refl refl)
+  fresh-holds : Holds h′ ws ks (withReports (opened n c) r)
+  fresh-holds = record { clean = fresh-clean; is = store-put h (fresh n c r) refl refl ws ks ∙ fresh-store }
 
 -- a slots and b children are cleared; the others of n and c are 0
 
@@ -57,7 +72,7 @@ module _ (h ws ks : List ℕ) (n c r a b : ℕ) (head : HEAD-WORDS ≤ length h)
         (blank-cleared ws (nodeWords a) (nodeWords n) nodeRest)
         (blank-cleared ks (childWords b) (childWords c) childRest);
     beyond = record {
-      head = drop-head h (fresh n c r);
+      head = tail-put-header h (fresh n c r);
       nodes = drop-later (nodeWords a) (nodeWords n) ws′ ws (omega arith) (drop-cleared ws (nodeWords a));
       kids = drop-later (childWords b) (childWords c) ks′ ks (omega arith) (drop-cleared ks (childWords b));
     };
@@ -71,27 +86,47 @@ open-became {h} {ws} {ks} {n = n} {c = c} o p q r s t u =
 
 -- reset
 
-module _ (h ws ks : List ℕ) {x : Header} (ok : clean h ws ks ≡ true) (e : x ≡ headerIn h) where
-  parts-of : Parts x h ws ks
-  parts-of = rw e (clean-parts h ws ks ok)
+module _ (h ws ks : List ℕ) (ok : clean h ws ks ≡ true) where
+  abbrev nodesZero : Bool
+  nodesZero = zeros (between ws (nodeWords (nodesMade h)) (nodeWords (nodeRoom h)))
 
-  pub reset-nodes : {a : ℕ} → a ≡ nodeWords (x .nodes) → a ≤ length ws
-  reset-nodes q = omega (arith, parts-of .nodes, parts-of .nodeLen)
+  abbrev childrenZero : Bool
+  childrenZero = zeros (between ks (childWords (childrenMade h)) (childWords (childRoom h)))
 
-  pub reset-children : {a : ℕ} → a ≡ childWords (x .children) → a ≤ length ks
-  reset-children q = omega (arith, parts-of .children, parts-of .childLen)
+  unused : (nodesZero && childrenZero) ≡ true
+  unfolding unusedZero
+  unused = clean-unused h ws ks ok
+
+  nodes-blank : Blank ws (nodeWords (nodesMade h)) (nodeWords (nodeRoom h))
+  nodes-blank = zeros-blank ws (nodeWords (nodesMade h)) (nodeWords (nodeRoom h)) (and-left nodesZero childrenZero unused)
+
+  children-blank : Blank ks (childWords (childrenMade h)) (childWords (childRoom h))
+  children-blank = zeros-blank ks (childWords (childrenMade h)) (childWords (childRoom h)) (and-right nodesZero childrenZero unused)
+
+  reset-store : reset (storeIn h ws ks) ≡ withReports (opened (nodeRoom h) (childRoom h)) (reports h)
+  unfolding reset storeIn
+  reset-store = refl
 
   pub reset-head : HEAD-WORDS ≤ length h
-  reset-head = parts-of .head
+  reset-head = clean-lies h ws ks ok .head
 
-  reset-store : reset (storeIn h ws ks) ≡ withReports (opened (x .«node_room») (x .«child_room»)) (x .reports)
-  unfolding reset storeIn
-  reset-store = rw e refl
+  module _ {x : Header} (e : x ≡ headerIn h) where
+    pub reset-nodes : {a : ℕ} → a ≡ nodeWords (x .nodes) → a ≤ length ws
+    reset-nodes q =
+        let l : Lies h ws ks = clean-lies h ws ks ok in
+        let m : x .nodes ≡ nodesMade h = ap (λ (y : Header). y .nodes) e in
+        omega (arith, l .nodes, l .nodeSlots)
 
-  pub reset-became : {h′ ws′ ks′ : List ℕ} {a b : ℕ} {y : Header} → a ≡ nodeWords (x .nodes) → ws′ ≡ cleared ws a
-      → b ≡ childWords (x .children) → ks′ ≡ cleared ks b → y ≡ fresh (x .«node_room») (x .«child_room») (x .reports) → h′ ≡ putHeader h y
-      → Became h ws ks h′ ws′ ks′ (reset (storeIn h ws ks))
-  reset-became p q r s t u =
-      let o : Parts x h ws ks = parts-of in
-      rw (u, t, s, r, q, p, reset-store)
-      (emptied h ws ks (x .«node_room») (x .«child_room») (x .reports) (x .nodes) (x .children) (o .head) (o .nodeLen) (o .childLen) (o .nodes) (o .children) (o .nodeRest) (o .childRest))
+    pub reset-children : {a : ℕ} → a ≡ childWords (x .children) → a ≤ length ks
+    reset-children q =
+        let l : Lies h ws ks = clean-lies h ws ks ok in
+        let m : x .children ≡ childrenMade h = ap (λ (y : Header). y .children) e in
+        omega (arith, l .children, l .childSlots)
+
+    pub reset-became : {h′ ws′ ks′ : List ℕ} {a b : ℕ} {y : Header} → a ≡ nodeWords (x .nodes) → ws′ ≡ cleared ws a
+        → b ≡ childWords (x .children) → ks′ ≡ cleared ks b → y ≡ fresh (x .«node_room») (x .«child_room») (x .reports) → h′ ≡ putHeader h y
+        → Became h ws ks h′ ws′ ks′ (reset (storeIn h ws ks))
+    reset-became p q r s t u =
+        let l : Lies h ws ks = clean-lies h ws ks ok in
+        rw (u, t, s, r, q, p, e, reset-store)
+        (emptied h ws ks (nodeRoom h) (childRoom h) (reports h) (nodesMade h) (childrenMade h) (l .head) (l .nodeSlots) (l .childSlots) (l .nodes) (l .children) nodes-blank children-blank)

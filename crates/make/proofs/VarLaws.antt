@@ -1,8 +1,7 @@
 -- A run of variables is made at its end as well as at its front: one variable more is newVar on the store that the others left, and its type comes
 -- after theirs. So a loop that makes one after the other makes what newVars says.
 -- Assumes nothing.
-use mathlib.Core.Path.{_≡_, refl, ap, sym, _∙_}
-use mathlib.Core.Bool.{true}
+use mathlib.Core.Path.{_≡_, refl, ap, _∙_}
 use mathlib.Core.List.{List, [], _∷_, _++_, map, map-append, append-assoc}
 use Prim.Native.Nat.{ℕ, zero, suc, _+_, _<_, _≤_}
 use native.Mathlib.Omega.{arith}
@@ -10,14 +9,14 @@ use native.Mathlib.Nat.{add-zero}
 use native.Mathlib.Numerals.{add-one}
 use lib.ListN.{length, getD, drop, set, length-append, length-map, length-drop}
 use lib.Seq.{drop-cons, set-at}
-use Rattle.scope.specs.Types.{Ty, tyOf, wordOf}
+use Rattle.scope.specs.Types.{Ty, wordOf}
 use Rattle.scope.specs.Nodes.{Store}
 use Rattle.scope.specs.Make.{Made, MadeAll, newVar, newVars}
 use Rattle.scope.specs.Calls.{written}
 use Rattle.types.specs.declared.«Type».{«Type»}
 use Rattle.types.proofs.Laws.{word-is}
 use Rattle.layout.specs.Words.{storeIn, clean}
-use Rattle.make.specs.Holds.{Holds, Became, Room, Ready, MadeIs, MadeAllIs}
+use Rattle.make.specs.Holds.{Ready, MadeIs, MadeAllIs}
 use Rattle.make.proofs.Laws.{beyond-refl, beyond-trans}
 
 -- one variable after n others

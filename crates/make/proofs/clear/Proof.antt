@@ -8,8 +8,6 @@ use Rattle.make.specs.Header.{cleared}
 use Rattle.make.proofs.Blank.{cleared-length, cleared-more, cleared-end}
 use Rattle.make.proofs.clear.Statement.{statement}
 use Rattle.make.proofs.clear.Tie as tie
-use Rattle.make.proofs.clear.Reads as reads
-use Rattle.make.proofs.clear.Lts as lts
 
 abbrev Inv-loop : tie.InvT-loop
 Inv-loop s₀ e i₀ s i = (i ≤ e) × (s ≡ cleared s₀ i)

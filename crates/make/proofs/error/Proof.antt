@@ -5,11 +5,6 @@ use borrow.Author.Needs.{needs}
 use Rattle.make.proofs.MakeLaws.{pushable, error-ready, error-same, error-new}
 use Rattle.make.proofs.error.Statement.{statement}
 use Rattle.make.proofs.error.Tie as tie
-use Rattle.make.proofs.error.Reads as reads
-use Rattle.make.proofs.error.Lts as lts
-use Rattle.layout.proofs.read_header.Reads as read-header-reads
-use Rattle.make.proofs.bare_kind.Reads as bare-kind-reads
-use Rattle.make.proofs.push.Reads as push-reads
 
 read-header-requires : tie.Need-read-header-requires
 read-header-requires c κs = search needs

@@ -1,14 +1,9 @@
 -- `make::has_name` meets its contract. The row that is read is scope's, so its test of the names is that of ownNamed.
 -- Assumes nothing.
-use mathlib.Core.Path.{ap}
-use borrow.Author.Tests.{eq-eqb, ne-eqb}
 use Rattle.make.proofs.GivenLaws.{own-named, not-named}
 use borrow.Author.Needs.{needs}
 use Rattle.make.proofs.has_name.Statement.{statement}
 use Rattle.make.proofs.has_name.Tie as tie
-use Rattle.make.proofs.has_name.Reads as reads
-use Rattle.make.proofs.has_name.Lts as lts
-use Rattle.kinds.proofs.row_of.Reads as row-of-reads
 
 row-of-requires : tie.Need-row-of-requires
 row-of-requires c κs = search needs

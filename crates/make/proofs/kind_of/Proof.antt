@@ -3,10 +3,6 @@
 use borrow.Author.Needs.{needs}
 use Rattle.make.proofs.kind_of.Statement.{statement}
 use Rattle.make.proofs.kind_of.Tie as tie
-use Rattle.make.proofs.kind_of.Reads as reads
-use Rattle.make.proofs.kind_of.Lts as lts
-use Rattle.make.proofs.has_name.Reads as has-name-reads
-use Rattle.make.proofs.keep.Reads as keep-reads
 
 has-name-requires : tie.Need-has-name-requires
 has-name-requires c κs = search needs

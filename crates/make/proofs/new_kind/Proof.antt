@@ -6,12 +6,6 @@ use Rattle.make.proofs.NewLaws.{children-room, kind-made}
 use borrow.Author.Needs.{needs}
 use Rattle.make.proofs.new_kind.Statement.{statement}
 use Rattle.make.proofs.new_kind.Tie as tie
-use Rattle.make.proofs.new_kind.Reads as reads
-use Rattle.make.proofs.new_kind.Lts as lts
-use Rattle.layout.proofs.read_header.Reads as read-header-reads
-use Rattle.make.proofs.kind_of.Reads as kind-of-reads
-use Rattle.make.proofs.push.Reads as push-reads
-use Rattle.make.proofs.put_children.Reads as put-children-reads
 
 read-header-requires : tie.Need-read-header-requires
 read-header-requires c κs = search needs

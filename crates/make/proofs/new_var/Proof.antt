@@ -4,10 +4,6 @@ use borrow.Author.Needs.{needs}
 use Rattle.make.proofs.MakeLaws.{pushable, var-made}
 use Rattle.make.proofs.new_var.Statement.{statement}
 use Rattle.make.proofs.new_var.Tie as tie
-use Rattle.make.proofs.new_var.Reads as reads
-use Rattle.make.proofs.new_var.Lts as lts
-use Rattle.layout.proofs.read_header.Reads as read-header-reads
-use Rattle.make.proofs.push.Reads as push-reads
 
 read-header-requires : tie.Need-read-header-requires
 read-header-requires c κs = search needs

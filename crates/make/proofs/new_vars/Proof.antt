@@ -11,9 +11,6 @@ use Rattle.make.specs.Holds.{MadeAllIs}
 use Rattle.make.proofs.VarLaws.{vars-none, vars-ready, vars-length, vars-more, vars-end}
 use Rattle.make.proofs.new_vars.Statement.{statement}
 use Rattle.make.proofs.new_vars.Tie as tie
-use Rattle.make.proofs.new_vars.Reads as reads
-use Rattle.make.proofs.new_vars.Lts as lts
-use Rattle.make.proofs.new_var.Reads as new-var-reads
 
 abbrev Inv-loop : tie.InvT-loop
 Inv-loop h₀ ws₀ ks span count out₀ i₀ h ws out i = (i ≤ count) × ((length h ≡ length h₀) × ((length ws ≡ length ws₀) × MadeAllIs h₀ ws₀ ks h ws ks out₀ out (newVars (storeIn h₀ ws₀ ks) span i)))

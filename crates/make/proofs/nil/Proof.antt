@@ -5,11 +5,6 @@ use borrow.Author.Needs.{needs}
 use Rattle.make.proofs.MakeLaws.{pushable, nil-ready, nil-same, nil-new}
 use Rattle.make.proofs.nil.Statement.{statement}
 use Rattle.make.proofs.nil.Tie as tie
-use Rattle.make.proofs.nil.Reads as reads
-use Rattle.make.proofs.nil.Lts as lts
-use Rattle.layout.proofs.read_header.Reads as read-header-reads
-use Rattle.make.proofs.bare_kind.Reads as bare-kind-reads
-use Rattle.make.proofs.push.Reads as push-reads
 
 read-header-requires : tie.Need-read-header-requires
 read-header-requires c κs = search needs

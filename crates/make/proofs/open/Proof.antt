@@ -4,13 +4,6 @@ use Rattle.make.proofs.OpenLaws.{open-became}
 use borrow.Author.Needs.{needs}
 use Rattle.make.proofs.open.Statement.{statement}
 use Rattle.make.proofs.open.Tie as tie
-use Rattle.make.proofs.open.Reads as reads
-use Rattle.make.proofs.open.Lts as lts
-use Rattle.layout.proofs.child_words.Reads as child-words-reads
-use Rattle.layout.proofs.node_words.Reads as node-words-reads
-use Rattle.layout.proofs.write_header.Reads as write-header-reads
-use Rattle.make.proofs.clear.Reads as clear-reads
-use Rattle.make.proofs.no_nodes.Reads as no-nodes-reads
 
 node-words-requires : tie.Need-node-words-requires
 node-words-requires c κs = search needs

@@ -5,15 +5,10 @@ use mathlib.Core.Path.{_≡_, refl, _∙_}
 use Prim.Native.Nat.{_≤_, _-_}
 use native.Mathlib.Omega.{arith}
 use lib.ListN.{length}
-use borrow.Author.Needs.{needs}
 use Rattle.make.specs.Given.{Put}
 use Rattle.make.proofs.GivenLaws.{put-none, put-more, put-end}
 use Rattle.make.proofs.put_children.Statement.{statement}
 use Rattle.make.proofs.put_children.Tie as tie
-use Rattle.make.proofs.put_children.Reads as reads
-use Rattle.make.proofs.put_children.Lts as lts
-use Rattle.layout.proofs.put_child.Reads as put-child-reads
-use Rattle.make.proofs.slot_of.Reads as slot-of-reads
 
 abbrev Inv-loop : tie.InvT-loop
 Inv-loop ks₀ first types names from n i₀ ks i = (i ≤ n) × ((length ks ≡ length ks₀) × Put types names first i ks₀ ks)

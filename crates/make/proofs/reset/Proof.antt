@@ -4,14 +4,6 @@ use Rattle.make.proofs.OpenLaws.{reset-nodes, reset-children, reset-hea
 use borrow.Author.Needs.{needs}
 use Rattle.make.proofs.reset.Statement.{statement}
 use Rattle.make.proofs.reset.Tie as tie
-use Rattle.make.proofs.reset.Reads as reads
-use Rattle.make.proofs.reset.Lts as lts
-use Rattle.layout.proofs.child_words.Reads as child-words-reads
-use Rattle.layout.proofs.node_words.Reads as node-words-reads
-use Rattle.layout.proofs.read_header.Reads as read-header-reads
-use Rattle.layout.proofs.write_header.Reads as write-header-reads
-use Rattle.make.proofs.clear.Reads as clear-reads
-use Rattle.make.proofs.no_nodes.Reads as no-nodes-reads
 
 read-header-requires : tie.Need-read-header-requires
 read-header-requires c κs = search needs
@@ -32,7 +24,7 @@ no-nodes-requires : tie.Need-no-nodes-requires
 no-nodes-requires c κs = search needs
 
 write-header-requires : tie.Need-write-header-requires
-write-header-requires c κs = reset-head (c .before .before .before .before .before .before .before .before .before .before .before .before .before .before .before .before .before .args .h .now) (c .before .before .before .before .before .before .before .before .before .before .before .before .before .before .before .before .before .args .ws .now) (c .before .before .before .before .before .before .before .before .before .before .before .before .before .before .before .before .before .args .ks .now) (c .before .before .before .before .before .before .before .before .before .before .before .before .before .before .before .before .before .pre) (c .before .before .before .before .before .before .before .before .before .before .before .before .read-header .ensures)
+write-header-requires c κs = reset-head (c .before .before .before .before .before .before .before .before .before .before .before .before .before .before .before .before .before .args .h .now) (c .before .before .before .before .before .before .before .before .before .before .before .before .before .before .before .before .before .args .ws .now) (c .before .before .before .before .before .before .before .before .before .before .before .before .before .before .before .before .before .args .ks .now) (c .before .before .before .before .before .before .before .before .before .before .before .before .before .before .before .before .before .pre)
 
 same-length : tie.Need-same-length
 same-length c = search needs

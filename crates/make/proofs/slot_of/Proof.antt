@@ -5,9 +5,6 @@ use borrow.Author.Tests.{lt-leb}
 use Rattle.make.proofs.GivenLaws.{slot-is}
 use Rattle.make.proofs.slot_of.Statement.{statement}
 use Rattle.make.proofs.slot_of.Tie as tie
-use Rattle.make.proofs.slot_of.Reads as reads
-use Rattle.make.proofs.slot_of.Lts as lts
-use Rattle.make.proofs.keep.Reads as keep-reads
 
 mul-len : tie.Need-mul-len
 mul-len c = search needs
