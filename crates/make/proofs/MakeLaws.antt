@@ -107,7 +107,7 @@ fits-by : (b : Bool) (w : ℕ) → eqb w NONE ≡ b → rememberedFits (remember
 fits-by true w e = rw e refl
 fits-by false w e = rw (e, e) refl
 
-remembered-fits : (w : ℕ) → rememberedFits (rememberedOf w) ≡ true
+pub remembered-fits : (w : ℕ) → rememberedFits (rememberedOf w) ≡ true
 remembered-fits w = fits-by (eqb w NONE) w refl
 
 abbrev wasError : List ℕ → Remembered
