@@ -19,10 +19,14 @@ abbrev μ-loop : tie.MeasureT-loop
 μ-loop h₀ ws₀ ks span count out₀ i₀ h ws out i = count - i
 
 loop-holds : tie.Need-loop-holds Inv-loop μ-loop
-loop-holds c = (omega arith, (refl, (refl, vars-none (c .before .before .before .before .args .span) (c .before .before .before .before .pre .0))))
+loop-holds c =
+    let s = c .before .before .before .before in
+    (omega arith, (refl, (refl, vars-none (s .args .span) (s .pre .0))))
 
 new-var-requires : tie.Need-new-var-requires Inv-loop μ-loop
-new-var-requires c κs = vars-ready (c .before .before .before .before .before .before .before .before .args .span) (c .before .before .before .loop .i) (c .before .before .before .loop .inv .1 .1 .1) (c .before .before .before .before .before .before .before .before .pre .0) (omega arith)
+new-var-requires c κs =
+    let s = c .before .before .before .before .before .before .before .before in
+    vars-ready (s .args .span) (c .before .before .before .loop .i) (c .before .before .before .loop .inv .1 .1 .1) (s .pre .0) (omega arith)
 
 cast-at : tie.Need-cast-at Inv-loop μ-loop
 cast-at c = omega arith
@@ -31,7 +35,9 @@ mul-out : tie.Need-mul-out Inv-loop μ-loop
 mul-out c = omega arith
 
 slice-write-out : tie.Need-slice-write-out Inv-loop μ-loop
-slice-write-out c = omega (arith, vars-length (c .before .before .before .before .before .before .before .before .before .before .before .before .before .args .span) (c .before .before .before .before .before .before .before .before .loop .i) (c .before .before .before .before .before .before .before .before .loop .inv .1 .1 .1) (omega (arith, c .before .before .before .before .before .before .before .before .before .before .before .before .before .pre .1)))
+slice-write-out c =
+    let s = c .before .before .before .before .before .before .before .before .before .before .before .before .before in
+    omega (arith, vars-length (s .args .span) (c .before .before .before .before .before .before .before .before .loop .i) (c .before .before .before .before .before .before .before .before .loop .inv .1 .1 .1) (omega (arith, s .pre .1)))
 
 add-i : tie.Need-add-i Inv-loop μ-loop
 add-i c = omega arith
@@ -40,16 +46,9 @@ loop-less : tie.Need-loop-less Inv-loop μ-loop
 loop-less c = omega arith
 
 loop-again : tie.Need-loop-again Inv-loop μ-loop
-loop-again c = (
-  omega arith,
-  (
-    c .before .before .before .before .new-var .kept .0 ∙ c .before .before .before .before .before .before .before .before .loop .inv .1 .0,
-    (
-      c .before .before .before .before .new-var .kept .1 .0 ∙ c .before .before .before .before .before .before .before .before .loop .inv .1 .1 .0,
-      vars-more (c .before .before .before .before .before .before .before .before .before .before .before .before .before .args .span) (c .before .before .before .before .before .before .before .before .loop .i) (c .before .before .before .before .before .before .before .before .loop .inv .1 .1 .1) (c .before .before .before .before .new-var .ensures) (omega (arith, c .before .before .before .before .before .before .before .before .before .before .before .before .before .pre .1)) (omega (arith, c .before .before .before .before .new-var .ok)) refl,
-    ),
-  ),
-)
+loop-again c =
+    let s = c .before .before .before .before .before .before .before .before .before .before .before .before .before in
+    (omega arith, (c .before .before .before .before .new-var .kept .0 ∙ c .before .before .before .before .before .before .before .before .loop .inv .1 .0, (c .before .before .before .before .new-var .kept .1 .0 ∙ c .before .before .before .before .before .before .before .before .loop .inv .1 .1 .0, vars-more (s .args .span) (c .before .before .before .before .before .before .before .before .loop .i) (c .before .before .before .before .before .before .before .before .loop .inv .1 .1 .1) (c .before .before .before .before .new-var .ensures) (omega (arith, s .pre .1)) (omega (arith, c .before .before .before .before .new-var .ok)) refl)))
 
 same-length : tie.Need-same-length Inv-loop μ-loop
 same-length c = c .before .loop .inv .1 .0
@@ -58,7 +57,9 @@ same-length-2 : tie.Need-same-length-2 Inv-loop μ-loop
 same-length-2 c = c .before .loop .inv .1 .1 .0
 
 same-length-3 : tie.Need-same-length-3 Inv-loop μ-loop
-same-length-3 c = vars-length (c .before .before .before .before .before .before .args .span) (c .before .loop .i) (c .before .loop .inv .1 .1 .1) (omega (arith, c .before .before .before .before .before .before .pre .1))
+same-length-3 c =
+    let s = c .before .before .before .before .before .before in
+    vars-length (s .args .span) (c .before .loop .i) (c .before .loop .inv .1 .1 .1) (omega (arith, s .pre .1))
 
 returns : tie.Need-returns Inv-loop μ-loop
 returns c = vars-end (c .before .before .before .before .before .before .args .span) (c .before .loop .inv .1 .1 .1) (omega arith)

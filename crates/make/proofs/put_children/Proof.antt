@@ -36,7 +36,8 @@ loop-less c = omega arith
 
 loop-again : tie.Need-loop-again Inv-loop μ-loop
 loop-again c =
-    (omega arith, (c .before .before .put-child .kept .0 ∙ c .before .before .before .before .before .before .loop .inv .1 .0, put-more (c .before .before .before .before .before .before .before .before .before .before .args .types .now) (c .before .before .before .before .before .before .before .before .before .before .args .names .now) (c .before .before .before .before .before .before .before .before .before .before .args .first) (c .before .before .before .before .before .before .loop .i) (c .before .before .before .before .before .before .loop .inv .1 .1) (omega arith) (c .before .before .before .slot-of .ensures) (c .before .before .put-child .ensures)))
+    let s = c .before .before .before .before .before .before .before .before .before .before in
+    (omega arith, (c .before .before .put-child .kept .0 ∙ c .before .before .before .before .before .before .loop .inv .1 .0, put-more (s .args .types .now) (s .args .names .now) (s .args .first) (c .before .before .before .before .before .before .loop .i) (c .before .before .before .before .before .before .loop .inv .1 .1) (omega arith) (c .before .before .before .slot-of .ensures) (c .before .before .put-child .ensures)))
 
 same-length : tie.Need-same-length Inv-loop μ-loop
 same-length c = c .before .loop .inv .1 .0

@@ -12,19 +12,25 @@ node-words-requires : tie.Need-node-words-requires
 node-words-requires c κs = search needs
 
 clear-requires : tie.Need-clear-requires
-clear-requires c κs = reset-nodes (c .before .before .before .before .before .before .before .args .h .now) (c .before .before .before .before .before .before .before .args .ws .now) (c .before .before .before .before .before .before .before .args .ks .now) (c .before .before .before .before .before .before .before .pre) (c .before .before .read-header .ensures) (c .node-words .ensures)
+clear-requires c κs =
+    let s = c .before .before .before .before .before .before .before in
+    reset-nodes (s .args .h .now) (s .args .ws .now) (s .args .ks .now) (s .pre) (c .before .before .read-header .ensures) (c .node-words .ensures)
 
 child-words-requires : tie.Need-child-words-requires
 child-words-requires c κs = search needs
 
 clear-requires-2 : tie.Need-clear-requires-2
-clear-requires-2 c κs = reset-children (c .before .before .before .before .before .before .before .before .before .before .before .before .args .h .now) (c .before .before .before .before .before .before .before .before .before .before .before .before .args .ws .now) (c .before .before .before .before .before .before .before .before .before .before .before .before .args .ks .now) (c .before .before .before .before .before .before .before .before .before .before .before .before .pre) (c .before .before .before .before .before .before .before .read-header .ensures) (c .child-words .ensures)
+clear-requires-2 c κs =
+    let s = c .before .before .before .before .before .before .before .before .before .before .before .before in
+    reset-children (s .args .h .now) (s .args .ws .now) (s .args .ks .now) (s .pre) (c .before .before .before .before .before .before .before .read-header .ensures) (c .child-words .ensures)
 
 no-nodes-requires : tie.Need-no-nodes-requires
 no-nodes-requires c κs = search needs
 
 write-header-requires : tie.Need-write-header-requires
-write-header-requires c κs = reset-head (c .before .before .before .before .before .before .before .before .before .before .before .before .before .before .before .before .before .args .h .now) (c .before .before .before .before .before .before .before .before .before .before .before .before .before .before .before .before .before .args .ws .now) (c .before .before .before .before .before .before .before .before .before .before .before .before .before .before .before .before .before .args .ks .now) (c .before .before .before .before .before .before .before .before .before .before .before .before .before .before .before .before .before .pre)
+write-header-requires c κs =
+    let s = c .before .before .before .before .before .before .before .before .before .before .before .before .before .before .before .before .before in
+    reset-head (s .args .h .now) (s .args .ws .now) (s .args .ks .now) (s .pre)
 
 same-length : tie.Need-same-length
 same-length c = search needs
@@ -36,7 +42,9 @@ same-length-3 : tie.Need-same-length-3
 same-length-3 c = search needs
 
 returns : tie.Need-returns
-returns c = reset-became (c .before .before .before .before .before .before .before .before .before .before .before .before .before .before .before .before .before .before .before .before .args .h .now) (c .before .before .before .before .before .before .before .before .before .before .before .before .before .before .before .before .before .before .before .before .args .ws .now) (c .before .before .before .before .before .before .before .before .before .before .before .before .before .before .before .before .before .before .before .before .args .ks .now) (c .before .before .before .before .before .before .before .before .before .before .before .before .before .before .before .before .before .before .before .before .pre) (c .before .before .before .before .before .before .before .before .before .before .before .before .before .before .before .read-header .ensures) (c .before .before .before .before .before .before .before .before .before .before .before .before .before .node-words .ensures) (c .before .before .before .before .before .before .before .before .before .before .before .before .clear .ensures) (c .before .before .before .before .before .before .before .before .child-words .ensures) (c .before .before .before .before .before .before .before .clear2 .ensures) (c .before .before .before .no-nodes .ensures) (c .before .before .write-header .ensures)
+returns c =
+    let s = c .before .before .before .before .before .before .before .before .before .before .before .before .before .before .before .before .before .before .before .before in
+    reset-became (s .args .h .now) (s .args .ws .now) (s .args .ks .now) (s .pre) (c .before .before .before .before .before .before .before .before .before .before .before .before .before .before .before .read-header .ensures) (c .before .before .before .before .before .before .before .before .before .before .before .before .before .node-words .ensures) (c .before .before .before .before .before .before .before .before .before .before .before .before .clear .ensures) (c .before .before .before .before .before .before .before .before .child-words .ensures) (c .before .before .before .before .before .before .before .clear2 .ensures) (c .before .before .before .no-nodes .ensures) (c .before .before .write-header .ensures)
 
 pub reset-spec : {M : Type 1} → statement M
 reset-spec =

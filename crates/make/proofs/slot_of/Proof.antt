@@ -52,7 +52,9 @@ keep-requires-2 : tie.Need-keep-requires-2
 keep-requires-2 c κs = search needs
 
 returns-2 : tie.Need-returns-2
-returns-2 c = slot-is (c .before .before .before .before .before .before .before .before .before .args .types .now) (c .before .before .before .before .before .before .before .before .before .args .names .now) (c .before .before .before .before .before .before .before .before .before .args .i) (c .before .before .before .before .before .if1 .left) (c .before .before .keep .ensures) (c .keep2 .ensures)
+returns-2 c =
+    let s = c .before .before .before .before .before .before .before .before .before in
+    slot-is (s .args .types .now) (s .args .names .now) (s .args .i) (c .before .before .before .before .before .if1 .left) (c .before .before .keep .ensures) (c .keep2 .ensures)
 
 pub slot-of-spec : {M : Type 1} → statement M
 slot-of-spec =

@@ -1,0 +1,79 @@
+-- A list that is changed node by node from the front: below i it is what it is to become, from i on what it was. What was to be done is done at its
+-- end. And `find_mut` changes links alone, so each node keeps its state and its size.
+-- Assumes nothing.
+use mathlib.Core.Path.{_≡_, refl, ap, sym, _∙_}
+use mathlib.Core.Bool.{Bool, true, false}
+use mathlib.Core.List.{List, map}
+use Prim.Native.Nat.{ℕ, zero, suc, _+_, _<_, _≤_}
+use native.Mathlib.Omega.{arith}
+use lib.Dec.{eqb}
+use lib.ListN.{length, getD, set, length-set, List·getD-map}
+use lib.Seq.{getD-set-same, getD-set-other, map-set-same, ext-getD}
+use borrow.Author.Tests.{eqb-true, eqb-false}
+use Rattle.scope.specs.Types.{Ty, flip}
+use Rattle.scope.specs.Nodes.{State, Node, Root, Child, at, stateOf, sizeOf, find, point, compress, findMut}
+use Rattle.layout.proofs.Laws.{past}
+
+-- node by node
+
+pub record Going (from to : List Node) (i : ℕ) (ns : List Node) : Type 0 where
+  pub long : length ns ≡ length from
+  pub below : (j : ℕ) → j < i → at ns j ≡ at to j
+  pub above : (j : ℕ) → i ≤ j → at ns j ≡ at from j
+
+pub going-start : (from to : List Node) → Going from to 0 from
+going-start from to = record { long = refl; below = λ j h. absurd (omega arith); above = λ j h. refl }
+
+module _ {from to ns : List Node} {i : ℕ} (g : Going from to i ns) where
+  pub going-skip : at to i ≡ at from i → Going from to (i + 1) ns
+  going-skip e = record { long = g .long; below = λ j h. go (eqb j i) j refl h; above = λ j h. g .above j (omega arith) }
+    where
+      go : (b : Bool) (j : ℕ) → eqb j i ≡ b → j < i + 1 → at ns j ≡ at to j
+      go true j q h = rw (eqb-true j i q) (g .above i (omega arith) ∙ sym e)
+      go false j q h = let z : j ≡ i → ⊥ = eqb-false j i q in g .below j (omega arith)
+
+  pub going-put : (v : Node) → i < length from → at to i ≡ v → Going from to (i + 1) (set ns i v)
+  going-put v l e = record {
+    long = length-set ns i v ∙ g .long;
+    below = λ j h. go (eqb j i) j refl h;
+    above = λ j h. getD-set-other ns i j v past (λ z. omega arith) ∙ g .above j (omega arith);
+  }
+    where
+      go : (b : Bool) (j : ℕ) → eqb j i ≡ b → j < i + 1 → at (set ns i v) j ≡ at to j
+      go true j q h = rw (eqb-true j i q) (getD-set-same ns i v past (omega (arith, g .long)) ∙ sym e)
+      go false j q h =
+          let z : j ≡ i → ⊥ = eqb-false j i q in
+          getD-set-other ns i j v past z ∙ g .below j (omega arith)
+
+  pub going-end : length from ≤ i → length to ≡ length from → ns ≡ to
+  going-end l e = ext-getD past ns to (g .long ∙ sym e) (λ j h. g .below j (omega (arith, g .long)))
+
+-- states and sizes
+
+abbrev own : Node → State × ℕ
+own v = (stateOf v, sizeOf v)
+
+own-point : (v : Node) (k : List Node → Ty → List Node) (ns : List Node) (r t : Ty) → ((ms : List Node) (u : Ty) → map own (k ms u) ≡ map own ms)
+    → at ns (t .idx) ≡ v → map own (point v k ns r t) ≡ map own ns
+own-point (Root st z) k ns r t h e = refl
+own-point (Child u) k ns r t h e =
+    h (set ns (t .idx) (Child (flip (t .inv) r))) (flip (t .inv) u)
+    ∙ map-set-same own ns (t .idx) (Child (flip (t .inv) r)) past (sym (ap own e))
+
+own-compress : (f : ℕ) (ns : List Node) (r t : Ty) → map own (compress f ns r t) ≡ map own ns
+unfolding compress
+own-compress zero ns r t = refl
+own-compress (suc f) ns r t = own-point (at ns (t .idx)) (λ ms u. compress f ms r u) ns r t (λ ms u. own-compress f ms r u) refl
+
+module _ (ns : List Node) (t : Ty) (i : ℕ) where
+  own-kept : own (at (findMut ns t) i) ≡ own (at ns i)
+  unfolding findMut
+  own-kept =
+      sym (List·getD-map own (findMut ns t) i past)
+      ∙ (ap (λ l. getD l i (own past)) (own-compress (length ns) ns (find ns t) t) ∙ List·getD-map own ns i past)
+
+  pub state-kept : stateOf (at (findMut ns t) i) ≡ stateOf (at ns i)
+  state-kept = ap (λ p. p .0) own-kept
+
+  pub size-kept : sizeOf (at (findMut ns t) i) ≡ sizeOf (at ns i)
+  size-kept = ap (λ p. p .1) own-kept

@@ -1,0 +1,166 @@
+// "An Unknown becomes InferenceFailed, its span is in the answer and one report count .. rises": a kind is forced; and roots that have none are
+// finished. Each does what scope's definition says of the store that three lent slices hold.
+ghost use mathlib.Core.Path.{_≡_};
+ghost use mathlib.Core.Bool.{true};
+ghost use Prim.Native.Nat.{_≤_};
+ghost use lib.ListN.{length};
+ghost use Rattle.scope.specs.Nodes.{withNodes};
+ghost use Rattle.scope.specs.Force.{report, finishInference, finishWhere};
+ghost use Rattle.layout.specs.Words.{nodeWords, storeIn, clean};
+ghost use Rattle.layout.specs.Meaning.{readAt};
+ghost use Rattle.make.specs.Holds.{Became};
+ghost use Rattle.force.specs.Finish.{defaultRoot, finishWords, chosen};
+ghost use Rattle.force.specs.Forcing.{nodeState, nodeSize, reporting, ForcedIs};
+use kinds::DEFAULT;
+use layout::Header;
+use layout::Kind;
+use layout::NONE;
+use layout::TypeNode;
+use layout::TypeState;
+use types::Inverted;
+use types::Type;
+use types::TypeIdx;
+
+// "A u64 that stops at its largest value."
+pub const MAX_REPORTS: u64 = 18_446_744_073_709_551_615;
+
+// What a forced type has: its inversion and kind; or none, and then the span of a type that had not failed before.
+pub enum Forced {
+    Known(Inverted, Kind),
+    Reported(u32),
+    Failed,
+}
+
+// A root whose kind is Default.
+fn default_root(size: u32) -> TypeNode
+    ensures { λ r. ⌜ r ≡ defaultRoot size ⌝ }
+{
+    let kind = make::bare_kind(DEFAULT);
+    TypeNode::Root {
+        state: TypeState::Known(Inverted(false), kind),
+        size,
+    }
+}
+
+// Node i of n: a root without a kind gets one.
+fn finish_node(ws: &mut [u32], n: u32, i: u32)
+    requires { ⌜ nodeWords n ≤ length (now ws) ⌝ }
+    ensures { λ _. ⌜ now (ws .exit) ≡ finishWords (now (ws .entry)) n i (readAt (now (ws .entry)) n i) ⌝ }
+{
+    let node = layout::node_at(ws, n, TypeIdx(i));
+    match node {
+        TypeNode::Child(_) => {}
+        TypeNode::Root { state, size } => match state {
+            TypeState::Known(_, _) => {}
+            TypeState::Unknown(_) => layout::put_node(ws, n, TypeIdx(i), default_root(size)),
+            TypeState::InferenceFailed => layout::put_node(ws, n, TypeIdx(i), default_root(size)),
+        },
+    }
+}
+
+// Every root without a kind gets Default.
+pub fn finish_inference(h: &[u32], ws: &mut [u32], ks: &[u32])
+    requires { ⌜ clean (now h) (now ws) (now ks) ≡ true ⌝ }
+    ensures { λ _. ⌜ Became (now (h .entry)) (now (ws .entry)) (now (ks .entry)) (now (h .entry)) (now (ws .exit)) (now (ks .entry)) (withNodes (storeIn (now (h .entry)) (now (ws .entry)) (now (ks .entry))) (finishInference (storeIn (now (h .entry)) (now (ws .entry)) (now (ks .entry)) .nodes))) ⌝ }
+{
+    let n = layout::read_header(h).nodes;
+    let mut i = 0;
+    while i < n {
+        finish_node(ws, n, i);
+        i += 1;
+    }
+}
+
+// "A lent byte for each node, nonzero chooses, absent means no."
+fn is_chosen(bytes: &[u8], i: u32) -> bool
+    ensures { λ r. ⌜ r ≡ chosen (now (bytes .entry)) i ⌝ }
+{
+    let at = i as usize;
+    if at < bytes.len() {
+        bytes[at] != 0
+    } else {
+        false
+    }
+}
+
+// Every chosen root without a kind gets Default.
+pub fn finish_inference_where(h: &[u32], ws: &mut [u32], ks: &[u32], bytes: &[u8])
+    requires { ⌜ clean (now h) (now ws) (now ks) ≡ true ⌝ }
+    ensures { λ _. ⌜ Became (now (h .entry)) (now (ws .entry)) (now (ks .entry)) (now (h .entry)) (now (ws .exit)) (now (ks .entry)) (withNodes (storeIn (now (h .entry)) (now (ws .entry)) (now (ks .entry))) (finishWhere (now (bytes .entry)) (storeIn (now (h .entry)) (now (ws .entry)) (now (ks .entry)) .nodes))) ⌝ }
+{
+    let n = layout::read_header(h).nodes;
+    let mut next = 0;
+    while next < n {
+        let i = next;
+        next += 1;
+        if is_chosen(bytes, i) {
+            finish_node(ws, n, i);
+        }
+    }
+}
+
+// A child has no state of its own, and no size.
+fn state_of(node: TypeNode) -> TypeState
+    ensures { λ r. ⌜ r ≡ nodeState node ⌝ }
+{
+    match node {
+        TypeNode::Root { state, size: _ } => state,
+        TypeNode::Child(_) => TypeState::Unknown(NONE),
+    }
+}
+
+fn size_of(node: TypeNode) -> u32
+    ensures { λ r. ⌜ r ≡ nodeSize node ⌝ }
+{
+    match node {
+        TypeNode::Root { state: _, size } => size,
+        TypeNode::Child(_) => 0,
+    }
+}
+
+fn one_more(n: u64) -> u64
+    ensures { λ r. ⌜ r ≡ report n ⌝ }
+{
+    if n < MAX_REPORTS { n + 1 } else { n }
+}
+
+fn with_reports(x: Header, reports: u64) -> Header
+    ensures { λ r. ⌜ r ≡ reporting x reports ⌝ }
+{
+    let error = x.error;
+    let nil = x.nil;
+    Header {
+        nodes: x.nodes,
+        children: x.children,
+        node_room: x.node_room,
+        child_room: x.child_room,
+        error,
+        nil,
+        reports,
+    }
+}
+
+// The kind of a type, or the span to report at.
+pub fn force_kind(h: &mut [u32], ws: &mut [u32], ks: &[u32], t: Type) -> Forced
+    requires { ⌜ clean (now h) (now ws) (now ks) ≡ true ⌝ }
+    ensures { λ r. ⌜ ForcedIs (now (h .entry)) (now (ws .entry)) (now (ks .entry)) (now (h .exit)) (now (ws .exit)) t r ⌝ }
+{
+    let x = layout::read_header(h);
+    let root = roots::find_mut(ws, x.nodes, t);
+    let i = root.idx();
+    let node = layout::node_at(ws, x.nodes, i);
+    let state = state_of(node);
+    match state {
+        TypeState::Known(inv, kind) => Forced::Known(inv.xor(root.inv()), kind),
+        TypeState::Unknown(span) => {
+            let failed = TypeNode::Root {
+                state: TypeState::InferenceFailed,
+                size: size_of(node),
+            };
+            layout::put_node(ws, x.nodes, i, failed);
+            layout::write_header(h, with_reports(x, one_more(x.reports)));
+            Forced::Reported(span)
+        }
+        TypeState::InferenceFailed => Forced::Failed,
+    }
+}
