@@ -19,7 +19,7 @@ use Rattle.layout.specs.declared.TypeNode.{TypeNode}
 use Rattle.layout.specs.declared.TypeNode.the-variants.{Root, Child}
 use Rattle.layout.proofs.Laws.{length-put}
 use Rattle.make.specs.Holds.{Holds, Beyond, Became}
-use Rattle.make.proofs.Laws.{store-count, holds-here, holds-clean, holds-read, holds-put, beyond-put, beyond-refl, beyond-trans}
+use Rattle.make.proofs.Laws.{store-count, holds-clean, holds-read, holds-put, beyond-put, beyond-refl, beyond-trans}
 use Rattle.make.proofs.MakeLaws.{bare-means, bare-fits}
 use Rattle.force.specs.Finish.{defaultRoot, finishWords, chosen}
 use Rattle.force.proofs.Laws.{Going, going-start, going-skip, going-put, going-end}
@@ -85,7 +85,7 @@ module _ {h ws₀ ks ws : List ℕ} {to : List Node} {i : ℕ} (o : Turned h ws�
   from = storeIn h ws₀ ks .nodes
 
   held : Holds h ws ks (storeIn h ws ks)
-  held = holds-here (o .clean)
+  held = record { clean = o .clean; is = refl }
 
   pub turned-room : {n : ℕ} → n ≡ nodesMade h → nodeWords n ≤ length ws
   turned-room e = rw e (holds-clean held .room)

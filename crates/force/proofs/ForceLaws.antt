@@ -27,7 +27,7 @@ use Rattle.layout.proofs.StoreLaws.{tail-put-header, length-put-header, store-h
 use Rattle.roots.specs.Found.{FoundMut}
 use Rattle.make.specs.Holds.{Holds, Beyond, Became}
 use Rattle.make.proofs.MakeLaws.{remembered-fits}
-use Rattle.make.proofs.Laws.{holds-here, holds-nodes, holds-lies, holds-clean, holds-read, holds-fits, holds-with, beyond-with, holds-put, beyond-put}
+use Rattle.make.proofs.Laws.{holds-nodes, holds-lies, holds-clean, holds-read, holds-fits, holds-with, beyond-with, holds-put, beyond-put}
 use Rattle.force.specs.Forcing.{nodeState, nodeSize, reporting, ForcedIs}
 use Rattle.force.specs.declared.Forced.the-variants.{Known, Reported, Failed}
 use Rattle.force.proofs.Laws.{state-kept}
@@ -115,7 +115,7 @@ module _ (h ws ks : List ℕ) {ws′ : List ℕ} {x : Header} {t r : «Type»} {
   R = find (s .nodes) T
 
   held : Holds h ws ks s
-  held = holds-here ok
+  held = record { clean = ok; is = refl }
 
   found : FoundMut ws (nodesMade h) ws′ (t .0) (r .0)
   found = rw e at f

@@ -1,5 +1,5 @@
-// "An Unknown becomes InferenceFailed, its span is in the answer and one report count .. rises": a kind is forced; and roots that have none are
-// finished. Each does what scope's definition says of the store that three lent slices hold.
+// "An Unknown becomes InferenceFailed, its span is in the answer and one report count rises." And what gives every root a kind at the end.
+// Each does what scope's definition says of the store that three lent slices hold.
 ghost use mathlib.Core.Path.{_≡_};
 ghost use mathlib.Core.Bool.{true};
 ghost use Prim.Native.Nat.{_≤_};

@@ -21,7 +21,7 @@ use Rattle.layout.proofs.Laws.{length-decode, length-put, tail-put, decode-put,
 use Rattle.layout.proofs.ChildLaws.{decode-kept, clean-kept}
 use Rattle.layout.proofs.LinkLaws.{clean-linked}
 use Rattle.layout.proofs.StoreLaws.{tail-put-header, length-put-header, store-put, clean-lies, clean-unused, clean-nodes, clean-of, unused-grown}
-use Rattle.make.specs.Holds.{Holds, Beyond, Became, Room, Ready}
+use Rattle.make.specs.Holds.{Holds, Beyond}
 use Rattle.make.specs.Header.{grown}
 
 -- what a store's parts are in words
@@ -37,10 +37,6 @@ module _ (h ws ks : List ℕ) where
   pub store-children : storeIn h ws ks .children ≡ childrenMade h
   unfolding storeIn
   store-children = refl
-
--- clean slices hold the store in them
-pub holds-here : {h ws ks : List ℕ} → clean h ws ks ≡ true → Holds h ws ks (storeIn h ws ks)
-holds-here ok = record { clean = ok; is = refl }
 
 -- slices that hold a store are clean, node by node
 
@@ -63,10 +59,6 @@ module _ {h ws ks : List ℕ} {s : nodes.Store} (o : Holds h ws ks s) where
   pub holds-children : childrenMade h ≡ s .children
   holds-children = sym (store-children h ws ks) ∙ ap (λ (x : nodes.Store). x .children) (o .is)
 
-  -- room in the store is room in the slices
-  pub holds-ready : {n c : ℕ} → Room s n c → Ready h ws ks n c
-  holds-ready r = record { clean = o .clean; room = rw (o .is) r }
-
   -- a node that was read is the store's, and may be put back
   pub holds-read : {v : TypeNode} (i : ℕ) → v ≡ readAt ws (nodesMade h) i → nodes.at (s .nodes) i ≡ nodeMeans ks v
   holds-read i e =
@@ -81,11 +73,6 @@ beyond-refl = record { head = refl; nodes = refl; kids = refl }
 pub beyond-trans : {n c : ℕ} {h ws ks h′ ws′ ks′ h″ ws″ ks″ : List ℕ} → Beyond n c h ws ks h′ ws′ ks′ → Beyond n c h′ ws′ ks′ h″ ws″ ks″
     → Beyond n c h ws ks h″ ws″ ks″
 beyond-trans a b = record { head = b .head ∙ a .head; nodes = b .nodes ∙ a .nodes; kids = b .kids ∙ a .kids }
-
--- one step after the other, while the capacities stay
-pub became-trans : {h ws ks h′ ws′ ks′ h″ ws″ ks″ : List ℕ} {s s′ : nodes.Store} → Became h ws ks h′ ws′ ks′ s → Became h′ ws′ ks′ h″ ws″ ks″ s′
-    → s .nodeRoom ≡ s′ .nodeRoom → s .childRoom ≡ s′ .childRoom → Became h ws ks h″ ws″ ks″ s′
-became-trans a b n c = record { holds = b .holds; beyond = beyond-trans (rw (n, c) at (a .beyond)) (b .beyond) }
 
 -- other node words under the same header
 

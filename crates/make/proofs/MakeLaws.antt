@@ -10,7 +10,7 @@ use native.Mathlib.Omega.{arith}
 use lib.Dec.{eqb}
 use lib.ListN.{length, getD, drop}
 use borrow.Author.Tests.{ne-eqb}
-use Rattle.scope.specs.Limits.{MAX-NODES, MAX-CHILDREN, NONE}
+use Rattle.scope.specs.Limits.{NONE}
 use Rattle.scope.specs.Types.{Ty, ty, tyOf}
 use Rattle.scope.specs.Kinds.{rowOf, rows, NO-NAMES, TUPLE, ERROR}
 use Rattle.scope.specs.Nodes as nodes
@@ -31,7 +31,7 @@ use Rattle.layout.proofs.KindLaws.{names-none, fits-none}
 use Rattle.layout.proofs.StoreLaws.{clean-lies, remembered-means}
 use Rattle.make.specs.Holds.{Became, Ready, MadeIs}
 use Rattle.make.specs.Header.{Pushable, Pushed, bareKind}
-use Rattle.make.proofs.Laws.{store-count, holds-here, beyond-refl, push-holds, push-beyond}
+use Rattle.make.proofs.Laws.{store-count, beyond-refl, push-holds, push-beyond}
 
 -- a store that remembers other types
 abbrev pub remembering : nodes.Store → Option Ty → Option Ty → nodes.Store
@@ -47,8 +47,8 @@ remembering s e z = record {
 
 -- room, in the header's words
 pub record RoomIn (h : List ℕ) (n c : ℕ) : Type 0 where
-  pub nodeLimit : nodeRoom h ≤ MAX-NODES
-  pub childLimit : childRoom h ≤ MAX-CHILDREN
+  pub nodeLimit : nodeRoom h ≤ 4096
+  pub childLimit : childRoom h ≤ 16384
   pub nodes : nodesMade h + n ≤ nodeRoom h
   pub children : childrenMade h + c ≤ childRoom h
 
@@ -198,7 +198,7 @@ module _ (s : nodes.Store) where
 
 -- one that is remembered is returned, and nothing changes
 same-made : {h ws ks : List ℕ} (t : «Type») → clean h ws ks ≡ true → MadeIs h ws ks h ws ks t (record { type = tyOf (t .0); store = storeIn h ws ks })
-same-made t ok = record { type = refl; store = record { holds = holds-here ok; beyond = beyond-refl } }
+same-made t ok = record { type = refl; store = record { holds = record { clean = ok; is = refl }; beyond = beyond-refl } }
 
 module _ (h ws ks : List ℕ) {x : Header} (q : x ≡ headerIn h) where
   was-error : {r : Remembered} → x .error ≡ r → storeIn h ws ks .error ≡ rememberedMeans r

@@ -7,7 +7,6 @@ use mathlib.Core.List.{List}
 use Prim.Native.Nat.{ℕ, _≤_}
 use native.Mathlib.Omega.{arith}
 use lib.ListN.{length}
-use Rattle.scope.specs.Limits.{MAX-NODES, MAX-CHILDREN}
 use Rattle.scope.specs.Nodes.{opened}
 use Rattle.scope.specs.Force.{withReports, reset}
 use Rattle.scope.specs.Sound.{zeros}
@@ -16,9 +15,8 @@ use Rattle.layout.specs.Meaning.{headerIn, putHeader, storeMeans, Clean, Lies}
 use Rattle.layout.specs.declared.Header.{Header}
 use Rattle.layout.proofs.Lists.{and-both, and-left, and-right, drop-later}
 use Rattle.layout.proofs.StoreLaws.{tail-put-header, length-put-header, store-put, clean-lies, clean-unused, clean-of}
-use Rattle.make.specs.Holds.{Holds, Became, Openable, Ready}
+use Rattle.make.specs.Holds.{Holds, Became, Openable}
 use Rattle.make.specs.Header.{cleared, fresh}
-use Rattle.make.proofs.Laws.{holds-ready}
 use Rattle.make.proofs.Blank.{Blank, zeros-blank, blank-zeros, drop-cleared, length-cleared, blank-cleared}
 
 module _ (h ws ks : List ℕ) (n c r : ℕ) (head : HEAD-WORDS ≤ length h) (nodeLen : nodeWords n ≤ length ws) (childLen : childWords c ≤ length ks)
@@ -85,11 +83,6 @@ pub open-became : {h ws ks h′ ws′ ks′ : List ℕ} {n c a b : ℕ} {x : Hea
 open-became {h} {ws} {ks} {n = n} {c = c} o p q r s t u =
     rw (u, t, s, r, q, p)
     (emptied h ws ks n c 0 n c (o .head) (o .nodeLen) (o .childLen) (omega arith) (omega arith) (λ i l g. absurd (omega arith)) (λ i l g. absurd (omega arith)))
-
--- a store just opened has room for all that it was opened for
-pub opened-ready : {h ws ks h′ ws′ ks′ : List ℕ} {n c a b : ℕ} → Became h ws ks h′ ws′ ks′ (opened n c) → n ≤ MAX-NODES → c ≤ MAX-CHILDREN
-    → a ≤ n → b ≤ c → Ready h′ ws′ ks′ a b
-opened-ready o n c a b = holds-ready (o .holds) (record { nodeLimit = n; childLimit = c; nodes = omega arith; children = omega arith })
 
 -- reset
 

@@ -17,7 +17,7 @@ use Rattle.types.specs.declared.«Type».{«Type»}
 use Rattle.types.proofs.Laws.{word-is}
 use Rattle.layout.specs.Words.{storeIn, clean}
 use Rattle.make.specs.Holds.{Ready, MadeIs, MadeAllIs}
-use Rattle.make.proofs.Laws.{holds-here, beyond-refl, beyond-trans}
+use Rattle.make.proofs.Laws.{beyond-refl, beyond-trans}
 
 -- one variable after n others
 abbrev after : MadeAll → ℕ → MadeAll
@@ -110,7 +110,7 @@ module _ {h₀ ws₀ ks h ws out₀ out : List ℕ} (p i : ℕ) (o : MadeAllIs h
 
 pub vars-none : {h ws ks out : List ℕ} {n : ℕ} (p : ℕ) → Ready h ws ks n 0 → MadeAllIs h ws ks h ws ks out out (newVars (storeIn h ws ks) p 0)
 unfolding newVars
-vars-none p r = record { types = refl; store = record { holds = holds-here (r .clean); beyond = beyond-refl } }
+vars-none p r = record { types = refl; store = record { holds = record { clean = r .clean; is = refl }; beyond = beyond-refl } }
 
 pub vars-end : {h₀ ws₀ ks h ws out₀ out : List ℕ} (p : ℕ) {i n : ℕ} → MadeAllIs h₀ ws₀ ks h ws ks out₀ out (newVars (storeIn h₀ ws₀ ks) p i) → i ≡ n
     → MadeAllIs h₀ ws₀ ks h ws ks out₀ out (newVars (storeIn h₀ ws₀ ks) p n)
