@@ -1,0 +1,172 @@
+"""Cases as a list of calls for crates/trial, and the lines that the Rust's answers make it write."""
+
+KINDS = ["Param", "Tuple", "Object", "Opaque", "Struct", "Enum", "Union", "Fn", "Closure", "Ref", "Key",
+         "IfConst", "Never", "Default", "Error"]
+NODES, CHILDREN = 200, 800  # room of every store here
+INVERSE = 2 ** 31           # a type's number: its node's, and this if it is inverted
+LIST = 255                  # room for an answer's list
+
+# The calls' numbers in crates/trial.
+OPS = {"rule": 0, "text": 1, "chart": 2, "beside": 3, "lend": 4, "case": 7, "open": 10, "reset": 11, "new": 12,
+       "new_struct": 13, "new_union": 14, "new_var": 15, "new_vars": 16, "error": 17, "nil": 18, "force_kind": 19,
+       "finish_inference": 20, "finish_inference_where": 21, "find": 30, "find_mut": 31, "is_nil": 36,
+       "self_inverse": 38, "get_mod": 39, "find_related": 40, "store": 41, "unify": 50, "unify_types": 51,
+       "unify_objects": 52, "unify_fn_sig": 53, "unify_impl_type": 54, "approx_eq": 55}
+# No part of the program, and they change no store.
+SKIPPED = ("show", "show_impl_type", "export")
+ERROR_KIND = "14 0 0 0"
+
+
+def line(op, *numbers):
+    return " ".join(map(str, [OPS[op], len(numbers), *numbers])) + f" # {op}\n"
+
+
+def word(t):
+    return t["node"] + INVERSE * t["inv"]
+
+
+def words(ts):
+    return [word(t) for t in ts]
+
+
+def place(n):
+    return [0, 0, 0] if n is None else [n["text"], n["start"], n["len"]]
+
+
+def entries(names, kids):
+    """Four numbers for each child; a Closure's return has no name."""
+    names = list(names) + [None] * (len(kids) - len(names))
+    return [n for name, kid in zip(names, kids) for n in [word(kid), *place(name)]]
+
+
+def new(kind):
+    own = kind["kind"] in ("Param", "Key")
+    name = place(kind["names"][0] if own else None)
+    return [KINDS.index(kind["kind"]), kind["number"], kind["flex"], *name,
+            *entries([] if own else kind["names"], kind["kids"])]
+
+
+def impl(i):
+    return ([1, 0], []) if i["is"] == "error" else ([0, i["trait"]], words(i["types"]))
+
+
+def impls(a, b):
+    (p, xs), (q, ys) = impl(a), impl(b)
+    return [*p, *q, len(xs), *xs, *ys]
+
+
+def lists(inv, xs, ys):
+    return [inv, len(xs), *xs, *ys]
+
+
+# For each call, its numbers.
+ARGS = {
+    "new": lambda a: new(a["kind"]),
+    "new_struct": lambda a: [a["record"], *words(a["kids"])],
+    "new_union": lambda a: [a["record"], *words(a["kids"])],
+    "new_var": lambda a: [a["span"]],
+    "new_vars": lambda a: [a["span"], a["count"], LIST],
+    "finish_inference_where": lambda a: a["bytes"],
+    "self_inverse": lambda a: [word(a["type"]), a["param"]],
+    "find_related": lambda a: [word(a["type"]), *[int(n in a["marks"]) for n in range(NODES)]],
+    "unify": lambda a: [word(a["a"]), word(a["b"])],
+    "unify_types": lambda a: lists(a["inv"], words(a["a"]), words(a["b"])),
+    "unify_objects": lambda a: lists(a["inv"], entries(a["a"]["names"], a["a"]["kids"]),
+                                     entries(a["b"]["names"], a["b"]["kids"])),
+    "unify_fn_sig": lambda a: [word(a["a"]["ret"]), word(a["b"]["ret"]), len(a["a"]["params"]),
+                               *words(a["a"]["params"]), *words(a["b"]["params"])],
+    "unify_impl_type": lambda a: impls(a["a"], a["b"]),
+    "approx_eq": lambda a: impls(a["a"], a["b"]),
+}
+TYPE = lambda a: [word(a["type"])] if "type" in a else []
+
+
+def typ(t):
+    return "none" if t is None else ("~" if t["inv"] else "") + str(t["node"])
+
+
+def name(n):
+    return "" if n is None else "|" + bytes(n).decode() + "|"
+
+
+def kind(k):
+    own = k["kind"] in ("Param", "Key")
+    names = [] if own else k["names"]
+    names = names + [None] * (len(k["kids"]) - len(names))
+    parts = [str(KINDS.index(k["kind"])), str(k["number"]), str(k["flag"]), str(k["flex"])]
+    parts += [name(k["names"][0])] if own else []
+    return " ".join(parts + [typ(kid) + name(n) for kid, n in zip(k["kids"], names)])
+
+
+def state(s):
+    if s["is"] == "known":
+        return "known " + ("~" if s["inv"] else "") + kind(s["kind"])
+    return f"unknown {s['span']}" if s["is"] == "unknown" else "failed"
+
+
+def node(n):
+    return f"child {typ(n['type'])}" if n["is"] == "child" else f"root {n['size']} {state(n['state'])}"
+
+
+def store(s, children):
+    head = (f"nodes {len(s['nodes'])} of {NODES}, children {children} of {CHILDREN}, error {typ(s['error'])}, "
+            f"nil {typ(s['nil'])}, reports {s['reports']}\n")
+    return head + "".join(f"  {node(n)}\n" for n in s["nodes"])
+
+
+def forced(a):
+    text = "known " + ("~" if a["inv"] else "") + kind(a["kind"])
+    return text if a["report"] is None else f"{text} reported {a['report']}"
+
+
+ANSWERS = {
+    "type": lambda a: "=" + typ(a["type"]),
+    "types": lambda a: "types" + "".join(" " + typ(t) for t in a["types"]),
+    "unify": lambda a: a["unify"],
+    "bool": lambda a: str(a["bool"]),
+    "done": lambda a: "done",
+    "mod": lambda a: f"def {a['def']}" if a["mod"] == "def" else a["mod"],
+    "nodes": lambda a: "marked" + "".join(f" {n}" for n in a["nodes"]),
+    "forced": forced,
+}
+
+
+def answer(a):
+    return ANSWERS[a["is"]](a) + "\n"
+
+
+def made(call):
+    """How many children the call makes."""
+    args = call["args"]
+    return len(args["kind"]["kids"]) if call["call"] == "new" else len(args.get("kids", []))
+
+
+def chart(c):
+    records = [n for r in c["records"] for n in
+               [r["sort"], *place(r["name"]), *place(r["path"]), r["def"], r["flag"], r["trait"]]]
+    sigils = [n for s in c["sigils"] for n in place(s)]
+    return (line("rule", *c["texts"][0]) + line("text", *c["texts"][1]) + line("chart", *records)
+            + line("beside", c["fn_trait"], *sigils) + line("lend", 8, NODES * 12, CHILDREN * 4))
+
+
+def run(number, part):
+    """One store's calls, and what they write; nothing if they import."""
+    if not part["calls"] or any(c["call"] == "import" for c in part["calls"]):
+        return "", ""
+    said, wrote, children = line("case", number) + line("open", NODES, CHILDREN), f"case {number}\ndone\n", 0
+    for call in part["calls"]:
+        if call["call"] in SKIPPED:
+            continue
+        children = 0 if call["call"] == "reset" else children + made(call)
+        said += line(call["call"], *ARGS.get(call["call"], TYPE)(call["args"]))
+        wrote += answer(call["answer"])
+    return said + line("store"), wrote + store(part["store"], children)
+
+
+def script(data):
+    said, wrote = chart(data["chart"]), ""
+    for i, case in enumerate(data["cases"]):
+        for part in ("source", "main"):
+            more = run(i, case[part])
+            said, wrote = said + more[0], wrote + more[1]
+    return said, wrote

@@ -1,0 +1,96 @@
+// A list of calls as text: decimal numbers with anything else between them; from '#' to the line's end is for the reader.
+ghost use mathlib.Core.Path.{_≡_};
+
+const NEWLINE: u8 = 10;
+
+const HASH: u8 = 35;
+
+const ZERO: u8 = 48;
+
+const NINE: u8 = 57;
+
+// What the bytes so far have said: numbers written, the one being read, whether one is, and whether a remark is.
+struct Seen {
+    count: usize,
+    value: u32,
+    digits: bool,
+    remark: bool,
+}
+
+fn wide(b: u8) -> u64
+    ensures { λ r. ⌜ r ≡ b ⌝ }
+{
+    b as u64
+}
+
+// One digit more. A number past a u32 keeps its low bits.
+fn with_digit(value: u32, b: u8) -> u32 {
+    if b < ZERO {
+        return value;
+    }
+    let v = value as u64 * 10 + wide(b - ZERO);
+    (v % 4_294_967_296) as u32
+}
+
+fn is_digit(b: u8) -> bool {
+    ZERO <= b && b <= NINE
+}
+
+fn put(out: &mut [u32], i: usize, v: u32) -> usize {
+    if i < out.len() {
+        out[i] = v;
+        return i + 1;
+    }
+    i
+}
+
+// No number is being read.
+fn between(count: usize, b: u8) -> Seen {
+    Seen {
+        count,
+        value: 0,
+        digits: false,
+        remark: b == HASH,
+    }
+}
+
+// What the bytes have said, with one byte more.
+fn step(out: &mut [u32], s: Seen, b: u8) -> Seen {
+    if s.remark {
+        return Seen {
+            count: s.count,
+            value: 0,
+            digits: false,
+            remark: b != NEWLINE,
+        };
+    }
+    if is_digit(b) {
+        return Seen {
+            count: s.count,
+            value: with_digit(s.value, b),
+            digits: true,
+            remark: false,
+        };
+    }
+    if s.digits {
+        return between(put(out, s.count, s.value), b);
+    }
+    between(s.count, b)
+}
+
+// The numbers of the text, and how many they are. The text ends with a newline.
+pub fn numbers(text: &[u8], out: &mut [u32]) -> usize {
+    let mut s = Seen {
+        count: 0,
+        value: 0,
+        digits: false,
+        remark: false,
+    };
+    let mut i = 0;
+    while i < text.len() {
+        let b = text[i];
+        i += 1;
+        s = step(out, s, b);
+    }
+    s.count
+}
