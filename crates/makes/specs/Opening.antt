@@ -7,5 +7,5 @@ use lib.ListN.{length}
 use Rattle.layout.specs.Words.{HEAD-WORDS, nodeWords, childWords}
 
 -- the header's words, and those of n nodes and c children
-abbrev pub enough : ℕ → ℕ → List ℕ → List ℕ → List ℕ → Bool
+unfoldable pub enough : ℕ → ℕ → List ℕ → List ℕ → List ℕ → Bool
 enough n c h ws ks = leb HEAD-WORDS (length h) && (leb (nodeWords n) (length ws) && leb (childWords c) (length ks))
