@@ -101,9 +101,9 @@ pub fn reset<'a>(
 ) -> DoneAnswer
     ensures { λ r. ⌜ Promised (resetCall (envIn (now (chart .entry)) beside (now (rule .entry)) (now (text .entry))) (lentOf (now (h .entry)) (now (ws .entry)) (now (ks .entry)))) (doneReply r) (now (h .entry)) (now (ws .entry)) (now (ks .entry)) (now (h .exit)) (now (ws .exit)) (now (ks .exit)) ⌝ }
 {
-    let code = sound::refusal(chart, beside, rule, text, h, ws, ks);
-    if code != NO_REFUSAL {
-        return DoneAnswer::Refused(code);
+    let broken = sound::refusal(chart, beside, rule, text, h, ws, ks);
+    if broken != NO_REFUSAL {
+        return DoneAnswer::Refused(broken);
     }
     make::reset(h, ws, ks);
     DoneAnswer::Done
