@@ -192,7 +192,7 @@ pub fn new_vars(h: &mut [u32], ws: &mut [u32], ks: &[u32], span: u32, count: u32
 }
 
 // The kind's numbers, with its children at `first`.
-fn kind_of(k: NewKind, first: u32, count: u32) -> Kind
+pub fn kind_of(k: NewKind, first: u32, count: u32) -> Kind
     ensures { λ r. ⌜ r ≡ kindAt k first count ⌝ }
 {
     Kind {
