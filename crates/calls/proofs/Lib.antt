@@ -1,1 +1,3 @@
 pub mod Laws
+pub mod CallLaws
+pub mod ReadLaws

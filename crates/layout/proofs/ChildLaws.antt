@@ -8,7 +8,7 @@ use Prim.Native.Nat.{ℕ, _+_, _*_, _<_, _≤_}
 use native.Mathlib.Omega.{arith}
 use native.Mathlib.Numerals.{add-one}
 use lib.Dec.{leb}
-use lib.ListN.{length, getD, drop, length-map, List·getD-map}
+use lib.ListN.{length, getD, take, drop, length-map, List·getD-map}
 use lib.Seq.{getD-take, getD-drop}
 use borrow.Author.Tests.{leb-true, le-leb}
 use borrow.Rule.Slice.PartMut.{midOf}
@@ -36,6 +36,17 @@ slots-get ks i n j d h = get-from (slotAt ks) i n j d h
 
 pub slots-push : (ks : List ℕ) (i n : ℕ) → slots ks i (n + 1) ≡ slots ks i n ++ (slotAt ks (i + n) ∷ [])
 slots-push ks i n = ap (slots ks i) (add-one n) ∙ map-snoc (slotAt ks) i n
+
+-- a list's first n children, whatever follows them
+pub slots-front : (ks : List ℕ) (n : ℕ) → slots (take (childWords n) ks) 0 n ≡ slots ks 0 n
+slots-front ks n =
+    same-from (slotAt (take (childWords n) ks)) (slotAt ks) 0 n
+    (λ j a b. rw (
+      getD-take (childWords n) ks (j * 4 + 0) 0 (omega arith),
+      getD-take (childWords n) ks (j * 4 + 1) 0 (omega arith),
+      getD-take (childWords n) ks (j * 4 + 2) 0 (omega arith),
+      getD-take (childWords n) ks (j * 4 + 3) 0 (omega arith),
+    ))
 
 pub length-kids : (ks : List ℕ) (k : Kind) → length (kindMeans ks k .kids) ≡ k .count
 unfolding kindMeans

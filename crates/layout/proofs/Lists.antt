@@ -104,6 +104,20 @@ same-from f g i zero e = refl
 same-from f g i (suc n) e =
     rw (e i (omega arith) (omega arith), same-from f g (suc i) n (λ j a b. e j (omega arith) (omega arith)))
 
+-- the same of two runs
+pub same-shift : {A : Type 0} (f g : ℕ → A) (a b n : ℕ) → ((i : ℕ) → i < n → f (a + i) ≡ g (b + i)) → map f (from a n) ≡ map g (from b n)
+same-shift f g a b zero e = refl
+same-shift f g a b (suc n) e =
+    let x : a + 0 ≡ a = omega arith in
+    let y : b + 0 ≡ b = omega arith in
+    let first : f a ≡ g b = ap f (sym x) ∙ (e 0 (omega arith) ∙ ap g y) in
+    let next : (i : ℕ) → i < n → f (suc a + i) ≡ g (suc b + i) =
+    λ i h.
+    let p : suc a + i ≡ a + suc i = omega arith in
+    let q : b + suc i ≡ suc b + i = omega arith in
+    ap f p ∙ (e (suc i) (omega arith) ∙ ap g q) in
+    rw (first, same-shift f g (suc a) (suc b) n next) refl
+
 first-or : (b : Bool) (p : ℕ → Bool) (i j : ℕ) → eqb j i ≡ b → p i ≡ true → (suc i ≤ j → p j ≡ true) → i ≤ j → p j ≡ true
 first-or true p i j q h k a = rw (eqb-true j i q) h
 first-or false p i j q h k a = let z : j ≡ i → ⊥ = eqb-false j i q in k (omega arith)

@@ -9,17 +9,19 @@ ghost use lib.ListN.{length};
 ghost use Rattle.scope.specs.Base.{all, from};
 ghost use Rattle.scope.specs.Sound.{zeros, namesClean};
 ghost use Rattle.layout.specs.Words.{NODE-WORDS, KNOWN-TAG, nodeWords, between, longEnough, unusedZero, nodeClean, clean};
-ghost use Rattle.layout.specs.Meaning.{cellMeans, Lies};
+ghost use Rattle.layout.specs.Meaning.{cellMeans, kindCell, Lies};
 ghost use Rattle.layout.specs.Clean.{nameOk, slotsOk, namedOf, plainClean, knownClean};
 use crate::CHILD_TAG;
 use crate::Cell;
 use crate::FAILED_TAG;
 use crate::HEAD_WORDS;
 use crate::KNOWN_TAG;
+use crate::Kind;
 use crate::NODE_WORDS;
 use crate::UNKNOWN_TAG;
 use crate::child_at;
 use crate::child_words;
+use crate::known_cell;
 use crate::node_words;
 use crate::read_cell;
 use crate::read_header;
@@ -27,6 +29,7 @@ use kinds::CHILD_NAMES;
 use kinds::OWN_NAME;
 use kinds::PARAMETER_NAMES;
 use kinds::row_of;
+use types::Inverted;
 
 // A node's words from here on are its kind's.
 const KIND_WORDS: usize = 3;
@@ -124,6 +127,13 @@ fn names_clean(ks: &[u32], x: Cell) -> bool
         return false;
     }
     slots_ok(true, ks, first, named) && slots_ok(false, ks, named, first + n)
+}
+
+// The names of a kind whose children lie in ks, a store's or a list that is lent: those that its row lacks are zeros.
+pub fn kind_clean(ks: &[u32], k: Kind) -> bool
+    ensures { λ r. ⌜ r ≡ namesClean (kindCell (now (ks .entry)) k) ⌝ }
+{
+    names_clean(ks, known_cell(Inverted(false), k, 0))
 }
 
 // A Known node, with c children made.

@@ -4,5 +4,4 @@ pub mod Laws
 pub mod OpenLaws
 pub mod MakeLaws
 pub mod VarLaws
-pub mod GivenLaws
 pub mod NewLaws

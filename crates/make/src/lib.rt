@@ -10,25 +10,20 @@ ghost use Rattle.scope.specs.Force.{reset};
 ghost use Rattle.scope.specs.Calls.{nodesFor};
 ghost use Rattle.layout.specs.Words.{childWords, storeIn};
 ghost use Rattle.layout.specs.Words as words;
-ghost use Rattle.layout.specs.Meaning.{HALF};
 ghost use Rattle.make.specs.Holds.{Became, Openable, Ready, MadeIs, MadeAllIs};
 ghost use Rattle.make.specs.Header.{Pushable, Pushed, cleared, fresh, bareKind};
-ghost use Rattle.make.specs.Given.{KindReady, Put, kindGiven, kindWritten, kept, ownNamed, slotGiven};
+ghost use Rattle.make.specs.Given.{KindReady, Put, kindAt, kindGiven};
 use kinds::ERROR;
-use kinds::OWN_NAME;
 use kinds::TUPLE;
+use layout::CHILD_WORDS;
 use layout::Header;
 use layout::Kind;
 use layout::Remembered;
-use layout::Slot;
 use layout::TypeNode;
 use layout::TypeState;
 use types::Inverted;
 use types::Type;
 use types::TypeIdx;
-
-// A name's words in a lent list: its text, its start and its length.
-pub const NAME_WORDS: usize = 3;
 
 // What a kind is made of, its children and their names apart.
 pub struct NewKind {
@@ -36,7 +31,7 @@ pub struct NewKind {
     pub number: u32,
     pub dual: bool,
     pub flex: u32,
-    // Its own name, where it has one.
+    // Its own name, or zeros.
     pub text: u32,
     pub start: u32,
     pub len: u32,
@@ -196,100 +191,47 @@ pub fn new_vars(h: &mut [u32], ws: &mut [u32], ks: &[u32], span: u32, count: u32
     }
 }
 
-fn keep(on: bool, w: u32) -> u32
-    ensures { λ r. ⌜ r ≡ kept on w ⌝ }
+// The kind's numbers, with its children at `first`.
+pub fn kind_of(k: NewKind, first: u32, count: u32) -> Kind
+    ensures { λ r. ⌜ r ≡ kindAt k first count ⌝ }
 {
-    if on { w } else { 0 }
-}
-
-// A kind of this code has a name of its own, and a name of this length is one.
-fn has_name(code: u32, len: u32) -> bool
-    ensures { λ r. ⌜ r ≡ ownNamed code len ⌝ }
-{
-    let row = kinds::row_of(code);
-    if row.names == OWN_NAME {
-        len != 0
-    } else {
-        false
-    }
-}
-
-// The kind's numbers as they are written; a name of its own only where it has one.
-fn kind_of(k: NewKind, first: u32, count: u32) -> Kind
-    ensures { λ r. ⌜ r ≡ kindWritten k first count ⌝ }
-{
-    let named = has_name(k.code, k.len);
     Kind {
         code: k.code,
         number: k.number,
         dual: k.dual,
         flex: k.flex,
-        text: keep(named, k.text),
-        start: keep(named, k.start),
-        len: keep(named, k.len),
+        text: k.text,
+        start: k.start,
+        len: k.len,
         first,
         count,
     }
 }
 
-// Child i, with its name if one is given.
-fn slot_of(types: &[u32], names: &[u32], i: usize) -> Slot
-    requires { ⌜ i < length (now types) ⌝ }
-    requires { ⌜ length (now types) < HALF ⌝ }
-    ensures { λ r. ⌜ r ≡ slotGiven (now (types .entry)) (now (names .entry)) i ⌝ }
-{
-    let ty = Type(types[i]);
-    let a = i * NAME_WORDS;
-    if names.len() < a + NAME_WORDS {
-        return Slot {
-            ty,
-            text: 0,
-            start: 0,
-            len: 0,
-        };
-    }
-    let len = names[a + 2];
-    let named = len != 0;
-    Slot {
-        ty,
-        text: keep(named, names[a]),
-        start: keep(named, names[a + 1]),
-        len,
-    }
-}
-
-// The children given, behind the `first` made.
-fn put_children(ks: &mut [u32], first: u32, types: &[u32], names: &[u32])
-    requires { ⌜ first + length (now types) < HALF ⌝ }
-    requires { ⌜ childWords (first + length (now types)) ≤ length (now ks) ⌝ }
-    ensures { λ _. ⌜ Put (now (types .entry)) (now (names .entry)) first (length (now (types .entry))) (now (ks .entry)) (now (ks .exit)) ⌝ }
+// The first n entries, behind the `first` children made.
+fn put_children(ks: &mut [u32], first: u32, entries: &[u32], n: usize)
+    requires { ⌜ childWords (first + n) ≤ length (now ks) ⌝ }
+    ensures { λ _. ⌜ Put (now (entries .entry)) first n (now (ks .entry)) (now (ks .exit)) ⌝ }
 {
     let from = first as usize;
-    let n = types.len();
     let mut i = 0;
     while i < n {
-        layout::put_child(ks, from + i, slot_of(types, names, i));
+        layout::put_child(ks, from + i, layout::child_at(entries, i));
         i += 1;
     }
 }
 
-// `new`, for each of the fifteen kinds.
-pub fn new_kind(
-    h: &mut [u32],
-    ws: &mut [u32],
-    ks: &mut [u32],
-    k: NewKind,
-    types: &[u32],
-    names: &[u32],
-) -> Type
-    requires { ⌜ KindReady (now h) (now ws) (now ks) k (now types) (now names) ⌝ }
-    ensures { λ r. ⌜ MadeIs (now (h .entry)) (now (ws .entry)) (now (ks .entry)) (now (h .exit)) (now (ws .exit)) (now (ks .exit)) r (new (storeIn (now (h .entry)) (now (ws .entry)) (now (ks .entry))) (kindGiven k (now (types .entry)) (now (names .entry)))) ⌝ }
+// `new`, for each of the fifteen kinds. A child is lent as it lies in a store: its type, and its name's text, start and length.
+pub fn new_kind(h: &mut [u32], ws: &mut [u32], ks: &mut [u32], k: NewKind, entries: &[u32]) -> Type
+    requires { ⌜ KindReady (now h) (now ws) (now ks) k (now entries) ⌝ }
+    ensures { λ r. ⌜ MadeIs (now (h .entry)) (now (ws .entry)) (now (ks .entry)) (now (h .exit)) (now (ws .exit)) (now (ks .exit)) r (new (storeIn (now (h .entry)) (now (ws .entry)) (now (ks .entry))) (kindGiven k (now (entries .entry)))) ⌝ }
 {
     let x = layout::read_header(h);
     let error = x.error;
     let nil = x.nil;
-    put_children(ks, x.children, types, names);
-    let count = types.len() as u32;
+    let n = entries.len() / CHILD_WORDS;
+    put_children(ks, x.children, entries, n);
+    let count = n as u32;
     let state = TypeState::Known(Inverted(false), kind_of(k, x.children, count));
     push(h, ws, x, count, error, nil, state)
 }

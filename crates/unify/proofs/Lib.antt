@@ -4,3 +4,4 @@ pub mod Laws
 pub mod RunLaws
 pub mod MeetLaws
 pub mod ListLaws
+pub mod CallerLaws

@@ -1,4 +1,5 @@
--- `unify`, `unify_types`, `unify_fn_sig` and `unify_impl_type` as scope has them: the depth is the node count, and it stays. What is left of two lent lists gives the whole.
+-- `unify`, `unify_types`, `unify_objects`, `unify_fn_sig` and `unify_impl_type` as scope has them: the depth is the node count, and it stays. What is left of two lent
+-- lists gives the whole.
 -- Assumes nothing.
 use mathlib.Core.Path.{_≡_, refl, ap, sym, subst, _∙_}
 use mathlib.Core.Bool.{Bool, false}
@@ -12,20 +13,22 @@ use lib.Seq.{drop-cons}
 use borrow.Author.Tests.{eq-eqb, ne-eqb}
 use Rattle.scope.specs.Names.{Texts}
 use Rattle.scope.specs.Types.{Ty, tyOf, flip}
-use Rattle.scope.specs.Answers.{Answer, Success, Failure, both}
-use Rattle.scope.specs.Unify.{Plan, Out, out, run, answers, zipped, runPlan, after, unifyF, unify, carry, unifyTypes, unifyFnSig, ImplType, implPlan, unifyImplType}
+use Rattle.scope.specs.Answers.{Answer, Success, Failure, both, ofBool}
+use Rattle.scope.specs.Unify.{Plan, Out, out, run, answers, zipped, runPlan, after, unifyF, unify, carry, unifyTypes, unifyObjects, unifyFnSig, ImplType, implPlan, unifyImplType}
 use Rattle.types.specs.Answers.{answerOf}
+use Rattle.types.specs.declared.Inverted.{Inverted}
 use Rattle.types.specs.declared.UnifyResult.{UnifyResult}
 use Rattle.types.specs.declared.UnifyResult.the-variants as code
 use Rattle.layout.specs.Words.{decode}
 use Rattle.layout.proofs.Laws.{length-decode}
 use Rattle.unify.specs.Asks.{Ready, Pair, Inside, Pairs}
+use Rattle.unify.specs.Entries.{entryCount, entryNames, entryTypes, objectsOf, frontRuns, Objects}
 use Rattle.unify.specs.Leaves.{does, sigPlan, implMeans, Leaves}
 use Rattle.unify.specs.declared.Impl.{Impl}
 use Rattle.unify.specs.declared.Impl.the-variants as impl
 use Rattle.unify.proofs.Kept.{carry-depth}
 use Rattle.unify.proofs.Laws.{ready-run}
-use Rattle.unify.proofs.RunLaws.{Going, going-start, going-to, going-pair, going-on, going-end, does-after}
+use Rattle.unify.proofs.RunLaws.{Going, going-start, going-to, going-pair, going-on, going-end, does-after, objectRest, object-whole}
 
 -- the node count is the depth
 
@@ -97,6 +100,18 @@ module _ {x : Texts} {ws₀ ks : List ℕ} {n : ℕ} {o : Out} {ws : List ℕ} (
 
   pub lists-end : length xs ≤ i → Going x ws₀ ks n n o ws (answerOf r) (listRest v xs ys i) → Leaves ws₀ ks ws n o r
   lists-end h g = going-end refl (going-to refl (list-over v xs ys i h) g)
+
+-- two lists of entries
+
+module _ {x : Texts} {ws ks : List ℕ} {n : ℕ} {xs ys : List ℕ} {inv : Inverted} (p : Objects x ws ks n xs ys inv) {na nb : ℕ} (ea : na ≡ entryCount xs) (eb : nb ≡ entryCount ys) where
+  pub entries-start : (r : UnifyResult) → answerOf r ≡ ofBool (eqb na nb)
+      → Going x ws ks n n (unifyObjects x (decode ws ks n) (entryNames xs) (entryTypes xs) (entryNames ys) (entryTypes ys) (inv .0)) ws
+      (both (answerOf r) (objectRest x xs ys (frontRuns na nb inv) 0 .base)) (objectRest x xs ys (frontRuns na nb inv) 0 .pairs)
+  unfolding unifyObjects
+  entries-start r e =
+      let l : Plan = objectsOf x xs ys (frontRuns (entryCount xs) (entryCount ys) inv) in
+      let f : l ≡ objectsOf x xs ys (frontRuns na nb inv) = rw (ea, eb) refl in
+      rw (carries l (p .pairs)) (going-start l _ (f ∙ object-whole x xs ys (frontRuns na nb inv) r e) (p .pairs))
 
 -- two signatures
 

@@ -31,6 +31,7 @@ use Rattle.plan.specs.declared.Runs.{Runs}
 use Rattle.plan.specs.declared.Plan.the-variants.{Run, Object, Signature}
 use Rattle.plan.specs.declared.Plan.the-variants as plans
 use Rattle.unify.specs.Asks.{Ready, Pair, Inside, Pairs}
+use Rattle.unify.specs.Entries.{objectsOf}
 use Rattle.unify.specs.Leaves.{does, Leaves, slotPlace, soughtMeans, soughtIn, Parameters, returnsMean, returnsPlan}
 use Rattle.unify.specs.declared.Returned.{Returned}
 use Rattle.unify.specs.declared.Returned.the-variants as back
@@ -233,35 +234,35 @@ module _ (x : Texts) (ks : List ℕ) (m : Name) (b count : ℕ) where
   unfolding seek
   seek-over j h w = rw (none-left count j h) at w
 
--- `unify_objects`
+-- `unify_objects`, and lent entries: the first object's children lie in xs, the second's in ys
 
-module _ (x : Texts) (ks : List ℕ) (s : Runs) where
+module _ (x : Texts) (xs ys : List ℕ) (s : Runs) where
   -- what the names from the i-th on ask
   abbrev pub objectRest : ℕ → Plan
   objectRest i =
-      sharedNames x (s .inv .0) (namesFrom ks (s .a + i) (s .na - i)) (kidsFrom ks (s .a + i) (s .na - i)) (namesFrom ks (s .b) (s .nb)) (kidsFrom ks (s .b) (s .nb))
+      sharedNames x (s .inv .0) (namesFrom xs (s .a + i) (s .na - i)) (kidsFrom xs (s .a + i) (s .na - i)) (namesFrom ys (s .b) (s .nb)) (kidsFrom ys (s .b) (s .nb))
 
   pub object-whole : (r : UnifyResult) → answerOf r ≡ ofBool (eqb (s .na) (s .nb))
-      → planMeans ks x (Object s) ≡ record { base = both (answerOf r) (objectRest 0 .base); pairs = objectRest 0 .pairs }
-  unfolding planMeans objectPlan
+      → objectsOf x xs ys s ≡ record { base = both (answerOf r) (objectRest 0 .base); pairs = objectRest 0 .pairs }
+  unfolding objectPlan
   object-whole r e =
       let z : s .na - 0 ≡ s .na = omega arith in
       let p : s .a + 0 ≡ s .a = omega arith in
-      rw (kid-length ks (s .a) (s .na), kid-length ks (s .b) (s .nb), ← e, z, p) refl
+      rw (kid-length xs (s .a) (s .na), kid-length ys (s .b) (s .nb), ← e, z, p) refl
 
   object-step : (i : ℕ) → i < s .na
-      → objectRest i ≡ shared (s .inv .0) (kidTy ks (s .a + i)) (soughtIn x ks (slotPlace (slotAt ks (s .a + i))) (s .b) (s .nb)) (objectRest (i + 1))
+      → objectRest i ≡ shared (s .inv .0) (kidTy xs (s .a + i)) (soughtIn x ys (slotPlace (slotAt xs (s .a + i))) (s .b) (s .nb)) (objectRest (i + 1))
   unfolding sharedNames
   object-step i h =
       let p : s .a + (i + 1) ≡ suc (s .a + i) = omega arith in
-      rw (one-more (s .na) i h, p, ← slot-bytes x (slotAt ks (s .a + i))) refl
+      rw (one-more (s .na) i h, p, ← slot-bytes x (slotAt xs (s .a + i))) refl
 
-  module _ (i : ℕ) (h : i < s .na) {m : Name} (f : Sought) (em : m ≡ slotPlace (slotAt ks (s .a + i))) (ef : soughtMeans f ≡ soughtIn x ks m (s .b) (s .nb)) where
-    object-to : {g : Sought} → f ≡ g → objectRest i ≡ shared (s .inv .0) (kidTy ks (s .a + i)) (soughtMeans g) (objectRest (i + 1))
-    object-to e = object-step i h ∙ ap (λ (o : Option Ty). shared (s .inv .0) (kidTy ks (s .a + i)) o (objectRest (i + 1)))
-        (ap (λ (k : Name). soughtIn x ks k (s .b) (s .nb)) (sym em) ∙ (sym ef ∙ ap soughtMeans e))
+  module _ (i : ℕ) (h : i < s .na) {m : Name} (f : Sought) (em : m ≡ slotPlace (slotAt xs (s .a + i))) (ef : soughtMeans f ≡ soughtIn x ys m (s .b) (s .nb)) where
+    object-to : {g : Sought} → f ≡ g → objectRest i ≡ shared (s .inv .0) (kidTy xs (s .a + i)) (soughtMeans g) (objectRest (i + 1))
+    object-to e = object-step i h ∙ ap (λ (o : Option Ty). shared (s .inv .0) (kidTy xs (s .a + i)) o (objectRest (i + 1)))
+        (ap (λ (k : Name). soughtIn x ys k (s .b) (s .nb)) (sym em) ∙ (sym ef ∙ ap soughtMeans e))
 
-    module _ {ws₀ : List ℕ} {n d : ℕ} {o : Out} {ws : List ℕ} (r : UnifyResult) (g : Going x ws₀ ks n d o ws (both (answerOf r) (objectRest i .base)) (objectRest i .pairs)) where
+    module _ {ws₀ ks : List ℕ} {n d : ℕ} {o : Out} {ws : List ℕ} (r : UnifyResult) (g : Going x ws₀ ks n d o ws (both (answerOf r) (objectRest i .base)) (objectRest i .pairs)) where
       pub object-none : (r′ : UnifyResult) → f ≡ found.Nothing → answerOf r′ ≡ both (answerOf r) Failure
           → Going x ws₀ ks n d o ws (both (answerOf r′) (objectRest (i + 1) .base)) (objectRest (i + 1) .pairs)
       object-none r′ e q =
@@ -272,12 +273,18 @@ module _ (x : Texts) (ks : List ℕ) (s : Runs) where
       -- the name is there: one pair, and the rest
       pub object-found : (t : «Type») → f ≡ found.Is t
           → Going x ws₀ ks n d o ws (both (answerOf r) (objectRest (i + 1) .base))
-          ((kidTy ks (s .a + i), flip (s .inv .0) (tyOf (t .0))) ∷ objectRest (i + 1) .pairs)
+          ((kidTy xs (s .a + i), flip (s .inv .0) (tyOf (t .0))) ∷ objectRest (i + 1) .pairs)
       object-found t e = let l = object-to e in going-to (ap (λ (p : Plan). both (answerOf r) (p .base)) l) (ap (λ (p : Plan). p .pairs) l) g
 
   pub object-over : (i : ℕ) → s .na ≤ i → objectRest i ≡ answers Success
   unfolding sharedNames
   object-over i h = rw (none-left (s .na) i h) refl
+
+-- two objects of one store
+pub stored-whole : (x : Texts) (ks : List ℕ) (s : Runs) (r : UnifyResult) → answerOf r ≡ ofBool (eqb (s .na) (s .nb))
+    → planMeans ks x (Object s) ≡ record { base = both (answerOf r) (objectRest x ks ks s 0 .base); pairs = objectRest x ks ks s 0 .pairs }
+unfolding planMeans
+stored-whole x ks s r e = object-whole x ks ks s r e
 
 -- a signature: its parameters, then its returns
 
@@ -381,16 +388,17 @@ answer-leaves x ws ks n d r = record { same = refl; clean = λ c cl. cl; tail = 
 
 -- the loops' steps, as the code takes them
 
-module _ {x : Texts} {ws₀ ks : List ℕ} {n d : ℕ} {o : Out} {ws : List ℕ} (s : Runs) (i : ℕ) where
-  module _ {base : Answer} {ps : List (Ty × Ty)} (a b t : ℕ) (ea : a ≡ slotAt ks (s .a + i) .type) (eb : tyOf b ≡ flip (s .inv .0) (tyOf t))
-      (g : Going x ws₀ ks n d o ws base ((kidTy ks (s .a + i), flip (s .inv .0) (tyOf t)) ∷ ps)) where
-    going-as : Going x ws₀ ks n d o ws base ((tyOf a, tyOf b) ∷ ps)
-    going-as = going-to refl (ap (λ (v : Ty). (v, flip (s .inv .0) (tyOf t)) ∷ ps) (ap tyOf (sym ea)) ∙ ap (λ (v : Ty). (tyOf a, v) ∷ ps) (sym eb)) g
+module _ {x : Texts} {ws₀ ks : List ℕ} {n d : ℕ} {o : Out} {ws : List ℕ} where
+  going-as : {base : Answer} {ps : List (Ty × Ty)} (v : Bool) (c a b t : ℕ) → a ≡ c → tyOf b ≡ flip v (tyOf t)
+      → Going x ws₀ ks n d o ws base ((tyOf c, flip v (tyOf t)) ∷ ps) → Going x ws₀ ks n d o ws base ((tyOf a, tyOf b) ∷ ps)
+  going-as {base} {ps} v c a b t ea eb g =
+      going-to refl (ap (λ (w : Ty). (w, flip v (tyOf t)) ∷ ps) (ap tyOf (sym ea)) ∙ ap (λ (w : Ty). (tyOf a, w) ∷ ps) (sym eb)) g
 
-  module _ (r : UnifyResult) (h : i < s .na) (a b t : ℕ) (ea : a ≡ slotAt ks (s .a + i) .type) (et : t ≡ slotAt ks (s .b + i) .type)
+  module _ (s : Runs) (i : ℕ) (r : UnifyResult) (h : i < s .na) (a b t : ℕ) (ea : a ≡ slotAt ks (s .a + i) .type) (et : t ≡ slotAt ks (s .b + i) .type)
       (eb : tyOf b ≡ flip (s .inv .0) (tyOf t)) (g : Going x ws₀ ks n d o ws (answerOf r) (runRest ks s i)) where
     at-pair : Going x ws₀ ks n d o ws (answerOf r) ((tyOf a, tyOf b) ∷ runRest ks s (i + 1))
-    at-pair = going-as a b t ea eb (going-to refl (run-more x ks s i h ∙ ap (λ (v : Ty). (kidTy ks (s .a + i), flip (s .inv .0) v) ∷ runRest ks s (i + 1)) (ap tyOf (sym et))) g)
+    at-pair = going-as (s .inv .0) (slotAt ks (s .a + i) .type) a b t ea eb
+        (going-to refl (run-more x ks s i h ∙ ap (λ (v : Ty). (kidTy ks (s .a + i), flip (s .inv .0) v) ∷ runRest ks s (i + 1)) (ap tyOf (sym et))) g)
 
     pub run-pair : Pair x ws ks n (tyOf a) (tyOf b)
     run-pair = going-pair at-pair
@@ -400,20 +408,21 @@ module _ {x : Texts} {ws₀ ks : List ℕ} {n d : ℕ} {o : Out} {ws : List ℕ}
     run-next r′ l e = going-to (sym e) refl (going-on at-pair l)
 
   -- an object's name that is there
-  module _ (r : UnifyResult) (h : i < s .na) {m : Name} (f : Sought) (em : m ≡ slotPlace (slotAt ks (s .a + i))) (ef : soughtMeans f ≡ soughtIn x ks m (s .b) (s .nb))
-      (t : «Type») (et : f ≡ found.Is t) (a b : ℕ) (ea : a ≡ slotAt ks (s .a + i) .type) (eb : tyOf b ≡ flip (s .inv .0) (tyOf (t .0)))
-      (g : Going x ws₀ ks n d o ws (both (answerOf r) (objectRest x ks s i .base)) (objectRest x ks s i .pairs)) where
-    at-name : Going x ws₀ ks n d o ws (both (answerOf r) (objectRest x ks s (i + 1) .base)) ((tyOf a, tyOf b) ∷ objectRest x ks s (i + 1) .pairs)
-    at-name = going-as a b (t .0) ea eb (object-found x ks s i h f em ef r g t et)
+  module _ (xs ys : List ℕ) (s : Runs) (i : ℕ) (r : UnifyResult) (h : i < s .na) {m : Name} (f : Sought) (em : m ≡ slotPlace (slotAt xs (s .a + i)))
+      (ef : soughtMeans f ≡ soughtIn x ys m (s .b) (s .nb)) (t : «Type») (et : f ≡ found.Is t) (a b : ℕ) (ea : a ≡ slotAt xs (s .a + i) .type)
+      (eb : tyOf b ≡ flip (s .inv .0) (tyOf (t .0)))
+      (g : Going x ws₀ ks n d o ws (both (answerOf r) (objectRest x xs ys s i .base)) (objectRest x xs ys s i .pairs)) where
+    at-name : Going x ws₀ ks n d o ws (both (answerOf r) (objectRest x xs ys s (i + 1) .base)) ((tyOf a, tyOf b) ∷ objectRest x xs ys s (i + 1) .pairs)
+    at-name = going-as (s .inv .0) (slotAt xs (s .a + i) .type) a b (t .0) ea eb (object-found x xs ys s i h f em ef r g t et)
 
     pub name-pair : Pair x ws ks n (tyOf a) (tyOf b)
     name-pair = going-pair at-name
 
     pub name-next : {ws′ : List ℕ} {q : UnifyResult} (r′ : UnifyResult) → Leaves ws ks ws′ n (unifyF x n d (decode ws ks n) (tyOf a) (tyOf b)) q
         → answerOf r′ ≡ both (answerOf r) (answerOf q)
-        → Going x ws₀ ks n d o ws′ (both (answerOf r′) (objectRest x ks s (i + 1) .base)) (objectRest x ks s (i + 1) .pairs)
+        → Going x ws₀ ks n d o ws′ (both (answerOf r′) (objectRest x xs ys s (i + 1) .base)) (objectRest x xs ys s (i + 1) .pairs)
     name-next {ws′} {q} r′ l e =
-        going-to (both-turn (answerOf r) (objectRest x ks s (i + 1) .base) (answerOf q) ∙ ap (λ (v : Answer). both v (objectRest x ks s (i + 1) .base)) (sym e)) refl
+        going-to (both-turn (answerOf r) (objectRest x xs ys s (i + 1) .base) (answerOf q) ∙ ap (λ (v : Answer). both v (objectRest x xs ys s (i + 1) .base)) (sym e)) refl
         (going-on at-name l)
 
 -- their ends
@@ -422,9 +431,9 @@ module _ {x : Texts} {ws₀ ks : List ℕ} {n d : ℕ} {o : Out} {ws : List ℕ}
   pub run-ends : Going x ws₀ ks n d o ws (answerOf r) (runRest ks s i) → Leaves ws₀ ks ws n o r
   run-ends g = going-end refl (going-to refl (run-over x ks s i h) g)
 
-  pub object-ends : Going x ws₀ ks n d o ws (both (answerOf r) (objectRest x ks s i .base)) (objectRest x ks s i .pairs) → Leaves ws₀ ks ws n o r
-  object-ends g =
-      let e = object-over x ks s i h in
+  pub object-ends : (xs ys : List ℕ) → Going x ws₀ ks n d o ws (both (answerOf r) (objectRest x xs ys s i .base)) (objectRest x xs ys s i .pairs) → Leaves ws₀ ks ws n o r
+  object-ends xs ys g =
+      let e = object-over x xs ys s i h in
       going-end (both-swap (answerOf r) Success) (going-to (ap (λ (l : Plan). both (answerOf r) (l .base)) e) (ap (λ (l : Plan). l .pairs) e) g)
 
 pub run-fails : (x : Texts) (ws ks : List ℕ) (n d : ℕ) (s : Runs) → (s .na ≡ s .nb → ⊥)

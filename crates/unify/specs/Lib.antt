@@ -1,2 +1,3 @@
 pub mod Asks
+pub mod Entries
 pub mod Leaves

@@ -1,14 +1,23 @@
 // What other callers unify: a pair as deep as there are nodes, and lent lists of types. Each is what scope's definition of the same name is.
+ghost use mathlib.Core.Path.{_≡_};
 ghost use mathlib.Core.List.{map};
+ghost use Prim.Native.Nat.{_≤_};
+ghost use Rattle.scope.specs.Limits.{«MAX-LIST»};
 ghost use Rattle.scope.specs.Types.{tyOf};
-ghost use Rattle.scope.specs.Unify.{runPlan, implPlan, unifyTypes, unifyFnSig, unifyImplType};
+ghost use Rattle.scope.specs.Unify.{runPlan, implPlan, unifyTypes, unifyObjects, unifyFnSig, unifyImplType};
 ghost use Rattle.scope.specs.Unify as scope;
 ghost use Rattle.names.specs.Place.{texts};
 ghost use Rattle.layout.specs.Words.{decode};
 ghost use Rattle.unify.specs.Asks.{Pair, Pairs};
+ghost use Rattle.unify.specs.Entries.{entryCount, entryNames, entryTypes, Objects};
 ghost use Rattle.unify.specs.Leaves.{sigPlan, implMeans, Leaves};
 use super::Impl;
+use super::Sought;
+use super::kid;
+use super::kid_name;
+use super::seek;
 use super::unify;
+use layout::CHILD_WORDS;
 use types::Inverted;
 use types::Type;
 use types::UnifyResult;
@@ -56,6 +65,50 @@ pub fn unify_lists<'a>(
         let y = Type(ys[i]).invert_if(inv);
         i += 1;
         r = r.and(unify(ws, ks, n, rule, text, x, y, n));
+    }
+    r
+}
+
+// How many whole entries lent words hold.
+fn entries(xs: &[u32]) -> u32
+    requires { ⌜ entryCount (now xs) ≤ «MAX-LIST» ⌝ }
+    ensures { λ r. ⌜ r ≡ entryCount (now (xs .entry)) ⌝ }
+{
+    (xs.len() / CHILD_WORDS) as u32
+}
+
+// Two lent objects, four words an entry: "Objects of different length or names answer Failure and still unify their shared names, in a's order".
+pub fn unify_entries<'a>(
+    ws: &mut [u32],
+    ks: &[u32],
+    n: u32,
+    rule: &'a [u8],
+    text: &'a [u8],
+    xs: &[u32],
+    ys: &[u32],
+    inv: Inverted,
+) -> UnifyResult
+    requires { ⌜ Objects (texts (now rule) (now text)) (now ws) (now ks) n (now xs) (now ys) inv ⌝ }
+    ensures { λ r. ⌜ Leaves (now (ws .entry)) (now (ks .entry)) (now (ws .exit)) n
+        (unifyObjects (texts (now (rule .entry)) (now (text .entry))) (decode (now (ws .entry)) (now (ks .entry)) n)
+        (entryNames (now (xs .entry))) (entryTypes (now (xs .entry))) (entryNames (now (ys .entry))) (entryTypes (now (ys .entry))) (inv .0)) r ⌝ }
+{
+    let na = entries(xs);
+    let nb = entries(ys);
+    let mut r = UnifyResult::from_bool(na == nb);
+    let mut j: u32 = 0;
+    while j < na {
+        let x = kid(xs, 0, j);
+        let f = seek(ys, kid_name(xs, 0, j), 0, nb, rule, text);
+        j += 1;
+        match f {
+            Sought::Is(t) => {
+                r = r.and(unify(ws, ks, n, rule, text, x, t.invert_if(inv), n));
+            }
+            Sought::Nothing => {
+                r = r.and(UnifyResult::Failure);
+            }
+        }
     }
     r
 }

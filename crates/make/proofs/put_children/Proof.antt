@@ -1,20 +1,21 @@
--- `make::put_children` meets its contract. The loop's invariant: the first i children stand, the slots before `first` and after them are as they
--- were, and the words are as many. The measure is what is left of the children.
+-- `make::put_children` meets its contract. The loop's invariant: the first i entries stand, the slots before `first` and after them are as they
+-- were, and the words are as many. The measure is what is left of the entries.
 -- Assumes nothing.
 use mathlib.Core.Path.{_≡_, refl, _∙_}
 use Prim.Native.Nat.{_≤_, _-_}
 use native.Mathlib.Omega.{arith}
 use lib.ListN.{length}
+use borrow.Author.Needs.{needs}
 use Rattle.make.specs.Given.{Put}
-use Rattle.make.proofs.GivenLaws.{put-none, put-more, put-end}
+use Rattle.make.proofs.NewLaws.{put-none, put-more, put-end}
 use Rattle.make.proofs.put_children.Statement.{statement}
 use Rattle.make.proofs.put_children.Tie as tie
 
 abbrev Inv-loop : tie.InvT-loop
-Inv-loop ks₀ first types names from n i₀ ks i = (i ≤ n) × ((length ks ≡ length ks₀) × Put types names first i ks₀ ks)
+Inv-loop ks₀ first entries n from i₀ ks i = (i ≤ n) × ((length ks ≡ length ks₀) × Put entries first i ks₀ ks)
 
 abbrev μ-loop : tie.MeasureT-loop
-μ-loop ks₀ first types names from n i₀ ks i = n - i
+μ-loop ks₀ first entries n from i₀ ks i = n - i
 
 loop-holds : tie.Need-loop-holds Inv-loop μ-loop
 loop-holds c = (omega arith, (refl, put-none))
@@ -22,8 +23,8 @@ loop-holds c = (omega arith, (refl, put-none))
 add-put-child : tie.Need-add-put-child Inv-loop μ-loop
 add-put-child c = omega arith
 
-slot-of-requires : tie.Need-slot-of-requires Inv-loop μ-loop
-slot-of-requires c κs = omega arith
+child-at-requires : tie.Need-child-at-requires Inv-loop μ-loop
+child-at-requires c κs = search needs
 
 put-child-requires : tie.Need-put-child-requires Inv-loop μ-loop
 put-child-requires c κs = omega arith
@@ -36,8 +37,8 @@ loop-less c = omega arith
 
 loop-again : tie.Need-loop-again Inv-loop μ-loop
 loop-again c =
-    let s = c .before .before .before .before .before .before .before .before .before .before in
-    (omega arith, (c .before .before .put-child .kept .0 ∙ c .before .before .before .before .before .before .loop .inv .1 .0, put-more (s .args .types .now) (s .args .names .now) (s .args .first) (c .before .before .before .before .before .before .loop .i) (c .before .before .before .before .before .before .loop .inv .1 .1) (omega arith) (c .before .before .before .slot-of .ensures) (c .before .before .put-child .ensures)))
+    let a = c .before .before .before .before .before .before .before .before .before .args in
+    (omega arith, (c .before .before .put-child .kept .0 ∙ c .before .before .before .before .before .before .loop .inv .1 .0, put-more (a .entries .now) (a .first) (c .before .before .before .before .before .before .loop .i) (c .before .before .before .before .before .before .loop .inv .1 .1) (omega arith) (c .before .before .before .child-at .ensures) (c .before .before .put-child .ensures)))
 
 same-length : tie.Need-same-length Inv-loop μ-loop
 same-length c = c .before .loop .inv .1 .0
@@ -53,7 +54,7 @@ put-children-spec =
     μ-loop
     loop-holds
     add-put-child
-    slot-of-requires
+    child-at-requires
     put-child-requires
     add-i
     loop-less

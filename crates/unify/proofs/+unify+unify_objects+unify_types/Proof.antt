@@ -17,7 +17,7 @@ use Rattle.plan.specs.declared.Plan.the-variants as plans
 use Rattle.unify.specs.Leaves.{does}
 use Rattle.unify.specs.declared.Meeting.the-variants.{Kids}
 use Rattle.unify.proofs.Laws.{ready-linked, climbed, no-depth, way-done, way-bind, way-kids, kids-pairs, kids-adds, tops-adds}
-use Rattle.unify.proofs.RunLaws.{Going, going-start, runRest, run-whole, run-fails, run-pair, run-next, run-ends, objectRest, object-whole, object-none, object-ends, name-pair, name-next, parameters-pairs, returns-in, signature-lacking, signature-pair, answer-leaves}
+use Rattle.unify.proofs.RunLaws.{Going, going-start, runRest, run-whole, run-fails, run-pair, run-next, run-ends, objectRest, stored-whole, object-none, object-ends, name-pair, name-next, parameters-pairs, returns-in, signature-lacking, signature-pair, answer-leaves}
 use Prim.Native.Nat.{ℕ, _+_, _-_, _*_, _<_}
 use borrow.Fn.Kinds.{In}
 use borrow.Fn.PlainCycle.{Measures, is, falls, and}
@@ -227,7 +227,7 @@ unify-returns-8 t c = way-kids (climbed (c .before .before .before .before .befo
 abbrev unify-objects-Inv-loop : unify-objects-lts.InvT-loop
 unify-objects-Inv-loop ws₀ ks n rule text s depth inv r₀ j₀ ws r j =
     (length ws ≡ length ws₀)
-    × Going (texts rule text) ws₀ ks n depth (does (unifyF (texts rule text) n depth) (decode ws₀ ks n) (planMeans ks (texts rule text) (plans.Object s))) ws (both (answerOf r) (objectRest (texts rule text) ks s j .base)) (objectRest (texts rule text) ks s j .pairs)
+    × Going (texts rule text) ws₀ ks n depth (does (unifyF (texts rule text) n depth) (decode ws₀ ks n) (planMeans ks (texts rule text) (plans.Object s))) ws (both (answerOf r) (objectRest (texts rule text) ks ks s j .base)) (objectRest (texts rule text) ks ks s j .pairs)
 
 abbrev unify-objects-μ-loop : unify-objects-lts.MeasureT-loop
 unify-objects-μ-loop ws₀ ks n rule text s depth inv r₀ j₀ ws r j = s .na - j
@@ -236,7 +236,7 @@ unify-objects-from-bool-requires : (t : ℕ) → unify-objects-lts.Need-from-boo
 unify-objects-from-bool-requires t c κs = search needs
 
 unify-objects-loop-holds : (t : ℕ) → unify-objects-lts.Need-loop-holds (unify-objects-claims t) (unify-objects-at t) unify-objects.Post unify-objects-Inv-loop unify-objects-μ-loop
-unify-objects-loop-holds t c = (refl, going-start (planMeans (c .before .before .before .before .before .before .before .args .ks .now) (texts (c .before .before .before .before .before .before .before .args .rule .now) (c .before .before .before .before .before .before .before .args .text .now)) (plans.Object (c .before .before .before .before .before .before .before .args .s))) _ (object-whole (texts (c .before .before .before .before .before .before .before .args .rule .now) (c .before .before .before .before .before .before .before .args .text .now)) (c .before .before .before .before .before .before .before .args .ks .now) (c .before .before .before .before .before .before .before .args .s) (c .from-bool .result) (c .from-bool .ensures)) (c .before .before .before .before .before .before .before .pre .1))
+unify-objects-loop-holds t c = (refl, going-start (planMeans (c .before .before .before .before .before .before .before .args .ks .now) (texts (c .before .before .before .before .before .before .before .args .rule .now) (c .before .before .before .before .before .before .before .args .text .now)) (plans.Object (c .before .before .before .before .before .before .before .args .s))) _ (stored-whole (texts (c .before .before .before .before .before .before .before .args .rule .now) (c .before .before .before .before .before .before .before .args .text .now)) (c .before .before .before .before .before .before .before .args .ks .now) (c .before .before .before .before .before .before .before .args .s) (c .from-bool .result) (c .from-bool .ensures)) (c .before .before .before .before .before .before .before .pre .1))
 
 unify-objects-kid-requires : (t : ℕ) → unify-objects-lts.Need-kid-requires (unify-objects-claims t) (unify-objects-at t) unify-objects.Post unify-objects-Inv-loop unify-objects-μ-loop
 unify-objects-kid-requires t c κs = search needs
@@ -257,7 +257,7 @@ unify-objects-invert-if-requires : (t : ℕ) → unify-objects-lts.Need-invert-i
 unify-objects-invert-if-requires t c κs = search needs
 
 unify-objects-unify-requires : (t : ℕ) → unify-objects-lts.Need-unify-requires (unify-objects-claims t) (unify-objects-at t) unify-objects.Post unify-objects-Inv-loop unify-objects-μ-loop
-unify-objects-unify-requires t c κs = (omega (arith, c .before .before .before .before .before .before .before .before .before .before .before .before .before .before .before .before .before .before .pre .0), name-pair (c .before .before .before .before .before .before .before .before .before .before .before .before .before .before .before .before .before .before .args .s) (c .before .before .before .before .before .before .before .before .before .before .loop .j) (c .before .before .before .before .before .before .before .before .before .before .loop .r) (c .before .before .before .before .before .before .before .before .if1 .taken) (c .before .before .before .before .before .seek .result) (c .before .before .before .before .before .before .kid-name .ensures) (c .before .before .before .before .before .seek .ensures) (c .before .before .before .f .given .0 .0) (c .before .before .before .f .given .1) (c .before .before .before .before .before .before .before .kid .result .0) (c .invert-if .result .0) (c .before .before .before .before .before .before .before .kid .ensures) (c .invert-if .ensures) (c .before .before .before .before .before .before .before .before .before .before .loop .inv .1))
+unify-objects-unify-requires t c κs = (omega (arith, c .before .before .before .before .before .before .before .before .before .before .before .before .before .before .before .before .before .before .pre .0), name-pair (c .before .before .before .before .before .before .before .before .before .before .before .before .before .before .before .before .before .before .args .ks .now) (c .before .before .before .before .before .before .before .before .before .before .before .before .before .before .before .before .before .before .args .ks .now) (c .before .before .before .before .before .before .before .before .before .before .before .before .before .before .before .before .before .before .args .s) (c .before .before .before .before .before .before .before .before .before .before .loop .j) (c .before .before .before .before .before .before .before .before .before .before .loop .r) (c .before .before .before .before .before .before .before .before .if1 .taken) (c .before .before .before .before .before .seek .result) (c .before .before .before .before .before .before .kid-name .ensures) (c .before .before .before .before .before .seek .ensures) (c .before .before .before .f .given .0 .0) (c .before .before .before .f .given .1) (c .before .before .before .before .before .before .before .kid .result .0) (c .invert-if .result .0) (c .before .before .before .before .before .before .before .kid .ensures) (c .invert-if .ensures) (c .before .before .before .before .before .before .before .before .before .before .loop .inv .1))
 
 unify-objects-and-requires : (t : ℕ) → unify-objects-lts.Need-and-requires (unify-objects-claims t) (unify-objects-at t) unify-objects.Post unify-objects-Inv-loop unify-objects-μ-loop
 unify-objects-and-requires t c κs = search needs
@@ -266,7 +266,7 @@ unify-objects-loop-less : (t : ℕ) → unify-objects-lts.Need-loop-less (unify-
 unify-objects-loop-less t c = search needs
 
 unify-objects-loop-again : (t : ℕ) → unify-objects-lts.Need-loop-again (unify-objects-claims t) (unify-objects-at t) unify-objects.Post unify-objects-Inv-loop unify-objects-μ-loop
-unify-objects-loop-again t c = (c .before .before .before .unify .kept .0 ∙ c .before .before .before .before .before .before .before .before .before .before .before .before .before .before .loop .inv .0, name-next (c .before .before .before .before .before .before .before .before .before .before .before .before .before .before .before .before .before .before .before .before .before .before .args .s) (c .before .before .before .before .before .before .before .before .before .before .before .before .before .before .loop .j) (c .before .before .before .before .before .before .before .before .before .before .before .before .before .before .loop .r) (c .before .before .before .before .before .before .before .before .before .before .before .before .if1 .taken) (c .before .before .before .before .before .before .before .before .before .seek .result) (c .before .before .before .before .before .before .before .before .before .before .kid-name .ensures) (c .before .before .before .before .before .before .before .before .before .seek .ensures) (c .before .before .before .before .before .before .before .f .given .0 .0) (c .before .before .before .before .before .before .before .f .given .1) (c .before .before .before .before .before .before .before .before .before .before .before .kid .result .0) (c .before .before .before .before .invert-if .result .0) (c .before .before .before .before .before .before .before .before .before .before .before .kid .ensures) (c .before .before .before .before .invert-if .ensures) (c .before .before .before .before .before .before .before .before .before .before .before .before .before .before .loop .inv .1) (c .and .result) (c .before .before .before .unify .ensures) (c .and .ensures))
+unify-objects-loop-again t c = (c .before .before .before .unify .kept .0 ∙ c .before .before .before .before .before .before .before .before .before .before .before .before .before .before .loop .inv .0, name-next (c .before .before .before .before .before .before .before .before .before .before .before .before .before .before .before .before .before .before .before .before .before .before .args .ks .now) (c .before .before .before .before .before .before .before .before .before .before .before .before .before .before .before .before .before .before .before .before .before .before .args .ks .now) (c .before .before .before .before .before .before .before .before .before .before .before .before .before .before .before .before .before .before .before .before .before .before .args .s) (c .before .before .before .before .before .before .before .before .before .before .before .before .before .before .loop .j) (c .before .before .before .before .before .before .before .before .before .before .before .before .before .before .loop .r) (c .before .before .before .before .before .before .before .before .before .before .before .before .if1 .taken) (c .before .before .before .before .before .before .before .before .before .seek .result) (c .before .before .before .before .before .before .before .before .before .before .kid-name .ensures) (c .before .before .before .before .before .before .before .before .before .seek .ensures) (c .before .before .before .before .before .before .before .f .given .0 .0) (c .before .before .before .before .before .before .before .f .given .1) (c .before .before .before .before .before .before .before .before .before .before .before .kid .result .0) (c .before .before .before .before .invert-if .result .0) (c .before .before .before .before .before .before .before .before .before .before .before .kid .ensures) (c .before .before .before .before .invert-if .ensures) (c .before .before .before .before .before .before .before .before .before .before .before .before .before .before .loop .inv .1) (c .and .result) (c .before .before .before .unify .ensures) (c .and .ensures))
 
 unify-objects-enum-told : (t : ℕ) → unify-objects-lts.Need-enum-told (unify-objects-claims t) (unify-objects-at t) unify-objects.Post unify-objects-Inv-loop unify-objects-μ-loop
 unify-objects-enum-told t c = search needs
@@ -278,13 +278,13 @@ unify-objects-loop-less-2 : (t : ℕ) → unify-objects-lts.Need-loop-less-2 (un
 unify-objects-loop-less-2 t c = search needs
 
 unify-objects-loop-again-2 : (t : ℕ) → unify-objects-lts.Need-loop-again-2 (unify-objects-claims t) (unify-objects-at t) unify-objects.Post unify-objects-Inv-loop unify-objects-μ-loop
-unify-objects-loop-again-2 t c = (c .before .before .before .before .before .before .before .before .loop .inv .0, object-none (texts (c .before .before .before .before .before .before .before .before .before .before .before .before .before .before .before .before .args .rule .now) (c .before .before .before .before .before .before .before .before .before .before .before .before .before .before .before .before .args .text .now)) (c .before .before .before .before .before .before .before .before .before .before .before .before .before .before .before .before .args .ks .now) (c .before .before .before .before .before .before .before .before .before .before .before .before .before .before .before .before .args .s) (c .before .before .before .before .before .before .before .before .loop .j) (c .before .before .before .before .before .before .if1 .taken) (c .before .before .before .seek .result) (c .before .before .before .before .kid-name .ensures) (c .before .before .before .seek .ensures) (c .before .before .before .before .before .before .before .before .loop .r) (c .before .before .before .before .before .before .before .before .loop .inv .1) (c .and2 .result) (c .before .enum-told .given .1) (c .and2 .ensures))
+unify-objects-loop-again-2 t c = (c .before .before .before .before .before .before .before .before .loop .inv .0, object-none (texts (c .before .before .before .before .before .before .before .before .before .before .before .before .before .before .before .before .args .rule .now) (c .before .before .before .before .before .before .before .before .before .before .before .before .before .before .before .before .args .text .now)) (c .before .before .before .before .before .before .before .before .before .before .before .before .before .before .before .before .args .ks .now) (c .before .before .before .before .before .before .before .before .before .before .before .before .before .before .before .before .args .ks .now) (c .before .before .before .before .before .before .before .before .before .before .before .before .before .before .before .before .args .s) (c .before .before .before .before .before .before .before .before .loop .j) (c .before .before .before .before .before .before .if1 .taken) (c .before .before .before .seek .result) (c .before .before .before .before .kid-name .ensures) (c .before .before .before .seek .ensures) (c .before .before .before .before .before .before .before .before .loop .r) (c .before .before .before .before .before .before .before .before .loop .inv .1) (c .and2 .result) (c .before .enum-told .given .1) (c .and2 .ensures))
 
 unify-objects-same-length : (t : ℕ) → unify-objects-lts.Need-same-length (unify-objects-claims t) (unify-objects-at t) unify-objects.Post unify-objects-Inv-loop unify-objects-μ-loop
 unify-objects-same-length t c = c .before .before .loop .inv .0
 
 unify-objects-returns : (t : ℕ) → unify-objects-lts.Need-returns (unify-objects-claims t) (unify-objects-at t) unify-objects.Post unify-objects-Inv-loop unify-objects-μ-loop
-unify-objects-returns t c = object-ends (c .before .before .before .before .before .before .before .before .before .before .args .s) (c .before .before .loop .j) (c .if1 .left) (c .before .before .loop .r) (c .before .before .loop .inv .1)
+unify-objects-returns t c = object-ends (c .before .before .before .before .before .before .before .before .before .before .args .s) (c .before .before .loop .j) (c .if1 .left) (c .before .before .loop .r) (c .before .before .before .before .before .before .before .before .before .before .args .ks .now) (c .before .before .before .before .before .before .before .before .before .before .args .ks .now) (c .before .before .loop .inv .1)
 
 abbrev unify-types-Inv-loop : unify-types-lts.InvT-loop
 unify-types-Inv-loop ws₀ ks n rule text s depth inv r₀ i₀ ws r i =

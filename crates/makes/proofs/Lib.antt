@@ -1,0 +1,4 @@
+pub mod RoomLaws
+pub mod OpenLaws
+pub mod MakerLaws
+pub mod ListLaws
