@@ -19,6 +19,7 @@ const LEND: u32 = 4;
 const POKE: u32 = 5;
 const FLIP: u32 = 6;
 const CASE: u32 = 7;
+const WORDS: u32 = 8;
 
 // More words than the largest store needs, so that some are left over.
 const HEAD: usize = 10;
@@ -258,6 +259,12 @@ fn call<'a>(
     }
     if op == FLIP {
         flips(chart, beside, rule, text, h, ws, ks, a);
+        return;
+    }
+    if op == WORDS {
+        writing::words(h);
+        writing::words(ws);
+        writing::words(ks);
         return;
     }
     if op == CASE {

@@ -23,15 +23,28 @@ use walk::Mod;
 
 const OUT: i32 = 1;
 
-// "Both give Error uninverted."
-const NO_KIND: &[u8] = b"known 14 0 0 0";
-
 pub fn say(text: &[u8]) {
     io::write_all(OUT, text);
 }
 
+// "Both give Error uninverted."
+fn no_kind() {
+    say(b"known 14 0 0 0");
+}
+
 pub fn number(n: u32) {
     io::print_decimal(OUT, n as u64);
+}
+
+// Numbers on a line of their own.
+pub fn words(s: &[u32]) {
+    let mut i = 0;
+    while i < s.len() {
+        number(s[i]);
+        say(b" ");
+        i += 1;
+    }
+    line();
 }
 
 pub fn line() {
@@ -242,11 +255,11 @@ pub fn forced_answer<'a>(a: ForcedAnswer, ks: &[u32], rule: &'a [u8], text: &'a 
                     kind(ks, k, rule, text);
                 }
                 Forced::Reported(span) => {
-                    say(NO_KIND);
+                    no_kind();
                     say(b" reported ");
                     number(span);
                 }
-                Forced::Failed => say(NO_KIND),
+                Forced::Failed => no_kind(),
             }
             line();
         }

@@ -1,0 +1,161 @@
+"""Calls that are turned back, with the number that document 01 gives for each: a list of calls for crates/trial, and what it must write.
+
+The chart is chart.json's: record 0 is a trait, 1 a struct without the flag, 4 a union with it, 5 a const, 6 a fn, 9 a struct with it."""
+
+from lib.script import INVERSE, line
+
+TUPLE, OBJECT, STRUCT, CLOSURE, REF, IF_CONST, NEVER = 1, 2, 4, 8, 9, 11, 12
+A, AB, B = (0, 0, 1), (0, 2, 2), (0, 5, 1)  # names in the rule text: a, ab, b
+NONE = 2 ** 32 - 1
+NODES, CHILDREN = 6, 6
+
+
+def kind(code, *kids, number=0, flex=0, name=(0, 0, 0)):
+    """`new`'s numbers; a kid is a type, or a type and its name."""
+    entries = [n for kid in kids for n in (kid if isinstance(kid, tuple) else (kid, 0, 0, 0))]
+    return [code, number, flex, *name, *entries]
+
+
+def named(t, name):
+    return (t, *name)
+
+
+def opening():
+    lend = ("lend", [8, NODES * 12, CHILDREN * 4], None)
+    return [
+        lend,
+        ("open", [4097, 0], "refused 1"),
+        ("open", [0, 16385], "refused 1"),
+        ("open", [NODES + 1, CHILDREN], "refused 1"),
+        ("open", [NODES, CHILDREN + 1], "refused 1"),
+        ("lend", [7, NODES * 12, CHILDREN * 4], None),
+        ("open", [0, 0], "refused 1"),
+        ("lend", [10, 49164, 65544], None),
+        ("open", [4096, 16384], "done"),
+        ("new_vars", [7, 4096, 4096], "types" + "".join(f" {n}" for n in range(4096))),
+        ("new_var", [1], "refused 10"),
+        lend,
+        ("find", [0], "refused 8"),
+        ("open", [0, 0], "done"),
+        ("new_var", [1], "refused 10"),
+        ("error", [], "refused 10"),
+        ("new_vars", [1, 0, 0], "types"),
+        ("open", [NODES, CHILDREN], "done"),
+    ]
+
+
+def making():
+    return [
+        ("find", [0], "refused 3"),
+        ("new_var", [5], "=0"),
+        ("new", kind(15), "refused 4"),
+        ("new", kind(15, 9), "refused 3"),
+        ("new", kind(REF), "refused 4"),
+        ("new", kind(IF_CONST, 0, number=5), "refused 4"),
+        ("new", kind(IF_CONST, 0, 0, number=6), "refused 5"),
+        ("new", kind(CLOSURE), "refused 4"),
+        ("new", kind(CLOSURE, 0, flex=4), "refused 4"),
+        ("new", kind(TUPLE, number=1), "refused 4"),
+        ("new", kind(TUPLE, named(0, A)), "refused 4"),
+        ("new", kind(TUPLE, 0)[:-1], "refused 4"),
+        ("new", kind(TUPLE, name=A), "refused 4"),
+        ("new", kind(OBJECT, 0), "refused 4"),
+        ("new", kind(OBJECT, named(0, B), named(0, A)), "refused 4"),
+        ("new", kind(OBJECT, named(0, A), named(0, A)), "refused 4"),
+        ("new", kind(OBJECT, named(0, (0, 51, 9))), "refused 4"),
+        ("new", kind(OBJECT, named(0, (2, 0, 1))), "refused 4"),
+        ("new", kind(STRUCT, number=0), "refused 5"),
+        ("new", kind(STRUCT, number=NONE), "refused 5"),
+        ("new", kind(STRUCT, *[0] * 256, number=NONE), "refused 4"),
+        ("new", kind(STRUCT, *[0] * 256, 1, number=NONE), "refused 3"),
+        ("new", kind(TUPLE, *[0] * 255), "refused 11"),
+        ("new_struct", [4, 0], "refused 5"),
+        ("new_union", [4, *[0] * 7], "refused 11"),
+        ("new_union", [4, 0, INVERSE], "=1"),
+        ("new_vars", [1, NONE, 0], "refused 10"),
+        ("new_vars", [1, 5, 0], "refused 10"),
+        ("new_vars", [1, 4, 3], "refused 7"),
+        ("nil", [], "=2"),
+        ("nil", [], "=2"),
+        ("error", [], "=3"),
+        ("new", kind(OBJECT, named(0, A), named(INVERSE, AB)), "=4"),
+        ("new", kind(NEVER), "=5"),
+        ("new", kind(NEVER), "refused 10"),
+        ("error", [], "=3"),
+    ]
+
+
+def asking():
+    return [
+        ("node", [6], "refused 3"),
+        ("child", [4, 1], "~0"),
+        ("child", [4, 2], "none"),
+        ("child_name", [4, 1], "|ab|"),
+        ("child_name", [4, NONE], "none"),
+        ("child_name", [1, 0], "none"),
+        ("is_nil", [2], "1"),
+        ("is_nil", [6], "refused 3"),
+        ("self_inverse_plain", [1], "0"),
+        ("get_mod", [1], "def 17"),
+        ("find_related", [4, 0, 0, 0, 0, 0], "refused 7"),
+        ("find_related", [4, 0, 0, 0, 0, 0, 0], "marked 0 4"),
+        ("find_related", [6, 0], "refused 3"),
+        ("force_kind", [6], "refused 3"),
+    ]
+
+
+def joining():
+    many = [0] * 256
+    return [
+        ("unify", [0, 6], "refused 3"),
+        ("unify", [INVERSE + 6, 0], "refused 3"),
+        ("unify_types", [0, 256, *many, *many], "refused 4"),
+        ("unify_types", [0, 256, *many, 6], "refused 3"),
+        ("unify_objects", [0, 8, 0, *B, 0, *A], "refused 4"),
+        ("unify_objects", [0, 4, 0, *A, 6, 0, 0, 0], "refused 3"),
+        ("unify_objects", [0, 3, 0, 0, 0], "refused 4"),
+        ("unify_fn_sig", [0, 6, 0], "refused 3"),
+        ("unify_fn_sig", [0, 0, 256, *many], "refused 4"),
+        ("unify_impl_type", [0, 1, 0, 0, 0], "refused 5"),
+        ("unify_impl_type", [1, 0, 0, 1, 0, 6], "refused 3"),
+        ("unify_impl_type", [1, 0, 0, 0, 0, 0], "Indeterminate"),
+        ("approx_eq", [1, 0, 1, 0, 0], "0"),
+        ("approx_eq", [0, 0, 0, 0, 1, 0, 0], "1"),
+        ("unify", [0, 5], "Success"),
+    ]
+
+
+def broken(chart):
+    records = [n for r in chart["records"] for n in
+               [r["sort"], *place(r["name"]), *place(r["path"]), r["def"], r["flag"], r["trait"]]]
+    bad = [8] + records[1:]
+    sigils = [n for s in chart["sigils"] for n in place(s)]
+    return [
+        ("chart", bad, None), ("find", [9], "refused 2"),
+        ("chart", records[:-1], None), ("find", [0], "refused 2"),
+        ("chart", [], None), ("find", [0], "refused 2"),
+        ("beside", [NONE, *sigils], None), ("find", [0], "refused 8"),
+        ("chart", records, None), ("beside", [1, *sigils], None), ("find", [0], "refused 2"),
+        ("beside", [chart["fn_trait"], *sigils], None), ("find", [0], "=5"),
+        ("lend", [8, NODES * 12 - 1, CHILDREN * 4], None), ("unify", [0, 5], "refused 8"),
+        ("lend", [0, 0, 0], None), ("reset", [], "refused 8"),
+        ("lend", [8, NODES * 12, CHILDREN * 4], None),
+        ("poke", [1, 5 * 12 + 2, 1], None), ("unify", [0, 5], "refused 8"),   # a root's size
+        ("poke", [1, 5 * 12 + 2, 2], None), ("poke", [1, 12 + 6, 0], None), ("find", [9], "refused 8"),  # a flag
+        ("poke", [1, 12 + 6, 1], None), ("poke", [1, 12 + 1, 1], None), ("poke", [2, 2 * 4, 1], None),
+        ("find", [0], "refused 8"),                                           # a child cycle
+        ("poke", [2, 2 * 4, INVERSE], None), ("poke", [1, 12 + 1, 0], None), ("find", [0], "=5"),
+        ("reset", [], "done"), ("find", [0], "refused 3"), ("nil", [], "=0"),
+    ]
+
+
+def place(n):
+    return [n["text"], n["start"], n["len"]]
+
+
+def refused(chart):
+    said, wrote = line("case", 9999), "case 9999\n"
+    for op, numbers, expected in opening() + making() + asking() + joining() + broken(chart):
+        said += line(op, *numbers)
+        wrote += "" if expected is None else expected + "\n"
+    return said + line("store"), wrote + "nodes 1 of 6, children 0 of 6, error none, nil 0, reports 0\n  root 1 known 1 0 0 0\n"
