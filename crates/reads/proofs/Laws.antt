@@ -2,7 +2,7 @@
 -- pass are the chart of their records, and marks are tested last.
 -- Assumes nothing.
 use mathlib.Core.Path.{_≡_, refl, ap, sym, _∙_}
-use mathlib.Core.Bool.{Bool, true, _&&_}
+use mathlib.Core.Bool.{Bool, true, _&&_, and-true}
 use mathlib.Core.List.{List, [], _∷_, _++_}
 use Prim.Native.Nat.{ℕ, _≤_, _<_}
 use native.Mathlib.Omega.{arith}
@@ -24,7 +24,6 @@ use Rattle.layout.specs.Meaning.{readAt, nodeMeans, Clean, headerIn}
 use Rattle.layout.specs.declared.Header.{Header}
 use Rattle.layout.specs.declared.TypeNode.{TypeNode}
 use Rattle.layout.proofs.Laws.{length-decode, read-is}
-use Rattle.makeable.proofs.NameLaws.{and-true}
 use Rattle.sound.specs.Tests.{envIn, codeOf}
 use Rattle.sound.proofs.Laws.{env-ok, env-whole}
 use Rattle.walk.specs.Asks.{Stands, Inverses}
