@@ -1,9 +1,8 @@
 -- A call on listed types that only reads: its tests turn it back, or its answer is what its definition reads of the store that the slices hold. A call
--- that no test turns back has a sound store, its nodes are clean and as many as the header says, and
--- the types are among them.
+-- that no test turns back has a sound store with clean nodes, as many as the header says, and its types are among them.
 -- Assumes nothing.
 use mathlib.Core.Path.{_≡_, ap, sym, _∙_}
-use mathlib.Core.Bool.{true, not}
+use mathlib.Core.Bool.{true}
 use mathlib.Core.Option.{none}
 use mathlib.Core.List.{List, [], _∷_}
 use Prim.Native.Nat.{ℕ}

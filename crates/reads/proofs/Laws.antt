@@ -1,9 +1,10 @@
--- What each public call adds to the shared laws of calls that only read: the node that was read is the store's, a sound store can be walked, numbers that
--- pass are the chart of their records, and marks are tested last.
+-- What each public call adds to the shared laws of calls that only read: the node that was read is the store's, a child or a name is read of the node
+-- that `node` answers, a sound store can be walked, numbers that pass are the chart of their records, and marks are tested last.
 -- Assumes nothing.
 use mathlib.Core.Path.{_≡_, refl, ap, sym, _∙_}
-use mathlib.Core.Bool.{Bool, true, _&&_}
+use mathlib.Core.Bool.{Bool, true, _&&_, and-true}
 use mathlib.Core.List.{List, [], _∷_, _++_}
+use mathlib.Core.Option.{Option, none, some}
 use Prim.Native.Nat.{ℕ, _≤_, _<_}
 use native.Mathlib.Omega.{arith}
 use lib.ListN.{length}
@@ -14,7 +15,7 @@ use Rattle.scope.specs.Types.{Ty, tyOf}
 use Rattle.scope.specs.Nodes.{Node, Store, at}
 use Rattle.scope.specs.Sound.{inStore}
 use Rattle.scope.specs.Force.{findRelated}
-use Rattle.scope.specs.Calls.{Outcome, done, firstBroken, storeOf, shortFor, findRelatedCall}
+use Rattle.scope.specs.Calls.{Outcome, refused, done, orRefused, firstBroken, storeOf, shortFor, readCall, nodeCall, findRelatedCall}
 use Rattle.scope.proofs.SoundLaws.{SoundFacts}
 use Rattle.types.specs.declared.«Type».{«Type»}
 use Rattle.chart.specs.declared.Beside.{Beside}
@@ -24,16 +25,45 @@ use Rattle.layout.specs.Meaning.{readAt, nodeMeans, Clean, headerIn}
 use Rattle.layout.specs.declared.Header.{Header}
 use Rattle.layout.specs.declared.TypeNode.{TypeNode}
 use Rattle.layout.proofs.Laws.{length-decode, read-is}
-use Rattle.makeable.proofs.NameLaws.{and-true}
 use Rattle.sound.specs.Tests.{envIn, codeOf}
 use Rattle.sound.proofs.Laws.{env-ok, env-whole}
 use Rattle.walk.specs.Asks.{Stands, Inverses}
 use Rattle.walk.proofs.Answers.{sound-walks}
-use Rattle.calls.specs.Promise.{typesTests}
+use Rattle.calls.specs.Promise.{typesTests, outcomeBy}
 use Rattle.calls.specs.declared.DoneAnswer.the-variants.{Done, Refused}
 use Rattle.calls.proofs.Laws.{code-first, code-next, test-stands, test-falls, judged-refused, judged-done, lent-chart, lent-store}
 use Rattle.calls.proofs.ReadLaws.{read-passed, read-facts, read-inside, nodes-read, read-clean}
-use Rattle.reads.specs.Replies.{Marked}
+use Rattle.reads.specs.declared.NodeAnswer.{NodeAnswer}
+use Rattle.reads.specs.declared.NodeAnswer.the-variants as node
+use Rattle.reads.specs.Replies.{nodeReply, Marked}
+
+-- what is read of the node that `node` answers
+
+abbrev mapped : {A B : Type 0} → (A → B) → Outcome A → Outcome B
+mapped f (refused n) = refused n
+mapped f (done a s) = done (f a) s
+
+mapped-by : {A B : Type 0} (f : A → B) (o : Option ℕ) (a : A) (s : Store) → orRefused o (done (f a) s) ≡ mapped f (orRefused o (done a s))
+mapped-by f none a s = refl
+mapped-by f (some n) a s = refl
+
+module _ (e : Env) (h ws ks : List ℕ) (t : Ty) {r : NodeAnswer} (q : nodeCall e (lentOf h ws ks) t ≡ outcomeBy (nodeReply ks r) (storeIn h ws ks))
+    {A : Type 0} (f : Node → A) where
+  of-node : {v : NodeAnswer} → r ≡ v
+      → readCall e (lentOf h ws ks) (t ∷ []) (f (at (storeOf (lentOf h ws ks) .nodes) (t .idx))) ≡ mapped f (outcomeBy (nodeReply ks v) (storeIn h ws ks))
+  unfolding nodeCall
+  of-node p =
+      let s : Store = storeOf (lentOf h ws ks) in
+      mapped-by f (firstBroken (typesTests e (lentOf h ws ks) (t ∷ []))) (at (s .nodes) (t .idx)) s
+      ∙ ap (mapped f) (q ∙ ap (λ (y : NodeAnswer). outcomeBy (nodeReply ks y) (storeIn h ws ks)) p)
+
+  pub of-found : {v : TypeNode} {a : A} → r ≡ node.Is v → f (nodeMeans ks v) ≡ a
+      → readCall e (lentOf h ws ks) (t ∷ []) (f (at (storeOf (lentOf h ws ks) .nodes) (t .idx))) ≡ done a (storeIn h ws ks)
+  of-found p w = of-node p ∙ ap (λ (y : A). done y (storeIn h ws ks)) w
+
+  pub of-refused : {n : ℕ} → r ≡ node.Refused n
+      → readCall e (lentOf h ws ks) (t ∷ []) (f (at (storeOf (lentOf h ws ks) .nodes) (t .idx))) ≡ refused n
+  of-refused p = of-node p
 
 module _ (e : Env) (h ws ks : List ℕ) (t : «Type») (n : ℕ) (q : firstBroken (typesTests e (lentOf h ws ks) (tyOf (t .0) ∷ [])) ≡ codeOf n) where
   abbrev T : Ty

@@ -190,14 +190,12 @@ pub fn child<'a>(
 ) -> ChildAnswer
     ensures { λ r. ⌜ childCall (envIn (now (chart .entry)) beside (now (rule .entry)) (now (text .entry))) (lentOf (now (h .entry)) (now (ws .entry)) (now (ks .entry))) (tyOf (t .0)) j ≡ outcomeBy (childReply r) (storeIn (now (h .entry)) (now (ws .entry)) (now (ks .entry))) ⌝ }
 {
-    let code = refusal_at(chart, beside, rule, text, h, ws, ks, t);
-    if code != NO_REFUSAL {
-        return ChildAnswer::Refused(code);
-    }
-    let x = layout::read_header(h);
-    match child_of_node(ks, layout::node_at(ws, x.nodes, t.idx()), j) {
-        Kid::Is(kid) => ChildAnswer::Is(kid),
-        Kid::Nothing => ChildAnswer::Nothing,
+    match node(chart, beside, rule, text, h, ws, ks, t) {
+        NodeAnswer::Is(found) => match child_of_node(ks, found, j) {
+            Kid::Is(kid) => ChildAnswer::Is(kid),
+            Kid::Nothing => ChildAnswer::Nothing,
+        },
+        NodeAnswer::Refused(code) => ChildAnswer::Refused(code),
     }
 }
 
@@ -215,14 +213,12 @@ pub fn child_name<'a>(
 ) -> NameAnswer
     ensures { λ r. ⌜ nameCall (envIn (now (chart .entry)) beside (now (rule .entry)) (now (text .entry))) (lentOf (now (h .entry)) (now (ws .entry)) (now (ks .entry))) (tyOf (t .0)) j ≡ outcomeBy (nameReply r) (storeIn (now (h .entry)) (now (ws .entry)) (now (ks .entry))) ⌝ }
 {
-    let code = refusal_at(chart, beside, rule, text, h, ws, ks, t);
-    if code != NO_REFUSAL {
-        return NameAnswer::Refused(code);
-    }
-    let x = layout::read_header(h);
-    match name_of_node(ks, layout::node_at(ws, x.nodes, t.idx()), j) {
-        Named::Is(name) => NameAnswer::Is(name),
-        Named::Nothing => NameAnswer::Nothing,
+    match node(chart, beside, rule, text, h, ws, ks, t) {
+        NodeAnswer::Is(found) => match name_of_node(ks, found, j) {
+            Named::Is(name) => NameAnswer::Is(name),
+            Named::Nothing => NameAnswer::Nothing,
+        },
+        NodeAnswer::Refused(code) => NameAnswer::Refused(code),
     }
 }
 

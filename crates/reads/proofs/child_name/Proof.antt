@@ -1,39 +1,21 @@
--- `reads::child_name` meets its contract: a refusal is the first test that breaks, and where none does what was read of the node is what the definition
--- reads of the store's.
+-- `reads::child_name` meets its contract: `node` refuses as the definition does, or answers the node that the definition reads the name of.
 -- Assumes nothing.
-use mathlib.Core.List.{List, [], _∷_}
-use mathlib.Core.Path.{ap, sym, _∙_}
+use mathlib.Core.Path.{ap, _∙_}
 use borrow.Author.Needs.{needs}
 use Rattle.scope.specs.Types.{tyOf}
-use Rattle.scope.specs.Nodes.{Node, at}
+use Rattle.scope.specs.Nodes.{Node}
 use Rattle.scope.specs.Calls.{childNameAt, nameCall}
 use Rattle.sound.specs.Tests.{envIn}
-use Rattle.calls.proofs.ReadLaws.{read-refused, read-clean, read-nodes}
 use Rattle.reads.specs.Replies.{namedMeans}
-use Rattle.reads.proofs.Laws.{node-is}
+use Rattle.reads.proofs.Laws.{of-found, of-refused}
 use Rattle.reads.proofs.child_name.Statement.{statement}
 use Rattle.reads.proofs.child_name.Tie as tie
 
-refusal-at-requires : tie.Need-refusal-at-requires
-refusal-at-requires c κs = search needs
+node-requires : tie.Need-node-requires
+node-requires c κs = search needs
 
-returns : tie.Need-returns
-unfolding nameCall
-returns c =
-    let a = c .before .before .before .before .before .before .before .before .args in
-    read-refused (envIn (a .chart .now) (a .beside) (a .rule .now) (a .text .now)) (a .h .now) (a .ws .now) (a .ks .now) (tyOf (a .t .0) ∷ []) (c .before .refusal-at .result) (c .before .refusal-at .ensures) _ (c .if1 .taken)
-
-read-header-requires : tie.Need-read-header-requires
-read-header-requires c κs = search needs
-
-idx-requires : tie.Need-idx-requires
-idx-requires c κs = search needs
-
-node-at-requires : tie.Need-node-at-requires
-node-at-requires c κs =
-    let a = c .before .before .before .before .before .before .before .before .before .before .args in
-    read-clean (envIn (a .chart .now) (a .beside) (a .rule .now) (a .text .now)) (a .h .now) (a .ws .now) (a .ks .now) (tyOf (a .t .0) ∷ []) (c .before .before .before .refusal-at .result) (c .before .before .before .refusal-at .ensures) (c .before .before .if1 .left)
-    (c .before .read-header .result) (c .before .read-header .ensures) .room
+enum-known-found : tie.Need-enum-known-found
+enum-known-found c = search needs
 
 name-of-node-requires : tie.Need-name-of-node-requires
 name-of-node-requires c κs = search needs
@@ -44,31 +26,40 @@ enum-known-name c = search needs
 enum-told : tie.Need-enum-told
 enum-told c = search needs
 
+enum-known-code : tie.Need-enum-known-code
+enum-known-code c = search needs
+
+returns : tie.Need-returns
+unfolding nameCall
+returns c =
+    let a = c .before .before .before .before .before .before .before .before .before .before .before .before .before .before .args in
+    of-found (envIn (a .chart .now) (a .beside) (a .rule .now) (a .text .now)) (a .h .now) (a .ws .now) (a .ks .now) (tyOf (a .t .0)) (c .before .before .before .before .before .before .before .node .ensures) (λ (v : Node). childNameAt v (a .j))
+    (c .before .before .before .before .before .found .given .1) (c .before .before .before .name-of-node .ensures ∙ ap namedMeans (c .before .name .given .1))
+
 returns-2 : tie.Need-returns-2
 unfolding nameCall
 returns-2 c =
-    let a = c .before .before .before .before .before .before .before .before .before .before .before .before .before .before .before .args in
-    read-nodes (envIn (a .chart .now) (a .beside) (a .rule .now) (a .text .now)) (a .h .now) (a .ws .now) (a .ks .now) (tyOf (a .t .0) ∷ []) (c .before .before .before .before .before .before .before .before .refusal-at .result) (c .before .before .before .before .before .before .before .before .refusal-at .ensures) (c .before .before .before .before .before .before .before .if1 .left)
-    (c .before .before .before .before .before .before .read-header .result) (c .before .before .before .before .before .before .read-header .ensures) (λ (ns : List Node). childNameAt (at ns (tyOf (a .t .0) .idx)) (a .j)) (ap namedMeans (sym (c .before .name .given .1)) ∙ (sym (c .before .before .before .name-of-node .ensures) ∙ ap (λ (v : Node). childNameAt v (a .j)) (node-is (envIn (a .chart .now) (a .beside) (a .rule .now) (a .text .now)) (a .h .now) (a .ws .now) (a .ks .now) (a .t) (c .before .before .before .before .before .before .before .before .refusal-at .result) (c .before .before .before .before .before .before .before .before .refusal-at .ensures) (c .before .before .before .before .before .before .before .if1 .left) (c .before .before .before .before .before .before .read-header .result) (c .before .before .before .before .before .before .read-header .ensures) (c .before .before .before .before .node-at .ensures) (c .before .before .before .before .before .idx .ensures))))
+    let a = c .before .before .before .before .before .before .before .before .before .before .before .before .before .args in
+    of-found (envIn (a .chart .now) (a .beside) (a .rule .now) (a .text .now)) (a .h .now) (a .ws .now) (a .ks .now) (tyOf (a .t .0)) (c .before .before .before .before .before .before .node .ensures) (λ (v : Node). childNameAt v (a .j))
+    (c .before .before .before .before .found .given .1) (c .before .before .name-of-node .ensures ∙ ap namedMeans (c .enum-told .given .1))
 
 returns-3 : tie.Need-returns-3
 unfolding nameCall
 returns-3 c =
-    let a = c .before .before .before .before .before .before .before .before .before .before .before .before .before .before .args in
-    read-nodes (envIn (a .chart .now) (a .beside) (a .rule .now) (a .text .now)) (a .h .now) (a .ws .now) (a .ks .now) (tyOf (a .t .0) ∷ []) (c .before .before .before .before .before .before .before .refusal-at .result) (c .before .before .before .before .before .before .before .refusal-at .ensures) (c .before .before .before .before .before .before .if1 .left)
-    (c .before .before .before .before .before .read-header .result) (c .before .before .before .before .before .read-header .ensures) (λ (ns : List Node). childNameAt (at ns (tyOf (a .t .0) .idx)) (a .j)) (ap namedMeans (sym (c .enum-told .given .1)) ∙ (sym (c .before .before .name-of-node .ensures) ∙ ap (λ (v : Node). childNameAt v (a .j)) (node-is (envIn (a .chart .now) (a .beside) (a .rule .now) (a .text .now)) (a .h .now) (a .ws .now) (a .ks .now) (a .t) (c .before .before .before .before .before .before .before .refusal-at .result) (c .before .before .before .before .before .before .before .refusal-at .ensures) (c .before .before .before .before .before .before .if1 .left) (c .before .before .before .before .before .read-header .result) (c .before .before .before .before .before .read-header .ensures) (c .before .before .before .node-at .ensures) (c .before .before .before .before .idx .ensures))))
+    let a = c .before .before .before .before .before .before .before .before .before .before .args in
+    of-refused (envIn (a .chart .now) (a .beside) (a .rule .now) (a .text .now)) (a .h .now) (a .ws .now) (a .ks .now) (tyOf (a .t .0)) (c .before .before .before .node .ensures) (λ (v : Node). childNameAt v (a .j))
+    (c .before .code .given .1)
 
 pub child-name-spec : {M : Type 1} → statement M
 child-name-spec =
     tie.close
     (tie.spec
-    refusal-at-requires
-    returns
-    read-header-requires
-    idx-requires
-    node-at-requires
+    node-requires
+    enum-known-found
     name-of-node-requires
     enum-known-name
     enum-told
+    enum-known-code
+    returns
     returns-2
     returns-3)
