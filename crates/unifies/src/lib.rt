@@ -186,10 +186,10 @@ fn same_trait(a: Impl, b: Impl) -> bool
     let Impl::Trait(i) = a else {
         return false;
     };
-    let Impl::Trait(j) = b else {
-        return false;
-    };
-    i == j
+    match b {
+        Impl::Trait(j) => i == j,
+        Impl::Error => false,
+    }
 }
 
 // `approx_eq`: two impl types, by their traits alone.

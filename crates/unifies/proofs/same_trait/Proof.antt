@@ -24,10 +24,10 @@ enum-told-2 : tie.Need-enum-told-2
 enum-told-2 c = search needs
 
 returns-2 : tie.Need-returns-2
-returns-2 c = λ xs ys. rw (c .before .before .before .a .given .1, c .enum-told2 .given .1) refl
+returns-2 c = λ xs ys. rw (c .before .before .before .before .a .given .1, c .before .b .given .1) refl
 
 returns-3 : tie.Need-returns-3
-returns-3 c = λ xs ys. rw (c .before .before .before .before .a .given .1, c .before .b .given .1) refl
+returns-3 c = λ xs ys. rw (c .before .before .before .a .given .1, c .enum-told2 .given .1) refl
 
 pub same-trait-spec : {M : Type 1} → statement M
 same-trait-spec =
