@@ -25,10 +25,12 @@ module _ {A : Type 0} (e : Env) (h ws ks : List ℕ) (us : Store → List (Bool 
   pub call-back : (n ≡ 0 → ⊥) → Promised call (refusal n) h ws ks h ws ks
   call-back z = promised-back (judged-refused tests (f (storeOf (lentOf h ws ks))) n q z)
 
+  -- what is done to the lent store is done to the one that the slices hold
+  pub call-outcome : n ≡ 0 → call ≡ f (storeIn h ws ks)
+  call-outcome z =
+      judged-done tests (f (storeOf (lentOf h ws ks))) n q z
+      ∙ ap f (lent-store e h ws ks (call-passed e h ws ks (us (storeOf (lentOf h ws ks))) n q z))
+
   pub call-done : {a : A} {s : Store} {h′ ws′ ks′ : List ℕ} → n ≡ 0 → f (storeIn h ws ks) ≡ done a s → Became h ws ks h′ ws′ ks′ s
       → Promised call (value a) h ws ks h′ ws′ ks′
-  call-done z p b =
-      promised-done
-      (judged-done tests (f (storeOf (lentOf h ws ks))) n q z
-      ∙ (ap f (lent-store e h ws ks (call-passed e h ws ks (us (storeOf (lentOf h ws ks))) n q z)) ∙ p))
-      b
+  call-done z p b = promised-done (call-outcome z ∙ p) b

@@ -2,32 +2,34 @@
 -- say one; a call that is turned back, and one that is done, keep what every call promises.
 -- Assumes nothing.
 use mathlib.Core.Path.{_≡_, refl, ap, sym, _∙_}
-use mathlib.Core.Bool.{Bool, true, false, not, _&&_}
+use mathlib.Core.Bool.{Bool, true, false, not, and-true}
 use mathlib.Core.List.{List, [], _∷_, _++_}
 use mathlib.Core.Option.{Option, none, some}
 use Prim.Native.Nat.{ℕ, _+_, _≤_, _<_}
 use native.Mathlib.Omega.{arith}
-use lib.Dec.{eqb}
 use lib.ListN.{length, length-map, getD, List·getD-map}
 use borrow.Author.Tests.{eq-eqb, ne-eqb}
 use Rattle.scope.specs.Base.{pick, all}
 use Rattle.scope.specs.Chart.{Env, chartOk}
 use Rattle.scope.specs.Types.{Ty, tyOf}
-use Rattle.scope.specs.Nodes.{Node, Store, withNodes}
-use Rattle.scope.specs.Sound.{Slot, Lent, reads, inStore, sound}
-use Rattle.scope.specs.Calls.{Outcome, refused, done, orRefused, judged, firstBroken, storeOf, lentTests, outside, readCall}
-use Rattle.layout.specs.Words.{nodeWords, nodesMade, childrenMade, decode, storeIn, clean, lentOf, slotAt, slots}
-use Rattle.layout.specs.Meaning.{Clean, Linked, headerIn}
+use Rattle.scope.specs.Nodes.{Node, Store}
+use Rattle.scope.specs.Sound.{Slot, Lent, inStore, sound}
+use Rattle.scope.specs.Calls.{Outcome, refused, done, orRefused, judged, firstBroken, storeOf, lentTests, outside}
+use Rattle.scope.proofs.SoundLaws.{SoundFacts, sound-facts}
+use Rattle.chart.specs.declared.Beside.{Beside}
+use Rattle.chart.specs.Env.{envOf}
+use Rattle.layout.specs.Words.{nodesMade, childrenMade, storeIn, clean, lentOf, slotAt, slots}
+use Rattle.layout.specs.Meaning.{Linked, headerIn}
 use Rattle.layout.specs.declared.Header.{Header}
-use Rattle.layout.proofs.Laws.{length-decode}
 use Rattle.layout.proofs.ChildLaws.{length-slots, slots-get}
 use Rattle.layout.proofs.LinkLaws.{clean-linked}
 use Rattle.layout.proofs.StoreLaws.{clean-nodes, lent-clean}
-use Rattle.makeable.proofs.NameLaws.{and-true}
-use Rattle.make.specs.Holds.{Holds, Beyond, Became}
-use Rattle.sound.specs.Tests.{codeOf}
-use Rattle.sound.proofs.Laws.{sound-clean}
-use Rattle.calls.specs.Promise.{Reply, value, refusal, outcomeBy, answered, Same, Promised, typesTests, typesIn, entryCount, entryTypes}
+use Rattle.make.specs.Holds.{Became}
+use Rattle.make.specs.Given.{entryCount}
+use Rattle.make.proofs.Laws.{store-count}
+use Rattle.sound.specs.Tests.{envIn, codeOf}
+use Rattle.sound.proofs.Laws.{sound-clean, env-ok, env-whole}
+use Rattle.calls.specs.Promise.{value, refusal, Promised, typesTests, typesIn, entryTypes}
 
 -- a refusal's number as an option
 
@@ -37,7 +39,7 @@ code-none n z = rw (eq-eqb n 0 z)
 pub code-some : (n : ℕ) → (n ≡ 0 → ⊥) → codeOf n ≡ some n
 code-some n z = rw (ne-eqb n 0 z)
 
-none-some : {A : Type 0} (n : ℕ) → _≡_ {A = Option ℕ} (some n) none → A
+pub none-some : {A : Type 0} (n : ℕ) → _≡_ {A = Option ℕ} (some n) none → A
 none-some n q = let z : _≡_ {A = ℕ} 0 1 = cc in absurd (omega arith)
 
 -- tests in a row
@@ -121,6 +123,9 @@ module _ (e : Env) (h ws ks : List ℕ) where
     pub lent-store : storeOf lent ≡ storeIn h ws ks
     lent-store = ap storeOf (lent-clean h ws ks lent-clean-words)
 
+    pub lent-facts : SoundFacts e (storeIn h ws ks)
+    lent-facts = sound-facts e (storeIn h ws ks) (ap (sound e) (sym (lent-clean h ws ks lent-clean-words)) ∙ lent-sound)
+
     pub lent-linked : (x : Header) → x ≡ headerIn h → Linked ws (x .nodes)
     lent-linked x g =
         let m : x .nodes ≡ nodesMade h = ap (λ (y : Header). y .nodes) g in
@@ -129,10 +134,9 @@ module _ (e : Env) (h ws ks : List ℕ) where
     -- a test of types that looks at the number of nodes alone
     pub lent-inside : (x : Header) → x ≡ headerIn h → (ts : List Ty) (b : Bool)
         → ((ns : List Node) → length ns ≡ x .nodes → b ≡ all (inStore ns) ts) → all (inStore (storeOf lent .nodes)) ts ≡ b
-    unfolding storeIn
     lent-inside x g ts b i =
-        let m : length (decode ws ks (nodesMade h)) ≡ x .nodes = length-decode ws ks (nodesMade h) ∙ sym (ap (λ (y : Header). y .nodes) g) in
-        ap (λ (s : Store). all (inStore (s .nodes)) ts) lent-store ∙ sym (i (decode ws ks (nodesMade h)) m)
+        ap (λ (s : Store). all (inStore (s .nodes)) ts) lent-store
+        ∙ sym (i (storeIn h ws ks .nodes) (store-count h ws ks ∙ sym (ap (λ (y : Header). y .nodes) g)))
 
     pub lent-outside : (x : Header) → x ≡ headerIn h → (ts : List Ty) (b : Bool)
         → ((ns : List Node) → length ns ≡ x .nodes → b ≡ all (inStore ns) ts) → outside (storeOf lent) ts ≡ (not b, 3)
@@ -162,6 +166,12 @@ module _ (e : Env) (h ws ks : List ℕ) where
     types-test x g ts b i =
         code-next (lentTests e lent) (outside (storeOf lent) ts ∷ []) n q z
         ∙ ap (λ (t : Bool × ℕ). firstBroken (t ∷ [])) (lent-outside lent-passed x g ts b i)
+
+-- numbers that 2 does not turn back are the chart of their records
+pub lent-env : (chart : List ℕ) (b : Beside) (rule text h ws ks : List ℕ) → firstBroken (lentTests (envIn chart b rule text) (lentOf h ws ks)) ≡ none
+    → envIn chart b rule text ≡ envOf chart b rule text
+lent-env chart b rule text h ws ks q =
+    env-whole chart b rule text (sym (env-ok chart b rule text) ∙ lent-chart (envIn chart b rule text) h ws ks q)
 
 module _ (e : Env) (h ws ks : List ℕ) (t : Ty) (n : ℕ) (q : firstBroken (lentTests e (lentOf h ws ks)) ≡ codeOf n) (z : n ≡ 0) where
   module _ (x : Header) (g : x ≡ headerIn h) (b : Bool) (i : (ns : List Node) → length ns ≡ x .nodes → b ≡ inStore ns t) where
@@ -193,7 +203,7 @@ abbrev noSlot : Slot
 noSlot = record { type = 0; text = 0; start = 0; len = 0 }
 
 module _ (es : List ℕ) where
-  entries-long : length (entryTypes es) ≡ entryCount es
+  pub entries-long : length (entryTypes es) ≡ entryCount es
   entries-long = length-map (slots es 0 (entryCount es)) slotType ∙ length-slots es 0 (entryCount es)
 
   module _ (i : ℕ) where

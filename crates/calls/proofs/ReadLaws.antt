@@ -11,17 +11,18 @@ use Rattle.scope.specs.Base.{all}
 use Rattle.scope.specs.Chart.{Env}
 use Rattle.scope.specs.Types.{Ty}
 use Rattle.scope.specs.Nodes.{Node, Store}
-use Rattle.scope.specs.Sound.{inStore, sound}
+use Rattle.scope.specs.Sound.{inStore}
 use Rattle.scope.specs.Calls.{refused, done, firstBroken, storeOf, lentTests, outside, readCall}
-use Rattle.scope.proofs.SoundLaws.{SoundFacts, sound-facts}
+use Rattle.scope.proofs.SoundLaws.{SoundFacts}
 use Rattle.layout.specs.Words.{nodesMade, childrenMade, decode, storeIn, lentOf}
 use Rattle.layout.specs.Meaning.{Clean, Linked, headerIn}
 use Rattle.layout.specs.declared.Header.{Header}
-use Rattle.layout.proofs.StoreLaws.{clean-nodes, lent-clean}
+use Rattle.layout.proofs.StoreLaws.{clean-nodes}
 use Rattle.make.proofs.Laws.{store-nodes}
 use Rattle.sound.specs.Tests.{codeOf}
 use Rattle.calls.specs.Promise.{typesTests}
-use Rattle.calls.proofs.Laws.{code-none, judged-refused, judged-done, passed-next, test-passed, call-passed, lent-sound, lent-clean-words, lent-store, lent-linked}
+use Rattle.calls.proofs.Laws.{code-none, judged-refused, passed-next, test-passed, call-passed, lent-clean-words, lent-store, lent-facts, lent-linked}
+use Rattle.calls.proofs.CallLaws.{call-outcome}
 
 module _ (e : Env) (h ws ks : List ℕ) (ts : List Ty) (n : ℕ) (q : firstBroken (typesTests e (lentOf h ws ks) ts) ≡ codeOf n) where
   pub read-refused : {A : Type 0} (a : A) → (n ≡ 0 → ⊥) → readCall e (lentOf h ws ks) ts a ≡ refused n
@@ -33,14 +34,10 @@ module _ (e : Env) (h ws ks : List ℕ) (ts : List Ty) (n : ℕ) (q : firstBroke
 
     pub read-done : {A : Type 0} (f : Store → A)
         → readCall e (lentOf h ws ks) ts (f (storeOf (lentOf h ws ks))) ≡ done (f (storeIn h ws ks)) (storeIn h ws ks)
-    read-done f =
-        judged-done (typesTests e (lentOf h ws ks) ts) (done (f (storeOf (lentOf h ws ks))) (storeOf (lentOf h ws ks))) n q z
-        ∙ ap (λ (s : Store). done (f s) s) (lent-store e h ws ks read-passed)
+    read-done f = call-outcome e h ws ks (λ s. outside s ts ∷ []) (λ s. done (f s) s) n q z
 
     pub read-facts : SoundFacts e (storeIn h ws ks)
-    read-facts =
-        sound-facts e (storeIn h ws ks)
-        (ap (sound e) (sym (lent-clean h ws ks (lent-clean-words e h ws ks read-passed))) ∙ lent-sound e h ws ks read-passed)
+    read-facts = lent-facts e h ws ks read-passed
 
     pub read-inside : all (inStore (storeIn h ws ks .nodes)) ts ≡ true
     read-inside =

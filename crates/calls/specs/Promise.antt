@@ -3,15 +3,15 @@
 use mathlib.Core.Path.{_≡_}
 use mathlib.Core.List.{List, [], _∷_, _++_, map}
 use mathlib.Core.Bool.{Bool, true, false}
-use Prim.Native.Nat.{ℕ, _/_}
-use lib.ListN.{length}
+use Prim.Native.Nat.{ℕ}
 use Rattle.scope.specs.Chart.{Env}
 use Rattle.scope.specs.Types.{Ty, tyOf}
 use Rattle.scope.specs.Nodes.{Store}
 use Rattle.scope.specs.Sound.{Lent}
 use Rattle.scope.specs.Calls.{Outcome, refused, done, storeOf, lentTests, outside}
-use Rattle.layout.specs.Words.{CHILD-WORDS, storeIn, slots}
+use Rattle.layout.specs.Words.{storeIn, slots}
 use Rattle.make.specs.Holds.{Became}
+use Rattle.make.specs.Given.{entryCount}
 use Rattle.calls.specs.declared.TypeAnswer.{TypeAnswer}
 use Rattle.calls.specs.declared.TypeAnswer.the-variants as type
 use Rattle.calls.specs.declared.BoolAnswer.{BoolAnswer}
@@ -66,9 +66,6 @@ typesTests e l ts = lentTests e l ++ (outside (storeOf l) ts ∷ [])
 abbrev pub typesIn : List ℕ → List Ty
 typesIn ts = map tyOf ts
 
--- lent children, each as the store has it: its type, and its name's text, start and length. Words past the last whole one are none
-abbrev pub entryCount : List ℕ → ℕ
-entryCount es = length es / CHILD-WORDS
-
+-- the types of lent children, each an entry as `new_kind` is given it
 abbrev pub entryTypes : List ℕ → List Ty
 entryTypes es = map (λ s. tyOf (s .type)) (slots es 0 (entryCount es))

@@ -1,7 +1,7 @@
 -- Opening: one law for each way out of its test, and from the test passed to what `make` asks of the slices.
 -- Assumes nothing.
-use mathlib.Core.Path.{_≡_, refl, _∙_}
-use mathlib.Core.Bool.{Bool, true, false, not, _&&_, _||_, or-true, false≢true}
+use mathlib.Core.Path.{_≡_, _∙_}
+use mathlib.Core.Bool.{Bool, true, false, not, _&&_, _||_, or-true}
 use mathlib.Core.List.{List, [], _∷_}
 use mathlib.Core.Option.{none, some}
 use Prim.Native.Nat.{ℕ, _≤_, _<_}
@@ -11,6 +11,7 @@ use borrow.Author.Tests.{lt-ltb, le-ltb, ltb-false, le-leb, lt-leb, leb-true, no
 use Rattle.scope.specs.Limits.{MAX-NODES, MAX-CHILDREN}
 use Rattle.scope.specs.Nodes.{opened}
 use Rattle.scope.specs.Calls.{firstBroken, openTest, openCall, done}
+use Rattle.scope.proofs.TestLaws.{or-no}
 use Rattle.names.proofs.Tests.{both}
 use Rattle.layout.specs.Words.{HEAD-WORDS, nodeWords, childWords}
 use Rattle.make.specs.Holds.{Became, Openable}
@@ -18,10 +19,6 @@ use Rattle.sound.specs.Tests.{codeOf}
 use Rattle.calls.specs.Promise.{value, refusal, Promised}
 use Rattle.calls.proofs.Laws.{code-none, test-passed, judged-refused, judged-done, promised-back, promised-done}
 use Rattle.makes.specs.Opening.{enough}
-
-either-false : (a b : Bool) → (a || b) ≡ false → (a ≡ false) × (b ≡ false)
-either-false false b q = (refl, q)
-either-false true b q = absurd (false≢true (cc))
 
 -- refusal 1
 
@@ -62,8 +59,8 @@ module _ (n c : ℕ) (h ws ks : List ℕ) where
     unfolding enough
     openable z =
         let t : Bool × ℕ = openTest n c (enough n c h ws ks) in
-        let p = either-false (ltb MAX-NODES n) (ltb MAX-CHILDREN c || not (enough n c h ws ks)) (test-passed (t .0) 1 [] (q ∙ code-none r z)) in
-        let o = either-false (ltb MAX-CHILDREN c) (not (enough n c h ws ks)) (p .1) in
+        let p = or-no (ltb MAX-NODES n) (ltb MAX-CHILDREN c || not (enough n c h ws ks)) (test-passed (t .0) 1 [] (q ∙ code-none r z)) in
+        let o = or-no (ltb MAX-CHILDREN c) (not (enough n c h ws ks)) (p .1) in
         let a : Bool = leb (nodeWords n) (length ws) in
         let b : Bool = leb (childWords c) (length ks) in
         let w = both (leb HEAD-WORDS (length h)) (a && b) (not-false (enough n c h ws ks) (o .1)) in

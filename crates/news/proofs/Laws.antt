@@ -2,50 +2,46 @@
 -- mean, and the core makes it where 10 and 11 find room. What stands beside the chart is not looked at.
 -- Assumes nothing.
 use mathlib.Core.Path.{_≡_, refl, ap, sym, _∙_}
-use mathlib.Core.Bool.{Bool, true, false, not}
+use mathlib.Core.Bool.{Bool, true, false, not, and-false}
 use mathlib.Core.List.{List, [], _∷_, _++_, append-nil}
 use mathlib.Core.Option.{Option, none, some}
 use Prim.Native.Nat.{ℕ, suc, _+_, _-_, _%_, _≤_, _<_}
 use native.Mathlib.Omega.{arith}
 use lib.Dec.{eqb, ltb, leb}
-use lib.ListN.{length, length-append, length-map}
-use borrow.Author.Tests.{ltb-true, ltb-false, lt-ltb, le-ltb, leb-true, lt-leb, eq-eqb, ne-eqb}
+use lib.ListN.{length, length-append}
+use borrow.Author.Tests.{ltb-true, ltb-false, lt-leb, eq-eqb, ne-eqb}
 use Rattle.scope.specs.Base.{pick, all}
-use Rattle.scope.specs.Limits.{MAX-NODES, MAX-CHILDREN, MAX-WIDTH}
+use Rattle.scope.specs.Limits.{MAX-WIDTH}
 use Rattle.scope.specs.Names.{Texts, Name}
 use Rattle.scope.specs.Chart.{Env}
 use Rattle.scope.specs.Types.{Ty, tyOf}
 use Rattle.scope.specs.Kinds.{Head, rowOf, OWN-NAME, CHILD-NAMES, PARAMETER-NAMES, flagOf, shapeFits, namesOk, makeable, defined}
 use Rattle.scope.specs.Nodes as nodes
 use Rattle.scope.specs.Nodes.{Node, Store}
-use Rattle.scope.specs.Sound.{Lent, inStore, namesClean, roomSound, soundStore, sound}
+use Rattle.scope.specs.Sound.{Lent, inStore, namesClean}
 use Rattle.scope.specs.Make.{new}
-use Rattle.scope.specs.Calls.{NewKind, Outcome, done, judged, firstBroken, orRefused, storeOf, lentTests, outside, roomTests, kindMade, madeType, newCall}
+use Rattle.scope.specs.Calls.{NewKind, Outcome, judged, firstBroken, orRefused, storeOf, lentTests, outside, roomTests, kindMade, madeType, newCall}
 use Rattle.names.specs.Place.{texts}
 use Rattle.chart.specs.declared.Beside.{Beside}
 use Rattle.chart.specs.Env.{envOf, chartIn, chartAlone}
 use Rattle.types.specs.declared.«Type».{«Type»}
-use Rattle.layout.specs.Words.{slots, nodesMade, childrenMade, nodeRoom, childRoom, storeIn, lentOf}
-use Rattle.layout.specs.Words as words
+use Rattle.layout.specs.Words.{storeIn, lentOf}
 use Rattle.layout.specs.Meaning.{kindCell, kindMeans, headerIn}
 use Rattle.layout.specs.Clean.{namedOf}
 use Rattle.layout.specs.declared.Header.{Header}
 use Rattle.layout.specs.declared.Kind.{Kind}
-use Rattle.layout.proofs.Laws.{length-decode}
-use Rattle.layout.proofs.ChildLaws.{length-slots}
 use Rattle.layout.proofs.KindLaws.{names-count}
-use Rattle.layout.proofs.Lists.{and-left, and-right}
-use Rattle.layout.proofs.StoreLaws.{lent-clean}
-use Rattle.makeable.proofs.NameLaws.{and-false}
+use Rattle.layout.proofs.Lists.{and-right}
 use Rattle.makeable.proofs.Laws.{flag-reads, defined-chart}
-use Rattle.make.specs.Holds.{Ready, Room, MadeIs}
+use Rattle.make.specs.Holds.{Ready, MadeIs}
 use Rattle.make.specs.Given.{entryCount, kindAt, kindGiven, KindReady}
 use Rattle.make.specs.declared.NewKind as make
 use Rattle.make.proofs.NewLaws.{kind-ready}
 use Rattle.sound.specs.Tests.{envIn, codeOf}
-use Rattle.sound.proofs.Laws.{env-ok, env-whole}
 use Rattle.calls.specs.Promise.{Promised, Reply, value, refusal, entryTypes}
-use Rattle.calls.proofs.Laws.{code-none, code-some, code-first, code-next, test-passed, tests-passed, judged-refused, judged-done, lent-refused, lent-passed, lent-next, lent-chart, lent-sound, lent-clean-words, lent-store, lent-outside, promised-back, promised-done}
+use Rattle.calls.proofs.Laws.{code-none, code-some, none-some, code-first, code-next, test-passed, tests-passed, judged-refused, judged-done, lent-refused, lent-passed, lent-next, lent-env, lent-store, lent-outside, entries-long, promised-back, promised-done}
+use Rattle.makes.proofs.RoomLaws.{ready-more}
+use Rattle.makes.proofs.MakerLaws.{made-done}
 use Rattle.news.specs.declared.KindArgs.{KindArgs}
 use Rattle.news.specs.Lent.{withFlag, kindLent, tidy, given, listTests, kindTests, insideCall}
 
@@ -80,16 +76,13 @@ surplus-misnamed x es k =
 
 -- what is given
 
-pub entries-count : (es : List ℕ) → length (entryTypes es) ≡ entryCount es
-entries-count es = length-map (slots es 0 (entryCount es)) (λ s. tyOf (s .type)) ∙ length-slots es 0 (entryCount es)
-
 module _ (k : KindArgs) (es : List ℕ) where
   pub given-kids : given k es .kids ≡ entryTypes es
   unfolding given
   given-kids = refl
 
   given-count : length (given k es .kids) ≡ entryCount es
-  given-count = ap length given-kids ∙ entries-count es
+  given-count = ap length given-kids ∙ entries-long es
 
   given-kind : (e : Env) (d : Bool) → d ≡ flagOf e (k .code) (k .number) → tidy k es ≡ true → kindMade e (given k es) ≡ kindMeans es (kindLent k d es)
   unfolding given kindMeans
@@ -158,39 +151,6 @@ module _ (cs rule text : List ℕ) (k : KindArgs) (es : List ℕ) where
           pub kind-passed : d ≡ true → firstBroken (kindTests env (given k es)) ≡ codeOf 0
           kind-passed z = defined-test ∙ rw z
 
--- room_refusal
-
-module _ (h : List ℕ) (c : ℕ) {x : Header} (e : x ≡ headerIn h) (ws ks : List ℕ) where
-  tests-head : firstBroken (roomTests (storeIn h ws ks) 1 c)
-      ≡ firstBroken ((ltb (nodeRoom h) (nodesMade h + 1), 10) ∷ (ltb (childRoom h) (childrenMade h + c), 11) ∷ [])
-  unfolding storeIn
-  tests-head = rw (length-decode ws ks (nodesMade h))
-
-  room-tests : firstBroken (roomTests (storeIn h ws ks) 1 c)
-      ≡ firstBroken ((ltb (x .«node_room») (x .nodes + 1), 10) ∷ (ltb (x .«child_room») (x .children + c), 11) ∷ [])
-  room-tests = tests-head ∙ rw e
-
-  pub no-nodes : x .«node_room» ≤ x .nodes → firstBroken (roomTests (storeIn h ws ks) 1 c) ≡ codeOf 10
-  no-nodes l = room-tests ∙ rw (lt-ltb (x .«node_room») (x .nodes + 1) (omega arith))
-
-  module _ (l : x .nodes < x .«node_room») where
-    pub no-children : x .«child_room» < x .children + c → firstBroken (roomTests (storeIn h ws ks) 1 c) ≡ codeOf 11
-    no-children r = room-tests ∙ rw (le-ltb (x .«node_room») (x .nodes + 1) (omega arith), lt-ltb (x .«child_room») (x .children + c) r)
-
-    pub some-room : x .children + c ≤ x .«child_room» → firstBroken (roomTests (storeIn h ws ks) 1 c) ≡ codeOf 0
-    some-room r = room-tests ∙ rw (le-ltb (x .«node_room») (x .nodes + 1) (omega arith), le-ltb (x .«child_room») (x .children + c) r)
-
-room-left : (s : Store) (c : ℕ) → Room s 0 0 → firstBroken (roomTests s 1 c) ≡ none → Room s 1 c
-room-left s c r q =
-    let n : Bool = ltb (s .nodeRoom) (length (s .nodes) + 1) in
-    let m : Bool = ltb (s .childRoom) (s .children + c) in
-    record {
-      nodeLimit = r .nodeLimit;
-      childLimit = r .childLimit;
-      nodes = ltb-false (s .nodeRoom) (length (s .nodes) + 1) (test-passed n 10 ((m, 11) ∷ []) q);
-      children = ltb-false (s .childRoom) (s .children + c) (test-passed m 11 [] (tests-passed n 10 ((m, 11) ∷ []) q));
-    }
-
 -- make_inside
 
 module _ (cs rule text h ws ks : List ℕ) (k : KindArgs) (es : List ℕ) where
@@ -220,9 +180,7 @@ module _ (cs rule text h ws ks : List ℕ) (k : KindArgs) (es : List ℕ) where
       module _ (y : m ≡ 0) where
         tidy-go : (t : Bool) → tidy k es ≡ t → tidy k es ≡ true
         tidy-go true r = r
-        tidy-go false r =
-            let v : _≡_ {A = Option ℕ} (some 4) none = sym (untidy-test k es inner rooms r) ∙ (all-tests ∙ code-none m y) in
-            let w : _≡_ {A = ℕ} 0 1 = cc in absurd (omega arith)
+        tidy-go false r = none-some 4 (sym (untidy-test k es inner rooms r) ∙ (all-tests ∙ code-none m y))
 
         inside-tidy : tidy k es ≡ true
         inside-tidy = tidy-go (tidy k es) refl
@@ -230,7 +188,7 @@ module _ (cs rule text h ws ks : List ℕ) (k : KindArgs) (es : List ℕ) where
         module _ {f : make.NewKind} (g : f ≡ withFlag k (flagOf (chartAlone cs) (k .code) (k .number))) where
           pub inside-ready : Ready h ws ks 0 0 → KindReady h ws ks f es
           inside-ready r = rw g (kind-ready (withFlag k (flagOf (chartAlone cs) (k .code) (k .number))) es
-              (record { clean = r .clean; room = room-left s (entryCount es) (r .room) (p ws ks ∙ code-none m y) })
+              (ready-more 1 (entryCount es) r (p ws ks ∙ code-none m y))
               (and-right (eqb (length es % 4) 0) (namesClean (kindCell es (kindLent k false es))) inside-tidy))
 
           kind-made : kindMade inner a ≡ kindGiven f es
@@ -242,7 +200,7 @@ module _ (cs rule text h ws ks : List ℕ) (k : KindArgs) (es : List ℕ) where
               → Promised (insideCall inner s a) (value (tyOf (t .0))) h ws ks h′ ws′ ks′
           inside-made o =
               let j = judged-done (kindTests inner a ++ rooms) (madeType (new s (kindMade inner a))) m all-tests y in
-              promised-done (j ∙ (ap (λ y. madeType (new s y)) kind-made ∙ ap (λ (y : Ty). done y (new s (kindGiven f es) .store)) (sym (o .type)))) (o .store)
+              promised-done (j ∙ (ap (λ y. madeType (new s y)) kind-made ∙ made-done o)) (o .store)
 
 -- 2, 8 and 3
 
@@ -251,32 +209,6 @@ pub listed-narrow : (i : Bool) (w m : ℕ) → firstBroken (listTests i w) ≡ c
 listed-narrow i w m p z =
     let t : Bool = ltb MAX-WIDTH w in
     ltb-false MAX-WIDTH w (test-passed t 4 [] (tests-passed (not i) 3 ((t, 4) ∷ []) (p ∙ code-none m z)))
-
-store-ready : (e : Env) (h ws ks : List ℕ) → words.clean h ws ks ≡ true → soundStore e (storeIn h ws ks) ≡ true → Ready h ws ks 0 0
-unfolding soundStore roomSound
-store-ready e h ws ks c q =
-    let s : Store = storeIn h ws ks in
-    let r = and-left (roomSound s) _ q in
-    let a = and-right (leb (s .nodeRoom) MAX-NODES) _ r in
-    let b = and-right (leb (s .childRoom) MAX-CHILDREN) _ a in
-    let n : length (s .nodes) ≤ s .nodeRoom = leb-true (length (s .nodes)) (s .nodeRoom) (and-left (leb (length (s .nodes)) (s .nodeRoom)) _ b) in
-    let m : s .children ≤ s .childRoom = leb-true (s .children) (s .childRoom) (and-right (leb (length (s .nodes)) (s .nodeRoom)) _ b) in
-    record {
-      clean = c;
-      room = record {
-        nodeLimit = leb-true (s .nodeRoom) MAX-NODES (and-left (leb (s .nodeRoom) MAX-NODES) _ r);
-        childLimit = leb-true (s .childRoom) MAX-CHILDREN (and-left (leb (s .childRoom) MAX-CHILDREN) _ a);
-        nodes = omega arith;
-        children = omega arith;
-      };
-    }
-
--- a store that 2 and 8 do not turn back may get a node
-pub lent-ready : (e : Env) (h ws ks : List ℕ) (n : ℕ) → firstBroken (lentTests e (lentOf h ws ks)) ≡ codeOf n → n ≡ 0 → Ready h ws ks 0 0
-lent-ready e h ws ks n q z =
-    let p = lent-passed e h ws ks n q z in
-    let c = lent-clean-words e h ws ks p in
-    store-ready e h ws ks c (sym (ap (sound e) (lent-clean h ws ks c)) ∙ lent-sound e h ws ks p)
 
 beside-unread : (cs : List ℕ) (b : Beside) (rule text : List ℕ) (s : Store) (a : NewKind)
     → insideCall (envOf cs b rule text) s a ≡ insideCall (chartIn cs rule text) s a
@@ -321,7 +253,7 @@ module _ (cs : List ℕ) (b : Beside) (rule text h ws ks : List ℕ) (a : NewKin
       list-by : (b t : Bool) (m : ℕ) → i ≡ b → ltb MAX-WIDTH w ≡ t → firstBroken (listTests b w) ≡ some m → firstBroken tests ≡ some m
       list-by false t m f e r = inside-tests ∙ rw f r
       list-by true true m f e r = inside-tests ∙ rw (f, too-wide (ltb-true MAX-WIDTH w e)) (rw e at r)
-      list-by true false m f e r = let v : _≡_ {A = Option ℕ} none (some m) = rw e at r in let u : _≡_ {A = ℕ} 0 1 = cc in absurd (omega arith)
+      list-by true false m f e r = none-some m (sym (rw e at r))
 
       module _ {m : ℕ} (p : firstBroken (listTests i w) ≡ codeOf m) where
         pub new-listed : (m ≡ 0 → ⊥) → Promised (newCall outer lent a) (refusal m) h ws ks h ws ks
@@ -336,11 +268,10 @@ module _ (cs : List ℕ) (b : Beside) (rule text h ws ks : List ℕ) (a : NewKin
           new-inside : newCall outer lent a ≡ insideCall (chartIn cs rule text) (storeIn h ws ks) a
           new-inside =
               let v = lent-passed outer h ws ks n q z in
-              let whole : outer ≡ envOf cs b rule text = env-whole cs b rule text (sym (env-ok cs b rule text) ∙ lent-chart outer h ws ks v) in
               call-tests
               ∙ (ap (λ (y : Option ℕ). orRefused y made) later-tests
               ∙ (ap (λ (y : Store). insideCall outer y a) (lent-store outer h ws ks v)
-              ∙ (ap (λ (y : Env). insideCall y (storeIn h ws ks) a) whole ∙ beside-unread cs b rule text (storeIn h ws ks) a)))
+              ∙ (ap (λ (y : Env). insideCall y (storeIn h ws ks) a) (lent-env cs b rule text h ws ks v) ∙ beside-unread cs b rule text (storeIn h ws ks) a)))
 
           pub new-promised : {a′ : NewKind} {r : Reply Ty} {h′ ws′ ks′ : List ℕ} → a′ ≡ a
               → Promised (insideCall (chartIn cs rule text) (storeIn h ws ks) a′) r h ws ks h′ ws′ ks′ → Promised (newCall outer lent a) r h ws ks h′ ws′ ks′

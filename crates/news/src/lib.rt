@@ -1,12 +1,11 @@
 // The calls `new`, `new_struct` and `new_union` on any numbers at all: each tests and refuses, or makes the node that document 01 says. Refusals come in
 // the order 2, 8, 3, 4, 5, 10, 11. A list may be of any length: 3 is tested over all of it, and only then that it is no wider than 255.
 ghost use mathlib.Core.Path.{_≡_};
-ghost use mathlib.Core.List.{List};
-ghost use Prim.Native.Nat.{ℕ, _≤_};
+ghost use Prim.Native.Nat.{_≤_};
 ghost use lib.ListN.{length};
 ghost use Rattle.scope.specs.Limits.{MAX-WIDTH};
 ghost use Rattle.scope.specs.Kinds.{NO-NAMES, rowOf, flagOf};
-ghost use Rattle.scope.specs.Calls.{firstBroken, roomTests, over, newCall, newStructCall, newUnionCall};
+ghost use Rattle.scope.specs.Calls.{firstBroken, over, newCall, newStructCall, newUnionCall};
 ghost use Rattle.chart.specs.Env.{chartIn, chartAlone};
 ghost use Rattle.layout.specs.Words.{childWords, storeIn, lentOf};
 ghost use Rattle.layout.specs.Meaning.{slotMeans};
@@ -15,8 +14,6 @@ ghost use Rattle.make.specs.Given.{entryCount};
 ghost use Rattle.sound.specs.Tests.{envIn, codeOf};
 ghost use Rattle.calls.specs.Promise.{Promised, typeReply, typesIn};
 ghost use Rattle.news.specs.Lent.{withFlag, given, plainArgs, bareSlot, Listed, listTests, kindTests, insideCall};
-use calls::NO_CHILDREN;
-use calls::NO_NODES;
 use calls::OUTSIDE;
 use calls::TypeAnswer;
 use calls::UNDEFINED;
@@ -88,20 +85,6 @@ fn kind_refusal<'a>(
     NO_REFUSAL
 }
 
-// The first of refusals 10 and 11 that stands for one node with `count` children, and 0 where none does.
-fn room_refusal(h: &[u32], count: u32) -> u32
-    ensures { λ r. ⌜ ((ws ks : List ℕ) → firstBroken (roomTests (storeIn (now (h .entry)) ws ks) 1 count) ≡ codeOf r) ⌝ }
-{
-    let x = layout::read_header(h);
-    if x.node_room <= x.nodes {
-        return NO_NODES;
-    }
-    if (x.child_room as u64) < x.children as u64 + count as u64 {
-        return NO_CHILDREN;
-    }
-    NO_REFUSAL
-}
-
 // The first of refusals 3 and 4 that stands for a list of n types: "over 255 children" comes after a type that is not in the store.
 fn list_refusal(inside: bool, n: usize) -> u32
     ensures { λ r. ⌜ firstBroken (listTests inside n) ≡ codeOf r ⌝ }
@@ -135,7 +118,7 @@ fn make_inside<'a>(
     if unmade != NO_REFUSAL {
         return TypeAnswer::Refused(unmade);
     }
-    let full = room_refusal(h, (entries.len() / CHILD_WORDS) as u32);
+    let full = makes::room(h, 1, (entries.len() / CHILD_WORDS) as u32);
     if full != NO_REFUSAL {
         return TypeAnswer::Refused(full);
     }

@@ -16,6 +16,7 @@ use Rattle.scope.specs.Nodes.{Node, Store, at}
 use Rattle.scope.specs.Sound.{inStore}
 use Rattle.scope.specs.Force.{findRelated}
 use Rattle.scope.specs.Calls.{Outcome, refused, done, orRefused, firstBroken, storeOf, shortFor, readCall, nodeCall, findRelatedCall}
+use Rattle.scope.specs.Calls.{Outcome, done, firstBroken, storeOf, outside, shortFor, findRelatedCall}
 use Rattle.scope.proofs.SoundLaws.{SoundFacts}
 use Rattle.types.specs.declared.«Type».{«Type»}
 use Rattle.chart.specs.declared.Beside.{Beside}
@@ -26,12 +27,12 @@ use Rattle.layout.specs.declared.Header.{Header}
 use Rattle.layout.specs.declared.TypeNode.{TypeNode}
 use Rattle.layout.proofs.Laws.{length-decode, read-is}
 use Rattle.sound.specs.Tests.{envIn, codeOf}
-use Rattle.sound.proofs.Laws.{env-ok, env-whole}
 use Rattle.walk.specs.Asks.{Stands, Inverses}
 use Rattle.walk.proofs.Answers.{sound-walks}
 use Rattle.calls.specs.Promise.{typesTests, outcomeBy}
 use Rattle.calls.specs.declared.DoneAnswer.the-variants.{Done, Refused}
-use Rattle.calls.proofs.Laws.{code-first, code-next, test-stands, test-falls, judged-refused, judged-done, lent-chart, lent-store}
+use Rattle.calls.proofs.Laws.{code-first, code-next, test-stands, test-falls, judged-refused, lent-env, lent-store}
+use Rattle.calls.proofs.CallLaws.{call-outcome}
 use Rattle.calls.proofs.ReadLaws.{read-passed, read-facts, read-inside, nodes-read, read-clean}
 use Rattle.reads.specs.declared.NodeAnswer.{NodeAnswer}
 use Rattle.reads.specs.declared.NodeAnswer.the-variants as node
@@ -74,13 +75,13 @@ module _ (e : Env) (h ws ks : List ℕ) (t : «Type») (n : ℕ) (q : firstBroke
   abbrev marksTests : List ℕ → List (Bool × ℕ)
   marksTests ms = typesTests e (lentOf h ws ks) (T ∷ []) ++ (shortFor (length ms) (length (storeOf (lentOf h ws ks) .nodes)) ∷ [])
 
-  abbrev marksAnswer : List ℕ → Outcome (List ℕ)
-  marksAnswer ms = done (findRelated (storeOf (lentOf h ws ks) .nodes) T ms) (storeOf (lentOf h ws ks))
+  abbrev marksAnswer : List ℕ → Store → Outcome (List ℕ)
+  marksAnswer ms s = done (findRelated (s .nodes) T ms) s
 
   marks-back : (ms : List ℕ) (m : ℕ) → firstBroken (marksTests ms) ≡ codeOf m → (m ≡ 0 → ⊥)
       → Marked (findRelatedCall e (lentOf h ws ks) T ms) (Refused m) (storeIn h ws ks) ms ms
   unfolding findRelatedCall
-  marks-back ms m b z = record { outcome = judged-refused (marksTests ms) (marksAnswer ms) m b z; kept = λ y. refl }
+  marks-back ms m b z = record { outcome = judged-refused (marksTests ms) (marksAnswer ms (storeOf (lentOf h ws ks))) m b z; kept = λ y. refl }
 
   module _ (z : n ≡ 0) (x : Header) (g : x ≡ headerIn h) where
     each : Clean ws ks (childrenMade h) (x .nodes)
@@ -134,15 +135,12 @@ module _ (e : Env) (h ws ks : List ℕ) (t : «Type») (n : ℕ) (q : firstBroke
     pub marks-done : {ms ms′ : List ℕ} → x .nodes ≤ length ms → ms′ ≡ findRelated (decode ws ks (x .nodes)) T ms
         → Marked (findRelatedCall e (lentOf h ws ks) T ms) Done (storeIn h ws ks) ms ms′
     unfolding findRelatedCall
-    marks-done {ms} {ms′} l r =
-        let w : storeOf (lentOf h ws ks) ≡ storeIn h ws ks = lent-store e h ws ks (read-passed e h ws ks (T ∷ []) n q z) in
-        record {
-          outcome =
-              judged-done (marksTests ms) (marksAnswer ms) 0 (marks-code ms 0 (test-falls 7 [] (le-ltb (length ms) (x .nodes) l))) refl
-              ∙ (ap (λ (y : Store). done (findRelated (y .nodes) T ms) y) w
-              ∙ ap (λ (y : List ℕ). done y (storeIn h ws ks)) (ap (λ (y : List Node). findRelated y T ms) the-nodes ∙ sym r));
-          kept = λ y. let v : _≡_ {A = ℕ} 0 1 = cc in absurd (omega arith);
-        }
+    marks-done {ms} {ms′} l r = record {
+      outcome =
+          call-outcome e h ws ks (λ s. outside s (T ∷ []) ∷ shortFor (length ms) (length (s .nodes)) ∷ []) (marksAnswer ms) 0
+          (marks-code ms 0 (test-falls 7 [] (le-ltb (length ms) (x .nodes) l))) refl
+          ∙ ap (λ (y : List ℕ). done y (storeIn h ws ks)) (ap (λ (y : List Node). findRelated y T ms) the-nodes ∙ sym r);
+      kept = λ y. let v : _≡_ {A = ℕ} 0 1 = cc in absurd (omega arith);
 
   pub marks-refused : (n ≡ 0 → ⊥) → (ms : List ℕ) → Marked (findRelatedCall e (lentOf h ws ks) T ms) (Refused n) (storeIn h ws ks) ms ms
   marks-refused z ms =
@@ -154,6 +152,4 @@ module _ (chart : List ℕ) (b : Beside) (rule text : List ℕ) (h ws ks : List 
     (q : firstBroken (typesTests (envIn chart b rule text) (lentOf h ws ks) ts) ≡ codeOf n) (z : n ≡ 0) where
   pub read-records : envIn chart b rule text .records ≡ recordsOf chart
   read-records =
-      let e : Env = envIn chart b rule text in
-      let c = lent-chart e h ws ks (read-passed e h ws ks ts n q z) in
-      ap (λ (y : Env). y .records) (env-whole chart b rule text (sym (env-ok chart b rule text) ∙ c))
+      ap (λ (y : Env). y .records) (lent-env chart b rule text h ws ks (read-passed (envIn chart b rule text) h ws ks ts n q z))

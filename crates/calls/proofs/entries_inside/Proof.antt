@@ -12,7 +12,8 @@ use Rattle.scope.specs.Nodes.{Node}
 use Rattle.scope.specs.Sound.{Slot, inStore}
 use Rattle.names.proofs.Tests.{passes, fails}
 use Rattle.chart.proofs.Laws.{all-step, all-fails, all-end}
-use Rattle.calls.specs.Promise.{entryTypes, entryCount}
+use Rattle.make.specs.Given.{entryCount}
+use Rattle.calls.specs.Promise.{entryTypes}
 use Rattle.calls.proofs.Laws.{entry-below, entry-past, entry-at}
 use Rattle.calls.proofs.entries_inside.Statement.{statement}
 use Rattle.calls.proofs.entries_inside.Tie as tie

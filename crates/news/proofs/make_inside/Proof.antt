@@ -13,11 +13,11 @@ returns c =
     let a = c .before .before .before .before .before .before .before .before .before .args in
     inside-refused (a .chart .now) (a .rule .now) (a .text .now) (a .h .now) (a .ws .now) (a .ks .now) (a .k) (a .entries .now) (c .before .kind-refusal .result) (c .before .kind-refusal .ensures) (c .if1 .taken)
 
-cast-room-refusal : tie.Need-cast-room-refusal
-cast-room-refusal c = search needs
+cast-room : tie.Need-cast-room
+cast-room c = search needs
 
-room-refusal-requires : tie.Need-room-refusal-requires
-room-refusal-requires c κs = search needs
+room-requires : tie.Need-room-requires
+room-requires c κs = search needs
 
 same-length : tie.Need-same-length
 same-length c = search needs
@@ -25,7 +25,7 @@ same-length c = search needs
 returns-2 : tie.Need-returns-2
 returns-2 c =
     let a = c .before .before .before .before .before .before .before .before .before .before .before .before .args in
-    inside-full (a .chart .now) (a .rule .now) (a .text .now) (a .h .now) (a .ws .now) (a .ks .now) (a .k) (a .entries .now) (c .before .before .before .before .kind-refusal .result) (c .before .before .before .before .kind-refusal .ensures) (c .before .before .before .if1 .left) (c .before .room-refusal .result) (c .before .room-refusal .ensures) (c .if2 .taken)
+    inside-full (a .chart .now) (a .rule .now) (a .text .now) (a .h .now) (a .ws .now) (a .ks .now) (a .k) (a .entries .now) (c .before .before .before .before .kind-refusal .result) (c .before .before .before .before .kind-refusal .ensures) (c .before .before .before .if1 .left) (c .before .room .result) (c .before .room .ensures) (c .if2 .taken)
 
 flagged-requires : tie.Need-flagged-requires
 flagged-requires c κs = search needs
@@ -33,7 +33,7 @@ flagged-requires c κs = search needs
 new-kind-requires : tie.Need-new-kind-requires
 new-kind-requires c κs =
     let a = c .before .before .before .before .before .before .before .before .before .before .before .before .before .before .before .before .args in
-    inside-ready (a .chart .now) (a .rule .now) (a .text .now) (a .h .now) (a .ws .now) (a .ks .now) (a .k) (a .entries .now) (c .before .before .before .before .before .before .before .before .kind-refusal .result) (c .before .before .before .before .before .before .before .before .kind-refusal .ensures) (c .before .before .before .before .before .before .before .if1 .left) (c .before .before .before .before .before .room-refusal .result) (c .before .before .before .before .before .room-refusal .ensures) (c .before .before .before .before .if2 .left) (c .flagged .ensures) (c .before .before .before .before .before .before .before .before .before .before .before .before .before .before .before .before .pre .0)
+    inside-ready (a .chart .now) (a .rule .now) (a .text .now) (a .h .now) (a .ws .now) (a .ks .now) (a .k) (a .entries .now) (c .before .before .before .before .before .before .before .before .kind-refusal .result) (c .before .before .before .before .before .before .before .before .kind-refusal .ensures) (c .before .before .before .before .before .before .before .if1 .left) (c .before .before .before .before .before .room .result) (c .before .before .before .before .before .room .ensures) (c .before .before .before .before .if2 .left) (c .flagged .ensures) (c .before .before .before .before .before .before .before .before .before .before .before .before .before .before .before .before .pre .0)
 
 same-length-2 : tie.Need-same-length-2
 same-length-2 c = search needs
@@ -47,7 +47,7 @@ same-length-4 c = search needs
 returns-3 : tie.Need-returns-3
 returns-3 c =
     let a = c .before .before .before .before .before .before .before .before .before .before .before .before .before .before .before .before .before .before .before .before .before .before .before .args in
-    inside-made (a .chart .now) (a .rule .now) (a .text .now) (a .h .now) (a .ws .now) (a .ks .now) (a .k) (a .entries .now) (c .before .before .before .before .before .before .before .before .before .before .before .before .before .before .before .kind-refusal .result) (c .before .before .before .before .before .before .before .before .before .before .before .before .before .before .before .kind-refusal .ensures) (c .before .before .before .before .before .before .before .before .before .before .before .before .before .before .if1 .left) (c .before .before .before .before .before .before .before .before .before .before .before .before .room-refusal .result) (c .before .before .before .before .before .before .before .before .before .before .before .before .room-refusal .ensures) (c .before .before .before .before .before .before .before .before .before .before .before .if2 .left) (c .before .before .before .before .before .before .before .flagged .ensures) (c .before .before .before .before .before .before .new-kind .ensures)
+    inside-made (a .chart .now) (a .rule .now) (a .text .now) (a .h .now) (a .ws .now) (a .ks .now) (a .k) (a .entries .now) (c .before .before .before .before .before .before .before .before .before .before .before .before .before .before .before .kind-refusal .result) (c .before .before .before .before .before .before .before .before .before .before .before .before .before .before .before .kind-refusal .ensures) (c .before .before .before .before .before .before .before .before .before .before .before .before .before .before .if1 .left) (c .before .before .before .before .before .before .before .before .before .before .before .before .room .result) (c .before .before .before .before .before .before .before .before .before .before .before .before .room .ensures) (c .before .before .before .before .before .before .before .before .before .before .before .if2 .left) (c .before .before .before .before .before .before .before .flagged .ensures) (c .before .before .before .before .before .before .new-kind .ensures)
 
 pub make-inside-spec : {M : Type 1} → statement M
 make-inside-spec =
@@ -55,8 +55,8 @@ make-inside-spec =
     (tie.spec
     kind-refusal-requires
     returns
-    cast-room-refusal
-    room-refusal-requires
+    cast-room
+    room-requires
     same-length
     returns-2
     flagged-requires

@@ -7,7 +7,9 @@ use Rattle.sound.specs.Tests.{envIn}
 use Rattle.make.specs.Given.{entryCount}
 use Rattle.calls.specs.Promise.{entryTypes}
 use Rattle.news.specs.Lent.{given}
-use Rattle.news.proofs.Laws.{given-kids, entries-count, lent-ready, listed-narrow, new-lent, new-listed, new-promised}
+use Rattle.calls.proofs.Laws.{lent-passed, entries-long}
+use Rattle.makes.proofs.RoomLaws.{lent-within}
+use Rattle.news.proofs.Laws.{given-kids, listed-narrow, new-lent, new-listed, new-promised}
 use Rattle.news.proofs.new.Statement.{statement}
 use Rattle.news.proofs.new.Tie as tie
 
@@ -49,12 +51,13 @@ same-length-6 c = search needs
 returns-2 : tie.Need-returns-2
 returns-2 c =
     let a = c .before .before .before .before .before .before .before .before .before .before .before .before .before .before .before .before .before .args in
-    new-listed (a .chart .now) (a .beside) (a .rule .now) (a .text .now) (a .h .now) (a .ws .now) (a .ks .now) (given (a .k) (a .entries .now)) (c .before .before .before .before .before .before .refusal .result) (c .before .before .before .before .before .before .refusal .ensures) (c .before .before .before .before .before .if1 .left) (c .before .before .before .read-header .ensures) (entryTypes (a .entries .now)) (given-kids (a .k) (a .entries .now)) (entries-count (a .entries .now)) (c .before .before .entries-inside .ensures) (c .before .list-refusal .ensures) (c .if2 .taken)
+    new-listed (a .chart .now) (a .beside) (a .rule .now) (a .text .now) (a .h .now) (a .ws .now) (a .ks .now) (given (a .k) (a .entries .now)) (c .before .before .before .before .before .before .refusal .result) (c .before .before .before .before .before .before .refusal .ensures) (c .before .before .before .before .before .if1 .left) (c .before .before .before .read-header .ensures) (entryTypes (a .entries .now)) (given-kids (a .k) (a .entries .now)) (entries-long (a .entries .now)) (c .before .before .entries-inside .ensures) (c .before .list-refusal .ensures) (c .if2 .taken)
 
 make-inside-requires : tie.Need-make-inside-requires
 make-inside-requires c κs =
     let a = c .before .before .before .before .before .before .before .before .before .before .before .before .before .before .before .before .before .before .before .before .args in (
-      lent-ready (envIn (a .chart .now) (a .beside) (a .rule .now) (a .text .now)) (a .h .now) (a .ws .now) (a .ks .now) (c .before .before .before .before .before .before .before .before .before .refusal .result) (c .before .before .before .before .before .before .before .before .before .refusal .ensures) (c .before .before .before .before .before .before .before .before .if1 .left),
+      lent-within (envIn (a .chart .now) (a .beside) (a .rule .now) (a .text .now)) (a .h .now) (a .ws .now) (a .ks .now)
+          (lent-passed (envIn (a .chart .now) (a .beside) (a .rule .now) (a .text .now)) (a .h .now) (a .ws .now) (a .ks .now) (c .before .before .before .before .before .before .before .before .before .refusal .result) (c .before .before .before .before .before .before .before .before .before .refusal .ensures) (c .before .before .before .before .before .before .before .before .if1 .left)),
       listed-narrow (c .before .before .before .before .before .entries-inside .result) (entryCount (a .entries .now)) (c .before .before .before .before .list-refusal .result) (c .before .before .before .before .list-refusal .ensures) (c .before .before .before .if2 .left),
     )
 
@@ -70,7 +73,7 @@ same-length-9 c = search needs
 returns-3 : tie.Need-returns-3
 returns-3 c =
     let a = c .before .before .before .before .before .before .before .before .before .before .before .before .before .before .before .before .before .before .before .before .before .before .before .before .before .before .before .args in
-    new-promised (a .chart .now) (a .beside) (a .rule .now) (a .text .now) (a .h .now) (a .ws .now) (a .ks .now) (given (a .k) (a .entries .now)) (c .before .before .before .before .before .before .before .before .before .before .before .before .before .before .before .before .refusal .result) (c .before .before .before .before .before .before .before .before .before .before .before .before .before .before .before .before .refusal .ensures) (c .before .before .before .before .before .before .before .before .before .before .before .before .before .before .before .if1 .left) (c .before .before .before .before .before .before .before .before .before .before .before .before .before .read-header .ensures) (entryTypes (a .entries .now)) (given-kids (a .k) (a .entries .now)) (entries-count (a .entries .now)) (c .before .before .before .before .before .before .before .before .before .before .before .before .entries-inside .ensures) (c .before .before .before .before .before .before .before .before .before .before .before .list-refusal .ensures) (c .before .before .before .before .before .before .before .before .before .before .if2 .left)
+    new-promised (a .chart .now) (a .beside) (a .rule .now) (a .text .now) (a .h .now) (a .ws .now) (a .ks .now) (given (a .k) (a .entries .now)) (c .before .before .before .before .before .before .before .before .before .before .before .before .before .before .before .before .refusal .result) (c .before .before .before .before .before .before .before .before .before .before .before .before .before .before .before .before .refusal .ensures) (c .before .before .before .before .before .before .before .before .before .before .before .before .before .before .before .if1 .left) (c .before .before .before .before .before .before .before .before .before .before .before .before .before .read-header .ensures) (entryTypes (a .entries .now)) (given-kids (a .k) (a .entries .now)) (entries-long (a .entries .now)) (c .before .before .before .before .before .before .before .before .before .before .before .before .entries-inside .ensures) (c .before .before .before .before .before .before .before .before .before .before .before .list-refusal .ensures) (c .before .before .before .before .before .before .before .before .before .before .if2 .left)
     refl (c .before .before .before .before .before .before .make-inside .ensures)
 
 pub new-spec : {M : Type 1} → statement M

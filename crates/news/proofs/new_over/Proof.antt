@@ -9,7 +9,9 @@ use Rattle.scope.specs.Types.{tyOf}
 use Rattle.scope.specs.Calls.{over}
 use Rattle.sound.specs.Tests.{envIn}
 use Rattle.calls.specs.Promise.{typesIn}
-use Rattle.news.proofs.Laws.{lent-ready, listed-narrow, new-lent, new-listed, new-promised}
+use Rattle.calls.proofs.Laws.{lent-passed}
+use Rattle.makes.proofs.RoomLaws.{lent-within}
+use Rattle.news.proofs.Laws.{listed-narrow, new-lent, new-listed, new-promised}
 use Rattle.news.proofs.ListLaws.{part-long, part-narrow, part-given}
 use Rattle.news.proofs.new_over.Statement.{statement}
 use Rattle.news.proofs.new_over.Tie as tie
@@ -83,7 +85,8 @@ slice-aggregate-make-inside c =
 make-inside-requires : tie.Need-make-inside-requires
 make-inside-requires c κs =
     let a = c .before .before .before .before .before .before .before .before .before .before .before .before .before .before .before .before .before .before .before .before .before .before .before .before .before .args in (
-      lent-ready (envIn (a .chart .now) (a .beside) (a .rule .now) (a .text .now)) (a .h .now) (a .ws .now) (a .ks .now) (c .before .before .before .before .before .before .before .before .before .before .before .before .before .before .refusal .result) (c .before .before .before .before .before .before .before .before .before .before .before .before .before .before .refusal .ensures) (c .before .before .before .before .before .before .before .before .before .before .before .before .before .if1 .left),
+      lent-within (envIn (a .chart .now) (a .beside) (a .rule .now) (a .text .now)) (a .h .now) (a .ws .now) (a .ks .now)
+          (lent-passed (envIn (a .chart .now) (a .beside) (a .rule .now) (a .text .now)) (a .h .now) (a .ws .now) (a .ks .now) (c .before .before .before .before .before .before .before .before .before .before .before .before .before .before .refusal .result) (c .before .before .before .before .before .before .before .before .before .before .before .before .before .before .refusal .ensures) (c .before .before .before .before .before .before .before .before .before .before .before .before .before .if1 .left)),
       part-narrow (a .types .now) (c .before .before .before .before .before .before .put-types .last .0) (c .before .before .before .before .before .before .put-types .ensures) (omega (arith, c .before .before .before .before .before .before .put-types .kept .0, listed-narrow (c .before .before .before .before .before .before .before .before .before .before .types-inside .result) (length (a .types .now)) (c .before .before .before .before .before .before .before .before .before .list-refusal .result) (c .before .before .before .before .before .before .before .before .before .list-refusal .ensures) (c .before .before .before .before .before .before .before .before .if2 .left))) (listed-narrow (c .before .before .before .before .before .before .before .before .before .before .types-inside .result) (length (a .types .now)) (c .before .before .before .before .before .before .before .before .before .list-refusal .result) (c .before .before .before .before .before .before .before .before .before .list-refusal .ensures) (c .before .before .before .before .before .before .before .before .if2 .left)),
     )
 

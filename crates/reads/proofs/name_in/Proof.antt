@@ -1,7 +1,6 @@
 -- `reads::name_in` meets its contract: the definition tests the length as the code does.
 -- Assumes nothing.
 use borrow.Author.Tests.{eq-eqb, ne-eqb}
-use borrow.Author.Needs.{needs}
 use Rattle.reads.proofs.name_in.Statement.{statement}
 use Rattle.reads.proofs.name_in.Tie as tie
 
