@@ -1,0 +1,66 @@
+-- `unifies::unify_types` meets its contract: as `unify`, over the types of two lists.
+-- Assumes nothing.
+use Rattle.scope.specs.Unify.{unifyTypes}
+use Rattle.calls.specs.Promise.{typesIn}
+use Rattle.unifies.proofs.Laws.{lists-ask, back-lent, lent-ready, back-own, unify-done, types-form}
+use borrow.Author.Needs.{needs}
+use Rattle.unifies.proofs.unify_types.Statement.{statement}
+use Rattle.unifies.proofs.unify_types.Tie as tie
+
+refusal-requires : tie.Need-refusal-requires
+refusal-requires c κs = search needs
+
+same-length : tie.Need-same-length
+same-length c = search needs
+
+returns : tie.Need-returns
+returns c =
+    let a = c .before .before .before .before .before .before .before .before .before .before .before .args in
+    back-lent (a .chart .now) (a .beside) (a .rule .now) (a .text .now) (a .h .now) (a .ws .now) (a .ks .now) (c .before .refusal .result) (c .before .refusal .ensures)
+    (types-form (typesIn (a .xs .now)) (typesIn (a .ys .now)) (a .inv .0)) (c .if1 .taken)
+
+read-header-requires : tie.Need-read-header-requires
+read-header-requires c κs = search needs
+
+lists-requires : tie.Need-lists-requires
+lists-requires c κs = search needs
+
+same-length-2 : tie.Need-same-length-2
+same-length-2 c = search needs
+
+returns-2 : tie.Need-returns-2
+returns-2 c =
+    let a = c .before .before .before .before .before .before .before .before .before .before .before .before .before .before .args in
+    back-own (a .chart .now) (a .beside) (a .rule .now) (a .text .now) (a .h .now) (a .ws .now) (a .ks .now) (c .before .before .before .before .refusal .result) (c .before .before .before .before .refusal .ensures)
+    (c .before .before .before .if1 .left) (c .before .before .read-header .result) (c .before .before .read-header .ensures) (types-form (typesIn (a .xs .now)) (typesIn (a .ys .now)) (a .inv .0)) (c .before .lists .result) (c .before .lists .ensures) (c .if2 .taken)
+
+unify-lists-requires : tie.Need-unify-lists-requires
+unify-lists-requires c κs =
+    let a = c .before .before .before .before .before .before .before .before .before .before .before .before .before .before .before .args in
+    lists-ask (lent-ready (a .chart .now) (a .beside) (a .rule .now) (a .text .now) (a .h .now) (a .ws .now) (a .ks .now) (c .before .before .before .before .before .refusal .result) (c .before .before .before .before .before .refusal .ensures)
+    (c .before .before .before .before .if1 .left) (c .before .before .before .read-header .result) (c .before .before .before .read-header .ensures)) (c .before .if2 .left) (typesIn (a .xs .now)) (typesIn (a .ys .now)) (a .inv .0) (c .before .before .lists .ensures)
+
+same-length-3 : tie.Need-same-length-3
+same-length-3 c = search needs
+
+returns-3 : tie.Need-returns-3
+returns-3 c =
+    let a = c .before .before .before .before .before .before .before .before .before .before .before .before .before .before .before .before .before .before .args in
+    unify-done (a .chart .now) (a .beside) (a .rule .now) (a .text .now) (a .h .now) (a .ws .now) (a .ks .now) (c .before .before .before .before .before .before .before .before .refusal .result) (c .before .before .before .before .before .before .before .before .refusal .ensures)
+    (c .before .before .before .before .before .before .before .if1 .left) (c .before .before .before .before .before .before .read-header .result) (c .before .before .before .before .before .before .read-header .ensures) (λ x ns. unifyTypes x ns (typesIn (a .xs .now)) (typesIn (a .ys .now)) (a .inv .0))
+    (types-form (typesIn (a .xs .now)) (typesIn (a .ys .now)) (a .inv .0)) (c .before .before .before .before .before .lists .result) (c .before .before .before .before .before .lists .ensures) (c .before .before .before .before .if2 .left) (c .before .before .unify-lists .kept .0) (c .before .before .unify-lists .ensures)
+
+pub unify-types-spec : {M : Type 1} → statement M
+unify-types-spec =
+    tie.close
+    (tie.spec
+    refusal-requires
+    same-length
+    returns
+    read-header-requires
+    lists-requires
+    same-length-2
+    returns-2
+    unify-lists-requires
+    same-length-3
+    returns-3)

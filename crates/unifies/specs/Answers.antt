@@ -1,0 +1,11 @@
+-- What the calls reply: unify's answer, or a refusal's number.
+use Prim.Native.Nat.{ℕ}
+use Rattle.scope.specs.Answers.{Answer}
+use Rattle.types.specs.Answers.{answerOf}
+use Rattle.calls.specs.Promise.{Reply, value, refusal}
+use Rattle.unifies.specs.declared.UnifyAnswer.{UnifyAnswer}
+use Rattle.unifies.specs.declared.UnifyAnswer.the-variants.{Is, Refused}
+
+abbrev pub unifyReply : UnifyAnswer → Reply Answer
+unifyReply (Is r) = value (answerOf r)
+unifyReply (Refused n) = refusal n
