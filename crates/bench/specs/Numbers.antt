@@ -16,6 +16,8 @@ use Rattle.calls.specs.declared.TypeAnswer.{TypeAnswer}
 use Rattle.calls.specs.declared.TypeAnswer.the-variants as type
 use Rattle.calls.specs.declared.DoneAnswer.{DoneAnswer}
 use Rattle.calls.specs.declared.DoneAnswer.the-variants as end
+use Rattle.unifies.specs.declared.UnifyAnswer.{UnifyAnswer}
+use Rattle.unifies.specs.declared.UnifyAnswer.the-variants as unify
 
 -- a refusal's number stands over this, and every value's below
 abbrev pub REFUSED : ℕ
@@ -40,6 +42,9 @@ RESULTS = 3
 
 abbrev pub resultIn : ℕ → UnifyResult
 resultIn r = pick (eqb r 0) Success (pick (eqb r 1) Failure Indeterminate)
+
+abbrev pub unifyIn : ℕ → UnifyAnswer
+unifyIn r = answerIn RESULTS (λ w. unify.Is (resultIn w)) unify.Refused r
 
 -- no fn trait, and four empty sigils
 abbrev pub bare : Beside

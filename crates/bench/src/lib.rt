@@ -4,19 +4,23 @@ pub mod direct;
 
 ghost use mathlib.Core.Path.{_≡_};
 ghost use lib.ListN.{length};
-ghost use Rattle.scope.specs.Calls.{firstBroken, lentTests, openCall, newVarCall, newVarsCall, errorCall, nilCall, newCall, newStructCall, newUnionCall};
+ghost use Rattle.scope.specs.Types.{tyOf};
+ghost use Rattle.scope.specs.Calls.{firstBroken, lentTests, openCall, newVarCall, newVarsCall, errorCall, nilCall, newCall, newStructCall, newUnionCall, unifyCall};
 ghost use Rattle.layout.specs.Words.{lentOf};
 ghost use Rattle.sound.specs.Tests.{codeOf};
 ghost use Rattle.calls.specs.Promise.{Promised, doneReply, typeReply, typesIn};
 ghost use Rattle.makes.specs.Opening.{enough};
 ghost use Rattle.makes.specs.Listed.{Listed};
 ghost use Rattle.news.specs.Lent.{plainArgs, given};
-ghost use Rattle.bench.specs.Numbers.{typeIn, doneIn, bare, lentEnv};
+ghost use Rattle.unifies.specs.Answers.{unifyReply};
+ghost use Rattle.bench.specs.Numbers.{typeIn, doneIn, unifyIn, bare, lentEnv};
 use calls::DoneAnswer;
 use calls::TypeAnswer;
 use chart::Beside;
 use layout::NONE;
 use news::KindArgs;
+use types::Type;
+use unifies::UnifyAnswer;
 
 // A refusal's number stands over this, and every value's below.
 const REFUSED: u64 = 4_294_967_296;
@@ -36,6 +40,15 @@ fn done_number(a: DoneAnswer) -> u64
     match a {
         DoneAnswer::Done => 0,
         DoneAnswer::Refused(n) => REFUSED + n as u64,
+    }
+}
+
+fn unify_number(a: UnifyAnswer) -> u64
+    ensures { λ r. ⌜ unifyIn r ≡ a ⌝ }
+{
+    match a {
+        UnifyAnswer::Is(u) => u.number() as u64,
+        UnifyAnswer::Refused(n) => REFUSED + n as u64,
     }
 }
 
@@ -201,4 +214,20 @@ pub extern "C" fn faroalder_new_union<'a>(
     ensures { λ r. ⌜ Promised (newUnionCall (lentEnv (now (chart .entry)) (now (rule .entry)) (now (text .entry))) (lentOf (now (h .entry)) (now (ws .entry)) (now (ks .entry))) number (typesIn (now (types .entry)))) (typeReply (typeIn r)) (now (h .entry)) (now (ws .entry)) (now (ks .entry)) (now (h .exit)) (now (ws .exit)) (now (ks .exit)) ⌝ }
 {
     type_number(news::new_union(chart, bare(), rule, text, h, ws, ks, number, types))
+}
+
+#[no_mangle]
+pub extern "C" fn faroalder_unify<'a>(
+    chart: &[u32],
+    rule: &'a [u8],
+    text: &'a [u8],
+    h: &[u32],
+    ws: &mut [u32],
+    ks: &[u32],
+    a: u32,
+    b: u32,
+) -> u64
+    ensures { λ r. ⌜ Promised (unifyCall (lentEnv (now (chart .entry)) (now (rule .entry)) (now (text .entry))) (lentOf (now (h .entry)) (now (ws .entry)) (now (ks .entry))) (tyOf a) (tyOf b)) (unifyReply (unifyIn r)) (now (h .entry)) (now (ws .entry)) (now (ks .entry)) (now (h .entry)) (now (ws .exit)) (now (ks .entry)) ⌝ }
+{
+    unify_number(unifies::unify(chart, bare(), rule, text, h, ws, ks, Type(a), Type(b)))
 }
