@@ -1,0 +1,153 @@
+//! Times crates/bench beside Vine's own `types.rs`, in one run. README.md says what each line is.
+
+mod ours;
+mod shapes;
+mod stack;
+mod vine;
+
+/// The stand-ins of compare/, and `types.rs` unchanged.
+#[allow(dead_code)]
+#[path = "../compare/rust/structures"]
+mod structures {
+  pub mod ast;
+  pub mod chart;
+  pub mod diag;
+  pub mod signatures;
+  pub mod tir;
+  pub mod types;
+}
+
+use std::{
+  hint::black_box,
+  time::{Duration, Instant},
+};
+
+use ours::{Core, Public};
+use shapes::{MAKES, Maker, Pair, Side};
+use vine::Vine;
+
+const SIZES: [usize; 3] = [64, 512, 4096];
+
+/// A line of the report.
+fn line(what: &str, size: usize, nanoseconds: f64, ratio: Option<f64>) {
+  let ratio = ratio.map_or("-".into(), |ratio| format!("{ratio:.2}"));
+  println!("{what}, {size}, {nanoseconds:.1}, {ratio}");
+}
+
+/// The least time of `work` over many turns, each on a fresh copy. Whatever else runs on the machine only adds.
+fn least<T>(mut fresh: impl FnMut() -> T, mut work: impl FnMut(&mut T)) -> f64 {
+  let begun = Instant::now();
+  let mut least = Duration::MAX;
+  let mut turns = 0;
+  while turns < 9 || turns < 3000 && begun.elapsed() < Duration::from_millis(400) {
+    let mut copy = fresh();
+    let start = Instant::now();
+    work(&mut copy);
+    least = least.min(start.elapsed());
+    black_box(&copy);
+    turns += 1;
+  }
+  least.as_nanos() as f64
+}
+
+fn filled<S: Side>(size: usize, nodes: usize) -> S {
+  let mut side = S::opened(size);
+  shapes::fill(&mut side, nodes);
+  side
+}
+
+/// The soundness test; whether eight times the store takes at most ten times the time.
+fn soundness() {
+  const CALLS: usize = 20;
+  let mut before = None;
+  for size in SIZES {
+    let full: Core = filled(size, size);
+    let time = least(|| (), |()| (0..CALLS).for_each(|_| assert_eq!(full.refusal(), 0))) / CALLS as f64;
+    line("soundness test", size, time, None);
+    if let Some(before) = before {
+      let grew: f64 = time / before;
+      println!("  {grew:.1} times the time for eight times the store: {}", if grew <= 10.0 { "linear" } else { "NOT linear" });
+    }
+    before = Some(time);
+  }
+}
+
+/// A maker's time a call, where the store ends with `size` nodes.
+fn making<S: Side>(size: usize, maker: Maker) -> f64 {
+  least(|| filled::<S>(size, size - MAKES), |side| side.makes(maker)) / maker.calls() as f64
+}
+
+fn makers() {
+  for maker in Maker::ALL {
+    let name = maker.name();
+    let mut core = Vec::new();
+    for size in SIZES {
+      let rust = making::<Vine>(size, maker);
+      if maker.has_core() {
+        let time = making::<Core>(size, maker);
+        core.push(time);
+        line(&format!("{name}, core"), size, time, Some(time / rust));
+      }
+      let time = making::<Public>(size, maker);
+      line(&format!("{name}, public"), size, time, Some(time / rust));
+      line(&format!("{name}, Rust"), size, rust, Some(1.0));
+    }
+    if let [small, .., large] = core[..] {
+      let grew = large / small;
+      println!("  {grew:.1} times the time at 64 times the store: {}", if grew <= 2.0 { "flat" } else { "NOT flat" });
+    }
+  }
+}
+
+fn opening() {
+  for size in SIZES {
+    let core = least(|| Core::opened(size), |side| side.open());
+    line("open, core", size, core, None);
+    let public = least(|| Public::opened(size), |side| side.open());
+    line("open, public", size, public, None);
+  }
+}
+
+/// A shape's time a pair: each pair of the shape is unified with Success on a copy of its store.
+fn unifying<S: Side>(shape: fn(&mut S) -> Vec<Pair>, nodes: usize) -> f64 {
+  let mut full = S::opened(4096);
+  let pairs = shape(&mut full);
+  let work = |side: &mut S| pairs.iter().for_each(|&(a, b)| assert_eq!(side.unify(a, b), 0));
+  least(|| full.clone(), work) / nodes as f64
+}
+
+macro_rules! unify {
+  ($what:literal, $shape:path, $pairs:expr) => {
+    let rust = unifying::<Vine>($shape, $pairs);
+    let core = unifying::<Core>($shape, $pairs);
+    line(concat!("unify ", $what, ", core"), 4096, core, Some(core / rust));
+    let public = unifying::<Public>($shape, $pairs);
+    line(concat!("unify ", $what, ", public"), 4096, public, Some(public / rust));
+    line(concat!("unify ", $what, ", Rust"), 4096, rust, Some(1.0));
+  };
+}
+
+fn unify() {
+  unify!("variables", shapes::variables, shapes::VARIABLES);
+  unify!("chain of Refs", shapes::chains, shapes::CHAIN);
+  unify!("wide tuples", shapes::tuples, shapes::TUPLES * shapes::WIDTH);
+  unify!("objects of 64 names", shapes::objects, shapes::OBJECTS * shapes::NAMES);
+  let time = unifying::<Core>(shapes::doublings, 1);
+  line("unify a variable and 120 doublings, core", 122, time, None);
+  let time = unifying::<Public>(shapes::doublings, 1);
+  line("unify a variable and 120 doublings, public", 122, time, None);
+}
+
+fn main() {
+  let words: Vec<String> = std::env::args().collect();
+  if let [_, chain, bytes] = &words[..] {
+    return stack::descend(chain, bytes.parse().expect("not a number"));
+  }
+  println!("what, nodes, nanoseconds a call (unify: a pair), ratio to the Rust");
+  soundness();
+  makers();
+  opening();
+  // Deep recursion wants more than a main thread may have.
+  std::thread::Builder::new().stack_size(256 << 20).spawn(unify).unwrap().join().unwrap();
+  stack::report();
+}

@@ -1,0 +1,150 @@
+//! The stores that are timed, built alike on each side. Nodes are numbered in the order made, on both sides.
+
+/// A store of one side: ours by core functions, ours by public calls, or the Rust's.
+pub trait Side: Clone {
+  /// Room for `nodes` nodes and four times as many children.
+  fn opened(nodes: usize) -> Self;
+  fn var(&mut self) -> u32;
+  fn tuple(&mut self, kids: &[u32]) -> u32;
+  /// The names are the first ones of `name`, in order.
+  fn object(&mut self, kids: &[u32]) -> u32;
+  fn reference(&mut self, kid: u32) -> u32;
+  fn structure(&mut self, kids: &[u32]) -> u32;
+  /// Two types that unify, where no time is taken.
+  fn merge(&mut self, a: u32, b: u32);
+  /// 0 Success, 1 Failure, 2 Indeterminate.
+  fn unify(&mut self, a: u32, b: u32) -> u64;
+  /// What is timed: `MAKES` nodes by one maker.
+  fn makes(&mut self, maker: Maker);
+}
+
+pub type Pair = (u32, u32);
+
+/// How many nodes a maker makes while it is timed.
+pub const MAKES: usize = 32;
+
+/// How many variables a call of `new_vars` makes.
+pub const VARS: usize = 8;
+
+/// The children of each tuple, struct and union that is timed: nodes that each filled store has.
+pub const KIDS: [u32; 3] = [0, 1, 2];
+
+#[derive(Clone, Copy, PartialEq)]
+pub enum Maker {
+  Var,
+  Vars,
+  Tuple,
+  Struct,
+  Union,
+  Error,
+  Nil,
+}
+
+impl Maker {
+  pub const ALL: [Maker; 7] =
+    [Maker::Var, Maker::Vars, Maker::Tuple, Maker::Struct, Maker::Union, Maker::Error, Maker::Nil];
+
+  pub fn name(self) -> &'static str {
+    match self {
+      Maker::Var => "new_var",
+      Maker::Vars => "new_vars of 8",
+      Maker::Tuple => "new of a 3-tuple",
+      Maker::Struct => "new_struct over 3",
+      Maker::Union => "new_union over 3",
+      Maker::Error => "error",
+      Maker::Nil => "nil",
+    }
+  }
+
+  pub fn calls(self) -> usize {
+    if self == Maker::Vars { MAKES / VARS } else { MAKES }
+  }
+
+  /// `new_struct` and `new_union` are `new` in the core.
+  pub fn has_core(self) -> bool {
+    !matches!(self, Maker::Struct | Maker::Union)
+  }
+}
+
+/// The i-th name: three bytes, strictly ascending.
+pub fn name(i: usize) -> String {
+  format!("n{i:02}")
+}
+
+/// `nodes` nodes: variables, some merged, tuples, objects, structs and Refs over nodes made before.
+pub fn fill<S: Side>(side: &mut S, nodes: usize) {
+  let mut seed: u32 = 1;
+  for at in 0..nodes as u32 {
+    let mut any = || {
+      seed = seed.wrapping_mul(1664525).wrapping_add(1013904223);
+      (seed >> 8) % at
+    };
+    let made = match at % 8 {
+      2 => side.tuple(&[any(), any(), any()]),
+      3 => side.object(&[any(), any()]),
+      4 => side.reference(any()),
+      5 => side.structure(&[any(), any()]),
+      6 => side.tuple(&[any(), any(), any(), any()]),
+      _ => side.var(),
+    };
+    assert_eq!(made, at);
+    if at % 8 == 1 {
+      side.merge(at - 1, at);
+    }
+  }
+}
+
+pub const VARIABLES: usize = 2048;
+
+/// Each variable of the first half with one of the second.
+pub fn variables<S: Side>(side: &mut S) -> Vec<Pair> {
+  (0..2 * VARIABLES).for_each(|_| _ = side.var());
+  (0..VARIABLES as u32).map(|i| (i, i + VARIABLES as u32)).collect()
+}
+
+pub const CHAIN: usize = 2048;
+
+fn chain<S: Side>(side: &mut S) -> u32 {
+  let end = side.var();
+  (1..CHAIN).fold(end, |kid, _| side.reference(kid))
+}
+
+/// Two chains of Refs, each down to a variable.
+pub fn chains<S: Side>(side: &mut S) -> Vec<Pair> {
+  vec![(chain(side), chain(side))]
+}
+
+pub const TUPLES: usize = 8;
+pub const WIDTH: usize = 255;
+
+fn vars<S: Side>(side: &mut S, count: usize) -> Vec<u32> {
+  (0..count).map(|_| side.var()).collect()
+}
+
+/// Pairs of tuples of 255 variables.
+pub fn tuples<S: Side>(side: &mut S) -> Vec<Pair> {
+  let mut tuple = |()| {
+    let kids = vars(side, WIDTH);
+    side.tuple(&kids)
+  };
+  (0..TUPLES).map(|_| (tuple(()), tuple(()))).collect()
+}
+
+pub const OBJECTS: usize = 31;
+pub const NAMES: usize = 64;
+
+/// Pairs of objects of 64 names over variables.
+pub fn objects<S: Side>(side: &mut S) -> Vec<Pair> {
+  let mut object = |()| {
+    let kids = vars(side, NAMES);
+    side.object(&kids)
+  };
+  (0..OBJECTS).map(|_| (object(()), object(()))).collect()
+}
+
+/// A variable, and 120 tuples over another, each with the one before as both children.
+pub fn doublings<S: Side>(side: &mut S) -> Vec<Pair> {
+  let var = side.var();
+  let end = side.var();
+  vec![(var, (0..120).fold(end, |kid, _| side.tuple(&[kid, kid])))]
+}

@@ -1,0 +1,60 @@
+//! The stack that the core unify takes at its deepest: each node of a chain with the next one, 4,095 levels down. A program that
+//! runs out of stack dies, so each try is a process of its own.
+
+use std::{
+  env,
+  process::{Command, Stdio},
+  thread,
+};
+
+use crate::{
+  ours::{CLOSURE, Core, REF},
+  shapes::Side,
+};
+
+const LEVELS: usize = 4095;
+const CHAINS: [&str; 3] = ["Refs", "objects", "closures"];
+
+fn link(side: &mut Core, chain: &str, kid: u32) -> u32 {
+  match chain {
+    "Refs" => side.kind(REF, &[kid, 0, 0, 0]),
+    "objects" => side.object(&[kid]),
+    // No parameters: the one child is its return.
+    "closures" => side.kind(CLOSURE, &[kid, 0, 0, 0]),
+    _ => panic!("no such chain: {chain}"),
+  }
+}
+
+/// The whole chain in a thread with so many bytes of stack. At the end a variable meets what it occurs in: Failure.
+pub fn descend(chain: &str, bytes: usize) {
+  let mut side = Core::opened(LEVELS + 1);
+  let end = side.var();
+  let top = (0..LEVELS).fold(end, |kid, _| link(&mut side, chain, kid));
+  let deep = move || assert_eq!(side.unify(top, top - 1), 1);
+  thread::Builder::new().stack_size(bytes).spawn(deep).unwrap().join().unwrap();
+}
+
+fn passes(chain: &str, bytes: usize) -> bool {
+  let mut child = Command::new(env::current_exe().unwrap());
+  child.args([chain, &bytes.to_string()]).stderr(Stdio::null());
+  child.status().unwrap().success()
+}
+
+/// The smallest stack that is enough, to 4 KB.
+fn enough(chain: &str) -> usize {
+  let (mut short, mut enough) = (16 << 10, 64 << 20);
+  assert!(!passes(chain, short) && passes(chain, enough));
+  while enough - short > 4096 {
+    let half = (short + enough) / 2 & !4095;
+    if passes(chain, half) { enough = half } else { short = half }
+  }
+  enough
+}
+
+pub fn report() {
+  println!("stack of the core unify, levels, bytes, bytes a level");
+  for chain in CHAINS {
+    let bytes = enough(chain);
+    println!("chain of {chain}, {LEVELS}, {bytes}, {:.0}", bytes as f64 / LEVELS as f64);
+  }
+}

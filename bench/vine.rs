@@ -1,0 +1,103 @@
+//! Vine's own `types.rs`, as compare/ compiles it.
+
+use std::{hint::black_box, rc::Rc};
+
+use crate::{
+  shapes::{KIDS, Maker, Side, VARS, name},
+  structures::{
+    ast::{Ident, Span},
+    chart::{Chart, DefId, StructDef, StructId, UnionDef, UnionId},
+    diag::ErrorGuaranteed,
+    types::{Type, TypeKind, Types, UnifyResult, view},
+  },
+};
+
+const SPAN: Span = Span(7);
+
+#[derive(Clone)]
+pub struct Vine {
+  types: Types,
+  chart: Rc<Chart>,
+}
+
+fn ty(node: u32) -> Type {
+  view::make(node as usize, false)
+}
+
+fn tys(nodes: &[u32]) -> Vec<Type> {
+  nodes.iter().map(|&node| ty(node)).collect()
+}
+
+/// A struct and a union.
+fn chart() -> Chart {
+  let mut chart = Chart::default();
+  let ident = |name: &str| Ident(name.into());
+  _ = chart.structs.push(StructDef { def: DefId(0), name: ident("point"), self_dual: false });
+  _ = chart.unions.push(UnionDef { def: DefId(1), name: ident("shape"), self_dual: false });
+  chart
+}
+
+impl Vine {
+  fn new(&mut self, kind: TypeKind) -> u32 {
+    view::node(self.types.new(kind)) as u32
+  }
+}
+
+fn repeat<T>(turns: usize, mut call: impl FnMut() -> T) {
+  (0..turns).for_each(|_| _ = black_box(call()));
+}
+
+impl Side for Vine {
+  /// Its vector grows as nodes are made.
+  fn opened(_: usize) -> Self {
+    Vine { types: Types::default(), chart: Rc::new(chart()) }
+  }
+
+  fn var(&mut self) -> u32 {
+    view::node(self.types.new_var(SPAN)) as u32
+  }
+
+  fn tuple(&mut self, kids: &[u32]) -> u32 {
+    self.new(TypeKind::Tuple(tys(kids)))
+  }
+
+  fn object(&mut self, kids: &[u32]) -> u32 {
+    let fields = kids.iter().enumerate().map(|(i, &kid)| (Ident(name(i)), ty(kid)));
+    let kind = TypeKind::Object(fields.collect());
+    self.new(kind)
+  }
+
+  fn reference(&mut self, kid: u32) -> u32 {
+    self.new(TypeKind::Ref(ty(kid)))
+  }
+
+  fn structure(&mut self, kids: &[u32]) -> u32 {
+    view::node(self.types.new_struct(&self.chart, StructId(0), tys(kids))) as u32
+  }
+
+  fn merge(&mut self, a: u32, b: u32) {
+    assert_eq!(self.unify(a, b), 0);
+  }
+
+  fn unify(&mut self, a: u32, b: u32) -> u64 {
+    match self.types.unify(ty(a), ty(b)) {
+      UnifyResult::Success => 0,
+      UnifyResult::Failure => 1,
+      UnifyResult::Indeterminate(_) => 2,
+    }
+  }
+
+  fn makes(&mut self, maker: Maker) {
+    let Vine { types, chart } = self;
+    let turns = maker.calls();
+    match maker {
+      Maker::Var => repeat(turns, || types.new_var(SPAN)),
+      Maker::Vars => repeat(turns, || types.new_vars(SPAN, VARS)),
+      Maker::Tuple => repeat(turns, || types.new(TypeKind::Tuple(tys(&KIDS)))),
+      Maker::Struct => repeat(turns, || types.new_struct(chart, StructId(0), tys(&KIDS))),
+      Maker::Union => repeat(turns, || types.new_union(chart, UnionId(0), tys(&KIDS))),
+      Maker::Error => repeat(turns, || types.error(ErrorGuaranteed::new_unchecked())),
+      Maker::Nil => repeat(turns, || types.nil()),
+    }
+  }
+}

@@ -1,0 +1,24 @@
+-- `bench::faroalder_unify` meets its contract: it is `unifies::unify`, whose answer its number gives back.
+-- Assumes nothing.
+use borrow.Author.Needs.{needs}
+use Rattle.bench.proofs.faroalder_unify.Statement.{statement}
+use Rattle.bench.proofs.faroalder_unify.Tie as tie
+
+bare-requires : tie.Need-bare-requires
+bare-requires c κs = search needs
+
+unify-requires : tie.Need-unify-requires
+unify-requires c κs = search needs
+
+unify-number-requires : tie.Need-unify-number-requires
+unify-number-requires c κs = search needs
+
+same-length : tie.Need-same-length
+same-length c = search needs
+
+returns : tie.Need-returns
+returns c = rw (c .unify-number .ensures) (rw (c .before .before .before .before .before .bare .ensures) at (c .before .before .before .unify .ensures))
+
+pub faroalder-unify-spec : {M : Type 1} → statement M
+faroalder-unify-spec =
+    tie.close (tie.spec bare-requires unify-requires unify-number-requires same-length returns)

@@ -1,0 +1,55 @@
+-- The numbers that a caller in another language gets and gives. A type is its word, an answer of `unify` its place in the Rust's enum. A public call's answer
+-- is a value's number, or 4,294,967,296 and a refusal's number over it.
+use mathlib.Core.List.{List}
+use Prim.Native.Nat.{ℕ, _-_}
+use lib.Dec.{eqb, ltb}
+use lib.ListN.{replicate}
+use Rattle.scope.specs.Base.{pick}
+use Rattle.scope.specs.Limits.{NONE}
+use Rattle.scope.specs.Chart.{Env}
+use Rattle.chart.specs.declared.Beside.{Beside}
+use Rattle.sound.specs.Tests.{envIn}
+use Rattle.types.specs.declared.«Type».{«Type»}
+use Rattle.types.specs.declared.UnifyResult.{UnifyResult}
+use Rattle.types.specs.declared.UnifyResult.the-variants.{Success, Failure, Indeterminate}
+use Rattle.calls.specs.declared.TypeAnswer.{TypeAnswer}
+use Rattle.calls.specs.declared.TypeAnswer.the-variants as type
+use Rattle.calls.specs.declared.DoneAnswer.{DoneAnswer}
+use Rattle.calls.specs.declared.DoneAnswer.the-variants as end
+use Rattle.unifies.specs.declared.UnifyAnswer.{UnifyAnswer}
+use Rattle.unifies.specs.declared.UnifyAnswer.the-variants as unify
+
+-- a refusal's number stands over this, and every value's below
+abbrev pub REFUSED : ℕ
+REFUSED = 4294967296
+
+-- the answer that r is, where n values have the numbers from 0 on
+unfoldable pub answerIn : {A : Type 0} → ℕ → (ℕ → A) → (ℕ → A) → ℕ → A
+answerIn n is refused r = pick (ltb r n) (is r) (refused (r - REFUSED))
+
+abbrev pub typeWord : ℕ → «Type»
+typeWord w = record { 0 = w }
+
+abbrev pub typeIn : ℕ → TypeAnswer
+typeIn r = answerIn REFUSED (λ w. type.Is (typeWord w)) type.Refused r
+
+abbrev pub doneIn : ℕ → DoneAnswer
+doneIn r = answerIn 1 (λ w. end.Done) end.Refused r
+
+-- the result that a number below three is
+abbrev pub RESULTS : ℕ
+RESULTS = 3
+
+abbrev pub resultIn : ℕ → UnifyResult
+resultIn r = pick (eqb r 0) Success (pick (eqb r 1) Failure Indeterminate)
+
+abbrev pub unifyIn : ℕ → UnifyAnswer
+unifyIn r = answerIn RESULTS (λ w. unify.Is (resultIn w)) unify.Refused r
+
+-- no fn trait, and four empty sigils
+abbrev pub bare : Beside
+bare = record { «fn_trait» = NONE; sigils = replicate 12 0 }
+
+-- what every call here reads: a chart and two texts, with nothing beside them
+abbrev pub lentEnv : List ℕ → List ℕ → List ℕ → Env
+lentEnv chart rule text = envIn chart bare rule text

@@ -1,0 +1,122 @@
+// The same without tests: each asks what the core function asks that it calls, and promises the same.
+ghost use mathlib.Core.Path.{_≡_};
+ghost use Prim.Native.Nat.{_≤_, _<_};
+ghost use mathlib.Core.Bool.{false};
+ghost use lib.ListN.{length};
+ghost use Rattle.scope.specs.Types.{tyOf};
+ghost use Rattle.scope.specs.Nodes.{opened};
+ghost use Rattle.scope.specs.Make.{new, newVar, newVars, makeError, makeNil};
+ghost use Rattle.scope.specs.Unify.{unify};
+ghost use Rattle.scope.specs.Calls.{nodesFor};
+ghost use Rattle.names.specs.Place.{texts};
+ghost use Rattle.layout.specs.Words.{storeIn, decode};
+ghost use Rattle.make.specs.Holds.{Became, Openable, Ready, MadeIs, MadeAllIs};
+ghost use Rattle.make.specs.Given.{KindReady, kindGiven};
+ghost use Rattle.news.specs.Lent.{plainArgs, withFlag};
+ghost use Rattle.unify.specs.Asks.{Pair};
+ghost use Rattle.unify.specs.Leaves.{Leaves};
+ghost use Rattle.bench.specs.Numbers.{typeWord, RESULTS, resultIn};
+use make::NewKind;
+use types::Type;
+
+#[no_mangle]
+pub extern "C" fn faroalder_direct_open(
+    h: &mut [u32],
+    ws: &mut [u32],
+    ks: &mut [u32],
+    nodes: u32,
+    children: u32,
+)
+    requires { ⌜ Openable nodes children (now h) (now ws) (now ks) ⌝ }
+    ensures { λ _. ⌜ Became (now (h .entry)) (now (ws .entry)) (now (ks .entry)) (now (h .exit)) (now (ws .exit)) (now (ks .exit)) (opened nodes children) ⌝ }
+{
+    make::open(h, ws, ks, nodes, children);
+}
+
+#[no_mangle]
+pub extern "C" fn faroalder_direct_new_var(
+    h: &mut [u32],
+    ws: &mut [u32],
+    ks: &[u32],
+    span: u32,
+) -> u32
+    requires { ⌜ Ready (now h) (now ws) (now ks) 1 0 ⌝ }
+    ensures { λ r. ⌜ MadeIs (now (h .entry)) (now (ws .entry)) (now (ks .entry)) (now (h .exit)) (now (ws .exit)) (now (ks .entry)) (typeWord r) (newVar (storeIn (now (h .entry)) (now (ws .entry)) (now (ks .entry))) span) ⌝ }
+{
+    make::new_var(h, ws, ks, span).0
+}
+
+#[no_mangle]
+pub extern "C" fn faroalder_direct_new_vars(
+    h: &mut [u32],
+    ws: &mut [u32],
+    ks: &[u32],
+    span: u32,
+    count: u32,
+    out: &mut [u32],
+)
+    requires { ⌜ Ready (now h) (now ws) (now ks) count 0 ⌝ }
+    requires { ⌜ count ≤ length (now out) ⌝ }
+    ensures { λ _. ⌜ MadeAllIs (now (h .entry)) (now (ws .entry)) (now (ks .entry)) (now (h .exit)) (now (ws .exit)) (now (ks .entry)) (now (out .entry)) (now (out .exit)) (newVars (storeIn (now (h .entry)) (now (ws .entry)) (now (ks .entry))) span count) ⌝ }
+{
+    make::new_vars(h, ws, ks, span, count, out);
+}
+
+#[no_mangle]
+pub extern "C" fn faroalder_direct_error(h: &mut [u32], ws: &mut [u32], ks: &[u32]) -> u32
+    requires { ⌜ Ready (now h) (now ws) (now ks) (nodesFor (storeIn (now h) (now ws) (now ks) .error)) 0 ⌝ }
+    ensures { λ r. ⌜ MadeIs (now (h .entry)) (now (ws .entry)) (now (ks .entry)) (now (h .exit)) (now (ws .exit)) (now (ks .entry)) (typeWord r) (makeError (storeIn (now (h .entry)) (now (ws .entry)) (now (ks .entry)))) ⌝ }
+{
+    make::error(h, ws, ks).0
+}
+
+#[no_mangle]
+pub extern "C" fn faroalder_direct_nil(h: &mut [u32], ws: &mut [u32], ks: &[u32]) -> u32
+    requires { ⌜ Ready (now h) (now ws) (now ks) (nodesFor (storeIn (now h) (now ws) (now ks) .nil)) 0 ⌝ }
+    ensures { λ r. ⌜ MadeIs (now (h .entry)) (now (ws .entry)) (now (ks .entry)) (now (h .exit)) (now (ws .exit)) (now (ks .entry)) (typeWord r) (makeNil (storeIn (now (h .entry)) (now (ws .entry)) (now (ks .entry)))) ⌝ }
+{
+    make::nil(h, ws, ks).0
+}
+
+// `new`, of a kind without `Flex` or a name of its own, whose flag is not set.
+#[no_mangle]
+pub extern "C" fn faroalder_direct_new(
+    h: &mut [u32],
+    ws: &mut [u32],
+    ks: &mut [u32],
+    code: u32,
+    number: u32,
+    entries: &[u32],
+) -> u32
+    requires { ⌜ KindReady (now h) (now ws) (now ks) (withFlag (plainArgs code number) false) (now entries) ⌝ }
+    ensures { λ r. ⌜ MadeIs (now (h .entry)) (now (ws .entry)) (now (ks .entry)) (now (h .exit)) (now (ws .exit)) (now (ks .exit)) (typeWord r) (new (storeIn (now (h .entry)) (now (ws .entry)) (now (ks .entry))) (kindGiven (withFlag (plainArgs code number) false) (now (entries .entry)))) ⌝ }
+{
+    let k = NewKind {
+        code,
+        number,
+        dual: false,
+        flex: 0,
+        text: 0,
+        start: 0,
+        len: 0,
+    };
+    make::new_kind(h, ws, ks, k, entries).0
+}
+
+// A pair of types, as deep as there are nodes.
+#[no_mangle]
+pub extern "C" fn faroalder_direct_unify<'a>(
+    ws: &mut [u32],
+    ks: &[u32],
+    n: u32,
+    rule: &'a [u8],
+    text: &'a [u8],
+    a: u32,
+    b: u32,
+) -> u32
+    requires { ⌜ Pair (texts (now rule) (now text)) (now ws) (now ks) n (tyOf a) (tyOf b) ⌝ }
+    ensures { λ r. ⌜ r < RESULTS ⌝ }
+    ensures { λ r. ⌜ Leaves (now (ws .entry)) (now (ks .entry)) (now (ws .exit)) n (unify (texts (now (rule .entry)) (now (text .entry))) (decode (now (ws .entry)) (now (ks .entry)) n) (tyOf a) (tyOf b)) (resultIn r) ⌝ }
+{
+    unify::lists::unify_all(ws, ks, n, rule, text, Type(a), Type(b)).number()
+}
