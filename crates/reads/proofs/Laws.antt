@@ -15,8 +15,7 @@ use Rattle.scope.specs.Types.{Ty, tyOf}
 use Rattle.scope.specs.Nodes.{Node, Store, at}
 use Rattle.scope.specs.Sound.{inStore}
 use Rattle.scope.specs.Force.{findRelated}
-use Rattle.scope.specs.Calls.{Outcome, refused, done, orRefused, firstBroken, storeOf, shortFor, readCall, nodeCall, findRelatedCall}
-use Rattle.scope.specs.Calls.{Outcome, done, firstBroken, storeOf, outside, shortFor, findRelatedCall}
+use Rattle.scope.specs.Calls.{Outcome, refused, done, orRefused, firstBroken, storeOf, outside, shortFor, readCall, nodeCall, findRelatedCall}
 use Rattle.scope.proofs.SoundLaws.{SoundFacts}
 use Rattle.types.specs.declared.«Type».{«Type»}
 use Rattle.chart.specs.declared.Beside.{Beside}
