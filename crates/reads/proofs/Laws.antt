@@ -140,6 +140,7 @@ module _ (e : Env) (h ws ks : List ℕ) (t : «Type») (n : ℕ) (q : firstBroke
           (marks-code ms 0 (test-falls 7 [] (le-ltb (length ms) (x .nodes) l))) refl
           ∙ ap (λ (y : List ℕ). done y (storeIn h ws ks)) (ap (λ (y : List Node). findRelated y T ms) the-nodes ∙ sym r);
       kept = λ y. let v : _≡_ {A = ℕ} 0 1 = cc in absurd (omega arith);
+    }
 
   pub marks-refused : (n ≡ 0 → ⊥) → (ms : List ℕ) → Marked (findRelatedCall e (lentOf h ws ks) T ms) (Refused n) (storeIn h ws ks) ms ms
   marks-refused z ms =
