@@ -8,15 +8,25 @@ use reads::FiguresAnswer;
 use types::Type;
 
 const FIND: u32 = 30; // type, here and below
+
 const FIND_MUT: u32 = 31;
+
 const NODE: u32 = 32;
+
 const CHILD: u32 = 33; // type, index
+
 const CHILD_NAME: u32 = 34; // type, index
+
 const FIGURES: u32 = 35;
+
 const IS_NIL: u32 = 36;
+
 const SELF_INVERSE: u32 = 37;
+
 const SELF_INVERSE_PARAM: u32 = 38; // type, 0 or 1
+
 const GET_MOD: u32 = 39;
+
 const FIND_RELATED: u32 = 40; // type, then a mark for each node
 // The figures, and every node.
 const STORE: u32 = 41;
@@ -66,7 +76,17 @@ fn find_related<'a>(
 ) {
     let mut marks = [0u8; ROOM];
     let n = crate::to_bytes(after(a, 1), &mut marks);
-    find_related_in(chart, beside, rule, text, h, ws, ks, &mut marks[..n], Type(word(a, 0)));
+    find_related_in(
+        chart,
+        beside,
+        rule,
+        text,
+        h,
+        ws,
+        ks,
+        &mut marks[..n],
+        Type(word(a, 0)),
+    );
 }
 
 // Every node, after the figures.
@@ -107,7 +127,12 @@ fn node<'a>(
 ) {
     let t = Type(word(a, 0));
     if op == NODE {
-        writing::node_answer(reads::node(chart, beside, rule, text, h, ws, ks, t), ks, rule, text);
+        writing::node_answer(
+            reads::node(chart, beside, rule, text, h, ws, ks, t),
+            ks,
+            rule,
+            text,
+        );
         return;
     }
     if op == CHILD {
@@ -168,7 +193,16 @@ pub fn call<'a>(
         return;
     }
     if op == FIND_MUT {
-        writing::type_answer(finds::find_mut(chart, beside, rule, text, h, ws, ks, Type(word(a, 0))));
+        writing::type_answer(finds::find_mut(
+            chart,
+            beside,
+            rule,
+            text,
+            h,
+            ws,
+            ks,
+            Type(word(a, 0)),
+        ));
         return;
     }
     if op <= FIGURES {

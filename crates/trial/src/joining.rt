@@ -9,10 +9,15 @@ use types::Type;
 use unify::Impl;
 
 const UNIFY: u32 = 50; // two types
+
 const UNIFY_TYPES: u32 = 51; // inversion, how many types the first list has, both lists
+
 const UNIFY_OBJECTS: u32 = 52; // inversion, how many numbers the first object has, both objects: four numbers for each child
+
 const UNIFY_FN_SIG: u32 = 53; // the returns, how many parameters the first has, both lists
+
 const UNIFY_IMPL_TYPE: u32 = 54; // 1 for an error and the trait's number, twice; how many types the first has, both lists
+
 const APPROX_EQ: u32 = 55; // the same
 
 fn impl_of(error: u32, number: u32) -> Impl {
@@ -38,10 +43,32 @@ fn lists<'a>(
     let xs = first(after(a, 2), n);
     let ys = after(after(a, 2), n);
     if op == UNIFY_TYPES {
-        writing::unify_answer(unifies::unify_types(chart, beside, rule, text, h, ws, ks, xs, ys, inv));
+        writing::unify_answer(unifies::unify_types(
+            chart,
+            beside,
+            rule,
+            text,
+            h,
+            ws,
+            ks,
+            xs,
+            ys,
+            inv,
+        ));
         return;
     }
-    writing::unify_answer(unifies::unify_objects(chart, beside, rule, text, h, ws, ks, xs, ys, inv));
+    writing::unify_answer(unifies::unify_objects(
+        chart,
+        beside,
+        rule,
+        text,
+        h,
+        ws,
+        ks,
+        xs,
+        ys,
+        inv,
+    ));
 }
 
 fn impls<'a>(

@@ -12,20 +12,32 @@ mod writing; // answers to text
 use chart::Beside;
 
 const RULE: u32 = 0;
+
 const TEXT: u32 = 1;
+
 const CHART: u32 = 2;
+
 const BESIDE: u32 = 3;
+
 const LEND: u32 = 4;
+
 const POKE: u32 = 5;
+
 const FLIP: u32 = 6;
+
 const CASE: u32 = 7;
+
 const WORDS: u32 = 8;
 
 // More words than the largest store needs, so that some are left over.
 const HEAD: usize = 10;
+
 const NODES: usize = 49_164;
+
 const KIDS: usize = 65_544;
+
 const BYTES: usize = 4096;
+
 const NUMBERS: usize = 32_768;
 
 // What is lent: where the chart's records stand among the numbers, what stands beside them, and how many bytes and words of each buffer.
@@ -328,12 +340,29 @@ fn turn(
     let x = upto(h, l.head);
     let y = upto(ws, l.nodes);
     let z = upto(ks, l.kids);
-    call(op, chart, l.beside, &rule[..r], &text[..t], &mut h[..x], &mut ws[..y], &mut ks[..z], a);
+    call(
+        op,
+        chart,
+        l.beside,
+        &rule[..r],
+        &text[..t],
+        &mut h[..x],
+        &mut ws[..y],
+        &mut ks[..z],
+        a,
+    );
     l
 }
 
 // The calls one after the other, on these buffers.
-fn turns(s: &[u32], rule: &mut [u8], text: &mut [u8], h: &mut [u32], ws: &mut [u32], ks: &mut [u32]) {
+fn turns(
+    s: &[u32],
+    rule: &mut [u8],
+    text: &mut [u8],
+    h: &mut [u32],
+    ws: &mut [u32],
+    ks: &mut [u32],
+) {
     let mut l = nothing_lent();
     let mut at = 0;
     while at < s.len() {

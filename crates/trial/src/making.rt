@@ -9,16 +9,27 @@ use news::KindArgs;
 use types::Type;
 
 const OPEN: u32 = 10; // nodes, children
+
 const RESET: u32 = 11;
+
 const NEW: u32 = 12; // code, number, flex, name (text, start, length), then four numbers for each child
+
 const NEW_STRUCT: u32 = 13; // number, then types
+
 const NEW_UNION: u32 = 14; // number, then types
+
 const NEW_VAR: u32 = 15; // span
+
 const NEW_VARS: u32 = 16; // span, count, room for answers
+
 const ERROR: u32 = 17;
+
 const NIL: u32 = 18;
+
 const FORCE_KIND: u32 = 19; // type
+
 const FINISH: u32 = 20;
+
 const FINISH_WHERE: u32 = 21; // a byte for each node
 
 const ROOM: usize = 4096;
@@ -66,7 +77,18 @@ fn new_vars_into<'a>(
     a: &[u32],
     out: &mut [u32],
 ) {
-    let r = makes::new_vars(chart, beside, rule, text, h, ws, ks, word(a, 0), word(a, 1), out);
+    let r = makes::new_vars(
+        chart,
+        beside,
+        rule,
+        text,
+        h,
+        ws,
+        ks,
+        word(a, 0),
+        word(a, 1),
+        out,
+    );
     listed(r, out, word(a, 1));
 }
 
@@ -114,16 +136,46 @@ fn kinds<'a>(
     a: &[u32],
 ) {
     if op == NEW {
-        let r = news::new(chart, beside, rule, text, h, ws, ks, kind_args(a), after(a, 6));
+        let r = news::new(
+            chart,
+            beside,
+            rule,
+            text,
+            h,
+            ws,
+            ks,
+            kind_args(a),
+            after(a, 6),
+        );
         writing::type_answer(r);
         return;
     }
     if op == NEW_STRUCT {
-        let r = news::new_struct(chart, beside, rule, text, h, ws, ks, word(a, 0), after(a, 1));
+        let r = news::new_struct(
+            chart,
+            beside,
+            rule,
+            text,
+            h,
+            ws,
+            ks,
+            word(a, 0),
+            after(a, 1),
+        );
         writing::type_answer(r);
         return;
     }
-    let r = news::new_union(chart, beside, rule, text, h, ws, ks, word(a, 0), after(a, 1));
+    let r = news::new_union(
+        chart,
+        beside,
+        rule,
+        text,
+        h,
+        ws,
+        ks,
+        word(a, 0),
+        after(a, 1),
+    );
     writing::type_answer(r);
 }
 
