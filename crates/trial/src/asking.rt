@@ -177,7 +177,7 @@ fn root<'a>(
     writing::mod_answer(reads::get_mod(chart, beside, rule, text, h, ws, ks, t));
 }
 
-pub fn call<'a>(
+pub(crate) fn call<'a>(
     op: u32,
     chart: &[u32],
     beside: Beside,

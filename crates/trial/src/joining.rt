@@ -95,7 +95,7 @@ fn impls<'a>(
     writing::bool_answer(unifies::approx_eq(chart, beside, rule, text, h, ws, ks, p, xs, q, ys));
 }
 
-pub fn call<'a>(
+pub(crate) fn call<'a>(
     op: u32,
     chart: &[u32],
     beside: Beside,

@@ -41,15 +41,15 @@ const BYTES: usize = 4096;
 const NUMBERS: usize = 32_768;
 
 // What is lent: where the chart's records stand among the numbers, what stands beside them, and how many bytes and words of each buffer.
-pub struct Lent {
-    pub chart_at: usize,
-    pub chart_len: usize,
-    pub beside: Beside,
-    pub rule: usize,
-    pub text: usize,
-    pub head: usize,
-    pub nodes: usize,
-    pub kids: usize,
+struct Lent {
+    chart_at: usize,
+    chart_len: usize,
+    beside: Beside,
+    rule: usize,
+    text: usize,
+    head: usize,
+    nodes: usize,
+    kids: usize,
 }
 
 fn nothing_lent() -> Lent {
@@ -70,23 +70,23 @@ fn nothing_lent() -> Lent {
 }
 
 // Number i, or 0.
-pub fn word(s: &[u32], i: usize) -> u32 {
+pub(crate) fn word(s: &[u32], i: usize) -> u32 {
     if i < s.len() { s[i] } else { 0 }
 }
 
 // The numbers from a on.
-pub fn after(s: &[u32], a: usize) -> &[u32] {
+pub(crate) fn after(s: &[u32], a: usize) -> &[u32] {
     if a < s.len() { &s[a..] } else { &s[..0] }
 }
 
 // The first n numbers, or all.
-pub fn first(s: &[u32], n: usize) -> &[u32] {
+pub(crate) fn first(s: &[u32], n: usize) -> &[u32] {
     let m = upto(s, n);
     &s[..m]
 }
 
 // How many of n words there are; of n bytes below.
-pub fn upto(s: &[u32], n: usize) -> usize
+pub(crate) fn upto(s: &[u32], n: usize) -> usize
     ensures { λ r. ⌜ Counts r (now (s .entry)) ⌝ }
 {
     if n < s.len() { n } else { s.len() }
@@ -99,7 +99,7 @@ fn bytes_upto(s: &[u8], n: usize) -> usize
 }
 
 // The numbers as bytes, and how many.
-pub fn to_bytes(s: &[u32], out: &mut [u8]) -> usize
+pub(crate) fn to_bytes(s: &[u32], out: &mut [u8]) -> usize
     ensures { λ r. ⌜ Counts r (now (out .exit)) ⌝ }
 {
     let n = bytes_upto(out, s.len());

@@ -218,7 +218,7 @@ fn plain<'a>(
     finish_where(chart, beside, rule, text, h, ws, ks, a);
 }
 
-pub fn call<'a>(
+pub(crate) fn call<'a>(
     op: u32,
     chart: &[u32],
     beside: Beside,

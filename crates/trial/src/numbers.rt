@@ -79,7 +79,7 @@ fn step(out: &mut [u32], s: Seen, b: u8) -> Seen {
 }
 
 // The numbers of the text, and how many they are. The text ends with a newline.
-pub fn numbers(text: &[u8], out: &mut [u32]) -> usize {
+pub(crate) fn numbers(text: &[u8], out: &mut [u32]) -> usize {
     let mut s = Seen {
         count: 0,
         value: 0,

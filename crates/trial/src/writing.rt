@@ -23,7 +23,7 @@ use walk::Mod;
 
 const OUT: i32 = 1;
 
-pub fn say(text: &[u8]) {
+pub(crate) fn say(text: &[u8]) {
     io::write_all(OUT, text);
 }
 
@@ -32,12 +32,12 @@ fn no_kind() {
     say(b"known 14 0 0 0");
 }
 
-pub fn number(n: u32) {
+pub(crate) fn number(n: u32) {
     io::print_decimal(OUT, n as u64);
 }
 
 // Numbers on a line of their own.
-pub fn words(s: &[u32]) {
+pub(crate) fn words(s: &[u32]) {
     let mut i = 0;
     while i < s.len() {
         number(s[i]);
@@ -47,7 +47,7 @@ pub fn words(s: &[u32]) {
     line();
 }
 
-pub fn line() {
+pub(crate) fn line() {
     say(b"\n");
 }
 
@@ -57,7 +57,7 @@ fn inverse(i: Inverted) {
     }
 }
 
-pub fn typ(t: Type) {
+pub(crate) fn typ(t: Type) {
     inverse(t.inv());
     number(t.idx().0);
 }
@@ -70,20 +70,20 @@ fn flag(b: bool) {
     }
 }
 
-pub fn refused(n: u32) {
+pub(crate) fn refused(n: u32) {
     say(b"refused ");
     number(n);
     line();
 }
 
-pub fn done(a: DoneAnswer) {
+pub(crate) fn done(a: DoneAnswer) {
     match a {
         DoneAnswer::Done => say(b"done\n"),
         DoneAnswer::Refused(n) => refused(n),
     }
 }
 
-pub fn type_answer(a: TypeAnswer) {
+pub(crate) fn type_answer(a: TypeAnswer) {
     match a {
         TypeAnswer::Is(t) => {
             say(b"=");
@@ -94,7 +94,7 @@ pub fn type_answer(a: TypeAnswer) {
     }
 }
 
-pub fn bool_answer(a: BoolAnswer) {
+pub(crate) fn bool_answer(a: BoolAnswer) {
     match a {
         BoolAnswer::Is(b) => {
             flag(b);
@@ -112,14 +112,14 @@ fn result(r: UnifyResult) {
     }
 }
 
-pub fn unify_answer(a: UnifyAnswer) {
+pub(crate) fn unify_answer(a: UnifyAnswer) {
     match a {
         UnifyAnswer::Is(r) => result(r),
         UnifyAnswer::Refused(n) => refused(n),
     }
 }
 
-pub fn mod_answer(a: ModAnswer) {
+pub(crate) fn mod_answer(a: ModAnswer) {
     match a {
         ModAnswer::Is(m) => match m {
             Mod::Nothing => say(b"none\n"),
@@ -134,7 +134,7 @@ pub fn mod_answer(a: ModAnswer) {
     }
 }
 
-pub fn child_answer(a: ChildAnswer) {
+pub(crate) fn child_answer(a: ChildAnswer) {
     match a {
         ChildAnswer::Is(t) => {
             typ(t);
@@ -152,7 +152,7 @@ fn name<'a>(n: Name, rule: &'a [u8], text: &'a [u8]) {
     say(b"|");
 }
 
-pub fn name_answer<'a>(a: NameAnswer, rule: &'a [u8], text: &'a [u8]) {
+pub(crate) fn name_answer<'a>(a: NameAnswer, rule: &'a [u8], text: &'a [u8]) {
     match a {
         NameAnswer::Is(n) => {
             name(n, rule, text);
@@ -238,14 +238,14 @@ fn node<'a>(ks: &[u32], v: TypeNode, rule: &'a [u8], text: &'a [u8]) {
     line();
 }
 
-pub fn node_answer<'a>(a: NodeAnswer, ks: &[u32], rule: &'a [u8], text: &'a [u8]) {
+pub(crate) fn node_answer<'a>(a: NodeAnswer, ks: &[u32], rule: &'a [u8], text: &'a [u8]) {
     match a {
         NodeAnswer::Is(v) => node(ks, v, rule, text),
         NodeAnswer::Refused(n) => refused(n),
     }
 }
 
-pub fn forced_answer<'a>(a: ForcedAnswer, ks: &[u32], rule: &'a [u8], text: &'a [u8]) {
+pub(crate) fn forced_answer<'a>(a: ForcedAnswer, ks: &[u32], rule: &'a [u8], text: &'a [u8]) {
     match a {
         ForcedAnswer::Is(f) => {
             match f {
@@ -295,7 +295,7 @@ fn header(x: Header) {
     line();
 }
 
-pub fn figures_answer(a: FiguresAnswer) {
+pub(crate) fn figures_answer(a: FiguresAnswer) {
     match a {
         FiguresAnswer::Is(x) => header(x),
         FiguresAnswer::Refused(n) => refused(n),
