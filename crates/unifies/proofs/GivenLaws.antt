@@ -5,15 +5,15 @@ use mathlib.Core.Path.{_≡_, refl, ap, sym, _∙_}
 use mathlib.Core.Bool.{Bool, true, false, not, _&&_, _||_, false≢true}
 use mathlib.Core.List.{List, [], _∷_, _++_}
 use mathlib.Core.Option.{Option, none}
-use Prim.Native.Nat.{ℕ, _+_, _/_, _%_, _≤_, _<_}
+use Prim.Native.Nat.{ℕ, _+_, _%_, _≤_, _<_}
 use native.Mathlib.Decide.{decLt}
 use native.Mathlib.Omega.{arith}
 use lib.Dec.{eqb, ltb}
 use lib.ListN.{length, length-map, length-append}
 use borrow.Author.Tests.{eq-eqb, ne-eqb, eqb-true, lt-ltb, le-ltb}
-use Rattle.scope.specs.Base.{pick, all, any}
+use Rattle.scope.specs.Base.{all}
 use Rattle.scope.specs.Limits.{MAX-LIST}
-use Rattle.scope.specs.Names.{Texts, Name}
+use Rattle.scope.specs.Names.{Name}
 use Rattle.scope.specs.Chart.{Env}
 use Rattle.scope.specs.Types.{Ty, tyOf}
 use Rattle.scope.specs.Kinds.{CHILD-NAMES, rows, rowOf, objectNamesOk}
@@ -25,8 +25,6 @@ use Rattle.layout.specs.Words.{CHILD-WORDS, slots}
 use Rattle.layout.specs.declared.Kind.{Kind}
 use Rattle.layout.proofs.ChildLaws.{length-slots}
 use Rattle.makeable.proofs.NameLaws.{and-true, and-false, length-names, namesTest, child-names}
-use Rattle.chart.specs.Env.{chartIn}
-use Rattle.names.specs.Place.{texts}
 use Rattle.sound.specs.Tests.{codeOf}
 use Rattle.calls.specs.Promise.{typesIn}
 use Rattle.calls.proofs.Laws.{code-first, code-next}

@@ -5,17 +5,17 @@ use mathlib.Core.Path.{_≡_, refl, ap, sym, _∙_}
 use mathlib.Core.Bool.{Bool, true, false, not, _||_}
 use mathlib.Core.List.{List, [], _∷_, _++_}
 use mathlib.Core.Option.{none}
-use Prim.Native.Nat.{ℕ, _≤_, _<_}
+use Prim.Native.Nat.{ℕ}
 use native.Mathlib.Omega.{arith}
 use lib.ListN.{length}
 use borrow.Author.Tests.{not-false}
 use Rattle.scope.specs.Base.{all, any}
 use Rattle.scope.specs.Names.{Texts}
-use Rattle.scope.specs.Chart.{Env, chartOk}
+use Rattle.scope.specs.Chart.{Env}
 use Rattle.scope.specs.Types.{Ty}
 use Rattle.scope.specs.Nodes.{Node, Store, opened, withNodes}
 use Rattle.scope.specs.Answers.{Answer}
-use Rattle.scope.specs.Unify.{Out, out, unify, unifyTypes, unifyObjects, unifyFnSig, unifyImplType, approxEq, ImplType, Trait, Error, runPlan, implPlan}
+use Rattle.scope.specs.Unify.{Out, unify, unifyTypes, unifyObjects, unifyFnSig, unifyImplType, approxEq, ImplType, Trait, Error, runPlan, implPlan}
 use Rattle.scope.specs.Sound.{Lent, inStore, sound}
 use Rattle.scope.specs.Calls.{Outcome, done, judged, firstBroken, storeOf, lentTests, unified, tooMany, Entries, badEntries, implTypes, implDefined, unifyCall, unifyTypesCall, unifyObjectsCall, unifyImplTypeCall, unifyFnSigCall, approxEqCall}
 use Rattle.scope.proofs.TestLaws.{or-no}
@@ -26,15 +26,15 @@ use Rattle.types.specs.declared.UnifyResult.{UnifyResult}
 use Rattle.names.specs.Place.{texts}
 use Rattle.chart.specs.Env.{envOf, chartAlone}
 use Rattle.chart.specs.declared.Beside.{Beside}
-use Rattle.layout.specs.Words.{nodesMade, childrenMade, nodeRoom, decode, storeIn, clean, lentOf}
-use Rattle.layout.specs.Meaning.{Lies, headerIn}
+use Rattle.layout.specs.Words.{nodesMade, childrenMade, decode, storeIn, clean, lentOf}
+use Rattle.layout.specs.Meaning.{headerIn}
 use Rattle.layout.specs.declared.Header.{Header}
 use Rattle.layout.proofs.Laws.{length-decode}
 use Rattle.layout.proofs.StoreLaws.{clean-nodes, lent-clean}
 use Rattle.make.specs.Holds.{Holds, Became}
 use Rattle.make.proofs.Laws.{store-count, beyond-refl, holds-with, beyond-with}
 use Rattle.sound.specs.Tests.{envIn, codeOf}
-use Rattle.sound.proofs.Laws.{env-ok, env-whole}
+use Rattle.sound.proofs.Laws.{sound-clean, env-ok, env-whole}
 use Rattle.calls.specs.Promise.{value, refusal, Promised}
 use Rattle.calls.proofs.Laws.{code-none, test-passed, tests-passed, lent-chart, lent-sound, lent-clean-words, lent-store, lent-refused, lent-next, lent-passed}
 use Rattle.calls.proofs.CallLaws.{call-back, call-done}
@@ -44,6 +44,21 @@ use Rattle.unify.specs.Leaves.{sigPlan, Leaves}
 use Rattle.unify.proofs.CallerLaws.{given-pair, given-run, given-objects, given-sig, given-impl}
 use Rattle.unifies.specs.Given.{pairTests, listTests, sigTests, objectTests, implsTests, entriesIn, FirstOf}
 use Rattle.unifies.proofs.GivenLaws.{fine-names, fine-count}
+
+-- a sound store is what unifying asks
+pub sound-ready : (e : Env) (h ws ks : List ℕ) {x : Texts} → sound e (lentOf h ws ks) ≡ true → e .texts ≡ x → Ready x ws ks (nodesMade h)
+unfolding storeIn
+sound-ready e h ws ks q t =
+    let words : clean h ws ks ≡ true = sound-clean h ws ks e q in
+    let f : SoundFacts e (storeIn h ws ks) = sound-facts e (storeIn h ws ks) (sym (ap (sound e) (lent-clean h ws ks words)) ∙ q) in
+    record {
+      env = e;
+      lent = t;
+      children = childrenMade h;
+      clean = clean-nodes h ws ks words;
+      small = omega (arith, f .node-limit, f .node-room, store-count h ws ks);
+      sound = f .nodes;
+    }
 
 -- what passed tests say
 
@@ -146,20 +161,9 @@ module _ (chart : List ℕ) (b : Beside) (rule text h ws ks : List ℕ) where
       nodes-made : x .nodes ≡ nodesMade h
       nodes-made = ap (λ (y : Header). y .nodes) g
 
-      facts : SoundFacts env (storeIn h ws ks)
-      facts = sound-facts env (storeIn h ws ks) (sym (ap (sound env) (lent-clean h ws ks words)) ∙ lent-sound env h ws ks none-broken)
-
       -- what unifying asks
       pub lent-ready : Ready (texts rule text) ws ks (x .nodes)
-      unfolding storeIn
-      lent-ready = rw nodes-made (record {
-        env = env;
-        lent = ap (λ (e : Env). e .texts) env-is;
-        children = childrenMade h;
-        clean = clean-nodes h ws ks words;
-        small = omega (arith, facts .node-limit, facts .node-room, store-count h ws ks);
-        sound = facts .nodes;
-      })
+      lent-ready = rw nodes-made (sound-ready env h ws ks (lent-sound env h ws ks none-broken) (ap (λ (e : Env). e .texts) env-is))
 
       module _ {A : Type 0} {o : Env → Lent → Outcome A} {tests : Env → Store → List (Bool × ℕ)} {rest : Env → Store → Outcome A} (p : Form o tests rest) (m : ℕ) (t : FirstOf (x .nodes) (tests whole) m) where
         own-code : firstBroken (lentTests env lent ++ tests env (storeOf lent)) ≡ codeOf m

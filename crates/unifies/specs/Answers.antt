@@ -1,5 +1,4 @@
 -- What the calls reply: unify's answer, or a refusal's number.
-use Prim.Native.Nat.{ℕ}
 use Rattle.scope.specs.Answers.{Answer}
 use Rattle.types.specs.Answers.{answerOf}
 use Rattle.calls.specs.Promise.{Reply, value, refusal}

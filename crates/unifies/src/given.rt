@@ -1,6 +1,6 @@
 // What the calls test of their arguments: 3 over all types of all lists, whatever the lists' widths, then 4, then 5. Any numbers may be lent.
 ghost use mathlib.Core.Path.{_≡_};
-ghost use mathlib.Core.List.{List, [], _∷_};
+ghost use mathlib.Core.List.{List, []};
 ghost use Prim.Native.Nat.{ℕ};
 ghost use lib.ListN.{length};
 ghost use Rattle.scope.specs.Base.{all};

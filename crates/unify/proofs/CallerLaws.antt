@@ -23,7 +23,7 @@ use Rattle.scope.proofs.PairLaws.{Betweens, between-nil, between-pick, run-betw
 use Rattle.types.specs.declared.Inverted.{Inverted}
 use Rattle.layout.specs.Words.{decode}
 use Rattle.layout.proofs.Laws.{length-decode}
-use Rattle.unify.specs.Asks.{Ready, Pair, Inside, Pairs}
+use Rattle.unify.specs.Asks.{Ready, Pair, Pairs}
 use Rattle.unify.specs.Entries.{entryCount, entryNames, entryTypes, Objects}
 use Rattle.unify.specs.Leaves.{sigPlan}
 

@@ -1,4 +1,4 @@
-// What other callers unify: a pair as deep as there are nodes, and lent lists of types. Each is what scope's definition of the same name is.
+// What other callers unify: a pair as deep as there are nodes, and lent lists of types and of entries. Each is what scope's definition of the same name is.
 ghost use mathlib.Core.Path.{_≡_};
 ghost use mathlib.Core.List.{map};
 ghost use Prim.Native.Nat.{_≤_};

@@ -16,7 +16,8 @@ refusal-requires c κs = search needs
 returns : tie.Need-returns
 returns c =
     let a = c .before .before .before .before .before .before .before .before .before .before .args in
-    back-lent (a .chart .now) (a .beside) (a .rule .now) (a .text .now) (a .h .now) (a .ws .now) (a .ks .now) (c .before .refusal .result) (c .before .refusal .ensures)
+    let lent = c .before .refusal in
+    back-lent (a .chart .now) (a .beside) (a .rule .now) (a .text .now) (a .h .now) (a .ws .now) (a .ks .now) (lent .result) (lent .ensures)
     (approx-form (implMeans (a .a) (a .xs .now)) (implMeans (a .b) (a .ys .now))) (c .if1 .taken)
 
 read-header-requires : tie.Need-read-header-requires
@@ -28,9 +29,12 @@ impls-requires c κs = search needs
 returns-2 : tie.Need-returns-2
 returns-2 c =
     let a = c .before .before .before .before .before .before .before .before .before .before .before .before .before .args in
-    back-own (a .chart .now) (a .beside) (a .rule .now) (a .text .now) (a .h .now) (a .ws .now) (a .ks .now) (c .before .before .before .before .refusal .result) (c .before .before .before .before .refusal .ensures)
-    (c .before .before .before .if1 .left) (c .before .before .read-header .result) (c .before .before .read-header .ensures) (approx-form (implMeans (a .a) (a .xs .now)) (implMeans (a .b) (a .ys .now))) (c .before .impls .result)
-    (impls-beside (a .chart .now) (a .beside) (a .rule .now) (a .text .now) (implMeans (a .a) (a .xs .now)) (implMeans (a .b) (a .ys .now)) (c .before .impls .ensures)) (c .if2 .taken)
+    let lent = c .before .before .before .before .refusal in
+    let x = c .before .before .read-header in
+    let own = c .before .impls in
+    back-own (a .chart .now) (a .beside) (a .rule .now) (a .text .now) (a .h .now) (a .ws .now) (a .ks .now) (lent .result) (lent .ensures) (c .before .before .before .if1 .left) (x .result) (x .ensures)
+    (approx-form (implMeans (a .a) (a .xs .now)) (implMeans (a .b) (a .ys .now)))
+    (own .result) (impls-beside (a .chart .now) (a .beside) (a .rule .now) (a .text .now) (implMeans (a .a) (a .xs .now)) (implMeans (a .b) (a .ys .now)) (own .ensures)) (c .if2 .taken)
 
 same-trait-requires : tie.Need-same-trait-requires
 same-trait-requires c κs = search needs
@@ -38,9 +42,12 @@ same-trait-requires c κs = search needs
 returns-3 : tie.Need-returns-3
 returns-3 c =
     let a = c .before .before .before .before .before .before .before .before .before .before .before .before .before .before .args in
-    read-done (a .chart .now) (a .beside) (a .rule .now) (a .text .now) (a .h .now) (a .ws .now) (a .ks .now) (c .before .before .before .before .before .refusal .result) (c .before .before .before .before .before .refusal .ensures)
-    (c .before .before .before .before .if1 .left) (c .before .before .before .read-header .result) (c .before .before .before .read-header .ensures) (approx-form (implMeans (a .a) (a .xs .now)) (implMeans (a .b) (a .ys .now))) (c .before .before .impls .result)
-    (impls-beside (a .chart .now) (a .beside) (a .rule .now) (a .text .now) (implMeans (a .a) (a .xs .now)) (implMeans (a .b) (a .ys .now)) (c .before .before .impls .ensures)) (c .before .if2 .left)
+    let lent = c .before .before .before .before .before .refusal in
+    let x = c .before .before .before .read-header in
+    let own = c .before .before .impls in
+    read-done (a .chart .now) (a .beside) (a .rule .now) (a .text .now) (a .h .now) (a .ws .now) (a .ks .now) (lent .result) (lent .ensures) (c .before .before .before .before .if1 .left) (x .result) (x .ensures)
+    (approx-form (implMeans (a .a) (a .xs .now)) (implMeans (a .b) (a .ys .now)))
+    (own .result) (impls-beside (a .chart .now) (a .beside) (a .rule .now) (a .text .now) (implMeans (a .a) (a .xs .now)) (implMeans (a .b) (a .ys .now)) (own .ensures)) (c .before .if2 .left)
     (ap (λ (t : Bool). done t (storeIn (a .h .now) (a .ws .now) (a .ks .now))) (sym (c .same-trait .ensures (a .xs .now) (a .ys .now))))
 
 pub approx-eq-spec : {M : Type 1} → statement M

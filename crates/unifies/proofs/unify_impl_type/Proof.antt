@@ -17,7 +17,8 @@ same-length c = search needs
 returns : tie.Need-returns
 returns c =
     let a = c .before .before .before .before .before .before .before .before .before .before .before .args in
-    back-lent (a .chart .now) (a .beside) (a .rule .now) (a .text .now) (a .h .now) (a .ws .now) (a .ks .now) (c .before .refusal .result) (c .before .refusal .ensures)
+    let lent = c .before .refusal in
+    back-lent (a .chart .now) (a .beside) (a .rule .now) (a .text .now) (a .h .now) (a .ws .now) (a .ks .now) (lent .result) (lent .ensures)
     (impls-form (implMeans (a .a) (a .xs .now)) (implMeans (a .b) (a .ys .now))) (c .if1 .taken)
 
 read-header-requires : tie.Need-read-header-requires
@@ -32,14 +33,22 @@ same-length-2 c = search needs
 returns-2 : tie.Need-returns-2
 returns-2 c =
     let a = c .before .before .before .before .before .before .before .before .before .before .before .before .before .before .args in
-    back-own (a .chart .now) (a .beside) (a .rule .now) (a .text .now) (a .h .now) (a .ws .now) (a .ks .now) (c .before .before .before .before .refusal .result) (c .before .before .before .before .refusal .ensures)
-    (c .before .before .before .if1 .left) (c .before .before .read-header .result) (c .before .before .read-header .ensures) (impls-form (implMeans (a .a) (a .xs .now)) (implMeans (a .b) (a .ys .now))) (c .before .impls .result) (impls-beside (a .chart .now) (a .beside) (a .rule .now) (a .text .now) (implMeans (a .a) (a .xs .now)) (implMeans (a .b) (a .ys .now)) (c .before .impls .ensures)) (c .if2 .taken)
+    let lent = c .before .before .before .before .refusal in
+    let x = c .before .before .read-header in
+    let own = c .before .impls in
+    back-own (a .chart .now) (a .beside) (a .rule .now) (a .text .now) (a .h .now) (a .ws .now) (a .ks .now) (lent .result) (lent .ensures) (c .before .before .before .if1 .left) (x .result) (x .ensures)
+    (impls-form (implMeans (a .a) (a .xs .now)) (implMeans (a .b) (a .ys .now)))
+    (own .result) (impls-beside (a .chart .now) (a .beside) (a .rule .now) (a .text .now) (implMeans (a .a) (a .xs .now)) (implMeans (a .b) (a .ys .now)) (own .ensures)) (c .if2 .taken)
 
 unify-impl-type-requires : tie.Need-unify-impl-type-requires
 unify-impl-type-requires c κs =
     let a = c .before .before .before .before .before .before .before .before .before .before .before .before .before .before .before .args in
-    impls-ask (lent-ready (a .chart .now) (a .beside) (a .rule .now) (a .text .now) (a .h .now) (a .ws .now) (a .ks .now) (c .before .before .before .before .before .refusal .result) (c .before .before .before .before .before .refusal .ensures)
-    (c .before .before .before .before .if1 .left) (c .before .before .before .read-header .result) (c .before .before .before .read-header .ensures)) (c .before .if2 .left) (chartAlone (a .chart .now)) (implMeans (a .a) (a .xs .now)) (implMeans (a .b) (a .ys .now)) (c .before .before .impls .ensures)
+    let lent = c .before .before .before .before .before .refusal in
+    let x = c .before .before .before .read-header in
+    let own = c .before .before .impls in
+    impls-ask
+    (lent-ready (a .chart .now) (a .beside) (a .rule .now) (a .text .now) (a .h .now) (a .ws .now) (a .ks .now) (lent .result) (lent .ensures) (c .before .before .before .before .if1 .left) (x .result) (x .ensures))
+    (c .before .if2 .left) (chartAlone (a .chart .now)) (implMeans (a .a) (a .xs .now)) (implMeans (a .b) (a .ys .now)) (own .ensures)
 
 same-length-3 : tie.Need-same-length-3
 same-length-3 c = search needs
@@ -47,9 +56,14 @@ same-length-3 c = search needs
 returns-3 : tie.Need-returns-3
 returns-3 c =
     let a = c .before .before .before .before .before .before .before .before .before .before .before .before .before .before .before .before .before .before .args in
-    unify-done (a .chart .now) (a .beside) (a .rule .now) (a .text .now) (a .h .now) (a .ws .now) (a .ks .now) (c .before .before .before .before .before .before .before .before .refusal .result) (c .before .before .before .before .before .before .before .before .refusal .ensures)
-    (c .before .before .before .before .before .before .before .if1 .left) (c .before .before .before .before .before .before .read-header .result) (c .before .before .before .before .before .before .read-header .ensures) (λ x ns. unifyImplType x ns (implMeans (a .a) (a .xs .now)) (implMeans (a .b) (a .ys .now)))
-    (impls-form (implMeans (a .a) (a .xs .now)) (implMeans (a .b) (a .ys .now))) (c .before .before .before .before .before .impls .result) (impls-beside (a .chart .now) (a .beside) (a .rule .now) (a .text .now) (implMeans (a .a) (a .xs .now)) (implMeans (a .b) (a .ys .now)) (c .before .before .before .before .before .impls .ensures)) (c .before .before .before .before .if2 .left) (c .before .before .unify-impl-type .kept .0) (c .before .before .unify-impl-type .ensures)
+    let lent = c .before .before .before .before .before .before .before .before .refusal in
+    let x = c .before .before .before .before .before .before .read-header in
+    let own = c .before .before .before .before .before .impls in
+    unify-done (a .chart .now) (a .beside) (a .rule .now) (a .text .now) (a .h .now) (a .ws .now) (a .ks .now) (lent .result) (lent .ensures) (c .before .before .before .before .before .before .before .if1 .left) (x .result) (x .ensures)
+    (λ y ns. unifyImplType y ns (implMeans (a .a) (a .xs .now)) (implMeans (a .b) (a .ys .now)))
+    (impls-form (implMeans (a .a) (a .xs .now)) (implMeans (a .b) (a .ys .now)))
+    (own .result) (impls-beside (a .chart .now) (a .beside) (a .rule .now) (a .text .now) (implMeans (a .a) (a .xs .now)) (implMeans (a .b) (a .ys .now)) (own .ensures)) (c .before .before .before .before .if2 .left)
+    (c .before .before .unify-impl-type .kept .0) (c .before .before .unify-impl-type .ensures)
 
 pub unify-impl-type-spec : {M : Type 1} → statement M
 unify-impl-type-spec =

@@ -18,7 +18,8 @@ same-length c = search needs
 returns : tie.Need-returns
 returns c =
     let a = c .before .before .before .before .before .before .before .before .before .before .before .args in
-    back-lent (a .chart .now) (a .beside) (a .rule .now) (a .text .now) (a .h .now) (a .ws .now) (a .ks .now) (c .before .refusal .result) (c .before .refusal .ensures)
+    let lent = c .before .refusal in
+    back-lent (a .chart .now) (a .beside) (a .rule .now) (a .text .now) (a .h .now) (a .ws .now) (a .ks .now) (lent .result) (lent .ensures)
     (objects-form (entriesIn (a .xs .now)) (entriesIn (a .ys .now)) (a .inv .0)) (c .if1 .taken)
 
 read-header-requires : tie.Need-read-header-requires
@@ -33,14 +34,21 @@ same-length-2 c = search needs
 returns-2 : tie.Need-returns-2
 returns-2 c =
     let a = c .before .before .before .before .before .before .before .before .before .before .before .before .before .before .args in
-    back-own (a .chart .now) (a .beside) (a .rule .now) (a .text .now) (a .h .now) (a .ws .now) (a .ks .now) (c .before .before .before .before .refusal .result) (c .before .before .before .before .refusal .ensures)
-    (c .before .before .before .if1 .left) (c .before .before .read-header .result) (c .before .before .read-header .ensures) (objects-form (entriesIn (a .xs .now)) (entriesIn (a .ys .now)) (a .inv .0)) (c .before .objects .result) (c .before .objects .ensures) (c .if2 .taken)
+    let lent = c .before .before .before .before .refusal in
+    let x = c .before .before .read-header in
+    let own = c .before .objects in
+    back-own (a .chart .now) (a .beside) (a .rule .now) (a .text .now) (a .h .now) (a .ws .now) (a .ks .now) (lent .result) (lent .ensures) (c .before .before .before .if1 .left) (x .result) (x .ensures)
+    (objects-form (entriesIn (a .xs .now)) (entriesIn (a .ys .now)) (a .inv .0)) (own .result) (own .ensures) (c .if2 .taken)
 
 unify-entries-requires : tie.Need-unify-entries-requires
 unify-entries-requires c κs =
     let a = c .before .before .before .before .before .before .before .before .before .before .before .before .before .before .before .args in
-    objects-ask (lent-ready (a .chart .now) (a .beside) (a .rule .now) (a .text .now) (a .h .now) (a .ws .now) (a .ks .now) (c .before .before .before .before .before .refusal .result) (c .before .before .before .before .before .refusal .ensures)
-    (c .before .before .before .before .if1 .left) (c .before .before .before .read-header .result) (c .before .before .before .read-header .ensures)) (c .before .if2 .left) (chartIn [] (a .rule .now) (a .text .now)) (a .xs .now) (a .ys .now) (c .before .before .objects .ensures) (a .inv)
+    let lent = c .before .before .before .before .before .refusal in
+    let x = c .before .before .before .read-header in
+    let own = c .before .before .objects in
+    objects-ask
+    (lent-ready (a .chart .now) (a .beside) (a .rule .now) (a .text .now) (a .h .now) (a .ws .now) (a .ks .now) (lent .result) (lent .ensures) (c .before .before .before .before .if1 .left) (x .result) (x .ensures))
+    (c .before .if2 .left) (chartIn [] (a .rule .now) (a .text .now)) (a .xs .now) (a .ys .now) (own .ensures) (a .inv)
 
 same-length-3 : tie.Need-same-length-3
 same-length-3 c = search needs
@@ -48,10 +56,15 @@ same-length-3 c = search needs
 returns-3 : tie.Need-returns-3
 returns-3 c =
     let a = c .before .before .before .before .before .before .before .before .before .before .before .before .before .before .before .before .before .before .args in
-    unify-done (a .chart .now) (a .beside) (a .rule .now) (a .text .now) (a .h .now) (a .ws .now) (a .ks .now) (c .before .before .before .before .before .before .before .before .refusal .result) (c .before .before .before .before .before .before .before .before .refusal .ensures)
-    (c .before .before .before .before .before .before .before .if1 .left) (c .before .before .before .before .before .before .read-header .result) (c .before .before .before .before .before .before .read-header .ensures) (λ x ns. unifyObjects x ns ((entriesIn (a .xs .now)) .names) ((entriesIn (a .xs .now)) .types) ((entriesIn (a .ys .now)) .names) ((entriesIn (a .ys .now)) .types) (a .inv .0))
-    (objects-form (entriesIn (a .xs .now)) (entriesIn (a .ys .now)) (a .inv .0)) (c .before .before .before .before .before .objects .result) (c .before .before .before .before .before .objects .ensures) (c .before .before .before .before .if2 .left) (c .before .before .unify-entries .kept .0) (objects-leave (lent-ready (a .chart .now) (a .beside) (a .rule .now) (a .text .now) (a .h .now) (a .ws .now) (a .ks .now) (c .before .before .before .before .before .before .before .before .refusal .result) (c .before .before .before .before .before .before .before .before .refusal .ensures)
-    (c .before .before .before .before .before .before .before .if1 .left) (c .before .before .before .before .before .before .read-header .result) (c .before .before .before .before .before .before .read-header .ensures)) (c .before .before .before .before .if2 .left) (chartIn [] (a .rule .now) (a .text .now)) (a .xs .now) (a .ys .now) (c .before .before .before .before .before .objects .ensures) (a .inv .0) (c .before .before .unify-entries .ensures))
+    let lent = c .before .before .before .before .before .before .before .before .refusal in
+    let x = c .before .before .before .before .before .before .read-header in
+    let own = c .before .before .before .before .before .objects in
+    unify-done (a .chart .now) (a .beside) (a .rule .now) (a .text .now) (a .h .now) (a .ws .now) (a .ks .now) (lent .result) (lent .ensures) (c .before .before .before .before .before .before .before .if1 .left) (x .result) (x .ensures)
+    (λ y ns. let b = entriesIn (a .xs .now) in let d = entriesIn (a .ys .now) in unifyObjects y ns (b .names) (b .types) (d .names) (d .types) (a .inv .0))
+    (objects-form (entriesIn (a .xs .now)) (entriesIn (a .ys .now)) (a .inv .0)) (own .result) (own .ensures) (c .before .before .before .before .if2 .left)
+    (c .before .before .unify-entries .kept .0) (objects-leave
+    (lent-ready (a .chart .now) (a .beside) (a .rule .now) (a .text .now) (a .h .now) (a .ws .now) (a .ks .now) (lent .result) (lent .ensures) (c .before .before .before .before .before .before .before .if1 .left) (x .result) (x .ensures))
+    (c .before .before .before .before .if2 .left) (chartIn [] (a .rule .now) (a .text .now)) (a .xs .now) (a .ys .now) (own .ensures) (a .inv .0) (c .before .before .unify-entries .ensures))
 
 pub unify-objects-spec : {M : Type 1} → statement M
 unify-objects-spec =

@@ -1,6 +1,6 @@
 -- `unifies::given::wide` meets its contract: a list has as many types as words.
 -- Assumes nothing.
-use mathlib.Core.Path.{sym, _∙_}
+use mathlib.Core.Path.{sym}
 use Rattle.unifies.proofs.GivenLaws.{list-wide}
 use Rattle.unifies.proofs.given.wide.Statement.{statement}
 use Rattle.unifies.proofs.given.wide.Tie as tie
