@@ -34,7 +34,8 @@ fn line(what: &str, size: usize, nanoseconds: f64, ratio: Option<f64>) {
   println!("{what}, {size}, {nanoseconds:.1}, {ratio}");
 }
 
-/// The least time of `work` over many turns, each on a fresh copy. Whatever else runs on the machine only adds.
+/// The least time of `work` over many turns, each on a fresh copy. Whatever else runs on the machine
+/// only adds.
 fn least<T>(mut fresh: impl FnMut() -> T, mut work: impl FnMut(&mut T)) -> f64 {
   let begun = Instant::now();
   let mut least = Duration::MAX;
@@ -118,9 +119,11 @@ fn opening() {
 /// A shape's time a pair, of all `count` pairs that are met on the way down. Each answers Success.
 fn unifying<S: Side>(shape: fn(&mut S) -> Vec<Pair>, count: usize) -> f64 {
   let mut full = S::opened(4096);
-  let pairs = shape(&mut full);
+  let mut pairs = shape(&mut full);
+  let each = count / pairs.len();
+  pairs.truncate(S::AT_ONCE);
   let work = |side: &mut S| pairs.iter().for_each(|&(a, b)| assert_eq!(side.unify(a, b), 0));
-  least(|| full.clone(), work) / count as f64
+  least(|| full.clone(), work) / (each * pairs.len()) as f64
 }
 
 macro_rules! unify {

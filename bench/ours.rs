@@ -1,4 +1,5 @@
-//! crates/bench, as it is linked, over a store in three vectors. A slice is lent as a pointer and a length.
+//! crates/bench, as it is linked, over a store in three vectors. A slice is lent as a pointer and a
+//! length.
 
 use crate::shapes::{KIDS, Maker, NAMES, Side, VARS, name};
 
@@ -181,6 +182,8 @@ impl<const PUBLIC: bool> Ours<PUBLIC> {
 }
 
 impl<const PUBLIC: bool> Side for Ours<PUBLIC> {
+  const AT_ONCE: usize = if PUBLIC { 32 } else { 2048 };
+
   fn opened(nodes: usize) -> Self {
     let rule = (0..NAMES).flat_map(|i| name(i).into_bytes()).collect();
     let mut side = Ours { rule, h: vec![0; 8], ws: vec![0; 12 * nodes], ks: vec![0; 16 * nodes] };
