@@ -34,7 +34,8 @@ fn line(what: &str, size: usize, nanoseconds: f64, ratio: Option<f64>) {
   println!("{what}, {size}, {nanoseconds:.1}, {ratio}");
 }
 
-/// The least time of `work` over many turns, each on a fresh copy. Whatever else runs on the machine only adds.
+/// The least time of `work` over many turns, each on a fresh copy. Whatever else runs on the machine
+/// only adds.
 fn least<T>(mut fresh: impl FnMut() -> T, mut work: impl FnMut(&mut T)) -> f64 {
   let begun = Instant::now();
   let mut least = Duration::MAX;
@@ -61,12 +62,16 @@ fn soundness() {
   const CALLS: usize = 20;
   let mut before = None;
   for size in SIZES {
-    let full: Core = filled(size, size);
-    let time = least(|| (), |()| (0..CALLS).for_each(|_| assert_eq!(full.refusal(), 0))) / CALLS as f64;
+    let mut full: Core = filled(size, size);
+    let time =
+      least(|| (), |()| (0..CALLS).for_each(|_| assert_eq!(full.refusal(), 0))) / CALLS as f64;
     line("soundness test", size, time, None);
     if let Some(before) = before {
       let grew: f64 = time / before;
-      println!("  {grew:.1} times the time for eight times the store: {}", if grew <= 10.0 { "linear" } else { "NOT linear" });
+      println!(
+        "  {grew:.1} times the time for eight times the store: {}",
+        if grew <= 10.0 { "linear" } else { "NOT linear" }
+      );
     }
     before = Some(time);
   }
@@ -86,15 +91,18 @@ fn makers() {
       if maker.has_core() {
         let time = making::<Core>(size, maker);
         core.push(time);
-        line(&format!("{name}, core"), size, time, Some(time / rust));
+        line(&format!("{name} core"), size, time, Some(time / rust));
       }
       let time = making::<Public>(size, maker);
-      line(&format!("{name}, public"), size, time, Some(time / rust));
-      line(&format!("{name}, Rust"), size, rust, Some(1.0));
+      line(&format!("{name} public"), size, time, Some(time / rust));
+      line(&format!("{name} Rust"), size, rust, Some(1.0));
     }
     if let [small, .., large] = core[..] {
       let grew = large / small;
-      println!("  {grew:.1} times the time at 64 times the store: {}", if grew <= 2.0 { "flat" } else { "NOT flat" });
+      println!(
+        "  {grew:.1} times the time at 64 times the store: {}",
+        if grew <= 2.0 { "flat" } else { "NOT flat" }
+      );
     }
   }
 }
@@ -102,28 +110,30 @@ fn makers() {
 fn opening() {
   for size in SIZES {
     let core = least(|| Core::opened(size), |side| side.open());
-    line("open, core", size, core, None);
+    line("open core", size, core, None);
     let public = least(|| Public::opened(size), |side| side.open());
-    line("open, public", size, public, None);
+    line("open public", size, public, None);
   }
 }
 
-/// A shape's time a pair: each pair of the shape is unified with Success on a copy of its store.
-fn unifying<S: Side>(shape: fn(&mut S) -> Vec<Pair>, nodes: usize) -> f64 {
+/// A shape's time a pair, of all `count` pairs that are met on the way down. Each answers Success.
+fn unifying<S: Side>(shape: fn(&mut S) -> Vec<Pair>, count: usize) -> f64 {
   let mut full = S::opened(4096);
-  let pairs = shape(&mut full);
+  let mut pairs = shape(&mut full);
+  let each = count / pairs.len();
+  pairs.truncate(S::AT_ONCE);
   let work = |side: &mut S| pairs.iter().for_each(|&(a, b)| assert_eq!(side.unify(a, b), 0));
-  least(|| full.clone(), work) / nodes as f64
+  least(|| full.clone(), work) / (each * pairs.len()) as f64
 }
 
 macro_rules! unify {
-  ($what:literal, $shape:path, $pairs:expr) => {
-    let rust = unifying::<Vine>($shape, $pairs);
-    let core = unifying::<Core>($shape, $pairs);
-    line(concat!("unify ", $what, ", core"), 4096, core, Some(core / rust));
-    let public = unifying::<Public>($shape, $pairs);
-    line(concat!("unify ", $what, ", public"), 4096, public, Some(public / rust));
-    line(concat!("unify ", $what, ", Rust"), 4096, rust, Some(1.0));
+  ($what:literal, $shape:path, $count:expr) => {
+    let rust = unifying::<Vine>($shape, $count);
+    let core = unifying::<Core>($shape, $count);
+    line(concat!("unify ", $what, " core"), 4096, core, Some(core / rust));
+    let public = unifying::<Public>($shape, $count);
+    line(concat!("unify ", $what, " public"), 4096, public, Some(public / rust));
+    line(concat!("unify ", $what, " Rust"), 4096, rust, Some(1.0));
   };
 }
 
@@ -133,9 +143,9 @@ fn unify() {
   unify!("wide tuples", shapes::tuples, shapes::TUPLES * shapes::WIDTH);
   unify!("objects of 64 names", shapes::objects, shapes::OBJECTS * shapes::NAMES);
   let time = unifying::<Core>(shapes::doublings, 1);
-  line("unify a variable and 120 doublings, core", 122, time, None);
+  line("unify a variable and 120 doublings core", 122, time, None);
   let time = unifying::<Public>(shapes::doublings, 1);
-  line("unify a variable and 120 doublings, public", 122, time, None);
+  line("unify a variable and 120 doublings public", 122, time, None);
 }
 
 fn main() {
@@ -143,7 +153,7 @@ fn main() {
   if let [_, chain, bytes] = &words[..] {
     return stack::descend(chain, bytes.parse().expect("not a number"));
   }
-  println!("what, nodes, nanoseconds a call (unify: a pair), ratio to the Rust");
+  println!("what, nodes of store, nanoseconds a call (unify: a pair), ratio to the Rust");
   soundness();
   makers();
   opening();

@@ -1,4 +1,5 @@
-//! crates/bench, as it is linked, over a store in three vectors. A slice is lent as a pointer and a length.
+//! crates/bench, as it is linked, over a store in three vectors. A slice is lent as a pointer and a
+//! length.
 
 use crate::shapes::{KIDS, Maker, NAMES, Side, VARS, name};
 
@@ -7,7 +8,8 @@ type B = *const u8;
 type M = *mut u32;
 type N = usize;
 
-// The public calls take the chart, the rule text, the chart text, then the store's header, nodes and children; the core's take the last three.
+// A public call takes the chart, the rule text, the chart text, then the store's header, nodes and
+// children; the core takes the last three.
 #[rustfmt::skip]
 unsafe extern "C" {
   fn faroalder_refusal(_: P, _: N, _: B, _: N, _: B, _: N, h: P, _: N, ws: P, _: N, ks: P, _: N) -> u32;
@@ -62,8 +64,9 @@ macro_rules! public {
   ($s:expr, $f:ident $(, $more:expr)*) => {
     unsafe {
       $f(
-        CHART.as_ptr(), CHART.len(), $s.rule.as_ptr(), $s.rule.len(), CHART_TEXT.as_ptr(), CHART_TEXT.len(),
-        $s.h.as_mut_ptr(), $s.h.len(), $s.ws.as_mut_ptr(), $s.ws.len(), $s.ks.as_mut_ptr(), $s.ks.len() $(, $more)*
+        CHART.as_ptr(), CHART.len(), $s.rule.as_ptr(), $s.rule.len(),
+        CHART_TEXT.as_ptr(), CHART_TEXT.len(), $s.h.as_mut_ptr(), $s.h.len(),
+        $s.ws.as_mut_ptr(), $s.ws.len(), $s.ks.as_mut_ptr(), $s.ks.len() $(, $more)*
       )
     }
   };
@@ -71,7 +74,12 @@ macro_rules! public {
 
 macro_rules! core {
   ($s:expr, $f:ident $(, $more:expr)*) => {
-    unsafe { $f($s.h.as_mut_ptr(), $s.h.len(), $s.ws.as_mut_ptr(), $s.ws.len(), $s.ks.as_mut_ptr(), $s.ks.len() $(, $more)*) }
+    unsafe {
+      $f(
+        $s.h.as_mut_ptr(), $s.h.len(), $s.ws.as_mut_ptr(), $s.ws.len(),
+        $s.ks.as_mut_ptr(), $s.ks.len() $(, $more)*
+      )
+    }
   };
 }
 
@@ -92,13 +100,8 @@ fn fields(kids: &[u32]) -> Vec<u32> {
 
 impl<const PUBLIC: bool> Ours<PUBLIC> {
   /// 0 for a store that passes the soundness test.
-  pub fn refusal(&self) -> u32 {
-    unsafe {
-      faroalder_refusal(
-        CHART.as_ptr(), CHART.len(), self.rule.as_ptr(), self.rule.len(), CHART_TEXT.as_ptr(), CHART_TEXT.len(),
-        self.h.as_ptr(), self.h.len(), self.ws.as_ptr(), self.ws.len(), self.ks.as_ptr(), self.ks.len(),
-      )
-    }
+  pub fn refusal(&mut self) -> u32 {
+    public!(self, faroalder_refusal)
   }
 
   /// Opens the store anew.
@@ -120,29 +123,48 @@ impl<const PUBLIC: bool> Ours<PUBLIC> {
     let Ours { rule, h, ws, ks } = self;
     unsafe {
       faroalder_direct_unify(
-        ws.as_mut_ptr(), ws.len(), ks.as_ptr(), ks.len(), h[0],
-        rule.as_ptr(), rule.len(), CHART_TEXT.as_ptr(), CHART_TEXT.len(), a, b,
+        ws.as_mut_ptr(),
+        ws.len(),
+        ks.as_ptr(),
+        ks.len(),
+        h[0],
+        rule.as_ptr(),
+        rule.len(),
+        CHART_TEXT.as_ptr(),
+        CHART_TEXT.len(),
+        a,
+        b,
       )
     }
   }
 
   fn makes_public(&mut self, maker: Maker) {
-    let lent = entries(&KIDS);
+    let lent = KIDS.map(|kid| [kid, 0, 0, 0]);
+    let lent = lent.as_flattened();
     let mut out = [0; VARS];
     let turns = maker.calls();
     match maker {
       Maker::Var => repeat(turns, || public!(self, faroalder_new_var, SPAN)),
-      Maker::Vars => repeat(turns, || public!(self, faroalder_new_vars, SPAN, VARS as u32, out.as_mut_ptr(), VARS)),
-      Maker::Tuple => repeat(turns, || public!(self, faroalder_new, TUPLE, 0, lent.as_ptr(), lent.len())),
-      Maker::Struct => repeat(turns, || public!(self, faroalder_new_struct, STRUCT_RECORD, KIDS.as_ptr(), KIDS.len())),
-      Maker::Union => repeat(turns, || public!(self, faroalder_new_union, UNION_RECORD, KIDS.as_ptr(), KIDS.len())),
+      Maker::Vars => repeat(turns, || {
+        public!(self, faroalder_new_vars, SPAN, VARS as u32, out.as_mut_ptr(), VARS)
+      }),
+      Maker::Tuple => {
+        repeat(turns, || public!(self, faroalder_new, TUPLE, 0, lent.as_ptr(), lent.len()))
+      }
+      Maker::Struct => repeat(turns, || {
+        public!(self, faroalder_new_struct, STRUCT_RECORD, KIDS.as_ptr(), KIDS.len())
+      }),
+      Maker::Union => repeat(turns, || {
+        public!(self, faroalder_new_union, UNION_RECORD, KIDS.as_ptr(), KIDS.len())
+      }),
       Maker::Error => repeat(turns, || public!(self, faroalder_error)),
       Maker::Nil => repeat(turns, || public!(self, faroalder_nil)),
     }
   }
 
   fn makes_core(&mut self, maker: Maker) {
-    let lent = entries(&KIDS);
+    let lent = KIDS.map(|kid| [kid, 0, 0, 0]);
+    let lent = lent.as_flattened();
     let mut out = [0; VARS];
     let turns = maker.calls();
     match maker {
@@ -151,7 +173,7 @@ impl<const PUBLIC: bool> Ours<PUBLIC> {
         core!(self, faroalder_direct_new_vars, SPAN, VARS as u32, out.as_mut_ptr(), VARS);
         0
       }),
-      Maker::Tuple => repeat(turns, || self.kind(TUPLE, &lent) as u64),
+      Maker::Tuple => repeat(turns, || self.kind(TUPLE, lent) as u64),
       Maker::Error => repeat(turns, || core!(self, faroalder_direct_error) as u64),
       Maker::Nil => repeat(turns, || core!(self, faroalder_direct_nil) as u64),
       Maker::Struct | Maker::Union => unreachable!(),
@@ -160,6 +182,8 @@ impl<const PUBLIC: bool> Ours<PUBLIC> {
 }
 
 impl<const PUBLIC: bool> Side for Ours<PUBLIC> {
+  const AT_ONCE: usize = if PUBLIC { 32 } else { 2048 };
+
   fn opened(nodes: usize) -> Self {
     let rule = (0..NAMES).flat_map(|i| name(i).into_bytes()).collect();
     let mut side = Ours { rule, h: vec![0; 8], ws: vec![0; 12 * nodes], ks: vec![0; 16 * nodes] };

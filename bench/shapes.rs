@@ -2,6 +2,8 @@
 
 /// A store of one side: ours by core functions, ours by public calls, or the Rust's.
 pub trait Side: Clone {
+  /// How many calls of `unify` are timed at once, so that a turn stays short.
+  const AT_ONCE: usize;
   /// Room for `nodes` nodes and four times as many children.
   fn opened(nodes: usize) -> Self;
   fn var(&mut self) -> u32;

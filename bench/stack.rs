@@ -1,5 +1,5 @@
-//! The stack that the core unify takes at its deepest: each node of a chain with the next one, 4,095 levels down. A program that
-//! runs out of stack dies, so each try is a process of its own.
+//! The stack that the core unify takes at its deepest: each node of a chain with the next one, 4,095
+//! levels down. A program that runs out of stack dies, so each try is a process of its own.
 
 use std::{
   env,
@@ -56,5 +56,7 @@ pub fn report() {
   for chain in CHAINS {
     let bytes = enough(chain);
     println!("chain of {chain}, {LEVELS}, {bytes}, {:.0}", bytes as f64 / LEVELS as f64);
+    let within = |megabytes: usize| if bytes <= megabytes << 20 { "enough" } else { "NOT enough" };
+    println!("  2 MB are {}, 8 MB are {}", within(2), within(8));
   }
 }

@@ -48,6 +48,8 @@ fn repeat<T>(turns: usize, mut call: impl FnMut() -> T) {
 }
 
 impl Side for Vine {
+  const AT_ONCE: usize = 2048;
+
   /// Its vector grows as nodes are made.
   fn opened(_: usize) -> Self {
     Vine { types: Types::default(), chart: Rc::new(chart()) }

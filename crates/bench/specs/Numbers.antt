@@ -1,5 +1,5 @@
--- The numbers that a caller in another language gets and gives. A type is its word, an answer of `unify` its place in the Rust's enum. A public call's answer
--- is a value's number, or 4,294,967,296 and a refusal's number over it.
+-- The numbers that a caller in another language gets. A type is its word, and an answer of `unify` its place in the Rust's enum. A public call answers a
+-- value's number, which is below 4,294,967,296, or the sum of 4,294,967,296 and a refusal's number.
 use mathlib.Core.List.{List}
 use Prim.Native.Nat.{ℕ, _-_}
 use lib.Dec.{eqb, ltb}
@@ -19,11 +19,11 @@ use Rattle.calls.specs.declared.DoneAnswer.the-variants as end
 use Rattle.unifies.specs.declared.UnifyAnswer.{UnifyAnswer}
 use Rattle.unifies.specs.declared.UnifyAnswer.the-variants as unify
 
--- a refusal's number stands over this, and every value's below
+-- refusal n is this and n; every value is below
 abbrev pub REFUSED : ℕ
 REFUSED = 4294967296
 
--- the answer that r is, where n values have the numbers from 0 on
+-- the answer that the number r is, where there are n values, numbered from 0
 unfoldable pub answerIn : {A : Type 0} → ℕ → (ℕ → A) → (ℕ → A) → ℕ → A
 answerIn n is refused r = pick (ltb r n) (is r) (refused (r - REFUSED))
 
@@ -36,7 +36,7 @@ typeIn r = answerIn REFUSED (λ w. type.Is (typeWord w)) type.Refused r
 abbrev pub doneIn : ℕ → DoneAnswer
 doneIn r = answerIn 1 (λ w. end.Done) end.Refused r
 
--- the result that a number below three is
+-- "0 Success, 1 Failure, 2 Indeterminate"
 abbrev pub RESULTS : ℕ
 RESULTS = 3
 

@@ -1,5 +1,4 @@
 // The same without tests: each asks what the core function asks that it calls, and promises the same.
-ghost use mathlib.Core.Path.{_≡_};
 ghost use Prim.Native.Nat.{_≤_, _<_};
 ghost use mathlib.Core.Bool.{false};
 ghost use lib.ListN.{length};

@@ -22,7 +22,7 @@ use news::KindArgs;
 use types::Type;
 use unifies::UnifyAnswer;
 
-// A refusal's number stands over this, and every value's below.
+// Refusal n is this and n; every value is below.
 const REFUSED: u64 = 4_294_967_296;
 
 fn type_number(a: TypeAnswer) -> u64
