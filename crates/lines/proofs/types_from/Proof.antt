@@ -1,0 +1,123 @@
+-- `lines::types_from` meets its contract. The types written so far and those of the words to come are those of all the words; each took two places or more.
+-- Assumes nothing.
+use mathlib.Core.Path.{_≡_, refl, sym, ap, _∙_}
+use mathlib.Core.List.{map}
+use mathlib.Core.Option.{some}
+use Prim.Native.Nat.{ℕ, _+_, _-_, _*_, _≤_}
+use borrow.Author.Needs.{needs}
+use native.Mathlib.Omega.{arith}
+use lib.ListN.{length, take, length-set}
+use Rattle.scope.specs.Types.{tyOf}
+use Rattle.scope.specs.Sheet.{typeWords}
+use Rattle.lines.specs.Places.{wordsFrom}
+use Rattle.lines.specs.Meaning.{wordMeans}
+use Rattle.lines.proofs.Laws as laws
+use Rattle.lines.proofs.types_from.Statement.{statement}
+use Rattle.lines.proofs.types_from.Tie as tie
+
+abbrev Inv-loop : tie.InvT-loop
+Inv-loop line from out₀ n₀ at₀ out n at =
+    (length out ≡ length out₀)
+    × (2 * n ≤ at)
+    × (n ≤ 128)
+    × (laws.onto (map tyOf (take n out)) (typeWords (wordsFrom line at)) ≡ typeWords (wordsFrom line from))
+
+abbrev μ-loop : tie.MeasureT-loop
+μ-loop line from out₀ n₀ at₀ out n at = length line + 1 - at
+
+loop-holds : tie.Need-loop-holds Inv-loop μ-loop
+loop-holds c = (refl, omega arith, omega arith, laws.onto-none (typeWords (wordsFrom (c .before .before .args .line .now) (c .before .before .args .from))))
+
+place-of-requires : tie.Need-place-of-requires Inv-loop μ-loop
+place-of-requires c κs = search needs
+
+sub-type-of : tie.Need-sub-type-of Inv-loop μ-loop
+sub-type-of c = laws.place-within 32 (c .before .before .before .before .before .args .line .now) (c .before .before .loop .at) (c .place-of .result) (c .before .loop-test .taken) (c .place-of .ensures) .0
+
+part-type-of-start : tie.Need-part-type-of-start Inv-loop μ-loop
+part-type-of-start c = laws.place-within 32 (c .before .before .before .before .before .args .line .now) (c .before .before .loop .at) (c .place-of .result) (c .before .loop-test .taken) (c .place-of .ensures) .0
+
+part-type-of-end : tie.Need-part-type-of-end Inv-loop μ-loop
+part-type-of-end c = laws.place-within 32 (c .before .before .before .before .before .args .line .now) (c .before .before .loop .at) (c .place-of .result) (c .before .loop-test .taken) (c .place-of .ensures) .1
+
+type-of-requires : tie.Need-type-of-requires Inv-loop μ-loop
+type-of-requires c κs = search needs
+
+enum-known-t : tie.Need-enum-known-t Inv-loop μ-loop
+enum-known-t c = search needs
+
+enum-told : tie.Need-enum-told Inv-loop μ-loop
+enum-told c = search needs
+
+same-length : tie.Need-same-length Inv-loop μ-loop
+same-length c = c .before .before .before .before .before .before .loop .inv .0
+
+returns : tie.Need-returns Inv-loop μ-loop
+returns c =
+    record {
+      means = laws.turn-bad (c .before .before .before .before .before .before .before .before .before .args .line .now) (c .before .before .before .before .before .before .loop .at) (c .before .before .before .before .place-of .result) (c .before .before .before .before .before .loop-test .taken) (c .before .before .before .before .place-of .ensures) (map tyOf (take (c .before .before .before .before .before .before .loop .n) (c .before .before .before .before .before .before .loop .out))) (ap wordMeans (sym (c .enum-told .given .1)) ∙ c .before .before .type-of .ensures) ∙ c .before .before .before .before .before .before .loop .inv .3;
+      fits = omega arith;
+    }
+
+mul-out : tie.Need-mul-out Inv-loop μ-loop
+mul-out c = omega arith
+
+slice-write-out : tie.Need-slice-write-out Inv-loop μ-loop
+slice-write-out c = omega (arith, c .before .before .before .before .before .before .before .before .before .before .pre .short, c .before .before .before .before .before .before .before .before .before .before .pre .room)
+
+add-n : tie.Need-add-n Inv-loop μ-loop
+add-n c = omega arith
+
+add-at : tie.Need-add-at Inv-loop μ-loop
+add-at c = omega (arith, laws.place-within 32 (c .before .before .before .before .before .before .before .before .before .before .args .line .now) (c .before .before .before .before .before .before .before .loop .at) (c .before .before .before .before .before .place-of .result) (c .before .before .before .before .before .before .loop-test .taken) (c .before .before .before .before .before .place-of .ensures) .1, c .before .before .before .before .before .before .before .before .before .before .pre .short)
+
+loop-less : tie.Need-loop-less Inv-loop μ-loop
+loop-less c = omega (arith, laws.place-within 32 (c .before .before .before .before .before .before .before .before .before .before .args .line .now) (c .before .before .before .before .before .before .before .loop .at) (c .before .before .before .before .before .place-of .result) (c .before .before .before .before .before .before .loop-test .taken) (c .before .before .before .before .before .place-of .ensures))
+
+loop-again : tie.Need-loop-again Inv-loop μ-loop
+loop-again c =
+    let k = (ap wordMeans (sym (c .before .t .given .1)) ∙ c .before .before .before .type-of .ensures) in (
+      length-set (c .before .before .before .before .before .before .before .loop .out) (c .before .before .before .before .before .before .before .loop .n) (c .before .t .given .0 .0 .0) ∙ c .before .before .before .before .before .before .before .loop .inv .0,
+      omega (arith, laws.turn-longer (c .before .before .before .before .before .before .before .before .before .before .args .line .now) (c .before .before .before .before .before .before .before .loop .at) (c .before .before .before .before .before .place-of .result) (c .before .before .before .before .before .before .loop-test .taken) (c .before .before .before .before .before .place-of .ensures) k),
+      omega (arith, c .before .before .before .before .before .before .before .before .before .before .pre .short),
+      laws.turn-type (c .before .before .before .before .before .before .before .before .before .before .args .line .now) (c .before .before .before .before .before .before .before .loop .at) (c .before .before .before .before .before .place-of .result) (c .before .before .before .before .before .before .loop-test .taken) (c .before .before .before .before .before .place-of .ensures) (c .before .before .before .before .before .before .before .loop .out) (c .before .before .before .before .before .before .before .loop .n) (c .before .t .given .0 .0 .0) (omega (arith, c .before .before .before .before .before .before .before .before .before .before .pre .short, c .before .before .before .before .before .before .before .before .before .before .pre .room)) k ∙ c .before .before .before .before .before .before .before .loop .inv .3,
+    )
+
+cast-t15 : tie.Need-cast-t15 Inv-loop μ-loop
+cast-t15 c = omega arith
+
+same-length-2 : tie.Need-same-length-2 Inv-loop μ-loop
+same-length-2 c = c .before .loop .inv .0
+
+returns-2 : tie.Need-returns-2 Inv-loop μ-loop
+returns-2 c =
+    record {
+      means = laws.turns-end (c .before .before .before .before .args .line .now) (c .before .loop .at) (map tyOf (take (c .before .loop .n) (c .before .loop .out))) (c .loop-test .left) ∙ c .before .loop .inv .3;
+      fits = c .before .loop .inv .2;
+    }
+
+pub types-from-spec : {M : Type 1} → statement M
+types-from-spec =
+    tie.close
+    (tie.spec
+    Inv-loop
+    μ-loop
+    loop-holds
+    place-of-requires
+    sub-type-of
+    part-type-of-start
+    part-type-of-end
+    type-of-requires
+    enum-known-t
+    enum-told
+    same-length
+    returns
+    mul-out
+    slice-write-out
+    add-n
+    add-at
+    loop-less
+    loop-again
+    cast-t15
+    same-length-2
+    returns-2)
