@@ -1,6 +1,6 @@
 -- `lines::parse` meets its contract: the first word is the command, and the words after its space are the types.
 -- Assumes nothing.
-use mathlib.Core.Path.{_≡_, sym, ap, _∙_}
+use mathlib.Core.Path.{sym, ap, _∙_}
 use mathlib.Core.List.{map}
 use mathlib.Core.Option.{none, some}
 use borrow.Author.Needs.{needs}

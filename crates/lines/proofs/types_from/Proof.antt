@@ -2,8 +2,7 @@
 -- Assumes nothing.
 use mathlib.Core.Path.{_≡_, refl, sym, ap, _∙_}
 use mathlib.Core.List.{map}
-use mathlib.Core.Option.{some}
-use Prim.Native.Nat.{ℕ, _+_, _-_, _*_, _≤_}
+use Prim.Native.Nat.{_+_, _-_, _*_, _≤_}
 use borrow.Author.Needs.{needs}
 use native.Mathlib.Omega.{arith}
 use lib.ListN.{length, take, length-set}
@@ -54,8 +53,10 @@ same-length c = c .before .before .before .before .before .before .loop .inv .0
 
 returns : tie.Need-returns Inv-loop μ-loop
 returns c =
+    let l = c .before .before .before .before .before .before .loop in
+    let k = ap wordMeans (sym (c .enum-told .given .1)) ∙ c .before .before .type-of .ensures in
     record {
-      means = laws.turn-bad (c .before .before .before .before .before .before .before .before .before .args .line .now) (c .before .before .before .before .before .before .loop .at) (c .before .before .before .before .place-of .result) (c .before .before .before .before .before .loop-test .taken) (c .before .before .before .before .place-of .ensures) (map tyOf (take (c .before .before .before .before .before .before .loop .n) (c .before .before .before .before .before .before .loop .out))) (ap wordMeans (sym (c .enum-told .given .1)) ∙ c .before .before .type-of .ensures) ∙ c .before .before .before .before .before .before .loop .inv .3;
+      means = laws.turn-bad (c .before .before .before .before .before .before .before .before .before .args .line .now) (l .at) (c .before .before .before .before .place-of .result) (c .before .before .before .before .before .loop-test .taken) (c .before .before .before .before .place-of .ensures) (map tyOf (take (l .n) (l .out))) k ∙ l .inv .3;
       fits = omega arith;
     }
 
@@ -69,18 +70,37 @@ add-n : tie.Need-add-n Inv-loop μ-loop
 add-n c = omega arith
 
 add-at : tie.Need-add-at Inv-loop μ-loop
-add-at c = omega (arith, laws.place-within 32 (c .before .before .before .before .before .before .before .before .before .before .args .line .now) (c .before .before .before .before .before .before .before .loop .at) (c .before .before .before .before .before .place-of .result) (c .before .before .before .before .before .before .loop-test .taken) (c .before .before .before .before .before .place-of .ensures) .1, c .before .before .before .before .before .before .before .before .before .before .pre .short)
+add-at c =
+    let line = c .before .before .before .before .before .before .before .before .before .before .args .line .now in
+    let i = c .before .before .before .before .before .before .before .loop .at in
+    let e = c .before .before .before .before .before .place-of .result in
+    let h = c .before .before .before .before .before .before .loop-test .taken in
+    let p = c .before .before .before .before .before .place-of .ensures in
+    omega (arith, laws.place-within 32 line i e h p, c .before .before .before .before .before .before .before .before .before .before .pre .short)
 
 loop-less : tie.Need-loop-less Inv-loop μ-loop
-loop-less c = omega (arith, laws.place-within 32 (c .before .before .before .before .before .before .before .before .before .before .args .line .now) (c .before .before .before .before .before .before .before .loop .at) (c .before .before .before .before .before .place-of .result) (c .before .before .before .before .before .before .loop-test .taken) (c .before .before .before .before .before .place-of .ensures))
+loop-less c =
+    let line = c .before .before .before .before .before .before .before .before .before .before .args .line .now in
+    let i = c .before .before .before .before .before .before .before .loop .at in
+    let e = c .before .before .before .before .before .place-of .result in
+    let h = c .before .before .before .before .before .before .loop-test .taken in
+    let p = c .before .before .before .before .before .place-of .ensures in
+    omega (arith, laws.place-within 32 line i e h p)
 
 loop-again : tie.Need-loop-again Inv-loop μ-loop
 loop-again c =
-    let k = (ap wordMeans (sym (c .before .t .given .1)) ∙ c .before .before .before .type-of .ensures) in (
-      length-set (c .before .before .before .before .before .before .before .loop .out) (c .before .before .before .before .before .before .before .loop .n) (c .before .t .given .0 .0 .0) ∙ c .before .before .before .before .before .before .before .loop .inv .0,
-      omega (arith, laws.turn-longer (c .before .before .before .before .before .before .before .before .before .before .args .line .now) (c .before .before .before .before .before .before .before .loop .at) (c .before .before .before .before .before .place-of .result) (c .before .before .before .before .before .before .loop-test .taken) (c .before .before .before .before .before .place-of .ensures) k),
+    let line = c .before .before .before .before .before .before .before .before .before .before .args .line .now in
+    let i = c .before .before .before .before .before .before .before .loop .at in
+    let e = c .before .before .before .before .before .place-of .result in
+    let h = c .before .before .before .before .before .before .loop-test .taken in
+    let p = c .before .before .before .before .before .place-of .ensures in
+    let l = c .before .before .before .before .before .before .before .loop in
+    let k = ap wordMeans (sym (c .before .t .given .1)) ∙ c .before .before .before .type-of .ensures in
+    let v = c .before .t .given .0 .0 .0 in (
+      length-set (l .out) (l .n) v ∙ l .inv .0,
+      omega (arith, laws.turn-longer line i e h p k),
       omega (arith, c .before .before .before .before .before .before .before .before .before .before .pre .short),
-      laws.turn-type (c .before .before .before .before .before .before .before .before .before .before .args .line .now) (c .before .before .before .before .before .before .before .loop .at) (c .before .before .before .before .before .place-of .result) (c .before .before .before .before .before .before .loop-test .taken) (c .before .before .before .before .before .place-of .ensures) (c .before .before .before .before .before .before .before .loop .out) (c .before .before .before .before .before .before .before .loop .n) (c .before .t .given .0 .0 .0) (omega (arith, c .before .before .before .before .before .before .before .before .before .before .pre .short, c .before .before .before .before .before .before .before .before .before .before .pre .room)) k ∙ c .before .before .before .before .before .before .before .loop .inv .3,
+      laws.turn-type line i e h p (l .out) (l .n) v (omega (arith, c .before .before .before .before .before .before .before .before .before .before .pre .short, c .before .before .before .before .before .before .before .before .before .before .pre .room)) k ∙ l .inv .3,
     )
 
 cast-t15 : tie.Need-cast-t15 Inv-loop μ-loop
@@ -91,9 +111,10 @@ same-length-2 c = c .before .loop .inv .0
 
 returns-2 : tie.Need-returns-2 Inv-loop μ-loop
 returns-2 c =
+    let l = c .before .loop in
     record {
-      means = laws.turns-end (c .before .before .before .before .args .line .now) (c .before .loop .at) (map tyOf (take (c .before .loop .n) (c .before .loop .out))) (c .loop-test .left) ∙ c .before .loop .inv .3;
-      fits = c .before .loop .inv .2;
+      means = laws.turns-end (c .before .before .before .before .args .line .now) (l .at) (map tyOf (take (l .n) (l .out))) (c .loop-test .left) ∙ l .inv .3;
+      fits = l .inv .2;
     }
 
 pub types-from-spec : {M : Type 1} → statement M
