@@ -62,7 +62,7 @@ fn place_of(s: &[u8], from: usize, byte: u8) -> usize
         }
         i += 1;
     }
-    i
+    i // the end: the byte stands nowhere
 }
 
 // Where the line that starts at `from` ends: "a last line may lack its newline"
