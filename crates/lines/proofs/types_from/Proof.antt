@@ -31,13 +31,31 @@ place-of-requires : tie.Need-place-of-requires Inv-loop μ-loop
 place-of-requires c κs = search needs
 
 sub-type-of : tie.Need-sub-type-of Inv-loop μ-loop
-sub-type-of c = laws.place-within 32 (c .before .before .before .before .before .args .line .now) (c .before .before .loop .at) (c .place-of .result) (c .before .loop-test .taken) (c .place-of .ensures) .0
+sub-type-of c =
+    let line = c .before .before .before .before .before .args .line .now in
+    let i = c .before .before .loop .at in
+    let e = c .place-of .result in
+    let h = c .before .loop-test .taken in
+    let p = c .place-of .ensures in
+    laws.place-within 32 line i e h p .0
 
 part-type-of-start : tie.Need-part-type-of-start Inv-loop μ-loop
-part-type-of-start c = laws.place-within 32 (c .before .before .before .before .before .args .line .now) (c .before .before .loop .at) (c .place-of .result) (c .before .loop-test .taken) (c .place-of .ensures) .0
+part-type-of-start c =
+    let line = c .before .before .before .before .before .args .line .now in
+    let i = c .before .before .loop .at in
+    let e = c .place-of .result in
+    let h = c .before .loop-test .taken in
+    let p = c .place-of .ensures in
+    laws.place-within 32 line i e h p .0
 
 part-type-of-end : tie.Need-part-type-of-end Inv-loop μ-loop
-part-type-of-end c = laws.place-within 32 (c .before .before .before .before .before .args .line .now) (c .before .before .loop .at) (c .place-of .result) (c .before .loop-test .taken) (c .place-of .ensures) .1
+part-type-of-end c =
+    let line = c .before .before .before .before .before .args .line .now in
+    let i = c .before .before .loop .at in
+    let e = c .place-of .result in
+    let h = c .before .loop-test .taken in
+    let p = c .place-of .ensures in
+    laws.place-within 32 line i e h p .1
 
 type-of-requires : tie.Need-type-of-requires Inv-loop μ-loop
 type-of-requires c κs = search needs
@@ -53,12 +71,15 @@ same-length c = c .before .before .before .before .before .before .loop .inv .0
 
 returns : tie.Need-returns Inv-loop μ-loop
 returns c =
+    let line = c .before .before .before .before .before .before .before .before .before .args .line .now in
+    let i = c .before .before .before .before .before .before .loop .at in
+    let e = c .before .before .before .before .place-of .result in
+    let h = c .before .before .before .before .before .loop-test .taken in
+    let p = c .before .before .before .before .place-of .ensures in
     let l = c .before .before .before .before .before .before .loop in
     let k = ap wordMeans (sym (c .enum-told .given .1)) ∙ c .before .before .type-of .ensures in
-    record {
-      means = laws.turn-bad (c .before .before .before .before .before .before .before .before .before .args .line .now) (l .at) (c .before .before .before .before .place-of .result) (c .before .before .before .before .before .loop-test .taken) (c .before .before .before .before .place-of .ensures) (map tyOf (take (l .n) (l .out))) k ∙ l .inv .3;
-      fits = omega arith;
-    }
+    let ts = map tyOf (take (l .n) (l .out)) in
+    record { means = laws.turn-bad line i e h p ts k ∙ l .inv .3; fits = omega arith }
 
 mul-out : tie.Need-mul-out Inv-loop μ-loop
 mul-out c = omega arith
