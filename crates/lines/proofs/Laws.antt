@@ -327,14 +327,27 @@ tuple-types (t ∷ u ∷ v ∷ ts) = refl
 pub with-tuple : (w : List ℕ) (ts : List Ty) → eqBytes w (text "tuple") ≡ true → sheet.Line.tuple ts ≡ withTypes w (some ts)
 with-tuple w ts h = rw (same-equal w (text "tuple") h) (sym (tuple-types ts))
 
-pub with-one : (w out : List ℕ) → 1 ≤ length out → oneType w (tyOf (getD out 0 0)) ≡ withTypes w (some (map tyOf (take 1 out)))
-with-one w [] h = absurd (omega arith)
-with-one w (a ∷ out) h = refl
+pub with-none : (w out : List ℕ) (n : ℕ) → n ≡ 0 → plainLine w ≡ withTypes w (some (map tyOf (take n out)))
+with-none w out n e = rw e
 
-pub with-two : (w out : List ℕ) → 2 ≤ length out → twoTypes w (tyOf (getD out 0 0)) (tyOf (getD out 1 0)) ≡ withTypes w (some (map tyOf (take 2 out)))
-with-two w [] h = absurd (omega arith)
-with-two w (a ∷ []) h = absurd (omega arith)
-with-two w (a ∷ b ∷ out) h = refl
+with-first : (w out : List ℕ) → 1 ≤ length out → oneType w (tyOf (getD out 0 0)) ≡ withTypes w (some (map tyOf (take 1 out)))
+with-first w [] h = absurd (omega arith)
+with-first w (a ∷ out) h = refl
+
+with-both : (w out : List ℕ) → 2 ≤ length out → twoTypes w (tyOf (getD out 0 0)) (tyOf (getD out 1 0)) ≡ withTypes w (some (map tyOf (take 2 out)))
+with-both w [] h = absurd (omega arith)
+with-both w (a ∷ []) h = absurd (omega arith)
+with-both w (a ∷ b ∷ out) h = refl
+
+pub with-one : (w out : List ℕ) (n : ℕ) → n ≡ 1 → 1 ≤ length out → oneType w (tyOf (getD out 0 0)) ≡ withTypes w (some (map tyOf (take n out)))
+with-one w out n e h = rw e (with-first w out h)
+
+pub with-two :
+    (w out : List ℕ) (n : ℕ) →
+    n ≡ 2 →
+    2 ≤ length out →
+    twoTypes w (tyOf (getD out 0 0)) (tyOf (getD out 1 0)) ≡ withTypes w (some (map tyOf (take n out)))
+with-two w out n e h = rw e (with-both w out h)
 
 pub with-more :
     (w : List ℕ) (n : ℕ) (out : List ℕ) →

@@ -18,12 +18,6 @@ use types::TypeIdx;
 // "Any other line, an empty one or one over 255 bytes is a bad line"
 const MAX_LINE: usize = 255;
 
-const NEWLINE: u8 = 10;
-
-const SPACE: u8 = 32;
-
-const TILDE: u8 = 126;
-
 // A Tuple holds how many types it has; they stand at the front of the words lent beside it.
 pub enum Line {
     Var,
@@ -68,14 +62,14 @@ fn place_of(s: &[u8], from: usize, byte: u8) -> usize
         }
         i += 1;
     }
-    i
+    i // the end: the byte stands nowhere
 }
 
 // Where the line that starts at `from` ends: "a last line may lack its newline"
 pub fn line_end(input: &[u8], from: usize) -> usize
     ensures { λ r. ⌜ r ≡ placeOf 10 (now (input .entry)) from ⌝ }
 {
-    place_of(input, from, NEWLINE)
+    place_of(input, from, b'\n')
 }
 
 // "one to four decimal digits and no leading zero except `0` itself"
@@ -91,7 +85,7 @@ fn node_shape(w: &[u8]) -> bool
     if w.len() > 4 {
         return false;
     }
-    w[0] != 48
+    w[0] != b'0'
 }
 
 fn node_of(inv: Inverted, w: &[u8]) -> TypeWord
@@ -104,13 +98,13 @@ fn node_of(inv: Inverted, w: &[u8]) -> TypeWord
     let mut i: usize = 0;
     while i < w.len() {
         let d = w[i];
-        if d < 48 {
+        if d < b'0' {
             return TypeWord::Nothing;
         }
-        if d > 57 {
+        if d > b'9' {
             return TypeWord::Nothing;
         }
-        n = n * 10 + wide(d - 48);
+        n = n * 10 + wide(d - b'0');
         i += 1;
     }
     TypeWord::Is(Type::new(inv, TypeIdx(n)))
@@ -123,7 +117,7 @@ fn type_of(w: &[u8]) -> TypeWord
     if w.len() == 0 {
         return TypeWord::Nothing;
     }
-    if w[0] == TILDE {
+    if w[0] == b'~' {
         return node_of(Inverted(true), &w[1..]);
     }
     node_of(Inverted(false), w)
@@ -137,7 +131,7 @@ fn types_from(line: &[u8], from: usize, out: &mut [u32]) -> TypeCount
     let mut n: usize = 0;
     let mut at = from;
     while at <= line.len() {
-        let e = place_of(line, at, SPACE);
+        let e = place_of(line, at, b' ');
         let TypeWord::Is(t) = type_of(&line[at..e]) else {
             return TypeCount::Nothing;
         };
@@ -227,7 +221,7 @@ pub fn parse(line: &[u8], out: &mut [u32]) -> Line
     if line.len() > MAX_LINE {
         return Line::Bad;
     }
-    let e = place_of(line, 0, SPACE);
+    let e = place_of(line, 0, b' ');
     let TypeCount::Are(n) = types_from(line, e + 1, out) else {
         return Line::Bad;
     };

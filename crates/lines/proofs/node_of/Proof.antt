@@ -32,7 +32,9 @@ node-shape-requires : tie.Need-node-shape-requires Inv-loop μ-loop
 node-shape-requires c κs = search needs
 
 returns : tie.Need-returns Inv-loop μ-loop
-returns c = sym (laws.node-shapeless (c .before .before .before .args .inv .0) (c .before .before .before .args .w .now) (fails (c .before .node-shape .ensures) (c .if1 .taken)))
+returns c =
+    let n = fails (c .before .node-shape .ensures) (c .if1 .taken) in
+    sym (laws.node-shapeless (c .before .before .before .args .inv .0) (c .before .before .before .args .w .now) n)
 
 loop-holds : tie.Need-loop-holds Inv-loop μ-loop
 loop-holds c =
@@ -44,15 +46,19 @@ shared-slice-read-d c = omega arith
 
 returns-2 : tie.Need-returns-2 Inv-loop μ-loop
 returns-2 c =
-    sym
-    (laws.node-other (c .before .before .before .before .before .before .before .args .inv .0) (c .before .before .before .before .before .before .before .args .w .now)
-    (sym (c .before .before .before .loop .inv .4) ∙ laws.digit-low (c .before .before .before .before .before .before .before .args .w .now) (c .before .before .before .loop .i) (c .before .before .loop-test .taken) (c .if2 .taken)))
+    let w = c .before .before .before .before .before .before .before .args .w .now in
+    let l = c .before .before .before .loop in
+    let h = c .before .before .loop-test .taken in
+    let n = sym (l .inv .4) ∙ laws.digit-low w (l .i) h (c .if2 .taken) in
+    sym (laws.node-other (c .before .before .before .before .before .before .before .args .inv .0) w n)
 
 returns-3 : tie.Need-returns-3 Inv-loop μ-loop
 returns-3 c =
-    sym
-    (laws.node-other (c .before .before .before .before .before .before .before .before .args .inv .0) (c .before .before .before .before .before .before .before .before .args .w .now)
-    (sym (c .before .before .before .before .loop .inv .4) ∙ laws.digit-high (c .before .before .before .before .before .before .before .before .args .w .now) (c .before .before .before .before .loop .i) (c .before .before .before .loop-test .taken) (c .before .if2 .left) (c .if3 .taken)))
+    let w = c .before .before .before .before .before .before .before .before .args .w .now in
+    let l = c .before .before .before .before .loop in
+    let h = c .before .before .before .loop-test .taken in
+    let n = sym (l .inv .4) ∙ laws.digit-high w (l .i) h (c .before .if2 .left) (c .if3 .taken) in
+    sym (laws.node-other (c .before .before .before .before .before .before .before .before .args .inv .0) w n)
 
 mul-n : tie.Need-mul-n Inv-loop μ-loop
 mul-n c = omega (arith, laws.tens-small (c .before .before .before .before .loop .i) (omega arith))

@@ -14,7 +14,8 @@ same-bytes-requires c κs = search needs
 
 returns : tie.Need-returns
 returns c =
-    record { beside = λ nt out. record { means = rw (nt, laws.said (c .before .same-bytes .ensures) (c .if1 .taken)); fits = omega arith } }
+    let e1 = laws.said (c .before .same-bytes .ensures) (c .if1 .taken) in
+    record { beside = λ nt out. record { means = rw (nt, e1); fits = omega arith } }
 
 slice-aggregate-same-bytes-2 : tie.Need-slice-aggregate-same-bytes-2
 slice-aggregate-same-bytes-2 c = search needs
@@ -24,11 +25,15 @@ same-bytes-requires-2 c κs = search needs
 
 returns-2 : tie.Need-returns-2
 returns-2 c =
-    record { beside = λ nt out. record { means = rw (nt, laws.said (c .before .before .before .before .same-bytes .ensures) (c .before .before .before .if1 .left), laws.said (c .before .same-bytes2 .ensures) (c .if2 .taken)); fits = omega arith } }
+    let e1 = laws.said (c .before .before .before .before .same-bytes .ensures) (c .before .before .before .if1 .left) in
+    let e2 = laws.said (c .before .same-bytes2 .ensures) (c .if2 .taken) in
+    record { beside = λ nt out. record { means = rw (nt, e1, e2); fits = omega arith } }
 
 returns-3 : tie.Need-returns-3
 returns-3 c =
-    record { beside = λ nt out. record { means = rw (nt, laws.said (c .before .before .before .before .same-bytes .ensures) (c .before .before .before .if1 .left), laws.said (c .before .same-bytes2 .ensures) (c .if2 .left)); fits = omega arith } }
+    let e1 = laws.said (c .before .before .before .before .same-bytes .ensures) (c .before .before .before .if1 .left) in
+    let e2 = laws.said (c .before .same-bytes2 .ensures) (c .if2 .left) in
+    record { beside = λ nt out. record { means = rw (nt, e1, e2); fits = omega arith } }
 
 pub one-type-spec : {M : Type 1} → statement M
 one-type-spec =

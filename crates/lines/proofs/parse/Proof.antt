@@ -1,6 +1,6 @@
 -- `lines::parse` meets its contract: the first word is the command, and the words after its space are the types.
 -- Assumes nothing.
-use mathlib.Core.Path.{_≡_, sym, ap, _∙_}
+use mathlib.Core.Path.{sym, ap, _∙_}
 use mathlib.Core.List.{map}
 use mathlib.Core.Option.{none, some}
 use borrow.Author.Needs.{needs}
@@ -21,7 +21,9 @@ place-of-requires : tie.Need-place-of-requires
 place-of-requires c κs = search needs
 
 add-types-from : tie.Need-add-types-from
-add-types-from c = omega (arith, laws.place-within 32 (c .before .before .before .before .args .line .now) 0 (c .place-of .result) (omega arith) (c .place-of .ensures))
+add-types-from c =
+    let line = c .before .before .before .before .args .line .now in
+    omega (arith, laws.place-within 32 line 0 (c .place-of .result) (omega arith) (c .place-of .ensures))
 
 types-from-requires : tie.Need-types-from-requires
 types-from-requires c κs = search needs
@@ -37,31 +39,42 @@ same-length c = search needs
 
 returns-2 : tie.Need-returns-2
 returns-2 c =
-    let out = (c .before .before .before .before .types-from .last .1 .1 .0) in
-    record {
-      means =
-          laws.parse-of (c .before .before .before .before .before .before .before .before .before .before .args .line .now) (c .before .before .before .before .before .before .place-of .result) none (c .before .before .before .before .before .before .before .if1 .left) (c .before .before .before .before .before .before .place-of .ensures)
-          (ap (λ (r : TypeCount). countMeans r out) (sym (c .enum-told .given .1)) ∙ c .before .before .before .before .types-from .ensures .means);
-      fits = omega arith;
-    }
+    let line = c .before .before .before .before .before .before .before .before .before .before .args .line .now in
+    let e = c .before .before .before .before .before .before .place-of .result in
+    let h = c .before .before .before .before .before .before .before .if1 .left in
+    let p = c .before .before .before .before .before .before .place-of .ensures in
+    let out = c .before .before .before .before .types-from .last .1 .1 .0 in
+    let ts = c .before .before .before .before .types-from .ensures .means in
+    let t = ap (λ (r : TypeCount). countMeans r out) (sym (c .enum-told .given .1)) ∙ ts in
+    record { means = laws.parse-of line e none h p t; fits = omega arith }
 
 slice-aggregate-line-of : tie.Need-slice-aggregate-line-of
 slice-aggregate-line-of c =
-    sym (length-take-le _ _ (laws.place-within 32 (c .before .before .before .before .before .before .before .before .before .before .before .before .args .line .now) 0 (c .before .before .before .before .before .before .before .before .place-of .result) (omega arith) (c .before .before .before .before .before .before .before .before .place-of .ensures) .1))
+    let line = c .before .before .before .before .before .before .before .before .before .before .before .before .args .line .now in
+    let e = c .before .before .before .before .before .before .before .before .place-of .result in
+    let p = c .before .before .before .before .before .before .before .before .place-of .ensures in
+    sym (length-take-le e line (laws.place-within 32 line 0 e (omega arith) p .1))
 
 line-of-requires : tie.Need-line-of-requires
 line-of-requires c κs =
-    (rw (c .before .before .before .n .given .1) at (c .before .before .before .before .before .before .before .types-from .ensures .fits), omega (arith, c .before .before .before .before .before .before .before .types-from .kept .1 .1 .0, c .before .before .before .before .before .before .before .before .before .before .before .before .before .pre))
+    let f = c .before .before .before .before .before .before .before .types-from .ensures .fits in
+    let l = c .before .before .before .before .before .before .before .types-from .kept .1 .1 .0 in
+    (rw (c .before .before .before .n .given .1) at f, omega (arith, l, c .before .before .before .before .before .before .before .before .before .before .before .before .before .pre))
 
 same-length-2 : tie.Need-same-length-2
 same-length-2 c = search needs
 
 returns-3 : tie.Need-returns-3
 returns-3 c =
-    let out = (c .before .before .before .before .before .before .before .before .types-from .last .1 .1 .0) in
-    laws.parsed-like (c .line-of .ensures)
-    (laws.parse-of (c .before .before .before .before .before .before .before .before .before .before .before .before .before .before .args .line .now) (c .before .before .before .before .before .before .before .before .before .before .place-of .result) (some (map tyOf (take (c .before .before .before .before .n .given .0 .0) out))) (c .before .before .before .before .before .before .before .before .before .before .before .if1 .left) (c .before .before .before .before .before .before .before .before .before .before .place-of .ensures)
-    (ap (λ (r : TypeCount). countMeans r out) (sym (c .before .before .before .before .n .given .1)) ∙ c .before .before .before .before .before .before .before .before .types-from .ensures .means))
+    let line = c .before .before .before .before .before .before .before .before .before .before .before .before .before .before .args .line .now in
+    let e = c .before .before .before .before .before .before .before .before .before .before .place-of .result in
+    let h = c .before .before .before .before .before .before .before .before .before .before .before .if1 .left in
+    let p = c .before .before .before .before .before .before .before .before .before .before .place-of .ensures in
+    let out = c .before .before .before .before .before .before .before .before .types-from .last .1 .1 .0 in
+    let ts = c .before .before .before .before .before .before .before .before .types-from .ensures .means in
+    let n = c .before .before .before .before .n .given .0 .0 in
+    let t = ap (λ (r : TypeCount). countMeans r out) (sym (c .before .before .before .before .n .given .1)) ∙ ts in
+    laws.parsed-like (c .line-of .ensures) (laws.parse-of line e (some (map tyOf (take n out))) h p t)
 
 pub parse-spec : {M : Type 1} → statement M
 parse-spec =

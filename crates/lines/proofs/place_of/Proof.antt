@@ -23,7 +23,9 @@ shared-slice-read-if1 c = omega arith
 
 returns : tie.Need-returns Inv-loop μ-loop
 returns c =
-    laws.place-hit (c .before .before .before .before .args .byte) (c .before .before .before .before .args .s .now) (c .before .before .before .loop .i) (c .before .before .loop-test .taken) (c .if1 .taken) ∙ c .before .before .before .loop .inv
+    let s = c .before .before .before .before .args in
+    let l = c .before .before .before .loop in
+    laws.place-hit (s .byte) (s .s .now) (l .i) (c .before .before .loop-test .taken) (c .if1 .taken) ∙ l .inv
 
 add-i : tie.Need-add-i Inv-loop μ-loop
 add-i c = omega arith
@@ -33,7 +35,9 @@ loop-less c = omega arith
 
 loop-again : tie.Need-loop-again Inv-loop μ-loop
 loop-again c =
-    laws.place-step (c .before .before .before .before .args .byte) (c .before .before .before .before .args .s .now) (c .before .before .before .loop .i) (c .before .before .loop-test .taken) (c .if1 .left) ∙ c .before .before .before .loop .inv
+    let s = c .before .before .before .before .args in
+    let l = c .before .before .before .loop in
+    laws.place-step (s .byte) (s .s .now) (l .i) (c .before .before .loop-test .taken) (c .if1 .left) ∙ l .inv
 
 returns-2 : tie.Need-returns-2 Inv-loop μ-loop
 returns-2 c = laws.place-end (c .before .before .args .byte) (c .before .before .args .s .now) (c .before .loop .i) (c .loop-test .left) ∙ c .before .loop .inv

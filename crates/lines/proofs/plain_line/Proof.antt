@@ -14,7 +14,8 @@ same-bytes-requires c κs = search needs
 
 returns : tie.Need-returns
 returns c =
-    record { beside = λ out. record { means = rw (laws.said (c .before .same-bytes .ensures) (c .if1 .taken)); fits = omega arith } }
+    let e1 = laws.said (c .before .same-bytes .ensures) (c .if1 .taken) in
+    record { beside = λ out. record { means = rw e1; fits = omega arith } }
 
 slice-aggregate-same-bytes-2 : tie.Need-slice-aggregate-same-bytes-2
 slice-aggregate-same-bytes-2 c = search needs
@@ -24,7 +25,9 @@ same-bytes-requires-2 c κs = search needs
 
 returns-2 : tie.Need-returns-2
 returns-2 c =
-    record { beside = λ out. record { means = rw (laws.said (c .before .before .before .before .same-bytes .ensures) (c .before .before .before .if1 .left), laws.said (c .before .same-bytes2 .ensures) (c .if2 .taken)); fits = omega arith } }
+    let e1 = laws.said (c .before .before .before .before .same-bytes .ensures) (c .before .before .before .if1 .left) in
+    let e2 = laws.said (c .before .same-bytes2 .ensures) (c .if2 .taken) in
+    record { beside = λ out. record { means = rw (e1, e2); fits = omega arith } }
 
 slice-aggregate-same-bytes-3 : tie.Need-slice-aggregate-same-bytes-3
 slice-aggregate-same-bytes-3 c = search needs
@@ -34,7 +37,10 @@ same-bytes-requires-3 c κs = search needs
 
 returns-3 : tie.Need-returns-3
 returns-3 c =
-    record { beside = λ out. record { means = rw (laws.said (c .before .before .before .before .before .before .before .same-bytes .ensures) (c .before .before .before .before .before .before .if1 .left), laws.said (c .before .before .before .before .same-bytes2 .ensures) (c .before .before .before .if2 .left), laws.said (c .before .same-bytes3 .ensures) (c .if3 .taken)); fits = omega arith } }
+    let e1 = laws.said (c .before .before .before .before .before .before .before .same-bytes .ensures) (c .before .before .before .before .before .before .if1 .left) in
+    let e2 = laws.said (c .before .before .before .before .same-bytes2 .ensures) (c .before .before .before .if2 .left) in
+    let e3 = laws.said (c .before .same-bytes3 .ensures) (c .if3 .taken) in
+    record { beside = λ out. record { means = rw (e1, e2, e3); fits = omega arith } }
 
 slice-aggregate-same-bytes-4 : tie.Need-slice-aggregate-same-bytes-4
 slice-aggregate-same-bytes-4 c = search needs
@@ -44,7 +50,11 @@ same-bytes-requires-4 c κs = search needs
 
 returns-4 : tie.Need-returns-4
 returns-4 c =
-    record { beside = λ out. record { means = rw (laws.said (c .before .before .before .before .before .before .before .before .before .before .same-bytes .ensures) (c .before .before .before .before .before .before .before .before .before .if1 .left), laws.said (c .before .before .before .before .before .before .before .same-bytes2 .ensures) (c .before .before .before .before .before .before .if2 .left), laws.said (c .before .before .before .before .same-bytes3 .ensures) (c .before .before .before .if3 .left), laws.said (c .before .same-bytes4 .ensures) (c .if4 .taken)); fits = omega arith } }
+    let e1 = laws.said (c .before .before .before .before .before .before .before .before .before .before .same-bytes .ensures) (c .before .before .before .before .before .before .before .before .before .if1 .left) in
+    let e2 = laws.said (c .before .before .before .before .before .before .before .same-bytes2 .ensures) (c .before .before .before .before .before .before .if2 .left) in
+    let e3 = laws.said (c .before .before .before .before .same-bytes3 .ensures) (c .before .before .before .if3 .left) in
+    let e4 = laws.said (c .before .same-bytes4 .ensures) (c .if4 .taken) in
+    record { beside = λ out. record { means = rw (e1, e2, e3, e4); fits = omega arith } }
 
 slice-aggregate-same-bytes-5 : tie.Need-slice-aggregate-same-bytes-5
 slice-aggregate-same-bytes-5 c = search needs
@@ -54,7 +64,12 @@ same-bytes-requires-5 c κs = search needs
 
 returns-5 : tie.Need-returns-5
 returns-5 c =
-    record { beside = λ out. record { means = rw (laws.said (c .before .before .before .before .before .before .before .before .before .before .before .before .before .same-bytes .ensures) (c .before .before .before .before .before .before .before .before .before .before .before .before .if1 .left), laws.said (c .before .before .before .before .before .before .before .before .before .before .same-bytes2 .ensures) (c .before .before .before .before .before .before .before .before .before .if2 .left), laws.said (c .before .before .before .before .before .before .before .same-bytes3 .ensures) (c .before .before .before .before .before .before .if3 .left), laws.said (c .before .before .before .before .same-bytes4 .ensures) (c .before .before .before .if4 .left), laws.said (c .before .same-bytes5 .ensures) (c .if5 .taken)); fits = omega arith } }
+    let e1 = laws.said (c .before .before .before .before .before .before .before .before .before .before .before .before .before .same-bytes .ensures) (c .before .before .before .before .before .before .before .before .before .before .before .before .if1 .left) in
+    let e2 = laws.said (c .before .before .before .before .before .before .before .before .before .before .same-bytes2 .ensures) (c .before .before .before .before .before .before .before .before .before .if2 .left) in
+    let e3 = laws.said (c .before .before .before .before .before .before .before .same-bytes3 .ensures) (c .before .before .before .before .before .before .if3 .left) in
+    let e4 = laws.said (c .before .before .before .before .same-bytes4 .ensures) (c .before .before .before .if4 .left) in
+    let e5 = laws.said (c .before .same-bytes5 .ensures) (c .if5 .taken) in
+    record { beside = λ out. record { means = rw (e1, e2, e3, e4, e5); fits = omega arith } }
 
 slice-aggregate-same-bytes-6 : tie.Need-slice-aggregate-same-bytes-6
 slice-aggregate-same-bytes-6 c = search needs
@@ -64,7 +79,13 @@ same-bytes-requires-6 c κs = search needs
 
 returns-6 : tie.Need-returns-6
 returns-6 c =
-    record { beside = λ out. record { means = rw (laws.said (c .before .before .before .before .before .before .before .before .before .before .before .before .before .before .before .before .same-bytes .ensures) (c .before .before .before .before .before .before .before .before .before .before .before .before .before .before .before .if1 .left), laws.said (c .before .before .before .before .before .before .before .before .before .before .before .before .before .same-bytes2 .ensures) (c .before .before .before .before .before .before .before .before .before .before .before .before .if2 .left), laws.said (c .before .before .before .before .before .before .before .before .before .before .same-bytes3 .ensures) (c .before .before .before .before .before .before .before .before .before .if3 .left), laws.said (c .before .before .before .before .before .before .before .same-bytes4 .ensures) (c .before .before .before .before .before .before .if4 .left), laws.said (c .before .before .before .before .same-bytes5 .ensures) (c .before .before .before .if5 .left), laws.said (c .before .same-bytes6 .ensures) (c .if6 .taken)); fits = omega arith } }
+    let e1 = laws.said (c .before .before .before .before .before .before .before .before .before .before .before .before .before .before .before .before .same-bytes .ensures) (c .before .before .before .before .before .before .before .before .before .before .before .before .before .before .before .if1 .left) in
+    let e2 = laws.said (c .before .before .before .before .before .before .before .before .before .before .before .before .before .same-bytes2 .ensures) (c .before .before .before .before .before .before .before .before .before .before .before .before .if2 .left) in
+    let e3 = laws.said (c .before .before .before .before .before .before .before .before .before .before .same-bytes3 .ensures) (c .before .before .before .before .before .before .before .before .before .if3 .left) in
+    let e4 = laws.said (c .before .before .before .before .before .before .before .same-bytes4 .ensures) (c .before .before .before .before .before .before .if4 .left) in
+    let e5 = laws.said (c .before .before .before .before .same-bytes5 .ensures) (c .before .before .before .if5 .left) in
+    let e6 = laws.said (c .before .same-bytes6 .ensures) (c .if6 .taken) in
+    record { beside = λ out. record { means = rw (e1, e2, e3, e4, e5, e6); fits = omega arith } }
 
 slice-aggregate-same-bytes-7 : tie.Need-slice-aggregate-same-bytes-7
 slice-aggregate-same-bytes-7 c = search needs
@@ -74,11 +95,25 @@ same-bytes-requires-7 c κs = search needs
 
 returns-7 : tie.Need-returns-7
 returns-7 c =
-    record { beside = λ out. record { means = rw (laws.said (c .before .before .before .before .before .before .before .before .before .before .before .before .before .before .before .before .before .before .before .same-bytes .ensures) (c .before .before .before .before .before .before .before .before .before .before .before .before .before .before .before .before .before .before .if1 .left), laws.said (c .before .before .before .before .before .before .before .before .before .before .before .before .before .before .before .before .same-bytes2 .ensures) (c .before .before .before .before .before .before .before .before .before .before .before .before .before .before .before .if2 .left), laws.said (c .before .before .before .before .before .before .before .before .before .before .before .before .before .same-bytes3 .ensures) (c .before .before .before .before .before .before .before .before .before .before .before .before .if3 .left), laws.said (c .before .before .before .before .before .before .before .before .before .before .same-bytes4 .ensures) (c .before .before .before .before .before .before .before .before .before .if4 .left), laws.said (c .before .before .before .before .before .before .before .same-bytes5 .ensures) (c .before .before .before .before .before .before .if5 .left), laws.said (c .before .before .before .before .same-bytes6 .ensures) (c .before .before .before .if6 .left), laws.said (c .before .same-bytes7 .ensures) (c .if7 .taken)); fits = omega arith } }
+    let e1 = laws.said (c .before .before .before .before .before .before .before .before .before .before .before .before .before .before .before .before .before .before .before .same-bytes .ensures) (c .before .before .before .before .before .before .before .before .before .before .before .before .before .before .before .before .before .before .if1 .left) in
+    let e2 = laws.said (c .before .before .before .before .before .before .before .before .before .before .before .before .before .before .before .before .same-bytes2 .ensures) (c .before .before .before .before .before .before .before .before .before .before .before .before .before .before .before .if2 .left) in
+    let e3 = laws.said (c .before .before .before .before .before .before .before .before .before .before .before .before .before .same-bytes3 .ensures) (c .before .before .before .before .before .before .before .before .before .before .before .before .if3 .left) in
+    let e4 = laws.said (c .before .before .before .before .before .before .before .before .before .before .same-bytes4 .ensures) (c .before .before .before .before .before .before .before .before .before .if4 .left) in
+    let e5 = laws.said (c .before .before .before .before .before .before .before .same-bytes5 .ensures) (c .before .before .before .before .before .before .if5 .left) in
+    let e6 = laws.said (c .before .before .before .before .same-bytes6 .ensures) (c .before .before .before .if6 .left) in
+    let e7 = laws.said (c .before .same-bytes7 .ensures) (c .if7 .taken) in
+    record { beside = λ out. record { means = rw (e1, e2, e3, e4, e5, e6, e7); fits = omega arith } }
 
 returns-8 : tie.Need-returns-8
 returns-8 c =
-    record { beside = λ out. record { means = rw (laws.said (c .before .before .before .before .before .before .before .before .before .before .before .before .before .before .before .before .before .before .before .same-bytes .ensures) (c .before .before .before .before .before .before .before .before .before .before .before .before .before .before .before .before .before .before .if1 .left), laws.said (c .before .before .before .before .before .before .before .before .before .before .before .before .before .before .before .before .same-bytes2 .ensures) (c .before .before .before .before .before .before .before .before .before .before .before .before .before .before .before .if2 .left), laws.said (c .before .before .before .before .before .before .before .before .before .before .before .before .before .same-bytes3 .ensures) (c .before .before .before .before .before .before .before .before .before .before .before .before .if3 .left), laws.said (c .before .before .before .before .before .before .before .before .before .before .same-bytes4 .ensures) (c .before .before .before .before .before .before .before .before .before .if4 .left), laws.said (c .before .before .before .before .before .before .before .same-bytes5 .ensures) (c .before .before .before .before .before .before .if5 .left), laws.said (c .before .before .before .before .same-bytes6 .ensures) (c .before .before .before .if6 .left), laws.said (c .before .same-bytes7 .ensures) (c .if7 .left)); fits = omega arith } }
+    let e1 = laws.said (c .before .before .before .before .before .before .before .before .before .before .before .before .before .before .before .before .before .before .before .same-bytes .ensures) (c .before .before .before .before .before .before .before .before .before .before .before .before .before .before .before .before .before .before .if1 .left) in
+    let e2 = laws.said (c .before .before .before .before .before .before .before .before .before .before .before .before .before .before .before .before .same-bytes2 .ensures) (c .before .before .before .before .before .before .before .before .before .before .before .before .before .before .before .if2 .left) in
+    let e3 = laws.said (c .before .before .before .before .before .before .before .before .before .before .before .before .before .same-bytes3 .ensures) (c .before .before .before .before .before .before .before .before .before .before .before .before .if3 .left) in
+    let e4 = laws.said (c .before .before .before .before .before .before .before .before .before .before .same-bytes4 .ensures) (c .before .before .before .before .before .before .before .before .before .if4 .left) in
+    let e5 = laws.said (c .before .before .before .before .before .before .before .same-bytes5 .ensures) (c .before .before .before .before .before .before .if5 .left) in
+    let e6 = laws.said (c .before .before .before .before .same-bytes6 .ensures) (c .before .before .before .if6 .left) in
+    let e7 = laws.said (c .before .same-bytes7 .ensures) (c .if7 .left) in
+    record { beside = λ out. record { means = rw (e1, e2, e3, e4, e5, e6, e7); fits = omega arith } }
 
 pub plain-line-spec : {M : Type 1} → statement M
 plain-line-spec =

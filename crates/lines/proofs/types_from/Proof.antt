@@ -2,8 +2,7 @@
 -- Assumes nothing.
 use mathlib.Core.Path.{_≡_, refl, sym, ap, _∙_}
 use mathlib.Core.List.{map}
-use mathlib.Core.Option.{some}
-use Prim.Native.Nat.{ℕ, _+_, _-_, _*_, _≤_}
+use Prim.Native.Nat.{_+_, _-_, _*_, _≤_}
 use borrow.Author.Needs.{needs}
 use native.Mathlib.Omega.{arith}
 use lib.ListN.{length, take, length-set}
@@ -32,13 +31,31 @@ place-of-requires : tie.Need-place-of-requires Inv-loop μ-loop
 place-of-requires c κs = search needs
 
 sub-type-of : tie.Need-sub-type-of Inv-loop μ-loop
-sub-type-of c = laws.place-within 32 (c .before .before .before .before .before .args .line .now) (c .before .before .loop .at) (c .place-of .result) (c .before .loop-test .taken) (c .place-of .ensures) .0
+sub-type-of c =
+    let line = c .before .before .before .before .before .args .line .now in
+    let i = c .before .before .loop .at in
+    let e = c .place-of .result in
+    let h = c .before .loop-test .taken in
+    let p = c .place-of .ensures in
+    laws.place-within 32 line i e h p .0
 
 part-type-of-start : tie.Need-part-type-of-start Inv-loop μ-loop
-part-type-of-start c = laws.place-within 32 (c .before .before .before .before .before .args .line .now) (c .before .before .loop .at) (c .place-of .result) (c .before .loop-test .taken) (c .place-of .ensures) .0
+part-type-of-start c =
+    let line = c .before .before .before .before .before .args .line .now in
+    let i = c .before .before .loop .at in
+    let e = c .place-of .result in
+    let h = c .before .loop-test .taken in
+    let p = c .place-of .ensures in
+    laws.place-within 32 line i e h p .0
 
 part-type-of-end : tie.Need-part-type-of-end Inv-loop μ-loop
-part-type-of-end c = laws.place-within 32 (c .before .before .before .before .before .args .line .now) (c .before .before .loop .at) (c .place-of .result) (c .before .loop-test .taken) (c .place-of .ensures) .1
+part-type-of-end c =
+    let line = c .before .before .before .before .before .args .line .now in
+    let i = c .before .before .loop .at in
+    let e = c .place-of .result in
+    let h = c .before .loop-test .taken in
+    let p = c .place-of .ensures in
+    laws.place-within 32 line i e h p .1
 
 type-of-requires : tie.Need-type-of-requires Inv-loop μ-loop
 type-of-requires c κs = search needs
@@ -54,10 +71,15 @@ same-length c = c .before .before .before .before .before .before .loop .inv .0
 
 returns : tie.Need-returns Inv-loop μ-loop
 returns c =
-    record {
-      means = laws.turn-bad (c .before .before .before .before .before .before .before .before .before .args .line .now) (c .before .before .before .before .before .before .loop .at) (c .before .before .before .before .place-of .result) (c .before .before .before .before .before .loop-test .taken) (c .before .before .before .before .place-of .ensures) (map tyOf (take (c .before .before .before .before .before .before .loop .n) (c .before .before .before .before .before .before .loop .out))) (ap wordMeans (sym (c .enum-told .given .1)) ∙ c .before .before .type-of .ensures) ∙ c .before .before .before .before .before .before .loop .inv .3;
-      fits = omega arith;
-    }
+    let line = c .before .before .before .before .before .before .before .before .before .args .line .now in
+    let i = c .before .before .before .before .before .before .loop .at in
+    let e = c .before .before .before .before .place-of .result in
+    let h = c .before .before .before .before .before .loop-test .taken in
+    let p = c .before .before .before .before .place-of .ensures in
+    let l = c .before .before .before .before .before .before .loop in
+    let k = ap wordMeans (sym (c .enum-told .given .1)) ∙ c .before .before .type-of .ensures in
+    let ts = map tyOf (take (l .n) (l .out)) in
+    record { means = laws.turn-bad line i e h p ts k ∙ l .inv .3; fits = omega arith }
 
 mul-out : tie.Need-mul-out Inv-loop μ-loop
 mul-out c = omega arith
@@ -69,18 +91,37 @@ add-n : tie.Need-add-n Inv-loop μ-loop
 add-n c = omega arith
 
 add-at : tie.Need-add-at Inv-loop μ-loop
-add-at c = omega (arith, laws.place-within 32 (c .before .before .before .before .before .before .before .before .before .before .args .line .now) (c .before .before .before .before .before .before .before .loop .at) (c .before .before .before .before .before .place-of .result) (c .before .before .before .before .before .before .loop-test .taken) (c .before .before .before .before .before .place-of .ensures) .1, c .before .before .before .before .before .before .before .before .before .before .pre .short)
+add-at c =
+    let line = c .before .before .before .before .before .before .before .before .before .before .args .line .now in
+    let i = c .before .before .before .before .before .before .before .loop .at in
+    let e = c .before .before .before .before .before .place-of .result in
+    let h = c .before .before .before .before .before .before .loop-test .taken in
+    let p = c .before .before .before .before .before .place-of .ensures in
+    omega (arith, laws.place-within 32 line i e h p, c .before .before .before .before .before .before .before .before .before .before .pre .short)
 
 loop-less : tie.Need-loop-less Inv-loop μ-loop
-loop-less c = omega (arith, laws.place-within 32 (c .before .before .before .before .before .before .before .before .before .before .args .line .now) (c .before .before .before .before .before .before .before .loop .at) (c .before .before .before .before .before .place-of .result) (c .before .before .before .before .before .before .loop-test .taken) (c .before .before .before .before .before .place-of .ensures))
+loop-less c =
+    let line = c .before .before .before .before .before .before .before .before .before .before .args .line .now in
+    let i = c .before .before .before .before .before .before .before .loop .at in
+    let e = c .before .before .before .before .before .place-of .result in
+    let h = c .before .before .before .before .before .before .loop-test .taken in
+    let p = c .before .before .before .before .before .place-of .ensures in
+    omega (arith, laws.place-within 32 line i e h p)
 
 loop-again : tie.Need-loop-again Inv-loop μ-loop
 loop-again c =
-    let k = (ap wordMeans (sym (c .before .t .given .1)) ∙ c .before .before .before .type-of .ensures) in (
-      length-set (c .before .before .before .before .before .before .before .loop .out) (c .before .before .before .before .before .before .before .loop .n) (c .before .t .given .0 .0 .0) ∙ c .before .before .before .before .before .before .before .loop .inv .0,
-      omega (arith, laws.turn-longer (c .before .before .before .before .before .before .before .before .before .before .args .line .now) (c .before .before .before .before .before .before .before .loop .at) (c .before .before .before .before .before .place-of .result) (c .before .before .before .before .before .before .loop-test .taken) (c .before .before .before .before .before .place-of .ensures) k),
+    let line = c .before .before .before .before .before .before .before .before .before .before .args .line .now in
+    let i = c .before .before .before .before .before .before .before .loop .at in
+    let e = c .before .before .before .before .before .place-of .result in
+    let h = c .before .before .before .before .before .before .loop-test .taken in
+    let p = c .before .before .before .before .before .place-of .ensures in
+    let l = c .before .before .before .before .before .before .before .loop in
+    let k = ap wordMeans (sym (c .before .t .given .1)) ∙ c .before .before .before .type-of .ensures in
+    let v = c .before .t .given .0 .0 .0 in (
+      length-set (l .out) (l .n) v ∙ l .inv .0,
+      omega (arith, laws.turn-longer line i e h p k),
       omega (arith, c .before .before .before .before .before .before .before .before .before .before .pre .short),
-      laws.turn-type (c .before .before .before .before .before .before .before .before .before .before .args .line .now) (c .before .before .before .before .before .before .before .loop .at) (c .before .before .before .before .before .place-of .result) (c .before .before .before .before .before .before .loop-test .taken) (c .before .before .before .before .before .place-of .ensures) (c .before .before .before .before .before .before .before .loop .out) (c .before .before .before .before .before .before .before .loop .n) (c .before .t .given .0 .0 .0) (omega (arith, c .before .before .before .before .before .before .before .before .before .before .pre .short, c .before .before .before .before .before .before .before .before .before .before .pre .room)) k ∙ c .before .before .before .before .before .before .before .loop .inv .3,
+      laws.turn-type line i e h p (l .out) (l .n) v (omega (arith, c .before .before .before .before .before .before .before .before .before .before .pre .short, c .before .before .before .before .before .before .before .before .before .before .pre .room)) k ∙ l .inv .3,
     )
 
 cast-t15 : tie.Need-cast-t15 Inv-loop μ-loop
@@ -91,9 +132,10 @@ same-length-2 c = c .before .loop .inv .0
 
 returns-2 : tie.Need-returns-2 Inv-loop μ-loop
 returns-2 c =
+    let l = c .before .loop in
     record {
-      means = laws.turns-end (c .before .before .before .before .args .line .now) (c .before .loop .at) (map tyOf (take (c .before .loop .n) (c .before .loop .out))) (c .loop-test .left) ∙ c .before .loop .inv .3;
-      fits = c .before .loop .inv .2;
+      means = laws.turns-end (c .before .before .before .before .args .line .now) (l .at) (map tyOf (take (l .n) (l .out))) (c .loop-test .left) ∙ l .inv .3;
+      fits = l .inv .2;
     }
 
 pub types-from-spec : {M : Type 1} → statement M
