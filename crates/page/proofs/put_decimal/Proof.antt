@@ -1,14 +1,13 @@
 -- `page::put_decimal` meets its contract: before each turn the digits found and the decimals of what is left are the number's; what is left has at
 -- most one digit more than there are places before. The measure is what is left.
 -- Assumes nothing.
-use mathlib.Core.Path.{_≡_, refl, sym, _∙_}
+use mathlib.Core.Path.{_≡_, refl, sym}
 use mathlib.Core.List.{_++_, append-nil}
-use Prim.Native.Nat.{_+_, _-_, _^_, _≤_, _<_}
+use Prim.Native.Nat.{_+_, _^_, _<_}
 use native.Mathlib.Omega.{arith}
 use borrow.Author.Needs.{needs}
 use lib.ListN.{length, set, drop, length-set}
 use Rattle.scope.specs.Show.{decimalF, decimal}
-use Rattle.page.specs.Page.{Appended}
 use Rattle.page.proofs.Laws as laws
 use Rattle.page.proofs.put_decimal.Statement.{statement}
 use Rattle.page.proofs.put_decimal.Tie as tie

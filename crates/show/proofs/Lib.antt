@@ -1,0 +1,4 @@
+-- The laws that belong to no one function
+pub mod Level
+pub mod Laws
+pub mod Turns
