@@ -1,4 +1,4 @@
-"""Calls that are turned back, with the number that document 01 gives for each: a list of calls for crates/trial, and what it must write.
+"""Calls that are turned back, with the number that document 01 gives for each: a list of calls for crates/run_calls, and what it must write.
 
 The chart is chart.json's: record 0 is a trait, 1 a struct without the flag, 4 a union with it, 5 a const, 6 a fn, 9 a struct with it."""
 

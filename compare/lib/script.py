@@ -1,4 +1,4 @@
-"""Cases as a list of calls for crates/trial, and the lines that the Rust's answers make it write."""
+"""Cases as a list of calls for crates/run_calls, and the lines that the Rust's answers make it write."""
 
 KINDS = ["Param", "Tuple", "Object", "Opaque", "Struct", "Enum", "Union", "Fn", "Closure", "Ref", "Key",
          "IfConst", "Never", "Default", "Error"]
@@ -6,7 +6,7 @@ NODES, CHILDREN = 200, 800  # room of every store here
 INVERSE = 2 ** 31           # a type's number: its node's, and this if it is inverted
 LIST = 255                  # room for an answer's list
 
-# The calls' numbers in crates/trial.
+# The calls' numbers in crates/run_calls.
 OPS = {"rule": 0, "text": 1, "chart": 2, "beside": 3, "lend": 4, "poke": 5,
        "flip": 6, "case": 7, "words": 8, "open": 10, "reset": 11, "new": 12,
        "new_struct": 13, "new_union": 14, "new_var": 15, "new_vars": 16, "error": 17, "nil": 18, "force_kind": 19,

@@ -12,12 +12,12 @@ use Rattle.sound.specs.Tests.{envIn}
 use Rattle.types.specs.declared.«Type».{«Type»}
 use Rattle.types.specs.declared.UnifyResult.{UnifyResult}
 use Rattle.types.specs.declared.UnifyResult.the-variants.{Success, Failure, Indeterminate}
-use Rattle.calls.specs.declared.TypeAnswer.{TypeAnswer}
-use Rattle.calls.specs.declared.TypeAnswer.the-variants as type
-use Rattle.calls.specs.declared.DoneAnswer.{DoneAnswer}
-use Rattle.calls.specs.declared.DoneAnswer.the-variants as end
-use Rattle.unifies.specs.declared.UnifyAnswer.{UnifyAnswer}
-use Rattle.unifies.specs.declared.UnifyAnswer.the-variants as unify
+use Rattle.promise.specs.declared.TypeAnswer.{TypeAnswer}
+use Rattle.promise.specs.declared.TypeAnswer.the-variants as type
+use Rattle.promise.specs.declared.DoneAnswer.{DoneAnswer}
+use Rattle.promise.specs.declared.DoneAnswer.the-variants as end
+use Rattle.call_unify.specs.declared.UnifyAnswer.{UnifyAnswer}
+use Rattle.call_unify.specs.declared.UnifyAnswer.the-variants as unify
 
 -- refusal n is this and n; every value is below
 abbrev pub REFUSED : ℕ

@@ -12,7 +12,7 @@ ghost use Rattle.names.specs.Place.{texts};
 ghost use Rattle.layout.specs.Words.{storeIn, decode};
 ghost use Rattle.make.specs.Holds.{Became, Openable, Ready, MadeIs, MadeAllIs};
 ghost use Rattle.make.specs.Given.{KindReady, kindGiven};
-ghost use Rattle.news.specs.Lent.{plainArgs, withFlag};
+ghost use Rattle.call_new.specs.Lent.{plainArgs, withFlag};
 ghost use Rattle.unify.specs.Asks.{Pair};
 ghost use Rattle.unify.specs.Leaves.{Leaves};
 ghost use Rattle.bench.specs.Numbers.{typeWord, RESULTS, resultIn};

@@ -8,19 +8,19 @@ ghost use Rattle.scope.specs.Types.{tyOf};
 ghost use Rattle.scope.specs.Calls.{firstBroken, lentTests, openCall, newVarCall, newVarsCall, errorCall, nilCall, newCall, newStructCall, newUnionCall, unifyCall};
 ghost use Rattle.layout.specs.Words.{lentOf};
 ghost use Rattle.sound.specs.Tests.{codeOf};
-ghost use Rattle.calls.specs.Promise.{Promised, doneReply, typeReply, typesIn};
-ghost use Rattle.makes.specs.Opening.{enough};
-ghost use Rattle.makes.specs.Listed.{Listed};
-ghost use Rattle.news.specs.Lent.{plainArgs, given};
-ghost use Rattle.unifies.specs.Answers.{unifyReply};
+ghost use Rattle.promise.specs.Promise.{Promised, doneReply, typeReply, typesIn};
+ghost use Rattle.call_make.specs.Opening.{enough};
+ghost use Rattle.call_make.specs.Listed.{Listed};
+ghost use Rattle.call_new.specs.Lent.{plainArgs, given};
+ghost use Rattle.call_unify.specs.Answers.{unifyReply};
 ghost use Rattle.bench.specs.Numbers.{typeIn, doneIn, unifyIn, bare, lentEnv};
-use calls::DoneAnswer;
-use calls::TypeAnswer;
+use call_new::KindArgs;
+use call_unify::UnifyAnswer;
 use chart::Beside;
 use layout::NONE;
-use news::KindArgs;
+use promise::DoneAnswer;
+use promise::TypeAnswer;
 use types::Type;
-use unifies::UnifyAnswer;
 
 // Refusal n is this and n; every value is below.
 const REFUSED: u64 = 4_294_967_296;
@@ -88,7 +88,7 @@ pub extern "C" fn faroalder_open(
 ) -> u64
     ensures { λ r. ⌜ Promised (openCall nodes children (enough nodes children (now (h .entry)) (now (ws .entry)) (now (ks .entry)))) (doneReply (doneIn r)) (now (h .entry)) (now (ws .entry)) (now (ks .entry)) (now (h .exit)) (now (ws .exit)) (now (ks .exit)) ⌝ }
 {
-    done_number(makes::open(h, ws, ks, nodes, children))
+    done_number(call_make::open(h, ws, ks, nodes, children))
 }
 
 #[no_mangle]
@@ -103,7 +103,7 @@ pub extern "C" fn faroalder_new_var<'a>(
 ) -> u64
     ensures { λ r. ⌜ Promised (newVarCall (lentEnv (now (chart .entry)) (now (rule .entry)) (now (text .entry))) (lentOf (now (h .entry)) (now (ws .entry)) (now (ks .entry))) span) (typeReply (typeIn r)) (now (h .entry)) (now (ws .entry)) (now (ks .entry)) (now (h .exit)) (now (ws .exit)) (now (ks .entry)) ⌝ }
 {
-    type_number(makes::new_var(chart, bare(), rule, text, h, ws, ks, span))
+    type_number(call_make::new_var(chart, bare(), rule, text, h, ws, ks, span))
 }
 
 #[no_mangle]
@@ -120,7 +120,7 @@ pub extern "C" fn faroalder_new_vars<'a>(
 ) -> u64
     ensures { λ r. ⌜ Listed (newVarsCall (lentEnv (now (chart .entry)) (now (rule .entry)) (now (text .entry))) (lentOf (now (h .entry)) (now (ws .entry)) (now (ks .entry))) span count (length (now (out .entry)))) (doneIn r) count (now (h .entry)) (now (ws .entry)) (now (ks .entry)) (now (h .exit)) (now (ws .exit)) (now (ks .entry)) (now (out .entry)) (now (out .exit)) ⌝ }
 {
-    done_number(makes::new_vars(chart, bare(), rule, text, h, ws, ks, span, count, out))
+    done_number(call_make::new_vars(chart, bare(), rule, text, h, ws, ks, span, count, out))
 }
 
 #[no_mangle]
@@ -134,7 +134,7 @@ pub extern "C" fn faroalder_error<'a>(
 ) -> u64
     ensures { λ r. ⌜ Promised (errorCall (lentEnv (now (chart .entry)) (now (rule .entry)) (now (text .entry))) (lentOf (now (h .entry)) (now (ws .entry)) (now (ks .entry)))) (typeReply (typeIn r)) (now (h .entry)) (now (ws .entry)) (now (ks .entry)) (now (h .exit)) (now (ws .exit)) (now (ks .entry)) ⌝ }
 {
-    type_number(makes::error(chart, bare(), rule, text, h, ws, ks))
+    type_number(call_make::error(chart, bare(), rule, text, h, ws, ks))
 }
 
 #[no_mangle]
@@ -148,7 +148,7 @@ pub extern "C" fn faroalder_nil<'a>(
 ) -> u64
     ensures { λ r. ⌜ Promised (nilCall (lentEnv (now (chart .entry)) (now (rule .entry)) (now (text .entry))) (lentOf (now (h .entry)) (now (ws .entry)) (now (ks .entry)))) (typeReply (typeIn r)) (now (h .entry)) (now (ws .entry)) (now (ks .entry)) (now (h .exit)) (now (ws .exit)) (now (ks .entry)) ⌝ }
 {
-    type_number(makes::nil(chart, bare(), rule, text, h, ws, ks))
+    type_number(call_make::nil(chart, bare(), rule, text, h, ws, ks))
 }
 
 // A kind without `Flex` or a name of its own.
@@ -181,7 +181,7 @@ pub extern "C" fn faroalder_new<'a>(
     ensures { λ r. ⌜ Promised (newCall (lentEnv (now (chart .entry)) (now (rule .entry)) (now (text .entry))) (lentOf (now (h .entry)) (now (ws .entry)) (now (ks .entry))) (given (plainArgs code number) (now (entries .entry)))) (typeReply (typeIn r)) (now (h .entry)) (now (ws .entry)) (now (ks .entry)) (now (h .exit)) (now (ws .exit)) (now (ks .exit)) ⌝ }
 {
     let k = plain(code, number);
-    type_number(news::new(chart, bare(), rule, text, h, ws, ks, k, entries))
+    type_number(call_new::new(chart, bare(), rule, text, h, ws, ks, k, entries))
 }
 
 #[no_mangle]
@@ -197,7 +197,7 @@ pub extern "C" fn faroalder_new_struct<'a>(
 ) -> u64
     ensures { λ r. ⌜ Promised (newStructCall (lentEnv (now (chart .entry)) (now (rule .entry)) (now (text .entry))) (lentOf (now (h .entry)) (now (ws .entry)) (now (ks .entry))) number (typesIn (now (types .entry)))) (typeReply (typeIn r)) (now (h .entry)) (now (ws .entry)) (now (ks .entry)) (now (h .exit)) (now (ws .exit)) (now (ks .exit)) ⌝ }
 {
-    type_number(news::new_struct(chart, bare(), rule, text, h, ws, ks, number, types))
+    type_number(call_new::new_struct(chart, bare(), rule, text, h, ws, ks, number, types))
 }
 
 #[no_mangle]
@@ -213,7 +213,7 @@ pub extern "C" fn faroalder_new_union<'a>(
 ) -> u64
     ensures { λ r. ⌜ Promised (newUnionCall (lentEnv (now (chart .entry)) (now (rule .entry)) (now (text .entry))) (lentOf (now (h .entry)) (now (ws .entry)) (now (ks .entry))) number (typesIn (now (types .entry)))) (typeReply (typeIn r)) (now (h .entry)) (now (ws .entry)) (now (ks .entry)) (now (h .exit)) (now (ws .exit)) (now (ks .exit)) ⌝ }
 {
-    type_number(news::new_union(chart, bare(), rule, text, h, ws, ks, number, types))
+    type_number(call_new::new_union(chart, bare(), rule, text, h, ws, ks, number, types))
 }
 
 #[no_mangle]
@@ -229,5 +229,5 @@ pub extern "C" fn faroalder_unify<'a>(
 ) -> u64
     ensures { λ r. ⌜ Promised (unifyCall (lentEnv (now (chart .entry)) (now (rule .entry)) (now (text .entry))) (lentOf (now (h .entry)) (now (ws .entry)) (now (ks .entry))) (tyOf a) (tyOf b)) (unifyReply (unifyIn r)) (now (h .entry)) (now (ws .entry)) (now (ks .entry)) (now (h .entry)) (now (ws .exit)) (now (ks .entry)) ⌝ }
 {
-    unify_number(unifies::unify(chart, bare(), rule, text, h, ws, ks, Type(a), Type(b)))
+    unify_number(call_unify::unify(chart, bare(), rule, text, h, ws, ks, Type(a), Type(b)))
 }

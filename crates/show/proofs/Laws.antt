@@ -11,7 +11,7 @@ use Rattle.layout.specs.Words.{slotAt, decode}
 use Rattle.layout.specs.Meaning.{slotMeans}
 use Rattle.layout.specs.declared.Slot.{Slot}
 use Rattle.walk.specs.Asks.{Stands, Nil}
-use Rattle.page.specs.Page.{Appended}
+use Rattle.append.specs.Page.{Appended}
 use Rattle.show.specs.Level.{comma, label}
 
 -- a child that is nil, or is not

@@ -25,8 +25,8 @@ use Rattle.layout.proofs.Laws.{read-node}
 use Rattle.types.specs.declared.Inverted.{Inverted}
 use Rattle.roots.specs.Found.{Found}
 use Rattle.walk.specs.Asks.{Stands}
-use Rattle.page.specs.Page.{Appended}
-use Rattle.page.proofs.Laws.{page-none, page-then}
+use Rattle.append.specs.Page.{Appended}
+use Rattle.append.proofs.Laws.{page-none, page-then}
 use Rattle.show.specs.declared.Held.{Held}
 use Rattle.show.specs.declared.Held.the-variants.{Is, Nothing}
 use Rattle.show.specs.Level.{children, gapOf, kidOf, shownOf, leadOf, closeOf, tildeOf, innerOf, levelOf, unknownText}

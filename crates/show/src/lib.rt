@@ -14,9 +14,11 @@ ghost use Rattle.chart.specs.Env.{envOf};
 ghost use Rattle.layout.specs.Words.{nodeWords, decode};
 ghost use Rattle.layout.specs.Meaning.{readAt, slotMeans};
 ghost use Rattle.walk.specs.Asks.{Stands};
-ghost use Rattle.page.specs.Page.{Appended};
+ghost use Rattle.append.specs.Page.{Appended};
 ghost use Rattle.show.specs.Level.{comma, label, gapOf, shownOf, functionText, closureText, definedText, ownText, ifConstText, fixedOf, leadOf, lastOf, closeOf, innerOf, tildeOf, unknownText};
 ghost use Rattle.show.specs.Read.{heldIn};
+use append::put;
+use append::put_decimal;
 use chart::Beside;
 use chart::TRAIT_FN_SORT;
 use kinds::CLOSURE;
@@ -35,8 +37,6 @@ use layout::Slot;
 use layout::TypeNode;
 use layout::TypeState;
 use names::Name;
-use page::put;
-use page::put_decimal;
 use types::Inverted;
 use types::Type;
 use types::TypeIdx;
@@ -454,7 +454,7 @@ pub fn show_type<'a>(
     if depth == 0 {
         return at;
     }
-    if page::is_full(buf, at) {
+    if append::is_full(buf, at) {
         return at;
     }
     let root = roots::find(ws, n, t);

@@ -27,9 +27,9 @@ use Rattle.layout.specs.Meaning.{Clean, Lies, headerIn, rememberedMeans}
 use Rattle.layout.specs.declared.Header.{Header}
 use Rattle.layout.proofs.Laws.{past, length-decode}
 use Rattle.layout.proofs.StoreLaws.{remembered-means, clean-lies, clean-nodes, lent-clean}
-use Rattle.makeable.specs.Nodes.{CleanNodes, narrowNodes}
-use Rattle.makeable.proofs.NameLaws.{and-true, and-false}
-use Rattle.makeable.proofs.Laws.{nodes-beside, wide-unsound}
+use Rattle.kind_sound.specs.Nodes.{CleanNodes, narrowNodes}
+use Rattle.kind_sound.proofs.NameLaws.{and-true, and-false}
+use Rattle.kind_sound.proofs.Laws.{nodes-beside, wide-unsound}
 use Rattle.shape.specs.Asks.{nodeInside, Shaped}
 use Rattle.sound.specs.Tests.{within, readable, noChart, envIn}
 

@@ -13,7 +13,7 @@ use Rattle.chart.specs.declared.Beside.{Beside}
 use Rattle.chart.specs.Words.{RECORD-WORDS}
 use Rattle.chart.specs.Env.{envOf}
 use Rattle.layout.specs.Words.{nodesMade, nodeRoom, childRoom, clean}
-use Rattle.makeable.specs.Nodes.{narrowNodes}
+use Rattle.kind_sound.specs.Nodes.{narrowNodes}
 
 -- "Nodes 0 to 4,096; children over all nodes ever made 0 to 16,384"
 abbrev pub within : List ℕ → Bool

@@ -33,7 +33,7 @@ fn readable(h: &[u32], ws: &[u32], ks: &[u32]) -> bool
     if ws.len() < layout::node_words(x.nodes) {
         return false;
     }
-    if !makeable::widths_ok(ws, x.nodes) {
+    if !kind_sound::widths_ok(ws, x.nodes) {
         return false;
     }
     layout::clean::clean(h, ws, ks)
@@ -57,13 +57,13 @@ pub fn store_sound<'a>(
     let n = x.nodes;
     let error = x.error;
     let nil = x.nil;
-    if !makeable::nodes_sound(ws, ks, n, chart, rule, text) {
+    if !kind_sound::nodes_sound(ws, ks, n, chart, rule, text) {
         return false;
     }
-    if !makeable::remembered_inside(error, n) {
+    if !kind_sound::remembered_inside(error, n) {
         return false;
     }
-    if !makeable::remembered_inside(nil, n) {
+    if !kind_sound::remembered_inside(nil, n) {
         return false;
     }
     shape::shape_ok(ws, ks, n)

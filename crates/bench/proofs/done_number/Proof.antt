@@ -2,7 +2,7 @@
 -- Assumes nothing.
 use native.Mathlib.Omega.{arith}
 use borrow.Author.Needs.{needs}
-use Rattle.calls.specs.declared.DoneAnswer.the-variants.{Done, Refused}
+use Rattle.promise.specs.declared.DoneAnswer.the-variants.{Done, Refused}
 use Rattle.bench.proofs.Laws.{number-value, number-refused}
 use Rattle.bench.proofs.done_number.Statement.{statement}
 use Rattle.bench.proofs.done_number.Tie as tie

@@ -3,7 +3,7 @@
 use Prim.Native.Nat.{ℕ, _<_}
 use native.Mathlib.Omega.{arith}
 use borrow.Author.Needs.{needs}
-use Rattle.calls.specs.declared.TypeAnswer.the-variants.{Is, Refused}
+use Rattle.promise.specs.declared.TypeAnswer.the-variants.{Is, Refused}
 use Rattle.bench.specs.Numbers.{REFUSED, typeWord}
 use Rattle.bench.proofs.Laws.{number-value, number-refused}
 use Rattle.bench.proofs.type_number.Statement.{statement}

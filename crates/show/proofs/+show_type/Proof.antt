@@ -12,7 +12,7 @@ use Rattle.names.specs.Place.{texts}
 use Rattle.chart.specs.Env.{envOf}
 use Rattle.layout.specs.Words.{decode}
 use Rattle.layout.proofs.LinkLaws.{clean-linked}
-use Rattle.page.proofs.Laws.{page-full, page-then}
+use Rattle.append.proofs.Laws.{page-full, page-then}
 use Rattle.show.specs.Level.{gapOf, kidOf, closeOf}
 use Rattle.show.proofs.Turns.{Turn, turn-start, turn-next, turn-end, show-shallow, show-unknown, show-known, kid-shown}
 use Prim.Native.Nat.{ℕ, _<_}
@@ -22,7 +22,7 @@ use Rattle.show.proofs.show_type.Reads as show-type
 use Rattle.show.proofs.show_type.Kinds as show-type-kinds
 use Rattle.show.proofs.+show_type.Lts-show_type as show-type-lts
 use Rattle.layout.proofs.child_of.Reads as child-of-reads
-use Rattle.page.proofs.is_full.Reads as is-full-reads
+use Rattle.append.proofs.is_full.Reads as is-full-reads
 use Rattle.roots.proofs.find.Reads as find-reads
 use Rattle.show.proofs.held_at.Reads as held-at-reads
 use Rattle.show.proofs.inner.Reads as inner-reads

@@ -2,7 +2,7 @@
 -- Assumes nothing.
 use borrow.Author.Needs.{needs}
 use borrow.Author.Tests.{eq-eqb, ne-eqb, lt-ltb, le-ltb}
-use Rattle.page.proofs.Laws.{page-none}
+use Rattle.append.proofs.Laws.{page-none}
 use Rattle.show.specs.Level.{closeOf}
 use Rattle.show.proofs.put_close.Statement.{statement}
 use Rattle.show.proofs.put_close.Tie as tie

@@ -2,7 +2,7 @@
 -- Assumes nothing.
 use borrow.Author.Needs.{needs}
 use borrow.Author.Tests.{eq-eqb, ne-eqb}
-use Rattle.page.proofs.Laws.{page-none}
+use Rattle.append.proofs.Laws.{page-none}
 use Rattle.show.proofs.put_comma.Statement.{statement}
 use Rattle.show.proofs.put_comma.Tie as tie
 

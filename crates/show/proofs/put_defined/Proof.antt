@@ -3,7 +3,7 @@
 use mathlib.Core.List.{append-nil}
 use borrow.Author.Needs.{needs}
 use borrow.Author.Tests.{eq-eqb, ne-eqb}
-use Rattle.page.proofs.Laws.{page-then}
+use Rattle.append.proofs.Laws.{page-then}
 use Rattle.show.proofs.put_defined.Statement.{statement}
 use Rattle.show.proofs.put_defined.Tie as tie
 

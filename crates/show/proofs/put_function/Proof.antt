@@ -2,7 +2,7 @@
 -- Assumes nothing.
 use borrow.Author.Needs.{needs}
 use borrow.Author.Tests.{eq-eqb, ne-eqb}
-use Rattle.page.proofs.Laws.{page-then}
+use Rattle.append.proofs.Laws.{page-then}
 use Rattle.show.proofs.put_function.Statement.{statement}
 use Rattle.show.proofs.put_function.Tie as tie
 

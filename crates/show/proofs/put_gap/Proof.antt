@@ -5,7 +5,7 @@ use native.Mathlib.Omega.{arith}
 use borrow.Author.Needs.{needs}
 use borrow.Author.Tests.{eq-eqb, ne-eqb}
 use Rattle.names.specs.Place.{texts}
-use Rattle.page.proofs.Laws.{page-none}
+use Rattle.append.proofs.Laws.{page-none}
 use Rattle.show.specs.Level.{gapOf}
 use Rattle.show.proofs.Laws.{entry-at}
 use Rattle.show.proofs.put_gap.Statement.{statement}

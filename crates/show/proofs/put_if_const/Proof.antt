@@ -2,7 +2,7 @@
 -- Assumes nothing.
 use borrow.Author.Needs.{needs}
 use borrow.Author.Tests.{lt-ltb, le-ltb}
-use Rattle.page.proofs.Laws.{page-none, page-then}
+use Rattle.append.proofs.Laws.{page-none, page-then}
 use Rattle.show.proofs.put_if_const.Statement.{statement}
 use Rattle.show.proofs.put_if_const.Tie as tie
 

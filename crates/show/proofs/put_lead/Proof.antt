@@ -2,7 +2,7 @@
 -- Assumes nothing.
 use borrow.Author.Needs.{needs}
 use borrow.Author.Tests.{eq-eqb, ne-eqb, lt-ltb, le-ltb}
-use Rattle.page.proofs.Laws.{page-then}
+use Rattle.append.proofs.Laws.{page-then}
 use Rattle.show.specs.Level.{leadOf}
 use Rattle.show.proofs.put_lead.Statement.{statement}
 use Rattle.show.proofs.put_lead.Tie as tie

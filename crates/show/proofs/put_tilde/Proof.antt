@@ -2,7 +2,7 @@
 -- Assumes nothing.
 use borrow.Author.Needs.{needs}
 use borrow.Author.Tests.{not-true, not-false}
-use Rattle.page.proofs.Laws.{page-none}
+use Rattle.append.proofs.Laws.{page-none}
 use Rattle.show.proofs.put_tilde.Statement.{statement}
 use Rattle.show.proofs.put_tilde.Tie as tie
 

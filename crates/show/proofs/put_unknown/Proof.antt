@@ -1,7 +1,7 @@
 -- `show::put_unknown` meets its contract: the inversion, then the number.
 -- Assumes nothing.
 use borrow.Author.Needs.{needs}
-use Rattle.page.proofs.Laws.{page-then}
+use Rattle.append.proofs.Laws.{page-then}
 use Rattle.show.proofs.put_unknown.Statement.{statement}
 use Rattle.show.proofs.put_unknown.Tie as tie
 

@@ -1,0 +1,80 @@
+// The calls `force_kind`, `finish_inference` and `finish_inference_where` on any numbers at all: each tests and refuses, or does what document 01 says.
+// Refusals come in the order 2, 8, 3.
+ghost use Rattle.scope.specs.Types.{tyOf};
+ghost use Rattle.scope.specs.Calls.{forceKindCall, finishInferenceCall, finishWhereCall};
+ghost use Rattle.layout.specs.Words.{lentOf};
+ghost use Rattle.sound.specs.Tests.{envIn};
+ghost use Rattle.promise.specs.Promise.{doneReply, Promised};
+ghost use Rattle.call_force.specs.Replies.{forcedReply};
+use chart::Beside;
+use force::Forced;
+use promise::DoneAnswer;
+use sound::NO_REFUSAL;
+use types::Type;
+
+// What a forced type has, or a refusal's number.
+pub enum ForcedAnswer {
+    Is(Forced),
+    Refused(u32),
+}
+
+// "A Known gives its kind and its inversion combined with the type's. An Unknown becomes InferenceFailed, its span is in the answer and one report count rises."
+pub fn force_kind<'a>(
+    chart: &[u32],
+    beside: Beside,
+    rule: &'a [u8],
+    text: &'a [u8],
+    h: &mut [u32],
+    ws: &mut [u32],
+    ks: &[u32],
+    t: Type,
+) -> ForcedAnswer
+    ensures { λ r. ⌜ Promised (forceKindCall (envIn (now (chart .entry)) beside (now (rule .entry)) (now (text .entry))) (lentOf (now (h .entry)) (now (ws .entry)) (now (ks .entry))) (tyOf (t .0))) (forcedReply (now (ks .entry)) r) (now (h .entry)) (now (ws .entry)) (now (ks .entry)) (now (h .exit)) (now (ws .exit)) (now (ks .entry)) ⌝ }
+{
+    let code = promise::refusal_at(chart, beside, rule, text, h, ws, ks, t);
+    if code != NO_REFUSAL {
+        return ForcedAnswer::Refused(code);
+    }
+    ForcedAnswer::Is(force::force_kind(h, ws, ks, t))
+}
+
+// "only roots without a kind change, each to Default uninverted"
+pub fn finish_inference<'a>(
+    chart: &[u32],
+    beside: Beside,
+    rule: &'a [u8],
+    text: &'a [u8],
+    h: &[u32],
+    ws: &mut [u32],
+    ks: &[u32],
+) -> DoneAnswer
+    ensures { λ r. ⌜ Promised (finishInferenceCall (envIn (now (chart .entry)) beside (now (rule .entry)) (now (text .entry))) (lentOf (now (h .entry)) (now (ws .entry)) (now (ks .entry)))) (doneReply r) (now (h .entry)) (now (ws .entry)) (now (ks .entry)) (now (h .entry)) (now (ws .exit)) (now (ks .entry)) ⌝ }
+{
+    let broken = sound::refusal(chart, beside, rule, text, h, ws, ks);
+    if broken != NO_REFUSAL {
+        return DoneAnswer::Refused(broken);
+    }
+    force::finish_inference(h, ws, ks);
+    DoneAnswer::Done
+}
+
+// "a lent byte for each node, nonzero chooses, absent means no"
+pub fn finish_inference_where<'a>(
+    chart: &[u32],
+    beside: Beside,
+    rule: &'a [u8],
+    text: &'a [u8],
+    h: &[u32],
+    ws: &mut [u32],
+    ks: &[u32],
+    bytes: &[u8],
+) -> DoneAnswer
+    ensures { λ r. ⌜ Promised (finishWhereCall (envIn (now (chart .entry)) beside (now (rule .entry)) (now (text .entry))) (lentOf (now (h .entry)) (now (ws .entry)) (now (ks .entry))) (now (bytes .entry))) (doneReply r) (now (h .entry)) (now (ws .entry)) (now (ks .entry)) (now (h .entry)) (now (ws .exit)) (now (ks .entry)) ⌝ }
+{
+    let lent = sound::refusal(chart, beside, rule, text, h, ws, ks);
+    if lent != NO_REFUSAL {
+        return DoneAnswer::Refused(lent);
+    }
+    force::finish_inference_where(h, ws, ks, bytes);
+    DoneAnswer::Done
+}

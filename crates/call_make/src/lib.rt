@@ -1,0 +1,228 @@
+// The calls that open, empty and fill a store, on any numbers at all: each tests and refuses, or makes what document 01 says. Refusals come in 01's order:
+// 2 and 8, then 10, 11 and 7; opening has 1 alone. What a call needs of room is tested here once, for every maker.
+ghost use mathlib.Core.Path.{_≡_};
+ghost use mathlib.Core.List.{List, [], _∷_, _++_};
+ghost use Prim.Native.Nat.{ℕ, _+_};
+ghost use lib.Dec.{ltb};
+ghost use lib.ListN.{length};
+ghost use Rattle.scope.specs.Calls.{firstBroken, openTest, storeOf, lentTests, roomTests, nodesFor, openCall, resetCall, newVarCall, newVarsCall, errorCall, nilCall};
+ghost use Rattle.layout.specs.Words.{storeIn, lentOf};
+ghost use Rattle.layout.specs.Meaning.{rememberedMeans};
+ghost use Rattle.sound.specs.Tests.{envIn, codeOf};
+ghost use Rattle.promise.specs.Promise.{doneReply, typeReply, Promised};
+ghost use Rattle.call_make.specs.Opening.{enough};
+ghost use Rattle.call_make.specs.Listed.{Listed};
+use chart::Beside;
+use layout::HEAD_WORDS;
+use layout::Remembered;
+use promise::DoneAnswer;
+use promise::NO_CHILDREN;
+use promise::NO_NODES;
+use promise::SHORT;
+use promise::TypeAnswer;
+use scope::MAX_CHILDREN;
+use scope::MAX_NODES;
+use sound::NO_REFUSAL;
+
+// "opening: capacity above the limit or buffers too short"
+pub const UNOPENABLE: u32 = 1;
+
+// "nodes made plus those needed exceed the capacity"
+fn exceeds(made: u32, more: u32, room: u32) -> bool
+    ensures { λ r. ⌜ r ≡ ltb room (made + more) ⌝ }
+{
+    (room as u64) < made as u64 + more as u64
+}
+
+// The first of refusals 10 and 11 that stands where so many nodes and children more are to be made, and 0 where none does. It looks at the header alone.
+pub fn room(h: &[u32], nodes: u32, children: u32) -> u32
+    ensures { λ r. ⌜ ((ws ks : List ℕ) → firstBroken (roomTests (storeIn (now (h .entry)) ws ks) nodes children) ≡ codeOf r) ⌝ }
+{
+    let x = layout::read_header(h);
+    if exceeds(x.nodes, nodes, x.node_room) {
+        return NO_NODES;
+    }
+    if exceeds(x.children, children, x.child_room) {
+        return NO_CHILDREN;
+    }
+    NO_REFUSAL
+}
+
+// The slices have the words that the capacities need.
+fn long_enough(h: &[u32], ws: &[u32], ks: &[u32], nodes: u32, children: u32) -> bool
+    ensures { λ r. ⌜ r ≡ enough nodes children (now (h .entry)) (now (ws .entry)) (now (ks .entry)) ⌝ }
+{
+    if h.len() < HEAD_WORDS {
+        return false;
+    }
+    if ws.len() < layout::node_words(nodes) {
+        return false;
+    }
+    layout::child_words(children) <= ks.len()
+}
+
+// Refusal 1 where it stands, and 0 where it does not.
+pub fn opening(h: &[u32], ws: &[u32], ks: &[u32], nodes: u32, children: u32) -> u32
+    ensures { λ r. ⌜ firstBroken (openTest nodes children (enough nodes children (now (h .entry)) (now (ws .entry)) (now (ks .entry))) ∷ []) ≡ codeOf r ⌝ }
+{
+    if nodes as usize > MAX_NODES {
+        return UNOPENABLE;
+    }
+    if children as usize > MAX_CHILDREN {
+        return UNOPENABLE;
+    }
+    if !long_enough(h, ws, ks, nodes, children) {
+        return UNOPENABLE;
+    }
+    NO_REFUSAL
+}
+
+// A store without nodes, whatever the slices held. "Nodes 0 to 4,096; children over all nodes ever made 0 to 16,384, both chosen at opening"
+pub fn open(h: &mut [u32], ws: &mut [u32], ks: &mut [u32], nodes: u32, children: u32) -> DoneAnswer
+    ensures { λ r. ⌜ Promised (openCall nodes children (enough nodes children (now (h .entry)) (now (ws .entry)) (now (ks .entry)))) (doneReply r) (now (h .entry)) (now (ws .entry)) (now (ks .entry)) (now (h .exit)) (now (ws .exit)) (now (ks .exit)) ⌝ }
+{
+    let code = opening(h, ws, ks, nodes, children);
+    if code != NO_REFUSAL {
+        return DoneAnswer::Refused(code);
+    }
+    make::open(h, ws, ks, nodes, children);
+    DoneAnswer::Done
+}
+
+// "`reset` frees all"; the report count "outlives `reset`".
+pub fn reset<'a>(
+    chart: &[u32],
+    beside: Beside,
+    rule: &'a [u8],
+    text: &'a [u8],
+    h: &mut [u32],
+    ws: &mut [u32],
+    ks: &mut [u32],
+) -> DoneAnswer
+    ensures { λ r. ⌜ Promised (resetCall (envIn (now (chart .entry)) beside (now (rule .entry)) (now (text .entry))) (lentOf (now (h .entry)) (now (ws .entry)) (now (ks .entry)))) (doneReply r) (now (h .entry)) (now (ws .entry)) (now (ks .entry)) (now (h .exit)) (now (ws .exit)) (now (ks .exit)) ⌝ }
+{
+    let broken = sound::refusal(chart, beside, rule, text, h, ws, ks);
+    if broken != NO_REFUSAL {
+        return DoneAnswer::Refused(broken);
+    }
+    make::reset(h, ws, ks);
+    DoneAnswer::Done
+}
+
+// The first of refusals 2, 8 and 10 that stands where so many nodes more are to be made, and 0 where none does.
+fn refusal_for<'a>(
+    chart: &[u32],
+    beside: Beside,
+    rule: &'a [u8],
+    text: &'a [u8],
+    h: &[u32],
+    ws: &[u32],
+    ks: &[u32],
+    nodes: u32,
+) -> u32
+    ensures { λ r. ⌜ firstBroken (lentTests (envIn (now (chart .entry)) beside (now (rule .entry)) (now (text .entry))) (lentOf (now (h .entry)) (now (ws .entry)) (now (ks .entry))) ++ roomTests (storeOf (lentOf (now (h .entry)) (now (ws .entry)) (now (ks .entry)))) nodes 0) ≡ codeOf r ⌝ }
+{
+    let lent = sound::refusal(chart, beside, rule, text, h, ws, ks);
+    if lent != NO_REFUSAL {
+        return lent;
+    }
+    room(h, nodes, 0)
+}
+
+// "`new_var`": a type without a kind, and its span.
+pub fn new_var<'a>(
+    chart: &[u32],
+    beside: Beside,
+    rule: &'a [u8],
+    text: &'a [u8],
+    h: &mut [u32],
+    ws: &mut [u32],
+    ks: &[u32],
+    span: u32,
+) -> TypeAnswer
+    ensures { λ r. ⌜ Promised (newVarCall (envIn (now (chart .entry)) beside (now (rule .entry)) (now (text .entry))) (lentOf (now (h .entry)) (now (ws .entry)) (now (ks .entry))) span) (typeReply r) (now (h .entry)) (now (ws .entry)) (now (ks .entry)) (now (h .exit)) (now (ws .exit)) (now (ks .entry)) ⌝ }
+{
+    let code = refusal_for(chart, beside, rule, text, h, ws, ks, 1);
+    if code != NO_REFUSAL {
+        return TypeAnswer::Refused(code);
+    }
+    TypeAnswer::Is(make::new_var(h, ws, ks, span))
+}
+
+// `count` types without a kind; they stand at the front of `out`. "The count given to `new_vars` is limited by 10 and 7 only"
+pub fn new_vars<'a>(
+    chart: &[u32],
+    beside: Beside,
+    rule: &'a [u8],
+    text: &'a [u8],
+    h: &mut [u32],
+    ws: &mut [u32],
+    ks: &[u32],
+    span: u32,
+    count: u32,
+    out: &mut [u32],
+) -> DoneAnswer
+    ensures { λ r. ⌜ Listed (newVarsCall (envIn (now (chart .entry)) beside (now (rule .entry)) (now (text .entry))) (lentOf (now (h .entry)) (now (ws .entry)) (now (ks .entry))) span count (length (now (out .entry)))) r count (now (h .entry)) (now (ws .entry)) (now (ks .entry)) (now (h .exit)) (now (ws .exit)) (now (ks .entry)) (now (out .entry)) (now (out .exit)) ⌝ }
+{
+    let code = refusal_for(chart, beside, rule, text, h, ws, ks, count);
+    if code != NO_REFUSAL {
+        return DoneAnswer::Refused(code);
+    }
+    if out.len() < count as usize {
+        return DoneAnswer::Refused(SHORT);
+    }
+    make::new_vars(h, ws, ks, span, count, out);
+    DoneAnswer::Done
+}
+
+// `error` and `nil` "make one node each and return it until `reset`".
+fn nodes_for(was: Remembered) -> u32
+    ensures { λ r. ⌜ r ≡ nodesFor (rememberedMeans was) ⌝ }
+{
+    match was {
+        Remembered::Is(_) => 0,
+        Remembered::Nothing => 1,
+    }
+}
+
+// The error type.
+pub fn error<'a>(
+    chart: &[u32],
+    beside: Beside,
+    rule: &'a [u8],
+    text: &'a [u8],
+    h: &mut [u32],
+    ws: &mut [u32],
+    ks: &[u32],
+) -> TypeAnswer
+    ensures { λ r. ⌜ Promised (errorCall (envIn (now (chart .entry)) beside (now (rule .entry)) (now (text .entry))) (lentOf (now (h .entry)) (now (ws .entry)) (now (ks .entry)))) (typeReply r) (now (h .entry)) (now (ws .entry)) (now (ks .entry)) (now (h .exit)) (now (ws .exit)) (now (ks .entry)) ⌝ }
+{
+    let x = layout::read_header(h);
+    let was = x.error;
+    let code = refusal_for(chart, beside, rule, text, h, ws, ks, nodes_for(was));
+    if code != NO_REFUSAL {
+        return TypeAnswer::Refused(code);
+    }
+    TypeAnswer::Is(make::error(h, ws, ks))
+}
+
+// The type of nothing: a Tuple without children.
+pub fn nil<'a>(
+    chart: &[u32],
+    beside: Beside,
+    rule: &'a [u8],
+    text: &'a [u8],
+    h: &mut [u32],
+    ws: &mut [u32],
+    ks: &[u32],
+) -> TypeAnswer
+    ensures { λ r. ⌜ Promised (nilCall (envIn (now (chart .entry)) beside (now (rule .entry)) (now (text .entry))) (lentOf (now (h .entry)) (now (ws .entry)) (now (ks .entry)))) (typeReply r) (now (h .entry)) (now (ws .entry)) (now (ks .entry)) (now (h .exit)) (now (ws .exit)) (now (ks .entry)) ⌝ }
+{
+    let x = layout::read_header(h);
+    let was = x.nil;
+    let code = refusal_for(chart, beside, rule, text, h, ws, ks, nodes_for(was));
+    if code != NO_REFUSAL {
+        return TypeAnswer::Refused(code);
+    }
+    TypeAnswer::Is(make::nil(h, ws, ks))
+}

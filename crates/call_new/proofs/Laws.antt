@@ -1,0 +1,278 @@
+-- One law for each way out of `new`. A kind that 4 does not turn back has whole entries and no name too many, so it is the kind that the entries' words
+-- mean, and the core makes it where 10 and 11 find room. What stands beside the chart is not looked at.
+-- Assumes nothing.
+use mathlib.Core.Path.{_≡_, refl, ap, sym, _∙_}
+use mathlib.Core.Bool.{Bool, true, false, not, and-false}
+use mathlib.Core.List.{List, [], _∷_, _++_, append-nil}
+use mathlib.Core.Option.{Option, none, some}
+use Prim.Native.Nat.{ℕ, suc, _+_, _-_, _%_, _≤_, _<_}
+use native.Mathlib.Omega.{arith}
+use lib.Dec.{eqb, ltb, leb}
+use lib.ListN.{length, length-append}
+use borrow.Author.Tests.{ltb-true, ltb-false, lt-leb, eq-eqb, ne-eqb}
+use Rattle.scope.specs.Base.{pick, all}
+use Rattle.scope.specs.Limits.{MAX-WIDTH}
+use Rattle.scope.specs.Names.{Texts, Name}
+use Rattle.scope.specs.Chart.{Env}
+use Rattle.scope.specs.Types.{Ty, tyOf}
+use Rattle.scope.specs.Kinds.{Head, rowOf, OWN-NAME, CHILD-NAMES, PARAMETER-NAMES, flagOf, shapeFits, namesOk, makeable, defined}
+use Rattle.scope.specs.Nodes as nodes
+use Rattle.scope.specs.Nodes.{Node, Store}
+use Rattle.scope.specs.Sound.{Lent, inStore, namesClean}
+use Rattle.scope.specs.Make.{new}
+use Rattle.scope.specs.Calls.{NewKind, Outcome, judged, firstBroken, orRefused, storeOf, lentTests, outside, roomTests, kindMade, madeType, newCall}
+use Rattle.names.specs.Place.{texts}
+use Rattle.chart.specs.declared.Beside.{Beside}
+use Rattle.chart.specs.Env.{envOf, chartIn, chartAlone}
+use Rattle.types.specs.declared.«Type».{«Type»}
+use Rattle.layout.specs.Words.{storeIn, lentOf}
+use Rattle.layout.specs.Meaning.{kindCell, kindMeans, headerIn}
+use Rattle.layout.specs.Clean.{namedOf}
+use Rattle.layout.specs.declared.Header.{Header}
+use Rattle.layout.specs.declared.Kind.{Kind}
+use Rattle.layout.proofs.KindLaws.{names-count}
+use Rattle.layout.proofs.Lists.{and-right}
+use Rattle.kind_sound.proofs.Laws.{flag-reads, defined-chart}
+use Rattle.make.specs.Holds.{Ready, MadeIs}
+use Rattle.make.specs.Given.{entryCount, kindAt, kindGiven, KindReady}
+use Rattle.make.specs.declared.NewKind as make
+use Rattle.make.proofs.NewLaws.{kind-ready}
+use Rattle.sound.specs.Tests.{envIn, codeOf}
+use Rattle.promise.specs.Promise.{Promised, Reply, value, refusal, entryTypes}
+use Rattle.promise.proofs.Laws.{code-none, code-some, none-some, code-first, code-next, test-passed, tests-passed, judged-refused, judged-done, lent-refused, lent-passed, lent-next, lent-env, lent-store, lent-outside, entries-long, promised-back, promised-done}
+use Rattle.call_make.proofs.RoomLaws.{ready-more}
+use Rattle.call_make.proofs.MakerLaws.{made-done}
+use Rattle.call_new.specs.declared.KindArgs.{KindArgs}
+use Rattle.call_new.specs.Lent.{withFlag, kindLent, tidy, given, listTests, kindTests, insideCall}
+
+-- 4: too wide, or with a name too many
+
+module _ (x : Texts) (h : Head) (n : ℕ) where
+  wide-unmakeable : MAX-WIDTH < n → makeable x h n ≡ false
+  unfolding makeable
+  wide-unmakeable q = rw (lt-leb n MAX-WIDTH q) (and-false (ltb (h .code) 15))
+
+  misnamed-unmakeable : namesOk x (rowOf (h .code) .names) (h .names) n ≡ false → makeable x h n ≡ false
+  unfolding makeable
+  misnamed-unmakeable q =
+      rw (q, and-false (shapeFits (rowOf (h .code) .shape) n), and-false (leb n MAX-WIDTH)) (and-false (ltb (h .code) 15))
+
+over-by : (a b c : Bool) (x : Texts) (d n : ℕ) (ns : List (Option Name)) → eqb d OWN-NAME ≡ a → eqb d CHILD-NAMES ≡ b → eqb d PARAMETER-NAMES ≡ c
+    → length ns ≡ pick a 1 (pick b n (pick c (n - 1) 0)) + 1 → namesOk x d ns n ≡ false
+unfolding namesOk
+over-by true b c x d n ns e f g l = rw (e, ne-eqb (length ns) 1 (λ q. omega arith))
+over-by false true c x d n ns e f g l = rw (e, f, ne-eqb (length ns) n (λ q. omega arith))
+over-by false false true x d n ns e f g l = rw (e, f, g, ne-eqb (suc (length ns)) n (λ q. omega arith))
+over-by false false false x d n ns e f g l = rw (e, f, g, ne-eqb (length ns) 0 (λ q. omega arith))
+
+surplus-misnamed : (x : Texts) (es : List ℕ) (k : Kind)
+    → namesOk x (rowOf (k .code) .names) (kindMeans es k .head .names ++ (none ∷ [])) (k .count) ≡ false
+surplus-misnamed x es k =
+    let d : ℕ = rowOf (k .code) .names in
+    let ns : List (Option Name) = kindMeans es k .head .names in
+    let l : length (ns ++ (none ∷ [])) ≡ pick (eqb d OWN-NAME) 1 (namedOf d (k .count)) + 1 =
+    length-append ns (none ∷ []) ∙ ap (λ (m : ℕ). m + 1) (names-count es k) in
+    over-by (eqb d OWN-NAME) (eqb d CHILD-NAMES) (eqb d PARAMETER-NAMES) x d (k .count) (ns ++ (none ∷ [])) refl refl refl l
+
+-- what is given
+
+module _ (k : KindArgs) (es : List ℕ) where
+  pub given-kids : given k es .kids ≡ entryTypes es
+  unfolding given
+  given-kids = refl
+
+  given-count : length (given k es .kids) ≡ entryCount es
+  given-count = ap length given-kids ∙ entries-long es
+
+  given-kind : (e : Env) (d : Bool) → d ≡ flagOf e (k .code) (k .number) → tidy k es ≡ true → kindMade e (given k es) ≡ kindMeans es (kindLent k d es)
+  unfolding given kindMeans
+  given-kind e d f t = rw (t, ← f, append-nil)
+
+  untidy-unmakeable : (e : Env) → tidy k es ≡ false → makeable (e .texts) (kindMade e (given k es) .head) (length (given k es .kids)) ≡ false
+  unfolding given
+  untidy-unmakeable e t =
+      rw (given-count, t)
+      (misnamed-unmakeable (e .texts) _ (entryCount es) (surplus-misnamed (e .texts) es (kindLent k false es)))
+
+  -- 4 turns back what is not tidy
+  untidy-test : (e : Env) (ts : List (Bool × ℕ)) → tidy k es ≡ false → firstBroken (kindTests e (given k es) ++ ts) ≡ some 4
+  untidy-test e ts t = rw (untidy-unmakeable e t)
+
+-- kind_refusal
+
+module _ (cs rule text : List ℕ) (k : KindArgs) (es : List ℕ) where
+  abbrev env : Env
+  env = chartIn cs rule text
+
+  abbrev flag : Bool
+  flag = flagOf (chartAlone cs) (k .code) (k .number)
+
+  flag-is : flag ≡ flagOf env (k .code) (k .number)
+  flag-is = flag-reads (chartAlone cs) env refl (k .code) (k .number)
+
+  pub torn-refused : (length es % 4 ≡ 0 → ⊥) → firstBroken (kindTests env (given k es)) ≡ codeOf 4
+  torn-refused z = untidy-test k es env [] (rw (ne-eqb (length es % 4) 0 z))
+
+  module _ {n : make.NewKind} {kind : Kind} (f : n ≡ withFlag k flag) (g : kind ≡ kindAt n 0 (entryCount es)) (whole : length es % 4 ≡ 0) where
+    kind-is : kind ≡ kindLent k flag es
+    kind-is = g ∙ ap (λ (m : make.NewKind). kindAt m 0 (entryCount es)) f
+
+    tidy-by : {b : Bool} → b ≡ namesClean (kindCell es kind) → tidy k es ≡ b
+    tidy-by q = rw (eq-eqb (length es % 4) 0 whole) (sym (q ∙ ap (λ (y : Kind). namesClean (kindCell es y)) kind-is))
+
+    pub unclean-refused : {b : Bool} → b ≡ namesClean (kindCell es kind) → b ≡ false → firstBroken (kindTests env (given k es)) ≡ codeOf 4
+    unclean-refused q z = untidy-test k es env [] (tidy-by q ∙ z)
+
+    module _ {b : Bool} (q : b ≡ namesClean (kindCell es kind)) (y : b ≡ true) where
+      made-is : kindMade env (given k es) ≡ kindMeans es kind
+      made-is = given-kind k es env flag flag-is (tidy-by q ∙ y) ∙ sym (ap (kindMeans es) kind-is)
+
+      width-is : length (given k es .kids) ≡ kind .count
+      width-is = given-count k es ∙ sym (ap (λ (y : Kind). y .count) kind-is)
+
+      module _ {m : Bool} (p : m ≡ makeable (texts rule text) (kindMeans es kind .head) (kind .count)) where
+        made-test : makeable (texts rule text) (kindMade env (given k es) .head) (length (given k es .kids)) ≡ m
+        made-test =
+            ap (λ (y : nodes.Kind). makeable (texts rule text) (y .head) (length (given k es .kids))) made-is ∙ rw width-is (sym p)
+
+        pub unmade-refused : m ≡ false → firstBroken (kindTests env (given k es)) ≡ codeOf 4
+        unmade-refused z = rw (made-test ∙ z)
+
+        module _ {d : Bool} (r : d ≡ defined (chartAlone cs) (kindMeans [] kind .head)) (o : m ≡ true) where
+          defined-test : firstBroken (kindTests env (given k es)) ≡ firstBroken ((not d, 5) ∷ [])
+          defined-test =
+              let v : defined env (kindMade env (given k es) .head) ≡ d =
+              ap (λ (y : nodes.Kind). defined env (y .head)) made-is ∙ (defined-chart env cs refl es kind ∙ sym r) in
+              rw (made-test ∙ o, v)
+
+          pub undefined-refused : d ≡ false → firstBroken (kindTests env (given k es)) ≡ codeOf 5
+          undefined-refused z = defined-test ∙ rw z
+
+          pub kind-passed : d ≡ true → firstBroken (kindTests env (given k es)) ≡ codeOf 0
+          kind-passed z = defined-test ∙ rw z
+
+-- make_inside
+
+module _ (cs rule text h ws ks : List ℕ) (k : KindArgs) (es : List ℕ) where
+  abbrev a : NewKind
+  a = given k es
+
+  abbrev inner : Env
+  inner = chartIn cs rule text
+
+  abbrev s : Store
+  s = storeIn h ws ks
+
+  abbrev rooms : List (Bool × ℕ)
+  rooms = roomTests s 1 (length (a .kids))
+
+  module _ (n : ℕ) (q : firstBroken (kindTests inner a) ≡ codeOf n) where
+    pub inside-refused : (n ≡ 0 → ⊥) → Promised (insideCall inner s a) (refusal n) h ws ks h ws ks
+    inside-refused z = promised-back (judged-refused (kindTests inner a ++ rooms) _ n (code-first (kindTests inner a) rooms n q z) z)
+
+    module _ (z : n ≡ 0) (m : ℕ) (p : (ws ks : List ℕ) → firstBroken (roomTests (storeIn h ws ks) 1 (entryCount es)) ≡ codeOf m) where
+      all-tests : firstBroken (kindTests inner a ++ rooms) ≡ codeOf m
+      all-tests = code-next (kindTests inner a) rooms n q z ∙ rw (given-count k es) (p ws ks)
+
+      pub inside-full : (m ≡ 0 → ⊥) → Promised (insideCall inner s a) (refusal m) h ws ks h ws ks
+      inside-full y = promised-back (judged-refused (kindTests inner a ++ rooms) _ m all-tests y)
+
+      module _ (y : m ≡ 0) where
+        tidy-go : (t : Bool) → tidy k es ≡ t → tidy k es ≡ true
+        tidy-go true r = r
+        tidy-go false r = none-some 4 (sym (untidy-test k es inner rooms r) ∙ (all-tests ∙ code-none m y))
+
+        inside-tidy : tidy k es ≡ true
+        inside-tidy = tidy-go (tidy k es) refl
+
+        module _ {f : make.NewKind} (g : f ≡ withFlag k (flagOf (chartAlone cs) (k .code) (k .number))) where
+          pub inside-ready : Ready h ws ks 0 0 → KindReady h ws ks f es
+          inside-ready r = rw g (kind-ready (withFlag k (flagOf (chartAlone cs) (k .code) (k .number))) es
+              (ready-more 1 (entryCount es) r (p ws ks ∙ code-none m y))
+              (and-right (eqb (length es % 4) 0) (namesClean (kindCell es (kindLent k false es))) inside-tidy))
+
+          kind-made : kindMade inner a ≡ kindGiven f es
+          kind-made =
+              given-kind k es inner (flagOf (chartAlone cs) (k .code) (k .number)) (flag-is cs rule text k es) inside-tidy
+              ∙ sym (ap (λ (n : make.NewKind). kindGiven n es) g)
+
+          pub inside-made : {h′ ws′ ks′ : List ℕ} {t : «Type»} → MadeIs h ws ks h′ ws′ ks′ t (new s (kindGiven f es))
+              → Promised (insideCall inner s a) (value (tyOf (t .0))) h ws ks h′ ws′ ks′
+          inside-made o =
+              let j = judged-done (kindTests inner a ++ rooms) (madeType (new s (kindMade inner a))) m all-tests y in
+              promised-done (j ∙ (ap (λ y. madeType (new s y)) kind-made ∙ made-done o)) (o .store)
+
+-- 2, 8 and 3
+
+-- a list that is not turned back is no wider than 255
+pub listed-narrow : (i : Bool) (w m : ℕ) → firstBroken (listTests i w) ≡ codeOf m → m ≡ 0 → w ≤ MAX-WIDTH
+listed-narrow i w m p z =
+    let t : Bool = ltb MAX-WIDTH w in
+    ltb-false MAX-WIDTH w (test-passed t 4 [] (tests-passed (not i) 3 ((t, 4) ∷ []) (p ∙ code-none m z)))
+
+beside-unread : (cs : List ℕ) (b : Beside) (rule text : List ℕ) (s : Store) (a : NewKind)
+    → insideCall (envOf cs b rule text) s a ≡ insideCall (chartIn cs rule text) s a
+unfolding defined flagOf
+beside-unread cs b rule text s a = refl
+
+module _ (cs : List ℕ) (b : Beside) (rule text h ws ks : List ℕ) (a : NewKind) where
+  abbrev outer : Env
+  outer = envIn cs b rule text
+
+  abbrev lent : Lent
+  lent = lentOf h ws ks
+
+  abbrev later : List (Bool × ℕ)
+  later = kindTests outer a ++ roomTests (storeOf lent) 1 (length (a .kids))
+
+  abbrev tests : List (Bool × ℕ)
+  tests = lentTests outer lent ++ (outside (storeOf lent) (a .kids) ∷ later)
+
+  abbrev made : Outcome Ty
+  made = madeType (new (storeOf lent) (kindMade outer a))
+
+  call-tests : newCall outer lent a ≡ judged tests made
+  unfolding newCall
+  call-tests = refl
+
+  module _ (n : ℕ) (q : firstBroken (lentTests outer lent) ≡ codeOf n) where
+    pub new-lent : (n ≡ 0 → ⊥) → Promised (newCall outer lent a) (refusal n) h ws ks h ws ks
+    new-lent z = promised-back (call-tests ∙ judged-refused tests made n (lent-refused outer h ws ks (outside (storeOf lent) (a .kids) ∷ later) n q z) z)
+
+    module _ (z : n ≡ 0) {x : Header} (g : x ≡ headerIn h) (ts : List Ty) (kids : a .kids ≡ ts) {w : ℕ} (many : length ts ≡ w) {i : Bool}
+        (o : (ns : List Node) → length ns ≡ x .nodes → i ≡ all (inStore ns) ts) where
+      inside-tests : firstBroken tests ≡ firstBroken ((not i, 3) ∷ later)
+      inside-tests =
+          lent-next outer h ws ks (outside (storeOf lent) (a .kids) ∷ later) n q z
+          ∙ ap (λ t. firstBroken (t ∷ later)) (ap (outside (storeOf lent)) kids ∙ lent-outside outer h ws ks (lent-passed outer h ws ks n q z) x g ts i o)
+
+      too-wide : MAX-WIDTH < w → makeable (outer .texts) (kindMade outer a .head) (length (a .kids)) ≡ false
+      too-wide l = wide-unmakeable (outer .texts) (kindMade outer a .head) (length (a .kids)) (rw (kids, many) l)
+
+      -- where 3 or the width turns the call back
+      list-by : (b t : Bool) (m : ℕ) → i ≡ b → ltb MAX-WIDTH w ≡ t → firstBroken (listTests b w) ≡ some m → firstBroken tests ≡ some m
+      list-by false t m f e r = inside-tests ∙ rw f r
+      list-by true true m f e r = inside-tests ∙ rw (f, too-wide (ltb-true MAX-WIDTH w e)) (rw e at r)
+      list-by true false m f e r = none-some m (sym (rw e at r))
+
+      module _ {m : ℕ} (p : firstBroken (listTests i w) ≡ codeOf m) where
+        pub new-listed : (m ≡ 0 → ⊥) → Promised (newCall outer lent a) (refusal m) h ws ks h ws ks
+        new-listed y =
+            let c = code-some m y in
+            promised-back (call-tests ∙ judged-refused tests made m (list-by i (ltb MAX-WIDTH w) m refl refl (p ∙ c) ∙ sym c) y)
+
+        module _ (y : m ≡ 0) where
+          later-tests : firstBroken tests ≡ firstBroken later
+          later-tests = inside-tests ∙ rw (test-passed (not i) 3 ((ltb MAX-WIDTH w, 4) ∷ []) (p ∙ code-none m y))
+
+          new-inside : newCall outer lent a ≡ insideCall (chartIn cs rule text) (storeIn h ws ks) a
+          new-inside =
+              let v = lent-passed outer h ws ks n q z in
+              call-tests
+              ∙ (ap (λ (y : Option ℕ). orRefused y made) later-tests
+              ∙ (ap (λ (y : Store). insideCall outer y a) (lent-store outer h ws ks v)
+              ∙ (ap (λ (y : Env). insideCall y (storeIn h ws ks) a) (lent-env cs b rule text h ws ks v) ∙ beside-unread cs b rule text (storeIn h ws ks) a)))
+
+          pub new-promised : {a′ : NewKind} {r : Reply Ty} {h′ ws′ ks′ : List ℕ} → a′ ≡ a
+              → Promised (insideCall (chartIn cs rule text) (storeIn h ws ks) a′) r h ws ks h′ ws′ ks′ → Promised (newCall outer lent a) r h ws ks h′ ws′ ks′
+          new-promised e p = rw (new-inside ∙ ap (insideCall (chartIn cs rule text) (storeIn h ws ks)) (sym e)) p

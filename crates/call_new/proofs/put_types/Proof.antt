@@ -1,0 +1,67 @@
+-- `news::put_types` meets its contract. The loop's invariant: the first i types stand as entries, and the words are as many. The measure is what is left
+-- of the types.
+-- Assumes nothing.
+use mathlib.Core.Path.{_≡_, refl, _∙_}
+use Prim.Native.Nat.{_≤_, _-_}
+use native.Mathlib.Omega.{arith}
+use lib.ListN.{length}
+use borrow.Author.Needs.{needs}
+use Rattle.call_new.specs.Lent.{Listed}
+use Rattle.call_new.proofs.ListLaws.{listed-none, listed-more, listed-end}
+use Rattle.call_new.proofs.put_types.Statement.{statement}
+use Rattle.call_new.proofs.put_types.Tie as tie
+
+abbrev Inv-loop : tie.InvT-loop
+Inv-loop es₀ types i₀ es i = (i ≤ length types) × ((length es ≡ length es₀) × Listed types i es)
+
+abbrev μ-loop : tie.MeasureT-loop
+μ-loop es₀ types i₀ es i = length types - i
+
+loop-holds : tie.Need-loop-holds Inv-loop μ-loop
+loop-holds c = (omega arith, (refl, listed-none))
+
+mul-bare-slot : tie.Need-mul-bare-slot Inv-loop μ-loop
+mul-bare-slot c = search needs
+
+shared-slice-read-bare-slot : tie.Need-shared-slice-read-bare-slot Inv-loop μ-loop
+shared-slice-read-bare-slot c = omega arith
+
+bare-slot-requires : tie.Need-bare-slot-requires Inv-loop μ-loop
+bare-slot-requires c κs = search needs
+
+put-child-requires : tie.Need-put-child-requires Inv-loop μ-loop
+put-child-requires c κs = omega arith
+
+add-i : tie.Need-add-i Inv-loop μ-loop
+add-i c = omega arith
+
+loop-less : tie.Need-loop-less Inv-loop μ-loop
+loop-less c = omega arith
+
+loop-again : tie.Need-loop-again Inv-loop μ-loop
+loop-again c =
+    let a = c .before .before .before .before .before .before .before .before .before .before .args in
+    (omega arith, (c .before .before .put-child .kept .0 ∙ c .before .before .before .before .before .before .before .loop .inv .1 .0, listed-more (a .types .now) (c .before .before .before .before .before .before .before .loop .i) (c .before .before .before .before .before .before .before .loop .inv .1 .1) (omega arith) (c .before .before .before .bare-slot .ensures) (c .before .before .put-child .ensures)))
+
+same-length : tie.Need-same-length Inv-loop μ-loop
+same-length c = c .before .loop .inv .1 .0
+
+returns : tie.Need-returns Inv-loop μ-loop
+returns c = listed-end (c .before .loop .inv .1 .1) (omega arith)
+
+pub put-types-spec : {M : Type 1} → statement M
+put-types-spec =
+    tie.close
+    (tie.spec
+    Inv-loop
+    μ-loop
+    loop-holds
+    mul-bare-slot
+    shared-slice-read-bare-slot
+    bare-slot-requires
+    put-child-requires
+    add-i
+    loop-less
+    loop-again
+    same-length
+    returns)

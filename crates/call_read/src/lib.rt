@@ -1,0 +1,348 @@
+// The public calls that change no store, on any numbers at all: a node, a child, a name and the figures read; `is_nil`, `self_inverse`, `get_mod` and
+// `find_related`. Each tests and refuses, or answers what document 01 says. Refusals come in the order 2, 8, 3, 7.
+ghost use mathlib.Core.Path.{_≡_};
+ghost use mathlib.Core.List.{map};
+ghost use mathlib.Core.Bool.{false};
+ghost use lib.ListN.{getElem?};
+ghost use Rattle.scope.specs.Types.{tyOf};
+ghost use Rattle.scope.specs.Sound.{nameIn, slotName};
+ghost use Rattle.scope.specs.Calls.{childAt, flat, childNameAt};
+ghost use Rattle.scope.specs.Calls.{nodeCall, childCall, nameCall, figuresCall, findRelatedCall, selfInverseCall, isNilCall, getModCall};
+ghost use Rattle.layout.specs.Words.{slots, lentOf, storeIn};
+ghost use Rattle.layout.specs.Meaning.{kindMeans, nodeMeans};
+ghost use Rattle.sound.specs.Tests.{envIn};
+ghost use Rattle.promise.specs.Promise.{boolReply, outcomeBy};
+ghost use Rattle.call_read.specs.Replies.{kidMeans, namedMeans, nodeReply, childReply, nameReply, figuresReply, modReply, Marked};
+use chart::Beside;
+use kinds::CHILD_NAMES;
+use kinds::OWN_NAME;
+use kinds::PARAMETER_NAMES;
+use layout::Header;
+use layout::Kind;
+use layout::TypeNode;
+use layout::TypeState;
+use names::Name;
+use promise::BoolAnswer;
+use promise::DoneAnswer;
+use promise::refusal_at;
+use sound::NO_REFUSAL;
+use types::Type;
+use walk::Mod;
+
+// A child, if there is one.
+pub enum Kid {
+    Is(Type),
+    Nothing,
+}
+
+// A name, if there is one.
+pub enum Named {
+    Is(Name),
+    Nothing,
+}
+
+// A node as it stands, or a refusal's number.
+pub enum NodeAnswer {
+    Is(TypeNode),
+    Refused(u32),
+}
+
+// A child, none past the end, or a refusal's number.
+pub enum ChildAnswer {
+    Is(Type),
+    Nothing,
+    Refused(u32),
+}
+
+// A name, none, or a refusal's number.
+pub enum NameAnswer {
+    Is(Name),
+    Nothing,
+    Refused(u32),
+}
+
+// What of a store is no node, or a refusal's number.
+pub enum FiguresAnswer {
+    Is(Header),
+    Refused(u32),
+}
+
+// get_mod's answer, or a refusal's number.
+pub enum ModAnswer {
+    Is(Mod),
+    Refused(u32),
+}
+
+// Child j of a kind, none past the end.
+fn child_of_kind(ks: &[u32], kind: Kind, j: u32) -> Kid
+    ensures { λ r. ⌜ getElem? (kindMeans (now (ks .entry)) kind .kids) j ≡ kidMeans r ⌝ }
+{
+    if j < kind.count {
+        let kid = layout::child_of(ks, kind, j).ty;
+        return Kid::Is(kid);
+    }
+    Kid::Nothing
+}
+
+// Child j of a node that was read; a node without a kind has none.
+pub fn child_of_node(ks: &[u32], node: TypeNode, j: u32) -> Kid
+    ensures { λ r. ⌜ childAt (nodeMeans (now (ks .entry)) node) j ≡ kidMeans r ⌝ }
+{
+    match node {
+        TypeNode::Root { state, size: _ } => match state {
+            TypeState::Known(_, kind) => child_of_kind(ks, kind, j),
+            TypeState::Unknown(_) => Kid::Nothing,
+            TypeState::InferenceFailed => Kid::Nothing,
+        },
+        TypeNode::Child(_) => Kid::Nothing,
+    }
+}
+
+// A name's three numbers; no name is empty.
+fn name_in(text: u32, start: u32, len: u32) -> Named
+    ensures { λ r. ⌜ nameIn text start len ≡ namedMeans r ⌝ }
+{
+    if len == 0 {
+        return Named::Nothing;
+    }
+    Named::Is(Name { text, start, len })
+}
+
+// Child j's name, among the first n of a kind's children.
+fn child_named(ks: &[u32], kind: Kind, n: u32, j: u32) -> Named
+    ensures { λ r. ⌜ flat (getElem? (map slotName (slots (now (ks .entry)) (kind .first) n)) j) ≡ namedMeans r ⌝ }
+{
+    if n <= j {
+        return Named::Nothing;
+    }
+    let kid = layout::child_of(ks, kind, j);
+    name_in(kid.text, kid.start, kid.len)
+}
+
+// Name j of a kind: its own is name 0; a child's has the child's number, and a Closure's return has none.
+fn name_of_kind(ks: &[u32], kind: Kind, j: u32) -> Named
+    ensures { λ r. ⌜ flat (getElem? (kindMeans (now (ks .entry)) kind .head .names) j) ≡ namedMeans r ⌝ }
+{
+    let names = kinds::row_of(kind.code).names;
+    if names == OWN_NAME {
+        if j == 0 {
+            return name_in(kind.text, kind.start, kind.len);
+        }
+        return Named::Nothing;
+    }
+    if names == CHILD_NAMES {
+        return child_named(ks, kind, kind.count, j);
+    }
+    if names == PARAMETER_NAMES {
+        if 0 < kind.count {
+            return child_named(ks, kind, kind.count - 1, j);
+        }
+    }
+    Named::Nothing
+}
+
+// Name j of a node that was read; a node without a kind has none.
+pub fn name_of_node(ks: &[u32], node: TypeNode, j: u32) -> Named
+    ensures { λ r. ⌜ childNameAt (nodeMeans (now (ks .entry)) node) j ≡ namedMeans r ⌝ }
+{
+    match node {
+        TypeNode::Root { state, size: _ } => match state {
+            TypeState::Known(_, kind) => name_of_kind(ks, kind, j),
+            TypeState::Unknown(_) => Named::Nothing,
+            TypeState::InferenceFailed => Named::Nothing,
+        },
+        TypeNode::Child(_) => Named::Nothing,
+    }
+}
+
+// A type's node as it stands, be it a root or a child.
+pub fn node<'a>(
+    chart: &[u32],
+    beside: Beside,
+    rule: &'a [u8],
+    text: &'a [u8],
+    h: &[u32],
+    ws: &[u32],
+    ks: &[u32],
+    t: Type,
+) -> NodeAnswer
+    ensures { λ r. ⌜ nodeCall (envIn (now (chart .entry)) beside (now (rule .entry)) (now (text .entry))) (lentOf (now (h .entry)) (now (ws .entry)) (now (ks .entry))) (tyOf (t .0)) ≡ outcomeBy (nodeReply (now (ks .entry)) r) (storeIn (now (h .entry)) (now (ws .entry)) (now (ks .entry))) ⌝ }
+{
+    let code = refusal_at(chart, beside, rule, text, h, ws, ks, t);
+    if code != NO_REFUSAL {
+        return NodeAnswer::Refused(code);
+    }
+    let x = layout::read_header(h);
+    NodeAnswer::Is(layout::node_at(ws, x.nodes, t.idx()))
+}
+
+// Child j of a type's node, none past the end.
+pub fn child<'a>(
+    chart: &[u32],
+    beside: Beside,
+    rule: &'a [u8],
+    text: &'a [u8],
+    h: &[u32],
+    ws: &[u32],
+    ks: &[u32],
+    t: Type,
+    j: u32,
+) -> ChildAnswer
+    ensures { λ r. ⌜ childCall (envIn (now (chart .entry)) beside (now (rule .entry)) (now (text .entry))) (lentOf (now (h .entry)) (now (ws .entry)) (now (ks .entry))) (tyOf (t .0)) j ≡ outcomeBy (childReply r) (storeIn (now (h .entry)) (now (ws .entry)) (now (ks .entry))) ⌝ }
+{
+    match node(chart, beside, rule, text, h, ws, ks, t) {
+        NodeAnswer::Is(found) => match child_of_node(ks, found, j) {
+            Kid::Is(kid) => ChildAnswer::Is(kid),
+            Kid::Nothing => ChildAnswer::Nothing,
+        },
+        NodeAnswer::Refused(code) => ChildAnswer::Refused(code),
+    }
+}
+
+// Name j of a type's node, none past the end and where there is no name.
+pub fn child_name<'a>(
+    chart: &[u32],
+    beside: Beside,
+    rule: &'a [u8],
+    text: &'a [u8],
+    h: &[u32],
+    ws: &[u32],
+    ks: &[u32],
+    t: Type,
+    j: u32,
+) -> NameAnswer
+    ensures { λ r. ⌜ nameCall (envIn (now (chart .entry)) beside (now (rule .entry)) (now (text .entry))) (lentOf (now (h .entry)) (now (ws .entry)) (now (ks .entry))) (tyOf (t .0)) j ≡ outcomeBy (nameReply r) (storeIn (now (h .entry)) (now (ws .entry)) (now (ks .entry))) ⌝ }
+{
+    match node(chart, beside, rule, text, h, ws, ks, t) {
+        NodeAnswer::Is(found) => match name_of_node(ks, found, j) {
+            Named::Is(name) => NameAnswer::Is(name),
+            Named::Nothing => NameAnswer::Nothing,
+        },
+        NodeAnswer::Refused(code) => NameAnswer::Refused(code),
+    }
+}
+
+// Counts, capacities, remembered types and the report count.
+pub fn figures<'a>(
+    chart: &[u32],
+    beside: Beside,
+    rule: &'a [u8],
+    text: &'a [u8],
+    h: &[u32],
+    ws: &[u32],
+    ks: &[u32],
+) -> FiguresAnswer
+    ensures { λ r. ⌜ figuresCall (envIn (now (chart .entry)) beside (now (rule .entry)) (now (text .entry))) (lentOf (now (h .entry)) (now (ws .entry)) (now (ks .entry))) ≡ outcomeBy (figuresReply (now (ws .entry)) (now (ks .entry)) r) (storeIn (now (h .entry)) (now (ws .entry)) (now (ks .entry))) ⌝ }
+{
+    let code = sound::refusal(chart, beside, rule, text, h, ws, ks);
+    if code != NO_REFUSAL {
+        return FiguresAnswer::Refused(code);
+    }
+    FiguresAnswer::Is(layout::read_header(h))
+}
+
+// A Tuple of nothing.
+pub fn is_nil<'a>(
+    chart: &[u32],
+    beside: Beside,
+    rule: &'a [u8],
+    text: &'a [u8],
+    h: &[u32],
+    ws: &[u32],
+    ks: &[u32],
+    t: Type,
+) -> BoolAnswer
+    ensures { λ r. ⌜ isNilCall (envIn (now (chart .entry)) beside (now (rule .entry)) (now (text .entry))) (lentOf (now (h .entry)) (now (ws .entry)) (now (ks .entry))) (tyOf (t .0)) ≡ outcomeBy (boolReply r) (storeIn (now (h .entry)) (now (ws .entry)) (now (ks .entry))) ⌝ }
+{
+    let code = refusal_at(chart, beside, rule, text, h, ws, ks, t);
+    if code != NO_REFUSAL {
+        return BoolAnswer::Refused(code);
+    }
+    let x = layout::read_header(h);
+    BoolAnswer::Is(walk::is_nil(ws, x.nodes, t))
+}
+
+// `_self_inverse`: a Param counts as param says.
+pub fn self_inverse_param<'a>(
+    chart: &[u32],
+    beside: Beside,
+    rule: &'a [u8],
+    text: &'a [u8],
+    h: &[u32],
+    ws: &[u32],
+    ks: &[u32],
+    t: Type,
+    param: bool,
+) -> BoolAnswer
+    ensures { λ r. ⌜ selfInverseCall (envIn (now (chart .entry)) beside (now (rule .entry)) (now (text .entry))) (lentOf (now (h .entry)) (now (ws .entry)) (now (ks .entry))) (tyOf (t .0)) param ≡ outcomeBy (boolReply r) (storeIn (now (h .entry)) (now (ws .entry)) (now (ks .entry))) ⌝ }
+{
+    let code = refusal_at(chart, beside, rule, text, h, ws, ks, t);
+    if code != NO_REFUSAL {
+        return BoolAnswer::Refused(code);
+    }
+    let x = layout::read_header(h);
+    BoolAnswer::Is(walk::self_inverse(ws, ks, x.nodes, t, param))
+}
+
+// "`self_inverse` holds where the root has a self-dual kind and it holds of every child; never where there is no kind."
+pub fn self_inverse<'a>(
+    chart: &[u32],
+    beside: Beside,
+    rule: &'a [u8],
+    text: &'a [u8],
+    h: &[u32],
+    ws: &[u32],
+    ks: &[u32],
+    t: Type,
+) -> BoolAnswer
+    ensures { λ r. ⌜ selfInverseCall (envIn (now (chart .entry)) beside (now (rule .entry)) (now (text .entry))) (lentOf (now (h .entry)) (now (ws .entry)) (now (ks .entry))) (tyOf (t .0)) false ≡ outcomeBy (boolReply r) (storeIn (now (h .entry)) (now (ws .entry)) (now (ks .entry))) ⌝ }
+{
+    self_inverse_param(chart, beside, rule, text, h, ws, ks, t, false)
+}
+
+// A definition's def number, through Refs.
+pub fn get_mod<'a>(
+    chart: &[u32],
+    beside: Beside,
+    rule: &'a [u8],
+    text: &'a [u8],
+    h: &[u32],
+    ws: &[u32],
+    ks: &[u32],
+    t: Type,
+) -> ModAnswer
+    ensures { λ r. ⌜ getModCall (envIn (now (chart .entry)) beside (now (rule .entry)) (now (text .entry))) (lentOf (now (h .entry)) (now (ws .entry)) (now (ks .entry))) (tyOf (t .0)) ≡ outcomeBy (modReply r) (storeIn (now (h .entry)) (now (ws .entry)) (now (ks .entry))) ⌝ }
+{
+    let code = refusal_at(chart, beside, rule, text, h, ws, ks, t);
+    if code != NO_REFUSAL {
+        return ModAnswer::Refused(code);
+    }
+    let x = layout::read_header(h);
+    ModAnswer::Is(walk::get_mod(ws, ks, x.nodes, chart, t))
+}
+
+// "`find_related` (lent marks, a byte for each node: nonzero means already in the set, and 1 is written for each root added; too few marks: 7)"
+pub fn find_related<'a>(
+    chart: &[u32],
+    beside: Beside,
+    rule: &'a [u8],
+    text: &'a [u8],
+    h: &[u32],
+    ws: &[u32],
+    ks: &[u32],
+    marks: &mut [u8],
+    t: Type,
+) -> DoneAnswer
+    ensures { λ r. ⌜ Marked (findRelatedCall (envIn (now (chart .entry)) beside (now (rule .entry)) (now (text .entry))) (lentOf (now (h .entry)) (now (ws .entry)) (now (ks .entry))) (tyOf (t .0)) (now (marks .entry))) r (storeIn (now (h .entry)) (now (ws .entry)) (now (ks .entry))) (now (marks .entry)) (now (marks .exit)) ⌝ }
+{
+    let code = refusal_at(chart, beside, rule, text, h, ws, ks, t);
+    if code != NO_REFUSAL {
+        return DoneAnswer::Refused(code);
+    }
+    let x = layout::read_header(h);
+    if marks.len() < x.nodes as usize {
+        return DoneAnswer::Refused(promise::SHORT);
+    }
+    walk::find_related(ws, ks, x.nodes, marks, t);
+    DoneAnswer::Done
+}

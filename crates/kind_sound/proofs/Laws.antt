@@ -1,0 +1,225 @@
+-- What the tests of kinds and nodes read: of the environment the chart's records and the texts, of a kind's children in `defined` and `flagIs` nothing, of
+-- the nodes only how many there are. And a store with a kind of more than 255 children is not sound, so widths may be tested before all else.
+-- Assumes nothing.
+use mathlib.Core.Path.{_≡_, refl, ap, sym, _∙_, subst}
+use mathlib.Core.Bool.{Bool, true, false, _&&_, false≢true}
+use mathlib.Core.List.{List, [], _∷_}
+use Prim.Native.Nat.{ℕ, suc, _+_, _-_, _≤_, _<_}
+use native.Mathlib.Numerals.{add-one}
+use native.Mathlib.Omega.{arith}
+use lib.Dec.{ltb, leb}
+use lib.ListN.{length, getD}
+use borrow.Author.Tests.{lt-ltb, leb-true, le-leb}
+use Rattle.scope.specs.Base.{all, from}
+use Rattle.scope.specs.Limits.{MAX-WIDTH}
+use Rattle.scope.specs.Chart.{Env}
+use Rattle.scope.specs.Types.{Ty, tyOf}
+use Rattle.scope.specs.Names.{Texts}
+use Rattle.scope.specs.Kinds.{Head, rowOf, shapeFits, namesOk, flexOk, numberOk, makeable, defined, flagOf, flagIs}
+use Rattle.scope.specs.Nodes as nodes
+use Rattle.scope.specs.Sound as sound
+use Rattle.scope.specs.Sound.{inStore, kindSound, nodeSound, roomSound, soundStore, sound}
+use Rattle.names.specs.Place.{texts}
+use Rattle.chart.specs.Words.{recordsOf}
+use Rattle.chart.specs.Env.{envOf, chartIn, chartAlone}
+use Rattle.chart.specs.declared.Beside.{Beside}
+use Rattle.chart.proofs.Laws.{all-at}
+use Rattle.layout.specs.Words.{slotAt, countAt, decode, nodesMade, childrenMade, storeIn, clean, lentOf}
+use Rattle.layout.specs.Meaning.{cellIn, cellOf, cellWords, slotMeans, kindMeans, nodeMeans, readAt, Clean}
+use Rattle.layout.specs.declared.Cell.{Cell}
+use Rattle.layout.specs.declared.Kind.{Kind}
+use Rattle.layout.specs.declared.Slot.{Slot}
+use Rattle.layout.specs.declared.TypeState.the-variants.{Known, Unknown, InferenceFailed}
+use Rattle.layout.specs.declared.TypeNode.{TypeNode}
+use Rattle.layout.specs.declared.TypeNode.the-variants.{Root, Child}
+use Rattle.layout.proofs.Lists.{and-left, and-right, all-from, from-all}
+use Rattle.layout.proofs.Cells.{clean-words, field-word, says}
+use Rattle.layout.proofs.ChildLaws.{length-kids, kid-at}
+use Rattle.layout.proofs.Laws.{past, length-decode, read-node}
+use Rattle.layout.proofs.StoreLaws.{clean-nodes}
+use Rattle.kind_sound.specs.Nodes.{narrowNodes}
+use Rattle.kind_sound.proofs.NameLaws.{and-false}
+
+-- a test of the numbers from i to n, one by one
+
+module _ (p : ℕ → Bool) (i n : ℕ) where
+  run-cons : i < n → from i (n - i) ≡ i ∷ from (i + 1) (n - (i + 1))
+  run-cons h = let z : n - i ≡ suc (n - (i + 1)) = omega arith in rw (z, add-one i)
+
+  pub run-step : i < n → p i ≡ true → all p (from i (n - i)) ≡ all p (from (i + 1) (n - (i + 1)))
+  run-step h e = rw (run-cons h, e)
+
+  pub run-fails : i < n → p i ≡ false → all p (from i (n - i)) ≡ false
+  run-fails h e = rw (run-cons h, e)
+
+  pub run-end : n ≤ i → all p (from i (n - i)) ≡ true
+  run-end h = let z : n - i ≡ 0 = omega arith in rw z
+
+-- the children of a kind, by their places
+
+abbrev pub no-kid : Ty
+no-kid = tyOf 0
+
+module _ (ks : List ℕ) (k : Kind) (j : ℕ) where
+  pub kid-below : j < k .count → j < length (kindMeans ks k .kids)
+  kid-below h = rw (length-kids ks k) h
+
+  pub kids-past : k .count ≤ j → length (kindMeans ks k .kids) ≤ j
+  kids-past h = rw (length-kids ks k) h
+
+  pub kid-inside : (ns : List nodes.Node) → j < k .count → (s : Slot) → slotMeans s ≡ slotAt ks (k .first + j)
+      → inStore ns (getD (kindMeans ks k .kids) j no-kid) ≡ inStore ns (tyOf (s .ty .0))
+  kid-inside ns h s e =
+      ap (inStore ns) (kid-at ks k j (record { type = 0; text = 0; start = 0; len = 0 }) h ∙ ap (λ (x : sound.Slot). tyOf (x .type)) (sym e))
+
+-- what is read of the environment
+
+module _ (e e′ : Env) (same : e .records ≡ e′ .records) where
+  defined-by : (h h′ : Head) → h .code ≡ h′ .code → h .number ≡ h′ .number → defined e h ≡ defined e′ h′
+  unfolding defined
+  defined-by h h′ c n = rw (same, c, n)
+
+  -- the chart's flag of a code and a number
+  pub flag-reads : (c n : ℕ) → flagOf e c n ≡ flagOf e′ c n
+  unfolding flagOf
+  flag-reads c n = rw same
+
+  flag-by : (h h′ : Head) → h .code ≡ h′ .code → h .number ≡ h′ .number → h .dual ≡ h′ .dual → flagIs e h ≡ flagIs e′ h′
+  unfolding flagIs
+  flag-by h h′ c n d = rw (c, n, d, flag-reads (h′ .code) (h′ .number))
+
+-- a kind's definition and flag are read in the chart's records alone, whatever stands beside them, and not in its children
+module _ (e : Env) (ws : List ℕ) (same : e .records ≡ recordsOf ws) (ks : List ℕ) (k : Kind) where
+  pub defined-chart : defined e (kindMeans ks k .head) ≡ defined (chartAlone ws) (kindMeans [] k .head)
+  unfolding kindMeans
+  defined-chart = defined-by e (chartAlone ws) same (kindMeans ks k .head) (kindMeans [] k .head) refl refl
+
+  pub flag-chart : flagIs e (kindMeans ks k .head) ≡ flagIs (chartAlone ws) (kindMeans [] k .head)
+  unfolding kindMeans
+  flag-chart = flag-by e (chartAlone ws) same (kindMeans ks k .head) (kindMeans [] k .head) refl refl refl
+
+-- the tests of a kind, one after the other
+
+pub made-tests : (x : Texts) (ks : List ℕ) (k : Kind) (n : ℕ)
+    → makeable x (kindMeans ks k .head) n
+    ≡ (ltb (k .code) 15
+    && (leb n MAX-WIDTH
+    && (shapeFits (rowOf (k .code) .shape) n
+    && (namesOk x (rowOf (k .code) .names) (kindMeans ks k .head .names) n
+    && (flexOk (k .code) (k .flex) && numberOk (rowOf (k .code) .number) (k .number))))))
+unfolding makeable kindMeans
+made-tests x ks k n = refl
+
+pub kind-tests : (ws rule text ks : List ℕ) (k : Kind) (ns : List nodes.Node)
+    → kindSound (chartIn ws rule text) ns (kindMeans ks k)
+    ≡ (makeable (texts rule text) (kindMeans ks k .head) (k .count)
+    && (defined (chartAlone ws) (kindMeans [] k .head) && (flagIs (chartAlone ws) (kindMeans [] k .head) && all (inStore ns) (kindMeans ks k .kids))))
+unfolding kindSound
+kind-tests ws rule text ks k ns =
+    rw (length-kids ks k, defined-chart (chartIn ws rule text) ws refl ks k, flag-chart (chartIn ws rule text) ws refl ks k)
+
+-- what is read of the nodes
+
+pub inside-length : (ns ns′ : List nodes.Node) → length ns ≡ length ns′ → (ts : List Ty) → all (inStore ns) ts ≡ all (inStore ns′) ts
+inside-length ns ns′ e ts = ap (λ (n : ℕ). all (λ (t : Ty). ltb (t .idx) n) ts) e
+
+module _ (e e′ : Env) (ns ns′ : List nodes.Node) (same : e .records ≡ e′ .records) (texts′ : e .texts ≡ e′ .texts) (len : length ns ≡ length ns′) where
+  -- a kind's test reads the records, the texts and the number of nodes
+  pub kind-sound-reads : (k : nodes.Kind) → kindSound e ns k ≡ kindSound e′ ns′ k
+  unfolding kindSound
+  kind-sound-reads k = cc (defined-by e e′ same (k .head) (k .head) refl refl, flag-by e e′ same (k .head) (k .head) refl refl refl, inside-length ns ns′ len (k .kids))
+
+  pub node-sound-reads : (v : nodes.Node) → nodeSound e ns v ≡ nodeSound e′ ns′ v
+  node-sound-reads (nodes.Root (nodes.Known i k) z) = kind-sound-reads k
+  node-sound-reads (nodes.Root (nodes.Unknown s) z) = refl
+  node-sound-reads (nodes.Root nodes.InferenceFailed z) = refl
+  node-sound-reads (nodes.Child t) = ap (ltb (t .idx)) len
+
+-- the children of a sound kind are inside
+pub kind-inside : (e : Env) (ns : List nodes.Node) (k : nodes.Kind) → kindSound e ns k ≡ true → all (inStore ns) (k .kids) ≡ true
+unfolding kindSound
+kind-inside e ns k h =
+    let f : Bool = flagIs e (k .head) in
+    and-right f _ (and-right (defined e (k .head)) _ (and-right (makeable (e .texts) (k .head) (length (k .kids))) _ h))
+
+all-same : {A : Type 0} (p q : A → Bool) → ((a : A) → p a ≡ q a) → (l : List A) → all p l ≡ all q l
+all-same p q h [] = refl
+all-same p q h (a ∷ l) = rw (h a, all-same p q h l)
+
+-- the nodes' test does not look at what stands beside the chart
+pub nodes-beside : (ws : List ℕ) (b : Beside) (rule text : List ℕ) (ns : List nodes.Node)
+    → all (nodeSound (envOf ws b rule text) ns) ns ≡ all (nodeSound (chartIn ws rule text) ns) ns
+nodes-beside ws b rule text ns =
+    all-same (nodeSound (envOf ws b rule text) ns) (nodeSound (chartIn ws rule text) ns)
+    (node-sound-reads (envOf ws b rule text) (chartIn ws rule text) ns ns refl refl refl) ns
+
+-- the nodes that words say, by their places
+
+module _ (ws ks : List ℕ) (n i : ℕ) where
+  pub node-below : i < n → i < length (decode ws ks n)
+  node-below h = rw (length-decode ws ks n) h
+
+  pub nodes-past : n ≤ i → length (decode ws ks n) ≤ i
+  nodes-past h = rw (length-decode ws ks n) h
+
+-- "255 children a kind"
+
+-- a node's words where the code has read its cell
+pub count-cell : (ws : List ℕ) (i : ℕ) {x : Cell} → x ≡ cellIn (cellWords ws i) → x .count ≡ countAt ws i
+count-cell ws i e = ap (λ (y : Cell). y .count) e ∙ field-word ws i 11 (omega arith)
+
+-- each node, by its words
+pub narrow-count : (ws : List ℕ) (n : ℕ) → narrowNodes ws n ≡ true → (i : ℕ) → i < n → countAt ws i ≤ MAX-WIDTH
+unfolding narrowNodes
+narrow-count ws n h i l = leb-true (countAt ws i) MAX-WIDTH (all-from (λ j. leb (countAt ws j) MAX-WIDTH) 0 n h i (omega arith) (omega arith))
+
+made-narrow : (e : Env) (ns : List nodes.Node) (k : nodes.Kind) → kindSound e ns k ≡ true → length (k .kids) ≤ MAX-WIDTH
+unfolding kindSound makeable
+made-narrow e ns k h =
+    let m : Bool = makeable (e .texts) (k .head) (length (k .kids)) in
+    leb-true (length (k .kids)) MAX-WIDTH (and-left (leb (length (k .kids)) MAX-WIDTH) _ (and-right (ltb (k .head .code) 15) _ (and-left m _ h)))
+
+-- a node without a kind has no words for children
+sound-narrow : (e : Env) (ks : List ℕ) (ns : List nodes.Node) (v : TypeNode) → nodeSound e ns (nodeMeans ks v) ≡ true → cellOf v .count ≤ MAX-WIDTH
+sound-narrow e ks ns (Root (Known i k) z) h = subst (λ (n : ℕ). n ≤ MAX-WIDTH) (length-kids ks k) (made-narrow e ns (kindMeans ks k) h)
+sound-narrow e ks ns (Root (Unknown s) z) h = omega arith
+sound-narrow e ks ns (Root InferenceFailed z) h = omega arith
+sound-narrow e ks ns (Child t) h = omega arith
+
+-- the words of a clean node are those of the node that they say
+count-read : (ws ks : List ℕ) (c n : ℕ) → Clean ws ks c n → (i : ℕ) → i < n → cellOf (readAt ws n i) .count ≡ countAt ws i
+unfolding readAt
+count-read ws ks c n cl i h =
+    let x = cellIn (cellWords ws i) in
+    rw (lt-ltb i n h) (count-cell ws i (says ks c x (sym (clean-words ws ks c i) ∙ cl .each i h) .back))
+
+module _ (e : Env) (ws ks : List ℕ) where
+  pub sound-widths : (c n : ℕ) → Clean ws ks c n → all (nodeSound e (decode ws ks n)) (decode ws ks n) ≡ true → narrowNodes ws n ≡ true
+  unfolding narrowNodes
+  sound-widths c n cl h =
+      let ns : List nodes.Node = decode ws ks n in
+      from-all (λ i. leb (countAt ws i) MAX-WIDTH) 0 n
+      (λ i a b. le-leb (countAt ws i) MAX-WIDTH (subst (λ (m : ℕ). m ≤ MAX-WIDTH) (count-read ws ks c n cl i (omega arith))
+      (sound-narrow e ks ns (readAt ws n i)
+      (ap (nodeSound e ns) (read-node ws ks c n cl i) ∙ all-at (nodeSound e ns) ns past i h (rw length-decode (omega arith))))))
+
+  -- nodes with a wider kind are not sound
+  pub wide-nodes : (c n : ℕ) → Clean ws ks c n → narrowNodes ws n ≡ false → all (nodeSound e (decode ws ks n)) (decode ws ks n) ≡ false
+  wide-nodes c n cl w = go (all (nodeSound e (decode ws ks n)) (decode ws ks n)) refl
+    where
+      go : (b : Bool) → all (nodeSound e (decode ws ks n)) (decode ws ks n) ≡ b → all (nodeSound e (decode ws ks n)) (decode ws ks n) ≡ false
+      go true q = absurd (false≢true (sym w ∙ sound-widths c n cl q))
+      go false q = q
+
+  store-by : (h : List ℕ) → clean h ws ks ≡ true → narrowNodes ws (nodesMade h) ≡ false → soundStore e (storeIn h ws ks) ≡ false
+  unfolding soundStore storeIn
+  store-by h q w = rw (wide-nodes (childrenMade h) (nodesMade h) (clean-nodes h ws ks q) w) (and-false (roomSound (storeIn h ws ks)))
+
+  lent-by : (b : Bool) (h : List ℕ) → clean h ws ks ≡ b → narrowNodes ws (nodesMade h) ≡ false → sound e (lentOf h ws ks) ≡ false
+  unfolding lentOf
+  lent-by true h q w = rw q (store-by h q w)
+  lent-by false h q w = rw q refl
+
+  -- nor is what three slices say with one among them, whatever else they hold
+  pub wide-unsound : (h : List ℕ) → narrowNodes ws (nodesMade h) ≡ false → sound e (lentOf h ws ks) ≡ false
+  wide-unsound h w = lent-by (clean h ws ks) h refl w

@@ -1,0 +1,71 @@
+-- What every public call promises, and the tests that they share. A reply is a value or a refusal's number. "Each public call's outcome equals a
+-- definition of its arguments: answer, store, buffers, for refusals too."
+use mathlib.Core.Path.{_≡_}
+use mathlib.Core.List.{List, [], _∷_, _++_, map}
+use mathlib.Core.Bool.{Bool, true, false}
+use Prim.Native.Nat.{ℕ}
+use Rattle.scope.specs.Chart.{Env}
+use Rattle.scope.specs.Types.{Ty, tyOf}
+use Rattle.scope.specs.Nodes.{Store}
+use Rattle.scope.specs.Sound.{Lent}
+use Rattle.scope.specs.Calls.{Outcome, refused, done, storeOf, lentTests, outside}
+use Rattle.layout.specs.Words.{storeIn, slots}
+use Rattle.make.specs.Holds.{Became}
+use Rattle.make.specs.Given.{entryCount}
+use Rattle.promise.specs.declared.TypeAnswer.{TypeAnswer}
+use Rattle.promise.specs.declared.TypeAnswer.the-variants as type
+use Rattle.promise.specs.declared.BoolAnswer.{BoolAnswer}
+use Rattle.promise.specs.declared.BoolAnswer.the-variants as bool
+use Rattle.promise.specs.declared.DoneAnswer.{DoneAnswer}
+use Rattle.promise.specs.declared.DoneAnswer.the-variants as end
+
+pub data Reply (A : Type 0) : Type 0 where
+  value : A → Reply A
+  refusal : ℕ → Reply A
+
+-- what the code's answers reply
+abbrev pub typeReply : TypeAnswer → Reply Ty
+typeReply (type.Is t) = value (tyOf (t .0))
+typeReply (type.Refused n) = refusal n
+
+abbrev pub boolReply : BoolAnswer → Reply Bool
+boolReply (bool.Is b) = value b
+boolReply (bool.Refused n) = refusal n
+
+abbrev pub doneReply : DoneAnswer → Reply (Unit {0})
+doneReply end.Done = value tt
+doneReply (end.Refused n) = refusal n
+
+-- a reply, with the store afterwards, as an outcome
+abbrev pub outcomeBy : {A : Type 0} → Reply A → Store → Outcome A
+outcomeBy (value a) s = done a s
+outcomeBy (refusal n) s = refused n
+
+abbrev pub answered : {A : Type 0} → Reply A → Bool
+answered (value a) = true
+answered (refusal n) = false
+
+-- every word is as found
+pub record Same (h ws ks h′ ws′ ks′ : List ℕ) : Type 0 where
+  pub head : h′ ≡ h
+  pub nodes : ws′ ≡ ws
+  pub kids : ks′ ≡ ks
+
+-- a call on the slices h ws ks, which then hold h′ ws′ ks′. Its outcome o is the reply with the store that they then hold; they hold one again, and
+-- words past it are as found; a refusal leaves every word as found
+pub record Promised {A : Type 0} (o : Outcome A) (r : Reply A) (h ws ks h′ ws′ ks′ : List ℕ) : Type 0 where
+  pub outcome : o ≡ outcomeBy r (storeIn h′ ws′ ks′)
+  pub again : answered r ≡ true → Became h ws ks h′ ws′ ks′ (storeIn h′ ws′ ks′)
+  pub kept : answered r ≡ false → Same h ws ks h′ ws′ ks′
+
+-- the tests of a call on listed types
+abbrev pub typesTests : Env → Lent → List Ty → List (Bool × ℕ)
+typesTests e l ts = lentTests e l ++ (outside (storeOf l) ts ∷ [])
+
+-- lent types, a word each
+abbrev pub typesIn : List ℕ → List Ty
+typesIn ts = map tyOf ts
+
+-- the types of lent children, each an entry as `new_kind` is given it
+abbrev pub entryTypes : List ℕ → List Ty
+entryTypes es = map (λ s. tyOf (s .type)) (slots es 0 (entryCount es))

@@ -1,0 +1,303 @@
+// Answers and nodes as lines of text.
+use call_force::ForcedAnswer;
+use call_read::ChildAnswer;
+use call_read::FiguresAnswer;
+use call_read::ModAnswer;
+use call_read::NameAnswer;
+use call_read::NodeAnswer;
+use call_unify::UnifyAnswer;
+use force::Forced;
+use layout::Header;
+use layout::Kind;
+use layout::Remembered;
+use layout::TypeNode;
+use layout::TypeState;
+use names::Name;
+use promise::BoolAnswer;
+use promise::DoneAnswer;
+use promise::TypeAnswer;
+use types::Inverted;
+use types::Type;
+use types::UnifyResult;
+use walk::Mod;
+
+const OUT: i32 = 1;
+
+pub(crate) fn say(text: &[u8]) {
+    io::write_all(OUT, text);
+}
+
+// "Both give Error uninverted."
+fn no_kind() {
+    say(b"known 14 0 0 0");
+}
+
+pub(crate) fn number(n: u32) {
+    io::print_decimal(OUT, n as u64);
+}
+
+// Numbers on a line of their own.
+pub(crate) fn words(s: &[u32]) {
+    let mut i = 0;
+    while i < s.len() {
+        number(s[i]);
+        say(b" ");
+        i += 1;
+    }
+    line();
+}
+
+pub(crate) fn line() {
+    say(b"\n");
+}
+
+fn inverse(i: Inverted) {
+    if i.0 {
+        say(b"~");
+    }
+}
+
+pub(crate) fn typ(t: Type) {
+    inverse(t.inv());
+    number(t.idx().0);
+}
+
+fn flag(b: bool) {
+    if b {
+        say(b"1");
+    } else {
+        say(b"0");
+    }
+}
+
+pub(crate) fn refused(n: u32) {
+    say(b"refused ");
+    number(n);
+    line();
+}
+
+pub(crate) fn done(a: DoneAnswer) {
+    match a {
+        DoneAnswer::Done => say(b"done\n"),
+        DoneAnswer::Refused(n) => refused(n),
+    }
+}
+
+pub(crate) fn type_answer(a: TypeAnswer) {
+    match a {
+        TypeAnswer::Is(t) => {
+            say(b"=");
+            typ(t);
+            line();
+        }
+        TypeAnswer::Refused(n) => refused(n),
+    }
+}
+
+pub(crate) fn bool_answer(a: BoolAnswer) {
+    match a {
+        BoolAnswer::Is(b) => {
+            flag(b);
+            line();
+        }
+        BoolAnswer::Refused(n) => refused(n),
+    }
+}
+
+fn result(r: UnifyResult) {
+    match r {
+        UnifyResult::Success => say(b"Success\n"),
+        UnifyResult::Failure => say(b"Failure\n"),
+        UnifyResult::Indeterminate => say(b"Indeterminate\n"),
+    }
+}
+
+pub(crate) fn unify_answer(a: UnifyAnswer) {
+    match a {
+        UnifyAnswer::Is(r) => result(r),
+        UnifyAnswer::Refused(n) => refused(n),
+    }
+}
+
+pub(crate) fn mod_answer(a: ModAnswer) {
+    match a {
+        ModAnswer::Is(m) => match m {
+            Mod::Nothing => say(b"none\n"),
+            Mod::Error => say(b"error\n"),
+            Mod::Def(d) => {
+                say(b"def ");
+                number(d);
+                line();
+            }
+        },
+        ModAnswer::Refused(n) => refused(n),
+    }
+}
+
+pub(crate) fn child_answer(a: ChildAnswer) {
+    match a {
+        ChildAnswer::Is(t) => {
+            typ(t);
+            line();
+        }
+        ChildAnswer::Nothing => say(b"none\n"),
+        ChildAnswer::Refused(n) => refused(n),
+    }
+}
+
+// A name's bytes between bars.
+fn name<'a>(n: Name, rule: &'a [u8], text: &'a [u8]) {
+    say(b"|");
+    say(names::bytes_of(n, rule, text));
+    say(b"|");
+}
+
+pub(crate) fn name_answer<'a>(a: NameAnswer, rule: &'a [u8], text: &'a [u8]) {
+    match a {
+        NameAnswer::Is(n) => {
+            name(n, rule, text);
+            line();
+        }
+        NameAnswer::Nothing => say(b"none\n"),
+        NameAnswer::Refused(n) => refused(n),
+    }
+}
+
+// A child's type, and its name if it has one.
+fn child<'a>(ks: &[u32], k: Kind, j: u32, rule: &'a [u8], text: &'a [u8]) {
+    let s = layout::child_of(ks, k, j);
+    say(b" ");
+    typ(s.ty);
+    if s.len != 0 {
+        let n = Name {
+            text: s.text,
+            start: s.start,
+            len: s.len,
+        };
+        name(n, rule, text);
+    }
+}
+
+fn children<'a>(ks: &[u32], k: Kind, rule: &'a [u8], text: &'a [u8]) {
+    let mut j = 0;
+    while j < k.count {
+        child(ks, k, j, rule, text);
+        j += 1;
+    }
+}
+
+// A kind: code, number, flag, `Flex`, its own name if it has one, its children.
+fn kind<'a>(ks: &[u32], k: Kind, rule: &'a [u8], text: &'a [u8]) {
+    number(k.code);
+    say(b" ");
+    number(k.number);
+    say(b" ");
+    flag(k.dual);
+    say(b" ");
+    number(k.flex);
+    if k.len != 0 {
+        say(b" ");
+        let n = Name {
+            text: k.text,
+            start: k.start,
+            len: k.len,
+        };
+        name(n, rule, text);
+    }
+    children(ks, k, rule, text);
+}
+
+fn state<'a>(ks: &[u32], s: TypeState, rule: &'a [u8], text: &'a [u8]) {
+    match s {
+        TypeState::Known(i, k) => {
+            say(b"known ");
+            inverse(i);
+            kind(ks, k, rule, text);
+        }
+        TypeState::Unknown(span) => {
+            say(b"unknown ");
+            number(span);
+        }
+        TypeState::InferenceFailed => say(b"failed"),
+    }
+}
+
+fn node<'a>(ks: &[u32], v: TypeNode, rule: &'a [u8], text: &'a [u8]) {
+    match v {
+        TypeNode::Root { state: s, size } => {
+            say(b"root ");
+            number(size);
+            say(b" ");
+            state(ks, s, rule, text);
+        }
+        TypeNode::Child(t) => {
+            say(b"child ");
+            typ(t);
+        }
+    }
+    line();
+}
+
+pub(crate) fn node_answer<'a>(a: NodeAnswer, ks: &[u32], rule: &'a [u8], text: &'a [u8]) {
+    match a {
+        NodeAnswer::Is(v) => node(ks, v, rule, text),
+        NodeAnswer::Refused(n) => refused(n),
+    }
+}
+
+pub(crate) fn forced_answer<'a>(a: ForcedAnswer, ks: &[u32], rule: &'a [u8], text: &'a [u8]) {
+    match a {
+        ForcedAnswer::Is(f) => {
+            match f {
+                Forced::Known(i, k) => {
+                    say(b"known ");
+                    inverse(i);
+                    kind(ks, k, rule, text);
+                }
+                Forced::Reported(span) => {
+                    no_kind();
+                    say(b" reported ");
+                    number(span);
+                }
+                Forced::Failed => no_kind(),
+            }
+            line();
+        }
+        ForcedAnswer::Refused(n) => refused(n),
+    }
+}
+
+fn remembered(r: Remembered) {
+    match r {
+        Remembered::Is(t) => typ(t),
+        Remembered::Nothing => say(b"none"),
+    }
+}
+
+// Counts, capacities, the remembered types, the report count.
+fn header(x: Header) {
+    let error = x.error;
+    let nil = x.nil;
+    say(b"nodes ");
+    number(x.nodes);
+    say(b" of ");
+    number(x.node_room);
+    say(b", children ");
+    number(x.children);
+    say(b" of ");
+    number(x.child_room);
+    say(b", error ");
+    remembered(error);
+    say(b", nil ");
+    remembered(nil);
+    say(b", reports ");
+    io::print_decimal(OUT, x.reports);
+    line();
+}
+
+pub(crate) fn figures_answer(a: FiguresAnswer) {
+    match a {
+        FiguresAnswer::Is(x) => header(x),
+        FiguresAnswer::Refused(n) => refused(n),
+    }
+}

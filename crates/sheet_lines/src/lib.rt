@@ -1,0 +1,229 @@
+// A line of program `sheet`, read: "types as `3` or `~3`, one space between", and where a line ends. What each answer says is scope's `parse`.
+ghost use mathlib.Core.Path.{_≡_};
+ghost use mathlib.Core.Bool.{_&&_};
+ghost use mathlib.Core.List.{map};
+ghost use mathlib.Core.Option.{some};
+ghost use Prim.Native.Nat.{_≤_};
+ghost use lib.Dec.{leb};
+ghost use lib.ListN.{length, take};
+ghost use Rattle.scope.specs.Types.{tyOf};
+ghost use Rattle.scope.specs.Sheet.{noLeadingZero, nodeWord, typeWord, typeWords, plainLine, oneType, twoTypes, withTypes, parse};
+ghost use Rattle.sheet_lines.specs.Places.{placeOf, wordsFrom};
+ghost use Rattle.sheet_lines.specs.Meaning.{wordMeans, Room, Parsed, Counted, Always, Unless};
+use names::same_bytes;
+use types::Inverted;
+use types::Type;
+use types::TypeIdx;
+
+// "Any other line, an empty one or one over 255 bytes is a bad line"
+const MAX_LINE: usize = 255;
+
+// A Tuple holds how many types it has; they stand at the front of the words lent beside it.
+pub enum Line {
+    Var,
+    Nil,
+    Never,
+    Default,
+    Error,
+    Finish,
+    Tuple(u32),
+    Ref(Type),
+    Unify(Type, Type),
+    Show(Type),
+    Bad,
+}
+
+// A word's type, if it is one.
+enum TypeWord {
+    Is(Type),
+    Nothing,
+}
+
+// How many types some words are, if all are types.
+enum TypeCount {
+    Are(u32),
+    Nothing,
+}
+
+fn wide(x: u8) -> u32
+    ensures { λ r. ⌜ r ≡ x ⌝ }
+{
+    x as u32
+}
+
+// The first place from `from` on where the byte stands, or the end.
+fn place_of(s: &[u8], from: usize, byte: u8) -> usize
+    ensures { λ r. ⌜ r ≡ placeOf byte (now (s .entry)) from ⌝ }
+{
+    let mut i = from;
+    while i < s.len() {
+        if s[i] == byte {
+            return i;
+        }
+        i += 1;
+    }
+    i // the end: the byte stands nowhere
+}
+
+// Where the line that starts at `from` ends: "a last line may lack its newline"
+pub fn line_end(input: &[u8], from: usize) -> usize
+    ensures { λ r. ⌜ r ≡ placeOf 10 (now (input .entry)) from ⌝ }
+{
+    place_of(input, from, b'\n')
+}
+
+// "one to four decimal digits and no leading zero except `0` itself"
+fn node_shape(w: &[u8]) -> bool
+    ensures { λ r. ⌜ r ≡ (leb (length (now (w .entry))) 4 && noLeadingZero (now (w .entry))) ⌝ }
+{
+    if w.len() == 0 {
+        return false;
+    }
+    if w.len() == 1 {
+        return true;
+    }
+    if w.len() > 4 {
+        return false;
+    }
+    w[0] != b'0'
+}
+
+fn node_of(inv: Inverted, w: &[u8]) -> TypeWord
+    ensures { λ r. ⌜ wordMeans r ≡ nodeWord (inv .0) (now (w .entry)) ⌝ }
+{
+    if !node_shape(w) {
+        return TypeWord::Nothing;
+    }
+    let mut n: u32 = 0;
+    let mut i: usize = 0;
+    while i < w.len() {
+        let d = w[i];
+        if d < b'0' {
+            return TypeWord::Nothing;
+        }
+        if d > b'9' {
+            return TypeWord::Nothing;
+        }
+        n = n * 10 + wide(d - b'0');
+        i += 1;
+    }
+    TypeWord::Is(Type::new(inv, TypeIdx(n)))
+}
+
+// "types as `3` or `~3`"
+fn type_of(w: &[u8]) -> TypeWord
+    ensures { λ r. ⌜ wordMeans r ≡ typeWord (now (w .entry)) ⌝ }
+{
+    if w.len() == 0 {
+        return TypeWord::Nothing;
+    }
+    if w[0] == b'~' {
+        return node_of(Inverted(true), &w[1..]);
+    }
+    node_of(Inverted(false), w)
+}
+
+// The words from a place on, read as types into `out`. Each takes a byte and a space, so 128 words of room are enough.
+fn types_from(line: &[u8], from: usize, out: &mut [u32]) -> TypeCount
+    requires { ⌜ Room (now line) (now out) ⌝ }
+    ensures { λ r. ⌜ Counted r (now (out .exit)) (typeWords (wordsFrom (now (line .entry)) from)) ⌝ }
+{
+    let mut n: usize = 0;
+    let mut at = from;
+    while at <= line.len() {
+        let e = place_of(line, at, b' ');
+        let TypeWord::Is(t) = type_of(&line[at..e]) else {
+            return TypeCount::Nothing;
+        };
+        out[n] = t.0;
+        n += 1;
+        at = e + 1;
+    }
+    TypeCount::Are(n as u32)
+}
+
+// A command without types
+fn plain_line(w: &[u8]) -> Line
+    ensures { λ r. ⌜ Always r (plainLine (now (w .entry))) ⌝ }
+{
+    if same_bytes(w, b"var") {
+        return Line::Var;
+    }
+    if same_bytes(w, b"nil") {
+        return Line::Nil;
+    }
+    if same_bytes(w, b"never") {
+        return Line::Never;
+    }
+    if same_bytes(w, b"default") {
+        return Line::Default;
+    }
+    if same_bytes(w, b"error") {
+        return Line::Error;
+    }
+    if same_bytes(w, b"finish") {
+        return Line::Finish;
+    }
+    if same_bytes(w, b"tuple") {
+        return Line::Tuple(0);
+    }
+    Line::Bad
+}
+
+// A command with one type, that is no tuple
+fn one_type(w: &[u8], t: Type) -> Line
+    ensures { λ r. ⌜ Unless r (now (w .entry)) (oneType (now (w .entry)) (tyOf (t .0))) ⌝ }
+{
+    if same_bytes(w, b"ref") {
+        return Line::Ref(t);
+    }
+    if same_bytes(w, b"show") {
+        return Line::Show(t);
+    }
+    Line::Bad
+}
+
+// A command with two types, that is no tuple
+fn two_types(w: &[u8], t: Type, u: Type) -> Line
+    ensures { λ r. ⌜ Unless r (now (w .entry)) (twoTypes (now (w .entry)) (tyOf (t .0)) (tyOf (u .0))) ⌝ }
+{
+    if same_bytes(w, b"unify") {
+        return Line::Unify(t, u);
+    }
+    Line::Bad
+}
+
+// "`tuple` takes any number of types, none included; `ref` and `show` one; `unify` two; the rest none."
+fn line_of(w: &[u8], n: u32, out: &[u32]) -> Line
+    requires { ⌜ (n ≤ 128) × (128 ≤ length (now out)) ⌝ }
+    ensures { λ r. ⌜ Parsed r (now (out .entry)) (withTypes (now (w .entry)) (some (map tyOf (take n (now (out .entry)))))) ⌝ }
+{
+    if n == 0 {
+        return plain_line(w);
+    }
+    if same_bytes(w, b"tuple") {
+        return Line::Tuple(n);
+    }
+    if n == 1 {
+        return one_type(w, Type(out[0]));
+    }
+    if n == 2 {
+        return two_types(w, Type(out[0]), Type(out[1]));
+    }
+    Line::Bad
+}
+
+// The words lent have room for the types of any line. What else they hold afterwards is left free.
+pub fn parse(line: &[u8], out: &mut [u32]) -> Line
+    requires { ⌜ 128 ≤ length (now out) ⌝ }
+    ensures { λ r. ⌜ Parsed r (now (out .exit)) (parse (now (line .entry))) ⌝ }
+{
+    if line.len() > MAX_LINE {
+        return Line::Bad;
+    }
+    let e = place_of(line, 0, b' ');
+    let TypeCount::Are(n) = types_from(line, e + 1, out) else {
+        return Line::Bad;
+    };
+    line_of(&line[..e], n, out)
+}
