@@ -68,28 +68,19 @@ abbrev pub isRoot : Node → Bool
 isRoot (Root st z) = true
 isRoot (Child t) = false
 
--- one step of `find`: on to the parent, "combining inversions by exclusive or"; k goes on from there
-abbrev pub hop : Node → (Ty → Ty) → Ty → Ty
-hop (Root st z) k t = t
-hop (Child u) k t = k (flip (t .inv) u)
-
 -- at most f parent steps
 unfoldable pub climb : ℕ → List Node → Ty → Ty
 climb zero ns t = t
-climb (suc f) ns t = hop (at ns (t .idx)) (climb f ns) t
+climb (suc f) ns t = elim (at ns (t .idx)) [ Root st z ↦ t | Child u ↦ climb f ns (flip (t .inv) u) ]
 
 -- "`find` follows parents"
 unfoldable pub find : List Node → Ty → Ty
 find ns t = climb (length ns) ns t
 
--- the node t .idx is pointed at r, the root of the type t; k goes on at its parent
-abbrev pub point : Node → (List Node → Ty → List Node) → List Node → Ty → Ty → List Node
-point (Root st z) k ns r t = ns
-point (Child u) k ns r t = k (set ns (t .idx) (Child (flip (t .inv) r))) (flip (t .inv) u)
-
+-- the path of the type t, at most f steps of it, is pointed at r, the root of t
 unfoldable pub compress : ℕ → List Node → Ty → Ty → List Node
 compress zero ns r t = ns
-compress (suc f) ns r t = point (at ns (t .idx)) (λ ns′ t′. compress f ns′ r t′) ns r t
+compress (suc f) ns r t = elim (at ns (t .idx)) [ Root st z ↦ ns | Child u ↦ compress f (set ns (t .idx) (Child (flip (t .inv) r))) r (flip (t .inv) u) ]
 
 -- "`find_mut` also points every node on the path straight at the root, keeping each node's meaning": the nodes afterwards; its answer is `find`'s
 unfoldable pub findMut : List Node → Ty → List Node
