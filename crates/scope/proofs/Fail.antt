@@ -155,7 +155,7 @@ module _ (E : Env) where
       go (known j k) r e ih =
           let b : v a ≡ invertIf E j (build E v k) = den-known E v (v a) r (fit .state a) in
           let sk = self-kids v k (env .kinds a j k r .clean .make) (self-invertIf j (build E v k) (ap (invert E) (sym b) ∙ i ∙ b)) in
-          let z = all-no T (k .kids) (ap (λ (x : Bool). x && all T (k .kids)) (sym (sk .0)) ∙ sym (self-kind T k) ∙ e) in
+          let z = all-no T (k .kids) (ap (λ (x : Bool). x && all T (k .kids)) (sym (sk .0)) ∙ sym (self-kind T j k) ∙ e) in
           let kid : Kid g a (ri g (z .0)) = record { inv = j; kind = k; kid = z .0; top = t; state = r; mem = z .1; to = refl } in
           ih (ri g (z .0)) (a ∷ ls) (good .idem (z .0 .idx)) (env .inside (z .0 .idx) (env .kinds a j k r .kids (z .0) (z .1))) (chain-step kid c)
           (fuel-step good c h q) (z .2)

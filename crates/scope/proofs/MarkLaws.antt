@@ -12,7 +12,7 @@ use Rattle.scope.specs.Base.{pick, all, any, from}
 use Rattle.scope.specs.Types.{Ty, ty}
 use Rattle.scope.specs.Kinds.{PARAM, selfDual}
 use Rattle.scope.specs.Nodes.{State, Known, Unknown, InferenceFailed, Node, Root, Child, at, isRoot, stateOf, find, kidsOf}
-use Rattle.scope.specs.Unify.{occurs, selfInverseState, selfInverseAt, selfInverseOf}
+use Rattle.scope.specs.Unify.{occurs, selfInverseAt, selfInverseOf}
 use Rattle.scope.specs.Force.{findRelated}
 use Rattle.scope.proofs.Laws.{find-root}
 use Rattle.scope.proofs.View.{View, Kid, Below, one, more, view}
@@ -200,14 +200,14 @@ module _ {ns : List Node} (w : Walkable ns) (param : Bool) where
       and-true true = refl
       and-true false = refl
 
-      go : (s : State) → stateOf (at ns a) ≡ s → selfInverseState param p s ≡ (good param s && all p (kidsOf s))
-      go (Known i k) e = at-code (eqb (k .head .code) PARAM) refl
+      go : (s : State) → stateOf (at ns a) ≡ s → selfInverseAt param (suc f) ns a ≡ (good param s && all p (kidsOf s))
+      go (Known i k) e = rw (e, selfInverseAt) (at-code (eqb (k .head .code) PARAM) refl)
         where
           at-code : (b : Bool) → eqb (k .head .code) PARAM ≡ b → pick b param (selfDual (k .head) && all p (k .kids)) ≡ (pick b param (selfDual (k .head)) && all p (k .kids))
           at-code true q = rw (w .params a i k e (eqb-true (k .head .code) PARAM q)) (and-true param)
           at-code false q = refl
-      go (Unknown q) e = refl
-      go InferenceFailed e = refl
+      go (Unknown q) e = rw (e, selfInverseAt)
+      go InferenceFailed e = rw (e, selfInverseAt)
 
   self-good : (f a : ℕ) → selfInverseAt param f ns a ≡ true → (i : ℕ) → Reach (view ns) a i → good param (stateOf (at ns i)) ≡ true
   unfolding selfInverseAt

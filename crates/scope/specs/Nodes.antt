@@ -68,7 +68,7 @@ abbrev pub isRoot : Node → Bool
 isRoot (Root st z) = true
 isRoot (Child t) = false
 
--- at most f parent steps
+-- at most f parent steps, "combining inversions by exclusive or"
 unfoldable pub climb : ℕ → List Node → Ty → Ty
 climb zero ns t = t
 climb (suc f) ns t = elim (at ns (t .idx)) [ Root st z ↦ t | Child u ↦ climb f ns (flip (t .inv) u) ]
@@ -77,10 +77,14 @@ climb (suc f) ns t = elim (at ns (t .idx)) [ Root st z ↦ t | Child u ↦ climb
 unfoldable pub find : List Node → Ty → Ty
 find ns t = climb (length ns) ns t
 
--- the path of the type t, at most f steps of it, is pointed at r, the root of t
+-- at most f nodes on the path of the type t are pointed at r, the root of t
 unfoldable pub compress : ℕ → List Node → Ty → Ty → List Node
 compress zero ns r t = ns
-compress (suc f) ns r t = elim (at ns (t .idx)) [ Root st z ↦ ns | Child u ↦ compress f (set ns (t .idx) (Child (flip (t .inv) r))) r (flip (t .inv) u) ]
+compress (suc f) ns r t =
+    elim (at ns (t .idx)) [
+      | Root st z ↦ ns
+      | Child u ↦ compress f (set ns (t .idx) (Child (flip (t .inv) r))) r (flip (t .inv) u)
+    ]
 
 -- "`find_mut` also points every node on the path straight at the root, keeping each node's meaning": the nodes afterwards; its answer is `find`'s
 unfoldable pub findMut : List Node → Ty → List Node

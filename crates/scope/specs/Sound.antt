@@ -6,6 +6,7 @@ use Prim.Native.Nat.{ℕ, zero, suc, _+_}
 use lib.Dec.{eqb, ltb, leb}
 use lib.ListN.{length}
 use Rattle.scope.specs.Base.{pick, all, count, from}
+pub use Rattle.scope.specs.Base.{front, last}
 use Rattle.scope.specs.Limits.{MAX-NODES, MAX-CHILDREN}
 use Rattle.scope.specs.Names.{Name, name}
 use Rattle.scope.specs.Chart.{Env}
@@ -55,17 +56,6 @@ slotClean s = nameClean (s .text) (s .start) (s .len)
 
 abbrev pub slotBare : Slot → Bool
 slotBare s = zeros (s .text ∷ s .start ∷ s .len ∷ [])
-
--- all but the last
-abbrev pub front {ℓ} : {A : Type ℓ} → List A → List A
-front [] = []
-front (x ∷ []) = []
-front (x ∷ y ∷ ys) = x ∷ front (y ∷ ys)
-
-abbrev pub last {ℓ} : {A : Type ℓ} → List A → List A
-last [] = []
-last (x ∷ []) = x ∷ []
-last (x ∷ y ∷ ys) = last (y ∷ ys)
 
 -- a kind's names, where its row has them
 abbrev pub namesIn : Cell → List (Option Name)
