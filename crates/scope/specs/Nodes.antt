@@ -36,10 +36,15 @@ pub record Store : Type 0 where
   pub nil : Option Ty
   pub reports : ℕ
 
-abbrev pub withNodes : Store → List Node → Store
-withNodes s ns = record {
+-- a store just opened
+abbrev pub opened : ℕ → ℕ → Store
+opened n c = record { nodes = []; children = 0; nodeRoom = n; childRoom = c; error = none; nil = none; reports = 0 }
+
+-- a store with other nodes and another count of children
+abbrev pub withMade : Store → List Node → ℕ → Store
+withMade s ns c = record {
   nodes = ns;
-  children = s .children;
+  children = c;
   nodeRoom = s .nodeRoom;
   childRoom = s .childRoom;
   error = s .error;
@@ -47,9 +52,20 @@ withNodes s ns = record {
   reports = s .reports;
 }
 
--- a store just opened
-abbrev pub opened : ℕ → ℕ → Store
-opened n c = record { nodes = []; children = 0; nodeRoom = n; childRoom = c; error = none; nil = none; reports = 0 }
+abbrev pub withNodes : Store → List Node → Store
+withNodes s ns = withMade s ns (s .children)
+
+-- a store that remembers other types
+abbrev pub remembering : Store → Option Ty → Option Ty → Store
+remembering s e n = record {
+  nodes = s .nodes;
+  children = s .children;
+  nodeRoom = s .nodeRoom;
+  childRoom = s .childRoom;
+  error = e;
+  nil = n;
+  reports = s .reports;
+}
 
 -- the node at a place; past the last one a root of no size
 abbrev pub at : List Node → ℕ → Node
