@@ -1,23 +1,22 @@
 -- Each public call's outcome as one definition of its arguments: its answer and the store afterwards, or a refusal. "Tested in the order 1, 2, 8,
 -- 9, 3, 4, 5, 6, 10, 11, 7. A refusal returns only its number and leaves all memory as found".
 use mathlib.Core.List.{List, [], _∷_, _++_, map}
-use mathlib.Core.Bool.{Bool, true, false, not, _&&_, _||_}
+use mathlib.Core.Bool.{Bool, true, not, _&&_, _||_}
 use mathlib.Core.Option.{Option, none, some}
-use Prim.Native.Nat.{ℕ, zero, suc, _+_}
+use Prim.Native.Nat.{ℕ}
 use lib.Dec.{eqb, ltb, leb}
 use lib.ListN.{length, getElem?, take, drop}
-use Rattle.scope.specs.Base.{pick, all, any, isSome, orElse}
-use Rattle.scope.specs.Limits.{MAX-NODES, MAX-CHILDREN, MAX-LIST}
+use Rattle.scope.specs.Base.{pick, all, any}
 use Rattle.scope.specs.Names.{Name}
-use Rattle.scope.specs.Chart.{Env, chartOk, isTrait}
+use Rattle.scope.specs.Chart.{Env, isTrait}
 use Rattle.scope.specs.Types.{Ty, wordOf}
-use Rattle.scope.specs.Kinds.{Head, headOf, makeable, defined, objectNamesOk, STRUCT, UNION}
-use Rattle.scope.specs.Nodes.{Kind, State, Known, Unknown, InferenceFailed, Node, Root, Child, Store, opened, withNodes, at, find, findMut}
+use Rattle.scope.specs.Kinds.{headOf, makeable, defined, objectNamesOk, STRUCT, UNION}
+use Rattle.scope.specs.Nodes.{Kind, Known, Unknown, InferenceFailed, Node, Root, Child, Store, opened, withNodes, at, find, findMut}
 use Rattle.scope.specs.Answers.{Answer}
 use Rattle.scope.specs.Unify.{Out, unify, unifyTypes, unifyObjects, ImplType, Trait, Error, unifyImplType, unifyFnSig, approxEq, selfInverseOf}
 use Rattle.scope.specs.Make.{Made, MadeAll, new, newVar, newVars, makeError, makeNil}
 use Rattle.scope.specs.Force.{Forced, forceKind, finishInference, finishWhere, findRelated, isNil, Mod, getMod, reset}
-use Rattle.scope.specs.Import.{Work, MovedAll, import, export}
+use Rattle.scope.specs.Import.{MovedAll, import, export}
 use Rattle.scope.specs.Show.{show, showImplType}
 use Rattle.scope.specs.Sound.{Lent, sound, inStore}
 use Rattle.scope.specs.Refusals.{OUTSIDE, UNMAKEABLE, UNDEFINED, NO-ENTRY, SHORT, SOURCE-UNSOUND, NODES-FULL, CHILDREN-FULL}

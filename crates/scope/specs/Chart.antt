@@ -1,10 +1,9 @@
 -- "From a type to its root": the chart, what stands beside it, and refusal 2.
-use mathlib.Core.List.{List, [], _∷_}
-use mathlib.Core.Bool.{Bool, true, false, _&&_, _||_}
-use mathlib.Core.Option.{Option, none, some}
-use Prim.Native.Nat.{ℕ, zero, suc}
+use mathlib.Core.List.{List}
+use mathlib.Core.Bool.{Bool, _&&_, _||_}
+use Prim.Native.Nat.{ℕ}
 use lib.Dec.{eqb, leb}
-use lib.ListN.{length, getD, getElem?}
+use lib.ListN.{length, getD}
 use Rattle.scope.specs.Base.{pick, all}
 use Rattle.scope.specs.Limits.{MAX-NAME, MAX-RECORDS, MAX-SORT, SIGILS, NONE}
 use Rattle.scope.specs.Names.{Texts, Name, name, inText, nameOk, textsOk}

@@ -4,7 +4,7 @@ use mathlib.Core.List.{List, [], _∷_, _++_, List·Memᴰ}
 use mathlib.Core.Bool.{Bool, true, false}
 use mathlib.Core.Option.{Option, none, some}
 use mathlib.Core.Logic.{_↔_}
-use Prim.Native.Nat.{ℕ, zero, suc, _+_, _≤_, _<_}
+use Prim.Native.Nat.{ℕ, suc, _+_, _≤_, _<_}
 use lib.Dec.{eqb}
 use lib.ListN.{length, replicate}
 use Rattle.scope.specs.Base.{any}
@@ -19,8 +19,8 @@ use Rattle.scope.specs.Unify.{ImplType}
 use Rattle.scope.specs.Make.{bare}
 use Rattle.scope.specs.Import.{copies}
 use Rattle.scope.specs.Sound.{Lent, reads, rooted}
-use Rattle.scope.specs.Calls.{Outcome, refused, done, storeOf, kindMade, NewKind, over, Entries, findCall, findMutCall, nodeCall, childCall, nameCall, figuresCall, newCall, newStructCall, newUnionCall, newVarCall, newVarsCall, errorCall, nilCall, unifyCall, unifyTypesCall, unifyObjectsCall, unifyImplTypeCall, approxEqCall, unifyFnSigCall, forceKindCall, finishInferenceCall, finishWhereCall, findRelatedCall, selfInverseCall, isNilCall, getModCall, resetCall, importCall, exportCall, Printed, showCall, showImplTypeCall}
-use Rattle.scope.specs.Trees.{Tree, invert, Val, Proper, StateFits, NodeFits, Fits, PairFits}
+use Rattle.scope.specs.Calls.{Outcome, refused, done, storeOf, kindMade, NewKind, over, Entries, findCall, findMutCall, nodeCall, childCall, nameCall, figuresCall, newCall, newStructCall, newUnionCall, newVarCall, newVarsCall, errorCall, nilCall, unifyCall, unifyTypesCall, unifyObjectsCall, unifyImplTypeCall, approxEqCall, unifyFnSigCall, forceKindCall, finishInferenceCall, finishWhereCall, findRelatedCall, selfInverseCall, isNilCall, getModCall, resetCall, importCall, exportCall, showCall, showImplTypeCall}
+use Rattle.scope.specs.Trees.{invert, Val, Proper, StateFits, NodeFits, Fits, PairFits}
 
 -- the makers; `newVars` has the room of its answer's list last
 pub data Maker : Type 0 where

@@ -1,16 +1,16 @@
 -- "Importing": "a list of at most 255 types, one shared mapping".
-use mathlib.Core.List.{List, [], _∷_, _++_}
-use mathlib.Core.Bool.{Bool, true, false, not, _&&_, _||_}
+use mathlib.Core.List.{List, [], _∷_}
+use mathlib.Core.Bool.{Bool, true, false, _||_}
 use mathlib.Core.Option.{Option, none, some}
-use Prim.Native.Nat.{ℕ, zero, suc, _+_}
+use Prim.Native.Nat.{ℕ, zero, suc}
 use lib.Dec.{eqb}
 use lib.ListN.{length, set, getElem?}
-use Rattle.scope.specs.Base.{pick, xor, any, count, from}
+use Rattle.scope.specs.Base.{pick, any, count, from}
 use Rattle.scope.specs.Limits.{NONE}
 use Rattle.scope.specs.Types.{Ty, ty, flip}
-use Rattle.scope.specs.Kinds.{Head, PARAM}
-use Rattle.scope.specs.Nodes.{Kind, State, Known, Unknown, InferenceFailed, Node, Root, Child, Store, withNodes, remembering, at, isRoot, stateOf, find, kidsOf}
-use Rattle.scope.specs.Make.{Made, pushed, nextType}
+use Rattle.scope.specs.Kinds.{PARAM}
+use Rattle.scope.specs.Nodes.{Kind, State, Known, Unknown, InferenceFailed, Node, Root, Store, withNodes, remembering, at, stateOf, find, kidsOf}
+use Rattle.scope.specs.Make.{pushed}
 
 -- the work so far: the destination, the mapping from source roots to nodes of the destination, and whether a Param had no entry
 pub record Work : Type 0 where

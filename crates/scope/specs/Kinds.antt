@@ -1,8 +1,8 @@
 -- The fifteen kinds: "one fixed table of rows, each giving children and self-duality", and when a kind can't be made (refusals 4 and 5).
 use mathlib.Core.List.{List, [], _∷_, map}
 use mathlib.Core.Bool.{Bool, true, false, not, _&&_, _||_}
-use mathlib.Core.Option.{Option, none, some}
-use Prim.Native.Nat.{ℕ, zero, suc}
+use mathlib.Core.Option.{Option}
+use Prim.Native.Nat.{ℕ, suc}
 use lib.Dec.{eqb, ltb, leb}
 use lib.ListN.{length, getD}
 use Rattle.scope.specs.Base.{pick, all}

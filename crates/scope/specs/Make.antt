@@ -1,11 +1,11 @@
 -- "Making and unifying": the makers. "Size is 1".
 use mathlib.Core.List.{List, [], _∷_, _++_}
-use mathlib.Core.Bool.{Bool, true, false}
+use mathlib.Core.Bool.{false}
 use mathlib.Core.Option.{Option, none, some}
 use Prim.Native.Nat.{ℕ, zero, suc, _+_}
 use lib.ListN.{length}
 use Rattle.scope.specs.Types.{Ty, ty}
-use Rattle.scope.specs.Kinds.{Head, TUPLE, ERROR}
+use Rattle.scope.specs.Kinds.{TUPLE, ERROR}
 use Rattle.scope.specs.Nodes.{Kind, State, Known, Unknown, Node, Root, Store, withMade, remembering}
 
 -- a type, and the store afterwards

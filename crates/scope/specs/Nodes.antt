@@ -1,12 +1,12 @@
 -- "From a type to its root": nodes, states, the store, `find` and `find_mut`. Where children lie is no part of a store: a Known state holds them.
-use mathlib.Core.List.{List, [], _∷_, _++_}
+use mathlib.Core.List.{List, []}
 use mathlib.Core.Bool.{Bool, true, false}
 use mathlib.Core.Option.{Option, none, some}
-use Prim.Native.Nat.{ℕ, zero, suc, _+_}
+use Prim.Native.Nat.{ℕ, zero, suc}
 use lib.ListN.{length, getD, set}
 use Rattle.scope.specs.Base.{xor}
 use Rattle.scope.specs.Limits.{NONE}
-use Rattle.scope.specs.Types.{Ty, ty, flip}
+use Rattle.scope.specs.Types.{Ty, flip}
 use Rattle.scope.specs.Kinds.{Head}
 
 -- a kind: its head, and its children in order (a Closure's parameters, then its return)

@@ -1,14 +1,14 @@
 -- Program `sheet`: from input bytes to output bytes.
 use mathlib.Core.List.{List, [], _∷_, _++_}
-use mathlib.Core.Bool.{Bool, true, false, not, _&&_, _||_}
+use mathlib.Core.Bool.{Bool, true, false, not, _&&_}
 use mathlib.Core.Option.{Option, none, some}
-use Prim.Native.Nat.{ℕ, zero, suc, _+_, _-_, _*_}
-use lib.Dec.{eqb, ltb, leb}
+use Prim.Native.Nat.{ℕ, _+_, _-_, _*_}
+use lib.Dec.{eqb, leb}
 use lib.ListN.{length, replicate}
 use Rattle.scope.specs.Base.{pick, all}
 use Rattle.scope.specs.Text.{text}
 use Rattle.scope.specs.Limits.{SIGILS, NONE, MAX-LINE, MAX-DIGITS, SHEET-NODES, SHEET-CHILDREN, SHEET-TEXT}
-use Rattle.scope.specs.Names.{Name, name, eqBytes}
+use Rattle.scope.specs.Names.{name, eqBytes}
 use Rattle.scope.specs.Chart.{Env}
 use Rattle.scope.specs.Types.{Ty, ty}
 use Rattle.scope.specs.Kinds.{TUPLE, REF, NEVER, DEFAULT}

@@ -2,7 +2,7 @@
 use mathlib.Core.List.{List, [], _∷_, map}
 use mathlib.Core.Bool.{Bool, true, false, not, _&&_, _||_}
 use mathlib.Core.Option.{Option, none, some}
-use Prim.Native.Nat.{ℕ, zero, suc, _+_}
+use Prim.Native.Nat.{ℕ, zero, suc}
 use lib.Dec.{eqb, ltb, leb}
 use lib.ListN.{length}
 use Rattle.scope.specs.Base.{pick, all, count, from}
@@ -11,8 +11,8 @@ use Rattle.scope.specs.Limits.{MAX-NODES, MAX-CHILDREN}
 use Rattle.scope.specs.Names.{Name, name}
 use Rattle.scope.specs.Chart.{Env}
 use Rattle.scope.specs.Types.{Ty, ty, tyOf}
-use Rattle.scope.specs.Kinds.{Head, Row, rowOf, OWN-NAME, CHILD-NAMES, PARAMETER-NAMES, makeable, defined, flagIs}
-use Rattle.scope.specs.Nodes.{Kind, State, Known, Unknown, InferenceFailed, Node, Root, Child, Store, at, isRoot, stateOf, find, kidsOf}
+use Rattle.scope.specs.Kinds.{rowOf, OWN-NAME, CHILD-NAMES, PARAMETER-NAMES, makeable, defined, flagIs}
+use Rattle.scope.specs.Nodes.{Kind, Known, Unknown, InferenceFailed, Node, Root, Child, Store, at, isRoot, stateOf, find, kidsOf}
 
 -- a child's numbers: its type, and its name or zeros
 pub record Slot : Type 0 where
