@@ -1,4 +1,4 @@
--- "Forcing", and the calls "outside the theorem's first half" that neither unify nor print.
+-- "Forcing and importing": forcing; and the calls "Outside the theorem's first half" that neither unify nor print.
 use mathlib.Core.List.{List, [], _∷_, map}
 use mathlib.Core.Bool.{Bool, true, false, not, _&&_, _||_}
 use mathlib.Core.Option.{Option, none, some}

@@ -1,4 +1,4 @@
--- "Importing": "a list of at most 255 types, one shared mapping".
+-- "Forcing and importing": `import` and `export`, "a list of at most 255 types, one shared mapping".
 use mathlib.Core.List.{List, [], _∷_}
 use mathlib.Core.Bool.{Bool, true, false, _||_}
 use mathlib.Core.Option.{Option, none, some}

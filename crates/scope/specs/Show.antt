@@ -61,7 +61,7 @@ abbrev pub object : Texts → Bool → List (Option Name) → List Ty → List P
 object x i ns [] = fixed (text "{}") ∷ []
 object x i ns (t ∷ ts) = fixed (text "{ ") ∷ (joined (entries x i ns (t ∷ ts)) ++ (fixed (text " }") ∷ []))
 
--- " -> " and the return, unless it is nil
+-- ` -> ` and the return, unless it is nil
 abbrev pub arrow : (Ty → Bool) → List Ty → List Piece
 arrow nil [] = []
 arrow nil (t ∷ ts) = pick (nil t) [] (fixed (text " -> ") ∷ sub t ∷ [])
