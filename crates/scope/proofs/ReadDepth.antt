@@ -23,8 +23,7 @@ use Rattle.scope.proofs.TestLaws.{all-of, of-all}
 use Rattle.scope.proofs.PairLaws.{front-in, last-in}
 use Rattle.scope.proofs.Paths.{find-idx, find-inside}
 use Rattle.scope.proofs.Falls.{good-falls}
-use Rattle.scope.proofs.SoundLaws.{kinds-held, SoundNodes}
-use Rattle.scope.proofs.View.{view}
+use Rattle.scope.proofs.SoundLaws.{SoundNodes, nodes-held}
 
 -- one depth further down, fewer than f steps are left
 falls-kid : (f : ℕ) (ns : List Node) (t c : Ty) → falls (suc f) ns (find ns t .idx) ≡ true
@@ -208,7 +207,7 @@ show-depth e ns (suc f) (suc f′) t h h′ = render-same (showF e f ns) (showF 
 
 module _ (e : Env) {ns : List Node} (ok : SoundNodes e ns) (t : Ty) (ht : t .idx < length ns) (f : ℕ) (h : length ns ≤ f) where
   falling : falls (length ns) ns (find ns t .idx) ≡ true
-  falling = good-falls ns (ok .forest) (ok .good) (kinds-held e (length ns) (view ns) (ok .kinds)) (find ns t .idx) (find-inside (ok .forest) t ht)
+  falling = good-falls ns (ok .forest) (ok .good) (nodes-held ok) (find ns t .idx) (find-inside (ok .forest) t ht)
 
   further : falls f ns (find ns t .idx) ≡ true
   further = falls-more ns (length ns) f (find ns t .idx) h falling
