@@ -112,5 +112,5 @@ pub chart-tests :
     && (all (recordOk (chartIn ws rule text)) (recordsOf ws)
     && (fnTraitOk (envOf ws b [] [])
     && all (sigilOk (texts rule text)) (sigilsOf (b .sigils)))))))
-unfolding chartWordsOk chartOk recordOk
+unfolding chartWordsOk chartOk recordOk runs
 chart-tests ws b rule text = refl

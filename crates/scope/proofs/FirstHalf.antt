@@ -148,7 +148,7 @@ fails e s r d a b q v f p = unify-cases e s (r .facts) (λ o. given o ≡ some F
     plain : Inside (length ns) (Plain e) (view ns)
     plain = record {
       inside = nodes-stable e (r .facts .nodes) .inside .inside;
-      kinds = λ a i k q. let z = r .facts .nodes .kinds a i k q in record { kids = z .kids; clean = record { make = z .made; no-default = d a i k q } };
+      kinds = λ a i k q. let z = r .facts .nodes .kinds a i k q in record { kids = z .kids; made = record { make = z .made; no-default = d a i k q } };
     }
 
     same : {x y : Answer} → some x ≡ some y → x ≡ y

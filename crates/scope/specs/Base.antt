@@ -39,3 +39,15 @@ isSome (some a) = true
 abbrev pub orElse {ℓ} : {A : Type ℓ} → Option A → A → A
 orElse none a = a
 orElse (some x) a = x
+
+-- all but the last
+abbrev pub front {ℓ} : {A : Type ℓ} → List A → List A
+front [] = []
+front (x ∷ []) = []
+front (x ∷ y ∷ ys) = x ∷ front (y ∷ ys)
+
+-- the last alone
+abbrev pub last {ℓ} : {A : Type ℓ} → List A → List A
+last [] = []
+last (x ∷ []) = x ∷ []
+last (x ∷ y ∷ ys) = last (y ∷ ys)

@@ -1,75 +1,31 @@
 -- Each public call's outcome as one definition of its arguments: its answer and the store afterwards, or a refusal. "Tested in the order 1, 2, 8,
 -- 9, 3, 4, 5, 6, 10, 11, 7. A refusal returns only its number and leaves all memory as found".
 use mathlib.Core.List.{List, [], _∷_, _++_, map}
-use mathlib.Core.Bool.{Bool, true, false, not, _&&_, _||_}
+use mathlib.Core.Bool.{Bool, true, not, _&&_, _||_}
 use mathlib.Core.Option.{Option, none, some}
-use Prim.Native.Nat.{ℕ, zero, suc, _+_}
+use Prim.Native.Nat.{ℕ}
 use lib.Dec.{eqb, ltb, leb}
 use lib.ListN.{length, getElem?, take, drop}
-use Rattle.scope.specs.Base.{pick, all, any, isSome, orElse}
-use Rattle.scope.specs.Limits.{MAX-NODES, MAX-CHILDREN, MAX-LIST}
+use Rattle.scope.specs.Base.{pick, all, any}
 use Rattle.scope.specs.Names.{Name}
-use Rattle.scope.specs.Chart.{Env, chartOk, isTrait}
+use Rattle.scope.specs.Chart.{Env, isTrait}
 use Rattle.scope.specs.Types.{Ty, wordOf}
-use Rattle.scope.specs.Kinds.{Head, headOf, makeable, defined, objectNamesOk, STRUCT, UNION}
-use Rattle.scope.specs.Nodes.{Kind, State, Known, Unknown, InferenceFailed, Node, Root, Child, Store, opened, withNodes, at, find, findMut}
+use Rattle.scope.specs.Kinds.{headOf, makeable, defined, objectNamesOk, STRUCT, UNION}
+use Rattle.scope.specs.Nodes.{Kind, Known, Unknown, InferenceFailed, Node, Root, Child, Store, opened, withNodes, at, find, findMut}
 use Rattle.scope.specs.Answers.{Answer}
 use Rattle.scope.specs.Unify.{Out, unify, unifyTypes, unifyObjects, ImplType, Trait, Error, unifyImplType, unifyFnSig, approxEq, selfInverseOf}
 use Rattle.scope.specs.Make.{Made, MadeAll, new, newVar, newVars, makeError, makeNil}
 use Rattle.scope.specs.Force.{Forced, forceKind, finishInference, finishWhere, findRelated, isNil, Mod, getMod, reset}
-use Rattle.scope.specs.Import.{Work, MovedAll, import, export}
+use Rattle.scope.specs.Import.{MovedAll, import, export}
 use Rattle.scope.specs.Show.{show, showImplType}
-use Rattle.scope.specs.Sound.{Lent, stray, reads, sound, inStore}
-
--- a refusal's number, or the answer and the store afterwards; a refusal leaves the store as found
-pub data Outcome (A : Type 0) : Type 0 where
-  refused : ℕ → Outcome A
-  done : A → Store → Outcome A
-
--- the number of the first test that turns the call back
-abbrev pub firstBroken : List (Bool × ℕ) → Option ℕ
-firstBroken [] = none
-firstBroken (t ∷ ts) = pick (t .0) (some (t .1)) (firstBroken ts)
-
-abbrev pub orRefused : {A : Type 0} → Option ℕ → Outcome A → Outcome A
-orRefused none o = o
-orRefused (some n) o = refused n
-
-abbrev pub judged : {A : Type 0} → List (Bool × ℕ) → Outcome A → Outcome A
-judged ts o = orRefused (firstBroken ts) o
-
--- the store that is lent; a stray one is refused before this is looked at
-abbrev pub storeOf : Lent → Store
-storeOf stray = opened 0 0
-storeOf (reads s) = s
-
--- 2 and 8, which every call on a store can answer
-abbrev pub lentTests : Env → Lent → List (Bool × ℕ)
-lentTests e l = (not (chartOk e), 2) ∷ (not (sound e l), 8) ∷ []
-
--- 3: "a type's node isn't in the store"
-abbrev pub outside : Store → List Ty → Bool × ℕ
-outside s ts = (not (all (inStore (s .nodes)) ts), 3)
-
--- 4: "over 255 listed types or parameters"
-abbrev pub tooMany : List Ty → Bool
-tooMany ts = ltb MAX-LIST (length ts)
-
--- 10 and 11: "nodes made plus those needed exceed the capacity"; "the same for children"
-abbrev pub roomTests : Store → ℕ → ℕ → List (Bool × ℕ)
-roomTests s n c = (ltb (s .nodeRoom) (length (s .nodes) + n), 10) ∷ (ltb (s .childRoom) (s .children + c), 11) ∷ []
-
--- 7: "the answer's buffer is too short"
-abbrev pub shortFor : ℕ → ℕ → Bool × ℕ
-shortFor have need = (ltb have need, 7)
+use Rattle.scope.specs.Sound.{Lent, sound, inStore}
+use Rattle.scope.specs.Refusals.{OUTSIDE, UNMAKEABLE, UNDEFINED, NO-ENTRY, SHORT, SOURCE-UNSOUND, NODES-FULL, CHILDREN-FULL}
+pub use Rattle.scope.specs.Refusals.{Outcome, refused, done, firstBroken, orRefused, judged, storeOf}
+pub use Rattle.scope.specs.Refusals.{openTest, lentTests, outside, tooMany, roomTests, shortFor}
 
 -- what a lent list of numbers holds once types are written at its front
 abbrev pub written : List Ty → List ℕ → List ℕ
 written ts buffer = map wordOf ts ++ drop (length ts) buffer
-
--- opening: "capacity above the limit or buffers too short"; `enough` says that the buffers are long enough for the capacities
-abbrev pub openTest : ℕ → ℕ → Bool → Bool × ℕ
-openTest n c enough = (ltb MAX-NODES n || (ltb MAX-CHILDREN c || not enough), 1)
 
 unfoldable pub openCall : ℕ → ℕ → Bool → Outcome (Unit {0})
 openCall n c enough = judged (openTest n c enough ∷ []) (done tt (opened n c))
@@ -135,7 +91,7 @@ newCall e l a =
     let k : Kind = kindMade e a in
     judged
     (lentTests e l
-    ++ (outside s (a .kids) ∷ (not (makeable (e .texts) (k .head) (length (a .kids))), 4) ∷ (not (defined e (k .head)), 5) ∷ roomTests s 1 (length (a .kids))))
+    ++ (outside s (a .kids) ∷ (not (makeable (e .texts) (k .head) (length (a .kids))), UNMAKEABLE) ∷ (not (defined e (k .head)), UNDEFINED) ∷ roomTests s 1 (length (a .kids))))
     (madeType (new s k))
 
 -- a Struct or Union over a definition
@@ -181,7 +137,7 @@ unfoldable pub unifyTypesCall : Env → Lent → List Ty → List Ty → Bool �
 unifyTypesCall e l xs ys i =
     let s : Store = storeOf l in
     judged
-    (lentTests e l ++ (outside s (xs ++ ys) ∷ (tooMany xs || tooMany ys, 4) ∷ []))
+    (lentTests e l ++ (outside s (xs ++ ys) ∷ (tooMany xs || tooMany ys, UNMAKEABLE) ∷ []))
     (unified s (unifyTypes (e .texts) (s .nodes) xs ys i))
 
 -- an object's entries as they are lent
@@ -197,7 +153,7 @@ unfoldable pub unifyObjectsCall : Env → Lent → Entries → Entries → Bool 
 unifyObjectsCall e l a b i =
     let s : Store = storeOf l in
     judged
-    (lentTests e l ++ (outside s (a .types ++ b .types) ∷ (badEntries e a || badEntries e b, 4) ∷ []))
+    (lentTests e l ++ (outside s (a .types ++ b .types) ∷ (badEntries e a || badEntries e b, UNMAKEABLE) ∷ []))
     (unified s (unifyObjects (e .texts) (s .nodes) (a .names) (a .types) (b .names) (b .types) i))
 
 abbrev pub implTypes : ImplType → List Ty
@@ -211,9 +167,9 @@ implDefined e Error = true
 -- the tests of calls on impl types: 3, 4 and 5 over all of them
 abbrev pub implTests : Env → Store → List ImplType → List (Bool × ℕ)
 implTests e s as′ =
-    (not (all (λ a. all (inStore (s .nodes)) (implTypes a)) as′), 3)
-    ∷ (any (λ a. tooMany (implTypes a)) as′, 4)
-    ∷ (not (all (implDefined e) as′), 5)
+    (not (all (λ a. all (inStore (s .nodes)) (implTypes a)) as′), OUTSIDE)
+    ∷ (any (λ a. tooMany (implTypes a)) as′, UNMAKEABLE)
+    ∷ (not (all (implDefined e) as′), UNDEFINED)
     ∷ []
 
 unfoldable pub unifyImplTypeCall : Env → Lent → ImplType → ImplType → Outcome Answer
@@ -230,7 +186,7 @@ unfoldable pub unifyFnSigCall : Env → Lent → List Ty → Ty → List Ty → 
 unifyFnSigCall e l xs r ys q =
     let s : Store = storeOf l in
     judged
-    (lentTests e l ++ (outside s (xs ++ (r ∷ ys ++ (q ∷ []))) ∷ (tooMany xs || tooMany ys, 4) ∷ []))
+    (lentTests e l ++ (outside s (xs ++ (r ∷ ys ++ (q ∷ []))) ∷ (tooMany xs || tooMany ys, UNMAKEABLE) ∷ []))
     (unified s (unifyFnSig (e .texts) (s .nodes) xs r ys q))
 
 unfoldable pub forceKindCall : Env → Lent → Ty → Outcome Forced
@@ -281,12 +237,12 @@ importCall e l src ts ps have =
     let m : MovedAll = import (o .nodes) ps s ts in
     judged
     (lentTests e l
-    ++ ((not (sound e src), 9)
-    ∷ (not (all (inStore (o .nodes)) ts && all (inStore (s .nodes)) (importList ps)), 3)
-    ∷ (tooMany ts || tooMany (importList ps), 4)
-    ∷ (m .work .missing, 6)
-    ∷ (ltb (s .nodeRoom) (length (m .work .dest .nodes)), 10)
-    ∷ (ltb (s .childRoom) (m .work .dest .children), 11)
+    ++ ((not (sound e src), SOURCE-UNSOUND)
+    ∷ (not (all (inStore (o .nodes)) ts && all (inStore (s .nodes)) (importList ps)), OUTSIDE)
+    ∷ (tooMany ts || tooMany (importList ps), UNMAKEABLE)
+    ∷ (m .work .missing, NO-ENTRY)
+    ∷ (ltb (s .nodeRoom) (length (m .work .dest .nodes)), NODES-FULL)
+    ∷ (ltb (s .childRoom) (m .work .dest .children), CHILDREN-FULL)
     ∷ shortFor have (length ts)
     ∷ []))
     (done (m .types) (m .work .dest))
@@ -305,9 +261,9 @@ exportCall e l n c enough ts have =
     (openTest n c enough
     ∷ (lentTests e l
     ++ (outside s ts
-    ∷ (tooMany ts, 4)
-    ∷ (ltb n (length (m .work .dest .nodes)), 10)
-    ∷ (ltb c (m .work .dest .children), 11)
+    ∷ (tooMany ts, UNMAKEABLE)
+    ∷ (ltb n (length (m .work .dest .nodes)), NODES-FULL)
+    ∷ (ltb c (m .work .dest .children), CHILDREN-FULL)
     ∷ shortFor have (length ts)
     ∷ [])))
     (done (record { types = m .types; fresh = m .work .dest }) s)
@@ -327,7 +283,7 @@ abbrev pub printedText : Store → List ℕ → List ℕ → Printed
 printedText s bs buffer =
     pick (leb (length bs) (length buffer))
     (record { answer = done (length bs) s; buffer = bs ++ drop (length bs) buffer; part = bs })
-    (record { answer = refused 7; buffer = take (length buffer) bs; part = take (length buffer) bs })
+    (record { answer = refused SHORT; buffer = take (length buffer) bs; part = take (length buffer) bs })
 
 abbrev pub orUnprinted : Option ℕ → List ℕ → Printed → Printed
 orUnprinted none buffer p = p

@@ -13,6 +13,7 @@ pub mod Force
 pub mod Import
 pub mod Sound
 pub mod Show
+pub mod Refusals
 pub mod Calls
 pub mod Trees
 pub mod Demand

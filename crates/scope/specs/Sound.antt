@@ -2,16 +2,17 @@
 use mathlib.Core.List.{List, [], _∷_, map}
 use mathlib.Core.Bool.{Bool, true, false, not, _&&_, _||_}
 use mathlib.Core.Option.{Option, none, some}
-use Prim.Native.Nat.{ℕ, zero, suc, _+_}
+use Prim.Native.Nat.{ℕ, zero, suc}
 use lib.Dec.{eqb, ltb, leb}
 use lib.ListN.{length}
 use Rattle.scope.specs.Base.{pick, all, count, from}
+pub use Rattle.scope.specs.Base.{front, last}
 use Rattle.scope.specs.Limits.{MAX-NODES, MAX-CHILDREN}
 use Rattle.scope.specs.Names.{Name, name}
 use Rattle.scope.specs.Chart.{Env}
 use Rattle.scope.specs.Types.{Ty, ty, tyOf}
-use Rattle.scope.specs.Kinds.{Head, Row, rowOf, OWN-NAME, CHILD-NAMES, PARAMETER-NAMES, makeable, defined, flagIs}
-use Rattle.scope.specs.Nodes.{Kind, State, Known, Unknown, InferenceFailed, Node, Root, Child, Store, at, isRoot, stateOf, find, kidsOf}
+use Rattle.scope.specs.Kinds.{rowOf, OWN-NAME, CHILD-NAMES, PARAMETER-NAMES, makeable, defined, flagIs}
+use Rattle.scope.specs.Nodes.{Kind, Known, Unknown, InferenceFailed, Node, Root, Child, Store, at, isRoot, stateOf, find, kidsOf}
 
 -- a child's numbers: its type, and its name or zeros
 pub record Slot : Type 0 where
@@ -55,17 +56,6 @@ slotClean s = nameClean (s .text) (s .start) (s .len)
 
 abbrev pub slotBare : Slot → Bool
 slotBare s = zeros (s .text ∷ s .start ∷ s .len ∷ [])
-
--- all but the last
-abbrev pub front {ℓ} : {A : Type ℓ} → List A → List A
-front [] = []
-front (x ∷ []) = []
-front (x ∷ y ∷ ys) = x ∷ front (y ∷ ys)
-
-abbrev pub last {ℓ} : {A : Type ℓ} → List A → List A
-last [] = []
-last (x ∷ []) = x ∷ []
-last (x ∷ y ∷ ys) = last (y ∷ ys)
 
 -- a kind's names, where its row has them
 abbrev pub namesIn : Cell → List (Option Name)
