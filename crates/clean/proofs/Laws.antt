@@ -191,9 +191,12 @@ module _ (ks : List ℕ) (c : ℕ) (x : Cell) where
   unfolding nodeIn
   known-some e = rw e (some-pick _ _)
 
-  pub known-parts : x .tag ≡ KNOWN-TAG → {k : Kind} → k ≡ cellKind x → knownClean ks c x
-      ≡ (leb (x .link + x .count) c && (leb (x .inv) 1 && (leb (x .dual) 1 && namesClean (kindCell ks k))))
-  known-parts e q = ap (λ (b : Bool). leb (x .link + x .count) c && b) (known-some e) ∙ rw (e, q)
+  pub known-parts : x .tag ≡ KNOWN-TAG → knownClean ks c x
+      ≡ (leb (x .link + x .count) c && (leb (x .inv) 1 && (leb (x .dual) 1 && namesClean (cellMeans ks x))))
+  known-parts e = ap (λ (b : Bool). leb (x .link + x .count) c && b) (known-some e)
+
+  pub known-names : x .tag ≡ KNOWN-TAG → (k : Kind) → k ≡ cellKind x → namesClean (cellMeans ks x) ≡ namesClean (kindCell ks k)
+  known-names e k q = rw (e, q)
 
   plain-some : (x .tag ≡ KNOWN-TAG → ⊥) → isSome (nodeIn (cellMeans ks x)) ≡ (plainClean x && kindBare (cellMeans ks x))
   unfolding nodeIn

@@ -2,7 +2,7 @@
 -- tested in that order.
 -- Assumes nothing.
 use borrow.Author.Tests.{le-leb, lt-leb}
-use Rattle.clean.proofs.Laws.{known-parts}
+use Rattle.clean.proofs.Laws.{known-parts, known-names}
 use borrow.Author.Needs.{needs}
 use Rattle.clean.proofs.known_clean.Statement.{statement}
 use Rattle.clean.proofs.known_clean.Tie as tie
@@ -33,17 +33,23 @@ returns-2 c =
       lt-leb _ _ (c .if2 .taken),
     )
 
+kind-in-requires : tie.Need-kind-in-requires
+kind-in-requires c κs = search needs
+
 names-clean-requires : tie.Need-names-clean-requires
 names-clean-requires c κs = search needs
 
 returns-3 : tie.Need-returns-3
 returns-3 c =
-    let a = c .before .before .before .before .before .before .before .before .before .args in
+    let b = c .before .before .before .before .before .before .before .before .before .before in
+    let a = b .args in
+    let k = c .before .kind-in in
     rw (
-      known-parts (a .ks .now) (a .c) (a .x) (c .before .before .before .before .before .before .before .before .before .pre),
-      le-leb _ _ (c .before .before .before .before .before .if1 .left),
-      le-leb _ _ (c .before .before .before .if2 .left),
-      le-leb _ _ (c .before .if3 .taken),
+      known-parts (a .ks .now) (a .c) (a .x) (b .pre),
+      le-leb _ _ (c .before .before .before .before .before .before .if1 .left),
+      le-leb _ _ (c .before .before .before .before .if2 .left),
+      le-leb _ _ (c .before .before .if3 .taken),
+      known-names (a .ks .now) (a .c) (a .x) (b .pre) (k .result) (k .ensures),
       c .names-clean .ensures,
     )
 
@@ -66,6 +72,7 @@ known-clean-spec =
     add-if1
     returns
     returns-2
+    kind-in-requires
     names-clean-requires
     returns-3
     returns-4)

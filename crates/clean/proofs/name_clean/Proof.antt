@@ -9,18 +9,18 @@ use Rattle.clean.proofs.name_clean.Tie as tie
 
 returns : tie.Need-returns
 returns c =
-    let a = c .before .args in
-    sym (name-some (a .may) (a .text) (a .start) (a .len) (c .if1 .taken))
+    let a = c .before .before .args in
+    sym (name-some (a .may) (a .name) (c .if1 .taken))
 
 returns-2 : tie.Need-returns-2
 returns-2 c =
-    let a = c .before .before .args in
-    rw (name-none (a .may) (a .text) (a .start) (a .len) (c .before .if1 .left), eq-eqb (a .text) 0 (c .if2 .taken))
+    let a = c .before .before .before .before .before .args in
+    rw (name-none (a .may) (a .name) (c .before .before .before .if1 .left), eq-eqb (a .name .text) 0 (c .before .if2 .taken))
 
 returns-3 : tie.Need-returns-3
 returns-3 c =
-    let a = c .before .before .args in
-    rw (name-none (a .may) (a .text) (a .start) (a .len) (c .before .if1 .left), ne-eqb (a .text) 0 (c .if2 .left))
+    let a = c .before .before .before .before .args in
+    rw (name-none (a .may) (a .name) (c .before .before .if1 .left), ne-eqb (a .name .text) 0 (c .if2 .left))
 
 pub name-clean-spec : {M : Type 1} → statement M
 name-clean-spec = tie.close (tie.spec returns returns-2 returns-3)

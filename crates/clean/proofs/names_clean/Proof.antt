@@ -22,20 +22,22 @@ named-children-requires : tie.Need-named-children-requires
 named-children-requires c κs = search needs
 
 add-named : tie.Need-add-named
-add-named c = omega (arith, c .named-children .ensures, named-most (c .before .before .before .row-of .result .names) (c .before .before .before .before .before .args .x .count))
+add-named c =
+    let r = c .before .before .before .row-of in
+    let a = c .before .before .before .before .before .args in
+    omega (arith, c .named-children .ensures, named-most (r .result .names) (a .k .count))
 
 name-clean-requires : tie.Need-name-clean-requires
 name-clean-requires c κs = search needs
 
 returns : tie.Need-returns
 returns c =
-    let b = c .before .before .before .before .before .before .before in
     let a = c .before .before .before .before .before .before .before .args in
     let r = c .before .before .before .before .before .row-of in
     let n = c .before .before .named-children in
     let o = c .before .name-clean in
     rw (
-      names-run (a .ks .now) (a .x) (r .result .names) (n .result) (b .pre) (ap (λ y. y .names) (r .ensures)) (n .ensures),
+      names-run (a .ks .now) (a .k) (r .result .names) (n .result) (ap (λ y. y .names) (r .ensures)) (n .ensures),
       ← (o .ensures),
       not-true (o .result) (c .if1 .taken),
     )
@@ -51,13 +53,12 @@ children-clean-requires-2 c κs = search needs
 
 returns-2 : tie.Need-returns-2
 returns-2 c =
-    let b = c .before .before .before .before .before .before .before .before .before .before in
     let a = c .before .before .before .before .before .before .before .before .before .before .args in
     let r = c .before .before .before .before .before .before .before .before .row-of in
     let n = c .before .before .before .before .before .named-children in
     let o = c .before .before .before .before .name-clean in
     rw (
-      names-run (a .ks .now) (a .x) (r .result .names) (n .result) (b .pre) (ap (λ y. y .names) (r .ensures)) (n .ensures),
+      names-run (a .ks .now) (a .k) (r .result .names) (n .result) (ap (λ y. y .names) (r .ensures)) (n .ensures),
       ← (o .ensures),
       not-false (o .result) (c .before .before .before .if1 .left),
       ← (c .before .before .children-clean .ensures),
@@ -67,13 +68,12 @@ returns-2 c =
 
 returns-3 : tie.Need-returns-3
 returns-3 c =
-    let b = c .before .before .before .before .before .before .before .before .before in
     let a = c .before .before .before .before .before .before .before .before .before .args in
     let r = c .before .before .before .before .before .before .before .row-of in
     let n = c .before .before .before .before .named-children in
     let o = c .before .before .before .name-clean in
     rw (
-      names-run (a .ks .now) (a .x) (r .result .names) (n .result) (b .pre) (ap (λ y. y .names) (r .ensures)) (n .ensures),
+      names-run (a .ks .now) (a .k) (r .result .names) (n .result) (ap (λ y. y .names) (r .ensures)) (n .ensures),
       ← (o .ensures),
       not-false (o .result) (c .before .before .if1 .left),
       ← (c .before .children-clean .ensures),

@@ -37,7 +37,7 @@ returns c =
     let a = c .before .before .before .before .before .before .before .args in
     let x = c .before .before .before .cell-at in
     c .known-clean .ensures
-    ∙ sym (node-known (a .ws .now) (a .ks .now) (a .c) (a .i) (x .result) (rw add-sub-cancel-left at (x .ensures)) (c .before .if1 .taken))
+    ∙ sym (node-known (a .ws .now) (a .ks .now) (a .c) (a .i) (x .result) (x .ensures) (c .before .if1 .taken))
 
 plain-clean-requires : tie.Need-plain-clean-requires
 plain-clean-requires c κs = search needs
@@ -51,7 +51,7 @@ returns-2 c =
     let a = c .before .before .before .before .before .before .before .before .before .args in
     let x = c .before .before .before .before .before .cell-at in
     rw (
-      node-plain (a .ws .now) (a .ks .now) (a .c) (a .i) (x .result) (rw add-sub-cancel-left at (x .ensures)) (b .pre) (c .before .before .before .if1 .left),
+      node-plain (a .ws .now) (a .ks .now) (a .c) (a .i) (x .result) (x .ensures) (b .pre) (c .before .before .before .if1 .left),
       ← (c .before .before .plain-clean .ensures),
       c .before .if2 .taken,
     ) (rw add-sub-cancel-left at (c .zero-between .ensures))
@@ -62,7 +62,7 @@ returns-3 c =
     let a = c .before .before .before .before .before .before .before .before .args in
     let x = c .before .before .before .before .cell-at in
     rw (
-      node-plain (a .ws .now) (a .ks .now) (a .c) (a .i) (x .result) (rw add-sub-cancel-left at (x .ensures)) (b .pre) (c .before .before .if1 .left),
+      node-plain (a .ws .now) (a .ks .now) (a .c) (a .i) (x .result) (x .ensures) (b .pre) (c .before .before .if1 .left),
       ← (c .before .plain-clean .ensures),
       c .if2 .left,
     )
