@@ -12,29 +12,16 @@ ghost use Rattle.scope.specs.Chart.{recordAt, sortAt, dualAt, isTrait, sigilAt,
 ghost use Rattle.names.specs.Place.{nameOf, texts};
 ghost use Rattle.chart.specs.Words.{«RECORD-WORDS», nameAt, wordsOf, recordsOf};
 ghost use Rattle.chart.specs.Env.{sigilsOf, envOf, chartIn, chartAlone, chartWordsOk};
+use kinds::NO_SORT;
+use kinds::STRUCT_SORT;
+use kinds::TRAIT_FN_SORT;
+use kinds::TRAIT_SORT;
+use kinds::UNION_SORT;
 use names::Name;
 use scope::MAX_NAME;
 use scope::MAX_RECORDS;
 use scope::MAX_TEXT;
 use scope::NONE;
-
-pub const OPAQUE_SORT: u32 = 0;
-
-pub const STRUCT_SORT: u32 = 1;
-
-pub const ENUM_SORT: u32 = 2;
-
-pub const UNION_SORT: u32 = 3;
-
-pub const CONCRETE_FN_SORT: u32 = 4;
-
-pub const CONST_SORT: u32 = 5;
-
-pub const TRAIT_SORT: u32 = 6;
-
-pub const TRAIT_FN_SORT: u32 = 7;
-
-pub const NO_SORT: u32 = 8;
 
 pub const RECORD_WORDS: usize = 10;
 

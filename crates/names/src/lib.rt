@@ -57,17 +57,7 @@ pub fn bytes_of<'a>(n: Name, rule: &'a [u8], chart: &'a [u8]) -> &'a [u8]
 pub fn same_bytes(a: &[u8], b: &[u8]) -> bool
     ensures { λ r. ⌜ r ≡ eqBytes (now (a .entry)) (now (b .entry)) ⌝ }
 {
-    if a.len() != b.len() {
-        return false;
-    }
-    let mut i: usize = 0;
-    while i < a.len() {
-        if a[i] != b[i] {
-            return false;
-        }
-        i += 1;
-    }
-    true
+    check::same(a, b)
 }
 
 // Byte by byte, unsigned; a prefix comes first.
