@@ -17,7 +17,7 @@ use Rattle.names.proofs.Tests.{both}
 use Rattle.chart.specs.declared.Beside.{Beside}
 use Rattle.chart.specs.Words.{RECORD-WORDS}
 use Rattle.chart.specs.Env.{envOf, chartWordsOk}
-use Rattle.chart.proofs.Laws.{all-at}
+use Rattle.names.proofs.Tests.{all-at}
 
 pub words-passed : (ws : List ℕ) (b : Beside) (rule text : List ℕ) → chartWordsOk ws b rule text ≡ true → (length ws % RECORD-WORDS ≡ 0) × (chartOk (envOf ws b rule text) ≡ true)
 unfolding chartWordsOk
