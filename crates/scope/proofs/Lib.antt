@@ -30,6 +30,8 @@ pub mod Meet
 pub mod Merge
 pub mod Moves
 pub mod NameLaws
+pub mod NeedsLaws
+pub mod NeedsTests
 pub mod NoDefaults
 pub mod NodesFit
 pub mod NodesMade
