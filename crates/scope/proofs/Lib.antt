@@ -32,6 +32,7 @@ pub mod Moves
 pub mod NameLaws
 pub mod NeedsLaws
 pub mod NeedsTests
+pub mod NeedsWalk
 pub mod NoDefaults
 pub mod NodesFit
 pub mod NodesMade

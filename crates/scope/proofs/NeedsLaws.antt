@@ -1,10 +1,9 @@
 -- `needs` says what `import` makes: both walks go through the same types in the same order, and a root is marked just where the mapping has it. So it
 -- holds of a missing entry too, and of any depth; of the source it uses only that its types stay inside. Assumes nothing.
-use mathlib.Core.Path.{_≡_, refl, sym, ap, subst, _∙_}
+use mathlib.Core.Path.{_≡_, refl, sym, _∙_}
 use mathlib.Core.List.{List, [], _∷_, _++_, List·Memᴰ, List·Memᴰ·head, List·Memᴰ·tail, Memᴰ·append-left, Memᴰ·append-right}
 use mathlib.Core.Bool.{Bool, true, false, not}
 use mathlib.Core.Option.{Option, none, some}
-use mathlib.Core.Logic.{_≢_}
 use Prim.Native.Nat.{ℕ, zero, suc, _+_, _≤_, _<_}
 use native.Mathlib.Omega.{arith}
 use native.Mathlib.Decide.{ℕ-discrete}
@@ -14,9 +13,10 @@ use lib.Seq.{getD-set-same, getD-set-other}
 use borrow.Author.Tests.{eq-eqb, ne-eqb}
 use Rattle.scope.specs.Base.{pick, isSome}
 use Rattle.scope.specs.Types.{Ty}
-use Rattle.scope.specs.Nodes.{State, Known, Unknown, InferenceFailed, Node, Root, Store, opened, at, stateOf, stateAt, find, kidsOf}
-use Rattle.scope.specs.Import.{Work, Moved, copyOf, Replaced, keep, missing-entry, entry, replaced, spanOf, begun, ended, many, copied, lacking, fresh, place, transfer, start, import, carried, export, copies}
-use Rattle.scope.specs.Needs.{Needs, Counted, counted, missed, countAll, countNew, countRoot, countF, uncounted, needs, listed, exported}
+use Rattle.scope.specs.Nodes.{State, Known, Unknown, InferenceFailed, Node, Root, Store, opened, stateAt, find, kidsOf}
+use Rattle.scope.specs.Import.{Work, Moved, copyOf, Replaced, keep, missing-entry, entry, replaced, spanOf, begun, ended, many, copied, lacking, place, transfer}
+use Rattle.scope.specs.Import.{start, import, carried, export, copies}
+use Rattle.scope.specs.Needs.{Needs, Counted, counted, missed, countAll, countRoot, countF, uncounted, needs, listed, exported}
 use Rattle.scope.proofs.TestLaws.{tf}
 use Rattle.scope.proofs.Mapping.{Source}
 use Rattle.scope.proofs.CopyCount.{import-nodes}

@@ -1,7 +1,7 @@
 -- The tests 6, 10 and 11 of `import`, and 10 and 11 of `export`, by what `needs` counts in the source: so a call can turn back before it copies. Where
 -- an earlier test turns the call back these are not looked at, so this holds whatever is lent. Assumes nothing.
-use mathlib.Core.Path.{_≡_, refl, sym, ap, _∙_}
-use mathlib.Core.List.{List, [], _∷_, _++_, List·Memᴰ, List·Memᴰ·head, List·Memᴰ·append-cases, List·Memᴰ·eq-of-singleton}
+use mathlib.Core.Path.{_≡_, refl, sym, ap}
+use mathlib.Core.List.{List, [], _∷_, _++_, List·Memᴰ, List·Memᴰ·append-cases, List·Memᴰ·eq-of-singleton}
 use mathlib.Core.Bool.{Bool, true, false, not, _&&_, _||_}
 use mathlib.Core.Option.{Option, none, some}
 use mathlib.Core.Logic.{_⊎_, inl, inr}
@@ -16,7 +16,7 @@ use Rattle.scope.specs.Nodes.{Store, opened}
 use Rattle.scope.specs.Import.{MovedAll, import, export}
 use Rattle.scope.specs.Needs.{Needs, needs, listed, exported}
 use Rattle.scope.specs.Sound.{Lent, stray, reads, inStore, soundStore, sound}
-use Rattle.scope.specs.Calls.{Outcome, done, firstBroken, orRefused, judged, storeOf, lentTests, outside, tooMany, roomTests, shortFor, openTest, importList, importCall, Exported, exportCall}
+use Rattle.scope.specs.Calls.{Outcome, done, firstBroken, orRefused, judged, storeOf, lentTests, outside, tooMany, roomTests, shortFor, openTest, importList, importCall, exportCall}
 use Rattle.scope.proofs.TestLaws.{tf, and-left, of-all}
 use Rattle.scope.proofs.SoundLaws.{SoundFacts, sound-facts}
 use Rattle.scope.proofs.ImportKept.{sound-source}
