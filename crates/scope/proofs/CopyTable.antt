@@ -123,14 +123,14 @@ module _ (l : List (ℕ × ℕ)) (xs : List ℕ) (r : ℕ) (lt : r < length xs) 
 
 module _ (ns : List Node) where
   -- c is where w is
-  record Follows (w : Work) (c : Copying) : Type 0 where
-    dest : c .dest ≡ w .dest
-    tabled : Tabled (w .mapping) (c .table)
-    room : length ns ≤ length (c .table)
+  pub record Follows (w : Work) (c : Copying) : Type 0 where
+    pub dest : c .dest ≡ w .dest
+    pub tabled : Tabled (w .mapping) (c .table)
+    pub room : length ns ≤ length (c .table)
 
-  record Ends (m : Moved) (d : Copied) : Type 0 where
-    work : Follows (m .work) (d .to)
-    type : d .type ≡ m .type
+  pub record Ends (m : Moved) (d : Copied) : Type 0 where
+    pub work : Follows (m .work) (d .to)
+    pub type : d .type ≡ m .type
 
   record EndsAll (m : MovedAll) (d : CopiedAll) : Type 0 where
     work : Follows (m .work) (d .to)
@@ -146,7 +146,8 @@ module _ (ns : List Node) where
   filled-follows : {w : Work} {c : Copying} {n n′ : ℕ} {st st′ : State} → n ≡ n′ → st ≡ st′ → Follows w c → Follows (ended w n′ st′) (filled c n st)
   filled-follows p q z = record { dest = λ i. withNodes (z .dest i) (set (z .dest i .nodes) (p i) (Root (q i) 1)); tabled = z .tabled; room = z .room }
 
-  abbrev Step : (Work → Ty → Moved) → (Copying → Ty → Copied) → Type 0
+  -- at a type of the source both make the same
+  abbrev pub Step : (Work → Ty → Moved) → (Copying → Ty → Copied) → Type 0
   Step g h = (w : Work) (c : Copying) (t : Ty) → t .idx < length ns → Follows w c → Ends (g w t) (h c t)
 
   many-follows : (g : Work → Ty → Moved) (h : Copying → Ty → Copied) → Step g h → (w : Work) (c : Copying) (ts : List Ty)
@@ -189,7 +190,7 @@ module _ (ns : List Node) where
         go none missing-entry = record { work = record { dest = z .dest; tabled = z .tabled; room = z .room }; type = refl }
         go none (entry u) = record { work = z; type = refl }
 
-    transfer-follows : (f : ℕ) → Step (transfer f ns ps) (copyF f ns ps)
+    pub transfer-follows : (f : ℕ) → Step (transfer f ns ps) (copyF f ns ps)
     unfolding transfer copyF
     transfer-follows zero w c t lt z = record { work = z; type = refl }
     transfer-follows (suc f) w c t lt z = root-follows (transfer f ns ps) (copyF f ns ps) (transfer-follows f) w c t lt z
