@@ -11,6 +11,7 @@ pub mod Unify
 pub mod Make
 pub mod Force
 pub mod Import
+pub mod Needs
 pub mod Sound
 pub mod Show
 pub mod Refusals
