@@ -1,4 +1,4 @@
--- A child's name, what the test of all nodes asks, and how wide a node's kind is.
+-- A child's name, what the test of all nodes asks and says, and how wide a node's kind is.
 use mathlib.Core.Bool.{Bool}
 use mathlib.Core.List.{List}
 use Prim.Native.Nat.{ℕ}
@@ -6,7 +6,9 @@ use lib.Dec.{leb}
 use Rattle.scope.specs.Base.{all, from}
 use Rattle.scope.specs.Limits.{MAX-WIDTH}
 use Rattle.scope.specs.Names.{Name, name}
-use Rattle.scope.specs.Sound.{Slot}
+use Rattle.scope.specs.Chart.{Env}
+use Rattle.scope.specs.Nodes.{Node}
+use Rattle.scope.specs.Sound.{Slot, nodeSound}
 use Rattle.layout.specs.Words.{countAt}
 use Rattle.layout.specs.Meaning.{Clean}
 
@@ -18,6 +20,10 @@ placeOf s = name (s .text) (s .start) (s .len)
 pub record CleanNodes (ws ks : List ℕ) (n : ℕ) : Type 0 where
   pub made : ℕ
   pub clean : Clean ws ks made n
+
+-- every node passes
+abbrev pub nodesSound : Env → List Node → Bool
+nodesSound e ns = all (nodeSound e ns) ns
 
 -- "255 children a kind": no node of the first n, clean or not, has words for more
 unfoldable pub narrowNodes : List ℕ → ℕ → Bool

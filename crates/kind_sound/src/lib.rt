@@ -1,5 +1,5 @@
-// Whether a kind can be made: what refusals 4 and 5 turn back. Of a store's kinds also that the flag is the chart's and the children are nodes of the
-// store. A kind is read with the children's words, so the same test serves a kind that is to be made and one that a store has.
+// Whether a kind is sound. Refusals 4 and 5 turn back what can't be made and what is not defined; a store's kinds have also the chart's flag, and their
+// children are nodes of the store. A kind is read with the children's words, so the same tests serve a kind that is to be made and one that a store has.
 //
 // A kind's width is tested before its children are read: the time is that of the nodes and of at most 255 children each, whose names are at most 255 bytes.
 ghost use mathlib.Core.Path.{_≡_};
@@ -17,7 +17,7 @@ ghost use Rattle.names.specs.Place.{texts, nameIn};
 ghost use Rattle.chart.specs.Env.{chartIn, chartAlone};
 ghost use Rattle.layout.specs.Words.{nodeWords, slotAt, slots, decode};
 ghost use Rattle.layout.specs.Meaning.{kindMeans, nodeMeans, rememberedMeans};
-ghost use Rattle.kind_sound.specs.Nodes.{placeOf, CleanNodes, narrowNodes};
+ghost use Rattle.kind_sound.specs.Nodes.{placeOf, CleanNodes, nodesSound, narrowNodes};
 use kinds::AS_CHART;
 use kinds::CHILD_NAMES;
 use kinds::ERROR;
@@ -255,7 +255,7 @@ pub fn nodes_sound<'a>(
     text: &'a [u8],
 ) -> bool
     requires { ⌜ CleanNodes (now ws) (now ks) n ⌝ }
-    ensures { λ r. ⌜ r ≡ all (nodeSound (chartIn (now (chart .entry)) (now (rule .entry)) (now (text .entry))) (decode (now (ws .entry)) (now (ks .entry)) n)) (decode (now (ws .entry)) (now (ks .entry)) n) ⌝ }
+    ensures { λ r. ⌜ r ≡ nodesSound (chartIn (now (chart .entry)) (now (rule .entry)) (now (text .entry))) (decode (now (ws .entry)) (now (ks .entry)) n) ⌝ }
 {
     let mut i: u32 = 0;
     while i < n {

@@ -31,11 +31,14 @@ pub all-done : (p : ℕ → Bool) (n v : ℕ) → n ≤ v → ((u : ℕ) → u <
 all-done p n v l f = sym (from-all p 0 n (λ u a b. f u (omega arith)))
 
 -- a number at which the test fails
-pub all-find : (p : ℕ → Bool) (i n : ℕ) → all p (from i n) ≡ false → (j : ℕ) × (i ≤ j) × (j < i + n) × (p j ≡ false)
+abbrev pub Fails : (ℕ → Bool) → ℕ → ℕ → Type 0
+Fails p i n = (j : ℕ) × (i ≤ j) × (j < i + n) × (p j ≡ false)
+
+pub all-find : (p : ℕ → Bool) (i n : ℕ) → all p (from i n) ≡ false → Fails p i n
 all-find p i zero e = absurd (false≢true (sym e))
 all-find p i (suc n) e = go (p i) refl e (all-find p (suc i) n)
   where
-    go : (b : Bool) → p i ≡ b → (b && all p (from (suc i) n)) ≡ false → (all p (from (suc i) n) ≡ false → (j : ℕ) × (suc i ≤ j) × (j < suc i + n) × (p j ≡ false)) → (j : ℕ) × (i ≤ j) × (j < i + suc n) × (p j ≡ false)
+    go : (b : Bool) → p i ≡ b → (b && all p (from (suc i) n)) ≡ false → (all p (from (suc i) n) ≡ false → Fails p (suc i) n) → Fails p i (suc n)
     go true f h r = let w = r h in (w .0, omega (arith, w .1), omega (arith, w .2), w .3)
     go false f h r = (i, omega arith, omega arith, f)
 

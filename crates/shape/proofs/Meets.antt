@@ -17,6 +17,7 @@ use Rattle.scope.specs.Types.{Ty, ty, flip, tyOf}
 use Rattle.scope.specs.Nodes.{Node, at, hop, climb, find, stateOf, kidsOf}
 use Rattle.scope.specs.Nodes as nodes
 use Rattle.scope.specs.Sound.{rooted, falls, treeSize, sizeIs, inStore, kindSound, nodeSound, shapeSound}
+use Rattle.types.specs.declared.TypeIdx.{TypeIdx}
 use Rattle.layout.specs.Words.{slotAt, decode}
 use Rattle.layout.proofs.Lists.{and-left, and-right, all-from}
 use Rattle.layout.proofs.Laws.{length-decode, read-node}
@@ -26,9 +27,9 @@ use Rattle.layout.specs.declared.TypeNode.{TypeNode}
 use Rattle.layout.specs.declared.TypeNode.the-variants as read
 use Rattle.shape.specs.declared.Up.{Up}
 use Rattle.shape.specs.declared.Up.the-variants.{Root, Parent}
-use Rattle.shape.specs.Walks.{ends, InRow, upward, toBy, Leads, here, more}
-use Rattle.shape.specs.Read.{upIn, rowIn, kidAt, ups, rootOf, kids, tallied, sizeBy, sizeFits}
-use Rattle.shape.specs.Asks.{nodeInside, Shaped, Settled, Founds, Found, Rooted, Sizes, Falls}
+use Rattle.shape.specs.Walks.{ends, InRun, upward, toBy, Leads, here, more}
+use Rattle.shape.specs.Read.{idxOf, upIn, runIn, kidAt, ups, rootOf, kids, tallied, sizeBy, sizeFits}
+use Rattle.shape.specs.Asks.{nodeInside, Shaped, Complete, ClimbsAll, ClimbedAll, Rooted, Sizes, Falls}
 use Rattle.shape.proofs.Lists.{same-test, all-same, all-map, count-same}
 use Rattle.shape.proofs.Walks.{ends-none, ends-more, ends-root, ends-up, up-within, leads-ends, leads-below}
 use Rattle.shape.proofs.Laws.{right-none}
@@ -36,7 +37,7 @@ use Rattle.shape.proofs.Laws.{right-none}
 -- one step up from scope's node
 abbrev upNode : Node → Up
 upNode (nodes.Root st z) = Root z
-upNode (nodes.Child t) = Parent (t .idx)
+upNode (nodes.Child t) = Parent (idxOf (t .idx))
 
 up-means : (ks : List ℕ) (x : TypeNode) → upNode (nodeMeans ks x) ≡ upIn x
 up-means ks (read.Root st z) = refl
@@ -47,12 +48,12 @@ module _ (ns : List Node) (p : ℕ → Up) (step : (v : ℕ) → p v ≡ upNode 
   rooted-by : (x : Node) (d v : ℕ) → at ns v ≡ x → ((u : ℕ) → rooted d ns u ≡ ends (upward p) (suc d) u) → rooted (suc d) ns v ≡ ends (upward p) (suc (suc d)) v
   unfolding rooted
   rooted-by (nodes.Root st z) d v e h = rw e (sym (ends-root p (suc d) v z (step v ∙ ap upNode e)))
-  rooted-by (nodes.Child t) d v e h = rw e (h (t .idx) ∙ sym (ends-up p (suc d) v (t .idx) (step v ∙ ap upNode e)))
+  rooted-by (nodes.Child t) d v e h = rw e (h (t .idx) ∙ sym (ends-up p (suc d) v (idxOf (t .idx)) (step v ∙ ap upNode e)))
 
   rooted-none : (x : Node) (v : ℕ) → at ns v ≡ x → rooted 0 ns v ≡ ends (upward p) 1 v
   unfolding rooted
   rooted-none (nodes.Root st z) v e = rw e (sym (ends-root p 0 v z (step v ∙ ap upNode e)))
-  rooted-none (nodes.Child t) v e = rw e (sym (ends-up p 0 v (t .idx) (step v ∙ ap upNode e) ∙ ends-none (upward p) (t .idx)))
+  rooted-none (nodes.Child t) v e = rw e (sym (ends-up p 0 v (idxOf (t .idx)) (step v ∙ ap upNode e) ∙ ends-none (upward p) (t .idx)))
 
   -- at most d steps, and so at most d + 1 nodes
   rooted-ends : (d v : ℕ) → rooted d ns v ≡ ends (upward p) (suc d) v
@@ -71,14 +72,14 @@ module _ (ns : List Node) (p : ℕ → Up) (step : (v : ℕ) → p v ≡ upNode 
   climb-root (nodes.Child c) (suc d) z t e u = absurd (let f : _≡_ {A = ℕ} 0 1 = cc in omega arith)
 
   -- a climb goes on from a type with the parent's node
-  climb-up : (x : Node) (d u : ℕ) (t : Ty) → at ns (t .idx) ≡ x → upNode x ≡ Parent u → (c : Ty) × (c .idx ≡ u) × (climb (suc d) ns t ≡ climb d ns c)
+  climb-up : (x : Node) (d : ℕ) (u : TypeIdx) (t : Ty) → at ns (t .idx) ≡ x → upNode x ≡ Parent u → (c : Ty) × (c .idx ≡ u .0) × (climb (suc d) ns t ≡ climb d ns c)
   climb-up (nodes.Root st y) d u t e f = absurd (let z : _≡_ {A = ℕ} 0 1 = cc in omega arith)
   climb-up (nodes.Child c) d u t e f = (flip (t .inv) c, cc, climb-by (nodes.Child c) d t e)
 
   climb-leads : (d : ℕ) {v r : ℕ} (t : Ty) → t .idx ≡ v → Leads p v r → ends (upward p) (suc d) v ≡ true → climb d ns t .idx ≡ r
   climb-leads d t q (here {v = v} {z = z} e) m =
       ap (λ (x : Ty). x .idx) (climb-root (at ns (t .idx)) d z t refl (sym (step (t .idx)) ∙ ap p q ∙ e)) ∙ q
-  climb-leads zero t q (more {v = v} {u = u} e k) m = absurd (false≢true (sym (ends-up p 0 v u e ∙ ends-none (upward p) u) ∙ m))
+  climb-leads zero t q (more {v = v} {u = u} e k) m = absurd (false≢true (sym (ends-up p 0 v u e ∙ ends-none (upward p) (u .0)) ∙ m))
   climb-leads (suc d) t q (more {v = v} {u = u} e k) m =
       let w = climb-up (at ns (t .idx)) d u t refl (sym (step (t .idx)) ∙ ap p q ∙ e) in
       ap (λ (x : Ty). x .idx) (w .2) ∙ climb-leads d (w .0) (w .1) k (sym (ends-up p (suc d) v u e) ∙ m)
@@ -87,11 +88,11 @@ module _ (ns : List Node) (p : ℕ → Up) (step : (v : ℕ) → p v ≡ upNode 
     pub rooted-same : (v : ℕ) → v < n → rooted n ns v ≡ ends (upward p) n v
     rooted-same v l = rooted-ends n v ∙ same-test (ends (upward p) (suc n) v) (ends (upward p) n v) (up-within p n inside v l) (ends-more (upward p) n v)
 
-    module _ (roots : List ℕ) (settled : Settled p n roots) where
+    module _ (roots : List ℕ) (complete : Complete p n roots) where
       pub find-same : (t : Ty) → t .idx < n → find ns t .idx ≡ rootOf roots (t .idx)
       unfolding find
       find-same t l =
-          let k = settled .leads (t .idx) l in
+          let k = complete .leads (t .idx) l in
           rw size (climb-leads n t refl k (ends-more (upward p) n (t .idx) (leads-ends p n inside k l)))
 
       tree-same : (v : ℕ) → treeSize ns v ≡ tallied roots n v
@@ -106,7 +107,7 @@ module _ (ns : List Node) (p : ℕ → Up) (step : (v : ℕ) → p v ≡ upNode 
       size-same v = size-by (at ns v) v ∙ ap (sizeBy (tallied roots n v)) (sym (step v))
 
 -- a test of a node's children, by their places
-kids-all : (ks : List ℕ) (q : Ty → Bool) (x : TypeNode) → all q (kidsOf (stateOf (nodeMeans ks x))) ≡ all (λ i. q (tyOf (slotAt ks i .type))) (from (rowIn x .first) (rowIn x .count))
+kids-all : (ks : List ℕ) (q : Ty → Bool) (x : TypeNode) → all q (kidsOf (stateOf (nodeMeans ks x))) ≡ all (λ i. q (tyOf (slotAt ks i .type))) (from (runIn x .first) (runIn x .count))
 unfolding kindMeans
 kids-all ks q (read.Root (Known i k) z) =
     all-map q (λ s. tyOf (s .type)) (map (slotAt ks) (from (k .first) (k .count)))
@@ -155,11 +156,11 @@ module _ (ws ks : List ℕ) (n : ℕ) (ns : List Node) (size : length ns ≡ n) 
   pub ups-inside : (v : ℕ) → v < n → toBy (ups ws n v) < n
   ups-inside v l = rw (step v, ← size) (inside-up ns (at ns v) (omega arith) (inside v l))
 
-  pub kids-inside : (roots : List ℕ) (v i : ℕ) → v < n → InRow (kids ws ks n roots) v i → kidAt ks i < n
+  pub kids-inside : (roots : List ℕ) (v i : ℕ) → v < n → InRun (kids ws ks n roots) v i → kidAt ks i < n
   kids-inside roots v i l r =
       let x = readAt ws n v in
       let e = sym (kids-all ks (inStore ns) x) ∙ ap (λ (y : Node). all (inStore ns) (kidsOf (stateOf y))) (sym (node v)) ∙ inside-kids ns (at ns v) (inside v l) in
-      rw (← size) (ltb-true (kidAt ks i) (length ns) (all-from (λ j. inStore ns (tyOf (slotAt ks j .type))) (rowIn x .first) (rowIn x .count) e i (r .from) (r .below)))
+      rw (← size) (ltb-true (kidAt ks i) (length ns) (all-from (λ j. inStore ns (tyOf (slotAt ks j .type))) (runIn x .first) (runIn x .count) e i (r .from) (r .below)))
 
   -- no parent cycle
   rooted-all : all (λ i. rooted (length ns) ns i) (from 0 (length ns)) ≡ all (ends (upward (ups ws n)) n) (from 0 n)
@@ -169,18 +170,18 @@ module _ (ws ks : List ℕ) (n : ℕ) (ns : List Node) (size : length ns ≡ n) 
   unfolding shapeSound
   shape-lost e = rw (rooted-all, e)
 
-  module _ (roots : List ℕ) (settled : Settled (ups ws n) n roots) where
+  module _ (roots : List ℕ) (complete : Complete (ups ws n) n roots) where
     found : (t : Ty) → t .idx < n → find ns t .idx ≡ rootOf roots (t .idx)
-    found = find-same ns (ups ws n) step n size ups-inside roots settled
+    found = find-same ns (ups ws n) step n size ups-inside roots complete
 
     pub roots-below : (v : ℕ) → v < n → rootOf roots v < n
-    roots-below v l = leads-below (ups ws n) n ups-inside (settled .leads v l) l
+    roots-below v l = leads-below (ups ws n) n ups-inside (complete .leads v l) l
 
     sizes-all : all (λ i. sizeIs ns i (at ns i)) (from 0 (length ns)) ≡ all (sizeFits ws n roots) (from 0 n)
-    sizes-all = rw size (all-same (λ i. sizeIs ns i (at ns i)) (sizeFits ws n roots) 0 n (λ v a b. size-same ns (ups ws n) step n size ups-inside roots settled v))
+    sizes-all = rw size (all-same (λ i. sizeIs ns i (at ns i)) (sizeFits ws n roots) 0 n (λ v a b. size-same ns (ups ws n) step n size ups-inside roots complete v))
 
     -- no child cycle
-    falls-node : (d v : ℕ) → falls (suc d) ns v ≡ all (λ i. falls d ns (find ns (tyOf (slotAt ks i .type)) .idx)) (from (rowIn (readAt ws n v) .first) (rowIn (readAt ws n v) .count))
+    falls-node : (d v : ℕ) → falls (suc d) ns v ≡ all (λ i. falls d ns (find ns (tyOf (slotAt ks i .type)) .idx)) (from (runIn (readAt ws n v) .first) (runIn (readAt ws n v) .count))
     unfolding falls
     falls-node d v = rw (node v) (kids-all ks (λ c. falls d ns (find ns c .idx)) (readAt ws n v))
 
@@ -191,7 +192,7 @@ module _ (ws ks : List ℕ) (n : ℕ) (ns : List Node) (size : length ns ≡ n) 
         let h : (u : ℕ) → u < n → falls d ns u ≡ ends (kids ws ks n roots) d u = falls-same d in
         falls-node d v
         ∙ all-same (λ i. falls d ns (find ns (tyOf (slotAt ks i .type)) .idx)) (λ i. ends (kids ws ks n roots) d (rootOf roots (kidAt ks i)))
-        (rowIn (readAt ws n v) .first) (rowIn (readAt ws n v) .count)
+        (runIn (readAt ws n v) .first) (runIn (readAt ws n v) .count)
         (λ i a b. let k = kids-inside roots v i l (record { from = a; below = b }) in
         ap (falls d ns) (found (tyOf (slotAt ks i .type)) k) ∙ h (rootOf roots (kidAt ks i)) (roots-below (kidAt ks i) k))
 
@@ -205,25 +206,25 @@ module _ (ws ks : List ℕ) (n : ℕ) (ns : List Node) (size : length ns ≡ n) 
 
 -- for words that `shape_ok` is handed
 
-module _ (ws ks : List ℕ) (n : ℕ) (s : Shaped ws ks n) where
+module _ {ws ks : List ℕ} {n : ℕ} (s : Shaped ws ks n) where
   node : (v : ℕ) → at (decode ws ks n) v ≡ nodeMeans ks (readAt ws n v)
   node v = sym (read-node ws ks (s .made) n (s .clean) v)
 
-  pub founds : Founds ws (replicate MAX-NODES 0) n
-  founds = record {
-    forest = record { few = s .few; room = s .clean .room; inside = ups-inside ws ks n (decode ws ks n) (length-decode ws ks n) node (s .inside) };
+  pub climbs-all : ClimbsAll ws (replicate MAX-NODES 0) n
+  climbs-all = record {
+    parents = record { few = s .few; room = s .clean .room; inside = ups-inside ws ks n (decode ws ks n) (length-decode ws ks n) node (s .inside) };
     right = right-none (ups ws n);
   }
 
-  pub not-rooted : {roots : List ℕ} {r : Bool} → Found (ups ws n) n roots r → r ≡ false → false ≡ shapeSound (decode ws ks n)
+  pub not-rooted : {roots : List ℕ} {r : Bool} → ClimbedAll (ups ws n) n roots r → r ≡ false → false ≡ shapeSound (decode ws ks n)
   not-rooted f e = sym (shape-lost ws ks n (decode ws ks n) (length-decode ws ks n) node (s .inside) (sym (f .answer) ∙ e))
 
-  module _ (roots : List ℕ) (r : Bool) (f : Found (ups ws n) n roots r) (e : r ≡ true) where
+  module _ {roots : List ℕ} {r : Bool} (f : ClimbedAll (ups ws n) n roots r) (e : r ≡ true) where
     rooted-roots : Rooted roots n
     rooted-roots = record {
       few = s .few;
-      known = f .settled e .known;
-      below = roots-below ws ks n (decode ws ks n) (length-decode ws ks n) node (s .inside) roots (f .settled e);
+      known = f .complete e .known;
+      below = roots-below ws ks n (decode ws ks n) (length-decode ws ks n) node (s .inside) roots (f .complete e);
     }
 
     pub sizes : Sizes ws roots n
@@ -237,7 +238,7 @@ module _ (ws ks : List ℕ) (n : ℕ) (s : Shaped ws ks n) where
     }
 
     rest : shapeSound (decode ws ks n) ≡ (all (sizeFits ws n roots) (from 0 n) && all (ends (kids ws ks n roots) n) (from 0 n))
-    rest = shape-found ws ks n (decode ws ks n) (length-decode ws ks n) node (s .inside) roots (f .settled e) (sym (f .answer) ∙ e)
+    rest = shape-found ws ks n (decode ws ks n) (length-decode ws ks n) node (s .inside) roots (f .complete e) (sym (f .answer) ∙ e)
 
     pub not-sized : {z : Bool} → z ≡ all (sizeFits ws n roots) (from 0 n) → z ≡ false → false ≡ shapeSound (decode ws ks n)
     not-sized p q = sym (rest ∙ rw (← p, q))

@@ -14,25 +14,25 @@ use lib.ListN.{length, getD, set, length-set, replicate}
 use lib.Seq.{getD-set-same, getD-set-other}
 use Rattle.scope.specs.Limits.{MAX-NODES}
 use Rattle.layout.specs.Meaning.{readAt}
-use Rattle.shape.specs.declared.Row.{Row}
-use Rattle.shape.specs.Walks.{Graph, ends, InRow, Closed}
-use Rattle.shape.specs.Read.{rowIn, kids, kidAt, rootOf}
-use Rattle.shape.specs.Asks.{OPEN, DONE, Open, Marked, fresh, Falls, Visits, Visited}
+use Rattle.shape.specs.declared.Run.{Run}
+use Rattle.shape.specs.Walks.{Graph, ends, InRun, Closed}
+use Rattle.shape.specs.Read.{runIn, kids, kidAt, rootOf}
+use Rattle.shape.specs.Asks.{OPEN, DONE, Open, TrueMarks, fresh, Falls, Visits, Visited}
 use Rattle.shape.proofs.Lists.{is-false, count-more}
 use Rattle.shape.proofs.Walks.{ends-none, ends-more, ends-not, ends-before}
 use Rattle.shape.proofs.Tables.{zeros, blank-long, stored-by}
 
 module _ (g : Graph) (n : ℕ) where
-  marked-none : Marked g n (replicate MAX-NODES 0)
+  marked-none : TrueMarks g n (replicate MAX-NODES 0)
   marked-none = record { long = blank-long; done = λ v e. absurd (omega (arith, e, zeros MAX-NODES v)) }
 
-  marked-set : {marks : List ℕ} (v m : ℕ) → v < MAX-NODES → Marked g n marks → (m ≡ DONE → ends g n v ≡ true) → Marked g n (set marks v m)
+  marked-set : {marks : List ℕ} (v m : ℕ) → v < MAX-NODES → TrueMarks g n marks → (m ≡ DONE → ends g n v ≡ true) → TrueMarks g n (set marks v m)
   marked-set {marks} v m l a f = record {
     long = length-set marks v m ∙ a .long;
     done = stored-by (λ u x. x ≡ DONE → ends g n u ≡ true) marks v m (omega (arith, a .long)) f (λ u z. a .done u);
   }
 
-  pub visit-done : {marks : List ℕ} {v m : ℕ} → Marked g n marks → m ≡ getD marks v 0 → m ≡ DONE → Visited g n v marks marks true
+  pub visit-done : {marks : List ℕ} {v m : ℕ} → TrueMarks g n marks → m ≡ getD marks v 0 → m ≡ DONE → Visited g n v marks marks true
   visit-done {v = v} a e z = record {
     marked = a;
     stay = λ u l. l;
@@ -41,7 +41,7 @@ module _ (g : Graph) (n : ℕ) where
     failed = λ q. absurd (false≢true (sym q));
   }
 
-  pub visit-open : {marks : List ℕ} {v m : ℕ} → Marked g n marks → m ≡ getD marks v 0 → (m ≡ DONE → ⊥) → (m ≡ 0 → ⊥) → Visited g n v marks marks false
+  pub visit-open : {marks : List ℕ} {v m : ℕ} → TrueMarks g n marks → m ≡ getD marks v 0 → (m ≡ DONE → ⊥) → (m ≡ 0 → ⊥) → Visited g n v marks marks false
   visit-open {v = v} a e z w = record {
     marked = a;
     stay = λ u l. l;
@@ -50,15 +50,15 @@ module _ (g : Graph) (n : ℕ) where
     failed = λ _ d h. h v (record { begun = omega arith; unfinished = λ q. z (e ∙ q) });
   }
 
-  -- What holds while the places of v's row are gone through: those before i are passed, and no node is open that was not
+  -- What holds while the places of v's run are gone through: those before i are passed, and no node is open that was not
   pub record Passed (v i : ℕ) (marks₁ marks : List ℕ) : Type 0 where
     pub low : g .first v ≤ i
-    pub marked : Marked g n marks
+    pub marked : TrueMarks g n marks
     pub ended : (j : ℕ) → g .first v ≤ j → j < i → ends g n (g .to j) ≡ true
     pub stay : (u : ℕ) → 0 < getD marks₁ u 0 → 0 < getD marks u 0
     pub shut : (u : ℕ) → Open marks u → Open marks₁ u
 
-  pub passed-none : {v : ℕ} {marks : List ℕ} → v < MAX-NODES → Marked g n marks → Passed v (g .first v) (set marks v OPEN) (set marks v OPEN)
+  pub passed-none : {v : ℕ} {marks : List ℕ} → v < MAX-NODES → TrueMarks g n marks → Passed v (g .first v) (set marks v OPEN) (set marks v OPEN)
   passed-none {v} l a = record {
     low = omega arith;
     marked = marked-set v OPEN l a (λ e. absurd (omega (arith, e)));
@@ -67,7 +67,8 @@ module _ (g : Graph) (n : ℕ) where
     shut = λ u o. o;
   }
 
-  pub passed-more : {v i k : ℕ} {marks₁ marks marks′ : List ℕ} {r : Bool} → Passed v i marks₁ marks → k ≡ g .to i → r ≡ true → Visited g n k marks marks′ r → Passed v (i + 1) marks₁ marks′
+  pub passed-more : {v i k : ℕ} {marks₁ marks marks′ : List ℕ} {r : Bool} → Passed v i marks₁ marks → k ≡ g .to i → r ≡ true → Visited g n k marks marks′ r
+      → Passed v (i + 1) marks₁ marks′
   passed-more {v} {i} a e t w = record {
     low = omega (arith, a .low);
     marked = w .marked;
@@ -81,7 +82,7 @@ module _ (g : Graph) (n : ℕ) where
   ends-less d u e = is-false (ends g d u) (λ t. false≢true (sym e ∙ ends-more g d u t))
 
   -- since v was marked open, with marks before
-  module _ {v i : ℕ} {before marks : List ℕ} (b : Marked g n before) (small : v < MAX-NODES) (a : Passed v i (set before v OPEN) marks) where
+  module _ {v i : ℕ} {before marks : List ℕ} (b : TrueMarks g n before) (small : v < MAX-NODES) (a : Passed v i (set before v OPEN) marks) where
     m : v < length before
     m = omega (arith, b .long)
 
@@ -98,7 +99,7 @@ module _ (g : Graph) (n : ℕ) where
     stay-here : 0 < getD marks v 0
     stay-here = a .stay v (rw (getD-set-same before v OPEN 0 m) (omega arith))
 
-    module _ (k : ℕ) (l : InRow g v i) (e : k ≡ g .to i) (f : (d : ℕ) → ((u : ℕ) → Open marks u → ends g d u ≡ false) → ends g d k ≡ false) where
+    module _ (k : ℕ) (l : InRun g v i) (e : k ≡ g .to i) (f : (d : ℕ) → ((u : ℕ) → Open marks u → ends g d u ≡ false) → ends g d k ≡ false) where
       opened : (d : ℕ) → ends g d v ≡ false → ((u : ℕ) → Open before u → ends g d u ≡ false) → (u : ℕ) → Open marks u → ends g d u ≡ false
       opened d x h u o = go (ℕ-discrete u v)
         where
@@ -112,7 +113,7 @@ module _ (g : Graph) (n : ℕ) where
           let h′ : (u : ℕ) → Open before u → ends g d u ≡ false = λ u o. ends-less d u (h u o) in
           ends-not g d v i l (rw (← e) (f d (opened d (comes-back d h′) h′)))
 
-    pub visit-failed : {k : ℕ} {marks′ : List ℕ} {r : Bool} → InRow g v i → k ≡ g .to i → r ≡ false → Visited g n k marks marks′ r → Visited g n v before marks′ false
+    pub visit-failed : {k : ℕ} {marks′ : List ℕ} {r : Bool} → InRun g v i → k ≡ g .to i → r ≡ false → Visited g n k marks marks′ r → Visited g n v before marks′ false
     visit-failed {k} l e z w = record {
       marked = w .marked;
       stay = λ u h. w .stay u (stay-before u h);
@@ -149,7 +150,7 @@ module _ (g : Graph) (n : ℕ) where
 
   -- falls_ok: the walks from the first v nodes end, and no node is open
   pub record Tried (v : ℕ) (marks : List ℕ) : Type 0 where
-    pub marked : Marked g n marks
+    pub marked : TrueMarks g n marks
     pub ended : (u : ℕ) → u < v → ends g n u ≡ true
     pub shut : (u : ℕ) → Open marks u → ⊥
 
@@ -178,17 +179,19 @@ module _ {ws ks roots before : List ℕ} {n v : ℕ} (a : Visits ws ks n roots b
   pub mark-small : v < MAX-NODES
   mark-small = omega (arith, a .node, a .falls .rooted .few)
 
-  -- what the code reads of v's row
-  pub in-row : {i : ℕ} {marks₁ marks : List ℕ} {r : Row} → r ≡ rowIn (readAt ws n v) → Passed (kids ws ks n roots) n v i marks₁ marks → i < r .first + r .count → InRow (kids ws ks n roots) v i
-  in-row e w l = record { from = w .low; below = rw (← e) l }
+  -- what the code reads of v's run
+  pub in-run : {i : ℕ} {marks₁ marks : List ℕ} {r : Run} → r ≡ runIn (readAt ws n v) → Passed (kids ws ks n roots) n v i marks₁ marks
+      → i < r .first + r .count → InRun (kids ws ks n roots) v i
+  in-run e w l = record { from = w .low; below = rw (← e) l }
 
-  pub row-done : {i : ℕ} {r : Row} → r ≡ rowIn (readAt ws n v) → r .first + r .count ≤ i → kids ws ks n roots .first v + kids ws ks n roots .deg v ≤ i
-  row-done e l = rw (← e) l
+  pub run-done : {i : ℕ} {r : Run} → r ≡ runIn (readAt ws n v) → r .first + r .count ≤ i → kids ws ks n roots .first v + kids ws ks n roots .deg v ≤ i
+  run-done e l = rw (← e) l
 
-  pub kid-known : {i k : ℕ} → InRow (kids ws ks n roots) v i → k ≡ kidAt ks i → (k < MAX-NODES) × (0 < getD roots k 0)
+  pub kid-known : {i k : ℕ} → InRun (kids ws ks n roots) v i → k ≡ kidAt ks i → (k < MAX-NODES) × (0 < getD roots k 0)
   kid-known {i} r e =
       let l = a .falls .below v i (a .node) r in
       rw e (omega (arith, a .falls .rooted .few), a .falls .rooted .known (kidAt ks i) l)
 
-  pub visits-on : {i k : ℕ} {marks₁ marks : List ℕ} → Passed (kids ws ks n roots) n v i marks₁ marks → InRow (kids ws ks n roots) v i → k ≡ rootOf roots (kidAt ks i) → Visits ws ks n roots marks k
+  pub visits-on : {i k : ℕ} {marks₁ marks : List ℕ} → Passed (kids ws ks n roots) n v i marks₁ marks → InRun (kids ws ks n roots) v i
+      → k ≡ rootOf roots (kidAt ks i) → Visits ws ks n roots marks k
   visits-on {i} w r e = record { falls = a .falls; marked = w .marked; node = rw e (kids-closed (a .falls) .inside v i (a .node) r) }

@@ -7,9 +7,10 @@ use Prim.Native.Nat.{ℕ, zero, suc, _+_, _≤_, _<_}
 use native.Mathlib.Omega.{arith}
 use Rattle.scope.specs.Base.{count, from}
 use Rattle.layout.proofs.Lists.{all-from, from-all}
+use Rattle.types.specs.declared.TypeIdx.{TypeIdx}
 use Rattle.shape.specs.declared.Up.{Up}
 use Rattle.shape.specs.declared.Up.the-variants.{Root, Parent}
-use Rattle.shape.specs.Walks.{Graph, ends, InRow, Closed, degBy, toBy, upward, Leads, here, more}
+use Rattle.shape.specs.Walks.{Graph, ends, InRun, Closed, degBy, toBy, upward, Leads, here, more}
 use Rattle.shape.proofs.Lists.{is-false, same-test, all-find, count-most, count-more}
 
 module _ (g : Graph) where
@@ -18,19 +19,19 @@ module _ (g : Graph) where
   ends-none v = refl
 
   -- along a way on the bound falls by one
-  pub ends-on : (d v i : ℕ) → ends g (suc d) v ≡ true → InRow g v i → ends g d (g .to i) ≡ true
+  pub ends-on : (d v i : ℕ) → ends g (suc d) v ≡ true → InRun g v i → ends g d (g .to i) ≡ true
   unfolding ends
   ends-on d v i t r = all-from (λ j. ends g d (g .to j)) (g .first v) (g .deg v) t i (r .from) (r .below)
 
-  pub ends-from : (d v : ℕ) → ((i : ℕ) → InRow g v i → ends g d (g .to i) ≡ true) → ends g (suc d) v ≡ true
+  pub ends-from : (d v : ℕ) → ((i : ℕ) → InRun g v i → ends g d (g .to i) ≡ true) → ends g (suc d) v ≡ true
   unfolding ends
   ends-from d v f = from-all (λ j. ends g d (g .to j)) (g .first v) (g .deg v) (λ i a b. f i (record { from = a; below = b }))
 
-  pub ends-not : (d v i : ℕ) → InRow g v i → ends g d (g .to i) ≡ false → ends g (suc d) v ≡ false
+  pub ends-not : (d v i : ℕ) → InRun g v i → ends g d (g .to i) ≡ false → ends g (suc d) v ≡ false
   ends-not d v i r e = is-false (ends g (suc d) v) (λ t. false≢true (sym e ∙ ends-on d v i t r))
 
   -- a way on from which walks are too long
-  pub ends-find : (d v : ℕ) → ends g (suc d) v ≡ false → (i : ℕ) × InRow g v i × (ends g d (g .to i) ≡ false)
+  pub ends-find : (d v : ℕ) → ends g (suc d) v ≡ false → (i : ℕ) × InRun g v i × (ends g d (g .to i) ≡ false)
   unfolding ends
   ends-find d v e =
       let w = all-find (λ j. ends g d (g .to j)) (g .first v) (g .deg v) e in
@@ -58,7 +59,7 @@ module _ (g : Graph) where
         go false e = absurd (omega (arith, crowd n v l t e, count-most (ends g (suc n)) 0 n))
 
     -- one more node before walks that end
-    pub ends-before : (v : ℕ) → v < n → ((i : ℕ) → InRow g v i → ends g n (g .to i) ≡ true) → ends g n v ≡ true
+    pub ends-before : (v : ℕ) → v < n → ((i : ℕ) → InRun g v i → ends g n (g .to i) ≡ true) → ends g n v ≡ true
     ends-before v l f = ends-within v l (ends-from n v f)
 
 -- parents
@@ -69,20 +70,20 @@ deg-most (Parent u) = omega arith
 
 module _ (p : ℕ → Up) where
   -- a node's one place is its own number
-  pub row-up : (v u : ℕ) → p v ≡ Parent u → InRow (upward p) v v
-  row-up v u e = record { from = omega arith; below = rw e (omega arith) }
+  pub run-up : (v : ℕ) (u : TypeIdx) → p v ≡ Parent u → InRun (upward p) v v
+  run-up v u e = record { from = omega arith; below = rw e (omega arith) }
 
-  row-own : (v i : ℕ) → InRow (upward p) v i → i ≡ v
-  row-own v i r = omega (arith, r .from, r .below, deg-most (p v))
+  run-own : (v i : ℕ) → InRun (upward p) v i → i ≡ v
+  run-own v i r = omega (arith, r .from, r .below, deg-most (p v))
 
-  row-root : (v z i : ℕ) → p v ≡ Root z → InRow (upward p) v i → ⊥
-  row-root v z i e r = let l : i < v + 0 = rw e at (r .below) in omega (arith, r .from)
+  run-root : (v z i : ℕ) → p v ≡ Root z → InRun (upward p) v i → ⊥
+  run-root v z i e r = let l : i < v + 0 = rw e at (r .below) in omega (arith, r .from)
 
   module _ (n : ℕ) (inside : (v : ℕ) → v < n → toBy (p v) < n) where
     up-closed : Closed (upward p) n
-    up-closed = record { inside = λ v i l r. rw (row-own v i r) (inside v l) }
+    up-closed = record { inside = λ v i l r. rw (run-own v i r) (inside v l) }
 
-    up-below : (v u : ℕ) → v < n → p v ≡ Parent u → u < n
+    up-below : (v : ℕ) (u : TypeIdx) → v < n → p v ≡ Parent u → u .0 < n
     up-below v u l e = rw e at (inside v l)
 
     pub leads-below : {v r : ℕ} → Leads p v r → v < n → r < n
@@ -91,20 +92,20 @@ module _ (p : ℕ → Up) where
 
     -- who comes to a root does so within n nodes
     pub leads-ends : {v r : ℕ} → Leads p v r → v < n → ends (upward p) n v ≡ true
-    leads-ends (here {v = v} {z = z} e) l = ends-before (upward p) n up-closed v l (λ i r. absurd (row-root v z i e r))
+    leads-ends (here {v = v} {z = z} e) l = ends-before (upward p) n up-closed v l (λ i r. absurd (run-root v z i e r))
     leads-ends (more {v = v} {u = u} e k) l =
         let t = leads-ends k (up-below v u l e) in
-        ends-before (upward p) n up-closed v l (λ i r. rw (row-own v i r, e) t)
+        ends-before (upward p) n up-closed v l (λ i r. rw (run-own v i r, e) t)
 
     pub up-within : (v : ℕ) → v < n → ends (upward p) (suc n) v ≡ true → ends (upward p) n v ≡ true
     up-within = ends-within (upward p) n up-closed
 
   -- the bound at a root, and below a parent
   pub ends-root : (d v z : ℕ) → p v ≡ Root z → ends (upward p) (suc d) v ≡ true
-  ends-root d v z e = ends-from (upward p) d v (λ i r. absurd (row-root v z i e r))
+  ends-root d v z e = ends-from (upward p) d v (λ i r. absurd (run-root v z i e r))
 
-  pub ends-up : (d v u : ℕ) → p v ≡ Parent u → ends (upward p) (suc d) v ≡ ends (upward p) d u
+  pub ends-up : (d v : ℕ) (u : TypeIdx) → p v ≡ Parent u → ends (upward p) (suc d) v ≡ ends (upward p) d (u .0)
   ends-up d v u e =
-      same-test (ends (upward p) (suc d) v) (ends (upward p) d u)
-      (λ t. rw e at (ends-on (upward p) d v v t (row-up v u e)))
-      (λ t. ends-from (upward p) d v (λ i r. rw (row-own v i r, e) t))
+      same-test (ends (upward p) (suc d) v) (ends (upward p) d (u .0))
+      (λ t. rw e at (ends-on (upward p) d v v t (run-up v u e)))
+      (λ t. ends-from (upward p) d v (λ i r. rw (run-own v i r, e) t))

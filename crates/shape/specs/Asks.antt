@@ -11,7 +11,7 @@ use Rattle.scope.specs.Nodes.{Node, Root, Child, at, kidsOf}
 use Rattle.scope.specs.Sound.{inStore}
 use Rattle.layout.specs.Words.{nodeWords, decode}
 use Rattle.layout.specs.Meaning.{Clean}
-use Rattle.shape.specs.Walks.{Graph, ends, InRow, upward, toBy, Leads}
+use Rattle.shape.specs.Walks.{Graph, ends, InRun, upward, toBy, Leads}
 use Rattle.shape.specs.declared.Up.{Up}
 use Rattle.shape.specs.Read.{ups, kids, kidAt, rootOf, tallied}
 
@@ -28,42 +28,42 @@ pub record Shaped (ws ks : List ℕ) (n : ℕ) : Type 0 where
   pub inside : (i : ℕ) → i < n → nodeInside (decode ws ks n) (at (decode ws ks n) i) ≡ true
 
 -- n nodes whose parents are nodes
-pub record Forest (ws : List ℕ) (n : ℕ) : Type 0 where
+pub record ParentsInside (ws : List ℕ) (n : ℕ) : Type 0 where
   pub few : n ≤ MAX-NODES
   pub room : nodeWords n ≤ length ws
   pub inside : (v : ℕ) → v < n → toBy (ups ws n v) < n
 
 -- a root that is known is right
-pub record Right (p : ℕ → Up) (roots : List ℕ) : Type 0 where
+pub record TrueRoots (p : ℕ → Up) (roots : List ℕ) : Type 0 where
   pub long : length roots ≡ MAX-NODES
   pub right : (v : ℕ) → 0 < getD roots v 0 → Leads p v (rootOf roots v)
 
 -- `climb`
 pub record Climbs (ws roots : List ℕ) (n v : ℕ) : Type 0 where
-  pub forest : Forest ws n
-  pub right : Right (ups ws n) roots
+  pub parents : ParentsInside ws n
+  pub right : TrueRoots (ups ws n) roots
   pub node : v < n
 
--- roots that were known stay known, and v's is kept; where there is none, the walk up from v has more than depth nodes
-pub record Climbed (p : ℕ → Up) (depth v : ℕ) (roots₀ roots : List ℕ) (r : ℕ) : Type 0 where
-  pub right : Right p roots
+-- roots that were known stay known. Where the answer is yes, v's is; where it is no, the walk up from v has more than depth nodes
+pub record Climbed (p : ℕ → Up) (depth v : ℕ) (roots₀ roots : List ℕ) (r : Bool) : Type 0 where
+  pub right : TrueRoots p roots
   pub stay : (u : ℕ) → 0 < getD roots₀ u 0 → 0 < getD roots u 0
-  pub kept : r ≡ getD roots v 0
-  pub lost : r ≡ 0 → ends (upward p) depth v ≡ false
+  pub known : r ≡ true → 0 < getD roots v 0
+  pub lost : r ≡ false → ends (upward p) depth v ≡ false
 
 -- every node below n has its root
-pub record Settled (p : ℕ → Up) (n : ℕ) (roots : List ℕ) : Type 0 where
+pub record Complete (p : ℕ → Up) (n : ℕ) (roots : List ℕ) : Type 0 where
   pub leads : (v : ℕ) → v < n → Leads p v (rootOf roots v)
   pub known : (v : ℕ) → v < n → 0 < getD roots v 0
 
 -- `find_roots`
-pub record Founds (ws roots : List ℕ) (n : ℕ) : Type 0 where
-  pub forest : Forest ws n
-  pub right : Right (ups ws n) roots
+pub record ClimbsAll (ws roots : List ℕ) (n : ℕ) : Type 0 where
+  pub parents : ParentsInside ws n
+  pub right : TrueRoots (ups ws n) roots
 
-pub record Found (p : ℕ → Up) (n : ℕ) (roots : List ℕ) (r : Bool) : Type 0 where
+pub record ClimbedAll (p : ℕ → Up) (n : ℕ) (roots : List ℕ) (r : Bool) : Type 0 where
   pub answer : r ≡ all (ends (upward p) n) (from 0 n)
-  pub settled : r ≡ true → Settled p n roots
+  pub complete : r ≡ true → Complete p n roots
 
 -- `tally` and `sizes_ok`: every node below n has a root below n
 pub record Rooted (roots : List ℕ) (n : ℕ) : Type 0 where
@@ -97,7 +97,7 @@ pub record Open (marks : List ℕ) (v : ℕ) : Type 0 where
   pub unfinished : getD marks v 0 ≡ DONE → ⊥
 
 -- from a node that is done every walk ends
-pub record Marked (g : Graph) (n : ℕ) (marks : List ℕ) : Type 0 where
+pub record TrueMarks (g : Graph) (n : ℕ) (marks : List ℕ) : Type 0 where
   pub long : length marks ≡ MAX-NODES
   pub done : (v : ℕ) → getD marks v 0 ≡ DONE → ends g n v ≡ true
 
@@ -109,17 +109,17 @@ fresh n marks = count (λ v. eqb (getD marks v 0) 0) (from 0 n)
 pub record Falls (ws ks : List ℕ) (n : ℕ) (roots : List ℕ) : Type 0 where
   pub rooted : Rooted roots n
   pub room : nodeWords n ≤ length ws
-  pub below : (v i : ℕ) → v < n → InRow (kids ws ks n roots) v i → kidAt ks i < n
+  pub below : (v i : ℕ) → v < n → InRun (kids ws ks n roots) v i → kidAt ks i < n
 
 pub record Visits (ws ks : List ℕ) (n : ℕ) (roots marks : List ℕ) (v : ℕ) : Type 0 where
   pub falls : Falls ws ks n roots
-  pub marked : Marked (kids ws ks n roots) n marks
+  pub marked : TrueMarks (kids ws ks n roots) n marks
   pub node : v < n
 
 -- Marks stay. Where the answer is yes, walks from v end and no node is left open that was not. Where it is no, some walk from v is longer than d nodes
 -- for each d for which this is so of the nodes that were open
 pub record Visited (g : Graph) (n v : ℕ) (marks₀ marks : List ℕ) (r : Bool) : Type 0 where
-  pub marked : Marked g n marks
+  pub marked : TrueMarks g n marks
   pub stay : (u : ℕ) → 0 < getD marks₀ u 0 → 0 < getD marks u 0
   pub shut : r ≡ true → (u : ℕ) → Open marks u → Open marks₀ u
   pub passed : r ≡ true → ends g n v ≡ true

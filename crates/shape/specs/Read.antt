@@ -6,31 +6,35 @@ use lib.Dec.{eqb}
 use lib.ListN.{getD}
 use Rattle.scope.specs.Base.{count, from}
 use Rattle.scope.specs.Types.{tyOf}
+use Rattle.types.specs.declared.TypeIdx.{TypeIdx}
 use Rattle.layout.specs.Words.{slotAt}
 use Rattle.layout.specs.Meaning.{readAt}
 use Rattle.layout.specs.declared.TypeState.{TypeState}
 use Rattle.layout.specs.declared.TypeState.the-variants.{Known, Unknown, InferenceFailed}
 use Rattle.layout.specs.declared.TypeNode.{TypeNode}
 use Rattle.layout.specs.declared.TypeNode.the-variants.{Root, Child}
-use Rattle.shape.specs.declared.Row.{Row}
+use Rattle.shape.specs.declared.Run.{Run}
 use Rattle.shape.specs.declared.Up.{Up}
 use Rattle.shape.specs.declared.Up.the-variants as up
 use Rattle.shape.specs.Walks.{Graph}
 
+abbrev pub idxOf : ℕ → TypeIdx
+idxOf i = record { 0 = i }
+
 -- one step up
 abbrev pub upIn : TypeNode → Up
 upIn (Root st z) = up.Root z
-upIn (Child t) = up.Parent (tyOf (t .0) .idx)
+upIn (Child t) = up.Parent (idxOf (tyOf (t .0) .idx))
 
--- the row of children of a state's kind
-abbrev pub rowBy : TypeState → Row
-rowBy (Known i k) = record { first = k .first; count = k .count }
-rowBy (Unknown s) = record { first = 0; count = 0 }
-rowBy InferenceFailed = record { first = 0; count = 0 }
+-- the run of children of a state's kind
+abbrev pub runBy : TypeState → Run
+runBy (Known i k) = record { first = k .first; count = k .count }
+runBy (Unknown s) = record { first = 0; count = 0 }
+runBy InferenceFailed = record { first = 0; count = 0 }
 
-abbrev pub rowIn : TypeNode → Row
-rowIn (Root st z) = rowBy st
-rowIn (Child t) = record { first = 0; count = 0 }
+abbrev pub runIn : TypeNode → Run
+runIn (Root st z) = runBy st
+runIn (Child t) = record { first = 0; count = 0 }
 
 -- the node of the child at a place
 abbrev pub kidAt : List ℕ → ℕ → ℕ
@@ -40,15 +44,15 @@ kidAt ks i = tyOf (slotAt ks i .type) .idx
 abbrev pub ups : List ℕ → ℕ → ℕ → Up
 ups ws n v = upIn (readAt ws n v)
 
--- roots: one more than the root of each node that was settled, and 0 elsewhere
+-- roots holds one more than the root of each node whose root is known, and 0 elsewhere
 abbrev pub rootOf : List ℕ → ℕ → ℕ
 rootOf roots v = getD roots v 0 - 1
 
 -- from each node to the roots of its kind's children
 abbrev pub kids : List ℕ → List ℕ → ℕ → List ℕ → Graph
 kids ws ks n roots = record {
-  first = λ v. rowIn (readAt ws n v) .first;
-  deg = λ v. rowIn (readAt ws n v) .count;
+  first = λ v. runIn (readAt ws n v) .first;
+  deg = λ v. runIn (readAt ws n v) .count;
   to = λ i. rootOf roots (kidAt ks i);
 }
 

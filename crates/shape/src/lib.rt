@@ -2,21 +2,19 @@
 // Each node is climbed from once and visited once, so the time is linear in the nodes and their children.
 ghost use mathlib.Core.Path.{_≡_};
 ghost use Prim.Native.Nat.{_≤_, _<_};
-ghost use lib.ListN.{length, getD};
+ghost use lib.ListN.{length, getD, set};
 ghost use Rattle.scope.specs.Base.{all, from};
 ghost use Rattle.scope.specs.Limits.{MAX-NODES};
 ghost use Rattle.scope.specs.Sound.{shapeSound};
 ghost use Rattle.layout.specs.Words.{nodeWords, decode};
 ghost use Rattle.layout.specs.Meaning.{readAt};
 ghost use Rattle.shape.specs.Walks.{ends, upward};
-ghost use Rattle.shape.specs.Read.{upIn, rowIn, kidAt, ups, rootOf, kids, sizeFits};
-ghost use Rattle.shape.specs.Asks.{Shaped, Climbs, Climbed, Founds, Found, Tallies, Tallied, Sizes, Falls, Visits, Visited};
+ghost use Rattle.shape.specs.Read.{upIn, runIn, kidAt, ups, rootOf, kids, sizeFits};
+ghost use Rattle.shape.specs.Asks.{Shaped, Climbs, Climbed, ClimbsAll, ClimbedAll, Tallies, Tallied, Sizes, Falls, Visits, Visited};
 use layout::TypeNode;
 use layout::TypeState;
+use scope::MAX_NODES;
 use types::TypeIdx;
-
-// "Nodes 0 to 4,096"
-pub const MAX_NODES: usize = 4096;
 
 // A number for each node.
 type Table = [u32; MAX_NODES];
@@ -29,97 +27,106 @@ const DONE: u32 = 2;
 // A node to one who climbs: a root with its size, or what has a parent.
 enum Up {
     Root(u32),
-    Parent(u32),
+    Parent(TypeIdx),
 }
 
-fn up_of(ws: &[u32], n: u32, v: u32) -> Up
+fn up_of(ws: &[u32], n: u32, v: TypeIdx) -> Up
     requires { ⌜ nodeWords n ≤ length (now ws) ⌝ }
-    ensures { λ r. ⌜ r ≡ upIn (readAt (now (ws .entry)) n v) ⌝ }
+    ensures { λ r. ⌜ r ≡ upIn (readAt (now (ws .entry)) n (v .0)) ⌝ }
 {
-    match layout::node_at(ws, n, TypeIdx(v)) {
+    match layout::node_at(ws, n, v) {
         TypeNode::Root { state: _, size } => Up::Root(size),
-        TypeNode::Child(t) => Up::Parent(t.idx().0),
+        TypeNode::Child(t) => Up::Parent(t.idx()),
     }
 }
 
 // Where the children of a node's kind begin, and how many there are.
-struct Row {
+struct Run {
     first: u32,
     count: u32,
 }
 
-fn row_of(ws: &[u32], n: u32, v: u32) -> Row
+fn run_of(ws: &[u32], n: u32, v: TypeIdx) -> Run
     requires { ⌜ nodeWords n ≤ length (now ws) ⌝ }
-    ensures { λ r. ⌜ r ≡ rowIn (readAt (now (ws .entry)) n v) ⌝ }
+    ensures { λ r. ⌜ r ≡ runIn (readAt (now (ws .entry)) n (v .0)) ⌝ }
 {
-    match layout::node_at(ws, n, TypeIdx(v)) {
+    match layout::node_at(ws, n, v) {
         TypeNode::Root { state, size: _ } => match state {
-            TypeState::Known(_, k) => Row {
+            TypeState::Known(_, k) => Run {
                 first: k.first,
                 count: k.count,
             },
-            TypeState::Unknown(_) => Row { first: 0, count: 0 },
-            TypeState::InferenceFailed => Row { first: 0, count: 0 },
+            TypeState::Unknown(_) => Run { first: 0, count: 0 },
+            TypeState::InferenceFailed => Run { first: 0, count: 0 },
         },
-        TypeNode::Child(_) => Row { first: 0, count: 0 },
+        TypeNode::Child(_) => Run { first: 0, count: 0 },
     }
 }
 
 // The node of the child at a place.
-fn kid_at(ks: &[u32], i: usize) -> u32
-    ensures { λ r. ⌜ r ≡ kidAt (now (ks .entry)) i ⌝ }
+fn kid_at(ks: &[u32], i: usize) -> TypeIdx
+    ensures { λ r. ⌜ r .0 ≡ kidAt (now (ks .entry)) i ⌝ }
 {
-    layout::child_at(ks, i).ty.idx().0
+    layout::child_at(ks, i).ty.idx()
 }
 
-fn at(t: &Table, v: u32) -> u32
-    requires { ⌜ v < MAX-NODES ⌝ }
-    ensures { λ r. ⌜ r ≡ getD (now (t .entry)) v 0 ⌝ }
+fn at(t: &Table, v: TypeIdx) -> u32
+    requires { ⌜ v .0 < MAX-NODES ⌝ }
+    ensures { λ r. ⌜ r ≡ getD (now (t .entry)) (v .0) 0 ⌝ }
 {
-    t[v as usize]
+    t[v.0 as usize]
 }
 
-// The root of v.
-fn root_of(roots: &Table, v: u32) -> u32
-    requires { ⌜ (v < MAX-NODES) × (0 < getD (now roots) v 0) ⌝ }
-    ensures { λ r. ⌜ r ≡ rootOf (now (roots .entry)) v ⌝ }
+fn put(t: &mut Table, v: TypeIdx, x: u32)
+    requires { ⌜ v .0 < MAX-NODES ⌝ }
+    ensures { λ _. ⌜ now (t .exit) ≡ set (now (t .entry)) (v .0) x ⌝ }
 {
-    at(roots, v) - 1
+    t[v.0 as usize] = x;
 }
 
-// One more than v's root, where fewer than depth parent steps lead there or it is known; else 0. roots keeps it for each node on the way.
-fn climb(ws: &[u32], n: u32, roots: &mut Table, v: u32, depth: u32) -> u32
-    requires { ⌜ Climbs (now ws) (now roots) n v ⌝ }
-    ensures { λ r. ⌜ Climbed (ups (now (ws .entry)) n) depth v (now (roots .entry)) (now (roots .exit)) r ⌝ }
+// The root of v, of which roots holds one more; 0 is a root that is not known.
+fn root_of(roots: &Table, v: TypeIdx) -> TypeIdx
+    requires { ⌜ (v .0 < MAX-NODES) × (0 < getD (now roots) (v .0) 0) ⌝ }
+    ensures { λ r. ⌜ r .0 ≡ rootOf (now (roots .entry)) (v .0) ⌝ }
 {
-    let known = at(roots, v);
-    if known != 0 {
-        return known;
+    TypeIdx(at(roots, v) - 1)
+}
+
+// Whether v's root is known or fewer than depth parent steps lead there. roots then holds it, and that of each node on the way.
+fn climb(ws: &[u32], n: u32, roots: &mut Table, v: TypeIdx, depth: u32) -> bool
+    requires { ⌜ Climbs (now ws) (now roots) n (v .0) ⌝ }
+    ensures { λ r. ⌜ Climbed (ups (now (ws .entry)) n) depth (v .0) (now (roots .entry)) (now (roots .exit)) r ⌝ }
+{
+    if at(roots, v) != 0 {
+        return true;
     }
     if depth == 0 {
-        return 0;
+        return false;
     }
     match up_of(ws, n, v) {
         Up::Root(_) => {
-            roots[v as usize] = v + 1;
-            v + 1
+            put(roots, v, v.0 + 1);
+            true
         }
         Up::Parent(p) => {
-            let r = climb(ws, n, roots, p, depth - 1);
-            roots[v as usize] = r;
-            r
+            if !climb(ws, n, roots, p, depth - 1) {
+                return false;
+            }
+            let root = at(roots, p);
+            put(roots, v, root);
+            true
         }
     }
 }
 
-// Whether every node has a root; then roots holds one more than each.
+// Whether every node has a root; then roots holds it for each.
 fn find_roots(ws: &[u32], n: u32, roots: &mut Table) -> bool
-    requires { ⌜ Founds (now ws) (now roots) n ⌝ }
-    ensures { λ r. ⌜ Found (ups (now (ws .entry)) n) n (now (roots .exit)) r ⌝ }
+    requires { ⌜ ClimbsAll (now ws) (now roots) n ⌝ }
+    ensures { λ r. ⌜ ClimbedAll (ups (now (ws .entry)) n) n (now (roots .exit)) r ⌝ }
 {
     let mut v: u32 = 0;
     while v < n {
-        if climb(ws, n, roots, v, n) == 0 {
+        if !climb(ws, n, roots, TypeIdx(v), n) {
             return false;
         }
         v += 1;
@@ -134,8 +141,9 @@ fn tally(roots: &Table, n: u32, counts: &mut Table)
 {
     let mut v: u32 = 0;
     while v < n {
-        let r = root_of(roots, v);
-        counts[r as usize] = at(counts, r) + 1;
+        let r = root_of(roots, TypeIdx(v));
+        let count = at(counts, r);
+        put(counts, r, count + 1);
         v += 1;
     }
 }
@@ -149,8 +157,8 @@ fn sizes_ok(ws: &[u32], n: u32, roots: &Table) -> bool
     tally(roots, n, &mut counts);
     let mut v: u32 = 0;
     while v < n {
-        let up = up_of(ws, n, v);
-        let count = at(&counts, v);
+        let up = up_of(ws, n, TypeIdx(v));
+        let count = at(&counts, TypeIdx(v));
         v += 1;
         if let Up::Root(size) = up {
             if size != count {
@@ -162,9 +170,9 @@ fn sizes_ok(ws: &[u32], n: u32, roots: &Table) -> bool
 }
 
 // Whether every walk from v to the roots of children ends. One that comes back to an open node does not, and one to a done node does.
-fn visit(ws: &[u32], ks: &[u32], n: u32, roots: &Table, marks: &mut Table, v: u32) -> bool
-    requires { ⌜ Visits (now ws) (now ks) n (now roots) (now marks) v ⌝ }
-    ensures { λ r. ⌜ Visited (kids (now (ws .entry)) (now (ks .entry)) n (now (roots .entry))) n v (now (marks .entry)) (now (marks .exit)) r ⌝ }
+fn visit(ws: &[u32], ks: &[u32], n: u32, roots: &Table, marks: &mut Table, v: TypeIdx) -> bool
+    requires { ⌜ Visits (now ws) (now ks) n (now roots) (now marks) (v .0) ⌝ }
+    ensures { λ r. ⌜ Visited (kids (now (ws .entry)) (now (ks .entry)) n (now (roots .entry))) n (v .0) (now (marks .entry)) (now (marks .exit)) r ⌝ }
 {
     let mark = at(marks, v);
     if mark == DONE {
@@ -173,10 +181,10 @@ fn visit(ws: &[u32], ks: &[u32], n: u32, roots: &Table, marks: &mut Table, v: u3
     if mark != 0 {
         return false;
     }
-    marks[v as usize] = OPEN;
-    let row = row_of(ws, n, v);
-    let mut i = row.first as usize;
-    let end = i + row.count as usize;
+    put(marks, v, OPEN);
+    let run = run_of(ws, n, v);
+    let mut i = run.first as usize;
+    let end = i + run.count as usize;
     while i < end {
         let r = root_of(roots, kid_at(ks, i));
         if !visit(ws, ks, n, roots, marks, r) {
@@ -184,7 +192,7 @@ fn visit(ws: &[u32], ks: &[u32], n: u32, roots: &Table, marks: &mut Table, v: u3
         }
         i += 1;
     }
-    marks[v as usize] = DONE;
+    put(marks, v, DONE);
     true
 }
 
@@ -196,7 +204,7 @@ fn falls_ok(ws: &[u32], ks: &[u32], n: u32, roots: &Table) -> bool
     let mut marks: Table = [0u32; MAX_NODES];
     let mut v: u32 = 0;
     while v < n {
-        if !visit(ws, ks, n, roots, &mut marks, v) {
+        if !visit(ws, ks, n, roots, &mut marks, TypeIdx(v)) {
             return false;
         }
         v += 1;

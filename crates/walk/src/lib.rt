@@ -17,6 +17,7 @@ ghost use Rattle.walk.specs.Asks.{Stands, Occurs, Inverses, Nil, Modded}
 use layout::Kind;
 use layout::TypeNode;
 use layout::TypeState;
+use scope::MAX_NODES;
 use types::Type;
 use types::TypeIdx;
 
@@ -114,7 +115,7 @@ pub fn occurs(ws: &[u32], ks: &[u32], n: u32, x: TypeIdx, y: Type) -> bool
     if kind.count == 0 {
         return false;
     }
-    let mut marks = [0u8; 4096];
+    let mut marks = [0u8; MAX_NODES];
     find_related(ws, ks, n, &mut marks, y);
     is_marked(&marks, x)
 }
@@ -162,7 +163,7 @@ pub fn self_inverse(ws: &[u32], ks: &[u32], n: u32, t: Type, param: bool) -> boo
     requires { ⌜ Inverses (now ws) (now ks) n (t .0) ⌝ }
     ensures { λ r. ⌜ r ≡ selfInverseOf (decode (now (ws .entry)) (now (ks .entry)) n) (tyOf (t .0)) param ⌝ }
 {
-    let mut marks = [0u8; 4096];
+    let mut marks = [0u8; MAX_NODES];
     find_related(ws, ks, n, &mut marks, t);
     all_good(ws, n, &marks, param)
 }

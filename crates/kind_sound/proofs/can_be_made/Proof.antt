@@ -1,4 +1,4 @@
--- `makeable::can_be_made` meets its contract: the tests are those of scope's definition, in its order, and each way out goes by those before it.
+-- `kind_sound::can_be_made` meets its contract: the tests are those of scope's definition, in its order, and each way out goes by those before it.
 -- Assumes nothing.
 use native.Mathlib.Omega.{arith}
 use borrow.Author.Needs.{needs}
@@ -16,7 +16,9 @@ cast-n : tie.Need-cast-n
 cast-n c = search needs
 
 returns-2 : tie.Need-returns-2
-returns-2 c = rw (made-tests, lt-ltb (c .before .before .before .before .before .before .before .args .k .code) 15 (omega arith), lt-leb (c .before .before .before .before .before .before .before .args .k .count) MAX-WIDTH (c .if2 .taken))
+returns-2 c =
+    let args = c .before .before .before .before .before .before .before .args in
+    rw (made-tests, lt-ltb (args .k .code) 15 (omega arith), lt-leb (args .k .count) MAX-WIDTH (c .if2 .taken))
 
 shape-fits-requires : tie.Need-shape-fits-requires
 shape-fits-requires c κs = search needs
@@ -32,7 +34,10 @@ names-fit-requires c κs = search needs
 returns-4 : tie.Need-returns-4
 returns-4 c =
     let k = c .before .before .before .before .before .before .before .before .before .before .before .args .k in
-    rw (made-tests, lt-ltb (k .code) 15 (omega arith), le-leb (k .count) MAX-WIDTH (c .before .before .before .before .if2 .left), passes (c .before .before .before .shape-fits .ensures) (c .before .before .if3 .left), fails (c .before .names-fit .ensures) (c .if4 .taken))
+    let code = lt-ltb (k .code) 15 (omega arith) in
+    let width = le-leb (k .count) MAX-WIDTH (c .before .before .before .before .if2 .left) in
+    let shape = passes (c .before .before .before .shape-fits .ensures) (c .before .before .if3 .left) in
+    rw (made-tests, code, width, shape, fails (c .before .names-fit .ensures) (c .if4 .taken))
 
 flex-ok-requires : tie.Need-flex-ok-requires
 flex-ok-requires c κs = search needs
@@ -40,7 +45,11 @@ flex-ok-requires c κs = search needs
 returns-5 : tie.Need-returns-5
 returns-5 c =
     let k = c .before .before .before .before .before .before .before .before .before .before .before .before .before .args .k in
-    rw (made-tests, lt-ltb (k .code) 15 (omega arith), le-leb (k .count) MAX-WIDTH (c .before .before .before .before .before .before .if2 .left), passes (c .before .before .before .before .before .shape-fits .ensures) (c .before .before .before .before .if3 .left), passes (c .before .before .before .names-fit .ensures) (c .before .before .if4 .left), fails (c .before .flex-ok .ensures) (c .if5 .taken))
+    let code = lt-ltb (k .code) 15 (omega arith) in
+    let width = le-leb (k .count) MAX-WIDTH (c .before .before .before .before .before .before .if2 .left) in
+    let shape = passes (c .before .before .before .before .before .shape-fits .ensures) (c .before .before .before .before .if3 .left) in
+    let names = passes (c .before .before .before .names-fit .ensures) (c .before .before .if4 .left) in
+    rw (made-tests, code, width, shape, names, fails (c .before .flex-ok .ensures) (c .if5 .taken))
 
 number-ok-requires : tie.Need-number-ok-requires
 number-ok-requires c κs = search needs
@@ -48,8 +57,12 @@ number-ok-requires c κs = search needs
 returns-6 : tie.Need-returns-6
 returns-6 c =
     let k = c .before .before .before .before .before .before .before .before .before .before .before .before .before .before .args .k in
-    rw (made-tests, lt-ltb (k .code) 15 (omega arith), le-leb (k .count) MAX-WIDTH (c .before .before .before .before .before .before .before .if2 .left), passes (c .before .before .before .before .before .before .shape-fits .ensures) (c .before .before .before .before .before .if3 .left), passes (c .before .before .before .before .names-fit .ensures) (c .before .before .before .if4 .left), passes (c .before .before .flex-ok .ensures) (c .before .if5 .left))
-    (c .number-ok .ensures)
+    let code = lt-ltb (k .code) 15 (omega arith) in
+    let width = le-leb (k .count) MAX-WIDTH (c .before .before .before .before .before .before .before .if2 .left) in
+    let shape = passes (c .before .before .before .before .before .before .shape-fits .ensures) (c .before .before .before .before .before .if3 .left) in
+    let names = passes (c .before .before .before .before .names-fit .ensures) (c .before .before .before .if4 .left) in
+    let flex = passes (c .before .before .flex-ok .ensures) (c .before .if5 .left) in
+    rw (made-tests, code, width, shape, names, flex) (c .number-ok .ensures)
 
 pub can-be-made-spec : {M : Type 1} → statement M
 can-be-made-spec =

@@ -1,4 +1,4 @@
--- `makeable::chart_flag` meets its contract: the row that was read is scope's, and the test on it is the one that `flagOf` picks by.
+-- `kind_sound::chart_flag` meets its contract: the row that was read is scope's, and the test on it is the one that `flagOf` picks by.
 -- Assumes nothing.
 use borrow.Author.Needs.{needs}
 use borrow.Author.Tests.{eq-eqb, ne-eqb}

@@ -1,4 +1,4 @@
--- `makeable::child_name` meets its contract: the child that was read is the one at its place in the words.
+-- `kind_sound::child_name` meets its contract: the child that was read is the one at its place in the words.
 -- Assumes nothing.
 use mathlib.Core.Path.{ap}
 use borrow.Author.Needs.{needs}

@@ -1,4 +1,4 @@
--- `makeable::child_names_fit` meets its contract. The loop's invariant: the names from j on, with the last one passed before them, are ascending if and
+-- `kind_sound::child_names_fit` meets its contract. The loop's invariant: the names from j on, with the last one passed before them, are ascending if and
 -- only if all names are. The measure is what is left of the children.
 -- Assumes nothing.
 use mathlib.Core.Path.{_≡_, sym, _∙_}
@@ -50,13 +50,15 @@ name-before-requires c κs = search needs
 
 returns-2 : tie.Need-returns-2 Inv-loop μ-loop
 returns-2 c =
+    let if1 = c .before .before .before .before .before .if1 in
+    let child-name = c .before .before .before .before .child-name in
     let a = c .before .before .before .before .before .before .before .before .before .before .before .args in
     let l = c .before .before .before .before .before .before .before .loop in
     let x = texts (a .rule .now) (a .text .now) in
-    let n = nameIn (c .before .before .before .before .child-name .result) in
+    let n = nameIn (child-name .result) in
     sym (up-unordered x (bytes x (nameIn (l .last))) (childNames (a .ks .now) (a .k .first) (a .k .count)) (l .j) n
-    (name-below (a .ks .now) (a .k .first) (a .k .count) (l .j) (c .before .before .before .before .before .if1 .taken))
-    (name-there (a .ks .now) (a .k .first) (a .k .count) (l .j) (c .before .before .before .before .before .if1 .taken) n (c .before .before .before .before .child-name .ensures))
+    (name-below (a .ks .now) (a .k .first) (a .k .count) (l .j) (if1 .taken))
+    (name-there (a .ks .now) (a .k .first) (a .k .count) (l .j) (if1 .taken) n (child-name .ensures))
     (fails (c .before .name-before .ensures) (c .if3 .taken))) ∙ l .inv
 
 add-j : tie.Need-add-j Inv-loop μ-loop
@@ -67,14 +69,17 @@ loop-less c = omega arith
 
 loop-again : tie.Need-loop-again Inv-loop μ-loop
 loop-again c =
+    let if1 = c .before .before .before .before .before .if1 in
+    let child-name = c .before .before .before .before .child-name in
+    let name-ok = c .before .before .before .name-ok in
     let a = c .before .before .before .before .before .before .before .before .before .before .before .args in
     let l = c .before .before .before .before .before .before .before .loop in
     let x = texts (a .rule .now) (a .text .now) in
-    let n = nameIn (c .before .before .before .before .child-name .result) in
+    let n = nameIn (child-name .result) in
     sym (up-step x (bytes x (nameIn (l .last))) (childNames (a .ks .now) (a .k .first) (a .k .count)) (l .j) n
-    (name-below (a .ks .now) (a .k .first) (a .k .count) (l .j) (c .before .before .before .before .before .if1 .taken))
-    (name-there (a .ks .now) (a .k .first) (a .k .count) (l .j) (c .before .before .before .before .before .if1 .taken) n (c .before .before .before .before .child-name .ensures))
-    (passes (c .before .before .before .name-ok .ensures) (c .before .before .if2 .left)) (passes (c .before .name-before .ensures) (c .if3 .left))) ∙ l .inv
+    (name-below (a .ks .now) (a .k .first) (a .k .count) (l .j) (if1 .taken))
+    (name-there (a .ks .now) (a .k .first) (a .k .count) (l .j) (if1 .taken) n (child-name .ensures))
+    (passes (name-ok .ensures) (c .before .before .if2 .left)) (passes (c .before .name-before .ensures) (c .if3 .left))) ∙ l .inv
 
 returns-3 : tie.Need-returns-3 Inv-loop μ-loop
 returns-3 c =

@@ -1,4 +1,4 @@
--- `makeable::has_chart_flag` meets its contract: the kind's flag is held against the chart's, as `flagIs` does.
+-- `kind_sound::has_chart_flag` meets its contract: the kind's flag is held against the chart's, as `flagIs` does.
 -- Assumes nothing.
 use borrow.Author.Needs.{needs}
 use Rattle.scope.specs.Kinds.{flagIs}

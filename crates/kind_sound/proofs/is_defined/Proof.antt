@@ -1,4 +1,4 @@
--- `makeable::is_defined` meets its contract: the sort that was read is the definition's, and `defined` is the test of that sort by the kind's row.
+-- `kind_sound::is_defined` meets its contract: the sort that was read is the definition's, and `defined` is the test of that sort by the kind's row.
 -- Assumes nothing.
 use mathlib.Core.Path.{sym, ap, _∙_}
 use borrow.Author.Needs.{needs}
@@ -17,7 +17,9 @@ sort-fits-requires c κs = search needs
 
 returns : tie.Need-returns
 unfolding kindMeans
-returns c = c .sort-fits .ensures ∙ (ap (sortFits (rowOf (c .before .before .before .args .k .code))) (c .before .sort-at .ensures) ∙ sym (defined-row _ _))
+returns c =
+    let args = c .before .before .before .args in
+    c .sort-fits .ensures ∙ (ap (sortFits (rowOf (args .k .code))) (c .before .sort-at .ensures) ∙ sym (defined-row _ _))
 
 pub is-defined-spec : {M : Type 1} → statement M
 is-defined-spec = tie.close (tie.spec sort-at-requires sort-fits-requires returns)

@@ -1,4 +1,4 @@
--- `makeable::kids_inside` meets its contract. The loop's invariant: of any n nodes, the children from j on are among them if and only if all are. The
+-- `kind_sound::kids_inside` meets its contract. The loop's invariant: of any n nodes, the children from j on are among them if and only if all are. The
 -- measure is what is left of the children.
 -- Assumes nothing.
 use mathlib.Core.Path.{_≡_, refl, sym, _∙_}
@@ -33,11 +33,14 @@ type-inside-requires : tie.Need-type-inside-requires Inv-loop μ-loop
 type-inside-requires c κs = search needs
 
 returns : tie.Need-returns Inv-loop μ-loop
-returns c = λ ns e.
+returns c =
+    let if1 = c .before .before .before .if1 in
+    let child-of = c .before .before .child-of in
+    λ ns e.
     let a = c .before .before .before .before .before .before .before .args in
     let l = c .before .before .before .before .before .loop in
-    sym (all-fails (inStore ns) (kindMeans (a .ks .now) (a .k) .kids) no-kid (l .j) (kid-below (a .ks .now) (a .k) (l .j) (c .before .before .before .if1 .taken))
-    (kid-inside (a .ks .now) (a .k) (l .j) ns (c .before .before .before .if1 .taken) (c .before .before .child-of .result) (c .before .before .child-of .ensures) ∙ fails (c .before .type-inside .ensures ns e) (c .if2 .taken))) ∙ l .inv ns e
+    sym (all-fails (inStore ns) (kindMeans (a .ks .now) (a .k) .kids) no-kid (l .j) (kid-below (a .ks .now) (a .k) (l .j) (if1 .taken))
+    (kid-inside (a .ks .now) (a .k) (l .j) ns (if1 .taken) (child-of .result) (child-of .ensures) ∙ fails (c .before .type-inside .ensures ns e) (c .if2 .taken))) ∙ l .inv ns e
 
 add-j : tie.Need-add-j Inv-loop μ-loop
 add-j c = omega arith
@@ -46,11 +49,14 @@ loop-less : tie.Need-loop-less Inv-loop μ-loop
 loop-less c = omega arith
 
 loop-again : tie.Need-loop-again Inv-loop μ-loop
-loop-again c = λ ns e.
+loop-again c =
+    let if1 = c .before .before .before .if1 in
+    let child-of = c .before .before .child-of in
+    λ ns e.
     let a = c .before .before .before .before .before .before .before .args in
     let l = c .before .before .before .before .before .loop in
-    sym (all-step (inStore ns) (kindMeans (a .ks .now) (a .k) .kids) no-kid (l .j) (kid-below (a .ks .now) (a .k) (l .j) (c .before .before .before .if1 .taken))
-    (kid-inside (a .ks .now) (a .k) (l .j) ns (c .before .before .before .if1 .taken) (c .before .before .child-of .result) (c .before .before .child-of .ensures) ∙ passes (c .before .type-inside .ensures ns e) (c .if2 .left))) ∙ l .inv ns e
+    sym (all-step (inStore ns) (kindMeans (a .ks .now) (a .k) .kids) no-kid (l .j) (kid-below (a .ks .now) (a .k) (l .j) (if1 .taken))
+    (kid-inside (a .ks .now) (a .k) (l .j) ns (if1 .taken) (child-of .result) (child-of .ensures) ∙ passes (c .before .type-inside .ensures ns e) (c .if2 .left))) ∙ l .inv ns e
 
 returns-2 : tie.Need-returns-2 Inv-loop μ-loop
 returns-2 c = λ ns e.

@@ -1,4 +1,4 @@
--- `makeable::name_or_none` meets its contract: no name passes, and any other is tested as a name.
+-- `kind_sound::name_or_none` meets its contract: no name passes, and any other is tested as a name.
 -- Assumes nothing.
 use borrow.Author.Needs.{needs}
 use borrow.Author.Tests.{eq-eqb, ne-eqb}

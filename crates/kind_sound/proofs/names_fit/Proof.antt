@@ -1,4 +1,4 @@
--- `makeable::names_fit` meets its contract. Each way out is a law on a kind whose row asks for these names; the row that was read is scope's.
+-- `kind_sound::names_fit` meets its contract. Each way out is a law on a kind whose row asks for these names; the row that was read is scope's.
 -- Assumes nothing.
 use mathlib.Core.Path.{sym, ap, _∙_}
 use borrow.Author.Needs.{needs}
@@ -20,32 +20,36 @@ name-ok-requires c κs = search needs
 
 returns : tie.Need-returns
 returns c =
+    let row-of = c .before .before .before .row-of in
     let a = c .before .before .before .before .before .before .before .args in
     let x = texts (a .rule .now) (a .text .now) in
-    let row = ap (λ (r : Row). r .names) (c .before .before .before .row-of .ensures) in
-    c .name-ok .ensures ∙ (ap (nameOk x) (c .before .own-name .ensures) ∙ sym (own-names x (a .ks .now) (a .k) (c .before .before .before .row-of .result .names) row (c .before .before .if1 .taken)))
+    let row = ap (λ (r : Row). r .names) (row-of .ensures) in
+    c .name-ok .ensures ∙ (ap (nameOk x) (c .before .own-name .ensures) ∙ sym (own-names x (a .ks .now) (a .k) (row-of .result .names) row (c .before .before .if1 .taken)))
 
 child-names-fit-requires : tie.Need-child-names-fit-requires
 child-names-fit-requires c κs = search needs
 
 returns-2 : tie.Need-returns-2
 returns-2 c =
+    let row-of = c .before .before .before .row-of in
     let a = c .before .before .before .before .before .before .before .args in
-    let row = ap (λ (r : Row). r .names) (c .before .before .before .row-of .ensures) in
+    let row = ap (λ (r : Row). r .names) (row-of .ensures) in
     c .child-names-fit .ensures
-    ∙ sym (child-names (texts (a .rule .now) (a .text .now)) (a .ks .now) (a .k) (c .before .before .before .row-of .result .names) row (c .before .if2 .taken))
+    ∙ sym (child-names (texts (a .rule .now) (a .text .now)) (a .ks .now) (a .k) (row-of .result .names) row (c .before .if2 .taken))
 
 returns-3 : tie.Need-returns-3
 returns-3 c =
+    let row-of = c .before .before .before .row-of in
     let a = c .before .before .before .before .before .before .before .args in
-    let row = ap (λ (r : Row). r .names) (c .before .before .before .row-of .ensures) in
-    sym (no-names (texts (a .rule .now) (a .text .now)) (a .ks .now) (a .k) (c .before .before .before .row-of .result .names) row (c .before .before .if1 .left) (c .before .if2 .left) (c .if3 .taken))
+    let row = ap (λ (r : Row). r .names) (row-of .ensures) in
+    sym (no-names (texts (a .rule .now) (a .text .now)) (a .ks .now) (a .k) (row-of .result .names) row (c .before .before .if1 .left) (c .before .if2 .left) (c .if3 .taken))
 
 returns-4 : tie.Need-returns-4
 returns-4 c =
+    let row-of = c .before .before .before .before .before .row-of in
     let a = c .before .before .before .before .before .before .before .before .before .args in
-    let row = ap (λ (r : Row). r .names) (c .before .before .before .before .before .row-of .ensures) in
-    sym (no-return (texts (a .rule .now) (a .text .now)) (a .ks .now) (a .k) (c .before .before .before .before .before .row-of .result .names) row (c .before .before .if3 .left) (c .if4 .taken))
+    let row = ap (λ (r : Row). r .names) (row-of .ensures) in
+    sym (no-return (texts (a .rule .now) (a .text .now)) (a .ks .now) (a .k) (row-of .result .names) row (c .before .before .if3 .left) (c .if4 .taken))
 
 sub-parameter-names-fit : tie.Need-sub-parameter-names-fit
 sub-parameter-names-fit c = search needs
@@ -55,10 +59,12 @@ parameter-names-fit-requires c κs = search needs
 
 returns-5 : tie.Need-returns-5
 returns-5 c =
+    let row-of = c .before .before .before .before .before .before .before .row-of in
+    let if3 = c .before .before .before .before .if3 in
     let a = c .before .before .before .before .before .before .before .before .before .before .before .args in
-    let row = ap (λ (r : Row). r .names) (c .before .before .before .before .before .before .before .row-of .ensures) in
+    let row = ap (λ (r : Row). r .names) (row-of .ensures) in
     c .parameter-names-fit .ensures
-    ∙ sym (parameter-names (texts (a .rule .now) (a .text .now)) (a .ks .now) (a .k) (c .before .before .before .before .before .before .before .row-of .result .names) row (c .before .before .before .before .if3 .left) (c .before .before .if4 .left))
+    ∙ sym (parameter-names (texts (a .rule .now) (a .text .now)) (a .ks .now) (a .k) (row-of .result .names) row (if3 .left) (c .before .before .if4 .left))
 
 pub names-fit-spec : {M : Type 1} → statement M
 names-fit-spec =

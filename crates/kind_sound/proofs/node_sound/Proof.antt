@@ -1,4 +1,4 @@
--- `makeable::node_sound` meets its contract, by the cases of a node: a child's parent and a Known root's kind are tested by the functions for
+-- `kind_sound::node_sound` meets its contract, by the cases of a node: a child's parent and a Known root's kind are tested by the functions for
 -- them, and any other root passes, as `nodeSound` says.
 -- Assumes nothing.
 use mathlib.Core.Path.{refl}

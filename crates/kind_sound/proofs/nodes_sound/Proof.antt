@@ -1,4 +1,4 @@
--- `makeable::nodes_sound` meets its contract. The loop's invariant: the nodes from i on pass if and only if all do. The measure is what is left of them.
+-- `kind_sound::nodes_sound` meets its contract. The loop's invariant: the nodes from i on pass if and only if all do. The measure is what is left of them.
 -- Assumes nothing.
 use mathlib.Core.Path.{_≡_, refl, sym, ap, _∙_}
 use Prim.Native.Nat.{_-_}
@@ -34,12 +34,14 @@ node-sound-requires c κs = search needs
 
 returns : tie.Need-returns Inv-loop μ-loop
 returns c =
+    let pre = c .before .before .before .before .before .before .before .before .before .before .pre in
+    let loop-test = c .before .before .before .loop-test in
     let a = c .before .before .before .before .before .before .before .before .before .before .args in
     let l = c .before .before .before .before .loop in
     let ns = decode (a .ws .now) (a .ks .now) (a .n) in
     let p = nodeSound (chartIn (a .chart .now) (a .rule .now) (a .text .now)) ns in
-    sym (all-fails p ns past (l .i) (node-below (a .ws .now) (a .ks .now) (a .n) (l .i) (c .before .before .before .loop-test .taken))
-    (ap p (read-is (a .ws .now) (a .ks .now) (c .before .before .before .before .before .before .before .before .before .before .pre .made) (a .n) (c .before .before .before .before .before .before .before .before .before .before .pre .clean) (l .i) (c .before .before .node-at .ensures))
+    sym (all-fails p ns past (l .i) (node-below (a .ws .now) (a .ks .now) (a .n) (l .i) (loop-test .taken))
+    (ap p (read-is (a .ws .now) (a .ks .now) (pre .made) (a .n) (pre .clean) (l .i) (c .before .before .node-at .ensures))
     ∙ fails (c .before .node-sound .ensures ns (length-decode (a .ws .now) (a .ks .now) (a .n))) (c .if1 .taken))) ∙ l .inv
 
 add-i : tie.Need-add-i Inv-loop μ-loop
@@ -50,12 +52,14 @@ loop-less c = omega arith
 
 loop-again : tie.Need-loop-again Inv-loop μ-loop
 loop-again c =
+    let pre = c .before .before .before .before .before .before .before .before .before .before .pre in
+    let loop-test = c .before .before .before .loop-test in
     let a = c .before .before .before .before .before .before .before .before .before .before .args in
     let l = c .before .before .before .before .loop in
     let ns = decode (a .ws .now) (a .ks .now) (a .n) in
     let p = nodeSound (chartIn (a .chart .now) (a .rule .now) (a .text .now)) ns in
-    sym (all-step p ns past (l .i) (node-below (a .ws .now) (a .ks .now) (a .n) (l .i) (c .before .before .before .loop-test .taken))
-    (ap p (read-is (a .ws .now) (a .ks .now) (c .before .before .before .before .before .before .before .before .before .before .pre .made) (a .n) (c .before .before .before .before .before .before .before .before .before .before .pre .clean) (l .i) (c .before .before .node-at .ensures))
+    sym (all-step p ns past (l .i) (node-below (a .ws .now) (a .ks .now) (a .n) (l .i) (loop-test .taken))
+    (ap p (read-is (a .ws .now) (a .ks .now) (pre .made) (a .n) (pre .clean) (l .i) (c .before .before .node-at .ensures))
     ∙ passes (c .before .node-sound .ensures ns (length-decode (a .ws .now) (a .ks .now) (a .n))) (c .if1 .left))) ∙ l .inv
 
 returns-2 : tie.Need-returns-2 Inv-loop μ-loop

@@ -1,4 +1,4 @@
--- `makeable::parameter_names_fit` meets its contract. The loop's invariant: the names from j on pass if and only if all do. The measure is what is left
+-- `kind_sound::parameter_names_fit` meets its contract. The loop's invariant: the names from j on pass if and only if all do. The measure is what is left
 -- of the parameters.
 -- Assumes nothing.
 use mathlib.Core.Path.{_≡_, refl, sym, ap, _∙_}
@@ -34,12 +34,14 @@ name-or-none-requires c κs = search needs
 
 returns : tie.Need-returns Inv-loop μ-loop
 returns c =
+    let loop-test = c .before .before .before .loop-test in
+    let child-name = c .before .before .child-name in
     let a = c .before .before .before .before .before .before .before .before .args in
     let l = c .before .before .before .before .loop in
     let p = namedOrNone (texts (a .rule .now) (a .text .now)) in
-    let n = nameIn (c .before .before .child-name .result) in
-    sym (all-fails p (childNames (a .ks .now) (a .k .first) (a .n)) none (l .j) (name-below (a .ks .now) (a .k .first) (a .n) (l .j) (c .before .before .before .loop-test .taken))
-    (ap p (name-there (a .ks .now) (a .k .first) (a .n) (l .j) (c .before .before .before .loop-test .taken) n (c .before .before .child-name .ensures)) ∙ fails (c .before .name-or-none .ensures) (c .if1 .taken))) ∙ l .inv
+    let n = nameIn (child-name .result) in
+    sym (all-fails p (childNames (a .ks .now) (a .k .first) (a .n)) none (l .j) (name-below (a .ks .now) (a .k .first) (a .n) (l .j) (loop-test .taken))
+    (ap p (name-there (a .ks .now) (a .k .first) (a .n) (l .j) (loop-test .taken) n (child-name .ensures)) ∙ fails (c .before .name-or-none .ensures) (c .if1 .taken))) ∙ l .inv
 
 add-j : tie.Need-add-j Inv-loop μ-loop
 add-j c = omega arith
@@ -49,12 +51,14 @@ loop-less c = omega arith
 
 loop-again : tie.Need-loop-again Inv-loop μ-loop
 loop-again c =
+    let loop-test = c .before .before .before .loop-test in
+    let child-name = c .before .before .child-name in
     let a = c .before .before .before .before .before .before .before .before .args in
     let l = c .before .before .before .before .loop in
     let p = namedOrNone (texts (a .rule .now) (a .text .now)) in
-    let n = nameIn (c .before .before .child-name .result) in
-    sym (all-step p (childNames (a .ks .now) (a .k .first) (a .n)) none (l .j) (name-below (a .ks .now) (a .k .first) (a .n) (l .j) (c .before .before .before .loop-test .taken))
-    (ap p (name-there (a .ks .now) (a .k .first) (a .n) (l .j) (c .before .before .before .loop-test .taken) n (c .before .before .child-name .ensures)) ∙ passes (c .before .name-or-none .ensures) (c .if1 .left))) ∙ l .inv
+    let n = nameIn (child-name .result) in
+    sym (all-step p (childNames (a .ks .now) (a .k .first) (a .n)) none (l .j) (name-below (a .ks .now) (a .k .first) (a .n) (l .j) (loop-test .taken))
+    (ap p (name-there (a .ks .now) (a .k .first) (a .n) (l .j) (loop-test .taken) n (child-name .ensures)) ∙ passes (c .before .name-or-none .ensures) (c .if1 .left))) ∙ l .inv
 
 returns-2 : tie.Need-returns-2 Inv-loop μ-loop
 returns-2 c =

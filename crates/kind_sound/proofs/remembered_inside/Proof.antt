@@ -1,4 +1,4 @@
--- `makeable::remembered_inside` meets its contract, by the two cases of what is remembered: a type is tested as any type is, and nothing passes.
+-- `kind_sound::remembered_inside` meets its contract, by the two cases of what is remembered: a type is tested as any type is, and nothing passes.
 -- Assumes nothing.
 use mathlib.Core.Path.{refl}
 use borrow.Author.Needs.{needs}

@@ -1,4 +1,4 @@
--- `makeable::type_inside` meets its contract: the node that was read off the type is compared with n, which is the number of any nodes that the
+-- `kind_sound::type_inside` meets its contract: the node that was read off the type is compared with n, which is the number of any nodes that the
 -- contract speaks of.
 -- Assumes nothing.
 use mathlib.Core.Path.{sym, ap₂}

@@ -1,4 +1,4 @@
--- `makeable::widths_ok` meets its contract. The loop's invariant: the nodes from i on are narrow if and only if all are. The measure is what is left
+-- `kind_sound::widths_ok` meets its contract. The loop's invariant: the nodes from i on are narrow if and only if all are. The measure is what is left
 -- of them.
 -- Assumes nothing.
 use mathlib.Core.Path.{_≡_, sym, ap, _∙_}
@@ -36,9 +36,11 @@ cast-if1 c = search needs
 
 returns : tie.Need-returns Inv-loop μ-loop
 returns c =
+    let loop = c .before .before .before .before .loop in
+    let loop-test = c .before .before .before .loop-test in
     let a = c .before .before .before .before .before .before .args in
-    sym (run-fails (λ j. leb (countAt (a .ws .now) j) MAX-WIDTH) (c .before .before .before .before .loop .i) (a .n) (c .before .before .before .loop-test .taken)
-    (beyond MAX-WIDTH (count-cell (a .ws .now) (c .before .before .before .before .loop .i) (c .before .before .cell-at .ensures)) (c .if1 .taken))) ∙ c .before .before .before .before .loop .inv
+    sym (run-fails (λ j. leb (countAt (a .ws .now) j) MAX-WIDTH) (loop .i) (a .n) (loop-test .taken)
+    (beyond MAX-WIDTH (count-cell (a .ws .now) (loop .i) (c .before .before .cell-at .ensures)) (c .if1 .taken))) ∙ loop .inv
 
 add-i : tie.Need-add-i Inv-loop μ-loop
 add-i c = omega arith
@@ -48,12 +50,17 @@ loop-less c = omega arith
 
 loop-again : tie.Need-loop-again Inv-loop μ-loop
 loop-again c =
+    let loop = c .before .before .before .before .loop in
+    let loop-test = c .before .before .before .loop-test in
     let a = c .before .before .before .before .before .before .args in
-    sym (run-step (λ j. leb (countAt (a .ws .now) j) MAX-WIDTH) (c .before .before .before .before .loop .i) (a .n) (c .before .before .before .loop-test .taken)
-    (within MAX-WIDTH (count-cell (a .ws .now) (c .before .before .before .before .loop .i) (c .before .before .cell-at .ensures)) (c .if1 .left))) ∙ c .before .before .before .before .loop .inv
+    sym (run-step (λ j. leb (countAt (a .ws .now) j) MAX-WIDTH) (loop .i) (a .n) (loop-test .taken)
+    (within MAX-WIDTH (count-cell (a .ws .now) (loop .i) (c .before .before .cell-at .ensures)) (c .if1 .left))) ∙ loop .inv
 
 returns-2 : tie.Need-returns-2 Inv-loop μ-loop
-returns-2 c = sym (run-end (λ j. leb (countAt (c .before .before .before .args .ws .now) j) MAX-WIDTH) (c .before .loop .i) (c .before .before .before .args .n) (c .loop-test .left)) ∙ c .before .loop .inv
+returns-2 c =
+    let args = c .before .before .before .args in
+    let loop = c .before .loop in
+    sym (run-end (λ j. leb (countAt (args .ws .now) j) MAX-WIDTH) (loop .i) (args .n) (c .loop-test .left)) ∙ loop .inv
 
 pub widths-ok-spec : {M : Type 1} → statement M
 widths-ok-spec =

@@ -16,8 +16,9 @@ use Rattle.shape.proofs.visit.Kinds as visit-kinds
 use Rattle.shape.proofs.+visit.Lts-visit as visit-lts
 use Rattle.shape.proofs.at.Reads as at-reads
 use Rattle.shape.proofs.kid_at.Reads as kid-at-reads
+use Rattle.shape.proofs.put.Reads as put-reads
 use Rattle.shape.proofs.root_of.Reads as root-of-reads
-use Rattle.shape.proofs.row_of.Reads as row-of-reads
+use Rattle.shape.proofs.run_of.Reads as run-of-reads
 use Rattle.shape.proofs.+visit.{statement}
 use Rattle.shape.proofs.+visit.Tie.{close}
 
@@ -31,10 +32,23 @@ abbrev visit-below : ℕ → In 4 visit-kinds.ps
 visit-below t = and 4 visit-kinds.ps (falls 4 visit-kinds.ps _<_ μ-visit t) visit.Pre
 
 abbrev visit-claims : ℕ → visit-lts.Claims
-visit-claims t = (at-reads.Asked, at-reads.Learnt, row-of-reads.Asked, row-of-reads.Learnt, kid-at-reads.Asked, kid-at-reads.Learnt, root-of-reads.Asked, root-of-reads.Learnt, visit-below t, visit.Post)
+visit-claims t = (
+  at-reads.Asked,
+  at-reads.Learnt,
+  put-reads.Asked,
+  put-reads.Learnt,
+  run-of-reads.Asked,
+  run-of-reads.Learnt,
+  kid-at-reads.Asked,
+  kid-at-reads.Learnt,
+  root-of-reads.Asked,
+  root-of-reads.Learnt,
+  visit-below t,
+  visit.Post,
+)
 
 abbrev visit-Inv-loop : visit-lts.InvT-loop
-visit-Inv-loop ws ks n roots marks₀ v mark i₀ end marks i = laws.Passed (kids ws ks n roots) n v i marks₀ marks
+visit-Inv-loop ws ks n roots marks₀ v mark i₀ end marks i = laws.Passed (kids ws ks n roots) n (v .0) i marks₀ marks
 
 abbrev visit-μ-loop : visit-lts.MeasureT-loop
 visit-μ-loop ws ks n roots marks₀ v mark i₀ end marks i = end - i
@@ -46,16 +60,15 @@ visit-returns : (t : ℕ) → visit-lts.Need-returns (visit-claims t) (visit-at 
 visit-returns t c = laws.visit-done _ _ (c .before .before .before .before .before .pre .1 .marked) (c .before .at .ensures) (c .if1 .taken)
 
 visit-returns-2 : (t : ℕ) → visit-lts.Need-returns-2 (visit-claims t) (visit-at t) visit.Post visit-Inv-loop visit-μ-loop
-visit-returns-2 t c = laws.visit-open _ _ (c .before .before .before .before .before .before .pre .1 .marked) (c .before .before .at .ensures) (c .before .if1 .left) (c .if2 .taken)
+visit-returns-2 t c =
+    let pre = c .before .before .before .before .before .before .pre in
+    laws.visit-open _ _ (pre .1 .marked) (c .before .before .at .ensures) (c .before .if1 .left) (c .if2 .taken)
 
-visit-mul-marks : (t : ℕ) → visit-lts.Need-mul-marks (visit-claims t) (visit-at t) visit.Post visit-Inv-loop visit-μ-loop
-visit-mul-marks t c = omega (arith, laws.mark-small (c .before .before .before .before .before .before .pre .1))
+visit-put-requires : (t : ℕ) → visit-lts.Need-put-requires (visit-claims t) (visit-at t) visit.Post visit-Inv-loop visit-μ-loop
+visit-put-requires t c κs = laws.mark-small (c .before .before .before .before .before .before .before .pre .1)
 
-visit-element-write-marks : (t : ℕ) → visit-lts.Need-element-write-marks (visit-claims t) (visit-at t) visit.Post visit-Inv-loop visit-μ-loop
-visit-element-write-marks t c = laws.mark-small (c .before .before .before .before .before .before .pre .1)
-
-visit-row-of-requires : (t : ℕ) → visit-lts.Need-row-of-requires (visit-claims t) (visit-at t) visit.Post visit-Inv-loop visit-μ-loop
-visit-row-of-requires t c κs = c .before .before .before .before .before .before .pre .1 .falls .room
+visit-run-of-requires : (t : ℕ) → visit-lts.Need-run-of-requires (visit-claims t) (visit-at t) visit.Post visit-Inv-loop visit-μ-loop
+visit-run-of-requires t c κs = c .before .before .before .before .before .before .before .before .pre .1 .falls .room
 
 visit-cast-i : (t : ℕ) → visit-lts.Need-cast-i (visit-claims t) (visit-at t) visit.Post visit-Inv-loop visit-μ-loop
 visit-cast-i t c = search needs
@@ -68,37 +81,48 @@ visit-add-end t c = search needs
 
 visit-loop-holds : (t : ℕ) → visit-lts.Need-loop-holds (visit-claims t) (visit-at t) visit.Post visit-Inv-loop visit-μ-loop
 visit-loop-holds t c =
-    let s = c .before .before .before .before .before .before .before .before .before in
-    rw (c .before .before .row-of .ensures) (laws.passed-none _ _ (laws.mark-small (s .pre .1)) (s .pre .1 .marked))
+    let s = c .before .before .before .before .before .before .before .before .before .before .before .pre .1 in
+    rw (c .before .before .run-of .ensures, c .before .before .before .put .ensures) (laws.passed-none _ _ (laws.mark-small s) (s .marked))
 
 visit-kid-at-requires : (t : ℕ) → visit-lts.Need-kid-at-requires (visit-claims t) (visit-at t) visit.Post visit-Inv-loop visit-μ-loop
 visit-kid-at-requires t c κs = search needs
 
 visit-root-of-requires : (t : ℕ) → visit-lts.Need-root-of-requires (visit-claims t) (visit-at t) visit.Post visit-Inv-loop visit-μ-loop
 visit-root-of-requires t c κs =
-    let s = c .before .before .before .before .before .before .before .before .before .before .before .before in
-    let l = c .before .before .loop in
-    let row = laws.in-row (s .pre .1) (c .before .before .before .before .before .row-of .ensures) (l .inv) (c .before .loop-test .taken) in
-    laws.kid-known (s .pre .1) row (c .kid-at .ensures)
+    let run-of = c .before .before .before .before .before .run-of in
+    let s = c .before .before .before .before .before .before .before .before .before .before .before .before .before .before .pre .1 in
+    let run = laws.in-run s (run-of .ensures) (c .before .before .loop .inv) (c .before .loop-test .taken) in
+    laws.kid-known s run (c .kid-at .ensures)
 
 visit-visit-requires : (t : ℕ) → visit-lts.Need-visit-requires (visit-claims t) (visit-at t) visit.Post visit-Inv-loop visit-μ-loop
 visit-visit-requires t c κs =
-    let s = c .before .before .before .before .before .before .before .before .before .before .before .before .before .before in
-    let l = c .before .before .before .before .loop in
-    let row = laws.in-row (s .pre .1) (c .before .before .before .before .before .before .before .row-of .ensures) (l .inv) (c .before .before .before .loop-test .taken) in
+    let at = c .before .before .before .before .before .before .before .before .before .before .before .before .at in
+    let if2 = c .before .before .before .before .before .before .before .before .before .before .if2 in
+    let put = c .before .before .before .before .before .before .before .before .put in
+    let run-of = c .before .before .before .before .before .before .before .run-of in
+    let loop-test = c .before .before .before .loop-test in
+    let s = c .before .before .before .before .before .before .before .before .before .before .before .before .before .before .before .before in
+    let p = s .pre .1 in
+    let inv = c .before .before .before .before .loop .inv in
+    let run = laws.in-run p (run-of .ensures) inv (loop-test .taken) in
     let kid = c .before .root-of .ensures ∙ ap (rootOf (s .args .roots .now)) (c .before .before .kid-at .ensures) in
-    let new = sym (c .before .before .before .before .before .before .before .before .before .before .at .ensures) ∙ c .before .before .before .before .before .before .before .before .if2 .left in (
-      omega (arith, s .pre .0, laws.fresh-less _ _ (s .pre .1 .marked) (laws.mark-small (s .pre .1)) (l .inv) (s .pre .1 .node) new),
-      laws.visits-on (s .pre .1) (l .inv) row kid,
-    )
+    let new = sym (at .ensures) ∙ if2 .left in
+    let less = laws.fresh-less _ _ (p .marked) (laws.mark-small p) (rw (put .ensures) at inv) (p .node) new in
+    (omega (arith, s .pre .0, less), laws.visits-on p inv run kid)
 
 visit-returns-3 : (t : ℕ) → visit-lts.Need-returns-3 (visit-claims t) (visit-at t) visit.Post visit-Inv-loop visit-μ-loop
 visit-returns-3 t c =
-    let s = c .before .before .before .before .before .before .before .before .before .before .before .before .before .before .before .before in
-    let l = c .before .before .before .before .before .before .loop in
-    let row = laws.in-row (s .pre .1) (c .before .before .before .before .before .before .before .before .before .row-of .ensures) (l .inv) (c .before .before .before .before .before .loop-test .taken) in
-    let kid = c .before .before .before .root-of .ensures ∙ ap (rootOf (s .args .roots .now)) (c .before .before .before .before .kid-at .ensures) in
-    laws.visit-failed _ _ (s .pre .1 .marked) (laws.mark-small (s .pre .1)) (l .inv) row kid (not-true _ (c .if3 .taken)) (c .before .visit .ensures)
+    let put = c .before .before .before .before .before .before .before .before .before .before .put in
+    let run-of = c .before .before .before .before .before .before .before .before .before .run-of in
+    let loop-test = c .before .before .before .before .before .loop-test in
+    let kid-at = c .before .before .before .before .kid-at in
+    let root-of = c .before .before .before .root-of in
+    let s = c .before .before .before .before .before .before .before .before .before .before .before .before .before .before .before .before .before .before in
+    let p = s .pre .1 in
+    let inv = c .before .before .before .before .before .before .loop .inv in
+    let run = laws.in-run p (run-of .ensures) inv (loop-test .taken) in
+    let kid = root-of .ensures ∙ ap (rootOf (s .args .roots .now)) (kid-at .ensures) in
+    laws.visit-failed _ _ (p .marked) (laws.mark-small p) (rw (put .ensures) at inv) run kid (not-true _ (c .if3 .taken)) (c .before .visit .ensures)
 
 visit-add-i : (t : ℕ) → visit-lts.Need-add-i (visit-claims t) (visit-at t) visit.Post visit-Inv-loop visit-μ-loop
 visit-add-i t c = omega arith
@@ -108,37 +132,27 @@ visit-loop-less t c = omega (arith, c .before .before .before .before .before .l
 
 visit-loop-again : (t : ℕ) → visit-lts.Need-loop-again (visit-claims t) (visit-at t) visit.Post visit-Inv-loop visit-μ-loop
 visit-loop-again t c =
-    let s = c .before .before .before .before .before .before .before .before .before .before .before .before .before .before .before .before in
-    let l = c .before .before .before .before .before .before .loop in
-    let kid = c .before .before .before .root-of .ensures ∙ ap (rootOf (s .args .roots .now)) (c .before .before .before .before .kid-at .ensures) in
-    laws.passed-more _ _ (l .inv) kid (not-false _ (c .if3 .left)) (c .before .visit .ensures)
+    let args = c .before .before .before .before .before .before .before .before .before .before .before .before .before .before .before .before .before .before .args in
+    let loop = c .before .before .before .before .before .before .loop in
+    let kid-at = c .before .before .before .before .kid-at in
+    let root-of = c .before .before .before .root-of in
+    let kid = root-of .ensures ∙ ap (rootOf (args .roots .now)) (kid-at .ensures) in
+    laws.passed-more _ _ (loop .inv) kid (not-false _ (c .if3 .left)) (c .before .visit .ensures)
 
-visit-mul-marks-2 : (t : ℕ) → visit-lts.Need-mul-marks-2 (visit-claims t) (visit-at t) visit.Post visit-Inv-loop visit-μ-loop
-visit-mul-marks-2 t c = omega (arith, laws.mark-small (c .before .before .before .before .before .before .before .before .before .before .before .pre .1))
-
-visit-element-write-marks-2 : (t : ℕ) → visit-lts.Need-element-write-marks-2 (visit-claims t) (visit-at t) visit.Post visit-Inv-loop visit-μ-loop
-visit-element-write-marks-2 t c = laws.mark-small (c .before .before .before .before .before .before .before .before .before .before .before .pre .1)
+visit-put-requires-2 : (t : ℕ) → visit-lts.Need-put-requires-2 (visit-claims t) (visit-at t) visit.Post visit-Inv-loop visit-μ-loop
+visit-put-requires-2 t c κs =
+    let pre = c .before .before .before .before .before .before .before .before .before .before .before .before .before .before .pre in
+    laws.mark-small (pre .1)
 
 visit-returns-4 : (t : ℕ) → visit-lts.Need-returns-4 (visit-claims t) (visit-at t) visit.Post visit-Inv-loop visit-μ-loop
 visit-returns-4 t c =
-    let s = c .before .before .before .before .before .before .before .before .before .before .before in
-    let l = c .before .loop in
-    let all = laws.row-done (s .pre .1) (c .before .before .before .before .row-of .ensures) (c .loop-test .left) in
-    laws.visit-passed _ _ (s .pre .1 .marked) (laws.mark-small (s .pre .1)) (l .inv) (laws.kids-closed (s .pre .1 .falls)) (s .pre .1 .node) all
+    let p = c .before .before .before .before .before .before .before .before .before .before .before .before .before .before .before .pre .1 in
+    let inv = rw (c .before .before .before .before .before .before .before .put .ensures) at (c .before .before .before .loop .inv) in
+    let all = laws.run-done p (c .before .before .before .before .before .before .run-of .ensures) (c .before .before .loop-test .left) in
+    rw (c .put2 .ensures) (laws.visit-passed _ _ (p .marked) (laws.mark-small p) inv (laws.kids-closed (p .falls)) (p .node) all)
 
 pub +visit-spec : {M : Type 1} → statement M
-+visit-spec = close μ-visit λ t. visit-lts.spec (
-  at-reads.Asked,
-  at-reads.Learnt,
-  row-of-reads.Asked,
-  row-of-reads.Learnt,
-  kid-at-reads.Asked,
-  kid-at-reads.Learnt,
-  root-of-reads.Asked,
-  root-of-reads.Learnt,
-  visit-below t,
-  visit.Post,
-)
++visit-spec = close μ-visit λ t. visit-lts.spec (visit-claims t)
     (visit-at t)
     visit.Post
     visit-Inv-loop
@@ -146,9 +160,8 @@ pub +visit-spec : {M : Type 1} → statement M
     (visit-at-requires t)
     (visit-returns t)
     (visit-returns-2 t)
-    (visit-mul-marks t)
-    (visit-element-write-marks t)
-    (visit-row-of-requires t)
+    (visit-put-requires t)
+    (visit-run-of-requires t)
     (visit-cast-i t)
     (visit-cast-end t)
     (visit-add-end t)
@@ -160,6 +173,5 @@ pub +visit-spec : {M : Type 1} → statement M
     (visit-add-i t)
     (visit-loop-less t)
     (visit-loop-again t)
-    (visit-mul-marks-2 t)
-    (visit-element-write-marks-2 t)
+    (visit-put-requires-2 t)
     (visit-returns-4 t)

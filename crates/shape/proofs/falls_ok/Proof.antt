@@ -20,12 +20,17 @@ loop-holds : tie.Need-loop-holds Inv-loop μ-loop
 loop-holds c = laws.visits-none _ _
 
 visit-requires : tie.Need-visit-requires Inv-loop μ-loop
-visit-requires c κs = record { falls = c .before .before .before .before .before .pre; marked = c .before .before .loop .inv .marked; node = c .before .loop-test .taken }
+visit-requires c κs =
+    let pre = c .before .before .before .before .before .pre in
+    record { falls = pre; marked = c .before .before .loop .inv .marked; node = c .before .loop-test .taken }
 
 returns : tie.Need-returns Inv-loop μ-loop
 returns c =
-    let long = laws.visits-not _ _ (c .before .before .before .before .loop .inv) (not-true _ (c .if1 .taken)) (c .before .visit .ensures) in
-    all-stop _ (c .before .before .before .before .before .before .before .args .n) (c .before .before .before .before .loop .v) (c .before .before .before .loop-test .taken) long
+    let args = c .before .before .before .before .before .before .before .args in
+    let loop = c .before .before .before .before .loop in
+    let loop-test = c .before .before .before .loop-test in
+    let long = laws.visits-not _ _ (loop .inv) (not-true _ (c .if1 .taken)) (c .before .visit .ensures) in
+    all-stop _ (args .n) (loop .v) (loop-test .taken) long
 
 add-v : tie.Need-add-v Inv-loop μ-loop
 add-v c = omega (arith, c .before .before .before .before .before .before .before .pre .rooted .few, c .before .before .before .loop-test .taken)

@@ -31,29 +31,36 @@ at-requires : tie.Need-at-requires Inv-loop μ-loop
 at-requires c κs = omega (arith, c .before .before .before .before .before .before .before .pre .rooted .few, c .before .before .loop-test .taken)
 
 add-v : tie.Need-add-v Inv-loop μ-loop
-add-v c = omega (arith, c .before .before .before .before .before .before .before .before .pre .rooted .few, c .before .before .before .loop-test .taken)
+add-v c =
+    let pre = c .before .before .before .before .before .before .before .before .pre in
+    let loop-test = c .before .before .before .loop-test in
+    omega (arith, pre .rooted .few, loop-test .taken)
 
 enum-known-up : tie.Need-enum-known-up Inv-loop μ-loop
 enum-known-up c = search needs
 
 returns : tie.Need-returns Inv-loop μ-loop
 returns c =
-    let s = c .before .before .before .before .before .before .before .before .before .before .before .before in
-    let l = c .before .before .before .before .before .before .before .before .loop in
+    let s = c .before .before .before .before .before .before .before .before .before .before .before .before .args in
+    let v = c .before .before .before .before .before .before .before .before .loop .v in
+    let l = c .before .before .before .before .before .before .before .loop-test .taken in
     let up = sym (c .before .before .before .before .before .before .up-of .ensures) ∙ c .before .before .up .given .1 in
-    let count = c .before .before .before .before .at .ensures ∙ c .before .before .before .before .before .before .before .before .before .tally .ensures .each (l .v) (c .before .before .before .before .before .before .before .loop-test .taken) in
-    all-stop _ (s .args .n) (l .v) (c .before .before .before .before .before .before .before .loop-test .taken) (laws.size-other (s .args .ws .now) (s .args .roots .now) (s .args .n) (l .v) up count (c .if1 .taken))
+    let tally = c .before .before .before .before .before .before .before .before .before .tally .ensures in
+    let count = c .before .before .before .before .at .ensures ∙ tally .each v l in
+    all-stop _ (s .n) v l (laws.size-other (s .ws .now) (s .roots .now) (s .n) v up count (c .if1 .taken))
 
 loop-less : tie.Need-loop-less Inv-loop μ-loop
 loop-less c = omega (arith, c .before .before .before .before .before .before .before .loop-test .taken)
 
 loop-again : tie.Need-loop-again Inv-loop μ-loop
 loop-again c =
-    let s = c .before .before .before .before .before .before .before .before .before .before .before .before in
-    let l = c .before .before .before .before .before .before .before .before .loop in
+    let s = c .before .before .before .before .before .before .before .before .before .before .before .before .args in
+    let v = c .before .before .before .before .before .before .before .before .loop in
+    let l = c .before .before .before .before .before .before .before .loop-test .taken in
     let up = sym (c .before .before .before .before .before .before .up-of .ensures) ∙ c .before .before .up .given .1 in
-    let count = c .before .before .before .before .at .ensures ∙ c .before .before .before .before .before .before .before .before .before .tally .ensures .each (l .v) (c .before .before .before .before .before .before .before .loop-test .taken) in
-    (omega (arith, c .before .before .before .before .before .before .before .loop-test .taken), below-more _ _ (l .inv .1) (laws.size-root (s .args .ws .now) (s .args .roots .now) (s .args .n) (l .v) up count (c .if1 .left)))
+    let tally = c .before .before .before .before .before .before .before .before .before .tally .ensures in
+    let count = c .before .before .before .before .at .ensures ∙ tally .each (v .v) l in
+    (omega arith, below-more _ _ (v .inv .1) (laws.size-root (s .ws .now) (s .roots .now) (s .n) (v .v) up count (c .if1 .left)))
 
 enum-told : tie.Need-enum-told Inv-loop μ-loop
 enum-told c = search needs
@@ -63,10 +70,11 @@ loop-less-2 c = omega (arith, c .before .before .before .before .before .loop-te
 
 loop-again-2 : tie.Need-loop-again-2 Inv-loop μ-loop
 loop-again-2 c =
-    let s = c .before .before .before .before .before .before .before .before .before .before in
-    let l = c .before .before .before .before .before .before .loop in
+    let s = c .before .before .before .before .before .before .before .before .before .before .args in
+    let v = c .before .before .before .before .before .before .loop in
+    let l = c .before .before .before .before .before .loop-test .taken in
     let up = sym (c .before .before .before .before .up-of .ensures) ∙ c .enum-told .given .1 in
-    (omega (arith, c .before .before .before .before .before .loop-test .taken), below-more _ _ (l .inv .1) (laws.size-child (s .args .ws .now) (s .args .roots .now) (s .args .n) (l .v) up))
+    (omega arith, below-more _ _ (v .inv .1) (laws.size-child (s .ws .now) (s .roots .now) (s .n) (v .v) up))
 
 returns-2 : tie.Need-returns-2 Inv-loop μ-loop
 returns-2 c = all-done _ (c .before .before .before .before .before .args .n) (c .before .loop .v) (c .loop-test .left) (c .before .loop .inv .1)

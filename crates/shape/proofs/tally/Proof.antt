@@ -1,9 +1,7 @@
 -- `shape::tally` meets its contract. The loop's invariant: the first v nodes are counted, each at its root. A count is at most v, so it fits.
 -- Assumes nothing.
-use Prim.Native.Nat.{_-_, _<_}
+use Prim.Native.Nat.{_-_}
 use native.Mathlib.Omega.{arith}
-use lib.ListN.{getD}
-use Rattle.scope.specs.Limits.{MAX-NODES}
 use Rattle.shape.proofs.Laws as laws
 use Rattle.shape.proofs.tally.Statement.{statement}
 use Rattle.shape.proofs.tally.Tie as tie
@@ -18,41 +16,47 @@ loop-holds : tie.Need-loop-holds Inv-loop μ-loop
 loop-holds c = laws.counted-none (c .pre)
 
 root-of-requires : tie.Need-root-of-requires Inv-loop μ-loop
-root-of-requires c κs = (omega (arith, c .before .before .pre .rooted .few, c .loop-test .taken), c .before .before .pre .rooted .known _ (c .loop-test .taken))
+root-of-requires c κs =
+    let r = c .before .before .pre .rooted in
+    (omega (arith, r .few, c .loop-test .taken), r .known _ (c .loop-test .taken))
 
 at-requires : tie.Need-at-requires Inv-loop μ-loop
 at-requires c κs =
-    let s = c .before .before .before .before in
-    laws.counted-small (s .pre .rooted) (c .before .before .before .loop .inv) (c .before .before .loop-test .taken) (c .before .root-of .ensures) .1
+    let pre = c .before .before .before .before .pre in
+    laws.root-small (pre .rooted) (c .before .before .loop-test .taken) (c .before .root-of .ensures)
 
--- the root's count, and the root
-root-small : (c : tie.After-at Inv-loop μ-loop) → (getD (c .before .before .before .before .loop .counts) (c .before .before .root-of .result) 0 < MAX-NODES) × (c .before .before .root-of .result < MAX-NODES)
-root-small c =
-    let s = c .before .before .before .before .before in
-    laws.counted-small (s .pre .rooted) (c .before .before .before .before .loop .inv) (c .before .before .before .loop-test .taken) (c .before .before .root-of .ensures)
+add-put : tie.Need-add-put Inv-loop μ-loop
+add-put c =
+    let pre = c .before .before .before .before .before .before .pre in
+    let loop = c .before .before .before .before .before .loop in
+    let loop-test = c .before .before .before .before .loop-test in
+    let root-of = c .before .before .before .root-of in
+    omega (arith, c .before .at .ensures, laws.count-small (pre .rooted) (loop .inv) (loop-test .taken) (root-of .ensures))
 
-add-counts : tie.Need-add-counts Inv-loop μ-loop
-add-counts c = omega (arith, c .at .ensures, root-small c)
-
-cast-counts : tie.Need-cast-counts Inv-loop μ-loop
-cast-counts c = omega (arith, root-small c)
-
-mul-counts : tie.Need-mul-counts Inv-loop μ-loop
-mul-counts c = omega (arith, root-small c)
-
-element-write-counts : tie.Need-element-write-counts Inv-loop μ-loop
-element-write-counts c = root-small c .1
+put-requires : tie.Need-put-requires Inv-loop μ-loop
+put-requires c κs =
+    let pre = c .before .before .before .before .before .before .pre in
+    let loop-test = c .before .before .before .before .loop-test in
+    let root-of = c .before .before .before .root-of in
+    laws.root-small (pre .rooted) (loop-test .taken) (root-of .ensures)
 
 add-v : tie.Need-add-v Inv-loop μ-loop
-add-v c = omega (arith, c .before .before .before .before .before .pre .rooted .few, c .before .before .before .loop-test .taken)
+add-v c =
+    let pre = c .before .before .before .before .before .before .before .pre in
+    let loop-test = c .before .before .before .before .before .loop-test in
+    omega (arith, pre .rooted .few, loop-test .taken)
 
 loop-less : tie.Need-loop-less Inv-loop μ-loop
-loop-less c = omega (arith, c .before .before .before .loop-test .taken)
+loop-less c = omega (arith, c .before .before .before .before .before .loop-test .taken)
 
 loop-again : tie.Need-loop-again Inv-loop μ-loop
 loop-again c =
-    let s = c .before .before .before .before .before in
-    rw (c .at .ensures) (laws.counted-more (s .pre .rooted) (c .before .before .before .before .loop .inv) (c .before .before .before .loop-test .taken) (c .before .before .root-of .ensures))
+    let pre = c .before .before .before .before .before .before .before .pre in
+    let loop = c .before .before .before .before .before .before .loop in
+    let loop-test = c .before .before .before .before .before .loop-test in
+    let root-of = c .before .before .before .before .root-of in
+    let next = laws.counted-more (pre .rooted) (loop .inv) (loop-test .taken) (root-of .ensures) in
+    rw (c .put .ensures, c .before .before .at .ensures) next
 
 returns : tie.Need-returns Inv-loop μ-loop
 returns c = laws.counted-all (c .before .loop .inv) (c .loop-test .left)
@@ -66,10 +70,8 @@ tally-spec =
     loop-holds
     root-of-requires
     at-requires
-    add-counts
-    cast-counts
-    mul-counts
-    element-write-counts
+    add-put
+    put-requires
     add-v
     loop-less
     loop-again

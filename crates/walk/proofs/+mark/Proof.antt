@@ -32,7 +32,22 @@ abbrev mark-below : ℕ → In 3 mark-kinds.ps
 mark-below t = and 3 mark-kinds.ps (falls 3 mark-kinds.ps _<_ μ-mark t) mark.Pre
 
 abbrev mark-claims : ℕ → mark-lts.Claims
-mark-claims t = (find-reads.Asked, find-reads.Learnt, idx-reads.Asked, idx-reads.Learnt, is-marked-reads.Asked, is-marked-reads.Learnt, set-mark-reads.Asked, set-mark-reads.Learnt, kind-at-reads.Asked, kind-at-reads.Learnt, child-of-reads.Asked, child-of-reads.Learnt, mark-below t, mark.Post)
+mark-claims t = (
+  find-reads.Asked,
+  find-reads.Learnt,
+  idx-reads.Asked,
+  idx-reads.Learnt,
+  is-marked-reads.Asked,
+  is-marked-reads.Learnt,
+  set-mark-reads.Asked,
+  set-mark-reads.Learnt,
+  kind-at-reads.Asked,
+  kind-at-reads.Learnt,
+  child-of-reads.Asked,
+  child-of-reads.Learnt,
+  mark-below t,
+  mark.Post,
+)
 
 abbrev mark-Inv-loop : mark-lts.InvT-loop
 mark-Inv-loop ws ks n marks₀ depth kind j₀ marks j = Turn (relatedF (depth - 1) (decode ws ks n)) ks kind marks₀ marks j
@@ -64,7 +79,9 @@ mark-set-mark-requires : (t : ℕ) → mark-lts.Need-set-mark-requires (mark-cla
 mark-set-mark-requires t c κs = search needs
 
 mark-kind-at-requires : (t : ℕ) → mark-lts.Need-kind-at-requires (mark-claims t) (mark-at t) mark.Post mark-Inv-loop mark-μ-loop
-mark-kind-at-requires t c κs = c .before .before .before .before .before .before .before .before .before .before .before .before .before .pre .1 .clean .room
+mark-kind-at-requires t c κs =
+    let pre = c .before .before .before .before .before .before .before .before .before .before .before .before .before .pre in
+    pre .1 .clean .room
 
 mark-enum-known-kind : (t : ℕ) → mark-lts.Need-enum-known-kind (mark-claims t) (mark-at t) mark.Post mark-Inv-loop mark-μ-loop
 mark-enum-known-kind t c = search needs
@@ -120,7 +137,9 @@ mark-loop-again t c =
     turn-next (l .loop .inv) (a .child-of .result) (a .before .if3 .taken) (a .child-of .ensures) (m .mark .ensures) (m .mark .kept .1 .1 .1 .0)
 
 mark-same-length-3 : (t : ℕ) → mark-lts.Need-same-length-3 (mark-claims t) (mark-at t) mark.Post mark-Inv-loop mark-μ-loop
-mark-same-length-3 t c = c .before .before .loop .inv .long ∙ c .before .before .before .before .before .before .before .before .before .set-mark .kept .0
+mark-same-length-3 t c =
+    let set-mark = c .before .before .before .before .before .before .before .before .before .set-mark in
+    c .before .before .loop .inv .long ∙ set-mark .kept .0
 
 mark-returns-4 : (t : ℕ) → mark-lts.Need-returns-4 (mark-claims t) (mark-at t) mark.Post mark-Inv-loop mark-μ-loop
 mark-returns-4 t c =

@@ -13,7 +13,9 @@ same-length : tie.Need-same-length
 same-length c = search needs
 
 returns : tie.Need-returns
-returns c = c .before .before .mark .ensures ∙ mark-whole (c .before .before .before .before .before .before .before .args .ws .now) (c .before .before .before .before .before .before .before .args .ks .now) (c .before .before .before .before .before .before .before .args .n) _ _
+returns c =
+    let args = c .before .before .before .before .before .before .before .args in
+    c .before .before .mark .ensures ∙ mark-whole (args .ws .now) (args .ks .now) (args .n) _ _
 
 pub find-related-spec : {M : Type 1} → statement M
 find-related-spec = tie.close (tie.spec mark-requires same-length returns)

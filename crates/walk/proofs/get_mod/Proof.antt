@@ -46,21 +46,23 @@ mod-of-requires c κs = search needs
 
 returns-2 : tie.Need-returns-2 Inv-loop μ-loop
 returns-2 c =
+    let kind = c .before .before .before .before .kind in
     let k = c .before .before .before .before .before .before in
     let f = k .before .before in
     let l = f .before .before in
     let s = l .before .before .before .before in
     let h = f .before .loop-test .taken in
-    looks-kind (l .loop .inv) (s .pre) (omega arith) (root-is (f .find .ensures) (k .before .idx .ensures) _) (k .kind-at .ensures) (c .before .before .before .before .kind .given .1) (c .before .if1 .taken) (c .mod-of .ensures)
+    looks-kind (l .loop .inv) (s .pre) (omega arith) (root-is (f .find .ensures) (k .before .idx .ensures) _) (k .kind-at .ensures) (kind .given .1) (c .before .if1 .taken) (c .mod-of .ensures)
 
 returns-3 : tie.Need-returns-3 Inv-loop μ-loop
 returns-3 c =
+    let kind = c .before .before .before .before .before .kind in
     let k = c .before .before .before .before .before .before .before in
     let f = k .before .before in
     let l = f .before .before in
     let s = l .before .before .before .before in
     let h = f .before .loop-test .taken in
-    looks-bare (l .loop .inv) (s .pre) (omega arith) (root-is (f .find .ensures) (k .before .idx .ensures) _) (k .kind-at .ensures) (c .before .before .before .before .before .kind .given .1) (c .before .before .if1 .left) (c .if2 .taken)
+    looks-bare (l .loop .inv) (s .pre) (omega arith) (root-is (f .find .ensures) (k .before .idx .ensures) _) (k .kind-at .ensures) (kind .given .1) (c .before .before .if1 .left) (c .if2 .taken)
 
 child-of-requires : tie.Need-child-of-requires Inv-loop μ-loop
 child-of-requires c κs = search needs
@@ -73,13 +75,16 @@ loop-less c = search needs
 
 loop-again : tie.Need-loop-again Inv-loop μ-loop
 loop-again c =
+    let kind = c .before .before .before .before .before .before .before .kind in
+    let if1 = c .before .before .before .before .if1 in
+    let child-of = c .before .child-of in
     let k = c .before .before .before .before .before .before .before .before .before in
     let f = k .before .before in
     let l = f .before .before in
     let s = l .before .before .before .before in
     let h = f .before .loop-test .taken in
-    looks-on (l .loop .inv) (s .pre) (omega arith) (root-is (f .find .ensures) (k .before .idx .ensures) _) (k .kind-at .ensures) (c .before .before .before .before .before .before .before .kind .given .1) (c .before .child-of .result) (c .before .before .before .before .if1 .left)
-    (omega (arith, c .before .before .if2 .left)) (c .before .child-of .ensures)
+    looks-on (l .loop .inv) (s .pre) (omega arith) (root-is (f .find .ensures) (k .before .idx .ensures) _) (k .kind-at .ensures) (kind .given .1) (child-of .result) (if1 .left)
+    (omega (arith, c .before .before .if2 .left)) (child-of .ensures)
 
 returns-4 : tie.Need-returns-4 Inv-loop μ-loop
 returns-4 c = looks-out (c .before .loop .inv) (omega (arith, c .loop-test .left))

@@ -29,13 +29,15 @@ returns c =
 
 returns-2 : tie.Need-returns-2
 returns-2 c =
+    let kind = c .before .before .before .before .kind in
     let k = c .before .before .before .before .before .before in
-    nil-is (k .before .before .find .ensures) (k .before .idx .ensures) (k .kind-at .ensures) (c .before .before .before .before .kind .given .1) (rw (eq-eqb _ _ (c .before .if1 .taken)))
+    nil-is (k .before .before .find .ensures) (k .before .idx .ensures) (k .kind-at .ensures) (kind .given .1) (rw (eq-eqb _ _ (c .before .if1 .taken)))
 
 returns-3 : tie.Need-returns-3
 returns-3 c =
+    let kind = c .before .before .before .kind in
     let k = c .before .before .before .before .before in
-    nil-is (k .before .before .find .ensures) (k .before .idx .ensures) (k .kind-at .ensures) (c .before .before .before .kind .given .1) (rw (ne-eqb _ _ (c .if1 .left)))
+    nil-is (k .before .before .find .ensures) (k .before .idx .ensures) (k .kind-at .ensures) (kind .given .1) (rw (ne-eqb _ _ (c .if1 .left)))
 
 pub is-nil-spec : {M : Type 1} → statement M
 is-nil-spec =

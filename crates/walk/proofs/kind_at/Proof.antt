@@ -23,7 +23,10 @@ enum-told-3 : tie.Need-enum-told-3
 enum-told-3 c = search needs
 
 returns : tie.Need-returns
-returns c = rw (← c .before .before .before .before .before .before .node-at .ensures, c .before .before .before .before .state .given .1, c .before .state2 .given .1)
+returns c =
+    let node-at = c .before .before .before .before .before .before .node-at in
+    let state = c .before .before .before .before .state in
+    rw (← node-at .ensures, state .given .1, c .before .state2 .given .1)
 
 returns-2 : tie.Need-returns-2
 returns-2 c = rw (← c .before .before .before .before .before .node-at .ensures, c .before .before .before .state .given .1, c .enum-told .given .1)

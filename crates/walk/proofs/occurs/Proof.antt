@@ -31,9 +31,10 @@ returns-2 c =
 
 returns-3 : tie.Need-returns-3
 returns-3 c =
+    let kind = c .before .before .before .kind in
     let k = c .before .before .before .before .before in
     let s = k .before .before .before .before in
-    occurs-none (s .before .before .before .pre) (s .idx .ensures) (k .before .if1 .left) (k .kind-at .ensures) (c .before .before .before .kind .given .1)
+    occurs-none (s .before .before .before .pre) (s .idx .ensures) (k .before .if1 .left) (k .kind-at .ensures) (kind .given .1)
     (kid-none (s .before .before .before .args .ks .now) _ 0 (omega (arith, c .if2 .taken)))
 
 slice-aggregate-find-related : tie.Need-slice-aggregate-find-related

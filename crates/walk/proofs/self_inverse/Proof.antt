@@ -18,7 +18,11 @@ all-good-requires : tie.Need-all-good-requires
 all-good-requires c κs = search needs
 
 returns : tie.Need-returns
-returns c = inverse-walk (c .before .before .before .before .before .before .before .pre) (c .before .before .before .before .before .before .before .args .param) (c .before .before .before .find-related .ensures) (c .all-good .ensures)
+returns c =
+    let pre = c .before .before .before .before .before .before .before .pre in
+    let args = c .before .before .before .before .before .before .before .args in
+    let find-related = c .before .before .before .find-related in
+    inverse-walk pre (args .param) (find-related .ensures) (c .all-good .ensures)
 
 pub self-inverse-spec : {M : Type 1} → statement M
 self-inverse-spec =

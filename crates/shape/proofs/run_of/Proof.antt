@@ -1,8 +1,8 @@
--- `shape::row_of` meets its contract: only a Known root has a row, and each other arm returns the empty one that the definition says.
+-- `shape::run_of` meets its contract: only a Known root has a run, and each other arm returns the empty one that the definition says.
 -- Assumes nothing.
 use borrow.Author.Needs.{needs}
-use Rattle.shape.proofs.row_of.Statement.{statement}
-use Rattle.shape.proofs.row_of.Tie as tie
+use Rattle.shape.proofs.run_of.Statement.{statement}
+use Rattle.shape.proofs.run_of.Tie as tie
 
 node-at-requires : tie.Need-node-at-requires
 node-at-requires c κs = search needs
@@ -23,7 +23,10 @@ enum-told-3 : tie.Need-enum-told-3
 enum-told-3 c = search needs
 
 returns : tie.Need-returns
-returns c = rw (← c .before .before .before .before .before .before .node-at .ensures, c .before .before .before .before .state .given .1, c .before .state2 .given .1)
+returns c =
+    let node-at = c .before .before .before .before .before .before .node-at in
+    let state = c .before .before .before .before .state in
+    rw (← node-at .ensures, state .given .1, c .before .state2 .given .1)
 
 returns-2 : tie.Need-returns-2
 returns-2 c = rw (← c .before .before .before .before .before .node-at .ensures, c .before .before .before .state .given .1, c .enum-told .given .1)
@@ -34,8 +37,8 @@ returns-3 c = rw (← c .before .before .before .before .before .node-at .ensure
 returns-4 : tie.Need-returns-4
 returns-4 c = rw (← c .before .before .node-at .ensures, c .enum-told3 .given .1)
 
-pub row-of-spec : {M : Type 1} → statement M
-row-of-spec =
+pub run-of-spec : {M : Type 1} → statement M
+run-of-spec =
     tie.close
     (tie.spec
     node-at-requires
