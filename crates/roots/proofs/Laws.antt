@@ -10,7 +10,7 @@ use lib.ListN.{set}
 use lib.Seq.{getD-set-other}
 use Rattle.scope.specs.Base.{xor}
 use Rattle.scope.specs.Types.{Ty, ty, flip, INV-BIT, tyOf}
-use Rattle.scope.specs.Nodes.{Node, Root, Child, at, isRoot, hop, climb, find, point, compress, findMut}
+use Rattle.scope.specs.Nodes.{Node, Root, Child, at, isRoot, climb, find, compress, findMut}
 use Rattle.types.specs.declared.«Type».{«Type»}
 use Rattle.types.proofs.Laws.{idx-below, ty-new}
 use Rattle.layout.specs.Words.{NODE-WORDS, nodeField, decode}
@@ -24,12 +24,16 @@ use Rattle.roots.specs.Found.{Found, Relinked, FoundMut}
 
 -- find
 
+hop-child : (v : Node) (k : Ty → Ty) (t u : Ty) → v ≡ Child u
+    → _≡_ {A = Ty} (elim v [ Root st z ↦ t | Child u ↦ k (flip (t .inv) u) ]) (k (flip (t .inv) u))
+hop-child v k t u e = rw e refl
+
 pub climb-up : (f : ℕ) (ns : List Node) (t u : Ty) → 0 < f → at ns (t .idx) ≡ Child u → climb f ns t ≡ climb (f - 1) ns (flip (t .inv) u)
 unfolding climb
 climb-up zero ns t u h e = absurd (omega arith)
-climb-up (suc f) ns t u h e = let k : suc f - 1 ≡ f = omega arith in rw (e, k)
+climb-up (suc f) ns t u h e = let k : suc f - 1 ≡ f = omega arith in rw k (hop-child (at ns (t .idx)) (climb f ns) t u e)
 
-hop-root : (v : Node) (k : Ty → Ty) (t : Ty) → isRoot v ≡ true → hop v k t ≡ t
+hop-root : (v : Node) (k : Ty → Ty) (t : Ty) → isRoot v ≡ true → _≡_ {A = Ty} (elim v [ Root st z ↦ t | Child u ↦ k (flip (t .inv) u) ]) t
 hop-root (Root st z) k t e = refl
 hop-root (Child u) k t e = cc
 
@@ -45,7 +49,8 @@ climb-out (suc f) ns t h = absurd (omega arith)
 
 -- climbing looks at parents alone, and these do not depend on the children's words
 
-hop-same : (v w : Node) (k k′ : Ty → Ty) (t : Ty) → parentOf v ≡ parentOf w → ((u : Ty) → k u ≡ k′ u) → hop v k t ≡ hop w k′ t
+hop-same : (v w : Node) (k k′ : Ty → Ty) (t : Ty) → parentOf v ≡ parentOf w → ((u : Ty) → k u ≡ k′ u)
+    → _≡_ {A = Ty} (elim v [ Root st z ↦ t | Child u ↦ k (flip (t .inv) u) ]) (elim w [ Root st z ↦ t | Child u ↦ k′ (flip (t .inv) u) ])
 hop-same (Root st z) (Root st′ z′) k k′ t e g = refl
 hop-same (Root st z) (Child u) k k′ t e g = let y : _≡_ {A = ℕ} 0 1 = cc in absurd (omega arith)
 hop-same (Child u) (Root st z) k k′ t e g = let y : _≡_ {A = ℕ} 0 1 = cc in absurd (omega arith)
@@ -96,13 +101,21 @@ module _ {ws : List ℕ} {n : ℕ} {b₀ : Bool} {i₀ : ℕ} {b : Bool} {i f : 
 
 -- find_mut
 
+point-child : (v : Node) (k : List Node → Ty → List Node) (ns : List Node) (r t u : Ty) → v ≡ Child u
+    → _≡_ {A = List Node} (elim v [ Root st z ↦ ns | Child u ↦ k (set ns (t .idx) (Child (flip (t .inv) r))) (flip (t .inv) u) ])
+    (k (set ns (t .idx) (Child (flip (t .inv) r))) (flip (t .inv) u))
+point-child v k ns r t u e = rw e refl
+
 pub compress-up : (f : ℕ) (ns : List Node) (r t u : Ty) → 0 < f → at ns (t .idx) ≡ Child u
     → compress f ns r t ≡ compress (f - 1) (set ns (t .idx) (Child (flip (t .inv) r))) r (flip (t .inv) u)
 unfolding compress
 compress-up zero ns r t u h e = absurd (omega arith)
-compress-up (suc f) ns r t u h e = let k : suc f - 1 ≡ f = omega arith in rw (e, k)
+compress-up (suc f) ns r t u h e =
+    let k : suc f - 1 ≡ f = omega arith in
+    rw k (point-child (at ns (t .idx)) (λ ns′ t′. compress f ns′ r t′) ns r t u e)
 
-point-root : (v : Node) (k : List Node → Ty → List Node) (ns : List Node) (r t : Ty) → isRoot v ≡ true → point v k ns r t ≡ ns
+point-root : (v : Node) (k : List Node → Ty → List Node) (ns : List Node) (r t : Ty) → isRoot v ≡ true
+    → _≡_ {A = List Node} (elim v [ Root st z ↦ ns | Child u ↦ k (set ns (t .idx) (Child (flip (t .inv) r))) (flip (t .inv) u) ]) ns
 point-root (Root st z) k ns r t e = refl
 point-root (Child u) k ns r t e = cc
 
