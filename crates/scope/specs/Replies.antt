@@ -17,6 +17,7 @@ use Rattle.scope.specs.Demand.{Maker, new, newVar, newStruct, newUnion, 
 use Rattle.scope.specs.Demand.{unifyImplType, unifyFnSig, finishInference, finishWhere, findRelated, selfInverse, isNil, getMod, approxEq, show, showImplType, Call, make, import}
 use Rattle.scope.specs.Demand.{forceKind, unify, read, later, reset, next}
 
+-- an answer of any call
 pub data Reply : Type 0 where
   number : ℕ → Reply
   type : Ty → Reply
@@ -42,6 +43,7 @@ reply f (done a s) = f a
 abbrev pub printed : Printed → Reply
 printed p = reply (λ n. text (p .part)) (p .answer)
 
+-- each call's answer
 abbrev pub replyMaker : Env → Store → Maker → Reply
 replyMaker e s (new a) = reply type (newCall e (reads s) a)
 replyMaker e s (newVar p) = reply type (newVarCall e (reads s) p)
