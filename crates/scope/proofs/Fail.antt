@@ -16,7 +16,8 @@ use Rattle.scope.specs.Nodes.{Kind}
 use Rattle.scope.specs.Answers.{Answer, Success, Failure, Indeterminate, both, ofBool}
 use Rattle.scope.specs.Unify.{Plan, plan}
 use Rattle.scope.specs.Trees.{TreeHead, Tree, node, Forest, fnil, fcons, treeHead, treeDual, invert, inverts, Val, invertIf, val, vals, build}
-use Rattle.scope.proofs.View.{VState, unknown, known, View, sel, rootOf, Kid, Below, one, more, Good, Out, out, run, occurs, selfSt, selfInverse, same, bind, close, join, kept, meetSt, meet, unify}
+use Rattle.scope.proofs.View.{VState, unknown, known, View, sel, rootOf, Kid, Below, one, more, Good, Out, out, run}
+use Rattle.scope.proofs.View.{occurs, selfSt, selfInverse, same, bind, close, join, kept, meetSt, meet, unify}
 use Rattle.scope.proofs.TreeLaws.{invert-dual, invert-mark, invertIf-twice, fcons-head, fcons-tail, node-kids}
 use Rattle.scope.proofs.Free.{free, free-nil}
 use Rattle.scope.proofs.Chain.{Chain, cnil, chain-step, fuel-out, fuel-step}

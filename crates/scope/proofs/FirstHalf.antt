@@ -16,7 +16,8 @@ use Rattle.scope.specs.Unify as Unify
 use Rattle.scope.specs.Sound.{Lent, reads}
 use Rattle.scope.specs.Calls.{unifyCall}
 use Rattle.scope.specs.Trees.{Val, NodeFits, Fits, PairFits}
-use Rattle.scope.specs.Demand.{Maker, Read, Call, make, import, forceKind, unify, read, later, reset, step, given, next, after, inFirstHalf, Each, StatesFit, statesMade, Asks, Asked, Answers, EveryAnswer, SelfInverseNode, FirstHalfHolds}
+use Rattle.scope.specs.Demand.{Maker, Read, Call, make, import, forceKind, unify, read, later, reset, step, given, next, after, inFirstHalf}
+use Rattle.scope.specs.Demand.{Each, StatesFit, statesMade, Asks, Asked, Answers, EveryAnswer, SelfInverseNode, FirstHalfHolds}
 use Rattle.scope.proofs.View.{unknown, seen, view}
 use Rattle.scope.proofs.ViewFits as Seen
 use Rattle.scope.proofs.ViewLaws.{not-known}

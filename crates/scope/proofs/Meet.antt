@@ -14,12 +14,14 @@ use Rattle.scope.specs.Types.{Ty, ty, flip}
 use Rattle.scope.specs.Nodes.{Kind}
 use Rattle.scope.specs.Answers.{Answer, Success, Failure, Indeterminate, ofBool}
 use Rattle.scope.specs.Unify.{Plan, plan, zipped}
-use Rattle.scope.proofs.View.{VState, unknown, known, View, sel, rootOf, Kid, Below, one, more, Good, Out, out, run, occurs, selfInverse, same, bind, close, join, kept, turn, orSt, meetSt, meet, unify}
+use Rattle.scope.proofs.View.{VState, unknown, known, View, sel, rootOf, Kid, Below, one, more, Good, Out, out, run}
+use Rattle.scope.proofs.View.{occurs, selfInverse, same, bind, close, join, kept, turn, orSt, meetSt, meet, unify}
 use Rattle.scope.proofs.TestLaws.{tf, or-no}
 use Rattle.scope.proofs.ViewLaws.{idx-eq, same?, not-known, rep-miss, st-w, st-l, st-other, irrefl, below-join, Kinds}
 use Rattle.scope.proofs.PlanLaws.{Makeable, plan-left, plan-right, plan-success}
 use Rattle.scope.proofs.Acyclic.{Joins}
-use Rattle.scope.proofs.Grow.{ri, Heads, heads-sym, Alike, anil, acons, alike-sym, alike-mem, grow-trans, Grow, mono-idx, Self, Joined, agree, selfly, joined-idx, joined-sym, root-grow, link-joined, below-top, Kept, kept-same, Holds, link-grow}
+use Rattle.scope.proofs.Grow.{ri, Heads, heads-sym, Alike, anil, acons, alike-sym, alike-mem, grow-trans, Grow, mono-idx, Self, Joined, agree}
+use Rattle.scope.proofs.Grow.{selfly, joined-idx, joined-sym, root-grow, link-joined, below-top, Kept, kept-same, Holds, link-grow}
 use Rattle.scope.proofs.Stay.{no-new-trans, AllPairs, Above, Tied, Stays, Spec, spec-same, not-success, unsure-success, RunSpec, Step, run-spec, below-stays, stays-trans}
 use Rattle.scope.proofs.Occurs.{occurs-no, self-sound}
 

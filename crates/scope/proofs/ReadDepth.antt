@@ -17,7 +17,8 @@ use Rattle.scope.specs.Kinds.{Head, REF, selfDual}
 use Rattle.scope.specs.Nodes.{Kind, State, Known, Unknown, InferenceFailed, Node, at, stateOf, stateAt, find, kidsOf}
 use Rattle.scope.specs.Unify.{firstName}
 use Rattle.scope.specs.Force.{Mod, modOfRef, modOfKind, modOfState, getModF, getMod, isNil}
-use Rattle.scope.specs.Show.{Piece, fixed, sub, joined, commas, params, tuple, entries, object, arrow, signature, closure, function, ifConst, defined-name, kindPieces, statePieces, pieces, render, showF, show}
+use Rattle.scope.specs.Show.{Piece, fixed, sub, joined, commas, params, tuple, entries, object, arrow, signature, closure}
+use Rattle.scope.specs.Show.{function, ifConst, defined-name, kindPieces, statePieces, pieces, render, showF, show}
 use Rattle.scope.specs.Sound.{falls}
 use Rattle.scope.proofs.TestLaws.{all-of, of-all}
 use Rattle.scope.proofs.PairLaws.{front-in, last-in}

@@ -205,7 +205,8 @@ module _ (n : ℕ) (Ok : View → Type 0) (u : List Node → Ty → Ty → Out) 
       w = U (view ns) (p .0) (p .1)
 
       go : Sim ns o w
-          → (Forest (o .nodes) → length (o .nodes) ≡ n → Ok (view (o .nodes)) → Sim (o .nodes) (run u (o .nodes) (both r (o .answer)) ps) (Seen.run U (view (o .nodes)) (both r (o .answer)) ps))
+          → (Forest (o .nodes) → length (o .nodes) ≡ n → Ok (view (o .nodes))
+          → Sim (o .nodes) (run u (o .nodes) (both r (o .answer)) ps) (Seen.run U (view (o .nodes)) (both r (o .answer)) ps))
           → Ok (w .view) → Sim ns (run u (o .nodes) (both r (o .answer)) ps) (Seen.run U (w .view) (both r (w .answer)) ps)
       go m k kept =
           sim-to (ap₂ (λ (g : View) (z : Answer). Seen.run U g (both r z) ps) (m .views) (m .answers))

@@ -217,5 +217,6 @@ output = text "=0\n=1\n=2\n=3\nSuccess\n(?1, ?1)\n"
 
 -- the whole table, and sheet's lines and example with it
 pub table-holds : (map done-by table ≡ table) × (map (λ r. parse (r .line)) reads ≡ map (λ r. r .as-line) reads) × (sheet input ≡ output)
-unfolding ran done-by table zeros reads env t ~t made var a-var plain known tuple a-tuple object an-object shown shown-trait a b input output lines words typeWord typeWords parse sheetLine sheetLines sheet
+unfolding ran done-by table zeros reads env t ~t made var a-var plain known tuple a-tuple object an-object shown shown-trait a b
+    input output lines words typeWord typeWords parse sheetLine sheetLines sheet
 table-holds = (refl, refl, refl)

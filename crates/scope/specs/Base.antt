@@ -14,6 +14,7 @@ abbrev pub xor : Bool → Bool → Bool
 xor false b = b
 xor true b = not b
 
+-- a test of every element, and of some
 abbrev pub all {ℓ} : {A : Type ℓ} → (A → Bool) → List A → Bool
 all p [] = true
 all p (x ∷ xs) = p x && all p xs
@@ -32,6 +33,7 @@ abbrev pub from : ℕ → ℕ → List ℕ
 from i zero = []
 from i (suc n) = i ∷ from (suc i) n
 
+-- whether there is a value, and the value or another
 abbrev pub isSome {ℓ} : {A : Type ℓ} → Option A → Bool
 isSome none = false
 isSome (some a) = true

@@ -27,6 +27,7 @@ pub use Rattle.scope.specs.Refusals.{openTest, lentTests, outside, tooMa
 abbrev pub written : List Ty → List ℕ → List ℕ
 written ts buffer = map wordOf ts ++ drop (length ts) buffer
 
+-- opening: "capacity above the limit or buffers too short"
 unfoldable pub openCall : ℕ → ℕ → Bool → Outcome (Unit {0})
 openCall n c enough = judged (openTest n c enough ∷ []) (done tt (opened n c))
 
@@ -34,6 +35,7 @@ openCall n c enough = judged (openTest n c enough ∷ []) (done tt (opened n c))
 abbrev pub readCall : {A : Type 0} → Env → Lent → List Ty → A → Outcome A
 readCall e l ts a = judged (lentTests e l ++ (outside (storeOf l) ts ∷ [])) (done a (storeOf l))
 
+-- `find`, `find_mut`
 unfoldable pub findCall : Env → Lent → Ty → Outcome Ty
 findCall e l t = readCall e l (t ∷ []) (find (storeOf l .nodes) t)
 
@@ -46,6 +48,7 @@ findMutCall e l t =
 unfoldable pub nodeCall : Env → Lent → Ty → Outcome Node
 nodeCall e l t = readCall e l (t ∷ []) (at (storeOf l .nodes) (t .idx))
 
+-- a node's j-th child, and the j-th of its names
 abbrev pub childAt : Node → ℕ → Option Ty
 childAt (Root (Known i k) z) j = getElem? (k .kids) j
 childAt (Root (Unknown p) z) j = none
@@ -79,12 +82,14 @@ pub record NewKind : Type 0 where
   pub names : List (Option Name)
   pub kids : List Ty
 
+-- the kind that is made of it, and a maker's answer
 abbrev pub kindMade : Env → NewKind → Kind
 kindMade e a = record { head = headOf e (a .code) (a .number) (a .flex) (a .names); kids = a .kids }
 
 abbrev pub madeType : Made → Outcome Ty
 madeType m = done (m .type) (m .store)
 
+-- `new`, and over a definition `new_struct` and `new_union`
 unfoldable pub newCall : Env → Lent → NewKind → Outcome Ty
 newCall e l a =
     let s : Store = storeOf l in
@@ -104,6 +109,7 @@ newStructCall e l n ts = newCall e l (over STRUCT n ts)
 unfoldable pub newUnionCall : Env → Lent → ℕ → List Ty → Outcome Ty
 newUnionCall e l n ts = newCall e l (over UNION n ts)
 
+-- `new_var`
 unfoldable pub newVarCall : Env → Lent → ℕ → Outcome Ty
 newVarCall e l p = let s : Store = storeOf l in judged (lentTests e l ++ roomTests s 1 0) (madeType (newVar s p))
 
@@ -114,6 +120,7 @@ newVarsCall e l p n have =
     let o : Outcome (List Ty) = (let m : MadeAll = newVars s p n in done (m .types) (m .store)) in
     judged (lentTests e l ++ (roomTests s n 0 ++ (shortFor have n ∷ []))) o
 
+-- `error` and `nil`, which need a node where none is remembered
 abbrev pub nodesFor : Option Ty → ℕ
 nodesFor none = 1
 nodesFor (some t) = 0
@@ -128,6 +135,7 @@ nilCall e l = let s : Store = storeOf l in judged (lentTests e l ++ roomTests s 
 abbrev pub unified : Store → Out → Outcome Answer
 unified s o = done (o .answer) (withNodes s (o .nodes))
 
+-- `unify`, `unify_types`
 unfoldable pub unifyCall : Env → Lent → Ty → Ty → Outcome Answer
 unifyCall e l a b =
     let s : Store = storeOf l in
@@ -145,10 +153,12 @@ pub record Entries : Type 0 where
   pub names : List (Option Name)
   pub types : List Ty
 
+-- "object names not strictly ascending", or a name too many
 abbrev pub badEntries : Env → Entries → Bool
 badEntries e a =
     tooMany (a .types) || not (eqb (length (a .names)) (length (a .types)) && objectNamesOk (e .texts) (a .names))
 
+-- `unify_objects`
 unfoldable pub unifyObjectsCall : Env → Lent → Entries → Entries → Bool → Outcome Answer
 unifyObjectsCall e l a b i =
     let s : Store = storeOf l in
@@ -156,6 +166,7 @@ unifyObjectsCall e l a b i =
     (lentTests e l ++ (outside s (a .types ++ b .types) ∷ (badEntries e a || badEntries e b, UNMAKEABLE) ∷ []))
     (unified s (unifyObjects (e .texts) (s .nodes) (a .names) (a .types) (b .names) (b .types) i))
 
+-- an impl type's types, and whether it is over a trait
 abbrev pub implTypes : ImplType → List Ty
 implTypes (Trait n ts) = ts
 implTypes Error = []
@@ -172,6 +183,7 @@ implTests e s as′ =
     ∷ (not (all (implDefined e) as′), UNDEFINED)
     ∷ []
 
+-- `unify_impl_type`, `approx_eq`
 unfoldable pub unifyImplTypeCall : Env → Lent → ImplType → ImplType → Outcome Answer
 unifyImplTypeCall e l a b =
     let s : Store = storeOf l in
@@ -182,6 +194,7 @@ approxEqCall e l a b =
     let s : Store = storeOf l in
     judged (lentTests e l ++ implTests e s (a ∷ b ∷ [])) (done (approxEq a b) s)
 
+-- `unify_fn_sig`: parameters and return of each
 unfoldable pub unifyFnSigCall : Env → Lent → List Ty → Ty → List Ty → Ty → Outcome Answer
 unifyFnSigCall e l xs r ys q =
     let s : Store = storeOf l in
@@ -189,12 +202,14 @@ unifyFnSigCall e l xs r ys q =
     (lentTests e l ++ (outside s (xs ++ (r ∷ ys ++ (q ∷ []))) ∷ (tooMany xs || tooMany ys, UNMAKEABLE) ∷ []))
     (unified s (unifyFnSig (e .texts) (s .nodes) xs r ys q))
 
+-- `force_kind`
 unfoldable pub forceKindCall : Env → Lent → Ty → Outcome Forced
 forceKindCall e l t =
     let s : Store = storeOf l in
     let o : Outcome Forced = (let f : Forced × Store = forceKind s t in done (f .0) (f .1)) in
     judged (lentTests e l ++ (outside s (t ∷ []) ∷ [])) o
 
+-- `finish_inference`, `finish_inference_where`
 unfoldable pub finishInferenceCall : Env → Lent → Outcome (Unit {0})
 finishInferenceCall e l =
     let s : Store = storeOf l in
@@ -213,6 +228,7 @@ findRelatedCall e l t ms =
     (lentTests e l ++ (outside s (t ∷ []) ∷ shortFor (length ms) (length (s .nodes)) ∷ []))
     (done (findRelated (s .nodes) t ms) s)
 
+-- `_self_inverse`, `is_nil`, `get_mod`
 unfoldable pub selfInverseCall : Env → Lent → Ty → Bool → Outcome Bool
 selfInverseCall e l t param = readCall e l (t ∷ []) (selfInverseOf (storeOf l .nodes) t param)
 
@@ -222,6 +238,7 @@ isNilCall e l t = readCall e l (t ∷ []) (isNil (storeOf l .nodes) t)
 unfoldable pub getModCall : Env → Lent → Ty → Outcome Mod
 getModCall e l t = readCall e l (t ∷ []) (getMod e (storeOf l .nodes) t)
 
+-- `reset`
 unfoldable pub resetCall : Env → Lent → Outcome (Unit {0})
 resetCall e l = judged (lentTests e l) (done tt (reset (storeOf l)))
 
@@ -230,6 +247,7 @@ abbrev pub importList : Option (List Ty) → List Ty
 importList none = []
 importList (some ps) = ps
 
+-- `import`; the answer's list has room for `have` types
 unfoldable pub importCall : Env → Lent → Lent → List Ty → Option (List Ty) → ℕ → Outcome (List Ty)
 importCall e l src ts ps have =
     let s : Store = storeOf l in
@@ -285,10 +303,12 @@ printedText s bs buffer =
     (record { answer = done (length bs) s; buffer = bs ++ drop (length bs) buffer; part = bs })
     (record { answer = refused SHORT; buffer = take (length buffer) bs; part = take (length buffer) bs })
 
+-- a printer that is turned back before it prints
 abbrev pub orUnprinted : Option ℕ → List ℕ → Printed → Printed
 orUnprinted none buffer p = p
 orUnprinted (some n) buffer p = unprinted n buffer
 
+-- `show`, `show_impl_type`
 unfoldable pub showCall : Env → Lent → Ty → List ℕ → Printed
 showCall e l t buffer =
     let s : Store = storeOf l in

@@ -68,6 +68,7 @@ sortAt e n = recordAt e n .sort
 abbrev pub dualAt : Env → ℕ → Bool
 dualAt e n = eqb (recordAt e n .dual) 1
 
+-- the sigil of a `Flex`
 abbrev pub sigilAt : Env → ℕ → Name
 sigilAt e n = getD (e .sigils) n (name 0 0 0)
 
@@ -81,6 +82,7 @@ flagOk r = pick (eqb (r .sort) STRUCT-SORT || eqb (r .sort) UNION-SORT) (leb (r 
 abbrev pub traitOk : Env → Record → Bool
 traitOk e r = pick (eqb (r .sort) TRAIT-FN-SORT) (isTrait e (r .trait)) (eqb (r .trait) 0)
 
+-- a record: sort, name, path, flag, trait
 unfoldable pub recordOk : Env → Record → Bool
 recordOk e r = leb (r .sort) MAX-SORT && (nameOk (e .texts) (r .name) && (nameOk (e .texts) (r .path) && (flagOk r && traitOk e r)))
 

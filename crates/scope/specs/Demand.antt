@@ -20,7 +20,10 @@ use Rattle.scope.specs.Unify.{ImplType}
 use Rattle.scope.specs.Make.{bare}
 use Rattle.scope.specs.Import.{copies}
 use Rattle.scope.specs.Sound.{Lent, reads, rooted}
-use Rattle.scope.specs.Calls.{Outcome, refused, done, storeOf, kindMade, NewKind, over, Entries, findCall, findMutCall, nodeCall, childCall, nameCall, figuresCall, newCall, newStructCall, newUnionCall, newVarCall, newVarsCall, errorCall, nilCall, unifyCall, unifyTypesCall, unifyObjectsCall, unifyImplTypeCall, approxEqCall, unifyFnSigCall, forceKindCall, finishInferenceCall, finishWhereCall, findRelatedCall, selfInverseCall, isNilCall, getModCall, resetCall, importCall, exportCall, showCall, showImplTypeCall}
+use Rattle.scope.specs.Calls.{Outcome, refused, done, storeOf, kindMade, NewKind, over, Entries, findCall, findMutCall, nodeCall, childCall, nameCall, figuresCall, newCall, newStructCall}
+use Rattle.scope.specs.Calls.{newUnionCall, newVarCall, newVarsCall, errorCall, nilCall, unifyCall, unifyTypesCall, unifyObjectsCall, unifyImplTypeCall, approxEqCall, unifyFnSigCall}
+use Rattle.scope.specs.Calls.{forceKindCall, finishInferenceCall, finishWhereCall, findRelatedCall, selfInverseCall, isNilCall, getModCall, resetCall, importCall, exportCall, showCall}
+use Rattle.scope.specs.Calls.{showImplTypeCall}
 use Rattle.scope.specs.Trees.{invert, Val, Proper, StateFits, NodeFits, Fits, PairFits}
 
 -- the makers; `newVars` has the room of its answer's list last

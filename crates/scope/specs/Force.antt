@@ -127,10 +127,12 @@ modOfState e g (Known i k) = elim (eqb (k .head .code) REF) [ true ↦ modOfRef 
 modOfState e g (Unknown p) = none-mod
 modOfState e g InferenceFailed = none-mod
 
+-- at most f Refs deep
 unfoldable pub getModF : Env → ℕ → List Node → Ty → Mod
 getModF e zero ns t = none-mod
 getModF e (suc f) ns t = modOfState e (getModF e f ns) (stateAt ns t)
 
+-- `get_mod`
 unfoldable pub getMod : Env → List Node → Ty → Mod
 getMod e ns t = getModF e (length ns) ns t
 

@@ -18,6 +18,7 @@ pub record Work : Type 0 where
   pub mapping : List (ℕ × ℕ)
   pub missing : Bool
 
+-- the work so far with the type that a source's type became, and with the types of a list
 pub record Moved : Type 0 where
   pub work : Work
   pub type : Ty
@@ -64,6 +65,7 @@ begun w r st = record {
   missing = w .missing;
 }
 
+-- the work with another destination
 abbrev pub withDest : Work → Store → Work
 withDest w d = record { dest = d; mapping = w .mapping; missing = w .missing }
 
@@ -97,6 +99,7 @@ fresh g w r st keep = copied g w r st
 fresh g w r st missing-entry = record { work = lacking w; type = r }
 fresh g w r st (entry t) = record { work = w; type = flip (r .inv) t }
 
+-- a root seen before is its copy's node
 abbrev pub place : (Work → Ty → Moved) → Work → Ty → State → Replaced → Option ℕ → Moved
 place g w r st u (some n) = record { work = w; type = ty (r .inv) n }
 place g w r st u none = fresh g w r st u
@@ -109,6 +112,7 @@ transfer (suc f) ns ps w t =
     let st : State = stateOf (at ns (r .idx)) in
     place (transfer f ns ps) w r st (replaced ps st) (copyOf (w .mapping) (r .idx))
 
+-- no root is copied yet
 abbrev pub start : Store → Work
 start s = record { dest = s; mapping = []; missing = false }
 
@@ -121,6 +125,7 @@ abbrev pub carried : (Work → Ty → Moved) → Work → Option Ty → MovedAll
 carried g w none = record { work = w; types = [] }
 carried g w (some t) = many g w (t ∷ [])
 
+-- the type that a remembered one became
 abbrev pub firstOf : List Ty → Option Ty
 firstOf [] = none
 firstOf (t ∷ ts) = some t

@@ -62,6 +62,7 @@ abbrev pub again : Store → Option Ty → Made → Made
 again s none m = m
 again s (some t) m = record { type = t; store = s }
 
+-- `error`, `nil`
 unfoldable pub makeError : Store → Made
 makeError s = again s (s .error) (rememberError (new s (bare ERROR)))
 

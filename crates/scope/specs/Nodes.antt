@@ -110,6 +110,7 @@ findMut ns t = compress (length ns) ns (find ns t) t
 abbrev pub stateAt : List Node → Ty → State
 stateAt ns t = stateOf (at ns (find ns t .idx))
 
+-- "A node has no kind if its root isn't Known"
 abbrev pub isKnown : State → Bool
 isKnown (Known i k) = true
 isKnown (Unknown p) = false

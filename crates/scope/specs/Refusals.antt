@@ -66,6 +66,7 @@ abbrev pub firstBroken : List (Bool × ℕ) → Option ℕ
 firstBroken [] = none
 firstBroken (t ∷ ts) = pick (t .0) (some (t .1)) (firstBroken ts)
 
+-- an outcome behind its tests
 abbrev pub orRefused : {A : Type 0} → Option ℕ → Outcome A → Outcome A
 orRefused none o = o
 orRefused (some n) o = refused n
@@ -86,6 +87,7 @@ openTest n c enough = (ltb MAX-NODES n || (ltb MAX-CHILDREN c || not enough), UN
 abbrev pub lentTests : Env → Lent → List (Bool × ℕ)
 lentTests e l = (not (chartOk e), BAD-CHART) ∷ (not (sound e l), UNSOUND) ∷ []
 
+-- a listed type's node isn't there
 abbrev pub outside : Store → List Ty → Bool × ℕ
 outside s ts = (not (all (inStore (s .nodes)) ts), OUTSIDE)
 
@@ -97,5 +99,6 @@ tooMany ts = ltb MAX-LIST (length ts)
 abbrev pub roomTests : Store → ℕ → ℕ → List (Bool × ℕ)
 roomTests s n c = (ltb (s .nodeRoom) (length (s .nodes) + n), NODES-FULL) ∷ (ltb (s .childRoom) (s .children + c), CHILDREN-FULL) ∷ []
 
+-- room for `have`, where `need` are to be written
 abbrev pub shortFor : ℕ → ℕ → Bool × ℕ
 shortFor have need = (ltb have need, SHORT)

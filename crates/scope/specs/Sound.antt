@@ -48,6 +48,7 @@ nameIn x i n = pick (eqb n 0) none (some (name x i n))
 abbrev pub nameClean : ℕ → ℕ → ℕ → Bool
 nameClean x i n = not (eqb n 0) || zeros (x ∷ i ∷ [])
 
+-- a child's name; its numbers where it has one, and where it has none
 abbrev pub slotName : Slot → Option Name
 slotName s = nameIn (s .text) (s .start) (s .len)
 
@@ -123,6 +124,7 @@ falls (suc f) ns r = all (λ c. falls f ns (find ns c .idx)) (kidsOf (stateOf (a
 unfoldable pub treeSize : List Node → ℕ → ℕ
 treeSize ns r = count (λ i. eqb (find ns (ty false i) .idx) r) (from 0 (length ns))
 
+-- "a root size that isn't its tree's node count" is unsound
 abbrev pub sizeIs : List Node → ℕ → Node → Bool
 sizeIs ns i (Root st z) = eqb z (treeSize ns i)
 sizeIs ns i (Child t) = true
@@ -139,6 +141,7 @@ nodeSound e ns (Root (Unknown p) z) = true
 nodeSound e ns (Root InferenceFailed z) = true
 nodeSound e ns (Child t) = inStore ns t
 
+-- a remembered type is in the store
 abbrev pub remembered : List Node → Option Ty → Bool
 remembered ns none = true
 remembered ns (some t) = inStore ns t
@@ -156,6 +159,7 @@ shapeSound ns =
     all (λ i. rooted (length ns) ns i) is
     && (all (λ i. sizeIs ns i (at ns i)) is && all (λ i. falls (length ns) ns i) is)
 
+-- the whole store
 unfoldable pub soundStore : Env → Store → Bool
 soundStore e s =
     roomSound s

@@ -191,6 +191,7 @@ unify x ns p q = unifyF x (length ns) (length ns) ns p q
 abbrev pub carry : Texts → List Node → Plan → Out
 carry x ns l = run (unify x) ns (l .base) (l .pairs)
 
+-- `unify_types`, `unify_objects`
 unfoldable pub unifyTypes : Texts → List Node → List Ty → List Ty → Bool → Out
 unifyTypes x ns xs ys i = carry x ns (runPlan i xs ys)
 
@@ -202,11 +203,13 @@ pub data ImplType : Type 0 where
   Trait : ℕ → List Ty → ImplType
   Error : ImplType
 
+-- two impl types: as many types of one trait, or Failure; an Error is Indeterminate
 abbrev pub implPlan : ImplType → ImplType → Plan
 implPlan Error b = answers Indeterminate
 implPlan (Trait i xs) Error = answers Indeterminate
 implPlan (Trait i xs) (Trait j ys) = pick (eqb i j) (runPlan false xs ys) (answers Failure)
 
+-- `unify_impl_type`, `unify_fn_sig`
 unfoldable pub unifyImplType : Texts → List Node → ImplType → ImplType → Out
 unifyImplType x ns a b = carry x ns (implPlan a b)
 
