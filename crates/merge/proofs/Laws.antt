@@ -28,25 +28,14 @@ use Rattle.layout.specs.declared.TypeState.{TypeState}
 use Rattle.layout.specs.declared.TypeState.the-variants.{Known, Unknown, InferenceFailed}
 use Rattle.layout.specs.declared.TypeNode.{TypeNode}
 use Rattle.layout.specs.declared.TypeNode.the-variants.{Root, Child}
-use Rattle.layout.proofs.Laws.{length-put, tail-put, decode-put, clean-put, read-node, read-fits}
-use Rattle.merge.specs.Meaning.{nodeState, nodeSize, stateAt, sizeAt, turned, firstKnown, keptOf, Joined, Merged, Bound, Settled}
+use Rattle.layout.proofs.Laws.{length-put, tail-put, decode-put, clean-put}
+use Rattle.layout.proofs.HeldLaws.{state-read, size-read, state-fits}
+use Rattle.merge.specs.Meaning.{stateAt, sizeAt, turned, firstKnown, keptOf, Joined, Merged, Bound, Settled}
 
 -- states
 
 pub turned-known : (r : Inverted) (i : Bool) (j : Inverted) (k : Kind) → r .0 ≡ xor i (j .0) → Known r k ≡ turned i (Known j k)
 turned-known r i j k e = ap (λ (x : Inverted). Known x k) (inverted-eq r (record { 0 = xor i (j .0) }) e)
-
-state-node : (ks : List ℕ) (v : TypeNode) → stateMeans ks (nodeState v) ≡ nodes.stateOf (nodeMeans ks v)
-state-node ks (Root st z) = refl
-state-node ks (Child t) = refl
-
-size-node : (ks : List ℕ) (v : TypeNode) → nodeSize v ≡ nodes.sizeOf (nodeMeans ks v)
-size-node ks (Root st z) = refl
-size-node ks (Child t) = refl
-
-fits-node : (ks : List ℕ) (c : ℕ) (v : TypeNode) → nodeFits ks c v ≡ true → stateFits ks c (nodeState v) ≡ true
-fits-node ks c (Root st z) h = h
-fits-node ks c (Child t) h = refl
 
 pub turned-twice : (i : Bool) (st : TypeState) → turned i (turned i st) ≡ st
 turned-twice i (Known j k) = sym (turned-known j i (record { 0 = xor i (j .0) }) k (sym (xor-twice i (j .0))))
@@ -62,18 +51,6 @@ pub first-fits : (ks : List ℕ) (c : ℕ) (a b : TypeState) → stateFits ks c 
 first-fits ks c (Known i k) b f g = f
 first-fits ks c (Unknown s) b f g = g
 first-fits ks c InferenceFailed b f g = g
-
--- what the code reads at i, where the words are clean
-
-module _ (ws ks : List ℕ) (c n : ℕ) (cl : Clean ws ks c n) (i : ℕ) where
-  pub state-read : stateMeans ks (stateAt ws n i) ≡ nodes.stateOf (nodes.at (decode ws ks n) i)
-  state-read = state-node ks (readAt ws n i) ∙ ap nodes.stateOf (read-node ws ks c n cl i)
-
-  pub size-read : sizeAt ws n i ≡ nodes.sizeOf (nodes.at (decode ws ks n) i)
-  size-read = size-node ks (readAt ws n i) ∙ ap nodes.sizeOf (read-node ws ks c n cl i)
-
-  pub state-fits : stateFits ks c (stateAt ws n i) ≡ true
-  state-fits = fits-node ks c (readAt ws n i) (read-fits ws ks c n cl i)
 
 -- `join`: one put after the other
 

@@ -21,7 +21,7 @@ use Rattle.scope.proofs.Laws.{compress-root, compress-child}
 use Rattle.layout.specs.Words.{decode}
 use Rattle.layout.specs.Meaning.{Clean}
 use Rattle.merge.specs.Meaning.{Adds}
-use Rattle.merge.proofs.Laws.{size-read}
+use Rattle.layout.proofs.HeldLaws.{size-read}
 
 -- one size is at most all of them
 pub size-below : (ns : List Node) (i : ℕ) → sizeOf (at ns i) ≤ sizes ns

@@ -6,27 +6,14 @@ use mathlib.Core.List.{List}
 use Prim.Native.Nat.{ℕ, _+_, _<_, _≤_}
 use lib.ListN.{length, drop}
 use Rattle.scope.specs.Base.{xor}
-use Rattle.scope.specs.Limits.{NONE}
 use Rattle.scope.specs.Types.{Ty}
 use Rattle.scope.specs.Unify as scope
 use Rattle.types.specs.Answers.{answerOf}
 use Rattle.types.specs.declared.UnifyResult.{UnifyResult}
 use Rattle.layout.specs.Words.{nodeWords, decode}
-use Rattle.layout.specs.Meaning.{readAt, stateMeans, stateFits, Clean}
+use Rattle.layout.specs.Meaning.{nodeState, nodeSize, readAt, stateMeans, stateFits, Clean}
 use Rattle.layout.specs.declared.TypeState.{TypeState}
 use Rattle.layout.specs.declared.TypeState.the-variants.{Known, Unknown, InferenceFailed}
-use Rattle.layout.specs.declared.TypeNode.{TypeNode}
-use Rattle.layout.specs.declared.TypeNode.the-variants.{Root, Child}
-
--- a child has no state of its own, and no size
-
-abbrev pub nodeState : TypeNode → TypeState
-nodeState (Root st z) = st
-nodeState (Child t) = Unknown NONE
-
-abbrev pub nodeSize : TypeNode → ℕ
-nodeSize (Root st z) = z
-nodeSize (Child t) = 0
 
 -- what the code reads at i
 abbrev pub stateAt : List ℕ → ℕ → ℕ → TypeState
