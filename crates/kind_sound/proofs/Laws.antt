@@ -1,7 +1,7 @@
 -- What the tests of kinds and nodes read: of the environment the chart's records and the texts, of a kind's children in `defined` and `flagIs` nothing, of
 -- the nodes only how many there are. And a store with a kind of more than 255 children is not sound, so widths may be tested before all else.
 -- Assumes nothing.
-use mathlib.Core.Path.{_≡_, refl, ap, sym, _∙_, subst}
+use mathlib.Core.Path.{_≡_, refl, ap, sym, _∙_, subst, fun-ext}
 use mathlib.Core.Bool.{Bool, true, false, _&&_, false≢true}
 use mathlib.Core.List.{List, [], _∷_}
 use Prim.Native.Nat.{ℕ, suc, _+_, _-_, _≤_, _<_}
@@ -120,16 +120,16 @@ kind-tests ws rule text ks k ns =
 
 -- what is read of the nodes
 
-pub inside-length : (ns ns′ : List nodes.Node) → length ns ≡ length ns′ → (ts : List Ty) → all (inStore ns) ts ≡ all (inStore ns′) ts
+inside-length : (ns ns′ : List nodes.Node) → length ns ≡ length ns′ → (ts : List Ty) → all (inStore ns) ts ≡ all (inStore ns′) ts
 inside-length ns ns′ e ts = ap (λ (n : ℕ). all (λ (t : Ty). ltb (t .idx) n) ts) e
 
 module _ (e e′ : Env) (ns ns′ : List nodes.Node) (same : e .records ≡ e′ .records) (texts′ : e .texts ≡ e′ .texts) (len : length ns ≡ length ns′) where
   -- a kind's test reads the records, the texts and the number of nodes
-  pub kind-sound-reads : (k : nodes.Kind) → kindSound e ns k ≡ kindSound e′ ns′ k
+  kind-sound-reads : (k : nodes.Kind) → kindSound e ns k ≡ kindSound e′ ns′ k
   unfolding kindSound
   kind-sound-reads k = cc (defined-by e e′ same (k .head) (k .head) refl refl, flag-by e e′ same (k .head) (k .head) refl refl refl, inside-length ns ns′ len (k .kids))
 
-  pub node-sound-reads : (v : nodes.Node) → nodeSound e ns v ≡ nodeSound e′ ns′ v
+  node-sound-reads : (v : nodes.Node) → nodeSound e ns v ≡ nodeSound e′ ns′ v
   node-sound-reads (nodes.Root (nodes.Known i k) z) = kind-sound-reads k
   node-sound-reads (nodes.Root (nodes.Unknown s) z) = refl
   node-sound-reads (nodes.Root nodes.InferenceFailed z) = refl
@@ -142,16 +142,12 @@ kind-inside e ns k h =
     let f : Bool = flagIs e (k .head) in
     and-right f _ (and-right (defined e (k .head)) _ (and-right (makeable (e .texts) (k .head) (length (k .kids))) _ h))
 
-all-same : {A : Type 0} (p q : A → Bool) → ((a : A) → p a ≡ q a) → (l : List A) → all p l ≡ all q l
-all-same p q h [] = refl
-all-same p q h (a ∷ l) = rw (h a, all-same p q h l)
-
 -- the nodes' test does not look at what stands beside the chart
 pub nodes-beside : (ws : List ℕ) (b : Beside) (rule text : List ℕ) (ns : List nodes.Node)
     → all (nodeSound (envOf ws b rule text) ns) ns ≡ all (nodeSound (chartIn ws rule text) ns) ns
 nodes-beside ws b rule text ns =
-    all-same (nodeSound (envOf ws b rule text) ns) (nodeSound (chartIn ws rule text) ns)
-    (node-sound-reads (envOf ws b rule text) (chartIn ws rule text) ns ns refl refl refl) ns
+    let same = node-sound-reads (envOf ws b rule text) (chartIn ws rule text) ns ns refl refl refl in
+    ap (λ (p : nodes.Node → Bool). all p ns) (fun-ext same)
 
 -- the nodes that words say, by their places
 
@@ -167,11 +163,6 @@ module _ (ws ks : List ℕ) (n i : ℕ) where
 -- a node's words where the code has read its cell
 pub count-cell : (ws : List ℕ) (i : ℕ) {x : Cell} → x ≡ cellIn (cellWords ws i) → x .count ≡ countAt ws i
 count-cell ws i e = ap (λ (y : Cell). y .count) e ∙ field-word ws i 11 (omega arith)
-
--- each node, by its words
-pub narrow-count : (ws : List ℕ) (n : ℕ) → narrowNodes ws n ≡ true → (i : ℕ) → i < n → countAt ws i ≤ MAX-WIDTH
-unfolding narrowNodes
-narrow-count ws n h i l = leb-true (countAt ws i) MAX-WIDTH (all-from (λ j. leb (countAt ws j) MAX-WIDTH) 0 n h i (omega arith) (omega arith))
 
 made-narrow : (e : Env) (ns : List nodes.Node) (k : nodes.Kind) → kindSound e ns k ≡ true → length (k .kids) ≤ MAX-WIDTH
 unfolding kindSound makeable

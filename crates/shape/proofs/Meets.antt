@@ -11,16 +11,14 @@ use lib.Dec.{eqb}
 use lib.ListN.{length, getD, replicate}
 use Rattle.scope.specs.Base.{all, count, from}
 use Rattle.scope.specs.Limits.{MAX-NODES}
-use Rattle.scope.specs.Chart.{Env}
-use Rattle.scope.specs.Kinds.{makeable, defined, flagIs}
 use Rattle.scope.specs.Types.{Ty, ty, flip, tyOf}
 use Rattle.scope.specs.Nodes.{Node, at, climb, find, stateOf, kidsOf}
 use Rattle.scope.specs.Nodes as nodes
 use Rattle.scope.proofs.Laws as scope
-use Rattle.scope.specs.Sound.{rooted, falls, treeSize, sizeIs, inStore, kindSound, nodeSound, shapeSound}
+use Rattle.scope.specs.Sound.{rooted, falls, treeSize, sizeIs, inStore, shapeSound}
 use Rattle.types.specs.declared.TypeIdx.{TypeIdx}
 use Rattle.layout.specs.Words.{slotAt, decode}
-use Rattle.layout.proofs.Lists.{and-left, and-right, all-from}
+use Rattle.layout.proofs.Lists.{all-from}
 use Rattle.layout.proofs.Laws.{length-decode, read-node}
 use Rattle.layout.specs.Meaning.{readAt, nodeMeans, kindMeans}
 use Rattle.layout.specs.declared.TypeState.the-variants.{Known, Unknown, InferenceFailed}
@@ -121,29 +119,6 @@ inside-kids ns (nodes.Child t) e = refl
 inside-up : (ns : List Node) (x : Node) → 0 < length ns → nodeInside ns x ≡ true → toBy (upNode x) < length ns
 inside-up ns (nodes.Root st z) l e = l
 inside-up ns (nodes.Child t) l e = ltb-true (t .idx) (length ns) e
-
--- nodes that were tested before lie inside
-all-get : {A : Type 0} (q : A → Bool) (xs : List A) (d : A) (i : ℕ) → all q xs ≡ true → i < length xs → q (getD xs i d) ≡ true
-all-get q [] d i e l = absurd (omega arith)
-all-get q (x ∷ xs) d zero e l = and-left (q x) (all q xs) e
-all-get q (x ∷ xs) d (suc i) e l = all-get q xs d i (and-right (q x) (all q xs) e) (omega arith)
-
-fourth : (a b c d : Bool) → (a && (b && (c && d))) ≡ true → d ≡ true
-fourth a b c d t = and-right c d (and-right b (c && d) (and-right a (b && (c && d)) t))
-
-kind-inside : (e : Env) (ns : List Node) (k : nodes.Kind) → kindSound e ns k ≡ true → all (inStore ns) (k .kids) ≡ true
-unfolding kindSound
-kind-inside e ns k t =
-    fourth (makeable (e .texts) (k .head) (length (k .kids))) (defined e (k .head)) (flagIs e (k .head)) (all (inStore ns) (k .kids)) t
-
-sound-node : (e : Env) (ns : List Node) (x : Node) → nodeSound e ns x ≡ true → nodeInside ns x ≡ true
-sound-node e ns (nodes.Root (nodes.Known i k) z) t = kind-inside e ns k t
-sound-node e ns (nodes.Root (nodes.Unknown p) z) t = refl
-sound-node e ns (nodes.Root nodes.InferenceFailed z) t = refl
-sound-node e ns (nodes.Child c) t = t
-
-pub sound-inside : (e : Env) (ns : List Node) → all (nodeSound e ns) ns ≡ true → (i : ℕ) → i < length ns → nodeInside ns (at ns i) ≡ true
-sound-inside e ns t i l = sound-node e ns (at ns i) (all-get (nodeSound e ns) ns _ i t l)
 
 module _ (ws ks : List ℕ) (n : ℕ) (ns : List Node) (size : length ns ≡ n) (node : (v : ℕ) → at ns v ≡ nodeMeans ks (readAt ws n v))
     (inside : (v : ℕ) → v < n → nodeInside ns (at ns v) ≡ true) where

@@ -13,9 +13,8 @@ use borrow.Author.Tests.{eq-eqb, le-leb, lt-leb, leb-true}
 use Rattle.scope.specs.Base.{all}
 use Rattle.scope.specs.Limits.{MAX-NODES, MAX-CHILDREN}
 use Rattle.scope.specs.Chart.{Env, recordOk, chartOk}
-use Rattle.scope.specs.Kinds.{makeable, defined, flagIs}
 use Rattle.scope.specs.Nodes as nodes
-use Rattle.scope.specs.Sound.{Lent, stray, reads, inStore, kindSound, nodeSound, remembered, roomSound, shapeSound, soundStore, sound}
+use Rattle.scope.specs.Sound.{Lent, stray, reads, nodeSound, remembered, roomSound, shapeSound, soundStore, sound}
 use Rattle.scope.specs.Calls.{firstBroken, lentTests}
 use Rattle.names.proofs.Tests.{both}
 use Rattle.chart.specs.declared.Beside.{Beside}
@@ -29,7 +28,7 @@ use Rattle.layout.proofs.Laws.{past, length-decode}
 use Rattle.layout.proofs.StoreLaws.{remembered-means, clean-lies, clean-nodes, lent-clean}
 use Rattle.kind_sound.specs.Nodes.{CleanNodes, narrowNodes}
 use Rattle.kind_sound.proofs.NameLaws.{and-true, and-false}
-use Rattle.kind_sound.proofs.Laws.{nodes-beside, wide-unsound}
+use Rattle.kind_sound.proofs.Laws.{kind-inside, nodes-beside, wide-unsound}
 use Rattle.shape.specs.Asks.{nodeInside, Shaped}
 use Rattle.sound.specs.Tests.{within, readable, noChart, envIn}
 
@@ -163,13 +162,6 @@ module _ (h ws ks : List ℕ) where
       omega (arith, l .nodes)
 
 -- a sound node's parent, or its kind's children, are nodes of the store
-
-kind-inside : (e : Env) (ns : List nodes.Node) (k : nodes.Kind) → kindSound e ns k ≡ true → all (inStore ns) (k .kids) ≡ true
-unfolding kindSound
-kind-inside e ns k h =
-    let p = both (makeable (e .texts) (k .head) (length (k .kids))) _ h .1 in
-    both (flagIs e (k .head)) (all (inStore ns) (k .kids)) (both (defined e (k .head)) _ p .1) .1
-
 node-inside : (e : Env) (ns : List nodes.Node) (v : nodes.Node) → nodeSound e ns v ≡ true → nodeInside ns v ≡ true
 node-inside e ns (nodes.Root (nodes.Known i k) z) h = kind-inside e ns k h
 node-inside e ns (nodes.Root (nodes.Unknown s) z) h = refl

@@ -1,7 +1,7 @@
 -- The laws of the answers. A walk from no marks tells `occurs` and `self_inverse`, as scope's laws of marks say; the rest is one step of each
 -- definition at what the code reads, and for `get_mod` that looking through the Refs that are left gives what looking through all gives.
 -- Assumes nothing.
-use mathlib.Core.Path.{_≡_, refl, ap, sym, _∙_}
+use mathlib.Core.Path.{_≡_, refl, ap, sym, _∙_, fun-ext}
 use mathlib.Core.Bool.{Bool, true, false, not, _||_, false≢true}
 use mathlib.Core.List.{List, [], _∷_}
 use Prim.Native.Nat.{ℕ, zero, suc, _+_, _-_, _≤_, _<_}
@@ -97,10 +97,6 @@ all-fail p n i h e = go (all p (from 0 n)) refl
 pub all-pass : (p : ℕ → Bool) (n i : ℕ) → n ≤ i → ((u : ℕ) → u < i → p u ≡ true) → true ≡ all p (from 0 n)
 all-pass p n i h e = sym (from-all p 0 n (λ u a b. e u (omega arith)))
 
-all-same : (p q : ℕ → Bool) → ((i : ℕ) → p i ≡ q i) → (xs : List ℕ) → all p xs ≡ all q xs
-all-same p q e [] = refl
-all-same p q e (x ∷ xs) = rw (e x, all-same p q e xs)
-
 module _ {ws ks : List ℕ} {n t : ℕ} (o : Inverses ws ks n t) (param : Bool) where
   pub inverse-walk : {ms : List ℕ} {b : Bool} → ms ≡ findRelated (decode ws ks n) (tyOf t) (replicate MAX-NODES 0)
       → b ≡ all (goodAt ws n ms param) (from 0 n) → b ≡ selfInverseOf (decode ws ks n) (tyOf t) param
@@ -110,7 +106,7 @@ module _ {ws ks : List ℕ} {n t : ℕ} (o : Inverses ws ks n t) (param : Bool) 
       let w = self-marks (o .walks .walkable) param (clear (o .walks)) (tyOf t) (omega (arith, o .inside)) in
       let each : (i : ℕ) → goodAt ws n ms param i ≡ (eqb (getD ms i 0) 0 || good param (stateOf (at ns i))) =
       λ i. ap (λ (g : Bool). eqb (getD ms i 0) 0 || g) (sym (good-read i (o .walks .stands .clean) refl param refl)) in
-      e ∙ (all-same (goodAt ws n ms param) (λ i. eqb (getD ms i 0) 0 || good param (stateOf (at ns i))) each (from 0 n) ∙ rw m (sym (rw l at w)))
+      e ∙ (ap (λ (p : ℕ → Bool). all p (from 0 n)) (fun-ext each) ∙ rw m (sym (rw l at w)))
 
   -- the same at a root, as `unify` asks it
   pub inverse-root : isRoot (at (decode ws ks n) (tyOf t .idx)) ≡ true

@@ -18,7 +18,8 @@ cast-if1 c = search needs
 returns : tie.Need-returns
 returns c =
     let a = c .before .before .before .before .before .before .args in
-    sym (many-nodes (a .h .now) (a .ws .now) (a .ks .now) (c .before .before .read-header .result) (c .before .before .read-header .ensures) (c .if1 .taken))
+    let x = c .before .before .read-header in
+    sym (many-nodes (a .h .now) (a .ws .now) (a .ks .now) (x .result) (x .ensures) (c .if1 .taken))
 
 cast-if2 : tie.Need-cast-if2
 cast-if2 c = search needs
@@ -26,7 +27,8 @@ cast-if2 c = search needs
 returns-2 : tie.Need-returns-2
 returns-2 c =
     let a = c .before .before .before .before .before .before .before .before .args in
-    sym (many-children (a .h .now) (a .ws .now) (a .ks .now) (c .before .before .before .before .read-header .result) (c .before .before .before .before .read-header .ensures) (c .if2 .taken))
+    let x = c .before .before .before .before .read-header in
+    sym (many-children (a .h .now) (a .ws .now) (a .ks .now) (x .result) (x .ensures) (c .if2 .taken))
 
 node-words-requires : tie.Need-node-words-requires
 node-words-requires c κs = search needs
@@ -34,7 +36,8 @@ node-words-requires c κs = search needs
 returns-3 : tie.Need-returns-3
 returns-3 c =
     let a = c .before .before .before .before .before .before .before .before .before .before .args in
-    sym (few-words (a .h .now) (a .ws .now) (a .ks .now) (c .before .before .before .before .before .before .read-header .result) (c .before .before .before .before .before .before .read-header .ensures) (omega (arith, c .if3 .taken, c .before .node-words .ensures)))
+    let x = c .before .before .before .before .before .before .read-header in
+    sym (few-words (a .h .now) (a .ws .now) (a .ks .now) (x .result) (x .ensures) (omega (arith, c .if3 .taken, c .before .node-words .ensures)))
 
 widths-ok-requires : tie.Need-widths-ok-requires
 widths-ok-requires c κs = search needs
@@ -42,7 +45,8 @@ widths-ok-requires c κs = search needs
 returns-4 : tie.Need-returns-4
 returns-4 c =
     let a = c .before .before .before .before .before .before .before .before .before .before .before .before .args in
-    sym (wide-kind (a .h .now) (a .ws .now) (a .ks .now) (c .before .before .before .before .before .before .before .before .read-header .result) (c .before .before .before .before .before .before .before .before .read-header .ensures) (fails (c .before .widths-ok .ensures) (c .if4 .taken)))
+    let x = c .before .before .before .before .before .before .before .before .read-header in
+    sym (wide-kind (a .h .now) (a .ws .now) (a .ks .now) (x .result) (x .ensures) (fails (c .before .widths-ok .ensures) (c .if4 .taken)))
 
 clean-requires : tie.Need-clean-requires
 clean-requires c κs = search needs
@@ -50,9 +54,11 @@ clean-requires c κs = search needs
 returns-5 : tie.Need-returns-5
 returns-5 c =
     let a = c .before .before .before .before .before .before .before .before .before .before .before .before .before .args in
-    c .clean .ensures
-    ∙ sym (readable-clean (a .h .now) (a .ws .now) (a .ks .now) (c .before .before .before .before .before .before .before .before .before .read-header .result) (c .before .before .before .before .before .before .before .before .before .read-header .ensures) (c .before .before .before .before .before .before .before .if1 .left) (c .before .before .before .before .before .if2 .left)
-    (passes (c .before .before .widths-ok .ensures) (c .before .if4 .left)))
+    let x = c .before .before .before .before .before .before .before .before .before .read-header in
+    let nodes = c .before .before .before .before .before .before .before .if1 .left in
+    let children = c .before .before .before .before .before .if2 .left in
+    let narrow = passes (c .before .before .widths-ok .ensures) (c .before .if4 .left) in
+    c .clean .ensures ∙ sym (readable-clean (a .h .now) (a .ws .now) (a .ks .now) (x .result) (x .ensures) nodes children narrow)
 
 pub readable-spec : {M : Type 1} → statement M
 readable-spec =

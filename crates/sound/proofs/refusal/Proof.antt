@@ -13,7 +13,8 @@ chart-ok-requires c κs = search needs
 returns : tie.Need-returns
 returns c =
     let a = c .before .before .before .before .before .before .before .before .args in
-    refuses-chart (a .chart .now) (a .beside) (a .rule .now) (a .text .now) (lentOf (a .h .now) (a .ws .now) (a .ks .now)) (fails (c .before .chart-ok .ensures) (c .if1 .taken))
+    let lent = lentOf (a .h .now) (a .ws .now) (a .ks .now) in
+    refuses-chart (a .chart .now) (a .beside) (a .rule .now) (a .text .now) lent (fails (c .before .chart-ok .ensures) (c .if1 .taken))
 
 store-sound-requires : tie.Need-store-sound-requires
 store-sound-requires c κs = search needs
@@ -21,12 +22,16 @@ store-sound-requires c κs = search needs
 returns-2 : tie.Need-returns-2
 returns-2 c =
     let a = c .before .before .before .before .before .before .before .before .before .before .args in
-    refuses-store (a .chart .now) (a .beside) (a .rule .now) (a .text .now) (lentOf (a .h .now) (a .ws .now) (a .ks .now)) (passes (c .before .before .before .chart-ok .ensures) (c .before .before .if1 .left)) (fails (c .before .store-sound .ensures) (c .if2 .taken))
+    let lent = lentOf (a .h .now) (a .ws .now) (a .ks .now) in
+    let chart = passes (c .before .before .before .chart-ok .ensures) (c .before .before .if1 .left) in
+    refuses-store (a .chart .now) (a .beside) (a .rule .now) (a .text .now) lent chart (fails (c .before .store-sound .ensures) (c .if2 .taken))
 
 returns-3 : tie.Need-returns-3
 returns-3 c =
     let a = c .before .before .before .before .before .before .before .before .before .before .args in
-    refuses-nothing (a .chart .now) (a .beside) (a .rule .now) (a .text .now) (lentOf (a .h .now) (a .ws .now) (a .ks .now)) (passes (c .before .before .before .chart-ok .ensures) (c .before .before .if1 .left)) (passes (c .before .store-sound .ensures) (c .if2 .left))
+    let lent = lentOf (a .h .now) (a .ws .now) (a .ks .now) in
+    let chart = passes (c .before .before .before .chart-ok .ensures) (c .before .before .if1 .left) in
+    refuses-nothing (a .chart .now) (a .beside) (a .rule .now) (a .text .now) lent chart (passes (c .before .store-sound .ensures) (c .if2 .left))
 
 pub refusal-spec : {M : Type 1} → statement M
 refusal-spec =

@@ -17,7 +17,8 @@ readable-requires c κs = search needs
 returns : tie.Need-returns
 returns c =
     let a = c .before .before .before .before .before .before .before .before .args in
-    sym (unreadable (a .h .now) (a .ws .now) (a .ks .now) (chartIn (a .chart .now) (a .rule .now) (a .text .now)) (fails (c .before .readable .ensures) (c .if1 .taken)))
+    let e = chartIn (a .chart .now) (a .rule .now) (a .text .now) in
+    sym (unreadable (a .h .now) (a .ws .now) (a .ks .now) e (fails (c .before .readable .ensures) (c .if1 .taken)))
 
 read-header-requires : tie.Need-read-header-requires
 read-header-requires c κs = search needs
@@ -25,15 +26,17 @@ read-header-requires c κs = search needs
 nodes-sound-requires : tie.Need-nodes-sound-requires
 nodes-sound-requires c κs =
     let a = c .before .before .before .before .before .before .before .before .before .args in
-    readable-nodes (a .h .now) (a .ws .now) (a .ks .now) (c .read-header .result) (c .read-header .ensures) (passes (c .before .before .readable .ensures) (c .before .if1 .left))
+    let x = c .read-header in
+    readable-nodes (a .h .now) (a .ws .now) (a .ks .now) (x .result) (x .ensures) (passes (c .before .before .readable .ensures) (c .before .if1 .left))
 
 returns-2 : tie.Need-returns-2
 returns-2 c =
     let a = c .before .before .before .before .before .before .before .before .before .before .before .args in
-    rw (
-      readable-sound (a .h .now) (a .ws .now) (a .ks .now) (chartIn (a .chart .now) (a .rule .now) (a .text .now)) (c .before .before .read-header .result) (c .before .before .read-header .ensures) (passes (c .before .before .before .before .readable .ensures) (c .before .before .before .if1 .left)),
-      fails (c .before .nodes-sound .ensures) (c .if2 .taken),
-    )
+    let e = chartIn (a .chart .now) (a .rule .now) (a .text .now) in
+    let x = c .before .before .read-header in
+    let r = passes (c .before .before .before .before .readable .ensures) (c .before .before .before .if1 .left) in
+    let rest = readable-sound (a .h .now) (a .ws .now) (a .ks .now) e (x .result) (x .ensures) r in
+    rw (rest, fails (c .before .nodes-sound .ensures) (c .if2 .taken))
 
 remembered-inside-requires : tie.Need-remembered-inside-requires
 remembered-inside-requires c κs = search needs
@@ -41,50 +44,68 @@ remembered-inside-requires c κs = search needs
 returns-3 : tie.Need-returns-3
 returns-3 c =
     let a = c .before .before .before .before .before .before .before .before .before .before .before .before .before .args in
-    let n = c .before .before .before .before .read-header .result .nodes in
-    let ns = decode (a .ws .now) (a .ks .now) n in
-    let l = length-decode (a .ws .now) (a .ks .now) n in
-    rw (
-      readable-sound (a .h .now) (a .ws .now) (a .ks .now) (chartIn (a .chart .now) (a .rule .now) (a .text .now)) (c .before .before .before .before .read-header .result) (c .before .before .before .before .read-header .ensures) (passes (c .before .before .before .before .before .before .readable .ensures) (c .before .before .before .before .before .if1 .left)),
-      passes (c .before .before .before .nodes-sound .ensures) (c .before .before .if2 .left),
-      fails (c .before .remembered-inside .ensures ns l) (c .if3 .taken),
-    )
+    let e = chartIn (a .chart .now) (a .rule .now) (a .text .now) in
+    let x = c .before .before .before .before .read-header in
+    let r = passes (c .before .before .before .before .before .before .readable .ensures) (c .before .before .before .before .before .if1 .left) in
+    let rest = readable-sound (a .h .now) (a .ws .now) (a .ks .now) e (x .result) (x .ensures) r in
+    let ns = decode (a .ws .now) (a .ks .now) (x .result .nodes) in
+    let l = length-decode (a .ws .now) (a .ks .now) (x .result .nodes) in
+    let nodes = passes (c .before .before .before .nodes-sound .ensures) (c .before .before .if2 .left) in
+    rw (rest, nodes, fails (c .before .remembered-inside .ensures ns l) (c .if3 .taken))
 
 remembered-inside-requires-2 : tie.Need-remembered-inside-requires-2
 remembered-inside-requires-2 c κs = search needs
 
 returns-4 : tie.Need-returns-4
 returns-4 c =
+    let readable = c .before .before .before .before .before .before .before .before .readable in
+    let if1 = c .before .before .before .before .before .before .before .if1 in
+    let nodes-sound = c .before .before .before .before .before .nodes-sound in
+    let if2 = c .before .before .before .before .if2 in
+    let remembered-inside = c .before .before .before .remembered-inside in
     let a = c .before .before .before .before .before .before .before .before .before .before .before .before .before .before .before .args in
-    let n = c .before .before .before .before .before .before .read-header .result .nodes in
-    let ns = decode (a .ws .now) (a .ks .now) n in
-    let l = length-decode (a .ws .now) (a .ks .now) n in
-    rw (
-      readable-sound (a .h .now) (a .ws .now) (a .ks .now) (chartIn (a .chart .now) (a .rule .now) (a .text .now)) (c .before .before .before .before .before .before .read-header .result) (c .before .before .before .before .before .before .read-header .ensures) (passes (c .before .before .before .before .before .before .before .before .readable .ensures) (c .before .before .before .before .before .before .before .if1 .left)),
-      passes (c .before .before .before .before .before .nodes-sound .ensures) (c .before .before .before .before .if2 .left),
-      passes (c .before .before .before .remembered-inside .ensures ns l) (c .before .before .if3 .left),
-      fails (c .before .remembered-inside2 .ensures ns l) (c .if4 .taken),
-    )
+    let e = chartIn (a .chart .now) (a .rule .now) (a .text .now) in
+    let x = c .before .before .before .before .before .before .read-header in
+    let r = passes (readable .ensures) (if1 .left) in
+    let rest = readable-sound (a .h .now) (a .ws .now) (a .ks .now) e (x .result) (x .ensures) r in
+    let ns = decode (a .ws .now) (a .ks .now) (x .result .nodes) in
+    let l = length-decode (a .ws .now) (a .ks .now) (x .result .nodes) in
+    let nodes = passes (nodes-sound .ensures) (if2 .left) in
+    let error = passes (remembered-inside .ensures ns l) (c .before .before .if3 .left) in
+    rw (rest, nodes, error, fails (c .before .remembered-inside2 .ensures ns l) (c .if4 .taken))
 
 shape-ok-requires : tie.Need-shape-ok-requires
 shape-ok-requires c κs =
+    let readable = c .before .before .before .before .before .before .before .before .readable in
+    let if1 = c .before .before .before .before .before .before .before .if1 in
+    let nodes-sound = c .before .before .before .before .before .nodes-sound in
+    let if2 = c .before .before .before .before .if2 in
     let a = c .before .before .before .before .before .before .before .before .before .before .before .before .before .before .before .args in
-    shaped (a .h .now) (a .ws .now) (a .ks .now) (chartIn (a .chart .now) (a .rule .now) (a .text .now)) (c .before .before .before .before .before .before .read-header .result) (c .before .before .before .before .before .before .read-header .ensures) (passes (c .before .before .before .before .before .before .before .before .readable .ensures) (c .before .before .before .before .before .before .before .if1 .left))
-    (passes (c .before .before .before .before .before .nodes-sound .ensures) (c .before .before .before .before .if2 .left))
+    let e = chartIn (a .chart .now) (a .rule .now) (a .text .now) in
+    let x = c .before .before .before .before .before .before .read-header in
+    let r = passes (readable .ensures) (if1 .left) in
+    let nodes = passes (nodes-sound .ensures) (if2 .left) in
+    shaped (a .h .now) (a .ws .now) (a .ks .now) e (x .result) (x .ensures) r nodes
 
 returns-5 : tie.Need-returns-5
 returns-5 c =
+    let readable = c .before .before .before .before .before .before .before .before .before .readable in
+    let if1 = c .before .before .before .before .before .before .before .before .if1 in
+    let nodes-sound = c .before .before .before .before .before .before .nodes-sound in
+    let if2 = c .before .before .before .before .before .if2 in
+    let remembered-inside = c .before .before .before .before .remembered-inside in
+    let if3 = c .before .before .before .if3 in
     let a = c .before .before .before .before .before .before .before .before .before .before .before .before .before .before .before .before .args in
-    let n = c .before .before .before .before .before .before .before .read-header .result .nodes in
-    let ns = decode (a .ws .now) (a .ks .now) n in
-    let l = length-decode (a .ws .now) (a .ks .now) n in
-    rw (
-      readable-sound (a .h .now) (a .ws .now) (a .ks .now) (chartIn (a .chart .now) (a .rule .now) (a .text .now)) (c .before .before .before .before .before .before .before .read-header .result) (c .before .before .before .before .before .before .before .read-header .ensures) (passes (c .before .before .before .before .before .before .before .before .before .readable .ensures) (c .before .before .before .before .before .before .before .before .if1 .left)),
-      passes (c .before .before .before .before .before .before .nodes-sound .ensures) (c .before .before .before .before .before .if2 .left),
-      passes (c .before .before .before .before .remembered-inside .ensures ns l) (c .before .before .before .if3 .left),
-      passes (c .before .before .remembered-inside2 .ensures ns l) (c .before .if4 .left),
-    )
-    (c .shape-ok .ensures)
+    let e = chartIn (a .chart .now) (a .rule .now) (a .text .now) in
+    let x = c .before .before .before .before .before .before .before .read-header in
+    let r = passes (readable .ensures) (if1 .left) in
+    let rest = readable-sound (a .h .now) (a .ws .now) (a .ks .now) e (x .result) (x .ensures) r in
+    let ns = decode (a .ws .now) (a .ks .now) (x .result .nodes) in
+    let l = length-decode (a .ws .now) (a .ks .now) (x .result .nodes) in
+    let nodes = passes (nodes-sound .ensures) (if2 .left) in
+    let error = passes (remembered-inside .ensures ns l) (if3 .left) in
+    let nil = passes (c .before .before .remembered-inside2 .ensures ns l) (c .before .if4 .left) in
+    rw (rest, nodes, error, nil) (c .shape-ok .ensures)
 
 pub store-sound-spec : {M : Type 1} → statement M
 store-sound-spec =
