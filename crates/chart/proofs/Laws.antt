@@ -1,5 +1,5 @@
--- Laws of the chart's numbers: the k-th number of the n-th record stands at n * 10 + k, a number that the chart lacks reads as the record of none, and a test of
--- every element goes on from place i as it goes on from i + 1 where the element at i passes. Assumes nothing.
+-- Laws of the chart's numbers: the k-th number of the n-th record stands at n * 10 + k, and a number that the chart lacks reads as the record of none.
+-- Assumes nothing.
 use mathlib.Core.Path.{_≡_, refl, ap, _∙_}
 use mathlib.Core.Bool.{Bool, true, false, _&&_}
 use mathlib.Core.List.{List, [], _∷_, map}
@@ -86,22 +86,6 @@ sigils-length ws = runs-length NAME-WORDS (nameAt 0) 4 ws
 pub sigil-none : (ws : List ℕ) (n : ℕ) → 4 ≤ n → getD (sigilsOf ws) n (name 0 0 0) ≡ name 0 0 0
 sigil-none ws n h = List·getD-eq-default (sigilsOf ws) (name 0 0 0) (rw (sigils-length ws) h)
 
--- a test of every element, from place i on
-module _ {A : Type 0} (p : A → Bool) (xs : List A) (d : A) where
-  pub all-step : (i : ℕ) → i < length xs → p (getD xs i d) ≡ true → all p (drop i xs) ≡ all p (drop (i + 1) xs)
-  all-step i h e = rw (drop-cons xs i d h, e, add-one)
-
-  pub all-fails : (i : ℕ) → i < length xs → p (getD xs i d) ≡ false → all p (drop i xs) ≡ false
-  all-fails i h e = rw (drop-cons xs i d h, e)
-
-  pub all-end : (i : ℕ) → length xs ≤ i → all p (drop i xs) ≡ true
-  all-end i h = rw (drop-of-length-le xs h)
-
-pub all-at : {A : Type 0} (p : A → Bool) (xs : List A) (d : A) (i : ℕ) → all p xs ≡ true → i < length xs → p (getD xs i d) ≡ true
-all-at p [] d i e h = absurd (omega arith)
-all-at p (x ∷ xs) d zero e h = both (p x) (all p xs) e .0
-all-at p (x ∷ xs) d (suc i) e h = all-at p xs d i (both (p x) (all p xs) e .1) (omega arith)
-
 -- the tests of chart and texts, one after the other; that of a record does not look at what stands beside the chart
 pub chart-tests :
     (ws : List ℕ) (b : Beside) (rule text : List ℕ) →
@@ -112,5 +96,5 @@ pub chart-tests :
     && (all (recordOk (chartIn ws rule text)) (recordsOf ws)
     && (fnTraitOk (envOf ws b [] [])
     && all (sigilOk (texts rule text)) (sigilsOf (b .sigils)))))))
-unfolding chartWordsOk chartOk recordOk
+unfolding chartWordsOk chartOk recordOk runs
 chart-tests ws b rule text = refl

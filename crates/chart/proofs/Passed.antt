@@ -10,14 +10,14 @@ use borrow.Author.Tests.{leb-true, eqb-true}
 use lib.Dec.{eqb, leb}
 use lib.ListN.{length, List·getD-eq-default}
 use Rattle.scope.specs.Base.{all}
-use Rattle.scope.specs.Limits.{MAX-RECORDS}
+use Rattle.scope.specs.Limits.{MAX-RECORDS, SIGILS}
 use Rattle.scope.specs.Names.{name, nameOk, textsOk}
-use Rattle.scope.specs.Chart.{Env, Record, noRecord, recordAt, sortAt, sigilAt, isTrait, flagOk, traitOk, recordOk, sigilOk, fnTraitOk, chartOk, TRAIT-SORT, TRAIT-FN-SORT, NO-SORT}
+use Rattle.scope.specs.Chart.{Env, Record, noRecord, recordAt, sortAt, sigilAt, isTrait, flagOk, traitOk, recordOk, sigilOk, sigilsOk, fnTraitOk, chartOk, TRAIT-SORT, TRAIT-FN-SORT, NO-SORT}
 use Rattle.names.proofs.Tests.{both}
 use Rattle.chart.specs.declared.Beside.{Beside}
 use Rattle.chart.specs.Words.{RECORD-WORDS}
 use Rattle.chart.specs.Env.{envOf, chartWordsOk}
-use Rattle.chart.proofs.Laws.{all-at}
+use Rattle.names.proofs.Tests.{all-at}
 
 pub words-passed : (ws : List ℕ) (b : Beside) (rule text : List ℕ) → chartWordsOk ws b rule text ≡ true → (length ws % RECORD-WORDS ≡ 0) × (chartOk (envOf ws b rule text) ≡ true)
 unfolding chartWordsOk
@@ -30,27 +30,27 @@ module _ (e : Env) (h : chartOk e ≡ true) where
   unfolding chartOk
   chart-few = leb-true (length (e .records)) MAX-RECORDS (both (leb (length (e .records)) MAX-RECORDS) _ h .0)
 
-  past-few : (textsOk (e .texts) && (all (recordOk e) (e .records) && (fnTraitOk e && all (sigilOk (e .texts)) (e .sigils)))) ≡ true
+  past-few : (textsOk (e .texts) && (all (recordOk e) (e .records) && (fnTraitOk e && sigilsOk e))) ≡ true
   unfolding chartOk
   past-few = both (leb (length (e .records)) MAX-RECORDS) _ h .1
 
   pub chart-texts : textsOk (e .texts) ≡ true
   chart-texts = both (textsOk (e .texts)) _ past-few .0
 
-  past-texts : (all (recordOk e) (e .records) && (fnTraitOk e && all (sigilOk (e .texts)) (e .sigils))) ≡ true
+  past-texts : (all (recordOk e) (e .records) && (fnTraitOk e && sigilsOk e)) ≡ true
   past-texts = both (textsOk (e .texts)) _ past-few .1
 
   pub chart-record : (n : ℕ) → n < length (e .records) → recordOk e (recordAt e n) ≡ true
   chart-record n l = all-at (recordOk e) (e .records) noRecord n (both (all (recordOk e) (e .records)) _ past-texts .0) l
 
-  past-records : (fnTraitOk e && all (sigilOk (e .texts)) (e .sigils)) ≡ true
+  past-records : (fnTraitOk e && sigilsOk e) ≡ true
   past-records = both (all (recordOk e) (e .records)) _ past-texts .1
 
   pub chart-fn-trait : fnTraitOk e ≡ true
   chart-fn-trait = both (fnTraitOk e) _ past-records .0
 
   pub chart-sigil : (n : ℕ) → n < length (e .sigils) → sigilOk (e .texts) (sigilAt e n) ≡ true
-  chart-sigil n l = all-at (sigilOk (e .texts)) (e .sigils) (name 0 0 0) n (both (fnTraitOk e) _ past-records .1) l
+  chart-sigil n l = all-at (sigilOk (e .texts)) (e .sigils) (name 0 0 0) n (both (eqb (length (e .sigils)) SIGILS) _ (both (fnTraitOk e) _ past-records .1) .1) l
 
 module _ (e : Env) (r : Record) (h : recordOk e r ≡ true) where
   pub record-sort : r .sort ≤ TRAIT-FN-SORT

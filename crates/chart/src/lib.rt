@@ -9,32 +9,19 @@ ghost use Rattle.scope.specs.Base.{all};
 ghost use Rattle.scope.specs.Limits.{«MAX-RECORDS»};
 ghost use Rattle.scope.specs.Names.{textsOk};
 ghost use Rattle.scope.specs.Chart.{recordAt, sortAt, dualAt, isTrait, sigilAt, flagOk, traitOk, recordOk, sigilOk, fnTraitOk, «STRUCT-SORT», «UNION-SORT»};
-ghost use Rattle.names.specs.Place.{nameIn, texts};
+ghost use Rattle.names.specs.Place.{nameOf, texts};
 ghost use Rattle.chart.specs.Words.{«RECORD-WORDS», nameAt, wordsOf, recordsOf};
 ghost use Rattle.chart.specs.Env.{sigilsOf, envOf, chartIn, chartAlone, chartWordsOk};
+use kinds::NO_SORT;
+use kinds::STRUCT_SORT;
+use kinds::TRAIT_FN_SORT;
+use kinds::TRAIT_SORT;
+use kinds::UNION_SORT;
 use names::Name;
 use scope::MAX_NAME;
 use scope::MAX_RECORDS;
 use scope::MAX_TEXT;
 use scope::NONE;
-
-pub const OPAQUE_SORT: u32 = 0;
-
-pub const STRUCT_SORT: u32 = 1;
-
-pub const ENUM_SORT: u32 = 2;
-
-pub const UNION_SORT: u32 = 3;
-
-pub const CONCRETE_FN_SORT: u32 = 4;
-
-pub const CONST_SORT: u32 = 5;
-
-pub const TRAIT_SORT: u32 = 6;
-
-pub const TRAIT_FN_SORT: u32 = 7;
-
-pub const NO_SORT: u32 = 8;
 
 pub const RECORD_WORDS: usize = 10;
 
@@ -87,7 +74,7 @@ fn word(chart: &[u32], n: u32, field: usize) -> u32
 
 fn name_in(chart: &[u32], n: u32, field: usize) -> Name
     requires { ⌜ field + 2 < «RECORD-WORDS» ⌝ }
-    ensures { λ r. ⌜ nameIn r ≡ nameAt field (wordsOf (recordAt (chartAlone (now (chart .entry))) n)) ⌝ }
+    ensures { λ r. ⌜ nameOf r ≡ nameAt field (wordsOf (recordAt (chartAlone (now (chart .entry))) n)) ⌝ }
 {
     let text = word(chart, n, field);
     let start = word(chart, n, field + 1);
@@ -102,13 +89,13 @@ pub fn sort_at(chart: &[u32], n: u32) -> u32
 }
 
 pub fn name_at(chart: &[u32], n: u32) -> Name
-    ensures { λ r. ⌜ nameIn r ≡ recordAt (chartAlone (now (chart .entry))) n .name ⌝ }
+    ensures { λ r. ⌜ nameOf r ≡ recordAt (chartAlone (now (chart .entry))) n .name ⌝ }
 {
     name_in(chart, n, NAME_FIELD)
 }
 
 pub fn path_at(chart: &[u32], n: u32) -> Name
-    ensures { λ r. ⌜ nameIn r ≡ recordAt (chartAlone (now (chart .entry))) n .path ⌝ }
+    ensures { λ r. ⌜ nameOf r ≡ recordAt (chartAlone (now (chart .entry))) n .path ⌝ }
 {
     name_in(chart, n, PATH_FIELD)
 }
@@ -139,7 +126,7 @@ pub fn is_trait(chart: &[u32], n: u32) -> bool
 
 // A number over 3 is no Flex and gives the empty name.
 pub fn sigil_at(beside: Beside, flex: u32) -> Name
-    ensures { λ r. ⌜ nameIn r ≡ sigilAt (envOf [] beside [] []) flex ⌝ }
+    ensures { λ r. ⌜ nameOf r ≡ sigilAt (envOf [] beside [] []) flex ⌝ }
 {
     let i = wide(flex);
     if i < 4 {
@@ -221,7 +208,7 @@ fn records_ok(chart: &[u32], rule: &[u8], text: &[u8]) -> bool
 
 // "the four texts of `sigil` for `Flex`, which alone may be empty"
 fn sigil_ok(n: Name, rule: &[u8], text: &[u8]) -> bool
-    ensures { λ r. ⌜ r ≡ sigilOk (texts (now (rule .entry)) (now (text .entry))) (nameIn n) ⌝ }
+    ensures { λ r. ⌜ r ≡ sigilOk (texts (now (rule .entry)) (now (text .entry))) (nameOf n) ⌝ }
 {
     if !names::in_text(n, rule, text) {
         return false;

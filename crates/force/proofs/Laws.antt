@@ -11,7 +11,8 @@ use lib.ListN.{length, getD, set, length-set, List·getD-map}
 use lib.Seq.{getD-set-same, getD-set-other, map-set-same, ext-getD}
 use borrow.Author.Tests.{eqb-true, eqb-false}
 use Rattle.scope.specs.Types.{Ty, flip}
-use Rattle.scope.specs.Nodes.{State, Node, Root, Child, at, stateOf, sizeOf, find, point, compress, findMut}
+use Rattle.scope.specs.Nodes.{State, Node, Root, Child, at, stateOf, sizeOf, find, compress, findMut}
+use Rattle.scope.proofs.Laws.{compress-root, compress-child}
 use Rattle.layout.proofs.Laws.{past}
 
 -- node by node
@@ -53,17 +54,18 @@ module _ {from to ns : List Node} {i : ℕ} (g : Going from to i ns) where
 abbrev own : Node → State × ℕ
 own v = (stateOf v, sizeOf v)
 
-own-point : (v : Node) (k : List Node → Ty → List Node) (ns : List Node) (r t : Ty) → ((ms : List Node) (u : Ty) → map own (k ms u) ≡ map own ms)
-    → at ns (t .idx) ≡ v → map own (point v k ns r t) ≡ map own ns
-own-point (Root st z) k ns r t h e = refl
-own-point (Child u) k ns r t h e =
-    h (set ns (t .idx) (Child (flip (t .inv) r))) (flip (t .inv) u)
-    ∙ map-set-same own ns (t .idx) (Child (flip (t .inv) r)) past (sym (ap own e))
+own-point : (v : Node) (f : ℕ) (ns : List Node) (r t : Ty) → ((ms : List Node) (u : Ty) → map own (compress f ms r u) ≡ map own ms)
+    → at ns (t .idx) ≡ v → map own (compress (suc f) ns r t) ≡ map own ns
+own-point (Root st z) f ns r t h e = ap (map own) (compress-root (suc f) ns r t e)
+own-point (Child u) f ns r t h e =
+    ap (map own) (compress-child f ns r t u e)
+    ∙ (h (set ns (t .idx) (Child (flip (t .inv) r))) (flip (t .inv) u)
+    ∙ map-set-same own ns (t .idx) (Child (flip (t .inv) r)) past (sym (ap own e)))
 
 own-compress : (f : ℕ) (ns : List Node) (r t : Ty) → map own (compress f ns r t) ≡ map own ns
 unfolding compress
 own-compress zero ns r t = refl
-own-compress (suc f) ns r t = own-point (at ns (t .idx)) (λ ms u. compress f ms r u) ns r t (λ ms u. own-compress f ms r u) refl
+own-compress (suc f) ns r t = own-point (at ns (t .idx)) f ns r t (λ ms u. own-compress f ms r u) refl
 
 module _ (ns : List Node) (t : Ty) (i : ℕ) where
   own-kept : own (at (findMut ns t) i) ≡ own (at ns i)

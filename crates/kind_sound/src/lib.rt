@@ -13,7 +13,7 @@ ghost use Rattle.scope.specs.Kinds.{rowOf, objectNamesOk, namesOk, makeable, de
 ghost use Rattle.scope.specs.Nodes.{Node};
 ghost use Rattle.scope.specs.Sound.{slotName, inStore, kindSound, nodeSound, remembered};
 ghost use Rattle.scope.specs.Sound as sound;
-ghost use Rattle.names.specs.Place.{texts, nameIn};
+ghost use Rattle.names.specs.Place.{texts, nameOf};
 ghost use Rattle.chart.specs.Env.{chartIn, chartAlone};
 ghost use Rattle.layout.specs.Words.{nodeWords, slotAt, slots, decode};
 ghost use Rattle.layout.specs.Meaning.{kindMeans, nodeMeans, rememberedMeans};
@@ -33,7 +33,7 @@ use types::Type;
 use types::TypeIdx;
 
 fn own_name(k: Kind) -> Name
-    ensures { λ r. ⌜ nameIn r ≡ name (k .text) (k .start) (k .len) ⌝ }
+    ensures { λ r. ⌜ nameOf r ≡ name (k .text) (k .start) (k .len) ⌝ }
 {
     Name {
         text: k.text,
@@ -44,7 +44,7 @@ fn own_name(k: Kind) -> Name
 
 // The name of child j; its length is 0 where there is none.
 fn child_name(ks: &[u32], k: Kind, j: u32) -> Name
-    ensures { λ r. ⌜ nameIn r ≡ placeOf (slotAt (now (ks .entry)) (k .first + j)) ⌝ }
+    ensures { λ r. ⌜ nameOf r ≡ placeOf (slotAt (now (ks .entry)) (k .first + j)) ⌝ }
 {
     let s = layout::child_of(ks, k, j);
     Name {
@@ -56,7 +56,7 @@ fn child_name(ks: &[u32], k: Kind, j: u32) -> Name
 
 // A name that may be missing.
 fn name_or_none(n: Name, rule: &[u8], text: &[u8]) -> bool
-    ensures { λ r. ⌜ r ≡ namedOrNone (texts (now (rule .entry)) (now (text .entry))) (sound.nameIn (n .text) (n .start) (n .len)) ⌝ }
+    ensures { λ r. ⌜ r ≡ namedOrNone (texts (now (rule .entry)) (now (text .entry))) (sound.nameOf (n .text) (n .start) (n .len)) ⌝ }
 {
     if n.len == 0 {
         return true;

@@ -71,23 +71,26 @@ pub const CHILD_NAMES: u8 = 2;
 pub const PARAMETER_NAMES: u8 = 3;
 
 // The chart's sorts: "opaque, struct, enum, union, concrete fn, const, trait, trait fn: 0 to 7"; NO_SORT is what a number that the chart lacks has.
-pub const OPAQUE_SORT: u8 = 0;
+pub const OPAQUE_SORT: u32 = 0;
 
-pub const STRUCT_SORT: u8 = 1;
+pub const STRUCT_SORT: u32 = 1;
 
-pub const ENUM_SORT: u8 = 2;
+pub const ENUM_SORT: u32 = 2;
 
-pub const UNION_SORT: u8 = 3;
+pub const UNION_SORT: u32 = 3;
 
-pub const CONCRETE_FN_SORT: u8 = 4;
+pub const CONCRETE_FN_SORT: u32 = 4;
 
-pub const CONST_SORT: u8 = 5;
+pub const CONST_SORT: u32 = 5;
 
-pub const TRAIT_SORT: u8 = 6;
+pub const TRAIT_SORT: u32 = 6;
 
-pub const TRAIT_FN_SORT: u8 = 7;
+pub const TRAIT_FN_SORT: u32 = 7;
 
-pub const NO_SORT: u8 = 8;
+pub const NO_SORT: u32 = 8;
+
+// "`Flex` 0 to 3"
+pub const MAX_FLEX: u32 = 3;
 
 // A row; a definition has one of the two sorts.
 pub struct Row {
@@ -95,8 +98,8 @@ pub struct Row {
     pub dual: u8,
     pub number: u8,
     pub names: u8,
-    pub sort: u8,
-    pub other: u8,
+    pub sort: u32,
+    pub other: u32,
 }
 
 // One row for each code, in the codes' order.
@@ -282,12 +285,12 @@ pub fn shape_fits(code: u32, n: usize) -> bool
     n == row.shape as usize
 }
 
-// "`Flex` 0 to 3"; a kind without one has 0.
+// A kind without a `Flex` has 0.
 pub fn flex_ok(code: u32, flex: u32) -> bool
     ensures { λ r. ⌜ r ≡ flexOk code flex ⌝ }
 {
     if code == CLOSURE {
-        flex <= 3
+        flex <= MAX_FLEX
     } else {
         flex == 0
     }
@@ -317,7 +320,7 @@ pub fn sort_fits(code: u32, sort: u32) -> bool
 {
     let row = row_of(code);
     if row.number == DEFINITION {
-        sort == row.sort as u32 || sort == row.other as u32
+        sort == row.sort || sort == row.other
     } else {
         true
     }

@@ -114,9 +114,7 @@ retag t x = record {
   number = x .number;
   dual = x .dual;
   flex = x .flex;
-  text = x .text;
-  start = x .start;
-  len = x .len;
+  name = x .name;
   count = x .count;
 }
 
@@ -155,19 +153,19 @@ module _ (ks : List ℕ) (t : ℕ) (x : Cell) where
   abbrev fieldsOf : List ℕ
   fieldsOf = x .inv ∷ x .code ∷ x .number ∷ x .dual ∷ x .flex ∷ []
 
-  abbrev nameOf : List ℕ
-  nameOf = x .text ∷ x .start ∷ x .len ∷ []
+  abbrev nameWords : List ℕ
+  nameWords = x .name .text ∷ x .name .start ∷ x .name .len ∷ []
 
   abbrev noKids : Bool
   noKids = eqb (length (cellMeans ks (retag t x) .kids)) 0
 
   bare-cell : kindBare (cellMeans ks (retag t x)) ≡ true → plainCell t (x .link) (x .size) ≡ retag t x
   bare-cell h =
-      let p : (zeros nameOf && noKids) ≡ true = and-right (zeros fieldsOf) (zeros nameOf && noKids) h in
-      let f = zeros-get fieldsOf (and-left (zeros fieldsOf) (zeros nameOf && noKids) h) in
-      let g = zeros-get nameOf (and-left (zeros nameOf) noKids p) in
+      let p : (zeros nameWords && noKids) ≡ true = and-right (zeros fieldsOf) (zeros nameWords && noKids) h in
+      let f = zeros-get fieldsOf (and-left (zeros fieldsOf) (zeros nameWords && noKids) h) in
+      let g = zeros-get nameWords (and-left (zeros nameWords) noKids p) in
       let n : x .count ≡ 0 =
-      sym (length-from (slotAt ks) (cellFirst (retag t x)) (x .count)) ∙ eqb-true (length (cellMeans ks (retag t x) .kids)) 0 (and-right (zeros nameOf) noKids p) in
+      sym (length-from (slotAt ks) (cellFirst (retag t x)) (x .count)) ∙ eqb-true (length (cellMeans ks (retag t x) .kids)) 0 (and-right (zeros nameWords) noKids p) in
       rw (f 0, f 1, f 2, f 3, f 4, g 0, g 1, g 2, n)
 
 module _ (ks : List ℕ) (c : ℕ) (x : Cell) where

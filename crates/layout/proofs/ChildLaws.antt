@@ -4,7 +4,7 @@
 use mathlib.Core.Path.{_≡_, refl, ap, sym, _∙_}
 use mathlib.Core.Bool.{true}
 use mathlib.Core.List.{List, [], _∷_, _++_}
-use Prim.Native.Nat.{ℕ, _+_, _*_, _<_, _≤_}
+use Prim.Native.Nat.{ℕ, zero, suc, _+_, _*_, _<_, _≤_}
 use native.Mathlib.Omega.{arith}
 use native.Mathlib.Numerals.{add-one}
 use lib.Dec.{leb}
@@ -36,6 +36,14 @@ slots-get ks i n j d h = get-from (slotAt ks) i n j d h
 
 pub slots-push : (ks : List ℕ) (i n : ℕ) → slots ks i (n + 1) ≡ slots ks i n ++ (slotAt ks (i + n) ∷ [])
 slots-push ks i n = ap (slots ks i) (add-one n) ∙ map-snoc (slotAt ks) i n
+
+pub front-slots : (ks : List ℕ) (i n : ℕ) → sound.front (slots ks i (suc n)) ≡ slots ks i n
+front-slots ks i zero = refl
+front-slots ks i (suc n) = ap (λ (l : List sound.Slot). slotAt ks i ∷ l) (front-slots ks (suc i) n)
+
+pub last-slots : (ks : List ℕ) (i n : ℕ) → sound.last (slots ks i (suc n)) ≡ slots ks (i + n) 1
+last-slots ks i zero = ap (λ (j : ℕ). slots ks j 1) (omega arith)
+last-slots ks i (suc n) = last-slots ks (suc i) n ∙ ap (λ (j : ℕ). slots ks j 1) (omega arith)
 
 -- a list's first n children, whatever follows them
 pub slots-front : (ks : List ℕ) (n : ℕ) → slots (take (childWords n) ks) 0 n ≡ slots ks 0 n

@@ -16,12 +16,10 @@ use Rattle.scope.specs.Types.{tyOf}
 use Rattle.scope.specs.Kinds.{rowOf, NO-NAMES, OWN-NAME, CHILD-NAMES, PARAMETER-NAMES}
 use Rattle.scope.specs.Sound.{Slot, zeros, nameIn, nameClean, slotName, slotClean, slotBare, front, last, namesClean}
 use Rattle.layout.specs.Words.{slotAt, slots}
-use Rattle.layout.specs.Meaning.{kindCell, kindMeans, kindFits}
-use Rattle.layout.specs.Clean.{namedOf}
+use Rattle.layout.specs.Meaning.{kindCell, kindMeans, kindFits, namedOf}
 use Rattle.layout.specs.declared.Kind.{Kind}
 use Rattle.layout.proofs.Lists.{and-both, and-right, same-shift}
-use Rattle.layout.proofs.ChildLaws.{length-slots}
-use Rattle.layout.proofs.CleanLaws.{front-slots}
+use Rattle.layout.proofs.ChildLaws.{length-slots, front-slots}
 
 -- how many names there are, by the row
 count-by : (a b c : Bool) (o : Option Name) (ks : List ℕ) (i n : ℕ)
@@ -62,7 +60,7 @@ module _ (ks : List ℕ) (k : Kind) where
 
   -- the names, by the row
 
-  pub names-own : rowOf (k .code) .names ≡ OWN-NAME → kindMeans ks k .head .names ≡ nameIn (k .text) (k .start) (k .len) ∷ []
+  pub names-own : rowOf (k .code) .names ≡ OWN-NAME → kindMeans ks k .head .names ≡ nameIn (k .name .text) (k .name .start) (k .name .len) ∷ []
   unfolding kindMeans
   names-own e = rw e
 
@@ -82,7 +80,7 @@ module _ (ks : List ℕ) (k : Kind) where
   unfolding kindMeans
   names-count =
       let d : ℕ = rowOf (k .code) .names in
-      count-by (eqb d OWN-NAME) (eqb d CHILD-NAMES) (eqb d PARAMETER-NAMES) (nameIn (k .text) (k .start) (k .len)) ks (k .first) (k .count)
+      count-by (eqb d OWN-NAME) (eqb d CHILD-NAMES) (eqb d PARAMETER-NAMES) (nameIn (k .name .text) (k .name .start) (k .name .len)) ks (k .first) (k .count)
 
   -- a kind that may stand in a node, by the row
 
@@ -95,10 +93,10 @@ module _ (ks : List ℕ) (k : Kind) where
     unfolding kindFits
     kind-fits h = and-both (leb (k .first + k .count) c) (namesClean (kindCell ks k)) (le-leb (k .first + k .count) c room) h
 
-    pub fits-own : rowOf (k .code) .names ≡ OWN-NAME → nameClean (k .text) (k .start) (k .len) ≡ true → all slotBare run ≡ true → kindFits ks c k ≡ true
+    pub fits-own : rowOf (k .code) .names ≡ OWN-NAME → nameClean (k .name .text) (k .name .start) (k .name .len) ≡ true → all slotBare run ≡ true → kindFits ks c k ≡ true
     fits-own e n b = kind-fits (rw (e, n, b))
 
-    module _ (own : zeros (k .text ∷ k .start ∷ k .len ∷ []) ≡ true) where
+    module _ (own : zeros (k .name .text ∷ k .name .start ∷ k .name .len ∷ []) ≡ true) where
       pub fits-child : rowOf (k .code) .names ≡ CHILD-NAMES → all slotClean run ≡ true → kindFits ks c k ≡ true
       fits-child e b = kind-fits (rw (e, own, b))
 
@@ -116,9 +114,7 @@ movedTo k first = record {
   number = k .number;
   dual = k .dual;
   flex = k .flex;
-  text = k .text;
-  start = k .start;
-  len = k .len;
+  name = k .name;
   first = first;
   count = k .count;
 }

@@ -4,6 +4,6 @@ pub mod Cells
 pub mod Laws
 pub mod ChildLaws
 pub mod KindLaws
+pub mod HeldLaws
 pub mod LinkLaws
 pub mod StoreLaws
-pub mod CleanLaws

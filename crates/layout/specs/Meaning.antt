@@ -4,16 +4,18 @@ use mathlib.Core.Path.{_≡_}
 use mathlib.Core.List.{List, [], _∷_, _++_, map}
 use mathlib.Core.Bool.{Bool, true, false, not, _&&_}
 use mathlib.Core.Option.{Option, none, some}
-use Prim.Native.Nat.{ℕ, _+_, _*_, _/_, _%_, _≤_, _<_}
+use Prim.Native.Nat.{ℕ, _+_, _-_, _*_, _/_, _%_, _≤_, _<_}
 use lib.Dec.{eqb, ltb, leb}
 use lib.ListN.{length, getD, take, drop}
 use Rattle.scope.specs.Base.{pick, isSome}
 use Rattle.scope.specs.Limits.{NONE}
 use Rattle.scope.specs.Types.{Ty, tyOf}
+use Rattle.scope.specs.Kinds.{CHILD-NAMES, PARAMETER-NAMES}
 use Rattle.scope.specs.Nodes as nodes
 use Rattle.scope.specs.Sound as sound
 use Rattle.types.specs.declared.«Type».{«Type»}
 use Rattle.types.specs.declared.Inverted.{Inverted}
+use Rattle.names.specs.Place.{nameFrom, noName}
 use Rattle.layout.specs.Words.{NODE-WORDS, CHILD-WORDS, HEAD-WORDS, KNOWN-TAG, nodeWords, childWords, nodeField, slotAt, slots, cellAt, nodeClean, nodesMade, childrenMade, nodeRoom, childRoom, reports}
 use Rattle.layout.specs.declared.Kind.{Kind}
 use Rattle.layout.specs.declared.Cell.{Cell}
@@ -23,6 +25,8 @@ use Rattle.layout.specs.declared.TypeState.{TypeState}
 use Rattle.layout.specs.declared.TypeState.the-variants.{Known, Unknown, InferenceFailed}
 use Rattle.layout.specs.declared.TypeNode.{TypeNode}
 use Rattle.layout.specs.declared.TypeNode.the-variants.{Root, Child}
+use Rattle.layout.specs.declared.Held.{Held}
+use Rattle.layout.specs.declared.Held.the-variants as held
 use Rattle.layout.specs.declared.Remembered.{Remembered}
 use Rattle.layout.specs.declared.Remembered.the-variants.{Is, Nothing}
 
@@ -53,9 +57,7 @@ cellBy f = record {
   number = f 5;
   dual = f 6;
   flex = f 7;
-  text = f 8;
-  start = f 9;
-  len = f 10;
+  name = nameFrom (f 8) (f 9) (f 10);
   count = f 11;
 }
 
@@ -64,7 +66,7 @@ cellIn s = cellBy (λ k. getD s k 0)
 
 abbrev pub wordsOf : Cell → List ℕ
 wordsOf c =
-    c .tag ∷ c .link ∷ c .size ∷ c .inv ∷ c .code ∷ c .number ∷ c .dual ∷ c .flex ∷ c .text ∷ c .start ∷ c .len
+    c .tag ∷ c .link ∷ c .size ∷ c .inv ∷ c .code ∷ c .number ∷ c .dual ∷ c .flex ∷ c .name .text ∷ c .name .start ∷ c .name .len
     ∷ c .count ∷ []
 
 -- a cell as a node, and back; a Known node's link is the place of its first child
@@ -75,9 +77,7 @@ cellKind c = record {
   number = c .number;
   dual = eqb (c .dual) 1;
   flex = c .flex;
-  text = c .text;
-  start = c .start;
-  len = c .len;
+  name = c .name;
   first = c .link;
   count = c .count;
 }
@@ -99,9 +99,7 @@ plainCell t l z = record {
   number = 0;
   dual = 0;
   flex = 0;
-  text = 0;
-  start = 0;
-  len = 0;
+  name = noName;
   count = 0;
 }
 
@@ -115,9 +113,7 @@ knownCell i k z = record {
   number = k .number;
   dual = flagWord (k .dual);
   flex = k .flex;
-  text = k .text;
-  start = k .start;
-  len = k .len;
+  name = k .name;
   count = k .count;
 }
 
@@ -145,16 +141,34 @@ readAt ws n i = pick (ltb i n) (nodeOf (cellIn (cellWords ws i))) noNode
 unfoldable pub putAt : List ℕ → ℕ → ℕ → TypeNode → List ℕ
 putAt ws n i v = pick (ltb i n) (pasteAt ws i (wordsOf (cellOf v))) ws
 
+-- what a node's readers take of it: a child has no state of its own, and no size
+
+abbrev pub nodeState : TypeNode → TypeState
+nodeState (Root st z) = st
+nodeState (Child t) = Unknown NONE
+
+abbrev pub nodeSize : TypeNode → ℕ
+nodeSize (Root st z) = z
+nodeSize (Child t) = 0
+
+abbrev pub heldBy : TypeState → Held
+heldBy (Known i k) = held.Is i k
+heldBy (Unknown s) = held.Nothing
+heldBy InferenceFailed = held.Nothing
+
+abbrev pub heldIn : TypeNode → Held
+heldIn v = heldBy (nodeState v)
+
 -- a child's four words, and what they mean
 
 abbrev pub slotIn : List ℕ → Slot
-slotIn s = record { ty = typeOf (getD s 0 0); text = getD s 1 0; start = getD s 2 0; len = getD s 3 0 }
+slotIn s = record { ty = typeOf (getD s 0 0); name = nameFrom (getD s 1 0) (getD s 2 0) (getD s 3 0) }
 
 abbrev pub slotWords : Slot → List ℕ
-slotWords c = c .ty .0 ∷ c .text ∷ c .start ∷ c .len ∷ []
+slotWords c = c .ty .0 ∷ c .name .text ∷ c .name .start ∷ c .name .len ∷ []
 
 abbrev pub slotMeans : Slot → sound.Slot
-slotMeans c = record { type = c .ty .0; text = c .text; start = c .start; len = c .len }
+slotMeans c = record { type = c .ty .0; text = c .name .text; start = c .name .start; len = c .name .len }
 
 -- `put_child`
 unfoldable pub putSlot : List ℕ → ℕ → Slot → List ℕ
@@ -171,9 +185,9 @@ cellMeans ks c = record {
   number = c .number;
   dual = c .dual;
   flex = c .flex;
-  text = c .text;
-  start = c .start;
-  len = c .len;
+  text = c .name .text;
+  start = c .name .start;
+  len = c .name .len;
   kids = slots ks (pick (eqb (c .tag) KNOWN-TAG) (c .link) 0) (c .count);
 }
 
@@ -195,6 +209,10 @@ kindMeans ks k = record {
   kids = map (λ s. tyOf (s .type)) (slots ks (k .first) (k .count));
 }
 
+-- how many of n children, from the first on, may have a name: those of a kind whose row has the names d
+abbrev pub namedOf : ℕ → ℕ → ℕ
+namedOf d n = pick (eqb d CHILD-NAMES) n (pick (eqb d PARAMETER-NAMES) (n - 1) 0)
+
 abbrev pub stateMeans : List ℕ → TypeState → nodes.State
 stateMeans ks (Known i k) = nodes.Known (i .0) (kindMeans ks k)
 stateMeans ks (Unknown s) = nodes.Unknown s
@@ -203,6 +221,11 @@ stateMeans ks InferenceFailed = nodes.InferenceFailed
 abbrev pub nodeMeans : List ℕ → TypeNode → nodes.Node
 nodeMeans ks (Root st z) = nodes.Root (stateMeans ks st) z
 nodeMeans ks (Child t) = nodes.Child (tyOf (t .0))
+
+-- the children of what a node holds
+abbrev pub heldKids : List ℕ → Held → List Ty
+heldKids ks (held.Is i k) = kindMeans ks k .kids
+heldKids ks held.Nothing = []
 
 -- a kind that may stand in a node: its children lie among the c made, and names that it does not have are zeros
 unfoldable pub kindFits : List ℕ → ℕ → Kind → Bool

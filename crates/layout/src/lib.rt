@@ -1,13 +1,14 @@
 // A store in three lent slices of numbers: where each number lies, and how a node, a child and the header are read and written.
 // Nothing above this crate reads a word: it uses these functions and the laws of proofs/.
-pub mod clean;
-
 ghost use mathlib.Core.Path.{_≡_};
 ghost use Prim.Native.Nat.{_+_, _*_, _≤_};
 ghost use lib.ListN.{length, getD};
 ghost use Rattle.layout.specs.Words.{NODE-WORDS, CHILD-WORDS, HEAD-WORDS, nodeWords, childWords, slotAt};
-ghost use Rattle.layout.specs.Meaning.{flagWord, cellIn, wordsOf, nodeOf, plainCell, knownCell, cellOf, cellWords, readAt, putAt};
-ghost use Rattle.layout.specs.Meaning.{slotIn, slotWords, slotMeans, putSlot, rememberedOf, rememberedWord, headerIn, putHeader};
+ghost use Rattle.layout.specs.Meaning.{flagWord, cellIn, wordsOf, cellKind, nodeOf, plainCell, knownCell, cellOf, cellWords, readAt, putAt};
+ghost use Rattle.layout.specs.Meaning.{nodeState, nodeSize, heldIn, slotIn, slotWords, slotMeans, putSlot, rememberedOf, rememberedWord, headerIn, putHeader};
+use names::NO_NAME;
+use names::Name;
+use scope::NONE;
 use types::Inverted;
 use types::Type;
 use types::TypeIdx;
@@ -17,9 +18,6 @@ pub const HEAD_WORDS: usize = 8;
 pub const NODE_WORDS: usize = 12;
 
 pub const CHILD_WORDS: usize = 4;
-
-// Span::NONE, and no type where one is remembered.
-pub const NONE: u32 = 4_294_967_295;
 
 // The weight of the report count's upper half.
 pub const HALF: u64 = 4_294_967_296;
@@ -33,15 +31,13 @@ pub const FAILED_TAG: u32 = 2;
 
 pub const KNOWN_TAG: u32 = 3;
 
-// A kind: its code, its number, its self-dual flag, its Flex, its own name, and its children, which lie from `first` on.
+// A kind: its code, its number, its self-dual flag, its Flex, its own name or zeros, and its children, which lie from `first` on.
 pub struct Kind {
     pub code: u32,
     pub number: u32,
     pub dual: bool,
     pub flex: u32,
-    pub text: u32,
-    pub start: u32,
-    pub len: u32,
+    pub name: Name,
     pub first: u32,
     pub count: u32,
 }
@@ -61,6 +57,12 @@ pub enum TypeNode {
     Child(Type),
 }
 
+// A node's inversion and kind, if it has a kind.
+pub enum Held {
+    Is(Inverted, Kind),
+    Nothing,
+}
+
 // A node's twelve words.
 pub struct Cell {
     pub tag: u32,
@@ -71,18 +73,14 @@ pub struct Cell {
     pub number: u32,
     pub dual: u32,
     pub flex: u32,
-    pub text: u32,
-    pub start: u32,
-    pub len: u32,
+    pub name: Name,
     pub count: u32,
 }
 
 // A child of a kind: its type, and its name or zeros.
 pub struct Slot {
     pub ty: Type,
-    pub text: u32,
-    pub start: u32,
-    pub len: u32,
+    pub name: Name,
 }
 
 // A type that `error` or `nil` returns again, if there is one.
@@ -141,9 +139,11 @@ fn read_cell(s: &[u32]) -> Cell
         number: s[5],
         dual: s[6],
         flex: s[7],
-        text: s[8],
-        start: s[9],
-        len: s[10],
+        name: Name {
+            text: s[8],
+            start: s[9],
+            len: s[10],
+        },
         count: s[11],
     }
 }
@@ -160,13 +160,28 @@ fn write_cell(s: &mut [u32], c: Cell)
     s[5] = c.number;
     s[6] = c.dual;
     s[7] = c.flex;
-    s[8] = c.text;
-    s[9] = c.start;
-    s[10] = c.len;
+    s[8] = c.name.text;
+    s[9] = c.name.start;
+    s[10] = c.name.len;
     s[11] = c.count;
 }
 
-// A Known node's link is the place of its first child.
+// The kind that a Known node's words say; their link is the place of its first child.
+pub fn kind_in(c: Cell) -> Kind
+    ensures { λ r. ⌜ r ≡ cellKind c ⌝ }
+{
+    let name = c.name;
+    Kind {
+        code: c.code,
+        number: c.number,
+        dual: c.dual == 1,
+        flex: c.flex,
+        name,
+        first: c.link,
+        count: c.count,
+    }
+}
+
 fn node_of(c: Cell) -> TypeNode
     ensures { λ r. ⌜ r ≡ nodeOf c ⌝ }
 {
@@ -186,19 +201,8 @@ fn node_of(c: Cell) -> TypeNode
             size,
         };
     }
-    let kind = Kind {
-        code: c.code,
-        number: c.number,
-        dual: c.dual == 1,
-        flex: c.flex,
-        text: c.text,
-        start: c.start,
-        len: c.len,
-        first: c.link,
-        count: c.count,
-    };
     TypeNode::Root {
-        state: TypeState::Known(Inverted(c.inv == 1), kind),
+        state: TypeState::Known(Inverted(c.inv == 1), kind_in(c)),
         size,
     }
 }
@@ -216,9 +220,7 @@ fn plain_cell(tag: u32, link: u32, size: u32) -> Cell
         number: 0,
         dual: 0,
         flex: 0,
-        text: 0,
-        start: 0,
-        len: 0,
+        name: NO_NAME,
         count: 0,
     }
 }
@@ -226,6 +228,7 @@ fn plain_cell(tag: u32, link: u32, size: u32) -> Cell
 fn known_cell(inv: Inverted, k: Kind, size: u32) -> Cell
     ensures { λ r. ⌜ r ≡ knownCell inv k size ⌝ }
 {
+    let name = k.name;
     Cell {
         tag: KNOWN_TAG,
         link: k.first,
@@ -235,9 +238,7 @@ fn known_cell(inv: Inverted, k: Kind, size: u32) -> Cell
         number: k.number,
         dual: flag(k.dual),
         flex: k.flex,
-        text: k.text,
-        start: k.start,
-        len: k.len,
+        name,
         count: k.count,
     }
 }
@@ -279,6 +280,37 @@ pub fn node_at(ws: &[u32], n: u32, i: TypeIdx) -> TypeNode
     node_of(cell_at(ws, i))
 }
 
+// A child has no state of its own, and no size.
+pub fn state_of(node: TypeNode) -> TypeState
+    ensures { λ r. ⌜ r ≡ nodeState node ⌝ }
+{
+    match node {
+        TypeNode::Root { state, size: _ } => state,
+        TypeNode::Child(_) => TypeState::Unknown(NONE),
+    }
+}
+
+pub fn size_of(node: TypeNode) -> u32
+    ensures { λ r. ⌜ r ≡ nodeSize node ⌝ }
+{
+    match node {
+        TypeNode::Root { state: _, size } => size,
+        TypeNode::Child(_) => 0,
+    }
+}
+
+// The kind of node i of n.
+pub fn held_at(ws: &[u32], n: u32, i: TypeIdx) -> Held
+    requires { ⌜ nodeWords n ≤ length (now ws) ⌝ }
+    ensures { λ r. ⌜ r ≡ heldIn (readAt (now (ws .entry)) n (i .0)) ⌝ }
+{
+    match state_of(node_at(ws, n, i)) {
+        TypeState::Known(inv, kind) => Held::Is(inv, kind),
+        TypeState::Unknown(_) => Held::Nothing,
+        TypeState::InferenceFailed => Held::Nothing,
+    }
+}
+
 // Another node i of n; past them nothing changes.
 pub fn put_node(ws: &mut [u32], n: u32, i: TypeIdx, node: TypeNode)
     requires { ⌜ nodeWords n ≤ length (now ws) ⌝ }
@@ -297,9 +329,11 @@ fn read_slot(s: &[u32]) -> Slot
 {
     Slot {
         ty: Type(word(s, 0)),
-        text: word(s, 1),
-        start: word(s, 2),
-        len: word(s, 3),
+        name: Name {
+            text: word(s, 1),
+            start: word(s, 2),
+            len: word(s, 3),
+        },
     }
 }
 
@@ -308,9 +342,9 @@ fn write_slot(s: &mut [u32], c: Slot)
     ensures { λ _. ⌜ now (s .exit) ≡ slotWords c ⌝ }
 {
     s[0] = c.ty.0;
-    s[1] = c.text;
-    s[2] = c.start;
-    s[3] = c.len;
+    s[1] = c.name.text;
+    s[2] = c.name.start;
+    s[3] = c.name.len;
 }
 
 // The child i; past the end zeros.
@@ -320,9 +354,7 @@ pub fn child_at(ks: &[u32], i: usize) -> Slot
     if ks.len() / CHILD_WORDS < i {
         return Slot {
             ty: Type(0),
-            text: 0,
-            start: 0,
-            len: 0,
+            name: NO_NAME,
         };
     }
     let a = i * CHILD_WORDS;

@@ -1,25 +1,24 @@
 -- What each maker's words hold. A push leaves the store with one root more; the header that it writes says the rest. `new_var` pushes an Unknown,
--- `error` and `nil` a kind without children, which they remember unless one is remembered already.
+-- `error` and `nil` a kind without children, which they remember unless one is remembered already: one law for both, over what is remembered.
 -- Assumes nothing.
-use mathlib.Core.Path.{_≡_, refl, ap, sym, _∙_}
-use mathlib.Core.Bool.{Bool, true, false}
-use mathlib.Core.Option.{Option, none, some}
+use mathlib.Core.Path.{_≡_, refl, ap, sym, _∙_, subst}
+use mathlib.Core.Bool.{true, false}
+use mathlib.Core.Option.{Option, some}
 use mathlib.Core.List.{List}
 use Prim.Native.Nat.{ℕ, _+_, _≤_}
 use native.Mathlib.Omega.{arith}
-use lib.Dec.{eqb}
 use lib.ListN.{length, getD, drop}
 use borrow.Author.Tests.{ne-eqb}
-use Rattle.scope.specs.Limits.{NONE}
+use Rattle.scope.specs.Limits.{MAX-NODES, MAX-CHILDREN, NONE}
 use Rattle.scope.specs.Types.{Ty, ty, tyOf}
 use Rattle.scope.specs.Kinds.{rowOf, rows, NO-NAMES, TUPLE, ERROR}
 use Rattle.scope.specs.Nodes as nodes
-use Rattle.scope.specs.Make.{nextType, pushed, bare, new, newVar, again, rememberError, rememberNil, makeError, makeNil}
+use Rattle.scope.specs.Make.{Made, nextType, pushed, bare, new, newVar, again, rememberError, rememberNil, makeError, makeNil}
 use Rattle.scope.specs.Calls.{nodesFor}
 use Rattle.types.specs.declared.«Type».{«Type»}
 use Rattle.types.proofs.Laws.{ty-plain}
 use Rattle.layout.specs.Words.{childWords, nodesMade, childrenMade, nodeRoom, childRoom, storeIn, clean}
-use Rattle.layout.specs.Meaning.{typeOf, headerIn, kindMeans, kindFits, stateMeans, stateFits, rememberedOf, rememberedMeans, rememberedFits, Kept, Lies}
+use Rattle.layout.specs.Meaning.{typeOf, headerIn, stateMeans, stateFits, rememberedMeans, rememberedFits, Kept, Lies}
 use Rattle.layout.specs.declared.Header.{Header}
 use Rattle.layout.specs.declared.Kind.{Kind}
 use Rattle.layout.specs.declared.Remembered.{Remembered}
@@ -27,11 +26,13 @@ use Rattle.layout.specs.declared.Remembered.the-variants.{Is, Nothing}
 use Rattle.layout.specs.declared.TypeState.{TypeState}
 use Rattle.layout.specs.declared.TypeState.the-variants.{Known, Unknown}
 use Rattle.layout.proofs.ChildLaws.{kept-refl}
-use Rattle.layout.proofs.KindLaws.{names-none, fits-none}
-use Rattle.layout.proofs.StoreLaws.{clean-lies, remembered-means}
-use Rattle.make.specs.Holds.{Became, Ready, MadeIs}
-use Rattle.make.specs.Header.{Pushable, Pushed, bareKind}
-use Rattle.make.proofs.Laws.{store-count, beyond-refl, push-holds, push-beyond}
+use Rattle.layout.proofs.StoreLaws.{clean-lies}
+use Rattle.store.specs.Holds.{Became, Ready}
+use Rattle.store.specs.Bare.{bareKind}
+use Rattle.store.proofs.Laws.{store-count, beyond-refl, remembered-fits, error-is, nil-is, bare-means, bare-fits}
+use Rattle.make.specs.Made.{MadeIs}
+use Rattle.make.specs.Header.{Pushable, Pushed, OnceReady, OnceMade}
+use Rattle.make.proofs.Laws.{push-holds, push-beyond}
 
 -- a store that remembers other types
 abbrev pub remembering : nodes.Store → Option Ty → Option Ty → nodes.Store
@@ -47,8 +48,8 @@ remembering s e z = record {
 
 -- room, in the header's words
 pub record RoomIn (h : List ℕ) (n c : ℕ) : Type 0 where
-  pub nodeLimit : nodeRoom h ≤ 4096
-  pub childLimit : childRoom h ≤ 16384
+  pub nodeLimit : nodeRoom h ≤ MAX-NODES
+  pub childLimit : childRoom h ≤ MAX-CHILDREN
   pub nodes : nodesMade h + n ≤ nodeRoom h
   pub children : childrenMade h + c ≤ childRoom h
 
@@ -69,15 +70,6 @@ pushable-in {h} {ws} {ks} {c} r =
 
 pub pushable : {h ws ks : List ℕ} {c : ℕ} (x : Header) → Ready h ws ks 1 c → x ≡ headerIn h → Pushable h ws x c
 pushable x r e = rw e (pushable-in r)
-
--- a kind without names
-
-pub bare-means : (ks : List ℕ) (c : ℕ) → rowOf c .names ≡ NO-NAMES → kindMeans ks (bareKind c) ≡ bare c
-unfolding kindMeans
-bare-means ks c e = rw (names-none ks (bareKind c) e) refl
-
-pub bare-fits : (ks : List ℕ) (m c : ℕ) → rowOf c .names ≡ NO-NAMES → kindFits ks m (bareKind c) ≡ true
-bare-fits ks m c e = fits-none ks (bareKind c) m (omega arith) refl e refl
 
 -- a push
 
@@ -101,34 +93,10 @@ module _ {h ws ks h′ ws′ : List ℕ} {c : ℕ} {st : TypeState} {e z : Remem
           beyond = push-beyond h ws ks ks′ (r .clean) c st e z (o .nodes) (o .children) len kept after fits;
         })
 
--- the types that were remembered
-
-fits-by : (b : Bool) (w : ℕ) → eqb w NONE ≡ b → rememberedFits (rememberedOf w) ≡ true
-fits-by true w e = rw e refl
-fits-by false w e = rw (e, e) refl
-
-pub remembered-fits : (w : ℕ) → rememberedFits (rememberedOf w) ≡ true
-remembered-fits w = fits-by (eqb w NONE) w refl
-
-abbrev wasError : List ℕ → Remembered
-wasError h = rememberedOf (getD h 4 0)
-
-abbrev wasNil : List ℕ → Remembered
-wasNil h = rememberedOf (getD h 5 0)
-
-module _ (h ws ks : List ℕ) where
-  pub error-is : rememberedMeans (wasError h) ≡ storeIn h ws ks .error
-  unfolding storeIn
-  error-is = remembered-means (getD h 4 0)
-
-  pub nil-is : rememberedMeans (wasNil h) ≡ storeIn h ws ks .nil
-  unfolding storeIn
-  nil-is = remembered-means (getD h 5 0)
-
 -- new: the same types are remembered
 
 module _ {h ws ks h′ ws′ : List ℕ} {c : ℕ} {st : TypeState} {t : «Type»} (r : Ready h ws ks 1 c)
-    (p : Pushed h ws h′ ws′ (headerIn h) c (wasError h) (wasNil h) st t) where
+    (p : Pushed h ws h′ ws′ (headerIn h) c (headerIn h .error) (headerIn h .nil) st t) where
   pub pushed-made : (ks′ : List ℕ) → length ks′ ≡ length ks → Kept (childrenMade h) ks ks′
       → drop (childWords (childrenMade h + c)) ks′ ≡ drop (childWords (childrenMade h + c)) ks
       → stateFits ks′ (childrenMade h + c) st ≡ true
@@ -141,7 +109,7 @@ module _ {h ws ks h′ ws′ : List ℕ} {c : ℕ} {st : TypeState} {t : «Type�
   }
 
 var-in : {h ws ks h′ ws′ : List ℕ} {p : ℕ} {t : «Type»} → Ready h ws ks 1 0
-    → Pushed h ws h′ ws′ (headerIn h) 0 (wasError h) (wasNil h) (Unknown p) t → MadeIs h ws ks h′ ws′ ks t (newVar (storeIn h ws ks) p)
+    → Pushed h ws h′ ws′ (headerIn h) 0 (headerIn h .error) (headerIn h .nil) (Unknown p) t → MadeIs h ws ks h′ ws′ ks t (newVar (storeIn h ws ks) p)
 unfolding newVar
 var-in {h} {ws} {ks} r o = pushed-made r o ks refl (kept-refl (childrenMade h) ks) refl refl
 
@@ -171,6 +139,52 @@ module _ {h ws ks : List ℕ} {c : ℕ} (r : Ready h ws ks 1 c) where
       let o : RoomIn h 1 c = ready-room r in
       ap some (ty-plain (nodesMade h) (omega arith) ∙ ap (ty false) (sym (store-count h ws ks)))
 
+-- `remembered_or_new`: its two ways out
+
+clash : {A : Type 0} {was : Remembered} {u : «Type»} → was ≡ Is u → was ≡ Nothing → A
+clash p q = let v : _≡_ {A = ℕ} 0 1 = cc in absurd (omega arith)
+
+pub once-same : {h ws : List ℕ} {x : Header} {was e z : Remembered} {c : ℕ} {t : «Type»} → was ≡ Is t → OnceMade h ws h ws x was e z c t
+once-same {t = t} q = record { same = λ u p. let v : t ≡ u = cc in (v, (refl, refl)); new = λ p. clash q p }
+
+pub once-new : {h ws h′ ws′ : List ℕ} {x : Header} {was e z : Remembered} {c : ℕ} {k : Kind} {t : «Type»} → was ≡ Nothing → k ≡ bareKind c
+    → Pushed h ws h′ ws′ x 0 e z (Known (record { 0 = false }) k) t → OnceMade h ws h′ ws′ x was e z c t
+once-new q b o = record { same = λ u p. clash p q; new = λ p. rw b at o }
+
+-- what it makes, where remembering e and z is what `remember` does
+
+module _ (h ws ks : List ℕ) (c : ℕ) (row : rowOf c .names ≡ NO-NAMES) (remember : Made → Made) (e z : Remembered) where
+  abbrev s : nodes.Store
+  s = storeIn h ws ks
+
+  abbrev kept : Made
+  kept = record { type = nextType s; store = remembering (new s (bare c) .store) (rememberedMeans e) (rememberedMeans z) }
+
+  record Remembers : Type 0 where
+    makes : remember (new s (bare c)) ≡ kept
+    first : rememberedFits e ≡ true
+    second : rememberedFits z ≡ true
+
+  same-made : (t : «Type») → clean h ws ks ≡ true → MadeIs h ws ks h ws ks t (record { type = tyOf (t .0); store = s })
+  same-made t ok = record { type = refl; store = record { holds = record { clean = ok; is = refl }; beyond = beyond-refl } }
+
+  once-by : (was : Remembered) {h′ ws′ : List ℕ} {t : «Type»} → Ready h ws ks (nodesFor (rememberedMeans was)) 0 → (Ready h ws ks 1 0 → Remembers)
+      → OnceMade h ws h′ ws′ (headerIn h) was e z c t → MadeIs h ws ks h′ ws′ ks t (again s (rememberedMeans was) (remember (new s (bare c))))
+  once-by (Is u) r f o =
+      let p = o .same u refl in
+      rw (p .0, p .1 .0, p .1 .1) (same-made u (r .clean))
+  once-by Nothing r f o =
+      let m : Remembers = f r in
+      let p = o .new refl in
+      rw (m .makes) (record { type = pushed-type r p; store = bare-became c row r p (m .first) (m .second) })
+
+  once-made : (was : Remembered) {o : Option Ty} {h′ ws′ : List ℕ} {t : «Type»} → rememberedMeans was ≡ o → Ready h ws ks (nodesFor o) 0
+      → (Ready h ws ks 1 0 → Remembers) → OnceMade h ws h′ ws′ (headerIn h) was e z c t
+      → MadeIs h ws ks h′ ws′ ks t (again s o (remember (new s (bare c))))
+  once-made was {h′ = h′} {ws′ = ws′} {t = t} g r f m =
+      subst (λ (o : Option Ty). MadeIs h ws ks h′ ws′ ks t (again s o (remember (new s (bare c))))) g
+      (once-by was (subst (λ (o : Option Ty). Ready h ws ks (nodesFor o) 0) (sym g) r) f m)
+
 error-row : rowOf ERROR .names ≡ NO-NAMES
 unfolding rowOf rows
 error-row = refl
@@ -179,63 +193,38 @@ nil-row : rowOf TUPLE .names ≡ NO-NAMES
 unfolding rowOf rows
 nil-row = refl
 
-module _ (s : nodes.Store) where
-  error-again : (t : Ty) → s .error ≡ some t → makeError s ≡ record { type = t; store = s }
-  unfolding makeError
-  error-again t e = ap (λ o. again s o (rememberError (new s (bare ERROR)))) e
+pub once-ready : {h ws ks : List ℕ} {x : Header} {was : Remembered} {o : Option Ty} → x ≡ headerIn h → rememberedMeans was ≡ o
+    → Ready h ws ks (nodesFor o) 0 → OnceReady h ws x was
+once-ready {x = x} q g r = record { pushable = λ e. pushable x (rw (← g, e) at r) q }
 
-  error-once : s .error ≡ none → makeError s ≡ rememberError (new s (bare ERROR))
-  unfolding makeError
-  error-once e = ap (λ o. again s o (rememberError (new s (bare ERROR)))) e
+module _ (h ws ks : List ℕ) where
+  abbrev next : Remembered
+  next = Is (typeOf (nodesMade h))
 
-  nil-again : (t : Ty) → s .nil ≡ some t → makeNil s ≡ record { type = t; store = s }
-  unfolding makeNil
-  nil-again t e = ap (λ o. again s o (rememberNil (new s (bare TUPLE)))) e
+  error-kept : Ready h ws ks 1 0 → Remembers h ws ks ERROR error-row rememberError next (headerIn h .nil)
+  unfolding new
+  error-kept r = record { makes = rw (next-means r, nil-is h ws ks); first = next-fits r; second = remembered-fits (getD h 5 0) }
 
-  nil-once : s .nil ≡ none → makeNil s ≡ rememberNil (new s (bare TUPLE))
-  unfolding makeNil
-  nil-once e = ap (λ o. again s o (rememberNil (new s (bare TUPLE)))) e
+  nil-kept : Ready h ws ks 1 0 → Remembers h ws ks TUPLE nil-row rememberNil (headerIn h .error) next
+  unfolding new
+  nil-kept r = record { makes = rw (next-means r, error-is h ws ks); first = remembered-fits (getD h 4 0); second = next-fits r }
 
--- one that is remembered is returned, and nothing changes
-same-made : {h ws ks : List ℕ} (t : «Type») → clean h ws ks ≡ true → MadeIs h ws ks h ws ks t (record { type = tyOf (t .0); store = storeIn h ws ks })
-same-made t ok = record { type = refl; store = record { holds = record { clean = ok; is = refl }; beyond = beyond-refl } }
+  module _ {x : Header} (q : x ≡ headerIn h) where
+    pub head-error : rememberedMeans (x .error) ≡ storeIn h ws ks .error
+    head-error = rw q (error-is h ws ks)
 
-module _ (h ws ks : List ℕ) {x : Header} (q : x ≡ headerIn h) where
-  was-error : {r : Remembered} → x .error ≡ r → storeIn h ws ks .error ≡ rememberedMeans r
-  was-error e = sym (error-is h ws ks) ∙ ap rememberedMeans (ap (λ (y : Header). y .error) (sym q) ∙ e)
+    pub head-nil : rememberedMeans (x .nil) ≡ storeIn h ws ks .nil
+    head-nil = rw q (nil-is h ws ks)
 
-  was-nil : {r : Remembered} → x .nil ≡ r → storeIn h ws ks .nil ≡ rememberedMeans r
-  was-nil e = sym (nil-is h ws ks) ∙ ap rememberedMeans (ap (λ (y : Header). y .nil) (sym q) ∙ e)
+  module _ {h′ ws′ : List ℕ} {x : Header} {t : «Type»} (q : x ≡ headerIn h) where
+    pub error-made : Ready h ws ks (nodesFor (storeIn h ws ks .error)) 0 → OnceMade h ws h′ ws′ x (x .error) (Is (typeOf (x .nodes))) (x .nil) ERROR t
+        → MadeIs h ws ks h′ ws′ ks t (makeError (storeIn h ws ks))
+    unfolding makeError
+    error-made r o =
+        once-made h ws ks ERROR error-row rememberError next (headerIn h .nil) (headerIn h .error) (error-is h ws ks) r error-kept (rw q at o)
 
-  pub error-same : {t : «Type»} → x .error ≡ Is t → clean h ws ks ≡ true → MadeIs h ws ks h ws ks t (makeError (storeIn h ws ks))
-  error-same {t} e ok = rw (error-again (storeIn h ws ks) (tyOf (t .0)) (was-error e)) (same-made t ok)
-
-  pub nil-same : {t : «Type»} → x .nil ≡ Is t → clean h ws ks ≡ true → MadeIs h ws ks h ws ks t (makeNil (storeIn h ws ks))
-  nil-same {t} e ok = rw (nil-again (storeIn h ws ks) (tyOf (t .0)) (was-nil e)) (same-made t ok)
-
-  pub error-ready : x .error ≡ Nothing → Ready h ws ks (nodesFor (storeIn h ws ks .error)) 0 → Ready h ws ks 1 0
-  error-ready e r = rw (was-error e) at r
-
-  pub nil-ready : x .nil ≡ Nothing → Ready h ws ks (nodesFor (storeIn h ws ks .nil)) 0 → Ready h ws ks 1 0
-  nil-ready e r = rw (was-nil e) at r
-
-  module _ {h′ ws′ : List ℕ} {k : Kind} {t : «Type»} (r : Ready h ws ks 1 0) where
-    pub error-new : k ≡ bareKind ERROR → x .error ≡ Nothing
-        → Pushed h ws h′ ws′ x 0 (Is (typeOf (x .nodes))) (x .nil) (Known (record { 0 = false }) k) t → MadeIs h ws ks h′ ws′ ks t (makeError (storeIn h ws ks))
-    unfolding new
-    error-new b e o =
-        let p = rw (b, q) at o in
-        rw (error-once (storeIn h ws ks) (was-error e)) (record {
-          type = pushed-type r p;
-          store = rw (next-means r, nil-is h ws ks) at (bare-became ERROR error-row r p (next-fits r) (remembered-fits (getD h 5 0)));
-        })
-
-    pub nil-new : k ≡ bareKind TUPLE → x .nil ≡ Nothing
-        → Pushed h ws h′ ws′ x 0 (x .error) (Is (typeOf (x .nodes))) (Known (record { 0 = false }) k) t → MadeIs h ws ks h′ ws′ ks t (makeNil (storeIn h ws ks))
-    unfolding new
-    nil-new b e o =
-        let p = rw (b, q) at o in
-        rw (nil-once (storeIn h ws ks) (was-nil e)) (record {
-          type = pushed-type r p;
-          store = rw (next-means r, error-is h ws ks) at (bare-became TUPLE nil-row r p (remembered-fits (getD h 4 0)) (next-fits r));
-        })
+    pub nil-made : Ready h ws ks (nodesFor (storeIn h ws ks .nil)) 0 → OnceMade h ws h′ ws′ x (x .nil) (x .error) (Is (typeOf (x .nodes))) TUPLE t
+        → MadeIs h ws ks h′ ws′ ks t (makeNil (storeIn h ws ks))
+    unfolding makeNil
+    nil-made r o =
+        once-made h ws ks TUPLE nil-row rememberNil (headerIn h .error) next (headerIn h .nil) (nil-is h ws ks) r nil-kept (rw q at o)

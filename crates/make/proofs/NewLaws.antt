@@ -20,10 +20,12 @@ use Rattle.layout.proofs.Lists.{drop-later}
 use Rattle.layout.proofs.ChildLaws.{slot-here, slot-there, tail-put-child, kept-put, kept-refl, kept-trans, length-kids}
 use Rattle.layout.proofs.KindLaws.{kind-fits, moved-means, moved-fits}
 use Rattle.layout.proofs.StoreLaws.{clean-lies}
-use Rattle.make.specs.Holds.{Ready, MadeIs}
+use Rattle.store.specs.Holds.{Ready}
+use Rattle.make.specs.Made.{MadeIs}
 use Rattle.make.specs.Header.{Pushed}
-use Rattle.make.specs.Given.{entryCount, kindAt, kindOver, kindGiven, KindReady, Put}
-use Rattle.make.specs.declared.NewKind.{NewKind}
+use Rattle.store.specs.Entries.{entryCount}
+use Rattle.make.specs.Given.{kindAt, kindOver, kindGiven, KindReady, Put}
+use Rattle.make.specs.declared.Head.{Head}
 use Rattle.make.proofs.MakeLaws.{RoomIn, ready-room, pushed-made}
 
 -- a run of children
@@ -52,7 +54,7 @@ put-end o e = rw e at o
 
 -- the kind over the entries, with its children at `first`
 
-module _ (k : NewKind) (es : List ℕ) {ks ks′ : List ℕ} {first : ℕ} (o : Put es first (entryCount es) ks ks′) where
+module _ (k : Head) (es : List ℕ) {ks ks′ : List ℕ} {first : ℕ} (o : Put es first (entryCount es) ks ks′) where
   abbrev moved : Kind
   moved = kindAt k first (entryCount es)
 
@@ -67,14 +69,17 @@ module _ (k : NewKind) (es : List ℕ) {ks ks′ : List ℕ} {first : ℕ} (o : 
 
 -- for callers: a kind has a child for each entry, and one whose names are clean may be made where there is room
 
-pub given-kids : (k : NewKind) (es : List ℕ) → length (kindGiven k es .kids) ≡ entryCount es
+pub given-kids : (k : Head) (es : List ℕ) → length (kindGiven k es .kids) ≡ entryCount es
 given-kids k es = length-kids es (kindOver k es)
 
-pub kind-ready : {h ws ks : List ℕ} (k : NewKind) (es : List ℕ) → Ready h ws ks 1 (entryCount es) → namesClean (kindCell es (kindOver k es)) ≡ true
+pub kind-ready : {h ws ks : List ℕ} (k : Head) (es : List ℕ) → Ready h ws ks 1 (entryCount es) → namesClean (kindCell es (kindOver k es)) ≡ true
     → KindReady h ws ks k es
 kind-ready k es r c = record { ready = r; fits = kind-fits es (kindOver k es) (entryCount es) (omega arith) c }
 
 -- new_kind
+
+pub entries-ready : {h ws ks es : List ℕ} {k : Head} {n : ℕ} → KindReady h ws ks k es → n ≡ entryCount es → Ready h ws ks 1 n
+entries-ready r e = rw e (r .ready)
 
 children-in : {h ws ks : List ℕ} {n : ℕ} → Ready h ws ks 1 n → childWords (childrenMade h + n) ≤ length ks
 children-in {h} {ws} {ks} {n} r =
@@ -85,7 +90,7 @@ children-in {h} {ws} {ks} {n} r =
 pub children-room : {h ws ks : List ℕ} {x : Header} {n : ℕ} → Ready h ws ks 1 n → x ≡ headerIn h → childWords (x .children + n) ≤ length ks
 children-room r e = rw e (children-in r)
 
-kind-in : {h ws ks h′ ws′ ks′ es : List ℕ} {k : NewKind} {t : «Type»} → KindReady h ws ks k es → Put es (childrenMade h) (entryCount es) ks ks′
+kind-in : {h ws ks h′ ws′ ks′ es : List ℕ} {k : Head} {t : «Type»} → KindReady h ws ks k es → Put es (childrenMade h) (entryCount es) ks ks′
     → length ks′ ≡ length ks
     → Pushed h ws h′ ws′ (headerIn h) (entryCount es) (headerIn h .error) (headerIn h .nil) (Known (record { 0 = false }) (kindAt k (childrenMade h) (entryCount es))) t
     → MadeIs h ws ks h′ ws′ ks′ t (new (storeIn h ws ks) (kindGiven k es))
@@ -93,8 +98,8 @@ unfolding new
 kind-in {ks′ = ks′} {es = es} {k = k} r o l p =
     rw (given-kids k es, ← (put-means k es o)) (pushed-made (r .ready) p ks′ l (o .before) (o .after) (put-fits k es o (r .fits)))
 
-pub kind-made : {h ws ks h′ ws′ ks′ es : List ℕ} {k : NewKind} {x : Header} {y : Kind} {t : «Type»} → KindReady h ws ks k es → x ≡ headerIn h
-    → Put es (x .children) (entryCount es) ks ks′ → length ks′ ≡ length ks → y ≡ kindAt k (x .children) (entryCount es)
-    → Pushed h ws h′ ws′ x (entryCount es) (x .error) (x .nil) (Known (record { 0 = false }) y) t
+pub kind-made : {h ws ks h′ ws′ ks′ es : List ℕ} {k : Head} {x : Header} {y : Kind} {t : «Type»} {n : ℕ} → KindReady h ws ks k es → x ≡ headerIn h
+    → n ≡ entryCount es → Put es (x .children) n ks ks′ → length ks′ ≡ length ks → y ≡ kindAt k (x .children) n
+    → Pushed h ws h′ ws′ x n (x .error) (x .nil) (Known (record { 0 = false }) y) t
     → MadeIs h ws ks h′ ws′ ks′ t (new (storeIn h ws ks) (kindGiven k es))
-kind-made r e o l q p = kind-in r (rw e at o) l (rw (q, e) at p)
+kind-made r e m o l q p = kind-in r (rw (e, m) at o) l (rw (q, e, m) at p)

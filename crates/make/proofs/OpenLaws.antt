@@ -15,7 +15,7 @@ use Rattle.layout.specs.Meaning.{headerIn, putHeader, storeMeans, Clean, Lies}
 use Rattle.layout.specs.declared.Header.{Header}
 use Rattle.layout.proofs.Lists.{and-both, and-left, and-right, drop-later}
 use Rattle.layout.proofs.StoreLaws.{tail-put-header, length-put-header, store-put, clean-lies, clean-unused, clean-of}
-use Rattle.make.specs.Holds.{Holds, Became, Openable}
+use Rattle.store.specs.Holds.{Holds, Became, Openable}
 use Rattle.make.specs.Header.{cleared, fresh}
 use Rattle.make.proofs.Blank.{Blank, zeros-blank, blank-zeros, drop-cleared, length-cleared, blank-cleared}
 

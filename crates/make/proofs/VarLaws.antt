@@ -16,8 +16,9 @@ use Rattle.scope.specs.Calls.{written}
 use Rattle.types.specs.declared.«Type».{«Type»}
 use Rattle.types.proofs.Laws.{word-is}
 use Rattle.layout.specs.Words.{storeIn, clean}
-use Rattle.make.specs.Holds.{Ready, MadeIs, MadeAllIs}
-use Rattle.make.proofs.Laws.{beyond-refl, beyond-trans}
+use Rattle.store.specs.Holds.{Ready}
+use Rattle.make.specs.Made.{MadeIs, MadeAllIs}
+use Rattle.store.proofs.Laws.{beyond-refl, beyond-trans}
 
 -- one variable after n others
 abbrev after : MadeAll → ℕ → MadeAll

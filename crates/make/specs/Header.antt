@@ -8,11 +8,12 @@ use Rattle.types.specs.declared.«Type».{«Type»}
 use Rattle.layout.specs.Words.{HEAD-WORDS, nodeWords}
 use Rattle.layout.specs.Meaning.{HALF, putAt, putHeader}
 use Rattle.layout.specs.declared.Header.{Header}
-use Rattle.layout.specs.declared.Kind.{Kind}
 use Rattle.layout.specs.declared.Remembered.{Remembered}
-use Rattle.layout.specs.declared.Remembered.the-variants.{Nothing}
+use Rattle.layout.specs.declared.Remembered.the-variants.{Is, Nothing}
 use Rattle.layout.specs.declared.TypeState.{TypeState}
+use Rattle.layout.specs.declared.TypeState.the-variants.{Known}
 use Rattle.layout.specs.declared.TypeNode.the-variants.{Root}
+use Rattle.store.specs.Bare.{bareKind}
 
 -- the first e words are 0
 abbrev pub cleared : List ℕ → ℕ → List ℕ
@@ -42,20 +43,6 @@ grown x c e n = record {
   reports = x .reports;
 }
 
--- a kind without number, names or children
-abbrev pub bareKind : ℕ → Kind
-bareKind c = record {
-  code = c;
-  number = 0;
-  dual = false;
-  flex = 0;
-  text = 0;
-  start = 0;
-  len = 0;
-  first = 0;
-  count = 0;
-}
-
 -- the slices have the words for it, and the counts stay within theirs
 pub record Pushable (h ws : List ℕ) (x : Header) (c : ℕ) : Type 0 where
   pub head : HEAD-WORDS ≤ length h
@@ -68,3 +55,12 @@ pub record Pushed (h ws h′ ws′ : List ℕ) (x : Header) (c : ℕ) (e n : Rem
   pub type : t .0 ≡ x .nodes
   pub nodes : ws′ ≡ putAt ws (x .nodes + 1) (x .nodes) (Root st 1)
   pub head : h′ ≡ putHeader h (grown x c e n)
+
+-- a type that is made once: it is remembered, or there are the words for one node more
+pub record OnceReady (h ws : List ℕ) (x : Header) (was : Remembered) : Type 0 where
+  pub pushable : was ≡ Nothing → Pushable h ws x 0
+
+-- the type that was remembered and every word as found, or a root more whose kind has no children
+pub record OnceMade (h ws h′ ws′ : List ℕ) (x : Header) (was e n : Remembered) (code : ℕ) (t : «Type») : Type 0 where
+  pub same : (u : «Type») → was ≡ Is u → (t ≡ u) × ((h′ ≡ h) × (ws′ ≡ ws))
+  pub new : was ≡ Nothing → Pushed h ws h′ ws′ x 0 e n (Known (record { 0 = false }) (bareKind code)) t

@@ -1,3 +1,3 @@
-pub mod Holds
+pub mod Made
 pub mod Given
 pub mod Header

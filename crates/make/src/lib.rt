@@ -10,31 +10,30 @@ ghost use Rattle.scope.specs.Force.{reset};
 ghost use Rattle.scope.specs.Calls.{nodesFor};
 ghost use Rattle.layout.specs.Words.{childWords, storeIn};
 ghost use Rattle.layout.specs.Words as words;
-ghost use Rattle.make.specs.Holds.{Became, Openable, Ready, MadeIs, MadeAllIs};
-ghost use Rattle.make.specs.Header.{Pushable, Pushed, cleared, fresh, bareKind};
+ghost use Rattle.store.specs.Holds.{Became, Openable, Ready};
+ghost use Rattle.make.specs.Made.{MadeIs, MadeAllIs};
+ghost use Rattle.make.specs.Header.{Pushable, Pushed, OnceReady, OnceMade, cleared, fresh};
 ghost use Rattle.make.specs.Given.{KindReady, Put, kindAt, kindGiven};
 use kinds::ERROR;
 use kinds::TUPLE;
-use layout::CHILD_WORDS;
 use layout::Header;
 use layout::Kind;
 use layout::Remembered;
 use layout::TypeNode;
 use layout::TypeState;
+use names::Name;
 use types::Inverted;
 use types::Type;
 use types::TypeIdx;
 
-// What a kind is made of, its children and their names apart.
-pub struct NewKind {
+// What of a kind is neither a child nor a child's name.
+pub struct Head {
     pub code: u32,
     pub number: u32,
     pub dual: bool,
     pub flex: u32,
     // Its own name, or zeros.
-    pub text: u32,
-    pub start: u32,
-    pub len: u32,
+    pub name: Name,
 }
 
 // The first e words become 0.
@@ -66,7 +65,8 @@ fn no_nodes(node_room: u32, child_room: u32, reports: u64) -> Header
 // A store just opened, whatever the slices held.
 pub fn open(h: &mut [u32], ws: &mut [u32], ks: &mut [u32], nodes: u32, children: u32)
     requires { ⌜ Openable nodes children (now h) (now ws) (now ks) ⌝ }
-    ensures { λ _. ⌜ Became (now (h .entry)) (now (ws .entry)) (now (ks .entry)) (now (h .exit)) (now (ws .exit)) (now (ks .exit)) (opened nodes children) ⌝ }
+    ensures { λ _. ⌜ Became (now (h .entry)) (now (ws .entry)) (now (ks .entry)) (now (h .exit)) (now (ws .exit)) (now (ks .exit))
+        (opened nodes children) ⌝ }
 {
     clear(ws, layout::node_words(nodes));
     clear(ks, layout::child_words(children));
@@ -76,7 +76,8 @@ pub fn open(h: &mut [u32], ws: &mut [u32], ks: &mut [u32], nodes: u32, children:
 // The used slots become 0; the others are.
 pub fn reset(h: &mut [u32], ws: &mut [u32], ks: &mut [u32])
     requires { ⌜ words.clean (now h) (now ws) (now ks) ≡ true ⌝ }
-    ensures { λ _. ⌜ Became (now (h .entry)) (now (ws .entry)) (now (ks .entry)) (now (h .exit)) (now (ws .exit)) (now (ks .exit)) (reset (storeIn (now (h .entry)) (now (ws .entry)) (now (ks .entry)))) ⌝ }
+    ensures { λ _. ⌜ Became (now (h .entry)) (now (ws .entry)) (now (ks .entry)) (now (h .exit)) (now (ws .exit)) (now (ks .exit))
+        (reset (storeIn (now (h .entry)) (now (ws .entry)) (now (ks .entry)))) ⌝ }
 {
     let x = layout::read_header(h);
     clear(ws, layout::node_words(x.nodes));
@@ -115,7 +116,8 @@ fn push(
 
 pub fn new_var(h: &mut [u32], ws: &mut [u32], ks: &[u32], span: u32) -> Type
     requires { ⌜ Ready (now h) (now ws) (now ks) 1 0 ⌝ }
-    ensures { λ r. ⌜ MadeIs (now (h .entry)) (now (ws .entry)) (now (ks .entry)) (now (h .exit)) (now (ws .exit)) (now (ks .entry)) r (newVar (storeIn (now (h .entry)) (now (ws .entry)) (now (ks .entry))) span) ⌝ }
+    ensures { λ r. ⌜ MadeIs (now (h .entry)) (now (ws .entry)) (now (ks .entry)) (now (h .exit)) (now (ws .exit)) (now (ks .entry)) r
+        (newVar (storeIn (now (h .entry)) (now (ws .entry)) (now (ks .entry))) span) ⌝ }
 {
     let x = layout::read_header(h);
     let error = x.error;
@@ -123,64 +125,60 @@ pub fn new_var(h: &mut [u32], ws: &mut [u32], ks: &[u32], span: u32) -> Type
     push(h, ws, x, 0, error, nil, TypeState::Unknown(span))
 }
 
-// A kind without number, names or children.
-pub fn bare_kind(code: u32) -> Kind
-    ensures { λ r. ⌜ r ≡ bareKind code ⌝ }
+// A type that is made once: the one remembered, or that of one node more, whose kind has no children.
+fn remembered_or_new(
+    h: &mut [u32],
+    ws: &mut [u32],
+    x: Header,
+    was: Remembered,
+    error: Remembered,
+    nil: Remembered,
+    code: u32,
+) -> Type
+    requires { ⌜ OnceReady (now h) (now ws) x was ⌝ }
+    ensures { λ r. ⌜ OnceMade (now (h .entry)) (now (ws .entry)) (now (h .exit)) (now (ws .exit)) x was error nil code r ⌝ }
 {
-    Kind {
-        code,
-        number: 0,
-        dual: false,
-        flex: 0,
-        text: 0,
-        start: 0,
-        len: 0,
-        first: 0,
-        count: 0,
+    match was {
+        Remembered::Is(t) => t,
+        Remembered::Nothing => {
+            let state = TypeState::Known(Inverted(false), store::bare_kind(code));
+            push(h, ws, x, 0, error, nil, state)
+        }
     }
 }
 
-// The error type: the one remembered, or one node more.
+// The error type.
 pub fn error(h: &mut [u32], ws: &mut [u32], ks: &[u32]) -> Type
     requires { ⌜ Ready (now h) (now ws) (now ks) (nodesFor (storeIn (now h) (now ws) (now ks) .error)) 0 ⌝ }
-    ensures { λ r. ⌜ MadeIs (now (h .entry)) (now (ws .entry)) (now (ks .entry)) (now (h .exit)) (now (ws .exit)) (now (ks .entry)) r (makeError (storeIn (now (h .entry)) (now (ws .entry)) (now (ks .entry)))) ⌝ }
+    ensures { λ r. ⌜ MadeIs (now (h .entry)) (now (ws .entry)) (now (ks .entry)) (now (h .exit)) (now (ws .exit)) (now (ks .entry)) r
+        (makeError (storeIn (now (h .entry)) (now (ws .entry)) (now (ks .entry)))) ⌝ }
 {
     let x = layout::read_header(h);
     let was = x.error;
-    match was {
-        Remembered::Is(t) => t,
-        Remembered::Nothing => {
-            let t = Type(x.nodes);
-            let nil = x.nil;
-            let state = TypeState::Known(Inverted(false), bare_kind(ERROR));
-            push(h, ws, x, 0, Remembered::Is(t), nil, state)
-        }
-    }
+    let nil = x.nil;
+    let next = Remembered::Is(Type(x.nodes));
+    remembered_or_new(h, ws, x, was, next, nil, ERROR)
 }
 
-// The type of nothing: the one remembered, or one node more.
+// The type of nothing: a Tuple.
 pub fn nil(h: &mut [u32], ws: &mut [u32], ks: &[u32]) -> Type
     requires { ⌜ Ready (now h) (now ws) (now ks) (nodesFor (storeIn (now h) (now ws) (now ks) .nil)) 0 ⌝ }
-    ensures { λ r. ⌜ MadeIs (now (h .entry)) (now (ws .entry)) (now (ks .entry)) (now (h .exit)) (now (ws .exit)) (now (ks .entry)) r (makeNil (storeIn (now (h .entry)) (now (ws .entry)) (now (ks .entry)))) ⌝ }
+    ensures { λ r. ⌜ MadeIs (now (h .entry)) (now (ws .entry)) (now (ks .entry)) (now (h .exit)) (now (ws .exit)) (now (ks .entry)) r
+        (makeNil (storeIn (now (h .entry)) (now (ws .entry)) (now (ks .entry)))) ⌝ }
 {
     let x = layout::read_header(h);
     let was = x.nil;
-    match was {
-        Remembered::Is(t) => t,
-        Remembered::Nothing => {
-            let t = Type(x.nodes);
-            let error = x.error;
-            let state = TypeState::Known(Inverted(false), bare_kind(TUPLE));
-            push(h, ws, x, 0, error, Remembered::Is(t), state)
-        }
-    }
+    let error = x.error;
+    let next = Remembered::Is(Type(x.nodes));
+    remembered_or_new(h, ws, x, was, error, next, TUPLE)
 }
 
 // `count` variables; their types stand at the front of `out`.
 pub fn new_vars(h: &mut [u32], ws: &mut [u32], ks: &[u32], span: u32, count: u32, out: &mut [u32])
     requires { ⌜ Ready (now h) (now ws) (now ks) count 0 ⌝ }
     requires { ⌜ count ≤ length (now out) ⌝ }
-    ensures { λ _. ⌜ MadeAllIs (now (h .entry)) (now (ws .entry)) (now (ks .entry)) (now (h .exit)) (now (ws .exit)) (now (ks .entry)) (now (out .entry)) (now (out .exit)) (newVars (storeIn (now (h .entry)) (now (ws .entry)) (now (ks .entry))) span count) ⌝ }
+    ensures { λ _. ⌜ MadeAllIs (now (h .entry)) (now (ws .entry)) (now (ks .entry)) (now (h .exit)) (now (ws .exit)) (now (ks .entry))
+        (now (out .entry)) (now (out .exit)) (newVars (storeIn (now (h .entry)) (now (ws .entry)) (now (ks .entry))) span count) ⌝ }
 {
     let mut i: u32 = 0;
     while i < count {
@@ -192,17 +190,16 @@ pub fn new_vars(h: &mut [u32], ws: &mut [u32], ks: &[u32], span: u32, count: u32
 }
 
 // The kind's numbers, with its children at `first`.
-pub fn kind_of(k: NewKind, first: u32, count: u32) -> Kind
+pub fn kind_of(k: Head, first: u32, count: u32) -> Kind
     ensures { λ r. ⌜ r ≡ kindAt k first count ⌝ }
 {
+    let name = k.name;
     Kind {
         code: k.code,
         number: k.number,
         dual: k.dual,
         flex: k.flex,
-        text: k.text,
-        start: k.start,
-        len: k.len,
+        name,
         first,
         count,
     }
@@ -222,14 +219,15 @@ fn put_children(ks: &mut [u32], first: u32, entries: &[u32], n: usize)
 }
 
 // `new`, for each of the fifteen kinds. A child is lent as it lies in a store: its type, and its name's text, start and length.
-pub fn new_kind(h: &mut [u32], ws: &mut [u32], ks: &mut [u32], k: NewKind, entries: &[u32]) -> Type
+pub fn new_kind(h: &mut [u32], ws: &mut [u32], ks: &mut [u32], k: Head, entries: &[u32]) -> Type
     requires { ⌜ KindReady (now h) (now ws) (now ks) k (now entries) ⌝ }
-    ensures { λ r. ⌜ MadeIs (now (h .entry)) (now (ws .entry)) (now (ks .entry)) (now (h .exit)) (now (ws .exit)) (now (ks .exit)) r (new (storeIn (now (h .entry)) (now (ws .entry)) (now (ks .entry))) (kindGiven k (now (entries .entry)))) ⌝ }
+    ensures { λ r. ⌜ MadeIs (now (h .entry)) (now (ws .entry)) (now (ks .entry)) (now (h .exit)) (now (ws .exit)) (now (ks .exit)) r
+        (new (storeIn (now (h .entry)) (now (ws .entry)) (now (ks .entry))) (kindGiven k (now (entries .entry)))) ⌝ }
 {
     let x = layout::read_header(h);
     let error = x.error;
     let nil = x.nil;
-    let n = entries.len() / CHILD_WORDS;
+    let n = store::entry_count(entries);
     put_children(ks, x.children, entries, n);
     let count = n as u32;
     let state = TypeState::Known(Inverted(false), kind_of(k, x.children, count));

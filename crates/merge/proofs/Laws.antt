@@ -1,9 +1,10 @@
 -- Merging in words: what a put of one node after another makes of the nodes that the words hold, and what the code's states mean. A law's premises are
 -- what the callees ensure; each holds whatever the children's words are.
 -- Assumes nothing.
-use mathlib.Core.Path.{_≡_, refl, ap, sym, _∙_}
+use mathlib.Core.Path.{_≡_, refl, ap, ap₂, sym, _∙_}
 use mathlib.Core.Bool.{Bool, true, false}
 use mathlib.Core.List.{List}
+use mathlib.Core.Option.{none}
 use Prim.Native.Nat.{ℕ, _+_, _<_, _≤_}
 use lib.Dec.{ltb}
 use lib.ListN.{length, set}
@@ -13,6 +14,7 @@ use Rattle.scope.specs.Types.{Ty, tyOf, flip}
 use Rattle.scope.specs.Nodes as nodes
 use Rattle.scope.specs.Answers as answers
 use Rattle.scope.specs.Unify as scope
+use Rattle.scope.proofs.ViewLaws.{xor-twice, xor-comm}
 use Rattle.types.specs.Answers.{answerOf, isSuccess}
 use Rattle.types.specs.declared.«Type».{«Type»}
 use Rattle.types.specs.declared.Inverted.{Inverted}
@@ -20,63 +22,35 @@ use Rattle.types.specs.declared.UnifyResult.{UnifyResult}
 use Rattle.types.specs.declared.UnifyResult.the-variants.{Success, Failure, Indeterminate}
 use Rattle.types.proofs.Laws.{inverted-eq}
 use Rattle.layout.specs.Words.{nodeWords, decode}
-use Rattle.layout.specs.Meaning.{readAt, putAt, stateMeans, stateFits, nodeMeans, nodeFits, Clean}
+use Rattle.layout.specs.Meaning.{readAt, putAt, stateMeans, stateFits, kindMeans, nodeMeans, nodeFits, Clean}
 use Rattle.layout.specs.declared.Kind.{Kind}
 use Rattle.layout.specs.declared.TypeState.{TypeState}
 use Rattle.layout.specs.declared.TypeState.the-variants.{Known, Unknown, InferenceFailed}
 use Rattle.layout.specs.declared.TypeNode.{TypeNode}
 use Rattle.layout.specs.declared.TypeNode.the-variants.{Root, Child}
-use Rattle.layout.proofs.Laws.{length-put, tail-put, decode-put, clean-put, read-node, read-fits}
-use Rattle.merge.specs.Meaning.{nodeState, nodeSize, stateAt, sizeAt, turned, firstKnown, keptOf, Joined, Merged, Bound, Settled}
+use Rattle.layout.proofs.Laws.{length-put, tail-put, decode-put, clean-put}
+use Rattle.layout.proofs.HeldLaws.{state-read, size-read, state-fits}
+use Rattle.merge.specs.Meaning.{stateAt, sizeAt, turned, firstKnown, keptOf, Joined, Merged, Bound, Settled}
 
 -- states
 
 pub turned-known : (r : Inverted) (i : Bool) (j : Inverted) (k : Kind) → r .0 ≡ xor i (j .0) → Known r k ≡ turned i (Known j k)
 turned-known r i j k e = ap (λ (x : Inverted). Known x k) (inverted-eq r (record { 0 = xor i (j .0) }) e)
 
-state-node : (ks : List ℕ) (v : TypeNode) → stateMeans ks (nodeState v) ≡ nodes.stateOf (nodeMeans ks v)
-state-node ks (Root st z) = refl
-state-node ks (Child t) = refl
-
-size-node : (ks : List ℕ) (v : TypeNode) → nodeSize v ≡ nodes.sizeOf (nodeMeans ks v)
-size-node ks (Root st z) = refl
-size-node ks (Child t) = refl
-
-fits-node : (ks : List ℕ) (c : ℕ) (v : TypeNode) → nodeFits ks c v ≡ true → stateFits ks c (nodeState v) ≡ true
-fits-node ks c (Root st z) h = h
-fits-node ks c (Child t) h = refl
-
-pub turned-means : (ks : List ℕ) (i : Bool) (st : TypeState) → stateMeans ks (turned i st) ≡ scope.turn i (stateMeans ks st)
-turned-means ks i (Known j k) = refl
-turned-means ks i (Unknown s) = refl
-turned-means ks i InferenceFailed = refl
+pub turned-twice : (i : Bool) (st : TypeState) → turned i (turned i st) ≡ st
+turned-twice i (Known j k) = sym (turned-known j i (record { 0 = xor i (j .0) }) k (sym (xor-twice i (j .0))))
+turned-twice i (Unknown s) = refl
+turned-twice i InferenceFailed = refl
 
 pub turned-fits : (ks : List ℕ) (c : ℕ) (i : Bool) (st : TypeState) → stateFits ks c (turned i st) ≡ stateFits ks c st
 turned-fits ks c i (Known j k) = refl
 turned-fits ks c i (Unknown s) = refl
 turned-fits ks c i InferenceFailed = refl
 
-pub first-means : (ks : List ℕ) (a b : TypeState) → stateMeans ks (firstKnown a b) ≡ scope.orState (stateMeans ks a) (stateMeans ks b)
-first-means ks (Known i k) b = refl
-first-means ks (Unknown s) b = refl
-first-means ks InferenceFailed b = refl
-
 pub first-fits : (ks : List ℕ) (c : ℕ) (a b : TypeState) → stateFits ks c a ≡ true → stateFits ks c b ≡ true → stateFits ks c (firstKnown a b) ≡ true
 first-fits ks c (Known i k) b f g = f
 first-fits ks c (Unknown s) b f g = g
 first-fits ks c InferenceFailed b f g = g
-
--- what the code reads at i, where the words are clean
-
-module _ (ws ks : List ℕ) (c n : ℕ) (cl : Clean ws ks c n) (i : ℕ) where
-  pub state-read : stateMeans ks (stateAt ws n i) ≡ nodes.stateOf (nodes.at (decode ws ks n) i)
-  state-read = state-node ks (readAt ws n i) ∙ ap nodes.stateOf (read-node ws ks c n cl i)
-
-  pub size-read : sizeAt ws n i ≡ nodes.sizeOf (nodes.at (decode ws ks n) i)
-  size-read = size-node ks (readAt ws n i) ∙ ap nodes.sizeOf (read-node ws ks c n cl i)
-
-  pub state-fits : stateFits ks c (stateAt ws n i) ≡ true
-  state-fits = fits-node ks c (readAt ws n i) (read-fits ws ks c n cl i)
 
 -- `join`: one put after the other
 
@@ -118,7 +92,8 @@ join-law ws ws₁ ws₂ n w l st y z i j b p room ey ez eb ep ei ej e₁ e₂ =
 -- `merge`: which root stays
 
 module _ (ws ws′ : List ℕ) (n : ℕ) (a b : Ty) (sa sb : TypeState) (y z : ℕ) (ey : y ≡ sizeAt ws n (b .idx)) (ez : z ≡ sizeAt ws n (a .idx)) where
-  test-read : (ks : List ℕ) (c : ℕ) → Clean ws ks c n → scope.stays (decode ws ks n) a b ≡ ltb y z
+  test-read : (ks : List ℕ) (c : ℕ) → Clean ws ks c n
+      → ltb (nodes.sizeOf (nodes.at (decode ws ks n) (b .idx))) (nodes.sizeOf (nodes.at (decode ws ks n) (a .idx))) ≡ ltb y z
   test-read ks c cl = rw (← size-read ws ks c n cl (b .idx), ← size-read ws ks c n cl (a .idx), ey, ez)
 
   pub merge-first : y < z → Joined ws ws′ n a b sa → Merged ws ws′ n a b sa sb
@@ -139,11 +114,18 @@ module _ (ws ws′ : List ℕ) (n : ℕ) (a b : Ty) (sa sb : TypeState) (y z : �
 
 -- `bind`: each root comes with the kind of either, or its own state
 
-kept-means : (ks : List ℕ) (i : Bool) (sa sb own : TypeState)
-    → stateMeans ks (keptOf i sa sb own) ≡ scope.turn i (scope.orState (stateMeans ks sa) (scope.orState (stateMeans ks sb) (stateMeans ks own)))
-kept-means ks i sa sb own =
-    turned-means ks i (firstKnown sa (firstKnown sb own))
-    ∙ ap (scope.turn i) (first-means ks sa (firstKnown sb own) ∙ ap (scope.orState (stateMeans ks sa)) (first-means ks sb own))
+module _ (ks : List ℕ) (ns : List nodes.Node) (w a b : Ty) (own : TypeState) (e : stateMeans ks own ≡ scope.stateIn ns w) where
+  kept-second : (sb : TypeState) → stateMeans ks (turned (w .inv) (firstKnown (turned (b .inv) sb) (turned (w .inv) own))) ≡ scope.kept ns w none (nodes.kindOf b (stateMeans ks sb))
+  kept-second (Known j k) = ap (λ (c : Bool). nodes.Known (xor (w .inv) c) (kindMeans ks k)) (xor-comm (b .inv) (j .0))
+  kept-second (Unknown s) = ap (stateMeans ks) (turned-twice (w .inv) own) ∙ e
+  kept-second InferenceFailed = ap (stateMeans ks) (turned-twice (w .inv) own) ∙ e
+
+  kept-means : (sa sb : TypeState)
+      → stateMeans ks (keptOf (w .inv) (turned (a .inv) sa) (turned (b .inv) sb) (turned (w .inv) own))
+      ≡ scope.kept ns w (nodes.kindOf a (stateMeans ks sa)) (nodes.kindOf b (stateMeans ks sb))
+  kept-means (Known j k) sb = ap (λ (c : Bool). nodes.Known (xor (w .inv) c) (kindMeans ks k)) (xor-comm (a .inv) (j .0))
+  kept-means (Unknown s) sb = kept-second sb
+  kept-means InferenceFailed sb = kept-second sb
 
 kept-fits : (ks : List ℕ) (c : ℕ) (i : Bool) (sa sb own : TypeState) → stateFits ks c sa ≡ true → stateFits ks c sb ≡ true → stateFits ks c own ≡ true
     → stateFits ks c (keptOf i sa sb own) ≡ true
@@ -155,15 +137,14 @@ abbrev seen : List ℕ → ℕ → Ty → TypeState
 seen ws n a = turned (a .inv) (stateAt ws n (a .idx))
 
 module _ (ws ks : List ℕ) (c n : ℕ) (cl : Clean ws ks c n) where
-  seen-means : (a : Ty) → stateMeans ks (seen ws n a) ≡ scope.turn (a .inv) (scope.stateIn (decode ws ks n) a)
-  seen-means a = turned-means ks (a .inv) (stateAt ws n (a .idx)) ∙ ap (scope.turn (a .inv)) (state-read ws ks c n cl (a .idx))
-
   seen-fits : (a : Ty) → stateFits ks c (seen ws n a) ≡ true
   seen-fits a = turned-fits ks c (a .inv) (stateAt ws n (a .idx)) ∙ state-fits ws ks c n cl (a .idx)
 
-  kept-read : (w a b : Ty) → stateMeans ks (keptOf (w .inv) (seen ws n a) (seen ws n b) (seen ws n w)) ≡ scope.kept (decode ws ks n) w a b
+  kept-read : (w a b : Ty) → stateMeans ks (keptOf (w .inv) (seen ws n a) (seen ws n b) (seen ws n w))
+      ≡ scope.kept (decode ws ks n) w (scope.kindIn (decode ws ks n) a) (scope.kindIn (decode ws ks n) b)
   kept-read w a b =
-      kept-means ks (w .inv) (seen ws n a) (seen ws n b) (seen ws n w) ∙ rw (seen-means a, seen-means b, seen-means w)
+      kept-means ks (decode ws ks n) w a b (stateAt ws n (w .idx)) (state-read ws ks c n cl (w .idx)) (stateAt ws n (a .idx)) (stateAt ws n (b .idx))
+      ∙ rw (state-read ws ks c n cl (a .idx), state-read ws ks c n cl (b .idx))
 
   kept-reads : (w a b : Ty) → stateFits ks c (keptOf (w .inv) (seen ws n a) (seen ws n b) (seen ws n w)) ≡ true
   kept-reads w a b = kept-fits ks c (w .inv) (seen ws n a) (seen ws n b) (seen ws n w) (seen-fits a) (seen-fits b) (seen-fits w)
@@ -175,8 +156,8 @@ module _ (ws ws′ : List ℕ) (n : ℕ) (a b : Ty) where
     tail = m .tail;
     clean = λ ks c cl. m .clean ks c cl (kept-reads ws ks c n cl a a b) (kept-reads ws ks c n cl b a b);
     nodes = λ ks c cl.
-        rw (← kept-read ws ks c n cl a a b, ← kept-read ws ks c n cl b a b)
-        (ap (λ (ns : List nodes.Node). scope.out ns answers.Success) (sym (m .nodes ks c cl (kept-reads ws ks c n cl a a b) (kept-reads ws ks c n cl b a b))));
+        m .nodes ks c cl (kept-reads ws ks c n cl a a b) (kept-reads ws ks c n cl b a b)
+        ∙ ap₂ (scope.merge (decode ws ks n) a b) (kept-read ws ks c n cl a a b) (kept-read ws ks c n cl b a b);
   }
 
   pub bind-law : (i j : Bool) (ra rb sa sb ka kb : TypeState) → i ≡ a .inv → j ≡ b .inv → ra ≡ stateAt ws n (a .idx) → rb ≡ stateAt ws n (b .idx)

@@ -1,24 +1,27 @@
 -- What the calls here ask, that two sizes can be added, holds as long as all sizes together stay small: nothing that `unify` does to the nodes makes
 -- the sum of their sizes grow, whatever the nodes are. A join moves one size to another node, and a path that is pointed at its root has none.
 -- Assumes nothing.
+use mathlib.Core.Path.{_≡_, refl}
 use mathlib.Core.Bool.{Bool, true, false, _||_}
 use mathlib.Core.List.{List, [], _∷_}
+use mathlib.Core.Option.{Option, none, some}
 use Prim.Native.Nat.{ℕ, zero, suc, _+_, _≤_}
 use native.Mathlib.Omega.{arith}
-use lib.Dec.{eqb}
+use lib.Dec.{eqb, ltb}
 use lib.ListN.{set}
 use Rattle.scope.specs.Base.{pick, xor}
 use Rattle.scope.specs.Limits.{MAX-NODES}
 use Rattle.scope.specs.Names.{Texts}
 use Rattle.scope.specs.Types.{Ty, flip}
-use Rattle.scope.specs.Nodes.{State, Known, Unknown, InferenceFailed, Node, Root, Child, at, sizeOf, point, compress, find, findMut}
+use Rattle.scope.specs.Nodes.{Kind, State, Node, Root, Child, at, sizeOf, compress, find, findMut}
 use Rattle.scope.specs.Answers.{Answer, Success, Failure, Indeterminate, both}
 use Rattle.scope.specs.Demand.{sizes}
-use Rattle.scope.specs.Unify.{Plan, Out, out, run, join, merge, stays, stateIn, occurs, bindIf, bind, settle, plan, meetStates, sameNode, meet, unifyF}
+use Rattle.scope.specs.Unify.{Plan, Out, out, run, join, merge, stateIn, kindIn, occurs, bound, bind, settle, plan, meetKinds, sameNode, meet, unifyF}
+use Rattle.scope.proofs.Laws.{compress-root, compress-child}
 use Rattle.layout.specs.Words.{decode}
 use Rattle.layout.specs.Meaning.{Clean}
 use Rattle.merge.specs.Meaning.{Adds}
-use Rattle.merge.proofs.Laws.{size-read}
+use Rattle.layout.proofs.HeldLaws.{size-read}
 
 -- one size is at most all of them
 pub size-below : (ns : List Node) (i : ℕ) → sizeOf (at ns i) ≤ sizes ns
@@ -62,15 +65,15 @@ merge-by false ns a b sa sb = join-sizes ns b a sb
 
 pub merge-sizes : (ns : List Node) (a b : Ty) (sa sb : State) → sizes (merge ns a b sa sb) ≤ sizes ns
 unfolding merge
-merge-sizes ns a b sa sb = merge-by (stays ns a b) ns a b sa sb
+merge-sizes ns a b sa sb = merge-by (ltb (sizeOf (at ns (b .idx))) (sizeOf (at ns (a .idx)))) ns a b sa sb
 
-pub bind-if-sizes : (ns : List Node) (a b : Ty) (t : Bool) → sizes (bindIf ns a b t .nodes) ≤ sizes ns
-bind-if-sizes ns a b true = omega arith
-bind-if-sizes ns a b false = merge-sizes ns a b _ _
+bind-by : (ns : List Node) (a b : Ty) (t : Bool) → sizes (pick t (out ns Failure) (out (bound ns a b) Success) .nodes) ≤ sizes ns
+bind-by ns a b true = omega arith
+bind-by ns a b false = merge-sizes ns a b _ _
 
 pub bind-sizes : (n : ℕ) (ns : List Node) (a b : Ty) → sizes (bind n ns a b .nodes) ≤ sizes ns
 unfolding bind
-bind-sizes n ns a b = bind-if-sizes ns a b (occurs n ns (a .idx) (b .idx) || occurs n ns (b .idx) (a .idx))
+bind-sizes n ns a b = bind-by ns a b (occurs n ns (a .idx) (b .idx) || occurs n ns (b .idx) (a .idx))
 
 pub settle-sizes : (ns : List Node) (a b : Ty) (r : Answer) → sizes (settle ns a b r .nodes) ≤ sizes ns
 unfolding settle
@@ -80,17 +83,17 @@ settle-sizes ns a b Indeterminate = omega arith
 
 -- `find_mut`
 
-point-sizes : (v : Node) (k : List Node → Ty → List Node) → ((ns : List Node) (t : Ty) → sizes (k ns t) ≤ sizes ns)
-    → (ns : List Node) (r t : Ty) → sizes (point v k ns r t) ≤ sizes ns
-point-sizes (Root st z) k h ns r t = omega arith
-point-sizes (Child u) k h ns r t =
+point-sizes : (v : Node) (f : ℕ) (r : Ty) → ((ns : List Node) (t : Ty) → sizes (compress f ns r t) ≤ sizes ns)
+    → (ns : List Node) (t : Ty) → at ns (t .idx) ≡ v → sizes (compress (suc f) ns r t) ≤ sizes ns
+point-sizes (Root st z) f r h ns t e = rw (compress-root (suc f) ns r t e) (omega arith)
+point-sizes (Child u) f r h ns t e =
     let v : Node = Child (flip (t .inv) r) in
-    omega (arith, sizes-set ns (t .idx) v, h (set ns (t .idx) v) (flip (t .inv) u))
+    rw (compress-child f ns r t u e) (omega (arith, sizes-set ns (t .idx) v, h (set ns (t .idx) v) (flip (t .inv) u)))
 
 compress-sizes : (f : ℕ) (ns : List Node) (r t : Ty) → sizes (compress f ns r t) ≤ sizes ns
 unfolding compress
 compress-sizes zero ns r t = omega arith
-compress-sizes (suc f) ns r t = point-sizes (at ns (t .idx)) (λ ns′ t′. compress f ns′ r t′) (λ ns′ t′. compress-sizes f ns′ r t′) ns r t
+compress-sizes (suc f) ns r t = point-sizes (at ns (t .idx)) f r (λ ns′ t′. compress-sizes f ns′ r t′) ns t refl
 
 pub find-mut-sizes : (ns : List Node) (t : Ty) → sizes (findMut ns t) ≤ sizes ns
 unfolding findMut
@@ -106,15 +109,13 @@ module _ (u : List Node → Ty → Ty → Out) (h : (ns : List Node) (a b : Ty) 
       let o : Out = u ns (p .0) (p .1) in
       omega (arith, h ns (p .0) (p .1), run-sizes (o .nodes) (both r (o .answer)) ps)
 
-  states-sizes : (x : Texts) (n : ℕ) (ns : List Node) (a b : Ty) (sa sb : State) → sizes (meetStates u x n ns a b sa sb .nodes) ≤ sizes ns
-  states-sizes x n ns a b (Known i k) (Known j m) =
-      let l : Plan = plan x k m (xor (xor i (a .inv)) (xor j (b .inv))) in
+  kinds-sizes : (x : Texts) (n : ℕ) (ns : List Node) (a b : Ty) (k m : Option (Bool × Kind)) → sizes (meetKinds u x n ns a b k m .nodes) ≤ sizes ns
+  kinds-sizes x n ns a b (some k) (some m) =
+      let l : Plan = plan x (k .1) (m .1) (xor (k .0) (m .0)) in
       let o : Out = run u ns (l .base) (l .pairs) in
       omega (arith, run-sizes ns (l .base) (l .pairs), settle-sizes (o .nodes) a b (o .answer))
-  states-sizes x n ns a b (Known i k) (Unknown q) = bind-sizes n ns a b
-  states-sizes x n ns a b (Known i k) InferenceFailed = bind-sizes n ns a b
-  states-sizes x n ns a b (Unknown p) st = bind-sizes n ns a b
-  states-sizes x n ns a b InferenceFailed st = bind-sizes n ns a b
+  kinds-sizes x n ns a b (some k) none = bind-sizes n ns a b
+  kinds-sizes x n ns a b none m = bind-sizes n ns a b
 
   meet-by : (t : Bool) (ns : List Node) (r : Answer) (o : Out) → sizes (o .nodes) ≤ sizes ns → sizes (pick t (out ns r) o .nodes) ≤ sizes ns
   meet-by true ns r o k = omega arith
@@ -123,7 +124,7 @@ module _ (u : List Node → Ty → Ty → Out) (h : (ns : List Node) (a b : Ty) 
   pub meet-sizes : (x : Texts) (n : ℕ) (ns : List Node) (a b : Ty) → sizes (meet u x n ns a b .nodes) ≤ sizes ns
   unfolding meet
   meet-sizes x n ns a b =
-      meet-by (eqb (a .idx) (b .idx)) ns (sameNode n ns a b) (meetStates u x n ns a b (stateIn ns a) (stateIn ns b)) (states-sizes x n ns a b (stateIn ns a) (stateIn ns b))
+      meet-by (eqb (a .idx) (b .idx)) ns (sameNode n ns a b) (meetKinds u x n ns a b (kindIn ns a) (kindIn ns b)) (kinds-sizes x n ns a b (kindIn ns a) (kindIn ns b))
 
 pub unify-sizes : (x : Texts) (n f : ℕ) (ns : List Node) (p q : Ty) → sizes (unifyF x n f ns p q .nodes) ≤ sizes ns
 unfolding unifyF

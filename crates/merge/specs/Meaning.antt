@@ -6,28 +6,14 @@ use mathlib.Core.List.{List}
 use Prim.Native.Nat.{ℕ, _+_, _<_, _≤_}
 use lib.ListN.{length, drop}
 use Rattle.scope.specs.Base.{xor}
-use Rattle.scope.specs.Limits.{NONE}
 use Rattle.scope.specs.Types.{Ty}
-use Rattle.scope.specs.Answers as answers
 use Rattle.scope.specs.Unify as scope
 use Rattle.types.specs.Answers.{answerOf}
 use Rattle.types.specs.declared.UnifyResult.{UnifyResult}
 use Rattle.layout.specs.Words.{nodeWords, decode}
-use Rattle.layout.specs.Meaning.{readAt, stateMeans, stateFits, Clean}
+use Rattle.layout.specs.Meaning.{nodeState, nodeSize, readAt, stateMeans, stateFits, Clean}
 use Rattle.layout.specs.declared.TypeState.{TypeState}
 use Rattle.layout.specs.declared.TypeState.the-variants.{Known, Unknown, InferenceFailed}
-use Rattle.layout.specs.declared.TypeNode.{TypeNode}
-use Rattle.layout.specs.declared.TypeNode.the-variants.{Root, Child}
-
--- a child has no state of its own, and no size
-
-abbrev pub nodeState : TypeNode → TypeState
-nodeState (Root st z) = st
-nodeState (Child t) = Unknown NONE
-
-abbrev pub nodeSize : TypeNode → ℕ
-nodeSize (Root st z) = z
-nodeSize (Child t) = 0
 
 -- what the code reads at i
 abbrev pub stateAt : List ℕ → ℕ → ℕ → TypeState
@@ -36,7 +22,7 @@ stateAt ws n i = nodeState (readAt ws n i)
 abbrev pub sizeAt : List ℕ → ℕ → ℕ → ℕ
 sizeAt ws n i = nodeSize (readAt ws n i)
 
--- scope's `turn`, `orState` and `kept`, of the code's states
+-- a state as a type of its root sees it, and back; the first that has a kind, or else the second
 
 abbrev pub turned : Bool → TypeState → TypeState
 turned i (Known j k) = Known (record { 0 = xor i (j .0) }) k
@@ -71,11 +57,11 @@ pub record Merged (ws ws′ : List ℕ) (n : ℕ) (a b : Ty) (sa sb : TypeState)
   pub nodes : (ks : List ℕ) (c : ℕ) → Clean ws ks c n → stateFits ks c sa ≡ true → stateFits ks c sb ≡ true
       → decode ws′ ks n ≡ scope.merge (decode ws ks n) a b (stateMeans ks sa) (stateMeans ks sb)
 
--- scope's `bind` where neither root occurs in the other
+-- scope's `bound`: two roots of which one has no kind, and neither occurs in the other
 pub record Bound (ws ws′ : List ℕ) (n : ℕ) (a b : Ty) : Type 0 where
   pub tail : drop (nodeWords n) ws′ ≡ drop (nodeWords n) ws
   pub clean : (ks : List ℕ) (c : ℕ) → Clean ws ks c n → Clean ws′ ks c n
-  pub nodes : (ks : List ℕ) (c : ℕ) → Clean ws ks c n → scope.bindIf (decode ws ks n) a b false ≡ scope.out (decode ws′ ks n) answers.Success
+  pub nodes : (ks : List ℕ) (c : ℕ) → Clean ws ks c n → decode ws′ ks n ≡ scope.bound (decode ws ks n) a b
 
 pub record Settled (ws ws′ : List ℕ) (n : ℕ) (a b : Ty) (r q : UnifyResult) : Type 0 where
   pub tail : drop (nodeWords n) ws′ ≡ drop (nodeWords n) ws

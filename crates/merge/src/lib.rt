@@ -5,47 +5,27 @@ ghost use Prim.Native.Nat.{_≤_};
 ghost use lib.ListN.{length};
 ghost use Rattle.scope.specs.Types.{tyOf};
 ghost use Rattle.layout.specs.Words.{nodeWords};
-ghost use Rattle.merge.specs.Meaning.{nodeState, nodeSize, sizeAt, stateAt, turned, firstKnown, keptOf};
+ghost use Rattle.merge.specs.Meaning.{sizeAt, stateAt, turned, firstKnown, keptOf};
 ghost use Rattle.merge.specs.Meaning.{Adds, Joined, Merged, Bound, Settled};
-use layout::NONE;
 use layout::TypeNode;
 use layout::TypeState;
 use types::Inverted;
 use types::Type;
 use types::UnifyResult;
 
-// A child has no state of its own, and no size.
-fn state_of(v: TypeNode) -> TypeState
-    ensures { λ r. ⌜ r ≡ nodeState v ⌝ }
-{
-    match v {
-        TypeNode::Root { state, size: _ } => state,
-        TypeNode::Child(_) => TypeState::Unknown(NONE),
-    }
-}
-
-fn size_of(v: TypeNode) -> u32
-    ensures { λ r. ⌜ r ≡ nodeSize v ⌝ }
-{
-    match v {
-        TypeNode::Root { state: _, size } => size,
-        TypeNode::Child(_) => 0,
-    }
-}
-
 // What the node of a type is, whether or not it is inverted.
 pub fn state_at(ws: &[u32], n: u32, t: Type) -> TypeState
     requires { ⌜ nodeWords n ≤ length (now ws) ⌝ }
     ensures { λ r. ⌜ r ≡ stateAt (now (ws .entry)) n (tyOf (t .0) .idx) ⌝ }
 {
-    state_of(layout::node_at(ws, n, t.idx()))
+    layout::state_of(layout::node_at(ws, n, t.idx()))
 }
 
 fn size_at(ws: &[u32], n: u32, t: Type) -> u32
     requires { ⌜ nodeWords n ≤ length (now ws) ⌝ }
     ensures { λ r. ⌜ r ≡ sizeAt (now (ws .entry)) n (tyOf (t .0) .idx) ⌝ }
 {
-    size_of(layout::node_at(ws, n, t.idx()))
+    layout::size_of(layout::node_at(ws, n, t.idx()))
 }
 
 // The root w stays with the state, and l becomes its child.

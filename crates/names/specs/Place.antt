@@ -8,5 +8,12 @@ use Rattle.names.specs.declared.Name.{Name}
 abbrev pub texts : List ℕ → List ℕ → Texts
 texts r c = record { rule = r; chart = c }
 
-abbrev pub nameIn : Name → scope.Name
-nameIn n = name (n .text) (n .start) (n .len)
+abbrev pub nameOf : Name → scope.Name
+nameOf n = name (n .text) (n .start) (n .len)
+
+-- the code's name of three numbers; where there is no name they are zeros
+abbrev pub nameFrom : ℕ → ℕ → ℕ → Name
+nameFrom x i n = record { text = x; start = i; len = n }
+
+abbrev pub noName : Name
+noName = nameFrom 0 0 0

@@ -2,7 +2,7 @@
 ghost use mathlib.Core.Path.{_≡_};
 ghost use lib.ListN.{length, take, drop};
 ghost use Rattle.scope.specs.Names.{textOf, bytes, inText, nameOk, eqBytes, ltBytes};
-ghost use Rattle.names.specs.Place.{texts, nameIn};
+ghost use Rattle.names.specs.Place.{texts, nameOf};
 use scope::MAX_NAME;
 
 // text 0 is the rule text, any other number the chart text.
@@ -11,6 +11,13 @@ pub struct Name {
     pub start: u32,
     pub len: u32,
 }
+
+// What stands where there is no name.
+pub const NO_NAME: Name = Name {
+    text: 0,
+    start: 0,
+    len: 0,
+};
 
 fn wide(x: u32) -> usize
     ensures { λ r. ⌜ r ≡ x ⌝ }
@@ -42,7 +49,7 @@ fn part(s: &[u8], start: usize, len: usize) -> &[u8]
 }
 
 pub fn bytes_of<'a>(n: Name, rule: &'a [u8], chart: &'a [u8]) -> &'a [u8]
-    ensures { λ r. ⌜ now r ≡ bytes (texts (now (rule .entry)) (now (chart .entry))) (nameIn n) ⌝ }
+    ensures { λ r. ⌜ now r ≡ bytes (texts (now (rule .entry)) (now (chart .entry))) (nameOf n) ⌝ }
 {
     part(text_of(n.text, rule, chart), wide(n.start), wide(n.len))
 }
@@ -50,17 +57,7 @@ pub fn bytes_of<'a>(n: Name, rule: &'a [u8], chart: &'a [u8]) -> &'a [u8]
 pub fn same_bytes(a: &[u8], b: &[u8]) -> bool
     ensures { λ r. ⌜ r ≡ eqBytes (now (a .entry)) (now (b .entry)) ⌝ }
 {
-    if a.len() != b.len() {
-        return false;
-    }
-    let mut i: usize = 0;
-    while i < a.len() {
-        if a[i] != b[i] {
-            return false;
-        }
-        i += 1;
-    }
-    true
+    check::same(a, b)
 }
 
 // Byte by byte, unsigned; a prefix comes first.
@@ -86,13 +83,13 @@ pub fn before(a: &[u8], b: &[u8]) -> bool
 }
 
 pub fn same_name<'a>(a: Name, b: Name, rule: &'a [u8], chart: &'a [u8]) -> bool
-    ensures { λ r. ⌜ r ≡ eqBytes (bytes (texts (now (rule .entry)) (now (chart .entry))) (nameIn a)) (bytes (texts (now (rule .entry)) (now (chart .entry))) (nameIn b)) ⌝ }
+    ensures { λ r. ⌜ r ≡ eqBytes (bytes (texts (now (rule .entry)) (now (chart .entry))) (nameOf a)) (bytes (texts (now (rule .entry)) (now (chart .entry))) (nameOf b)) ⌝ }
 {
     same_bytes(bytes_of(a, rule, chart), bytes_of(b, rule, chart))
 }
 
 pub fn name_before<'a>(a: Name, b: Name, rule: &'a [u8], chart: &'a [u8]) -> bool
-    ensures { λ r. ⌜ r ≡ ltBytes (bytes (texts (now (rule .entry)) (now (chart .entry))) (nameIn a)) (bytes (texts (now (rule .entry)) (now (chart .entry))) (nameIn b)) ⌝ }
+    ensures { λ r. ⌜ r ≡ ltBytes (bytes (texts (now (rule .entry)) (now (chart .entry))) (nameOf a)) (bytes (texts (now (rule .entry)) (now (chart .entry))) (nameOf b)) ⌝ }
 {
     before(bytes_of(a, rule, chart), bytes_of(b, rule, chart))
 }
@@ -108,7 +105,7 @@ fn text_len(text: u32, rule: &[u8], chart: &[u8]) -> usize
 
 // The sum is taken in 64 bits, where it does not wrap.
 pub fn in_text(n: Name, rule: &[u8], chart: &[u8]) -> bool
-    ensures { λ r. ⌜ r ≡ inText (texts (now (rule .entry)) (now (chart .entry))) (nameIn n) ⌝ }
+    ensures { λ r. ⌜ r ≡ inText (texts (now (rule .entry)) (now (chart .entry))) (nameOf n) ⌝ }
 {
     if n.text > 1 {
         return false;
@@ -119,7 +116,7 @@ pub fn in_text(n: Name, rule: &[u8], chart: &[u8]) -> bool
 
 // "names and paths 1 to 255 bytes"
 pub fn name_ok(n: Name, rule: &[u8], chart: &[u8]) -> bool
-    ensures { λ r. ⌜ r ≡ nameOk (texts (now (rule .entry)) (now (chart .entry))) (nameIn n) ⌝ }
+    ensures { λ r. ⌜ r ≡ nameOk (texts (now (rule .entry)) (now (chart .entry))) (nameOf n) ⌝ }
 {
     if !in_text(n, rule, chart) {
         return false;

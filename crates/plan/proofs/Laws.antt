@@ -14,6 +14,7 @@ use Rattle.scope.specs.Kinds.{KEY, OBJECT, CLOSURE, ERROR, DEFAULT, rowOf, rows
 use Rattle.scope.specs.Unify.{firstName, sameHead, kidsPlan}
 use Rattle.scope.specs.Unify as scope
 use Rattle.scope.specs.Sound.{namesIn}
+use Rattle.names.specs.Place.{nameOf}
 use Rattle.types.specs.declared.Inverted.{Inverted}
 use Rattle.types.specs.declared.UnifyResult.the-variants.{Failure, Indeterminate}
 use Rattle.layout.proofs.Lists.{and-left}
@@ -30,9 +31,9 @@ unfolding bytes
 own-name-by true x t i n e = rw (eqb-true n 0 e)
 own-name-by false x t i n e = refl
 
-key-name : (x : Texts) (ks : List ℕ) (k : Kind) → k .code ≡ KEY → firstName x (namesIn (kindCell ks k)) ≡ bytes x (name (k .text) (k .start) (k .len))
+key-name : (x : Texts) (ks : List ℕ) (k : Kind) → k .code ≡ KEY → firstName x (namesIn (kindCell ks k)) ≡ bytes x (nameOf (k .name))
 unfolding rowOf rows
-key-name x ks k e = rw e (own-name-by (eqb (k .len) 0) x (k .text) (k .start) (k .len) refl)
+key-name x ks k e = rw e (own-name-by (eqb (k .name .len) 0) x (k .name .text) (k .name .start) (k .name .len) refl)
 
 object-names : (ks : List ℕ) (k : Kind) → k .code ≡ OBJECT → namesIn (kindCell ks k) ≡ namesFrom ks (k .first) (k .count)
 unfolding rowOf rows
@@ -54,7 +55,7 @@ module _ (x : Texts) (k m : Kind) where
   same-plain e f h = record { is = λ ks. rw (eq-eqb (k .code) (m .code) e, eq-eqb (k .number) (m .number) f, ne-eqb (k .code) KEY h) }
 
   pub same-key : (r : Bool) → k .code ≡ m .code → k .number ≡ m .number → k .code ≡ KEY
-      → r ≡ eqBytes (bytes x (name (k .text) (k .start) (k .len))) (bytes x (name (m .text) (m .start) (m .len))) → SameKinds x k m r
+      → r ≡ eqBytes (bytes x (nameOf (k .name))) (bytes x (nameOf (m .name))) → SameKinds x k m r
   unfolding sameHead kindMeans
   same-key r e f h b = record {
     is = λ ks. rw (eq-eqb (k .code) (m .code) e, eq-eqb (k .number) (m .number) f, eq-eqb (k .code) KEY h, key-name x ks k h, key-name x ks m (sym e ∙ h)) b;

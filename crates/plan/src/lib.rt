@@ -9,7 +9,6 @@ use kinds::ERROR;
 use kinds::KEY;
 use kinds::OBJECT;
 use layout::Kind;
-use names::Name;
 use types::Inverted;
 use types::UnifyResult;
 
@@ -43,16 +42,8 @@ fn same_kinds<'a>(k: Kind, m: Kind, rule: &'a [u8], text: &'a [u8]) -> bool
     if k.code != KEY {
         return true;
     }
-    let a = Name {
-        text: k.text,
-        start: k.start,
-        len: k.len,
-    };
-    let b = Name {
-        text: m.text,
-        start: m.start,
-        len: m.len,
-    };
+    let a = k.name;
+    let b = m.name;
     names::same_name(a, b, rule, text)
 }
 

@@ -10,7 +10,8 @@ use lib.ListN.{set}
 use lib.Seq.{getD-set-other}
 use Rattle.scope.specs.Base.{xor}
 use Rattle.scope.specs.Types.{Ty, ty, flip, INV-BIT, tyOf}
-use Rattle.scope.specs.Nodes.{Node, Root, Child, at, isRoot, hop, climb, find, point, compress, findMut}
+use Rattle.scope.specs.Nodes.{Node, Root, Child, at, isRoot, climb, find, compress, findMut}
+use Rattle.scope.proofs.Laws as scope
 use Rattle.types.specs.declared.«Type».{«Type»}
 use Rattle.types.proofs.Laws.{idx-below, ty-new}
 use Rattle.layout.specs.Words.{NODE-WORDS, nodeField, decode}
@@ -27,16 +28,14 @@ use Rattle.roots.specs.Found.{Found, Relinked, FoundMut}
 pub climb-up : (f : ℕ) (ns : List Node) (t u : Ty) → 0 < f → at ns (t .idx) ≡ Child u → climb f ns t ≡ climb (f - 1) ns (flip (t .inv) u)
 unfolding climb
 climb-up zero ns t u h e = absurd (omega arith)
-climb-up (suc f) ns t u h e = let k : suc f - 1 ≡ f = omega arith in rw (e, k)
-
-hop-root : (v : Node) (k : Ty → Ty) (t : Ty) → isRoot v ≡ true → hop v k t ≡ t
-hop-root (Root st z) k t e = refl
-hop-root (Child u) k t e = cc
+climb-up (suc f) ns t u h e = let k : suc f - 1 ≡ f = omega arith in rw k (scope.climb-child f ns t u e)
 
 pub climb-root : (f : ℕ) (ns : List Node) (t : Ty) → isRoot (at ns (t .idx)) ≡ true → climb f ns t ≡ t
-unfolding climb
-climb-root zero ns t e = refl
-climb-root (suc f) ns t e = hop-root (at ns (t .idx)) (climb f ns) t e
+climb-root f ns t e = go (at ns (t .idx)) refl e
+  where
+    go : (v : Node) → at ns (t .idx) ≡ v → isRoot v ≡ true → climb f ns t ≡ t
+    go (Root st z) q r = scope.climb-root f ns t q
+    go (Child u) q r = cc
 
 pub climb-out : (f : ℕ) (ns : List Node) (t : Ty) → f ≤ 0 → climb f ns t ≡ t
 unfolding climb
@@ -45,17 +44,20 @@ climb-out (suc f) ns t h = absurd (omega arith)
 
 -- climbing looks at parents alone, and these do not depend on the children's words
 
-hop-same : (v w : Node) (k k′ : Ty → Ty) (t : Ty) → parentOf v ≡ parentOf w → ((u : Ty) → k u ≡ k′ u) → hop v k t ≡ hop w k′ t
-hop-same (Root st z) (Root st′ z′) k k′ t e g = refl
-hop-same (Root st z) (Child u) k k′ t e g = let y : _≡_ {A = ℕ} 0 1 = cc in absurd (omega arith)
-hop-same (Child u) (Root st z) k k′ t e g = let y : _≡_ {A = ℕ} 0 1 = cc in absurd (omega arith)
-hop-same (Child u) (Child u′) k k′ t e g = let y : u ≡ u′ = cc in g (flip (t .inv) u) ∙ ap (λ (x : Ty). k′ (flip (t .inv) x)) y
+climb-same : (f : ℕ) (ns ms : List Node) (t : Ty) (v w : Node) → at ns (t .idx) ≡ v → at ms (t .idx) ≡ w → parentOf v ≡ parentOf w
+    → ((u : Ty) → climb f ns u ≡ climb f ms u) → climb (suc f) ns t ≡ climb (suc f) ms t
+climb-same f ns ms t (Root st z) (Root st′ z′) p q e g = rw (scope.climb-root (suc f) ns t p, scope.climb-root (suc f) ms t q)
+climb-same f ns ms t (Root st z) (Child u) p q e g = let y : _≡_ {A = ℕ} 0 1 = cc in absurd (omega arith)
+climb-same f ns ms t (Child u) (Root st z) p q e g = let y : _≡_ {A = ℕ} 0 1 = cc in absurd (omega arith)
+climb-same f ns ms t (Child u) (Child u′) p q e g =
+    let y : u ≡ u′ = cc in
+    rw (scope.climb-child f ns t u p, scope.climb-child f ms t u′ q) (g (flip (t .inv) u) ∙ ap (λ (x : Ty). climb f ms (flip (t .inv) x)) y)
 
 pub climb-parents : (f : ℕ) (ns ms : List Node) (t : Ty) → ((i : ℕ) → parentOf (at ns i) ≡ parentOf (at ms i)) → climb f ns t ≡ climb f ms t
 unfolding climb
 climb-parents zero ns ms t e = refl
 climb-parents (suc f) ns ms t e =
-    hop-same (at ns (t .idx)) (at ms (t .idx)) (climb f ns) (climb f ms) t (e (t .idx)) (λ u. climb-parents f ns ms u e)
+    climb-same f ns ms t (at ns (t .idx)) (at ms (t .idx)) refl refl (e (t .idx)) (λ u. climb-parents f ns ms u e)
 
 pub find-kids : (ws ks ks′ : List ℕ) (n : ℕ) (t : Ty) → find (decode ws ks n) t ≡ find (decode ws ks′ n) t
 unfolding find
@@ -100,16 +102,14 @@ pub compress-up : (f : ℕ) (ns : List Node) (r t u : Ty) → 0 < f → at ns (t
     → compress f ns r t ≡ compress (f - 1) (set ns (t .idx) (Child (flip (t .inv) r))) r (flip (t .inv) u)
 unfolding compress
 compress-up zero ns r t u h e = absurd (omega arith)
-compress-up (suc f) ns r t u h e = let k : suc f - 1 ≡ f = omega arith in rw (e, k)
-
-point-root : (v : Node) (k : List Node → Ty → List Node) (ns : List Node) (r t : Ty) → isRoot v ≡ true → point v k ns r t ≡ ns
-point-root (Root st z) k ns r t e = refl
-point-root (Child u) k ns r t e = cc
+compress-up (suc f) ns r t u h e = let k : suc f - 1 ≡ f = omega arith in rw k (scope.compress-child f ns r t u e)
 
 pub compress-root : (f : ℕ) (ns : List Node) (r t : Ty) → isRoot (at ns (t .idx)) ≡ true → compress f ns r t ≡ ns
-unfolding compress
-compress-root zero ns r t e = refl
-compress-root (suc f) ns r t e = point-root (at ns (t .idx)) (λ ns′ t′. compress f ns′ r t′) ns r t e
+compress-root f ns r t e = go (at ns (t .idx)) refl e
+  where
+    go : (v : Node) → at ns (t .idx) ≡ v → isRoot v ≡ true → compress f ns r t ≡ ns
+    go (Root st z) q h = scope.compress-root f ns r t q
+    go (Child u) q h = cc
 
 pub compress-out : (f : ℕ) (ns : List Node) (r t : Ty) → f ≤ 0 → compress f ns r t ≡ ns
 unfolding compress

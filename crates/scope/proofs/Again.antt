@@ -93,7 +93,7 @@ unfolding Each
 each-append p [] ds h = h
 each-append p (c ∷ cs) ds h = each-append p cs ds (h .1)
 
--- "a pair that once got Success gets it again"
+-- a pair that once got Success gets it again
 pub success-again : (e : Env) (s : Store) → Reached e s → (cs : List Call) → Each inSecondHalf cs → (before later : List Call) (a b : Ty)
     → cs ≡ before ++ (Demand.unify a b ∷ later)
     → given (unifyCall e (reads (after e s before)) a b) ≡ some Success

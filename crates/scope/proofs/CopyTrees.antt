@@ -12,10 +12,11 @@ use lib.ListN.{length}
 use Rattle.scope.specs.Limits.{NONE}
 use Rattle.scope.specs.Chart.{Env}
 use Rattle.scope.specs.Types.{Ty, flip}
-use Rattle.scope.specs.Nodes.{State, Known, Unknown, InferenceFailed, Node, Root, Child, Store, at, stateOf, hop, climb, find, kidsOf}
+use Rattle.scope.specs.Nodes.{State, Known, Unknown, InferenceFailed, Node, Root, Child, Store, at, stateOf, climb, find, kidsOf}
 use Rattle.scope.specs.Trees.{Tree, node, Forest, fcons, treeHead, Val, invertIf, val, vals, build, StateFits, NodeFits, Fits}
 use Rattle.scope.specs.Import.{Work, MovedAll, keep, entry, replaced, import}
 use Rattle.scope.specs.Calls.{importList}
+use Rattle.scope.proofs.Laws.{climb-root, climb-child}
 use Rattle.scope.proofs.TreeLaws.{val-flip}
 use Rattle.scope.proofs.Added.{Closed, at-end, fits-added, fits-inside}
 use Rattle.scope.proofs.Mapping.{Source, Maps, tally-uniq}
@@ -37,11 +38,11 @@ unfolding climb
 climb-val e v ns ps h zero t = refl
 climb-val e v ns ps h (suc f) t = go (at ns (t .idx)) refl (λ u. climb-val e v ns ps h f u)
   where
-    go : (n : Node) → at ns (t .idx) ≡ n → ((u : Ty) → val e v u ≡ val e v (climb f ns u)) → val e v t ≡ val e v (hop n (climb f ns) t)
-    go (Root st z) q ih = refl
+    go : (n : Node) → at ns (t .idx) ≡ n → ((u : Ty) → val e v u ≡ val e v (climb f ns u)) → val e v t ≡ val e v (climb (suc f) ns t)
+    go (Root st z) q ih = rw (climb-root (suc f) ns t q)
     go (Child u) q ih =
         let g : v (t .idx) ≡ val e v u = subst (NodeFits e v (t .idx)) q (h (t .idx) (ap (λ (n : Node). replaced ps (stateOf n)) q ∙ unknown-kept ps NONE)) in
-        ap (invertIf e (t .inv)) g ∙ sym (val-flip e v (t .inv) u) ∙ ih (flip (t .inv) u)
+        rw (climb-child f ns t u q) (ap (invertIf e (t .inv)) g ∙ sym (val-flip e v (t .inv) u) ∙ ih (flip (t .inv) u))
 
 find-val : (e : Env) (v : Val) (ns : List Node) (ps : Option (List Ty)) → FitsKept e v ns ps → (t : Ty) → val e v t ≡ val e v (find ns t)
 unfolding find

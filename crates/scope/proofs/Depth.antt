@@ -10,9 +10,9 @@ use lib.ListN.{length}
 use Rattle.scope.specs.Base.{pick, xor}
 use Rattle.scope.specs.Chart.{Env}
 use Rattle.scope.specs.Types.{Ty, ty}
-use Rattle.scope.specs.Nodes.{State, Known, Unknown, InferenceFailed, Node, find, findMut}
+use Rattle.scope.specs.Nodes.{State, Known, Unknown, InferenceFailed, Node, find, findMut, kindOf}
 use Rattle.scope.specs.Answers.{Answer, both}
-use Rattle.scope.specs.Unify.{Plan, plan, Out, out, run, stateIn, settle, meetStates, sameNode, meet, unifyF, unify}
+use Rattle.scope.specs.Unify.{Plan, plan, Out, out, run, stateIn, settle, meetKinds, sameNode, meet, unifyF, unify}
 use Rattle.scope.proofs.View.{View, seen, view}
 use Rattle.scope.proofs.View as Seen
 use Rattle.scope.proofs.Free.{free, free-nil}
@@ -81,7 +81,8 @@ module _ (e : Env) (n : ℕ) where
         ap (pick (eqb (a .idx) (b .idx)) (out ns (sameNode n ns a b))) (go (stateIn ns a) (stateIn ns b) refl refl)
       where
         go : (sa sb : State) → stateIn ns a ≡ sa → stateIn ns b ≡ sb
-            → meetStates (unifyF (e .texts) n f) (e .texts) n ns a b sa sb ≡ meetStates (unifyF (e .texts) n f′) (e .texts) n ns a b sa sb
+            → meetKinds (unifyF (e .texts) n f) (e .texts) n ns a b (kindOf a sa) (kindOf b sb)
+            ≡ meetKinds (unifyF (e .texts) n f′) (e .texts) n ns a b (kindOf a sa) (kindOf b sb)
         go (Unknown s) sb p q = refl
         go InferenceFailed sb p q = refl
         go (Known i k) (Unknown s) p q = refl

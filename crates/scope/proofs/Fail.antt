@@ -16,19 +16,20 @@ use Rattle.scope.specs.Nodes.{Kind}
 use Rattle.scope.specs.Answers.{Answer, Success, Failure, Indeterminate, both, ofBool}
 use Rattle.scope.specs.Unify.{Plan, plan}
 use Rattle.scope.specs.Trees.{TreeHead, Tree, node, Forest, fnil, fcons, treeHead, treeDual, invert, inverts, Val, invertIf, val, vals, build}
-use Rattle.scope.proofs.View.{VState, unknown, known, View, sel, rootOf, Kid, Below, one, more, Good, Out, out, run, occurs, selfSt, selfInverse, same, bind, close, join, kept, meetSt, meet, unify}
+use Rattle.scope.proofs.View.{VState, unknown, known, View, sel, rootOf, Kid, Below, one, more, Good, Out, out, run}
+use Rattle.scope.proofs.View.{occurs, selfSt, selfInverse, same, bind, close, join, kept, meetSt, meet, unify}
 use Rattle.scope.proofs.TreeLaws.{invert-dual, invert-mark, invertIf-twice, fcons-head, fcons-tail, node-kids}
 use Rattle.scope.proofs.Free.{free, free-nil}
 use Rattle.scope.proofs.Chain.{Chain, cnil, chain-step, fuel-out, fuel-step}
 use Rattle.scope.proofs.TestLaws.{tf, all-no}
 use Rattle.scope.proofs.PlanLaws.{Makeable, dual-tree, plan-equal, plan-fail}
-use Rattle.scope.proofs.ViewLaws.{not-known}
+use Rattle.scope.proofs.ViewLaws.{not-known, Fine}
 use Rattle.scope.proofs.Grow.{ri, Grow, mono-idx}
 use Rattle.scope.proofs.Stay.{Spec, Step}
 use Rattle.scope.proofs.Occurs.{self-kind}
 use Rattle.scope.proofs.Meet.{unify-spec}
 use Rattle.scope.proofs.Fuel.{Chains, chain-after, plan-chains}
-use Rattle.scope.proofs.Inside.{Inside, Fine, InsideStep, inside-kinds, Within, plan-within, unify-inside}
+use Rattle.scope.proofs.Inside.{Inside, InsideStep, inside-kinds, Within, plan-within, unify-inside}
 use Rattle.scope.proofs.Self.{occurs-yes}
 use Rattle.scope.proofs.ViewFits.{Fits, val-root}
 use Rattle.scope.proofs.Sol.{Equal, SolStep, den-known, uncross, unify-sol}
@@ -154,8 +155,8 @@ module _ (E : Env) where
       go unknown r e ih = record { node = a; below = h; no-kind = ap (λ (x : Ty). g .st (x .idx)) t ∙ r; self-inverse = i }
       go (known j k) r e ih =
           let b : v a ≡ invertIf E j (build E v k) = den-known E v (v a) r (fit .state a) in
-          let sk = self-kids v k (env .kinds a j k r .clean .make) (self-invertIf j (build E v k) (ap (invert E) (sym b) ∙ i ∙ b)) in
-          let z = all-no T (k .kids) (ap (λ (x : Bool). x && all T (k .kids)) (sym (sk .0)) ∙ sym (self-kind T k) ∙ e) in
+          let sk = self-kids v k (env .kinds a j k r .made .make) (self-invertIf j (build E v k) (ap (invert E) (sym b) ∙ i ∙ b)) in
+          let z = all-no T (k .kids) (ap (λ (x : Bool). x && all T (k .kids)) (sym (sk .0)) ∙ sym (self-kind T j k) ∙ e) in
           let kid : Kid g a (ri g (z .0)) = record { inv = j; kind = k; kid = z .0; top = t; state = r; mem = z .1; to = refl } in
           ih (ri g (z .0)) (a ∷ ls) (good .idem (z .0 .idx)) (env .inside (z .0 .idx) (env .kinds a j k r .kids (z .0) (z .1))) (chain-step kid c)
           (fuel-step good c h q) (z .2)
@@ -283,8 +284,8 @@ module _ (E : Env) where
           (den-known E v (v (a .idx)) p (fit .state (a .idx))) (den-known E v (v (b .idx)) q (fit .state (b .idx))) eq in
           elim (run-fail g (l .base) (l .pairs) (a .idx ∷ ls) good env (plan-within (E .texts) c fk fm)
           (plan-chains (E .texts) g (a .idx) ls atop ch i k m c p) (fuel-step good ch ha fu) fit
-          (λ y w. plan-equal E v k m c (fk .clean .make) (fm .clean .make) tr y w) (close-fail (o .view) (o .answer) x))
-          [ inl w ↦ absurd (plan-fail E v k m c (fk .clean .make) (fm .clean .make) (fk .clean .no-default) w tr) | inr w ↦ w ]
+          (λ y w. plan-equal E v k m c (fk .made .make) (fm .made .make) tr y w) (close-fail (o .view) (o .answer) x))
+          [ inl w ↦ absurd (plan-fail E v k m c (fk .made .make) (fm .made .make) (fk .made .no-default) w tr) | inr w ↦ w ]
 
       meet-fail : meet u (E .texts) n g a b .answer ≡ Failure → Witness E n g v
       unfolding meet

@@ -10,7 +10,7 @@ use Rattle.scope.specs.Chart.{Env}
 use Rattle.scope.specs.Types.{Ty}
 use Rattle.scope.specs.Nodes.{State, Node, Root, at, find, findMut}
 use Rattle.scope.specs.Answers.{Success}
-use Rattle.scope.specs.Unify.{unify, occurs, selfInverse, selfInverseOf}
+use Rattle.scope.specs.Unify.{unify, occurs, selfInverseOf}
 use Rattle.scope.specs.Trees.{Val, invert, val, Fits}
 use Rattle.scope.specs.Demand.{Contains}
 use Rattle.scope.proofs.View.{View, Below, rootOf, view}
@@ -33,7 +33,7 @@ use Rattle.scope.proofs.UnifyKept.{Stable, nodes-stable, stable-kinds, 
 -- two types lead to one root, with inversions that agree, or the root is self-inverse
 pub data Merged (ns : List Node) (p q : Ty) : Type 0 where
   one-type : find ns p ≡ find ns q → Merged ns p q
-  one-root : find ns p .idx ≡ find ns q .idx → selfInverse ns p ≡ true → Merged ns p q
+  one-root : find ns p .idx ≡ find ns q .idx → selfInverseOf ns p false ≡ true → Merged ns p q
 
 joined-merged : (e : Env) {ns : List Node} → SoundNodes e ns → (p q : Ty) → p .idx < length ns → Joined (view ns) p q → Merged ns p q
 unfolding selfInverseOf
@@ -96,7 +96,7 @@ module _ (e : Env) {ns : List Node} (ok : SoundNodes e ns) where
       go false q = absurd (no-both (occurs-no (length ns) (view ns) x y (sym (occurs-view (length ns) ns x y) ∙ q)) c)
 
   -- `self_inverse`
-  pub self-inverse-tree : (v : Val) → Fits e v ns → (t : Ty) → selfInverse ns t ≡ true → invert e (val e v t) ≡ val e v t
+  pub self-inverse-tree : (v : Val) → Fits e v ns → (t : Ty) → selfInverseOf ns t false ≡ true → invert e (val e v t) ≡ val e v t
   unfolding selfInverseOf
   self-inverse-tree v f t q =
       let g = fits-seen e v (ok .forest) f in

@@ -77,6 +77,6 @@ module _ (ns : List Node) (ok : Forest ns) (good : Good (view ns)) where
   below-contains (one c) = Demand.one (kid-holds c)
   below-contains (more c b) = Demand.more (kid-holds c) (below-contains b)
 
-  -- "no type contains itself"
+  -- no type contains itself
   pub contains-never : (a : ℕ) → Contains ns a a → ⊥
   contains-never a c = irrefl (good .wf a) (contains-below c)

@@ -16,7 +16,8 @@ use Rattle.scope.specs.Unify as Unify
 use Rattle.scope.specs.Sound.{Lent, reads}
 use Rattle.scope.specs.Calls.{unifyCall}
 use Rattle.scope.specs.Trees.{Val, NodeFits, Fits, PairFits}
-use Rattle.scope.specs.Demand.{Maker, Read, Call, make, import, forceKind, unify, read, later, reset, step, given, next, after, inFirstHalf, Each, StatesFit, statesMade, Asks, Asked, Answers, EveryAnswer, SelfInverseNode, FirstHalfHolds}
+use Rattle.scope.specs.Demand.{Maker, Read, Call, make, import, forceKind, unify, read, later, reset, step, given, next, after, inFirstHalf}
+use Rattle.scope.specs.Demand.{Each, StatesFit, statesMade, Asks, Asked, Answers, EveryAnswer, SelfInverseNode, FirstHalfHolds}
 use Rattle.scope.proofs.View.{unknown, seen, view}
 use Rattle.scope.proofs.ViewFits as Seen
 use Rattle.scope.proofs.ViewLaws.{not-known}
@@ -148,7 +149,7 @@ fails e s r d a b q v f p = unify-cases e s (r .facts) (λ o. given o ≡ some F
     plain : Inside (length ns) (Plain e) (view ns)
     plain = record {
       inside = nodes-stable e (r .facts .nodes) .inside .inside;
-      kinds = λ a i k q. let z = r .facts .nodes .kinds a i k q in record { kids = z .kids; clean = record { make = z .made; no-default = d a i k q } };
+      kinds = λ a i k q. let z = r .facts .nodes .kinds a i k q in record { kids = z .kids; made = record { make = z .made; no-default = d a i k q } };
     }
 
     same : {x y : Answer} → some x ≡ some y → x ≡ y

@@ -12,6 +12,8 @@ use Rattle.scope.specs.Types.{Ty}
 use Rattle.scope.specs.Nodes.{State, Known, Unknown, InferenceFailed, Node, Store, at, stateOf, kidsOf}
 use Rattle.scope.specs.Import.{import}
 use Rattle.scope.specs.Calls.{importList}
+use Rattle.scope.proofs.ViewLaws.{Kinds, Fine}
+use Rattle.scope.proofs.PlanLaws.{Makeable}
 use Rattle.scope.proofs.View.{seen, view}
 use Rattle.scope.proofs.Paths.{find-inside}
 use Rattle.scope.proofs.Falls.{seen-known, good-falls}
@@ -20,7 +22,7 @@ use Rattle.scope.proofs.Extend.{ext-forest, ext-shallow, ext-sized, ext
 use Rattle.scope.proofs.Mapping.{Source}
 use Rattle.scope.proofs.Copies.{after-makeable}
 use Rattle.scope.proofs.Imports.{Imported, imported}
-use Rattle.scope.proofs.SoundLaws.{Fine, Kinds, kinds-held, SoundNodes, SoundFacts}
+use Rattle.scope.proofs.SoundLaws.{SoundNodes, nodes-held, SoundFacts}
 use Rattle.scope.proofs.SoundKept.{Kept, fine-more, remembers-more}
 
 module _ (e : Env) where
@@ -40,7 +42,7 @@ module _ (e : Env) where
   sound-source {ns} ok = record {
     inside = find-inside (ok .forest);
     kids = sound-kids ok;
-    falling = good-falls ns (ok .forest) (ok .good) (kinds-held e (length ns) (view ns) (ok .kinds));
+    falling = good-falls ns (ok .forest) (ok .good) (nodes-held ok);
   }
 
   module _ (ns : List Node) (ps : Option (List Ty)) (s : Store) (ts : List Ty) (src : SoundNodes e ns) (ok : SoundFacts e s)
@@ -52,14 +54,14 @@ module _ (e : Env) where
     pub import-leaves : Imported ns ps s ts (import ns ps s ts)
     import-leaves = imported ns ps s ts (sound-source src) (sound-closed (ok .nodes)) (ok .nodes .good) in-source in-dest miss
 
-    import-kinds : Kinds e (length (d .nodes)) (view (d .nodes))
+    import-kinds : Kinds (Fine (length (d .nodes)) (Makeable e)) (view (d .nodes))
     unfolding view
     import-kinds a i k q = go (decLt a (length (s .nodes)))
       where
         q′ : stateOf (at (d .nodes) a) ≡ Known i k
         q′ = seen-known (stateOf (at (d .nodes) a)) q
 
-        go : Dec (a < length (s .nodes)) → Fine e (length (d .nodes)) k
+        go : Dec (a < length (s .nodes)) → Fine (length (d .nodes)) (Makeable e) k
         go (yes h) =
             fine-more e (import-leaves .ext .len) (ok .nodes .kinds a i k (sym (ext-st (s .nodes) (d .nodes) (import-leaves .ext) (ok .nodes .forest) a h) ∙ q))
         go (no h) =

@@ -1,6 +1,6 @@
 -- The nodes in use stay below n, and whatever holds of every known kind goes on holding. Assumes nothing.
 use mathlib.Core.Path.{_≡_, refl}
-use mathlib.Core.List.{List, [], _∷_, List·Memᴰ, List·Memᴰ·head, List·Memᴰ·tail}
+use mathlib.Core.List.{List, [], _∷_, List·Memᴰ·head, List·Memᴰ·tail}
 use mathlib.Core.Bool.{Bool, true, false, _||_}
 use mathlib.Core.Logic.{_≢_, _⊎_, inl, inr}
 use Prim.Native.Nat.{ℕ, zero, suc, _<_}
@@ -14,13 +14,9 @@ use Rattle.scope.specs.Answers.{Answer, Success, Failure, Indeterminate,
 use Rattle.scope.specs.Unify.{Plan, plan}
 use Rattle.scope.proofs.View.{VState, unknown, known, View, sel, rootOf, Good, Out, out, run, occurs, same, bind, close, join, kept, meetSt, meet, unify}
 use Rattle.scope.proofs.PlanLaws.{Makeable, plan-left, plan-right}
-use Rattle.scope.proofs.ViewLaws.{same?, rep-hit, rep-miss}
-use Rattle.scope.proofs.Stay.{Kinds, NoNew, AllPairs, Step}
+use Rattle.scope.proofs.ViewLaws.{same?, rep-hit, rep-miss, Kinds, Fine}
+use Rattle.scope.proofs.Stay.{NoNew, kinds-after, AllPairs, Step}
 use Rattle.scope.proofs.Meet.{unify-spec}
-
-pub record Fine (n : ℕ) (C : Kind → Type 0) (k : Kind) : Type 0 where
-  pub kids : (x : Ty) → List·Memᴰ x (k .kids) → x .idx < n
-  pub clean : C k
 
 -- roots of nodes below n are below n
 abbrev pub Bounded : ℕ → View → Type 0
@@ -28,17 +24,17 @@ Bounded n g = (x : ℕ) → x < n → g .rep x .idx < n
 
 pub record Inside (n : ℕ) (C : Kind → Type 0) (g : View) : Type 0 where
   pub inside : Bounded n g
-  pub kinds : (a : ℕ) (i : Bool) (k : Kind) → g .st a ≡ known i k → Fine n C k
+  pub kinds : Kinds (Fine n C) g
 
 -- where C says that a kind can be made
 abbrev pub Makes : Env → (Kind → Type 0) → Type 0
 Makes e C = (k : Kind) → C k → Makeable e k
 
-pub inside-kinds : {e : Env} {n : ℕ} {C : Kind → Type 0} {g : View} → Makes e C → Inside n C g → Kinds e g
-inside-kinds mk s = record { make = λ a i k q. mk k (s .kinds a i k q .clean) }
+pub inside-kinds : {e : Env} {n : ℕ} {C : Kind → Type 0} {g : View} → Makes e C → Inside n C g → Kinds (Makeable e) g
+inside-kinds mk s a i k q = mk k (s .kinds a i k q .made)
 
 pub inside-after : {n : ℕ} {C : Kind → Type 0} {g h : View} → Inside n C g → NoNew g h → Bounded n h → Inside n C h
-inside-after s w b = record { inside = b; kinds = λ a i k q. let z = w .was a i k q in s .kinds (z .0) (z .1) k (z .2) }
+inside-after s w b = record { inside = b; kinds = kinds-after (s .kinds) w }
 
 -- pairs of nodes below n
 abbrev pub Within : ℕ → List (Ty × Ty) → Type 0

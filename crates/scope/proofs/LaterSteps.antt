@@ -18,7 +18,9 @@ use Rattle.scope.specs.Unify.{Plan, answers, runPlan, objectPlan, after,
 use Rattle.scope.specs.Force.{finishWhere, finishInference, findRelated, isNil, getMod}
 use Rattle.scope.specs.Show.{show, showImplType}
 use Rattle.scope.specs.Sound.{reads, inStore}
-use Rattle.scope.specs.Calls.{refused, done, firstBroken, lentTests, outside, tooMany, shortFor, unified, unifyTypesCall, Entries, badEntries, unifyObjectsCall, implTypes, implTests, unifyImplTypeCall, approxEqCall, unifyFnSigCall, finishInferenceCall, finishWhereCall, findRelatedCall, selfInverseCall, isNilCall, getModCall, Printed, printedText, orUnprinted, showCall, showImplTypeCall}
+use Rattle.scope.specs.Calls.{refused, done, firstBroken, lentTests, outside, tooMany, shortFor, unified, unifyTypesCall, Entries, badEntries, unifyObjectsCall}
+use Rattle.scope.specs.Calls.{implTypes, implTests, unifyImplTypeCall, approxEqCall, unifyFnSigCall, finishInferenceCall, finishWhereCall, findRelatedCall}
+use Rattle.scope.specs.Calls.{selfInverseCall, isNilCall, getModCall, Printed, printedText, orUnprinted, showCall, showImplTypeCall}
 use Rattle.scope.specs.Demand.{Later, Step, step, stepLater}
 use Rattle.scope.specs.Demand as Demand
 use Rattle.scope.proofs.TestLaws.{of-all}
@@ -87,7 +89,8 @@ module _ (e : Env) (s : Store) (ok : SoundFacts e s) where
       → ((l : Plan) → Inside (length (s .nodes)) (l .pairs) → P (went (withNodes s (carry (e .texts) (s .nodes) l .nodes))))
       → ((ns : List Node) → Restates (s .nodes) ns → P (went (withNodes s ns)))
       → P (stepLater e s c)
-  unfolding unifyTypesCall unifyObjectsCall unifyImplTypeCall unifyFnSigCall unifyTypes unifyObjects unifyImplType unifyFnSig finishInferenceCall finishWhereCall findRelatedCall selfInverseCall isNilCall getModCall approxEqCall showCall showImplTypeCall
+  unfolding unifyTypesCall unifyObjectsCall unifyImplTypeCall unifyFnSigCall unifyTypes unifyObjects unifyImplType unifyFnSig finishInferenceCall
+      finishWhereCall findRelatedCall selfInverseCall isNilCall getModCall approxEqCall showCall showImplTypeCall
   later-cases P (Demand.unifyTypes xs ys i) z f g r =
       step-cases e s ok P (outside s (xs ++ ys) ∷ (tooMany xs || tooMany ys, 4) ∷ []) (unified s (unifyTypes (e .texts) (s .nodes) xs ys i)) z (λ t.
       let h = all-inside (s .nodes) (xs ++ ys) (t .0) in

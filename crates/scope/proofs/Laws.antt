@@ -5,9 +5,9 @@ use mathlib.Core.List.{List}
 use mathlib.Core.Bool.{true, false}
 use Prim.Native.Nat.{ℕ, zero, suc}
 use native.Mathlib.Omega.{arith}
-use lib.ListN.{length}
+use lib.ListN.{length, set}
 use Rattle.scope.specs.Types.{Ty, flip}
-use Rattle.scope.specs.Nodes.{State, Node, Root, Child, at, isRoot, hop, climb, find}
+use Rattle.scope.specs.Nodes.{State, Node, Root, Child, at, isRoot, climb, find, compress}
 use Rattle.scope.specs.Answers.{Answer, Success, Failure, Indeterminate, both}
 use Rattle.scope.specs.Sound.{rooted, rootedNode}
 
@@ -50,19 +50,30 @@ both-success Indeterminate Failure e = let z : _≡_ {A = ℕ} 0 1 = cc in absur
 both-success Indeterminate Indeterminate e = (e, e)
 
 -- a root is its own root
-climb-root : (f : ℕ) (ns : List Node) (t : Ty) (st : State) (z : ℕ) → at ns (t .idx) ≡ Root st z → climb f ns t ≡ t
+pub climb-root : (f : ℕ) (ns : List Node) (t : Ty) {st : State} {z : ℕ} → at ns (t .idx) ≡ Root st z → climb f ns t ≡ t
 unfolding climb
-climb-root zero ns t st z e = refl
-climb-root (suc f) ns t st z e = ap (λ n. hop n (climb f ns) t) e
+climb-root zero ns t e = refl
+climb-root (suc f) ns t e = rw (e, climb)
 
 pub find-root : (ns : List Node) (t : Ty) (st : State) (z : ℕ) → at ns (t .idx) ≡ Root st z → find ns t ≡ t
 unfolding find
-find-root ns t st z e = climb-root (length ns) ns t st z e
+find-root ns t st z e = climb-root (length ns) ns t e
 
 -- a child is found at its parent
-climb-child : (f : ℕ) (ns : List Node) (t u : Ty) → at ns (t .idx) ≡ Child u → climb (suc f) ns t ≡ climb f ns (flip (t .inv) u)
+pub climb-child : (f : ℕ) (ns : List Node) (t u : Ty) → at ns (t .idx) ≡ Child u → climb (suc f) ns t ≡ climb f ns (flip (t .inv) u)
 unfolding climb
-climb-child f ns t u e = ap (λ n. hop n (climb f ns) t) e
+climb-child f ns t u e = rw (e, climb)
+
+-- `find_mut` stops at a root, and points a child straight at the root r
+pub compress-root : (f : ℕ) (ns : List Node) (r t : Ty) {st : State} {z : ℕ} → at ns (t .idx) ≡ Root st z → compress f ns r t ≡ ns
+unfolding compress
+compress-root zero ns r t e = refl
+compress-root (suc f) ns r t e = rw (e, compress)
+
+pub compress-child : (f : ℕ) (ns : List Node) (r t u : Ty) → at ns (t .idx) ≡ Child u
+    → compress (suc f) ns r t ≡ compress f (set ns (t .idx) (Child (flip (t .inv) r))) r (flip (t .inv) u)
+unfolding compress
+compress-child f ns r t u e = rw (e, compress)
 
 rooted-child : (f : ℕ) (ns : List Node) (i : ℕ) (u : Ty) → at ns i ≡ Child u → rooted (suc f) ns i ≡ rooted f ns (u .idx)
 unfolding rooted
@@ -74,13 +85,13 @@ no-root ns i u e r = let z : false ≡ true = sym (ap isRoot e) ∙ r in let w :
 
 -- one more step changes nothing where a root is reached
 more-first : (ns : List Node) (t : Ty) (n : Node) → at ns (t .idx) ≡ n → rooted zero ns (t .idx) ≡ true → climb (suc zero) ns t ≡ climb zero ns t
-more-first ns t (Root st z) e r = climb-root (suc zero) ns t st z e ∙ sym (climb-root zero ns t st z e)
+more-first ns t (Root st z) e r = climb-root (suc zero) ns t e ∙ sym (climb-root zero ns t e)
 more-first ns t (Child u) e r = absurd (no-root ns (t .idx) u e r)
 
 more-next : (f : ℕ) (ns : List Node) (t : Ty) (n : Node) → at ns (t .idx) ≡ n → rooted (suc f) ns (t .idx) ≡ true
     → ((u : Ty) → rooted f ns (u .idx) ≡ true → climb (suc f) ns u ≡ climb f ns u)
     → climb (suc (suc f)) ns t ≡ climb (suc f) ns t
-more-next f ns t (Root st z) e r ih = climb-root (suc (suc f)) ns t st z e ∙ sym (climb-root (suc f) ns t st z e)
+more-next f ns t (Root st z) e r ih = climb-root (suc (suc f)) ns t e ∙ sym (climb-root (suc f) ns t e)
 more-next f ns t (Child u) e r ih =
     climb-child (suc f) ns t u e ∙ ih (flip (t .inv) u) (sym (rooted-child f ns (t .idx) u e) ∙ r) ∙ sym (climb-child f ns t u e)
 

@@ -5,6 +5,9 @@ pub mod Chain
 pub mod Copies
 pub mod Copy
 pub mod CopyCount
+pub mod CopyDepth
+pub mod CopyTable
+pub mod CopyTableLaws
 pub mod CopyTrees
 pub mod Depth
 pub mod ExportKept
@@ -30,6 +33,9 @@ pub mod Meet
 pub mod Merge
 pub mod Moves
 pub mod NameLaws
+pub mod NeedsLaws
+pub mod NeedsTests
+pub mod NeedsWalk
 pub mod NoDefaults
 pub mod NodesFit
 pub mod NodesMade
@@ -41,6 +47,7 @@ pub mod Push
 pub mod Reached
 pub mod ReadDepth
 pub mod Refusals
+pub mod ReplacedLaws
 pub mod Restate
 pub mod Run
 pub mod SecondHalf

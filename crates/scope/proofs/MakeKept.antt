@@ -13,20 +13,21 @@ use Rattle.scope.specs.Kinds.{TUPLE, ERROR}
 use Rattle.scope.specs.Nodes.{Kind, State, Known, Unknown, Node, Store, at, stateOf}
 use Rattle.scope.specs.Make.{push, pushed, nextType, new, newVar, newVars, bare, makeError, makeNil, again, rememberError, rememberNil}
 use Rattle.scope.specs.Calls.{nodesFor}
+use Rattle.scope.proofs.PlanLaws.{Makeable}
 use Rattle.scope.proofs.View.{known, seen, view}
-use Rattle.scope.proofs.ViewLaws.{same?, not-known}
+use Rattle.scope.proofs.ViewLaws.{same?, not-known, Fine}
 use Rattle.scope.proofs.Extend.{ext-forest, ext-shallow, ext-sized}
 use Rattle.scope.proofs.Push.{push-len, push-new, push-old, push-extends, push-good}
-use Rattle.scope.proofs.SoundLaws.{Fine, kinds-held, SoundNodes, SoundFacts}
+use Rattle.scope.proofs.SoundLaws.{SoundNodes, nodes-held, SoundFacts}
 use Rattle.scope.proofs.SoundKept.{Kept, error-fine, nil-fine, fine-more, remembers-more}
 
 module _ (e : Env) where
   -- a state whose kind, if any, may be made over n nodes
   abbrev pub StateFine : ℕ → State → Type 0
-  StateFine n st = (i : Bool) (k : Kind) → seen st ≡ known i k → Fine e n k
+  StateFine n st = (i : Bool) (k : Kind) → seen st ≡ known i k → Fine n (Makeable e) k
 
-  known-fine : {n : ℕ} {i : Bool} {k : Kind} → Fine e n k → StateFine n (Known i k)
-  known-fine {n} {i} {k} f j m q = subst (Fine e n) (same q) f
+  known-fine : {n : ℕ} {i : Bool} {k : Kind} → Fine n (Makeable e) k → StateFine n (Known i k)
+  known-fine {n} {i} {k} f j m q = subst (Fine n (Makeable e)) (same q) f
     where
       same : known i k ≡ known j m → k ≡ m
       same q = cc
@@ -40,10 +41,10 @@ module _ (e : Env) where
     forest = ext-forest ns (push ns st) (push-extends ns st) (ok .forest);
     kinds = λ a i k q. kinds a i k q (same? a (length ns));
     sized = ext-sized ns (push ns st) (push-extends ns st) (ok .forest) (ok .sized);
-    good = push-good ns st (ok .forest) (kinds-held e (length ns) (view ns) (ok .kinds)) (λ i k q. f i k q .kids) (ok .good);
+    good = push-good ns st (ok .forest) (nodes-held ok) (λ i k q. f i k q .kids) (ok .good);
   }
     where
-      kinds : (a : ℕ) (i : Bool) (k : Kind) → seen (stateOf (at (push ns st) a)) ≡ known i k → (a ≡ length ns) ⊎ (a ≢ length ns) → Fine e (length (push ns st)) k
+      kinds : (a : ℕ) (i : Bool) (k : Kind) → seen (stateOf (at (push ns st) a)) ≡ known i k → (a ≡ length ns) ⊎ (a ≢ length ns) → Fine (length (push ns st)) (Makeable e) k
       kinds a i k q (inl w) =
           fine-more e (omega (arith, push-len ns st)) (f i k (ap (λ (x : Node). seen (stateOf x)) (sym (push-new ns st) ∙ ap (at (push ns st)) (sym w)) ∙ q))
       kinds a i k q (inr w) = fine-more e (omega (arith, push-len ns st)) (ok .kinds a i k (ap (λ (x : Node). seen (stateOf x)) (sym (push-old ns st a w)) ∙ q))
@@ -65,7 +66,7 @@ module _ (e : Env) where
   }
 
   -- `new`
-  pub new-kept : (s : Store) (k : Kind) → SoundFacts e s → Fine e (length (s .nodes)) k → length (s .nodes) + 1 ≤ s .nodeRoom
+  pub new-kept : (s : Store) (k : Kind) → SoundFacts e s → Fine (length (s .nodes)) (Makeable e) k → length (s .nodes) + 1 ≤ s .nodeRoom
       → s .children + length (k .kids) ≤ s .childRoom → Kept e s (new s k .store)
   unfolding new
   new-kept s k ok f hn hc = pushed-kept s (Known false k) (length (k .kids)) ok (known-fine f) hn hc

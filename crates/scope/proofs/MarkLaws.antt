@@ -11,9 +11,10 @@ use borrow.Author.Tests.{eqb-true, eqb-false, eq-eqb, ne-eqb, not-true}
 use Rattle.scope.specs.Base.{pick, all, any, from}
 use Rattle.scope.specs.Types.{Ty, ty}
 use Rattle.scope.specs.Kinds.{PARAM, selfDual}
-use Rattle.scope.specs.Nodes.{State, Known, Unknown, InferenceFailed, Node, Root, Child, at, isRoot, stateOf, hop, climb, find, kidsOf}
-use Rattle.scope.specs.Unify.{occurs, selfInverseState, selfInverseAt, selfInverseOf}
+use Rattle.scope.specs.Nodes.{State, Known, Unknown, InferenceFailed, Node, Root, Child, at, isRoot, stateOf, find, kidsOf}
+use Rattle.scope.specs.Unify.{occurs, selfInverseAt, selfInverseOf}
 use Rattle.scope.specs.Force.{findRelated}
+use Rattle.scope.proofs.Laws.{find-root}
 use Rattle.scope.proofs.View.{View, Kid, Below, one, more, view}
 use Rattle.scope.proofs.Chain.{Chain, cnil, chain-step, fuel-out, fuel-step}
 use Rattle.scope.proofs.ViewLaws.{same?, below-join}
@@ -124,18 +125,12 @@ module _ {A : Type 0} (p : A → Bool) where
   all-true (x ∷ xs) h = ap₂ _&&_ (h x (List·Memᴰ·head refl)) (all-true xs (λ y m. h y (List·Memᴰ·tail m)))
 
 -- a root's type is where it leads
-climb-root : (f : ℕ) (ns : List Node) (t : Ty) → isRoot (at ns (t .idx)) ≡ true → climb f ns t ≡ t
-unfolding climb
-climb-root zero ns t e = refl
-climb-root (suc f) ns t e = go (at ns (t .idx)) e
-  where
-    go : (x : Node) → isRoot x ≡ true → hop x (climb f ns) t ≡ t
-    go (Root st z) q = refl
-    go (Child u) q = tf (sym q)
-
 root-find : (ns : List Node) (t : Ty) → isRoot (at ns (t .idx)) ≡ true → find ns t .idx ≡ t .idx
-unfolding find
-root-find ns t e = ap (λ (u : Ty). u .idx) (climb-root (length ns) ns t e)
+root-find ns t e = go (at ns (t .idx)) refl e
+  where
+    go : (x : Node) → at ns (t .idx) ≡ x → isRoot x ≡ true → find ns t .idx ≡ t .idx
+    go (Root st z) p q = ap (λ (u : Ty). u .idx) (find-root ns t st z p)
+    go (Child u) p q = tf (sym q)
 
 -- `occurs`: at any depth true of what is contained
 reach-occurs : (f : ℕ) (ns : List Node) {x y : ℕ} → Reach (view ns) y x → occurs f ns x y ≡ true
@@ -205,14 +200,14 @@ module _ {ns : List Node} (w : Walkable ns) (param : Bool) where
       and-true true = refl
       and-true false = refl
 
-      go : (s : State) → stateOf (at ns a) ≡ s → selfInverseState param p s ≡ (good param s && all p (kidsOf s))
-      go (Known i k) e = at-code (eqb (k .head .code) PARAM) refl
+      go : (s : State) → stateOf (at ns a) ≡ s → selfInverseAt param (suc f) ns a ≡ (good param s && all p (kidsOf s))
+      go (Known i k) e = rw (e, selfInverseAt) (at-code (eqb (k .head .code) PARAM) refl)
         where
           at-code : (b : Bool) → eqb (k .head .code) PARAM ≡ b → pick b param (selfDual (k .head) && all p (k .kids)) ≡ (pick b param (selfDual (k .head)) && all p (k .kids))
           at-code true q = rw (w .params a i k e (eqb-true (k .head .code) PARAM q)) (and-true param)
           at-code false q = refl
-      go (Unknown q) e = refl
-      go InferenceFailed e = refl
+      go (Unknown q) e = rw (e, selfInverseAt)
+      go InferenceFailed e = rw (e, selfInverseAt)
 
   self-good : (f a : ℕ) → selfInverseAt param f ns a ≡ true → (i : ℕ) → Reach (view ns) a i → good param (stateOf (at ns i)) ≡ true
   unfolding selfInverseAt

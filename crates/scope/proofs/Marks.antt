@@ -13,8 +13,9 @@ use borrow.Author.Tests.{eqb-true, eq-eqb, ne-eqb}
 use Rattle.scope.specs.Base.{pick, count, from}
 use Rattle.scope.specs.Types.{Ty, ty, flip}
 use Rattle.scope.specs.Kinds.{PARAM}
-use Rattle.scope.specs.Nodes.{Kind, State, Known, Unknown, InferenceFailed, Node, Root, Child, at, isRoot, stateOf, hop, climb, find, stateAt, kidsOf}
+use Rattle.scope.specs.Nodes.{Kind, State, Known, Unknown, InferenceFailed, Node, Root, Child, at, isRoot, stateOf, climb, find, stateAt, kidsOf}
 use Rattle.scope.specs.Force.{relatedKids, relatedRoot, relatedF, findRelated}
+use Rattle.scope.proofs.Laws.{climb-root, climb-child}
 use Rattle.scope.proofs.View.{known, Kid, Good, seen, view}
 use Rattle.scope.proofs.ViewLaws.{same?, not-known}
 use Rattle.scope.proofs.TestLaws.{tf}
@@ -50,11 +51,12 @@ pub record Marked (ns : List Node) (r : ℕ) (ms ms′ : List ℕ) : Type 0 wher
 climb-idx : (f : ℕ) (ns : List Node) (t u : Ty) → t .idx ≡ u .idx → climb f ns t .idx ≡ climb f ns u .idx
 unfolding climb
 climb-idx zero ns t u e = e
-climb-idx (suc f) ns t u e = ap (λ (j : ℕ). hop (at ns j) (climb f ns) t .idx) e ∙ go (at ns (u .idx)) (λ v w q. climb-idx f ns v w q)
+climb-idx (suc f) ns t u e = go (at ns (u .idx)) (ap (at ns) e) refl (λ v w q. climb-idx f ns v w q)
   where
-    go : (x : Node) → ((v w : Ty) → v .idx ≡ w .idx → climb f ns v .idx ≡ climb f ns w .idx) → hop x (climb f ns) t .idx ≡ hop x (climb f ns) u .idx
-    go (Root st z) ih = e
-    go (Child p) ih = ih (flip (t .inv) p) (flip (u .inv) p) refl
+    go : (x : Node) → at ns (t .idx) ≡ x → at ns (u .idx) ≡ x → ((v w : Ty) → v .idx ≡ w .idx → climb f ns v .idx ≡ climb f ns w .idx)
+        → climb (suc f) ns t .idx ≡ climb (suc f) ns u .idx
+    go (Root st z) p q ih = rw (climb-root (suc f) ns t p, climb-root (suc f) ns u q) e
+    go (Child v) p q ih = rw (climb-child f ns t v p, climb-child f ns u v q) (ih (flip (t .inv) v) (flip (u .inv) v) refl)
 
 rep-idx : (ns : List Node) (t : Ty) → view ns .rep (t .idx) .idx ≡ find ns t .idx
 unfolding view find

@@ -14,13 +14,15 @@ use Rattle.scope.specs.Types.{Ty, ty, flip}
 use Rattle.scope.specs.Nodes.{Kind}
 use Rattle.scope.specs.Answers.{Answer, Success, Failure, Indeterminate, ofBool}
 use Rattle.scope.specs.Unify.{Plan, plan, zipped}
-use Rattle.scope.proofs.View.{VState, unknown, known, View, sel, rootOf, Kid, Below, one, more, Good, Out, out, run, occurs, selfInverse, same, bind, close, join, kept, turn, orSt, meetSt, meet, unify}
+use Rattle.scope.proofs.View.{VState, unknown, known, View, sel, rootOf, Kid, Below, one, more, Good, Out, out, run}
+use Rattle.scope.proofs.View.{occurs, selfInverse, same, bind, close, join, kept, turn, orSt, meetSt, meet, unify}
 use Rattle.scope.proofs.TestLaws.{tf, or-no}
-use Rattle.scope.proofs.ViewLaws.{idx-eq, same?, not-known, rep-miss, st-w, st-l, st-other, irrefl, below-join}
+use Rattle.scope.proofs.ViewLaws.{idx-eq, same?, not-known, rep-miss, st-w, st-l, st-other, irrefl, below-join, Kinds}
 use Rattle.scope.proofs.PlanLaws.{Makeable, plan-left, plan-right, plan-success}
 use Rattle.scope.proofs.Acyclic.{Joins}
-use Rattle.scope.proofs.Grow.{ri, Heads, heads-sym, Alike, anil, acons, alike-sym, alike-mem, grow-trans, Grow, mono-idx, Self, Joined, agree, selfly, joined-idx, joined-sym, root-grow, link-joined, below-top, Kept, kept-same, Holds, link-grow}
-use Rattle.scope.proofs.Stay.{Kinds, no-new-trans, AllPairs, Above, Tied, Stays, Spec, spec-same, not-success, unsure-success, RunSpec, Step, run-spec, below-stays, stays-trans}
+use Rattle.scope.proofs.Grow.{ri, Heads, heads-sym, Alike, anil, acons, alike-sym, alike-mem, grow-trans, Grow, mono-idx, Self, Joined, agree}
+use Rattle.scope.proofs.Grow.{selfly, joined-idx, joined-sym, root-grow, link-joined, below-top, Kept, kept-same, Holds, link-grow}
+use Rattle.scope.proofs.Stay.{no-new-trans, AllPairs, Above, Tied, Stays, Spec, spec-same, not-success, unsure-success, RunSpec, Step, run-spec, below-stays, stays-trans}
 use Rattle.scope.proofs.Occurs.{occurs-no, self-sound}
 
 zip-alike : {h : View} (i : Bool) (xs ys : List Ty) → length xs ≡ length ys → Tied h (zipped i xs ys) → Alike h xs ys
@@ -182,7 +184,7 @@ not-under {h} {a} {b} {i} {j} {k} {m} good bt sa sb al = go
     go (one c) = irrefl (good .wf b) (one (kid′ c))
     go (more c r) = irrefl (good .wf b) (more (kid′ c) r)
 
-module _ (e : Env) (u : View → Ty → Ty → Out) (ih : Step e u) (f : ℕ) (g : View) (a b : Ty) (good : Good g) (kinds : Kinds e g)
+module _ (e : Env) (u : View → Ty → Ty → Out) (ih : Step e u) (f : ℕ) (g : View) (a b : Ty) (good : Good g) (kinds : Kinds (Makeable e) g)
     (atop : g .rep (a .idx) ≡ ty false (a .idx)) (btop : g .rep (b .idx) ≡ ty false (b .idx)) (apart : a .idx ≢ b .idx) where
   module _ (i j : Bool) (k m : Kind) (sa : g .st (a .idx) ≡ known i k) (sb : g .st (b .idx) ≡ known j m) (l : Plan)
       (ps : PlanSpec (e .texts) k m l) where
@@ -309,7 +311,7 @@ module _ (e : Env) (u : View → Ty → Ty → Out) (ih : Step e u) (f : ℕ) (g
   meet-st (known i k) (known j m) p q =
       let c : Bool = xor (xor i (a .inv)) (xor j (b .inv)) in
       let l : Plan = plan (e .texts) k m c in
-      let ps : PlanSpec (e .texts) k m l = plan-spec e k m c (kinds .make (a .idx) i k p) (kinds .make (b .idx) j m q) in
+      let ps : PlanSpec (e .texts) k m l = plan-spec e k m c (kinds (a .idx) i k p) (kinds (b .idx) j m q) in
       deep-spec i j k m p q l ps (run u g (l .base) (l .pairs)) (run-spec e u ih g (l .base) (l .pairs) good kinds)
       (a-stays i j k m p q l ps) (b-stays i j k m p q l ps) (run u g (l .base) (l .pairs) .answer) refl
 
@@ -327,7 +329,7 @@ same-joined f g a b ta e = go (not (xor (a .inv) (b .inv))) (selfInverse false f
     go false true p q r = selfly (ap (λ (n : ℕ). g .rep n .idx) e) (subst (Self g) (sym (idx-eq ta)) (self-sound f g (a .idx) q))
     go false false p q r = absurd (not-success r)
 
-meet-spec : (e : Env) (u : View → Ty → Ty → Out) → Step e u → (f : ℕ) (g : View) (a b : Ty) → Good g → Kinds e g
+meet-spec : (e : Env) (u : View → Ty → Ty → Out) → Step e u → (f : ℕ) (g : View) (a b : Ty) → Good g → Kinds (Makeable e) g
     → g .rep (a .idx) ≡ ty false (a .idx) → g .rep (b .idx) ≡ ty false (b .idx) → Spec (e .texts) g a b (meet u (e .texts) f g a b)
 unfolding meet
 meet-spec e u ih f g a b good kinds ta tb = go (ℕ-discrete (a .idx) (b .idx))

@@ -18,7 +18,7 @@ unfolding after Each nodesMade
 after-length e s [] r h = omega arith
 after-length e s (c ∷ cs) r h = omega (arith, next-moves e s c r (h .0) .len, after-length e (next e s c) cs (next-reached e s c r) (h .1))
 
--- "root sizes add up to the nodes made"
+-- root sizes add up to the nodes made
 pub sizes-made : (e : Env) (n c : ℕ) → n ≤ MAX-NODES → c ≤ MAX-CHILDREN → (cs : List Call) → Each inSecondHalf cs
     → sizes (after e (opened n c) cs .nodes) ≡ nodesMade e (opened n c) cs
 sizes-made e n c hn hc cs h =

@@ -11,7 +11,6 @@ use Rattle.scope.specs.Base.{pick, all}
 use Rattle.scope.specs.Types.{Ty}
 use Rattle.scope.specs.Kinds.{Head, selfDual, rowOf, PARAM}
 use Rattle.scope.specs.Nodes.{Kind}
-use Rattle.scope.specs.Unify.{selfInverseKind}
 use Rattle.scope.proofs.TestLaws.{tf, and-left, and-right, of-all, any-no}
 use Rattle.scope.proofs.View.{VState, unknown, known, View, Below, one, more, occurs, occursSt, selfSt, selfInverse}
 use Rattle.scope.proofs.ViewLaws.{same?, sel-yes, sel-no}
@@ -42,8 +41,8 @@ unfolding selfDual rowOf
 param-dual h e = rw e
 
 -- a Param is not self-dual, so that unify's test needs no word on it
-pub self-kind : (t : Ty → Bool) (k : Kind) → selfInverseKind false t k ≡ (selfDual (k .head) && all t (k .kids))
-self-kind t k = go (eqb (k .head .code) PARAM) refl
+pub self-kind : (t : Ty → Bool) (i : Bool) (k : Kind) → selfSt false t (known i k) ≡ (selfDual (k .head) && all t (k .kids))
+self-kind t i k = go (eqb (k .head .code) PARAM) refl
   where
     go : (b : Bool) → eqb (k .head .code) PARAM ≡ b → pick b false (selfDual (k .head) && all t (k .kids)) ≡ (selfDual (k .head) && all t (k .kids))
     go true e = sym (ap (λ (d : Bool). d && all t (k .kids)) (param-dual (k .head) (eqb-true (k .head .code) PARAM e)))
@@ -60,5 +59,5 @@ self-sound (suc f) g a e = go (g .st a) refl e (λ z. self-sound f g z)
     go : (s : VState) → g .st a ≡ s → selfSt false t s ≡ true → ((z : ℕ) → selfInverse false f g z ≡ true → Self g z) → Self g a
     go unknown q e ih = tf (sym e)
     go (known i k) q e ih =
-        let h : (selfDual (k .head) && all t (k .kids)) ≡ true = sym (self-kind t k) ∙ e in
+        let h : (selfDual (k .head) && all t (k .kids)) ≡ true = sym (self-kind t i k) ∙ e in
         self i k q (and-left (selfDual (k .head)) (all t (k .kids)) h) (λ x m. ih (ri g x) (of-all t (k .kids) (and-right (selfDual (k .head)) (all t (k .kids)) h) m))

@@ -9,11 +9,11 @@ use native.Mathlib.Omega.{arith}
 use lib.Dec.{eqb}
 use lib.ListN.{length, length-map}
 use borrow.Author.Tests.{eqb-true, eq-eqb}
-use Rattle.scope.specs.Base.{pick}
+use Rattle.scope.specs.Base.{pick, front, last}
 use Rattle.scope.specs.Names.{Texts, Name, bytesOr, eqBytes, ascending}
 use Rattle.scope.specs.Types.{Ty, flip}
 use Rattle.scope.specs.Answers.{Success, Failure, ofBool}
-use Rattle.scope.specs.Unify.{Plan, answers, zipped, runPlan, seek, shared, sharedNames, objectPlan, parameters, returned, signaturePlan}
+use Rattle.scope.specs.Unify.{Plan, answers, zipped, runPlan, seek, shared, sharedNames, after, objectPlan, signaturePlan}
 use Rattle.scope.proofs.Laws.{both-success}
 use Rattle.scope.proofs.NameLaws.{eq-bytes, bytes-eq, lt-apart, ascending-tail, ascending-above, Within, within-same}
 
@@ -59,24 +59,24 @@ unfolding runPlan
 run-between i xs ys = between-pick (eqb (length xs) (length ys)) (record { base = Success; pairs = zipped i xs ys }) (answers Failure)
     (zipped-between i xs ys) between-nil
 
-pub parameters-in : (xs : List Ty) (x : Ty) → List·Memᴰ x (parameters xs) → List·Memᴰ x xs
-parameters-in [] x w = w
-parameters-in (y ∷ []) x w = absurd (List·Memᴰ·not-nil w)
-parameters-in (y ∷ z ∷ zs) x (List·Memᴰ·head e) = List·Memᴰ·head e
-parameters-in (y ∷ z ∷ zs) x (List·Memᴰ·tail w) = List·Memᴰ·tail (parameters-in (z ∷ zs) x w)
+pub front-in : (xs : List Ty) (x : Ty) → List·Memᴰ x (front xs) → List·Memᴰ x xs
+front-in [] x w = w
+front-in (y ∷ []) x w = absurd (List·Memᴰ·not-nil w)
+front-in (y ∷ z ∷ zs) x (List·Memᴰ·head e) = List·Memᴰ·head e
+front-in (y ∷ z ∷ zs) x (List·Memᴰ·tail w) = List·Memᴰ·tail (front-in (z ∷ zs) x w)
 
-pub returned-in : (xs : List Ty) (x : Ty) → List·Memᴰ x (returned xs) → List·Memᴰ x xs
-returned-in [] x w = w
-returned-in (y ∷ []) x w = w
-returned-in (y ∷ z ∷ zs) x w = List·Memᴰ·tail (returned-in (z ∷ zs) x w)
+pub last-in : (xs : List Ty) (x : Ty) → List·Memᴰ x (last xs) → List·Memᴰ x xs
+last-in [] x w = w
+last-in (y ∷ []) x w = w
+last-in (y ∷ z ∷ zs) x w = List·Memᴰ·tail (last-in (z ∷ zs) x w)
 
 pub signature-between : (i : Bool) (xs ys : List Ty) → Betweens i xs ys (signaturePlan i xs ys .pairs)
 unfolding signaturePlan
-signature-between i xs ys p w = go (List·Memᴰ·append-cases (runPlan i (parameters xs) (parameters ys) .pairs) w)
+signature-between i xs ys p w = go (List·Memᴰ·append-cases (runPlan i (front xs) (front ys) .pairs) w)
   where
-    go : List·Memᴰ p (runPlan i (parameters xs) (parameters ys) .pairs) ⊎ List·Memᴰ p (runPlan i (returned xs) (returned ys) .pairs) → Between i xs ys p
-    go (inl w) = between-more (parameters-in xs) (parameters-in ys) (run-between i (parameters xs) (parameters ys)) p w
-    go (inr w) = between-more (returned-in xs) (returned-in ys) (run-between i (returned xs) (returned ys)) p w
+    go : List·Memᴰ p (runPlan i (front xs) (front ys) .pairs) ⊎ List·Memᴰ p (runPlan i (last xs) (last ys) .pairs) → Between i xs ys p
+    go (inl w) = between-more (front-in xs) (front-in ys) (run-between i (front xs) (front ys)) p w
+    go (inr w) = between-more (last-in xs) (last-in ys) (run-between i (last xs) (last ys)) p w
 
 -- what is found is one of the types, and its name one of the names
 seek-in : (x : Texts) (n : List ℕ) (ms : List (Option Name)) (us : List Ty) (u : Ty) → seek x n ms us ≡ some u
@@ -100,7 +100,7 @@ shared-between x i (n ∷ ns) (t ∷ ts) ms us = go (seek x (bytesOr x n) ms us)
     (between-more (λ z w. List·Memᴰ·tail w) (λ z w. w) (shared-between x i ns ts ms us))
   where
     go : (o : Option Ty) → seek x (bytesOr x n) ms us ≡ o → Betweens i (t ∷ ts) us (sharedNames x i ns ts ms us .pairs)
-        → Betweens i (t ∷ ts) us (shared i t o (sharedNames x i ns ts ms us) .pairs)
+        → Betweens i (t ∷ ts) us (after (shared i t o) (sharedNames x i ns ts ms us) .pairs)
     go none q h = h
     go (some u) q h = between-cons t u (List·Memᴰ·head refl) (seek-in x (bytesOr x n) ms us u q .0) h
 
@@ -120,23 +120,23 @@ run-lengths i xs ys b = go (eqb (length xs) (length ys)) refl b
     go true q b = eqb-true (length xs) (length ys) q
     go false q b = let z : _≡_ {A = ℕ} 0 1 = cc in absurd (omega arith)
 
--- parameters and returned are all, and so are their pairs
-parts-length : (xs : List Ty) → length (parameters xs) + length (returned xs) ≡ length xs
+-- the front and the last are all, and so are their pairs
+parts-length : (xs : List Ty) → length (front xs) + length (last xs) ≡ length xs
 parts-length [] = refl
 parts-length (x ∷ []) = refl
 parts-length (x ∷ y ∷ ys) = omega (arith, parts-length (y ∷ ys))
 
-parameters-length : (xs ys : List Ty) → length xs ≡ length ys → length (parameters xs) ≡ length (parameters ys)
-parameters-length [] [] e = refl
-parameters-length [] (y ∷ ys) e = absurd (omega arith)
-parameters-length (x ∷ xs) [] e = absurd (omega arith)
-parameters-length (x ∷ []) (y ∷ []) e = refl
-parameters-length (x ∷ []) (y ∷ z ∷ zs) e = absurd (omega arith)
-parameters-length (x ∷ z ∷ zs) (y ∷ []) e = absurd (omega arith)
-parameters-length (x ∷ z ∷ zs) (y ∷ w ∷ ws) e = ap suc (parameters-length (z ∷ zs) (w ∷ ws) (omega arith))
+front-length : (xs ys : List Ty) → length xs ≡ length ys → length (front xs) ≡ length (front ys)
+front-length [] [] e = refl
+front-length [] (y ∷ ys) e = absurd (omega arith)
+front-length (x ∷ xs) [] e = absurd (omega arith)
+front-length (x ∷ []) (y ∷ []) e = refl
+front-length (x ∷ []) (y ∷ z ∷ zs) e = absurd (omega arith)
+front-length (x ∷ z ∷ zs) (y ∷ []) e = absurd (omega arith)
+front-length (x ∷ z ∷ zs) (y ∷ w ∷ ws) e = ap suc (front-length (z ∷ zs) (w ∷ ws) (omega arith))
 
 zipped-parts : (i : Bool) (xs ys : List Ty) → length xs ≡ length ys
-    → zipped i (parameters xs) (parameters ys) ++ zipped i (returned xs) (returned ys) ≡ zipped i xs ys
+    → zipped i (front xs) (front ys) ++ zipped i (last xs) (last ys) ≡ zipped i xs ys
 unfolding zipped
 zipped-parts i [] [] e = refl
 zipped-parts i [] (y ∷ ys) e = absurd (omega arith)
@@ -149,15 +149,15 @@ zipped-parts i (x ∷ z ∷ zs) (y ∷ w ∷ ws) e = ap (λ (ps : List (Ty × Ty
 pub signature-whole : (i : Bool) (xs ys : List Ty) → length xs ≡ length ys → signaturePlan i xs ys ≡ whole i xs ys
 unfolding signaturePlan
 signature-whole i xs ys e =
-    let p = parameters-length xs ys e in
-    rw (run-whole i (parameters xs) (parameters ys) p, run-whole i (returned xs) (returned ys) (omega (arith, parts-length xs, parts-length ys)))
+    let p = front-length xs ys e in
+    rw (run-whole i (front xs) (front ys) p, run-whole i (last xs) (last ys) (omega (arith, parts-length xs, parts-length ys)))
     (ap (λ (ps : List (Ty × Ty)). record { base = Success; pairs = ps }) (zipped-parts i xs ys e))
 
 pub signature-lengths : (i : Bool) (xs ys : List Ty) → signaturePlan i xs ys .base ≡ Success → length xs ≡ length ys
 unfolding signaturePlan
 signature-lengths i xs ys b =
-    let h = both-success (runPlan i (parameters xs) (parameters ys) .base) (runPlan i (returned xs) (returned ys) .base) b in
-    omega (arith, run-lengths i (parameters xs) (parameters ys) (h .0), run-lengths i (returned xs) (returned ys) (h .1), parts-length xs, parts-length ys)
+    let h = both-success (runPlan i (front xs) (front ys) .base) (runPlan i (last xs) (last ys) .base) b in
+    omega (arith, run-lengths i (front xs) (front ys) (h .0), run-lengths i (last xs) (last ys) (h .1), parts-length xs, parts-length ys)
 
 -- a name that stands nowhere before may be left out of what is sought in
 shared-past : (x : Texts) (i : Bool) (ns : List (Option Name)) (ts : List Ty) (m : Option Name) (ms : List (Option Name)) (u : Ty) (us : List Ty)
@@ -200,7 +200,7 @@ shared-within x i (n ∷ ns) [] ms us p b l w = absurd (omega arith)
 shared-within x i (n ∷ ns) (t ∷ ts) ms us p b l w = go (seek x (bytesOr x n) ms us) refl b (λ c. shared-within x i ns ts ms us (omega arith) c l)
     (List·Memᴰ·cases-cons w)
   where
-    go : (o : Option Ty) → seek x (bytesOr x n) ms us ≡ o → shared i t o (sharedNames x i ns ts ms us) .base ≡ Success
+    go : (o : Option Ty) → seek x (bytesOr x n) ms us ≡ o → after (shared i t o) (sharedNames x i ns ts ms us) .base ≡ Success
         → (sharedNames x i ns ts ms us .base ≡ Success → List·Memᴰ l (map (bytesOr x) ns) → List·Memᴰ l (map (bytesOr x) ms))
         → (l ≡ bytesOr x n) ⊎ List·Memᴰ l (map (bytesOr x) ns) → List·Memᴰ l (map (bytesOr x) ms)
     go none q b ih c = let z : _≡_ {A = ℕ} 0 1 = cc in absurd (omega arith)

@@ -12,7 +12,8 @@ use lib.ListN.{length, set, length-set, List·getD-eq-default}
 use lib.Seq.{getD-set-same, getD-set-other}
 use Rattle.scope.specs.Limits.{NONE}
 use Rattle.scope.specs.Types.{Ty, ty, flip}
-use Rattle.scope.specs.Nodes.{State, Unknown, Node, Root, Child, at, stateOf, sizeOf, hop, climb, find, point, compress, findMut}
+use Rattle.scope.specs.Nodes.{State, Unknown, Node, Root, Child, at, stateOf, sizeOf, climb, find, compress, findMut}
+use Rattle.scope.proofs.Laws.{climb-root, climb-child, compress-root, compress-child}
 use Rattle.scope.proofs.View.{rootOf, Kid, seen, view}
 use Rattle.scope.proofs.ViewLaws.{same?, xor-false, xor-twice, xor-comm, flip-flip, Held}
 use Rattle.scope.proofs.Free.{memb, memb-none, memb-more, free, free-nil, free-lt}
@@ -42,11 +43,11 @@ flip-twice i t = ap (λ (b : Bool). ty b (t .idx)) (xor-twice i (t .inv))
 climb-flip : (f : ℕ) (ns : List Node) (i : Bool) (t : Ty) → climb f ns (flip i t) ≡ flip i (climb f ns t)
 unfolding climb
 climb-flip zero ns i t = refl
-climb-flip (suc f) ns i t = go (at ns (t .idx)) (λ u. climb-flip f ns i u)
+climb-flip (suc f) ns i t = go (at ns (t .idx)) refl (λ u. climb-flip f ns i u)
   where
-    go : (x : Node) → ((u : Ty) → climb f ns (flip i u) ≡ flip i (climb f ns u)) → hop x (climb f ns) (flip i t) ≡ flip i (hop x (climb f ns) t)
-    go (Root st z) ih = refl
-    go (Child u) ih = ap (climb f ns) (flip-flip i (t .inv) u) ∙ ih (flip (t .inv) u)
+    go : (x : Node) → at ns (t .idx) ≡ x → ((u : Ty) → climb f ns (flip i u) ≡ flip i (climb f ns u)) → climb (suc f) ns (flip i t) ≡ flip i (climb (suc f) ns t)
+    go (Root st z) e ih = rw (climb-root (suc f) ns (flip i t) e, climb-root (suc f) ns t e)
+    go (Child u) e ih = rw (climb-child f ns (flip i t) u e, climb-child f ns t u e) (ap (climb f ns) (flip-flip i (t .inv) u) ∙ ih (flip (t .inv) u))
 
 -- `find` as the view has it
 pub find-root : (ns : List Node) (t : Ty) → find ns t ≡ rootOf (view ns) t
@@ -59,10 +60,10 @@ find-idx ns t = ap (λ (r : Ty). r .idx) (find-root ns t)
 climb-leads : {ns : List Node} {n d : ℕ} {r : Ty} (f : ℕ) → Leads ns n d r → d ≤ f → climb f ns (ty false n) ≡ r
 unfolding climb
 climb-leads zero (top st z e) h = refl
-climb-leads {ns} (suc f) (top {n = n} st z e) h = ap (λ (x : Node). hop x (climb f ns) (ty false n)) e
+climb-leads {ns} (suc f) (top {n = n} st z e) h = climb-root (suc f) ns (ty false n) e
 climb-leads zero (up t e p) h = absurd (not-suc-le-zero h)
 climb-leads {ns} (suc f) (up {n = n} {r = r} t e p) h =
-    ap (λ (x : Node). hop x (climb f ns) (ty false n)) e ∙ ap (climb f ns) (sym (flip-false (t .inv) (t .idx)))
+    climb-child f ns (ty false n) t e ∙ ap (climb f ns) (sym (flip-false (t .inv) (t .idx)))
     ∙ climb-flip f ns (t .inv) (ty false (t .idx)) ∙ ap (flip (t .inv)) (climb-leads f p (omega arith))
 
 -- the root is a root
@@ -264,15 +265,15 @@ compress-tidied (suc f) ns r t par d p = go (at ns (t .idx)) refl (λ ns′ t′
   where
     go : (x : Node) → at ns (t .idx) ≡ x
         → ((ns′ : List Node) (t′ : Ty) → Parents ns′ → (d : ℕ) → Leads ns′ (t′ .idx) d (flip (t′ .inv) r) → Tidied ns′ (compress f ns′ r t′))
-        → Tidied ns (point x (λ ns′ t′. compress f ns′ r t′) ns r t)
-    go (Root st z) e ih = tidied-refl
+        → Tidied ns (compress (suc f) ns r t)
+    go (Root st z) e ih = rw (compress-root (suc f) ns r t e) tidied-refl
     go (Child u) e ih =
         let one = point-tidied ns (t .idx) (flip (t .inv) r) u e d p par in
         let b = leads-up u e p in
         let b′ = one .paths (b .1) in
-        tidied-trans one (ih (set ns (t .idx) (Child (flip (t .inv) r))) (flip (t .inv) u) (one .par par)
+        rw (compress-child f ns r t u e) (tidied-trans one (ih (set ns (t .idx) (Child (flip (t .inv) r))) (flip (t .inv) u) (one .par par)
         (b′ .0) (subst (Leads (set ns (t .idx) (Child (flip (t .inv) r))) (u .idx) (b′ .0))
-        (sym (flip-flip (u .inv) (t .inv) r) ∙ ap (λ (c : Bool). flip c r) (xor-comm (u .inv) (t .inv))) (b′ .2)))
+        (sym (flip-flip (u .inv) (t .inv) r) ∙ ap (λ (c : Bool). flip c r) (xor-comm (u .inv) (t .inv))) (b′ .2))))
 
 -- `find_mut`
 pub find-mut-tidied : {ns : List Node} → Forest ns → (t : Ty) → Tidied ns (findMut ns t)

@@ -20,7 +20,8 @@ use Rattle.scope.specs.Answers.{Success, Failure, Indeterminate}
 use Rattle.scope.specs.Unify.{Plan, answers, zipped, runPlan, objectPlan, signaturePlan, kidsPlan, firstName, sameHead, crosses, isError, plan}
 use Rattle.scope.specs.Trees.{TreeHead, hasNames, treeHead, treeDual, trees, Val, val, vals, build, invertIf}
 use Rattle.scope.proofs.NameLaws.{eq-bytes, bytes-eq}
-use Rattle.scope.proofs.PairLaws.{Betweens, between-nil, between-pick, run-between, signature-between, shared-between, whole, run-whole, run-lengths, signature-whole, signature-lengths, shared-whole, object-names}
+use Rattle.scope.proofs.PairLaws.{Betweens, between-nil, between-pick, run-between, signature-between, shared-between, whole}
+use Rattle.scope.proofs.PairLaws.{run-whole, run-lengths, signature-whole, signature-lengths, shared-whole, object-names}
 use Rattle.scope.proofs.TreeLaws.{invert-dual, invert-mark, val-flip, trees-vals, trees-invertsIf, invertsIf, invertsIf-cons, fcons-head, fcons-tail, node-mark, node-kids, build-heads}
 
 -- a kind that 4 and 5 let through, with the chart's flag

@@ -8,23 +8,23 @@ use Prim.Native.Nat.{ℕ, zero, suc, _≤_, _<_}
 use native.Mathlib.Omega.{arith}
 use lib.Dec.{eqb}
 use lib.ListN.{length, getD}
-use Rattle.scope.specs.Base.{pick, xor}
+use Rattle.scope.specs.Base.{pick, xor, front, last}
 use Rattle.scope.specs.Text.{text}
 use Rattle.scope.specs.Names.{Texts, Name, bytes}
 use Rattle.scope.specs.Chart.{Env, recordAt, TRAIT-FN-SORT}
 use Rattle.scope.specs.Types.{Ty, flip}
 use Rattle.scope.specs.Kinds.{Head, REF, selfDual}
 use Rattle.scope.specs.Nodes.{Kind, State, Known, Unknown, InferenceFailed, Node, at, stateOf, stateAt, find, kidsOf}
-use Rattle.scope.specs.Unify.{parameters, returned, firstName}
+use Rattle.scope.specs.Unify.{firstName}
 use Rattle.scope.specs.Force.{Mod, modOfRef, modOfKind, modOfState, getModF, getMod, isNil}
-use Rattle.scope.specs.Show.{Piece, fixed, sub, joined, commas, params, tuple, entries, object, arrow, signature, closure, function, ifConst, defined-name, kindPieces, statePieces, pieces, render, showF, show}
+use Rattle.scope.specs.Show.{Piece, fixed, sub, joined, commas, params, tuple, entries, object, arrow, signature, closure}
+use Rattle.scope.specs.Show.{function, ifConst, defined-name, kindPieces, statePieces, pieces, render, showF, show}
 use Rattle.scope.specs.Sound.{falls}
 use Rattle.scope.proofs.TestLaws.{all-of, of-all}
-use Rattle.scope.proofs.PairLaws.{parameters-in, returned-in}
+use Rattle.scope.proofs.PairLaws.{front-in, last-in}
 use Rattle.scope.proofs.Paths.{find-idx, find-inside}
 use Rattle.scope.proofs.Falls.{good-falls}
-use Rattle.scope.proofs.SoundLaws.{kinds-held, SoundNodes}
-use Rattle.scope.proofs.View.{view}
+use Rattle.scope.proofs.SoundLaws.{SoundNodes, nodes-held}
 
 -- one depth further down, fewer than f steps are left
 falls-kid : (f : ℕ) (ns : List Node) (t c : Ty) → falls (suc f) ns (find ns t .idx) ≡ true
@@ -132,9 +132,9 @@ module _ (Q : Ty → Type 0) where
   subs-arrow nil (t ∷ ts) h = subs-pick (nil t) [] _ tt (h false t (List·Memᴰ·head refl), tt)
 
   subs-signature : (x : Texts) (nil : Ty → Bool) (ns : List (Option Name)) (ts : List Ty) → All ts → Subs Q (signature x nil ns ts)
-  subs-signature x nil ns ts h = subs-append (joined (entries x false ns (parameters ts))) _
-      (subs-joined (entries x false ns (parameters ts)) (items-entries x false ns (parameters ts) (λ i t m. h i t (parameters-in ts t m))))
-      (subs-arrow nil (returned ts) (λ i t m. h i t (returned-in ts t m)))
+  subs-signature x nil ns ts h = subs-append (joined (entries x false ns (front ts))) _
+      (subs-joined (entries x false ns (front ts)) (items-entries x false ns (front ts) (λ i t m. h i t (front-in ts t m))))
+      (subs-arrow nil (last ts) (λ i t m. h i t (last-in ts t m)))
 
   subs-if-const : (e : Env) (nil : Ty → Bool) (i : Bool) (k : Head) (ts : List Ty) → All ts → Subs Q (ifConst e nil i k ts)
   subs-if-const e nil i k [] h = tt
@@ -208,7 +208,7 @@ show-depth e ns (suc f) (suc f′) t h h′ = render-same (showF e f ns) (showF 
 
 module _ (e : Env) {ns : List Node} (ok : SoundNodes e ns) (t : Ty) (ht : t .idx < length ns) (f : ℕ) (h : length ns ≤ f) where
   falling : falls (length ns) ns (find ns t .idx) ≡ true
-  falling = good-falls ns (ok .forest) (ok .good) (kinds-held e (length ns) (view ns) (ok .kinds)) (find ns t .idx) (find-inside (ok .forest) t ht)
+  falling = good-falls ns (ok .forest) (ok .good) (nodes-held ok) (find ns t .idx) (find-inside (ok .forest) t ht)
 
   further : falls f ns (find ns t .idx) ≡ true
   further = falls-more ns (length ns) f (find ns t .idx) h falling

@@ -23,5 +23,17 @@ pub record Ran : Type 0 where
   pub store : Store
 
 unfoldable pub ran : Env → Store → List Call → Ran
-unfolding replies Names.bytes Names.inText Names.nameOk Names.eqBytes Names.ltBytes Names.ascending Chart.recordOk Chart.chartOk Types.tyOf Types.wordOf Kinds.rows Kinds.rowOf Kinds.selfDual Kinds.flagOf Kinds.objectNamesOk Kinds.namesOk Kinds.makeable Kinds.defined Kinds.flagIs Nodes.climb Nodes.find Nodes.compress Nodes.findMut Nodes.kind Unify.zipped Unify.runPlan Unify.seek Unify.sharedNames Unify.objectPlan Unify.signaturePlan Unify.kidsPlan Unify.sameHead Unify.crosses Unify.plan Unify.run Unify.occurs Unify.selfInverseAt Unify.selfInverseOf Unify.merge Unify.bind Unify.settle Unify.meet Unify.unifyF Unify.unify Unify.unifyTypes Unify.unifyObjects Unify.unifyImplType Unify.unifyFnSig Make.new Make.newVar Make.newVars Make.makeError Make.makeNil Force.forceKind Force.finishWhere Force.finishInference Force.relatedF Force.findRelated Force.isNil Force.getModF Force.getMod Force.reset Import.copyOf Import.replaced Import.many Import.transfer Import.import Import.export Show.decimalF Show.decimal Show.joined Show.entries Show.kindPieces Show.pieces Show.render Show.showF Show.show Show.showImplType Sound.rooted Sound.falls Sound.treeSize Sound.kindSound Sound.roomSound Sound.shapeSound Sound.soundStore Calls.findCall Calls.findMutCall Calls.nodeCall Calls.childCall Calls.nameCall Calls.figuresCall Calls.newCall Calls.newStructCall Calls.newUnionCall Calls.newVarCall Calls.newVarsCall Calls.errorCall Calls.nilCall Calls.unifyCall Calls.unifyTypesCall Calls.unifyObjectsCall Calls.unifyImplTypeCall Calls.approxEqCall Calls.unifyFnSigCall Calls.forceKindCall Calls.finishInferenceCall Calls.finishWhereCall Calls.findRelatedCall Calls.selfInverseCall Calls.isNilCall Calls.getModCall Calls.resetCall Calls.importCall Calls.exportCall Calls.showCall Calls.showImplTypeCall Demand.after
+unfolding replies Names.bytes Names.inText Names.nameOk Names.eqBytes Names.ltBytes Names.ascending Chart.recordOk Chart.chartOk Types.tyOf
+    Types.wordOf Kinds.rows Kinds.rowOf Kinds.selfDual Kinds.flagOf Kinds.objectNamesOk Kinds.namesOk Kinds.makeable Kinds.defined Kinds.flagIs
+    Nodes.climb Nodes.find Nodes.compress Nodes.findMut Nodes.kind Unify.zipped Unify.runPlan Unify.seek Unify.sharedNames Unify.objectPlan
+    Unify.signaturePlan Unify.kidsPlan Unify.sameHead Unify.crosses Unify.plan Unify.run Unify.occurs Unify.selfInverseAt Unify.selfInverseOf Unify.merge
+    Unify.bind Unify.settle Unify.meet Unify.unifyF Unify.unify Unify.unifyTypes Unify.unifyObjects Unify.unifyImplType Unify.unifyFnSig Make.new
+    Make.newVar Make.newVars Make.makeError Make.makeNil Force.forceKind Force.finishWhere Force.finishInference Force.relatedF Force.findRelated
+    Force.isNil Force.getModF Force.getMod Force.reset Import.copyOf Import.replaced Import.many Import.transfer Import.import Import.export Show.decimalF
+    Show.decimal Show.joined Show.entries Show.kindPieces Show.pieces Show.render Show.showF Show.show Show.showImplType Sound.rooted Sound.falls
+    Sound.treeSize Sound.kindSound Sound.roomSound Sound.shapeSound Sound.soundStore Calls.findCall Calls.findMutCall Calls.nodeCall Calls.childCall
+    Calls.nameCall Calls.figuresCall Calls.newCall Calls.newStructCall Calls.newUnionCall Calls.newVarCall Calls.newVarsCall Calls.errorCall Calls.nilCall
+    Calls.unifyCall Calls.unifyTypesCall Calls.unifyObjectsCall Calls.unifyImplTypeCall Calls.approxEqCall Calls.unifyFnSigCall Calls.forceKindCall
+    Calls.finishInferenceCall Calls.finishWhereCall Calls.findRelatedCall Calls.selfInverseCall Calls.isNilCall Calls.getModCall Calls.resetCall
+    Calls.importCall Calls.exportCall Calls.showCall Calls.showImplTypeCall Demand.after
 ran e s cs = record { replies = replies e s cs; store = after e s cs }

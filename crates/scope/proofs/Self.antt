@@ -51,7 +51,7 @@ pub self-complete : (n : ℕ) (g : View) {C : Kind → Type 0} → Good g → In
 unfolding selfInverse
 self-complete n g good env zero a ls t h c q s = absurd (fuel-out good c h q)
 self-complete n g good env (suc f) a ls t h c q (self i k s d w) =
-    ap (selfSt false (λ u. selfInverse false f g (g .rep (u .idx) .idx))) s ∙ self-kind (λ u. selfInverse false f g (g .rep (u .idx) .idx)) k
+    ap (selfSt false (λ u. selfInverse false f g (g .rep (u .idx) .idx))) s ∙ self-kind (λ u. selfInverse false f g (g .rep (u .idx) .idx)) i k
     ∙ ap₂ _&&_ d (all-of (λ u. selfInverse false f g (g .rep (u .idx) .idx)) (k .kids)
     (λ x m. self-complete n g good env f (ri g x) (a ∷ ls) (good .idem (x .idx)) (env .inside (x .idx) (env .kinds a i k s .kids x m))
     (chain-step (record { inv = i; kind = k; kid = x; top = t; state = s; mem = m; to = refl }) c) (fuel-step good c h q) (w x m)))

@@ -3,22 +3,24 @@
 use mathlib.Core.Path.{_≡_, refl, sym, ap, ap₂, subst, _∙_}
 use mathlib.Core.List.{List, [], _∷_, List·Memᴰ, List·Memᴰ·head, List·Memᴰ·tail}
 use mathlib.Core.Bool.{Bool, true, false, not, _&&_, _||_}
+use mathlib.Core.Option.{some}
 use mathlib.Core.Logic.{_≢_}
 use Prim.Native.Nat.{ℕ, zero, suc, _≤_, _<_}
 use native.Mathlib.Omega.{arith}
 use native.Mathlib.Decide.{ℕ-discrete, decLt}
-use lib.Dec.{eqb}
+use lib.Dec.{eqb, ltb}
 use lib.ListN.{length}
 use borrow.Author.Tests.{eq-eqb, ne-eqb, lt-ltb, le-ltb}
 use Rattle.scope.specs.Base.{pick, xor, any, all}
 use Rattle.scope.specs.Names.{Texts}
 use Rattle.scope.specs.Types.{Ty, ty}
 use Rattle.scope.specs.Kinds.{selfDual, PARAM}
-use Rattle.scope.specs.Nodes.{Kind, State, Known, Unknown, InferenceFailed, Node, at, stateOf, sizeOf, find, findMut, kidsOf}
+use Rattle.scope.specs.Nodes.{Kind, State, Known, Unknown, InferenceFailed, Node, at, stateOf, sizeOf, find, findMut, kidsOf, kindOf}
 use Rattle.scope.specs.Answers.{Answer, Success, Failure, Indeterminate, both, ofBool}
-use Rattle.scope.specs.Unify.{Plan, plan, Out, out, run, occurs, selfInverseState, selfInverseAt, join, turn, orState, stateIn, kept, stays, merge, bindIf, bind, settle, meetStates, sameNode, meet, unifyF, unify}
-use Rattle.scope.proofs.View.{VState, known, View, sel, rootOf, seen, view}
+use Rattle.scope.specs.Unify.{Plan, plan, Out, out, run, occurs, selfInverseAt, join, stateIn, kindIn, kept, merge, bound, bind, settle, meetKinds, sameNode, meet, unifyF, unify}
+use Rattle.scope.proofs.View.{VState, unknown, known, View, sel, rootOf, seen, view}
 use Rattle.scope.proofs.View as Seen
+use Rattle.scope.proofs.ViewLaws.{xor-comm}
 use Rattle.scope.proofs.PlanLaws.{plan-left, plan-right}
 use Rattle.scope.proofs.Paths.{Forest, Tidied, find-root, find-idx, rep-idem, find-inside, find-mut-tidied, tidied-forest, tidied-view}
 use Rattle.scope.proofs.Merge.{Shallow, tidied-shallow, Roots, roots-of, join-forest, join-len, join-shallow, join-view}
@@ -64,13 +66,13 @@ pub self-inverse-view : (param : Bool) (f : ℕ) (ns : List Node) (a : ℕ) → 
 unfolding selfInverseAt Seen.selfInverse view
 self-inverse-view param zero ns a = refl
 self-inverse-view param (suc f) ns a =
-    go (stateOf (at ns a)) (λ c. self-inverse-view param f ns (find ns c .idx) ∙ ap (Seen.selfInverse param f (view ns)) (find-idx ns c))
+    go (stateOf (at ns a)) refl (λ c. self-inverse-view param f ns (find ns c .idx) ∙ ap (Seen.selfInverse param f (view ns)) (find-idx ns c))
   where
-    go : (st : State) → ((c : Ty) → selfInverseAt param f ns (find ns c .idx) ≡ Seen.selfInverse param f (view ns) (view ns .rep (c .idx) .idx))
-        → selfInverseState param (λ c. selfInverseAt param f ns (find ns c .idx)) st ≡ Seen.selfSt param (λ c. Seen.selfInverse param f (view ns) (view ns .rep (c .idx) .idx)) (seen st)
-    go (Known i k) h = ap (λ (b : Bool). pick (eqb (k .head .code) PARAM) param (selfDual (k .head) && b)) (all-same _ _ h (k .kids))
-    go (Unknown p) h = refl
-    go InferenceFailed h = refl
+    go : (st : State) → stateOf (at ns a) ≡ st → ((c : Ty) → selfInverseAt param f ns (find ns c .idx) ≡ Seen.selfInverse param f (view ns) (view ns .rep (c .idx) .idx))
+        → selfInverseAt param (suc f) ns a ≡ Seen.selfSt param (λ c. Seen.selfInverse param f (view ns) (view ns .rep (c .idx) .idx)) (seen st)
+    go (Known i k) e h = rw (e, selfInverseAt) (ap (λ (b : Bool). pick (eqb (k .head .code) PARAM) param (selfDual (k .head) && b)) (all-same _ _ h (k .kids)))
+    go (Unknown p) e h = rw (e, selfInverseAt)
+    go InferenceFailed e h = rw (e, selfInverseAt)
 
 -- a call on nodes and one on their view: the same answer, and the nodes left have the view left; the nodes are a forest of the same length,
 -- and depths and sizes are kept
@@ -110,26 +112,16 @@ join-sim ns w l st ok two le = record {
   sized = link-sized (length ns) (view ns) (w .idx) (l .idx) (xor (l .inv) (w .inv)) (seen st) (two .apart) (two .w-inside) (two .l-inside);
 }
 
--- the state that stays, as the view has it
-kept-first : (i j : Bool) (sa sb : State)
-    → seen (turn i (orState (turn i sa) (orState (turn j sb) (turn i sa)))) ≡ Seen.turn i (Seen.orSt (Seen.turn i (seen sa)) (Seen.turn j (seen sb)))
-kept-first i j (Known c k) sb = refl
-kept-first i j (Unknown p) (Known c k) = refl
-kept-first i j (Unknown p) (Unknown q) = refl
-kept-first i j (Unknown p) InferenceFailed = refl
-kept-first i j InferenceFailed (Known c k) = refl
-kept-first i j InferenceFailed (Unknown q) = refl
-kept-first i j InferenceFailed InferenceFailed = refl
-
-kept-second : (i j : Bool) (sa sb : State)
-    → seen (turn j (orState (turn i sa) (orState (turn j sb) (turn j sb)))) ≡ Seen.turn j (Seen.orSt (Seen.turn i (seen sa)) (Seen.turn j (seen sb)))
-kept-second i j (Known c k) sb = refl
-kept-second i j (Unknown p) (Known c k) = refl
-kept-second i j (Unknown p) (Unknown q) = refl
-kept-second i j (Unknown p) InferenceFailed = refl
-kept-second i j InferenceFailed (Known c k) = refl
-kept-second i j InferenceFailed (Unknown q) = refl
-kept-second i j InferenceFailed InferenceFailed = refl
+-- the state that stays, as the view has it; w is a or b
+kept-seen : (ns : List Node) (w a b : Ty) (sa sb : State) → (seen sa ≡ unknown → seen sb ≡ unknown → seen (stateIn ns w) ≡ unknown)
+    → seen (kept ns w (kindOf a sa) (kindOf b sb)) ≡ Seen.turn (w .inv) (Seen.orSt (Seen.turn (a .inv) (seen sa)) (Seen.turn (b .inv) (seen sb)))
+kept-seen ns w a b (Known i k) sb h = ap (λ (c : Bool). known (xor (w .inv) c) k) (xor-comm i (a .inv))
+kept-seen ns w a b (Unknown p) (Known j m) h = ap (λ (c : Bool). known (xor (w .inv) c) m) (xor-comm j (b .inv))
+kept-seen ns w a b (Unknown p) (Unknown q) h = h refl refl
+kept-seen ns w a b (Unknown p) InferenceFailed h = h refl refl
+kept-seen ns w a b InferenceFailed (Known j m) h = ap (λ (c : Bool). known (xor (w .inv) c) m) (xor-comm j (b .inv))
+kept-seen ns w a b InferenceFailed (Unknown q) h = h refl refl
+kept-seen ns w a b InferenceFailed InferenceFailed h = h refl refl
 
 -- two roots of a forest
 module _ (ns : List Node) (a b : Ty) (ok : Forest ns) (ha : a .idx < length ns) (hb : b .idx < length ns) (apart : a .idx ≢ b .idx)
@@ -141,29 +133,30 @@ module _ (ns : List Node) (a b : Ty) (ok : Forest ns) (ha : a .idx < length ns) 
   merge-sim sa sb ka kb ea eb = go (decLt (sizeOf (at ns (b .idx))) (sizeOf (at ns (a .idx))))
     where
       go : (d : Dec (sizeOf (at ns (b .idx)) < sizeOf (at ns (a .idx))))
-          → Sim ns (out (pick (stays ns a b) (join ns a b sa) (join ns b a sb)) Success)
+          → Sim ns (out (pick (ltb (sizeOf (at ns (b .idx))) (sizeOf (at ns (a .idx)))) (join ns a b sa) (join ns b a sb)) Success)
           (sel d (Seen.out (Seen.join (view ns) a b ka) Success) (Seen.out (Seen.join (view ns) b a kb) Success))
       go (yes d) = rw (lt-ltb (sizeOf (at ns (b .idx))) (sizeOf (at ns (a .idx))) d, ← ea)
           (join-sim ns a b sa ok (roots-of a b ok ha hb apart atop btop) (omega arith))
       go (no d) = rw (le-ltb (sizeOf (at ns (b .idx))) (sizeOf (at ns (a .idx))) (omega arith), ← eb)
           (join-sim ns b a sb ok (roots-of b a ok hb ha (λ q. apart (sym q)) btop atop) (omega arith))
 
-  bind-if-sim : (n : ℕ) (o : Bool) → Sim ns (bindIf ns a b o) (Seen.bind n (view ns) a b o)
+  bound-sim : Sim ns (out (bound ns a b) Success)
+      (sel (decLt (view ns .sz (b .idx)) (view ns .sz (a .idx)))
+      (Seen.out (Seen.join (view ns) a b (Seen.kept (view ns) a a b)) Success)
+      (Seen.out (Seen.join (view ns) b a (Seen.kept (view ns) b a b)) Success))
   unfolding view
-  bind-if-sim n true = sim-same ok refl
-  bind-if-sim n false = merge-sim (kept ns a a b) (kept ns b a b) (Seen.kept (view ns) a a b) (Seen.kept (view ns) b a b) first second
-    where
-      first : seen (kept ns a a b) ≡ Seen.kept (view ns) a a b
-      first = kept-first (a .inv) (b .inv) (stateIn ns a) (stateIn ns b)
+  bound-sim = merge-sim (kept ns a (kindIn ns a) (kindIn ns b)) (kept ns b (kindIn ns a) (kindIn ns b)) (Seen.kept (view ns) a a b) (Seen.kept (view ns) b a b)
+      (kept-seen ns a a b (stateIn ns a) (stateIn ns b) (λ p q. p)) (kept-seen ns b a b (stateIn ns a) (stateIn ns b) (λ p q. q))
 
-      second : seen (kept ns b a b) ≡ Seen.kept (view ns) b a b
-      second = kept-second (a .inv) (b .inv) (stateIn ns a) (stateIn ns b)
+  bind-by : (n : ℕ) (o : Bool) → Sim ns (pick o (out ns Failure) (out (bound ns a b) Success)) (Seen.bind n (view ns) a b o)
+  bind-by n true = sim-same ok refl
+  bind-by n false = bound-sim
 
   bind-sim : (n : ℕ)
       → Sim ns (bind n ns a b) (Seen.bind n (view ns) a b (Seen.occurs n (view ns) (a .idx) (b .idx) || Seen.occurs n (view ns) (b .idx) (a .idx)))
   unfolding bind
   bind-sim n = rw (← occurs-view n ns (a .idx) (b .idx), ← occurs-view n ns (b .idx) (a .idx))
-      (bind-if-sim n (occurs n ns (a .idx) (b .idx) || occurs n ns (b .idx) (a .idx)))
+      (bind-by n (occurs n ns (a .idx) (b .idx) || occurs n ns (b .idx) (a .idx)))
 
   settle-sim : (r : Answer) → Sim ns (settle ns a b r) (Seen.close (view ns) a b r)
   unfolding settle view
@@ -212,7 +205,8 @@ module _ (n : ℕ) (Ok : View → Type 0) (u : List Node → Ty → Ty → Out) 
       w = U (view ns) (p .0) (p .1)
 
       go : Sim ns o w
-          → (Forest (o .nodes) → length (o .nodes) ≡ n → Ok (view (o .nodes)) → Sim (o .nodes) (run u (o .nodes) (both r (o .answer)) ps) (Seen.run U (view (o .nodes)) (both r (o .answer)) ps))
+          → (Forest (o .nodes) → length (o .nodes) ≡ n → Ok (view (o .nodes))
+          → Sim (o .nodes) (run u (o .nodes) (both r (o .answer)) ps) (Seen.run U (view (o .nodes)) (both r (o .answer)) ps))
           → Ok (w .view) → Sim ns (run u (o .nodes) (both r (o .answer)) ps) (Seen.run U (w .view) (both r (w .answer)) ps)
       go m k kept =
           sim-to (ap₂ (λ (g : View) (z : Answer). Seen.run U g (both r z) ps) (m .views) (m .answers))
@@ -231,7 +225,7 @@ module _ (x : Texts) (n : ℕ) (Ok : View → Type 0) (keeps : Keeps x n Ok) whe
     module _ (ns : List Node) (a b : Ty) (ok : Forest ns) (le : length ns ≡ n) (v : Ok (view ns)) (ha : a .idx < length ns) (hb : b .idx < length ns)
         (atop : view ns .rep (a .idx) ≡ ty false (a .idx)) (btop : view ns .rep (b .idx) ≡ ty false (b .idx)) where
       known-sim : a .idx ≢ b .idx → (i j : Bool) (k m : Kind) → view ns .st (a .idx) ≡ known i k → view ns .st (b .idx) ≡ known j m
-          → Sim ns (meetStates (unifyF x n f) x n ns a b (Known i k) (Known j m)) (Seen.meetSt (Seen.unify x n f) x n (view ns) a b (known i k) (known j m))
+          → Sim ns (meetKinds (unifyF x n f) x n ns a b (some (xor i (a .inv), k)) (some (xor j (b .inv), m))) (Seen.meetSt (Seen.unify x n f) x n (view ns) a b (known i k) (known j m))
       known-sim ne i j k m p q =
           sim-to (ap₂ (λ (g : View) (y : Answer). Seen.close g a b y) (r .views) (r .answers))
           (sim-then (r .len) (r .shallow) (λ s. subst (λ (k : ℕ). Sized k (view (o .nodes))) (sym (r .len)) (subst (Sized (length ns)) (sym (r .views)) (r .sized s)))
@@ -258,7 +252,7 @@ module _ (x : Texts) (n : ℕ) (Ok : View → Type 0) (keeps : Keeps x n Ok) whe
           t = keeps .tops f (view ns) a b i j k m v (subst (λ (y : ℕ). a .idx < y) le ha) (subst (λ (y : ℕ). b .idx < y) le hb) ne atop btop p q
 
       states-sim : a .idx ≢ b .idx → (sa sb : State) → view ns .st (a .idx) ≡ seen sa → view ns .st (b .idx) ≡ seen sb
-          → Sim ns (meetStates (unifyF x n f) x n ns a b sa sb) (Seen.meetSt (Seen.unify x n f) x n (view ns) a b (seen sa) (seen sb))
+          → Sim ns (meetKinds (unifyF x n f) x n ns a b (kindOf a sa) (kindOf b sb)) (Seen.meetSt (Seen.unify x n f) x n (view ns) a b (seen sa) (seen sb))
       states-sim ne (Unknown s) sb p q = bind-sim ns a b ok ha hb ne atop btop n
       states-sim ne InferenceFailed sb p q = bind-sim ns a b ok ha hb ne atop btop n
       states-sim ne (Known i k) (Unknown s) p q = bind-sim ns a b ok ha hb ne atop btop n
@@ -270,7 +264,7 @@ module _ (x : Texts) (n : ℕ) (Ok : View → Type 0) (keeps : Keeps x n Ok) whe
       meet-sim = go (ℕ-discrete (a .idx) (b .idx))
         where
           S : Out
-          S = meetStates (unifyF x n f) x n ns a b (stateIn ns a) (stateIn ns b)
+          S = meetKinds (unifyF x n f) x n ns a b (kindIn ns a) (kindIn ns b)
 
           go : (d : Dec (a .idx ≡ b .idx)) → Sim ns (pick (eqb (a .idx) (b .idx)) (out ns (sameNode n ns a b)) S)
               (sel d (Seen.out (view ns) (ofBool (Seen.same n (view ns) a b))) (Seen.meetSt (Seen.unify x n f) x n (view ns) a b (seen (stateIn ns a)) (seen (stateIn ns b))))

@@ -238,7 +238,7 @@ rooted-leads (suc f) ns n e = go (at ns n) refl (λ m. rooted-leads f ns m) e
     go (Root st z) q ih h = record { deep = 0; to = ty false n; path = top st z q }
     go (Child t) q ih h = let l = ih (t .idx) h in record { deep = suc (l .deep); to = flip (t .inv) (l .to); path = up t q (l .path) }
 
--- "no node is over twelve parent steps from its root"
+-- no node is over twelve parent steps from its root
 pub shallow-twelve : (ns : List Node) → Forest ns → Shallow ns → Sized (length ns) (view ns) → length ns ≤ MAX-NODES → (i : ℕ) → i < length ns → rooted 12 ns i ≡ true
 unfolding view
 shallow-twelve ns ok low sized room i h = leads-rooted 12 (l .0 .path) (few (decLt 12 (l .0 .deep)))

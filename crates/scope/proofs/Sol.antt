@@ -19,9 +19,9 @@ use Rattle.scope.specs.Trees.{TreeHead, Tree, node, Forest, fcons, treeH
 use Rattle.scope.proofs.View.{VState, unknown, known, View, sel, rootOf, Good, Out, out, run, occurs, same, bind, close, join, kept, turn, orSt, meetSt, meet, unify}
 use Rattle.scope.proofs.TreeLaws.{invert-dual, invertIf-twice, invertIf-xor, invertsIf, invertsIf-cons}
 use Rattle.scope.proofs.PlanLaws.{Makeable, dual-tree, plan-success, plan-equal}
-use Rattle.scope.proofs.ViewLaws.{idx-eq, same?, not-known, rep-hit, rep-miss, st-w, st-l, st-other, xor-twice, xor-comm}
+use Rattle.scope.proofs.ViewLaws.{idx-eq, same?, not-known, rep-hit, rep-miss, st-w, st-l, st-other, xor-twice, xor-comm, Kinds}
 use Rattle.scope.proofs.Grow.{joined-grow}
-use Rattle.scope.proofs.Stay.{Kinds, kinds-after, AllPairs, Stays, Spec, RunSpec, Step, run-spec}
+use Rattle.scope.proofs.Stay.{kinds-after, AllPairs, Stays, Spec, RunSpec, Step, run-spec}
 use Rattle.scope.proofs.TestLaws.{and-left}
 use Rattle.scope.proofs.Meet.{unify-spec, PlanSpec, plan-spec, Mergeable, deep-ok, a-stays, b-stays, join-spec}
 use Rattle.scope.proofs.ViewFits.{Den, Fits, val-root, joined-val}
@@ -204,9 +204,9 @@ module _ (E : Env) where
     pub fwd : (v : Val) → Fits E v g → Equal v ps → Fits E v (o .view)
 
   abbrev pub SolStep : (View → Ty → Ty → Out) → Type 0
-  SolStep u = (g : View) (p q : Ty) → Good g → Kinds E g → Sol g p q (u g p q)
+  SolStep u = (g : View) (p q : Ty) → Good g → Kinds (Makeable E) g → Sol g p q (u g p q)
 
-  run-sol : (u : View → Ty → Ty → Out) → Step E u → SolStep u → (g : View) (r : Answer) (ps : List (Ty × Ty)) → Good g → Kinds E g
+  run-sol : (u : View → Ty → Ty → Out) → Step E u → SolStep u → (g : View) (r : Answer) (ps : List (Ty × Ty)) → Good g → Kinds (Makeable E) g
       → RunSol g ps (run u g r ps)
   unfolding run
   run-sol u sp ih g r [] good kinds = record { back = λ v f. f; fwd = λ v f e. f }
@@ -253,7 +253,7 @@ module _ (E : Env) where
   known-den : (v : Val) {s : VState} (t : Tree) {i : Bool} {k : Kind} → s ≡ known i k → t ≡ invertIf E i (build E v k) → Den E v s t
   known-den v t e d = subst (λ (x : VState). Den E v x t) (sym e) d
 
-  module _ (u : View → Ty → Ty → Out) (sp : Step E u) (ih : SolStep u) (f : ℕ) (g : View) (a b : Ty) (good : Good g) (kinds : Kinds E g)
+  module _ (u : View → Ty → Ty → Out) (sp : Step E u) (ih : SolStep u) (f : ℕ) (g : View) (a b : Ty) (good : Good g) (kinds : Kinds (Makeable E) g)
       (atop : g .rep (a .idx) ≡ ty false (a .idx)) (btop : g .rep (b .idx) ≡ ty false (b .idx)) (apart : a .idx ≢ b .idx) where
     module _ (i j : Bool) (k m : Kind) (sa : g .st (a .idx) ≡ known i k) (sb : g .st (b .idx) ≡ known j m) (l : Plan)
         (ps : PlanSpec (E .texts) k m l) (pv : PlanSol k m (xor (xor i (a .inv)) (xor j (b .inv))) l) where
@@ -323,15 +323,15 @@ module _ (E : Env) where
     meet-sol-st (known i k) (known j m) p q =
         let c : Bool = xor (xor i (a .inv)) (xor j (b .inv)) in
         let l : Plan = plan (E .texts) k m c in
-        let ok : Makeable E k = kinds .make (a .idx) i k p in
-        let om : Makeable E m = kinds .make (b .idx) j m q in
+        let ok : Makeable E k = kinds (a .idx) i k p in
+        let om : Makeable E m = kinds (b .idx) j m q in
         let ps : PlanSpec (E .texts) k m l = plan-spec E k m c ok om in
         deep-sol i j k m p q l ps (plan-sol k m c ok om) (run u g (l .base) (l .pairs)) (run-spec E u sp g (l .base) (l .pairs) good kinds)
         (run-sol u sp ih g (l .base) (l .pairs) good kinds)
         (a-stays E u sp f g a b good kinds atop btop apart i j k m p q l ps) (b-stays E u sp f g a b good kinds atop btop apart i j k m p q l ps)
         (run u g (l .base) (l .pairs) .answer) refl
 
-  meet-sol : (u : View → Ty → Ty → Out) → Step E u → SolStep u → (f : ℕ) (g : View) (a b : Ty) → Good g → Kinds E g
+  meet-sol : (u : View → Ty → Ty → Out) → Step E u → SolStep u → (f : ℕ) (g : View) (a b : Ty) → Good g → Kinds (Makeable E) g
       → g .rep (a .idx) ≡ ty false (a .idx) → g .rep (b .idx) ≡ ty false (b .idx) → Sol g a b (meet u (E .texts) f g a b)
   unfolding meet
   meet-sol u sp ih f g a b good kinds ta tb = go (ℕ-discrete (a .idx) (b .idx))
@@ -353,7 +353,7 @@ module _ (E : Env) where
       (good .idem (p .idx)) (good .idem (q .idx)))
 
   -- Success: the trees that fit afterwards are those that fitted before and give the two types one tree
-  pub success-fits : (n f : ℕ) (g : View) (p q : Ty) → Good g → Kinds E g → unify (E .texts) n f g p q .answer ≡ Success
+  pub success-fits : (n f : ℕ) (g : View) (p q : Ty) → Good g → Kinds (Makeable E) g → unify (E .texts) n f g p q .answer ≡ Success
       → (v : Val) → Fits E v (unify (E .texts) n f g p q .view) ↔ (Fits E v g × (val E v p ≡ val E v q))
   success-fits n f g p q good kinds e v =
       let s = unify-spec E n f g p q good kinds in (

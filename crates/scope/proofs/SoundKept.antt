@@ -15,12 +15,13 @@ use Rattle.scope.specs.Nodes.{Kind, State, Known, Unknown, InferenceFail
 use Rattle.scope.specs.Unify.{Plan, carry, unify}
 use Rattle.scope.specs.Make.{bare}
 use Rattle.scope.specs.Force.{withReports, fail, forceKind, finishWhere, finishInference, reset}
+use Rattle.scope.proofs.PlanLaws.{Makeable}
 use Rattle.scope.proofs.View.{View, known, fin, view}
-use Rattle.scope.proofs.ViewLaws.{not-known}
+use Rattle.scope.proofs.ViewLaws.{not-known, Fine}
 use Rattle.scope.proofs.Paths.{not-child, Forest, Tidied, find-idx, rep-root, find-inside, find-mut-tidied, tidied-forest, tidied-view}
 use Rattle.scope.proofs.Merge.{Shallow, tidied-shallow}
 use Rattle.scope.proofs.Restate.{Restates, restates-kind, restates-shallow, restates-forest, restates-sized, restates-good, failed-restates, failed-view, finish-where-restates, finish-restates}
-use Rattle.scope.proofs.SoundLaws.{Fine, SoundNodes, Remembers, SoundFacts}
+use Rattle.scope.proofs.SoundLaws.{SoundNodes, Remembers, SoundFacts}
 use Rattle.scope.proofs.Sim.{Inside}
 use Rattle.scope.proofs.UnifyKept.{unify-seen, unify-nodes, carry-seen, carry-nodes}
 
@@ -31,19 +32,19 @@ pub record Kept (e : Env) (s s′ : Store) : Type 0 where
 
 module _ (e : Env) where
   -- the kinds that are made of nothing
-  default-fine : {n : ℕ} → Fine e n (bare DEFAULT)
+  default-fine : {n : ℕ} → Fine n (Makeable e) (bare DEFAULT)
   unfolding makeable defined flagIs flagOf namesOk rowOf rows
   default-fine = record { made = record { made = refl; def = refl; flag = refl }; kids = λ t w. elim w [ ] }
 
-  pub error-fine : {n : ℕ} → Fine e n (bare ERROR)
+  pub error-fine : {n : ℕ} → Fine n (Makeable e) (bare ERROR)
   unfolding makeable defined flagIs flagOf namesOk rowOf rows
   error-fine = record { made = record { made = refl; def = refl; flag = refl }; kids = λ t w. elim w [ ] }
 
-  pub nil-fine : {n : ℕ} → Fine e n (bare TUPLE)
+  pub nil-fine : {n : ℕ} → Fine n (Makeable e) (bare TUPLE)
   unfolding makeable defined flagIs flagOf namesOk rowOf rows
   nil-fine = record { made = record { made = refl; def = refl; flag = refl }; kids = λ t w. elim w [ ] }
 
-  pub fine-more : {n m : ℕ} {k : Kind} → n ≤ m → Fine e n k → Fine e m k
+  pub fine-more : {n m : ℕ} {k : Kind} → n ≤ m → Fine n (Makeable e) k → Fine m (Makeable e) k
   fine-more h f = record { made = f .made; kids = λ t w. omega (arith, f .kids t w) }
 
   pub remembers-more : {n m : ℕ} {o : Option Ty} → n ≤ m → Remembers n o → Remembers m o
@@ -111,7 +112,7 @@ module _ (e : Env) where
     good = restates-good ns ns′ x (ok .forest) (ok .good);
   }
     where
-      kinds : (a : ℕ) (i : Bool) (k : Kind) → (view ns .st a ≡ known i k) ⊎ (k ≡ bare DEFAULT) → Fine e (length ns′) k
+      kinds : (a : ℕ) (i : Bool) (k : Kind) → (view ns .st a ≡ known i k) ⊎ (k ≡ bare DEFAULT) → Fine (length ns′) (Makeable e) k
       kinds a i k (inl q) = rw (x .len) (ok .kinds a i k q)
       kinds a i k (inr q) = rw q default-fine
 

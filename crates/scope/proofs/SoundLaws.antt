@@ -1,6 +1,6 @@
 -- What it is for a store to be sound, as plain facts, and that these say just what the test says. Assumes nothing.
 use mathlib.Core.Path.{_≡_, refl, sym, ap, subst, _∙_}
-use mathlib.Core.List.{List, [], _∷_, List·Memᴰ}
+use mathlib.Core.List.{List, [], _∷_}
 use mathlib.Core.Bool.{Bool, true, _&&_}
 use mathlib.Core.Option.{Option, none, some}
 use Prim.Native.Nat.{ℕ, zero, suc, _≤_, _<_}
@@ -16,31 +16,23 @@ use Rattle.scope.specs.Types.{Ty}
 use Rattle.scope.specs.Kinds.{makeable, defined, flagIs}
 use Rattle.scope.specs.Nodes.{Kind, Known, Unknown, InferenceFailed, Node, Root, Child, Store, at, stateOf, sizeOf}
 use Rattle.scope.specs.Sound.{inStore, rooted, falls, treeSize, sizeIs, kindSound, nodeSound, remembered, roomSound, shapeSound, soundStore}
-use Rattle.scope.proofs.View.{known, View, Fin, fin, Good, seen, view}
+use Rattle.scope.proofs.View.{known, Fin, fin, Good, seen, view}
 use Rattle.scope.proofs.TestLaws.{and-left, and-right, both-true, all-of, of-all}
 use Rattle.scope.proofs.PlanLaws.{Makeable}
-use Rattle.scope.proofs.ViewLaws.{not-known, Held}
+use Rattle.scope.proofs.ViewLaws.{not-known, Kinds, Held, Fine}
 use Rattle.scope.proofs.Paths.{beyond, not-child, Forest, leads-short, rep-idem, rep-root}
 use Rattle.scope.proofs.Sizes.{all-from, from-all, count-none, Sized, sized-tree, leads-rooted, rooted-leads}
 use Rattle.scope.proofs.Falls.{falls-fin, good-falls}
 
--- a kind that 4 and 5 let through, over nodes below n
-pub record Fine (e : Env) (n : ℕ) (k : Kind) : Type 0 where
-  pub made : Makeable e k
-  pub kids : (t : Ty) → List·Memᴰ t (k .kids) → t .idx < n
-
-abbrev pub Kinds : Env → ℕ → View → Type 0
-Kinds e n g = (a : ℕ) (i : Bool) (k : Kind) → g .st a ≡ known i k → Fine e n k
-
-pub kinds-held : (e : Env) (n : ℕ) (g : View) → Kinds e n g → Held n g
-kinds-held e n g f a i k s = f a i k s .kids
-
 -- the nodes: every node leads to a root inside, kinds are as they are made, sizes are node counts, nothing contains itself
 pub record SoundNodes (e : Env) (ns : List Node) : Type 0 where
   pub forest : Forest ns
-  pub kinds : Kinds e (length ns) (view ns)
+  pub kinds : Kinds (Fine (length ns) (Makeable e)) (view ns)
   pub sized : Sized (length ns) (view ns)
   pub good : Good (view ns)
+
+pub nodes-held : {e : Env} {ns : List Node} → SoundNodes e ns → Held (length ns) (view ns)
+nodes-held ok a i k s = ok .kinds a i k s .kids
 
 -- a remembered type is in the store
 abbrev pub Remembers : ℕ → Option Ty → Type 0
@@ -65,7 +57,7 @@ all-at p [] d h = refl
 all-at p (x ∷ xs) d h = both-true (p x) (all p xs) (h 0 (omega arith)) (all-at p xs d (λ n q. h (suc n) (omega arith)))
 
 -- a kind, by its test and by its facts
-kind-fine : (e : Env) (ns : List Node) (k : Kind) → kindSound e ns k ≡ true → Fine e (length ns) k
+kind-fine : (e : Env) (ns : List Node) (k : Kind) → kindSound e ns k ≡ true → Fine (length ns) (Makeable e) k
 unfolding kindSound
 kind-fine e ns k h =
     let m : Bool = makeable (e .texts) (k .head) (length (k .kids)) in
@@ -79,7 +71,7 @@ kind-fine e ns k h =
       kids = λ t w. ltb-true (t .idx) (length ns) (of-all (inStore ns) (k .kids) (and-right f i h₂) w);
     }
 
-fine-kind : (e : Env) (ns : List Node) (k : Kind) → Fine e (length ns) k → kindSound e ns k ≡ true
+fine-kind : (e : Env) (ns : List Node) (k : Kind) → Fine (length ns) (Makeable e) k → kindSound e ns k ≡ true
 unfolding kindSound
 fine-kind e ns k o =
     both-true _ _ (o .made .made) (both-true _ _ (o .made .def) (both-true _ _ (o .made .flag)
@@ -107,11 +99,11 @@ module _ (e : Env) (ns : List Node) (each : (n : ℕ) → n < length ns → node
     par = λ n t q. ltb-true (t .idx) (length ns) (ap (nodeSound e ns) (sym q) ∙ each-all n);
   }
 
-  the-kinds : Kinds e (length ns) (view ns)
+  the-kinds : Kinds (Fine (length ns) (Makeable e)) (view ns)
   unfolding view
   the-kinds a i k q = go (at ns a) (each-all a) q
     where
-      go : (x : Node) → nodeSound e ns x ≡ true → seen (stateOf x) ≡ known i k → Fine e (length ns) k
+      go : (x : Node) → nodeSound e ns x ≡ true → seen (stateOf x) ≡ known i k → Fine (length ns) (Makeable e) k
       go (Root (Known j m) z) h p = kind-fine e ns k (subst (λ (w : Kind). kindSound e ns w ≡ true) (same p) h)
         where
           same : known j m ≡ known i k → m ≡ k
@@ -164,7 +156,7 @@ sound-shape e ns ok = both-true _ _
     (both-true _ _
     (all-from (λ i. sizeIs ns i (at ns i)) 0 (length ns) (λ i a b. sound-size e ns ok i (omega arith)))
     (all-from (falls (length ns) ns) 0 (length ns)
-    (λ i a b. good-falls ns (ok .forest) (ok .good) (kinds-held e (length ns) (view ns) (ok .kinds)) i (omega arith))))
+    (λ i a b. good-falls ns (ok .forest) (ok .good) (nodes-held ok) i (omega arith))))
 
 remembered-in : (ns : List Node) (o : Option Ty) → remembered ns o ≡ true → Remembers (length ns) o
 remembered-in ns none h t e = let z : _≡_ {A = ℕ} 0 1 = cc in absurd (omega arith)

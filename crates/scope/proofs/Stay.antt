@@ -14,12 +14,8 @@ use Rattle.scope.specs.Answers.{Answer, Success, Failure, Indeterminate,
 use Rattle.scope.proofs.Laws.{both-success}
 use Rattle.scope.proofs.View.{known, View, Below, Good, Out, out, run}
 use Rattle.scope.proofs.PlanLaws.{Makeable}
-use Rattle.scope.proofs.ViewLaws.{idx-eq}
+use Rattle.scope.proofs.ViewLaws.{idx-eq, Kinds}
 use Rattle.scope.proofs.Grow.{ri, Grow, grow-refl, grow-trans, mono-idx, Joined, joined-grow, below-grow, below-top}
-
--- every known kind can be made
-pub record Kinds (e : Env) (g : View) : Type 0 where
-  pub make : (a : ℕ) (i : Bool) (k : Kind) → g .st a ≡ known i k → Makeable e k
 
 -- every kind known in h was known in g
 pub record NoNew (g h : View) : Type 0 where
@@ -31,8 +27,8 @@ no-new-refl = record { was = λ a i k e. (a, i, e) }
 pub no-new-trans : {g h m : View} → NoNew g h → NoNew h m → NoNew g m
 no-new-trans p q = record { was = λ a i k e. let z = q .was a i k e in p .was (z .0) (z .1) k (z .2) }
 
-pub kinds-after : {e : Env} {g h : View} → Kinds e g → NoNew g h → Kinds e h
-kinds-after p q = record { make = λ a i k e. let z = q .was a i k e in p .make (z .0) (z .1) k (z .2) }
+pub kinds-after : {P : Kind → Type 0} {g h : View} → Kinds P g → NoNew g h → Kinds P h
+kinds-after p q a i k e = let z = q .was a i k e in p (z .0) (z .1) k (z .2)
 
 -- each pair of a list
 abbrev pub AllPairs : (Ty × Ty → Type 0) → List (Ty × Ty) → Type 0
@@ -93,9 +89,9 @@ above-stays p w s (inl b) = inl (below-stays (p .0) w s b)
 above-stays p w s (inr b) = inr (below-stays (p .1) w s b)
 
 abbrev pub Step : Env → (View → Ty → Ty → Out) → Type 0
-Step e u = (g : View) (p q : Ty) → Good g → Kinds e g → Spec (e .texts) g p q (u g p q)
+Step e u = (g : View) (p q : Ty) → Good g → Kinds (Makeable e) g → Spec (e .texts) g p q (u g p q)
 
-pub run-spec : (e : Env) (u : View → Ty → Ty → Out) → Step e u → (g : View) (r : Answer) (ps : List (Ty × Ty)) → Good g → Kinds e g
+pub run-spec : (e : Env) (u : View → Ty → Ty → Out) → Step e u → (g : View) (r : Answer) (ps : List (Ty × Ty)) → Good g → Kinds (Makeable e) g
     → RunSpec (e .texts) g r ps (run u g r ps)
 unfolding run
 run-spec e u ih g r [] good kinds = record {

@@ -19,7 +19,9 @@ use Rattle.scope.specs.Force.{forceKind}
 use Rattle.scope.specs.Import.{MovedAll, import, export}
 use Rattle.scope.specs.Unify.{unify}
 use Rattle.scope.specs.Sound.{Lent, stray, reads, sound, soundStore, inStore}
-use Rattle.scope.specs.Calls.{Outcome, refused, done, firstBroken, orRefused, judged, storeOf, outside, tooMany, lentTests, roomTests, shortFor, readCall, NewKind, kindMade, over, newCall, newStructCall, newUnionCall, newVarCall, newVarsCall, nodesFor, errorCall, nilCall, unified, unifyCall, forceKindCall, importList, importCall, findCall, findMutCall, nodeCall, childAt, childCall, childNameAt, nameCall, figuresCall, openTest, exportCall}
+use Rattle.scope.specs.Calls.{Outcome, refused, done, firstBroken, orRefused, judged, storeOf, outside, tooMany, lentTests, roomTests, shortFor, readCall, NewKind, kindMade}
+use Rattle.scope.specs.Calls.{over, newCall, newStructCall, newUnionCall, newVarCall, newVarsCall, nodesFor, errorCall, nilCall, unified, unifyCall, forceKindCall, importList}
+use Rattle.scope.specs.Calls.{importCall, findCall, findMutCall, nodeCall, childAt, childCall, childNameAt, nameCall, figuresCall, openTest, exportCall}
 use Rattle.scope.specs.Demand.{Maker, newStruct, newUnion, Read, Step, step, stepMaker, stepRead, unlessThere, statesMade}
 use Rattle.scope.specs.Demand as Demand
 use Rattle.scope.proofs.TestLaws.{and-left, and-right, of-all}

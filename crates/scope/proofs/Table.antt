@@ -1,34 +1,36 @@
--- The starred cases of document 01's "Judged by example": one table over the definitions, and one theorem that the checker computes. A case is a
--- list of calls on a fresh store, what they answer, and every node afterwards. Assumes nothing.
+-- The starred cases of document 01's "Judged by example", and further ones that pin a sentence of 01: one table over the definitions, and one theorem
+-- that the checker computes. A case is a list of calls on a fresh store, what they answer, and every node afterwards. Assumes nothing.
 use mathlib.Core.Path.{_≡_, refl}
-use mathlib.Core.List.{List, [], _∷_, map}
+use mathlib.Core.List.{List, [], _∷_, _++_, map}
 use mathlib.Core.Bool.{true, false}
 use mathlib.Core.Option.{Option, some}
-use Prim.Native.Nat.{ℕ}
+use Prim.Native.Nat.{ℕ, zero, suc}
 use lib.ListN.{replicate}
 use Rattle.scope.specs.Text.{text}
-use Rattle.scope.specs.Limits.{NONE}
+use Rattle.scope.specs.Limits.{SIGILS}
 use Rattle.scope.specs.Names.{Name, name}
-use Rattle.scope.specs.Chart.{Env}
+use Rattle.scope.specs.Chart.{Env, TRAIT-SORT}
 use Rattle.scope.specs.Types.{Ty, ty}
 use Rattle.scope.specs.Kinds.{OBJECT, TUPLE, NEVER, DEFAULT, ERROR}
-use Rattle.scope.specs.Nodes.{Known, Unknown, Node, Root, Child, opened}
+use Rattle.scope.specs.Nodes.{Known, Unknown, InferenceFailed, Node, Root, Child, opened}
 use Rattle.scope.specs.Answers.{Success, Failure, Indeterminate}
+use Rattle.scope.specs.Unify.{Trait}
 use Rattle.scope.specs.Make.{bare}
 use Rattle.scope.specs.Force.{forcedError}
 use Rattle.scope.specs.Calls.{over}
-use Rattle.scope.specs.Demand.{Call, make, unify, forceKind, later, new, newVar, error, nil, show}
-use Rattle.scope.specs.Replies.{Reply, type, answer, forced}
+use Rattle.scope.specs.Demand.{Call, make, unify, forceKind, read, later, new, newVar, error, nil, export, show, showImplType}
+use Rattle.scope.specs.Replies.{Reply, type, answer, forced, exported}
 use Rattle.scope.specs.Replies as Replies
 use Rattle.scope.proofs.Run.{ran}
-use Rattle.scope.specs.Sheet.{lines, words, typeWord, typeWords, parse, sheetLine, sheetLines, sheet}
+use Rattle.scope.specs.Sheet.{Line, bad, lines, words, typeWord, typeWords, parse, sheetLine, sheetLines, sheet}
+use Rattle.scope.specs.Sheet as Sheet
 
--- an empty chart; the rule text holds the names a and b
+-- a chart of one trait, which is the builtin fn trait; the rule text holds the names a and b
 pub env : Env
 env = record {
-  records = [];
-  fnTrait = NONE;
-  sigils = replicate 4 (name 0 0 0);
+  records = record { sort = TRAIT-SORT; name = name 0 0 1; path = name 0 0 1; def = 0; dual = 0; trait = 0 } ∷ [];
+  fnTrait = 0;
+  sigils = replicate SIGILS (name 0 0 0);
   texts = record { rule = text "ab"; chart = [] };
 }
 
@@ -79,6 +81,9 @@ an-object ns ts = Root (Known false (record { head = record { code = OBJECT; num
 
 pub shown : Ty → Call
 shown u = later (show u (replicate 16 0))
+
+pub shown-trait : List Ty → Call
+shown-trait us = later (showImplType (Trait 0 us) (replicate 32 0))
 
 pub a : Option Name
 a = some (name 0 0 1)
@@ -160,6 +165,47 @@ table =
       replies = made 0 ∷ made 1 ∷ Replies.text (text "(?0,)") ∷ Replies.text (text "(~?0,)") ∷ [];
       nodes = a-var ∷ a-tuple (t 0 ∷ []) ∷ [];
     }
+    -- "one report count": a fresh store has none, though the store exported has one
+    ∷ record {
+      calls = var ∷ forceKind (t 0) ∷ read (export 4 4 true [] 0) ∷ [];
+      replies = made 0 ∷ forced (forcedError (some 7)) ∷ exported (record { types = []; fresh = opened 4 4 }) ∷ [];
+      nodes = Root InferenceFailed 1 ∷ [];
+    }
+    -- `show_impl_type`: the fn trait over three types, the second a Tuple, has the fn form; over two or four it has its name and parameters
+    ∷ record {
+      calls = var ∷ tuple (t 0 ∷ []) ∷ shown-trait (t 0 ∷ t 1 ∷ t 0 ∷ []) ∷ shown-trait (t 0 ∷ t 1 ∷ []) ∷ shown-trait (t 0 ∷ t 1 ∷ t 0 ∷ t 0 ∷ []) ∷ [];
+      replies =
+          made 0
+          ∷ made 1
+          ∷ Replies.text (text "fn ?0(?0) -> ?0")
+          ∷ Replies.text (text "a[?0, (?0,)]")
+          ∷ Replies.text (text "a[?0, (?0,), ?0, ?0]")
+          ∷ [];
+      nodes = a-var ∷ a-tuple (t 0 ∷ []) ∷ [];
+    }
+    ∷ []
+
+-- a line of `sheet`, and what it is read as
+pub record Read : Type 0 where
+  pub line : List ℕ
+  pub as-line : Line
+
+-- n types of node 0, and their bytes
+pub zeros : ℕ → List ℕ
+zeros zero = []
+zeros (suc n) = text " 0" ++ zeros n
+
+pub reads : List Read
+reads =
+    -- "no leading zero except `0` itself"
+    record { line = text "show 0"; as-line = Sheet.show (t 0) }
+    ∷ record { line = text "show ~0"; as-line = Sheet.show (~t 0) }
+    ∷ record { line = text "show 00"; as-line = bad }
+    ∷ record { line = text "show 01"; as-line = bad }
+    ∷ record { line = text "show ~01"; as-line = bad }
+    -- "one over 255 bytes is a bad line": 5 and 125 times 2 bytes are 255, 5 and 124 times 2 and 3 are 256
+    ∷ record { line = text "tuple" ++ zeros 125; as-line = Sheet.tuple (replicate 125 (t 0)) }
+    ∷ record { line = text "tuple" ++ (zeros 124 ++ text " ~0"); as-line = bad }
     ∷ []
 
 -- sheet's example
@@ -169,7 +215,8 @@ input = text "var\nvar\ntuple 0 ~1\ntuple ~1 0\nunify 2 3\nshow ~2"
 pub output : List ℕ
 output = text "=0\n=1\n=2\n=3\nSuccess\n(?1, ?1)\n"
 
--- the whole table, and sheet's example with it
-pub table-holds : (map done-by table ≡ table) × (sheet input ≡ output)
-unfolding ran done-by table env t ~t made var a-var plain known tuple a-tuple object an-object shown a b input output lines words typeWord typeWords parse sheetLine sheetLines sheet
-table-holds = (refl, refl)
+-- the whole table, and sheet's lines and example with it
+pub table-holds : (map done-by table ≡ table) × (map (λ r. parse (r .line)) reads ≡ map (λ r. r .as-line) reads) × (sheet input ≡ output)
+unfolding ran done-by table zeros reads env t ~t made var a-var plain known tuple a-tuple object an-object shown shown-trait a b
+    input output lines words typeWord typeWords parse sheetLine sheetLines sheet
+table-holds = (refl, refl, refl)

@@ -15,19 +15,18 @@ use Rattle.scope.proofs.PlanLaws.{Makeable}
 use Rattle.scope.proofs.Paths.{rep-inside}
 use Rattle.scope.proofs.Sizes.{Sized}
 use Rattle.scope.proofs.Meet.{PlanSpec, plan-spec, a-stays, b-stays, unify-spec}
-use Rattle.scope.proofs.Stay.{Kinds}
+use Rattle.scope.proofs.ViewLaws.{Kinds, Fine}
 use Rattle.scope.proofs.Inside as In
 use Rattle.scope.proofs.Inside.{inside-kinds, unify-inside}
 use Rattle.scope.proofs.Sim.{Keeps, Sim, Inside, run-keeps, run-sim, unify-call}
 use Rattle.scope.proofs.SoundLaws.{SoundNodes}
-use Rattle.scope.proofs.SoundLaws as Laws
 
 -- what `unify` keeps of a view of n nodes
 pub record Stable (e : Env) (n : ℕ) (g : View) : Type 0 where
   pub good : Good g
   pub inside : In.Inside n (Makeable e) g
 
-pub stable-kinds : {e : Env} {n : ℕ} {g : View} → Stable e n g → Kinds e g
+pub stable-kinds : {e : Env} {n : ℕ} {g : View} → Stable e n g → Kinds (Makeable e) g
 stable-kinds s = inside-kinds (λ k m. m) (s .inside)
 
 module _ (e : Env) where
@@ -41,7 +40,7 @@ module _ (e : Env) where
     tops = λ f g a b i j k m s ha hb ne ta tb sa sb.
         let c : Bool = xor (xor i (a .inv)) (xor j (b .inv)) in
         let l : Plan = plan (e .texts) k m c in
-        let ps : PlanSpec (e .texts) k m l = plan-spec e k m c (stable-kinds s .make (a .idx) i k sa) (stable-kinds s .make (b .idx) j m sb) in (
+        let ps : PlanSpec (e .texts) k m l = plan-spec e k m c (stable-kinds s (a .idx) i k sa) (stable-kinds s (b .idx) j m sb) in (
           a-stays e (Seen.unify (e .texts) n f) (unify-spec e n f) n g a b (s .good) (stable-kinds s) ta tb ne i j k m sa sb l ps .rep ∙ ta,
           b-stays e (Seen.unify (e .texts) n f) (unify-spec e n f) n g a b (s .good) (stable-kinds s) ta tb ne i j k m sa sb l ps .rep ∙ tb,
         );
@@ -53,15 +52,15 @@ module _ (e : Env) where
       good = ok .good;
       inside = record {
         inside = rep-inside (ok .forest);
-        kinds = λ a i k q. let f = ok .kinds a i k q in record { kids = f .kids; clean = f .made };
+        kinds = ok .kinds;
       };
     }
 
     pub sim-sound : {o : Out} {v : Seen.Out} → Sim ns o v → Stable e (length ns) (v .view) → SoundNodes e (o .nodes)
     sim-sound {o} {v} m s = record {
       forest = m .forest;
-      kinds = subst (λ (n : ℕ). Laws.Kinds e n (view (o .nodes))) (sym (m .len)) (subst (Laws.Kinds e (length ns)) (sym (m .views))
-          (λ a i k q. let f = s .inside .kinds a i k q in record { made = f .clean; kids = f .kids }));
+      kinds = subst (λ (n : ℕ). Kinds (Fine n (Makeable e)) (view (o .nodes))) (sym (m .len))
+          (subst (Kinds (Fine (length ns) (Makeable e))) (sym (m .views)) (s .inside .kinds));
       sized = subst (λ (n : ℕ). Sized n (view (o .nodes))) (sym (m .len)) (subst (Sized (length ns)) (sym (m .views)) (m .sized (ok .sized)));
       good = subst Good (sym (m .views)) (s .good);
     }

@@ -2,15 +2,17 @@
 -- them, and spans and failed marks are no part of them. `unify` over a view, one level down as an argument. Assumes nothing.
 use mathlib.Core.Path.{_≡_}
 use mathlib.Core.List.{List, [], _∷_, List·Memᴰ}
-use mathlib.Core.Bool.{Bool, true, false, not, _||_}
+use mathlib.Core.Bool.{Bool, true, false, not, _&&_, _||_}
 use Prim.Native.Nat.{ℕ, zero, suc, _+_}
 use native.Mathlib.Decide.{ℕ-discrete, decLt}
-use Rattle.scope.specs.Base.{xor, any}
+use lib.Dec.{eqb}
+use Rattle.scope.specs.Base.{pick, xor, all, any}
 use Rattle.scope.specs.Names.{Texts}
 use Rattle.scope.specs.Types.{Ty, ty, flip}
+use Rattle.scope.specs.Kinds.{selfDual, PARAM}
 use Rattle.scope.specs.Nodes.{Kind, State, Known, Unknown, InferenceFailed, Node, at, stateOf, sizeOf, find}
 use Rattle.scope.specs.Answers.{Answer, Success, Failure, Indeterminate, both, ofBool}
-use Rattle.scope.specs.Unify.{Plan, plan, selfInverseKind}
+use Rattle.scope.specs.Unify.{Plan, plan}
 
 -- a kind with its inversion, or none
 pub data VState : Type 0 where
@@ -80,7 +82,7 @@ occurs (suc f) g x y = sel (ℕ-discrete y x) true (occursSt (λ c. occurs f g x
 
 abbrev pub selfSt : Bool → (Ty → Bool) → VState → Bool
 selfSt param t unknown = false
-selfSt param t (known i k) = selfInverseKind param t k
+selfSt param t (known i k) = pick (eqb (k .head .code) PARAM) param (selfDual (k .head) && all t (k .kids))
 
 unfoldable pub selfInverse : Bool → ℕ → View → ℕ → Bool
 selfInverse param zero g a = false

@@ -12,7 +12,7 @@ use Rattle.scope.proofs.View.{VState, unknown, known, View, rootOf}
 use Rattle.scope.proofs.TreeLaws.{invert-dual, invertIf-xor}
 use Rattle.scope.proofs.PlanLaws.{Makeable, dual-tree}
 use Rattle.scope.proofs.Grow.{ri, Self, self, Joined, agree, selfly}
-use Rattle.scope.proofs.Stay.{Kinds}
+use Rattle.scope.proofs.ViewLaws.{Kinds}
 
 -- the tree t is what the state says
 abbrev pub Den : Env → Val → VState → Tree → Type 0
@@ -45,9 +45,9 @@ build-self e v k ok d h =
     invert-dual e (treeHead (e .texts) (k .head)) false (vals e v (k .kids)) (dual-tree e k ok ∙ d)
     ∙ ap (node (treeHead (e .texts) (k .head)) false) (vals-self e v (k .kids) h)
 
-pub self-val : {e : Env} {v : Val} {g : View} {a : ℕ} → Kinds e g → Fits e v g → Self g a → invert e (v a) ≡ v a
+pub self-val : {e : Env} {v : Val} {g : View} {a : ℕ} → Kinds (Makeable e) g → Fits e v g → Self g a → invert e (v a) ≡ v a
 self-val {e} {v} {g} {a} kinds f (self i k s d h) =
-    let b : invert e (build e v k) ≡ build e v k = build-self e v k (kinds .make a i k s) d (λ x m. child x (self-val kinds f (h x m))) in
+    let b : invert e (build e v k) ≡ build e v k = build-self e v k (kinds a i k s) d (λ x m. child x (self-val kinds f (h x m))) in
     let q : v a ≡ build e v k = subst (λ (x : VState). Den e v x (v a)) s (f .state a) ∙ invertIf-self e i (build e v k) b in
     ap (invert e) q ∙ b ∙ sym q
   where
@@ -56,7 +56,7 @@ self-val {e} {v} {g} {a} kinds f (self i k s d h) =
         let r : val e v x ≡ v (ri g x) = val-root f x ∙ invertIf-self e (rootOf g x .inv) (v (ri g x)) q in
         ap (invert e) r ∙ q ∙ sym r
 
-pub joined-val : {e : Env} {v : Val} {g : View} {p q : Ty} → Kinds e g → Fits e v g → Joined g p q → val e v p ≡ val e v q
+pub joined-val : {e : Env} {v : Val} {g : View} {p q : Ty} → Kinds (Makeable e) g → Fits e v g → Joined g p q → val e v p ≡ val e v q
 joined-val {e} {v} {g} {p} {q} kinds f (agree r) = val-root f p ∙ ap (val e v) r ∙ sym (val-root f q)
 joined-val {e} {v} {g} {p} {q} kinds f (selfly r s) =
     let h = self-val kinds f s in

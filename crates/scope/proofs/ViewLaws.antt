@@ -86,6 +86,15 @@ module _ (g : View) (w l : ℕ) (i : Bool) (k : VState) where
   unfolding link
   st-other n h h′ = sel-no (ℕ-discrete n w) _ _ h ∙ sel-no (ℕ-discrete n l) _ _ h′
 
+-- P holds of every known kind
+abbrev pub Kinds : (Kind → Type 0) → View → Type 0
+Kinds P g = (a : ℕ) (i : Bool) (k : Kind) → g .st a ≡ known i k → P k
+
 -- the children of every kind are nodes below n
 abbrev pub Held : ℕ → View → Type 0
-Held n g = (a : ℕ) (i : Bool) (k : Kind) → g .st a ≡ known i k → (t : Ty) → List·Memᴰ t (k .kids) → t .idx < n
+Held n = Kinds (λ k. (t : Ty) → List·Memᴰ t (k .kids) → t .idx < n)
+
+-- a kind of which C holds, over nodes below n
+pub record Fine (n : ℕ) (C : Kind → Type 0) (k : Kind) : Type 0 where
+  pub made : C k
+  pub kids : (t : Ty) → List·Memᴰ t (k .kids) → t .idx < n

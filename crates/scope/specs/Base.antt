@@ -14,6 +14,7 @@ abbrev pub xor : Bool → Bool → Bool
 xor false b = b
 xor true b = not b
 
+-- a test of every element, and of some
 abbrev pub all {ℓ} : {A : Type ℓ} → (A → Bool) → List A → Bool
 all p [] = true
 all p (x ∷ xs) = p x && all p xs
@@ -32,6 +33,7 @@ abbrev pub from : ℕ → ℕ → List ℕ
 from i zero = []
 from i (suc n) = i ∷ from (suc i) n
 
+-- whether there is a value, and the value or another
 abbrev pub isSome {ℓ} : {A : Type ℓ} → Option A → Bool
 isSome none = false
 isSome (some a) = true
@@ -39,3 +41,15 @@ isSome (some a) = true
 abbrev pub orElse {ℓ} : {A : Type ℓ} → Option A → A → A
 orElse none a = a
 orElse (some x) a = x
+
+-- all but the last
+abbrev pub front {ℓ} : {A : Type ℓ} → List A → List A
+front [] = []
+front (x ∷ []) = []
+front (x ∷ y ∷ ys) = x ∷ front (y ∷ ys)
+
+-- the last alone
+abbrev pub last {ℓ} : {A : Type ℓ} → List A → List A
+last [] = []
+last (x ∷ []) = x ∷ []
+last (x ∷ y ∷ ys) = last (y ∷ ys)

@@ -1,76 +1,33 @@
 -- Each public call's outcome as one definition of its arguments: its answer and the store afterwards, or a refusal. "Tested in the order 1, 2, 8,
 -- 9, 3, 4, 5, 6, 10, 11, 7. A refusal returns only its number and leaves all memory as found".
 use mathlib.Core.List.{List, [], _∷_, _++_, map}
-use mathlib.Core.Bool.{Bool, true, false, not, _&&_, _||_}
+use mathlib.Core.Bool.{Bool, true, not, _&&_, _||_}
 use mathlib.Core.Option.{Option, none, some}
-use Prim.Native.Nat.{ℕ, zero, suc, _+_}
+use Prim.Native.Nat.{ℕ}
 use lib.Dec.{eqb, ltb, leb}
 use lib.ListN.{length, getElem?, take, drop}
-use Rattle.scope.specs.Base.{pick, all, any, isSome, orElse}
-use Rattle.scope.specs.Limits.{MAX-NODES, MAX-CHILDREN, MAX-LIST}
+use Rattle.scope.specs.Base.{pick, all, any}
 use Rattle.scope.specs.Names.{Name}
-use Rattle.scope.specs.Chart.{Env, chartOk, isTrait}
+use Rattle.scope.specs.Chart.{Env, isTrait}
 use Rattle.scope.specs.Types.{Ty, wordOf}
-use Rattle.scope.specs.Kinds.{Head, headOf, makeable, defined, objectNamesOk, STRUCT, UNION}
-use Rattle.scope.specs.Nodes.{Kind, State, Known, Unknown, InferenceFailed, Node, Root, Child, Store, opened, withNodes, at, find, findMut}
+use Rattle.scope.specs.Kinds.{headOf, makeable, defined, objectNamesOk, STRUCT, UNION}
+use Rattle.scope.specs.Nodes.{Kind, Known, Unknown, InferenceFailed, Node, Root, Child, Store, opened, withNodes, at, find, findMut}
 use Rattle.scope.specs.Answers.{Answer}
 use Rattle.scope.specs.Unify.{Out, unify, unifyTypes, unifyObjects, ImplType, Trait, Error, unifyImplType, unifyFnSig, approxEq, selfInverseOf}
 use Rattle.scope.specs.Make.{Made, MadeAll, new, newVar, newVars, makeError, makeNil}
 use Rattle.scope.specs.Force.{Forced, forceKind, finishInference, finishWhere, findRelated, isNil, Mod, getMod, reset}
-use Rattle.scope.specs.Import.{Work, MovedAll, import, export}
+use Rattle.scope.specs.Import.{MovedAll, import, export}
 use Rattle.scope.specs.Show.{show, showImplType}
-use Rattle.scope.specs.Sound.{Lent, stray, reads, sound, inStore}
-
--- a refusal's number, or the answer and the store afterwards; a refusal leaves the store as found
-pub data Outcome (A : Type 0) : Type 0 where
-  refused : ℕ → Outcome A
-  done : A → Store → Outcome A
-
--- the number of the first test that turns the call back
-abbrev pub firstBroken : List (Bool × ℕ) → Option ℕ
-firstBroken [] = none
-firstBroken (t ∷ ts) = pick (t .0) (some (t .1)) (firstBroken ts)
-
-abbrev pub orRefused : {A : Type 0} → Option ℕ → Outcome A → Outcome A
-orRefused none o = o
-orRefused (some n) o = refused n
-
-abbrev pub judged : {A : Type 0} → List (Bool × ℕ) → Outcome A → Outcome A
-judged ts o = orRefused (firstBroken ts) o
-
--- the store that is lent; a stray one is refused before this is looked at
-abbrev pub storeOf : Lent → Store
-storeOf stray = opened 0 0
-storeOf (reads s) = s
-
--- 2 and 8, which every call on a store can answer
-abbrev pub lentTests : Env → Lent → List (Bool × ℕ)
-lentTests e l = (not (chartOk e), 2) ∷ (not (sound e l), 8) ∷ []
-
--- 3: "a type's node isn't in the store"
-abbrev pub outside : Store → List Ty → Bool × ℕ
-outside s ts = (not (all (inStore (s .nodes)) ts), 3)
-
--- 4: "over 255 listed types or parameters"
-abbrev pub tooMany : List Ty → Bool
-tooMany ts = ltb MAX-LIST (length ts)
-
--- 10 and 11: "nodes made plus those needed exceed the capacity"; "the same for children"
-abbrev pub roomTests : Store → ℕ → ℕ → List (Bool × ℕ)
-roomTests s n c = (ltb (s .nodeRoom) (length (s .nodes) + n), 10) ∷ (ltb (s .childRoom) (s .children + c), 11) ∷ []
-
--- 7: "the answer's buffer is too short"
-abbrev pub shortFor : ℕ → ℕ → Bool × ℕ
-shortFor have need = (ltb have need, 7)
+use Rattle.scope.specs.Sound.{Lent, sound, inStore}
+use Rattle.scope.specs.Refusals.{OUTSIDE, UNMAKEABLE, UNDEFINED, NO-ENTRY, SHORT, SOURCE-UNSOUND, NODES-FULL, CHILDREN-FULL}
+pub use Rattle.scope.specs.Refusals.{Outcome, refused, done, firstBroken, orRefused, judged, storeOf}
+pub use Rattle.scope.specs.Refusals.{openTest, lentTests, outside, tooMany, roomTests, shortFor}
 
 -- what a lent list of numbers holds once types are written at its front
 abbrev pub written : List Ty → List ℕ → List ℕ
 written ts buffer = map wordOf ts ++ drop (length ts) buffer
 
--- opening: "capacity above the limit or buffers too short"; `enough` says that the buffers are long enough for the capacities
-abbrev pub openTest : ℕ → ℕ → Bool → Bool × ℕ
-openTest n c enough = (ltb MAX-NODES n || (ltb MAX-CHILDREN c || not enough), 1)
-
+-- opening: "capacity above the limit or buffers too short"
 unfoldable pub openCall : ℕ → ℕ → Bool → Outcome (Unit {0})
 openCall n c enough = judged (openTest n c enough ∷ []) (done tt (opened n c))
 
@@ -78,6 +35,7 @@ openCall n c enough = judged (openTest n c enough ∷ []) (done tt (opened n c))
 abbrev pub readCall : {A : Type 0} → Env → Lent → List Ty → A → Outcome A
 readCall e l ts a = judged (lentTests e l ++ (outside (storeOf l) ts ∷ [])) (done a (storeOf l))
 
+-- `find`, `find_mut`
 unfoldable pub findCall : Env → Lent → Ty → Outcome Ty
 findCall e l t = readCall e l (t ∷ []) (find (storeOf l .nodes) t)
 
@@ -90,6 +48,7 @@ findMutCall e l t =
 unfoldable pub nodeCall : Env → Lent → Ty → Outcome Node
 nodeCall e l t = readCall e l (t ∷ []) (at (storeOf l .nodes) (t .idx))
 
+-- a node's j-th child, and the j-th of its names
 abbrev pub childAt : Node → ℕ → Option Ty
 childAt (Root (Known i k) z) j = getElem? (k .kids) j
 childAt (Root (Unknown p) z) j = none
@@ -123,19 +82,21 @@ pub record NewKind : Type 0 where
   pub names : List (Option Name)
   pub kids : List Ty
 
+-- the kind that is made of it, and a maker's answer
 abbrev pub kindMade : Env → NewKind → Kind
 kindMade e a = record { head = headOf e (a .code) (a .number) (a .flex) (a .names); kids = a .kids }
 
 abbrev pub madeType : Made → Outcome Ty
 madeType m = done (m .type) (m .store)
 
+-- `new`, and over a definition `new_struct` and `new_union`
 unfoldable pub newCall : Env → Lent → NewKind → Outcome Ty
 newCall e l a =
     let s : Store = storeOf l in
     let k : Kind = kindMade e a in
     judged
     (lentTests e l
-    ++ (outside s (a .kids) ∷ (not (makeable (e .texts) (k .head) (length (a .kids))), 4) ∷ (not (defined e (k .head)), 5) ∷ roomTests s 1 (length (a .kids))))
+    ++ (outside s (a .kids) ∷ (not (makeable (e .texts) (k .head) (length (a .kids))), UNMAKEABLE) ∷ (not (defined e (k .head)), UNDEFINED) ∷ roomTests s 1 (length (a .kids))))
     (madeType (new s k))
 
 -- a Struct or Union over a definition
@@ -148,6 +109,7 @@ newStructCall e l n ts = newCall e l (over STRUCT n ts)
 unfoldable pub newUnionCall : Env → Lent → ℕ → List Ty → Outcome Ty
 newUnionCall e l n ts = newCall e l (over UNION n ts)
 
+-- `new_var`
 unfoldable pub newVarCall : Env → Lent → ℕ → Outcome Ty
 newVarCall e l p = let s : Store = storeOf l in judged (lentTests e l ++ roomTests s 1 0) (madeType (newVar s p))
 
@@ -158,6 +120,7 @@ newVarsCall e l p n have =
     let o : Outcome (List Ty) = (let m : MadeAll = newVars s p n in done (m .types) (m .store)) in
     judged (lentTests e l ++ (roomTests s n 0 ++ (shortFor have n ∷ []))) o
 
+-- `error` and `nil`, which need a node where none is remembered
 abbrev pub nodesFor : Option Ty → ℕ
 nodesFor none = 1
 nodesFor (some t) = 0
@@ -172,6 +135,7 @@ nilCall e l = let s : Store = storeOf l in judged (lentTests e l ++ roomTests s 
 abbrev pub unified : Store → Out → Outcome Answer
 unified s o = done (o .answer) (withNodes s (o .nodes))
 
+-- `unify`, `unify_types`
 unfoldable pub unifyCall : Env → Lent → Ty → Ty → Outcome Answer
 unifyCall e l a b =
     let s : Store = storeOf l in
@@ -181,7 +145,7 @@ unfoldable pub unifyTypesCall : Env → Lent → List Ty → List Ty → Bool �
 unifyTypesCall e l xs ys i =
     let s : Store = storeOf l in
     judged
-    (lentTests e l ++ (outside s (xs ++ ys) ∷ (tooMany xs || tooMany ys, 4) ∷ []))
+    (lentTests e l ++ (outside s (xs ++ ys) ∷ (tooMany xs || tooMany ys, UNMAKEABLE) ∷ []))
     (unified s (unifyTypes (e .texts) (s .nodes) xs ys i))
 
 -- an object's entries as they are lent
@@ -189,17 +153,20 @@ pub record Entries : Type 0 where
   pub names : List (Option Name)
   pub types : List Ty
 
+-- "object names not strictly ascending", or a name too many
 abbrev pub badEntries : Env → Entries → Bool
 badEntries e a =
     tooMany (a .types) || not (eqb (length (a .names)) (length (a .types)) && objectNamesOk (e .texts) (a .names))
 
+-- `unify_objects`
 unfoldable pub unifyObjectsCall : Env → Lent → Entries → Entries → Bool → Outcome Answer
 unifyObjectsCall e l a b i =
     let s : Store = storeOf l in
     judged
-    (lentTests e l ++ (outside s (a .types ++ b .types) ∷ (badEntries e a || badEntries e b, 4) ∷ []))
+    (lentTests e l ++ (outside s (a .types ++ b .types) ∷ (badEntries e a || badEntries e b, UNMAKEABLE) ∷ []))
     (unified s (unifyObjects (e .texts) (s .nodes) (a .names) (a .types) (b .names) (b .types) i))
 
+-- an impl type's types, and whether it is over a trait
 abbrev pub implTypes : ImplType → List Ty
 implTypes (Trait n ts) = ts
 implTypes Error = []
@@ -211,11 +178,12 @@ implDefined e Error = true
 -- the tests of calls on impl types: 3, 4 and 5 over all of them
 abbrev pub implTests : Env → Store → List ImplType → List (Bool × ℕ)
 implTests e s as′ =
-    (not (all (λ a. all (inStore (s .nodes)) (implTypes a)) as′), 3)
-    ∷ (any (λ a. tooMany (implTypes a)) as′, 4)
-    ∷ (not (all (implDefined e) as′), 5)
+    (not (all (λ a. all (inStore (s .nodes)) (implTypes a)) as′), OUTSIDE)
+    ∷ (any (λ a. tooMany (implTypes a)) as′, UNMAKEABLE)
+    ∷ (not (all (implDefined e) as′), UNDEFINED)
     ∷ []
 
+-- `unify_impl_type`, `approx_eq`
 unfoldable pub unifyImplTypeCall : Env → Lent → ImplType → ImplType → Outcome Answer
 unifyImplTypeCall e l a b =
     let s : Store = storeOf l in
@@ -226,19 +194,22 @@ approxEqCall e l a b =
     let s : Store = storeOf l in
     judged (lentTests e l ++ implTests e s (a ∷ b ∷ [])) (done (approxEq a b) s)
 
+-- `unify_fn_sig`: parameters and return of each
 unfoldable pub unifyFnSigCall : Env → Lent → List Ty → Ty → List Ty → Ty → Outcome Answer
 unifyFnSigCall e l xs r ys q =
     let s : Store = storeOf l in
     judged
-    (lentTests e l ++ (outside s (xs ++ (r ∷ ys ++ (q ∷ []))) ∷ (tooMany xs || tooMany ys, 4) ∷ []))
+    (lentTests e l ++ (outside s (xs ++ (r ∷ ys ++ (q ∷ []))) ∷ (tooMany xs || tooMany ys, UNMAKEABLE) ∷ []))
     (unified s (unifyFnSig (e .texts) (s .nodes) xs r ys q))
 
+-- `force_kind`
 unfoldable pub forceKindCall : Env → Lent → Ty → Outcome Forced
 forceKindCall e l t =
     let s : Store = storeOf l in
     let o : Outcome Forced = (let f : Forced × Store = forceKind s t in done (f .0) (f .1)) in
     judged (lentTests e l ++ (outside s (t ∷ []) ∷ [])) o
 
+-- `finish_inference`, `finish_inference_where`
 unfoldable pub finishInferenceCall : Env → Lent → Outcome (Unit {0})
 finishInferenceCall e l =
     let s : Store = storeOf l in
@@ -257,6 +228,7 @@ findRelatedCall e l t ms =
     (lentTests e l ++ (outside s (t ∷ []) ∷ shortFor (length ms) (length (s .nodes)) ∷ []))
     (done (findRelated (s .nodes) t ms) s)
 
+-- `_self_inverse`, `is_nil`, `get_mod`
 unfoldable pub selfInverseCall : Env → Lent → Ty → Bool → Outcome Bool
 selfInverseCall e l t param = readCall e l (t ∷ []) (selfInverseOf (storeOf l .nodes) t param)
 
@@ -266,6 +238,7 @@ isNilCall e l t = readCall e l (t ∷ []) (isNil (storeOf l .nodes) t)
 unfoldable pub getModCall : Env → Lent → Ty → Outcome Mod
 getModCall e l t = readCall e l (t ∷ []) (getMod e (storeOf l .nodes) t)
 
+-- `reset`
 unfoldable pub resetCall : Env → Lent → Outcome (Unit {0})
 resetCall e l = judged (lentTests e l) (done tt (reset (storeOf l)))
 
@@ -274,6 +247,7 @@ abbrev pub importList : Option (List Ty) → List Ty
 importList none = []
 importList (some ps) = ps
 
+-- `import`; the answer's list has room for `have` types
 unfoldable pub importCall : Env → Lent → Lent → List Ty → Option (List Ty) → ℕ → Outcome (List Ty)
 importCall e l src ts ps have =
     let s : Store = storeOf l in
@@ -281,12 +255,12 @@ importCall e l src ts ps have =
     let m : MovedAll = import (o .nodes) ps s ts in
     judged
     (lentTests e l
-    ++ ((not (sound e src), 9)
-    ∷ (not (all (inStore (o .nodes)) ts && all (inStore (s .nodes)) (importList ps)), 3)
-    ∷ (tooMany ts || tooMany (importList ps), 4)
-    ∷ (m .work .missing, 6)
-    ∷ (ltb (s .nodeRoom) (length (m .work .dest .nodes)), 10)
-    ∷ (ltb (s .childRoom) (m .work .dest .children), 11)
+    ++ ((not (sound e src), SOURCE-UNSOUND)
+    ∷ (not (all (inStore (o .nodes)) ts && all (inStore (s .nodes)) (importList ps)), OUTSIDE)
+    ∷ (tooMany ts || tooMany (importList ps), UNMAKEABLE)
+    ∷ (m .work .missing, NO-ENTRY)
+    ∷ (ltb (s .nodeRoom) (length (m .work .dest .nodes)), NODES-FULL)
+    ∷ (ltb (s .childRoom) (m .work .dest .children), CHILDREN-FULL)
     ∷ shortFor have (length ts)
     ∷ []))
     (done (m .types) (m .work .dest))
@@ -305,9 +279,9 @@ exportCall e l n c enough ts have =
     (openTest n c enough
     ∷ (lentTests e l
     ++ (outside s ts
-    ∷ (tooMany ts, 4)
-    ∷ (ltb n (length (m .work .dest .nodes)), 10)
-    ∷ (ltb c (m .work .dest .children), 11)
+    ∷ (tooMany ts, UNMAKEABLE)
+    ∷ (ltb n (length (m .work .dest .nodes)), NODES-FULL)
+    ∷ (ltb c (m .work .dest .children), CHILDREN-FULL)
     ∷ shortFor have (length ts)
     ∷ [])))
     (done (record { types = m .types; fresh = m .work .dest }) s)
@@ -327,12 +301,14 @@ abbrev pub printedText : Store → List ℕ → List ℕ → Printed
 printedText s bs buffer =
     pick (leb (length bs) (length buffer))
     (record { answer = done (length bs) s; buffer = bs ++ drop (length bs) buffer; part = bs })
-    (record { answer = refused 7; buffer = take (length buffer) bs; part = take (length buffer) bs })
+    (record { answer = refused SHORT; buffer = take (length buffer) bs; part = take (length buffer) bs })
 
+-- a printer that is turned back before it prints
 abbrev pub orUnprinted : Option ℕ → List ℕ → Printed → Printed
 orUnprinted none buffer p = p
 orUnprinted (some n) buffer p = unprinted n buffer
 
+-- `show`, `show_impl_type`
 unfoldable pub showCall : Env → Lent → Ty → List ℕ → Printed
 showCall e l t buffer =
     let s : Store = storeOf l in

@@ -1,12 +1,11 @@
 -- "From a type to its root": the chart, what stands beside it, and refusal 2.
-use mathlib.Core.List.{List, [], _∷_}
-use mathlib.Core.Bool.{Bool, true, false, _&&_, _||_}
-use mathlib.Core.Option.{Option, none, some}
-use Prim.Native.Nat.{ℕ, zero, suc}
+use mathlib.Core.List.{List}
+use mathlib.Core.Bool.{Bool, _&&_, _||_}
+use Prim.Native.Nat.{ℕ}
 use lib.Dec.{eqb, leb}
-use lib.ListN.{length, getD, getElem?}
+use lib.ListN.{length, getD}
 use Rattle.scope.specs.Base.{pick, all}
-use Rattle.scope.specs.Limits.{MAX-NAME, MAX-RECORDS, NONE}
+use Rattle.scope.specs.Limits.{MAX-NAME, MAX-RECORDS, MAX-SORT, SIGILS, NONE}
 use Rattle.scope.specs.Names.{Texts, Name, name, inText, nameOk, textsOk}
 
 -- "sort (opaque, struct, enum, union, concrete fn, const, trait, trait fn: 0 to 7)"
@@ -38,7 +37,7 @@ TRAIT-FN-SORT = 7
 abbrev pub NO-SORT : ℕ
 NO-SORT = 8
 
--- "one for each definition: sort, name, path, def number, self-dual flag 0 or 1, and for a trait fn its trait"
+-- "one for each definition: sort .., name, path, def number, self-dual flag 0 or 1, and for a trait fn its trait"
 pub record Record : Type 0 where
   pub sort : ℕ
   pub name : Name
@@ -69,6 +68,7 @@ sortAt e n = recordAt e n .sort
 abbrev pub dualAt : Env → ℕ → Bool
 dualAt e n = eqb (recordAt e n .dual) 1
 
+-- the sigil of a `Flex`
 abbrev pub sigilAt : Env → ℕ → Name
 sigilAt e n = getD (e .sigils) n (name 0 0 0)
 
@@ -82,12 +82,16 @@ flagOk r = pick (eqb (r .sort) STRUCT-SORT || eqb (r .sort) UNION-SORT) (leb (r 
 abbrev pub traitOk : Env → Record → Bool
 traitOk e r = pick (eqb (r .sort) TRAIT-FN-SORT) (isTrait e (r .trait)) (eqb (r .trait) 0)
 
+-- a record: sort, name, path, flag, trait
 unfoldable pub recordOk : Env → Record → Bool
-recordOk e r = leb (r .sort) 7 && (nameOk (e .texts) (r .name) && (nameOk (e .texts) (r .path) && (flagOk r && traitOk e r)))
+recordOk e r = leb (r .sort) MAX-SORT && (nameOk (e .texts) (r .name) && (nameOk (e .texts) (r .path) && (flagOk r && traitOk e r)))
 
 -- "the four texts of `sigil` for `Flex`, which alone may be empty"
 abbrev pub sigilOk : Texts → Name → Bool
 sigilOk x n = inText x n && leb (n .len) MAX-NAME
+
+abbrev pub sigilsOk : Env → Bool
+sigilsOk e = eqb (length (e .sigils)) SIGILS && all (sigilOk (e .texts)) (e .sigils)
 
 -- "4,294,967,295: none; any other must be a trait's record"
 abbrev pub fnTraitOk : Env → Bool
@@ -98,5 +102,4 @@ unfoldable pub chartOk : Env → Bool
 chartOk e =
     leb (length (e .records)) MAX-RECORDS
     && (textsOk (e .texts)
-    && (all (recordOk e) (e .records)
-    && (fnTraitOk e && all (sigilOk (e .texts)) (e .sigils))))
+    && (all (recordOk e) (e .records) && (fnTraitOk e && sigilsOk e)))

@@ -1,10 +1,11 @@
 -- "Demand 3's lists": the data type of calls, the run of a list of calls from a store just opened, and the two halves as types, to be inhabited.
+-- Demand 3's own sentences stand without quotation marks; what these mark is 01's.
 use mathlib.Core.Path.{_≡_}
 use mathlib.Core.List.{List, [], _∷_, _++_, List·Memᴰ}
 use mathlib.Core.Bool.{Bool, true, false}
 use mathlib.Core.Option.{Option, none, some}
 use mathlib.Core.Logic.{_↔_}
-use Prim.Native.Nat.{ℕ, zero, suc, _+_, _≤_, _<_}
+use Prim.Native.Nat.{ℕ, suc, _+_, _≤_, _<_}
 use lib.Dec.{eqb}
 use lib.ListN.{length, replicate}
 use Rattle.scope.specs.Base.{any}
@@ -19,8 +20,11 @@ use Rattle.scope.specs.Unify.{ImplType}
 use Rattle.scope.specs.Make.{bare}
 use Rattle.scope.specs.Import.{copies}
 use Rattle.scope.specs.Sound.{Lent, reads, rooted}
-use Rattle.scope.specs.Calls.{Outcome, refused, done, storeOf, kindMade, NewKind, over, Entries, findCall, findMutCall, nodeCall, childCall, nameCall, figuresCall, newCall, newStructCall, newUnionCall, newVarCall, newVarsCall, errorCall, nilCall, unifyCall, unifyTypesCall, unifyObjectsCall, unifyImplTypeCall, approxEqCall, unifyFnSigCall, forceKindCall, finishInferenceCall, finishWhereCall, findRelatedCall, selfInverseCall, isNilCall, getModCall, resetCall, importCall, exportCall, Printed, showCall, showImplTypeCall}
-use Rattle.scope.specs.Trees.{Tree, invert, Val, Proper, StateFits, NodeFits, Fits, PairFits}
+use Rattle.scope.specs.Calls.{Outcome, refused, done, storeOf, kindMade, NewKind, over, Entries, findCall, findMutCall, nodeCall, childCall, nameCall, figuresCall, newCall, newStructCall}
+use Rattle.scope.specs.Calls.{newUnionCall, newVarCall, newVarsCall, errorCall, nilCall, unifyCall, unifyTypesCall, unifyObjectsCall, unifyImplTypeCall, approxEqCall, unifyFnSigCall}
+use Rattle.scope.specs.Calls.{forceKindCall, finishInferenceCall, finishWhereCall, findRelatedCall, selfInverseCall, isNilCall, getModCall, resetCall, importCall, exportCall, showCall}
+use Rattle.scope.specs.Calls.{showImplTypeCall}
+use Rattle.scope.specs.Trees.{invert, Val, Proper, StateFits, NodeFits, Fits, PairFits}
 
 -- the makers; `newVars` has the room of its answer's list last
 pub data Maker : Type 0 where
@@ -42,7 +46,7 @@ pub data Read : Type 0 where
   name : Ty → ℕ → Read
   figures : Read
 
--- the calls "outside the theorem's first half"
+-- the calls "Outside the theorem's first half"
 pub data Later : Type 0 where
   unifyTypes : List Ty → List Ty → Bool → Later
   unifyObjects : Entries → Entries → Bool → Later
@@ -73,7 +77,7 @@ abbrev pub given : {A : Type 0} → Outcome A → Option A
 given (refused n) = none
 given (done a s) = some a
 
--- a store and the one that a call leaves, and whether the call was made: "refused calls" count as not made
+-- a store and the one that a call leaves, and whether the call was made: a refused call was not
 pub record Step : Type 0 where
   pub taken : Bool
   pub store : Store
@@ -224,7 +228,7 @@ unfoldable pub NoDefault : Env → Store → List Call → Type 0
 NoDefault e s [] = Unit {0}
 NoDefault e s (c ∷ cs) = MakesNoDefault e s c × NoDefault e (next e s c) cs
 
--- "give a self-inverse tree to some node that had no kind just before": "A node has no kind if its root isn't Known"
+-- trees give a self-inverse tree to some node that had no kind just before: "A node has no kind if its root isn't Known"
 pub record SelfInverseNode (e : Env) (v : Val) (ns : List Node) : Type 0 where
   pub node : ℕ
   pub made : node < length ns
@@ -233,10 +237,10 @@ pub record SelfInverseNode (e : Env) (v : Val) (ns : List Node) : Type 0 where
 
 -- the first half, of one list
 pub record FirstHalf (e : Env) (s : Store) (cs : List Call) : Type 0 where
-  -- "if every unify answered Success, finite trees fit the final store exactly when they fit every node as made and every pair unified"
+  -- if every unify answered Success, finite trees fit the final store exactly when they fit every node as made and every pair unified
   pub success : EveryAnswer (λ r. r ≡ Success) e s cs → (v : Val) → Proper e v → Fits e v (after e s cs .nodes) ↔ Asked e v s cs
-  -- "a first Failure (no Default made or imported before) means that all such trees that also fit this pair give a self-inverse tree to some
-  -- node that had no kind just before"
+  -- a first Failure (no Default made or imported before) means that all such trees that also fit this pair give a self-inverse tree to some
+  -- node that had no kind just before
   pub failure : (before later : List Call) (a b : Ty)
       → cs ≡ before ++ (unify a b ∷ later)
       → EveryAnswer (λ r. r ≡ Failure → ⊥) e s before
@@ -281,16 +285,16 @@ pub data Contains (ns : List Node) : ℕ → ℕ → Type 0 where
 
 -- the second half, of one list
 pub record SecondHalf (e : Env) (s : Store) (cs : List Call) : Type 0 where
-  -- "a pair that once got Success gets it again": "if `unify` of them, as the next call, answers so"
+  -- a pair that once got Success gets it again: "if `unify` of them, as the next call, answers so"
   pub again : (before later : List Call) (a b : Ty)
       → cs ≡ before ++ (unify a b ∷ later)
       → given (unifyCall e (reads (after e s before)) a b) ≡ some Success
       → given (unifyCall e (reads (after e s cs)) a b) ≡ some Success
-  -- "root sizes add up to the nodes made"
+  -- root sizes add up to the nodes made
   pub added : sizes (after e s cs .nodes) ≡ nodesMade e s cs
-  -- "no type contains itself"
+  -- no type contains itself
   pub apart : (a : ℕ) → Contains (after e s cs .nodes) a a → ⊥
-  -- "no node is over twelve parent steps from its root"
+  -- no node is over twelve parent steps from its root
   pub twelve : (i : ℕ) → i < length (after e s cs .nodes) → rooted 12 (after e s cs .nodes) i ≡ true
 
 -- "Each list starts from a store just opened, with no node"; "Each half is a single claim about the whole list"

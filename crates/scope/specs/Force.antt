@@ -1,16 +1,16 @@
--- "Forcing", and the calls "outside the theorem's first half" that neither unify nor print.
+-- "Forcing and importing": forcing; and the calls "Outside the theorem's first half" that neither unify nor print.
 use mathlib.Core.List.{List, [], _∷_, map}
 use mathlib.Core.Bool.{Bool, true, false, not, _&&_, _||_}
 use mathlib.Core.Option.{Option, none, some}
-use Prim.Native.Nat.{ℕ, zero, suc, _+_}
+use Prim.Native.Nat.{ℕ, zero, suc}
 use lib.Dec.{eqb, ltb}
 use lib.ListN.{length, getD, set}
 use Rattle.scope.specs.Base.{pick, xor}
 use Rattle.scope.specs.Limits.{MAX-REPORTS}
 use Rattle.scope.specs.Types.{Ty}
 use Rattle.scope.specs.Chart.{Env, recordAt}
-use Rattle.scope.specs.Kinds.{Head, TUPLE, OPAQUE, STRUCT, ENUM, UNION, REF, DEFAULT, ERROR}
-use Rattle.scope.specs.Nodes.{Kind, State, Known, Unknown, InferenceFailed, Node, Root, Child, Store, opened, withNodes, at, sizeOf, stateOf, stateAt, find, findMut, kidsOf}
+use Rattle.scope.specs.Kinds.{TUPLE, OPAQUE, STRUCT, ENUM, UNION, REF, DEFAULT, ERROR}
+use Rattle.scope.specs.Nodes.{Kind, State, Known, Unknown, InferenceFailed, Node, Root, Child, Store, opened, withNodes, at, sizeOf, stateAt, find, findMut, kidsOf}
 use Rattle.scope.specs.Make.{bare}
 
 -- force_kind's answer: inversion and kind, and the span where "its span is in the answer"
@@ -127,10 +127,12 @@ modOfState e g (Known i k) = elim (eqb (k .head .code) REF) [ true ↦ modOfRef 
 modOfState e g (Unknown p) = none-mod
 modOfState e g InferenceFailed = none-mod
 
+-- at most f Refs deep
 unfoldable pub getModF : Env → ℕ → List Node → Ty → Mod
 getModF e zero ns t = none-mod
 getModF e (suc f) ns t = modOfState e (getModF e f ns) (stateAt ns t)
 
+-- `get_mod`
 unfoldable pub getMod : Env → List Node → Ty → Mod
 getMod e ns t = getModF e (length ns) ns t
 

@@ -1,16 +1,16 @@
--- "Importing": "a list of at most 255 types, one shared mapping".
-use mathlib.Core.List.{List, [], _∷_, _++_}
-use mathlib.Core.Bool.{Bool, true, false, not, _&&_, _||_}
+-- "Forcing and importing": `import` and `export`, "a list of at most 255 types, one shared mapping".
+use mathlib.Core.List.{List, [], _∷_}
+use mathlib.Core.Bool.{Bool, true, false, _||_}
 use mathlib.Core.Option.{Option, none, some}
-use Prim.Native.Nat.{ℕ, zero, suc, _+_}
+use Prim.Native.Nat.{ℕ, zero, suc}
 use lib.Dec.{eqb}
 use lib.ListN.{length, set, getElem?}
-use Rattle.scope.specs.Base.{pick, xor, any, count, from}
+use Rattle.scope.specs.Base.{pick, any, count, from}
 use Rattle.scope.specs.Limits.{NONE}
 use Rattle.scope.specs.Types.{Ty, ty, flip}
-use Rattle.scope.specs.Kinds.{Head, PARAM}
-use Rattle.scope.specs.Nodes.{Kind, State, Known, Unknown, InferenceFailed, Node, Root, Child, Store, opened, at, isRoot, stateOf, find, kidsOf}
-use Rattle.scope.specs.Make.{Made, pushed, nextType}
+use Rattle.scope.specs.Kinds.{PARAM}
+use Rattle.scope.specs.Nodes.{Kind, State, Known, Unknown, InferenceFailed, Node, Root, Store, withNodes, remembering, at, stateOf, find, kidsOf}
+use Rattle.scope.specs.Make.{pushed}
 
 -- the work so far: the destination, the mapping from source roots to nodes of the destination, and whether a Param had no entry
 pub record Work : Type 0 where
@@ -18,6 +18,7 @@ pub record Work : Type 0 where
   pub mapping : List (ℕ × ℕ)
   pub missing : Bool
 
+-- the work so far with the type that a source's type became, and with the types of a list
 pub record Moved : Type 0 where
   pub work : Work
   pub type : Ty
@@ -64,21 +65,13 @@ begun w r st = record {
   missing = w .missing;
 }
 
+-- the work with another destination
+abbrev pub withDest : Work → Store → Work
+withDest w d = record { dest = d; mapping = w .mapping; missing = w .missing }
+
 -- "then takes its kind"
 abbrev pub ended : Work → ℕ → State → Work
-ended w n st = record {
-  dest = record {
-    nodes = set (w .dest .nodes) n (Root st 1);
-    children = w .dest .children;
-    nodeRoom = w .dest .nodeRoom;
-    childRoom = w .dest .childRoom;
-    error = w .dest .error;
-    nil = w .dest .nil;
-    reports = w .dest .reports;
-  };
-  mapping = w .mapping;
-  missing = w .missing;
-}
+ended w n st = withDest w (withNodes (w .dest) (set (w .dest .nodes) n (Root st 1)))
 
 -- types in order, each by g
 unfoldable pub many : (Work → Ty → Moved) → Work → List Ty → MovedAll
@@ -106,6 +99,7 @@ fresh g w r st keep = copied g w r st
 fresh g w r st missing-entry = record { work = lacking w; type = r }
 fresh g w r st (entry t) = record { work = w; type = flip (r .inv) t }
 
+-- a root seen before is its copy's node
 abbrev pub place : (Work → Ty → Moved) → Work → Ty → State → Replaced → Option ℕ → Moved
 place g w r st u (some n) = record { work = w; type = ty (r .inv) n }
 place g w r st u none = fresh g w r st u
@@ -118,6 +112,7 @@ transfer (suc f) ns ps w t =
     let st : State = stateOf (at ns (r .idx)) in
     place (transfer f ns ps) w r st (replaced ps st) (copyOf (w .mapping) (r .idx))
 
+-- no root is copied yet
 abbrev pub start : Store → Work
 start s = record { dest = s; mapping = []; missing = false }
 
@@ -130,6 +125,7 @@ abbrev pub carried : (Work → Ty → Moved) → Work → Option Ty → MovedAll
 carried g w none = record { work = w; types = [] }
 carried g w (some t) = many g w (t ∷ [])
 
+-- the type that a remembered one became
 abbrev pub firstOf : List Ty → Option Ty
 firstOf [] = none
 firstOf (t ∷ ts) = some t
@@ -141,22 +137,7 @@ export s d ts =
     let a : MovedAll = carried g (start d) (s .error) in
     let b : MovedAll = carried g (a .work) (s .nil) in
     let c : MovedAll = many g (b .work) ts in
-    record {
-      work = record {
-        dest = record {
-          nodes = c .work .dest .nodes;
-          children = c .work .dest .children;
-          nodeRoom = c .work .dest .nodeRoom;
-          childRoom = c .work .dest .childRoom;
-          error = firstOf (a .types);
-          nil = firstOf (b .types);
-          reports = c .work .dest .reports;
-        };
-        mapping = c .work .mapping;
-        missing = c .work .missing;
-      };
-      types = c .types;
-    }
+    record { work = withDest (c .work) (remembering (c .work .dest) (firstOf (a .types)) (firstOf (b .types))); types = c .types }
 
 -- is the source's root n copied? It is if a listed type leads to it, or a child of one that is copied; a replaced Param is not
 abbrev pub reachesState : (List Ty → Bool) → Option (List Ty) → Bool → State → Replaced → Bool

@@ -1,12 +1,12 @@
 -- The fifteen kinds: "one fixed table of rows, each giving children and self-duality", and when a kind can't be made (refusals 4 and 5).
 use mathlib.Core.List.{List, [], _∷_, map}
 use mathlib.Core.Bool.{Bool, true, false, not, _&&_, _||_}
-use mathlib.Core.Option.{Option, none, some}
-use Prim.Native.Nat.{ℕ, zero, suc}
+use mathlib.Core.Option.{Option}
+use Prim.Native.Nat.{ℕ, suc}
 use lib.Dec.{eqb, ltb, leb}
 use lib.ListN.{length, getD}
 use Rattle.scope.specs.Base.{pick, all}
-use Rattle.scope.specs.Limits.{MAX-WIDTH}
+use Rattle.scope.specs.Limits.{MAX-WIDTH, MAX-FLEX, KINDS}
 use Rattle.scope.specs.Names.{Texts, Name, bytesOr, named, namedOrNone, ascending}
 use Rattle.scope.specs.Chart.{OPAQUE-SORT, STRUCT-SORT, ENUM-SORT, UNION-SORT, CONCRETE-FN-SORT, CONST-SORT, TRAIT-FN-SORT, NO-SORT, Env, sortAt, dualAt}
 
@@ -191,7 +191,7 @@ namesOk x d ns n =
 
 -- "`Flex` 0 to 3"; a kind without one has 0
 abbrev pub flexOk : ℕ → ℕ → Bool
-flexOk c x = pick (eqb c CLOSURE) (leb x 3) (eqb x 0)
+flexOk c x = pick (eqb c CLOSURE) (leb x MAX-FLEX) (eqb x 0)
 
 -- a kind that has no number has 0
 abbrev pub numberOk : ℕ → ℕ → Bool
@@ -201,7 +201,7 @@ numberOk d n = pick (eqb d NO-NUMBER) (eqb n 0) true
 unfoldable pub makeable : Texts → Head → ℕ → Bool
 makeable x h n =
     let r : Row = rowOf (h .code) in
-    ltb (h .code) 15
+    ltb (h .code) KINDS
     && (leb n MAX-WIDTH
     && (shapeFits (r .shape) n
     && (namesOk x (r .names) (h .names) n

@@ -11,8 +11,10 @@ pub mod Unify
 pub mod Make
 pub mod Force
 pub mod Import
+pub mod Needs
 pub mod Sound
 pub mod Show
+pub mod Refusals
 pub mod Calls
 pub mod Trees
 pub mod Demand

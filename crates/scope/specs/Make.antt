@@ -1,12 +1,12 @@
 -- "Making and unifying": the makers. "Size is 1".
 use mathlib.Core.List.{List, [], _∷_, _++_}
-use mathlib.Core.Bool.{Bool, true, false}
+use mathlib.Core.Bool.{false}
 use mathlib.Core.Option.{Option, none, some}
 use Prim.Native.Nat.{ℕ, zero, suc, _+_}
 use lib.ListN.{length}
 use Rattle.scope.specs.Types.{Ty, ty}
-use Rattle.scope.specs.Kinds.{Head, TUPLE, ERROR}
-use Rattle.scope.specs.Nodes.{Kind, State, Known, Unknown, Node, Root, Store}
+use Rattle.scope.specs.Kinds.{TUPLE, ERROR}
+use Rattle.scope.specs.Nodes.{Kind, State, Known, Unknown, Node, Root, Store, withMade, remembering}
 
 -- a type, and the store afterwards
 pub record Made : Type 0 where
@@ -23,15 +23,7 @@ nextType s = ty false (length (s .nodes))
 
 -- one node, and c children more
 abbrev pub pushed : Store → State → ℕ → Store
-pushed s st c = record {
-  nodes = push (s .nodes) st;
-  children = s .children + c;
-  nodeRoom = s .nodeRoom;
-  childRoom = s .childRoom;
-  error = s .error;
-  nil = s .nil;
-  reports = s .reports;
-}
+pushed s st c = withMade s (push (s .nodes) st) (s .children + c)
 
 -- `new`
 unfoldable pub new : Store → Kind → Made
@@ -58,39 +50,19 @@ newVars s p (suc n) =
 abbrev pub bare : ℕ → Kind
 bare c = record { head = record { code = c; number = 0; dual = false; flex = 0; names = [] }; kids = [] }
 
+-- the type made is remembered as the error type, or as nil
 abbrev pub rememberError : Made → Made
-rememberError m = record {
-  type = m .type;
-  store = record {
-    nodes = m .store .nodes;
-    children = m .store .children;
-    nodeRoom = m .store .nodeRoom;
-    childRoom = m .store .childRoom;
-    error = some (m .type);
-    nil = m .store .nil;
-    reports = m .store .reports;
-  };
-}
+rememberError m = record { type = m .type; store = remembering (m .store) (some (m .type)) (m .store .nil) }
 
 abbrev pub rememberNil : Made → Made
-rememberNil m = record {
-  type = m .type;
-  store = record {
-    nodes = m .store .nodes;
-    children = m .store .children;
-    nodeRoom = m .store .nodeRoom;
-    childRoom = m .store .childRoom;
-    error = m .store .error;
-    nil = some (m .type);
-    reports = m .store .reports;
-  };
-}
+rememberNil m = record { type = m .type; store = remembering (m .store) (m .store .error) (some (m .type)) }
 
 -- "`error` and `nil`, which make one node each and return it until `reset`"
 abbrev pub again : Store → Option Ty → Made → Made
 again s none m = m
 again s (some t) m = record { type = t; store = s }
 
+-- `error`, `nil`
 unfoldable pub makeError : Store → Made
 makeError s = again s (s .error) (rememberError (new s (bare ERROR)))
 

@@ -1,5 +1,5 @@
 -- "From a type to its root": names and texts. "A name is a part of the rule text or of the chart text, compared as bytes".
-use mathlib.Core.List.{List, [], _∷_, map}
+use mathlib.Core.List.{List, [], _∷_}
 use mathlib.Core.Bool.{Bool, true, false, _&&_, _||_}
 use mathlib.Core.Option.{Option, none, some}
 use Prim.Native.Nat.{ℕ, zero, suc, _+_}

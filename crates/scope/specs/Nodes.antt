@@ -1,12 +1,12 @@
 -- "From a type to its root": nodes, states, the store, `find` and `find_mut`. Where children lie is no part of a store: a Known state holds them.
-use mathlib.Core.List.{List, [], _∷_, _++_}
+use mathlib.Core.List.{List, []}
 use mathlib.Core.Bool.{Bool, true, false}
 use mathlib.Core.Option.{Option, none, some}
-use Prim.Native.Nat.{ℕ, zero, suc, _+_}
+use Prim.Native.Nat.{ℕ, zero, suc}
 use lib.ListN.{length, getD, set}
 use Rattle.scope.specs.Base.{xor}
 use Rattle.scope.specs.Limits.{NONE}
-use Rattle.scope.specs.Types.{Ty, ty, flip}
+use Rattle.scope.specs.Types.{Ty, flip}
 use Rattle.scope.specs.Kinds.{Head}
 
 -- a kind: its head, and its children in order (a Closure's parameters, then its return)
@@ -36,10 +36,15 @@ pub record Store : Type 0 where
   pub nil : Option Ty
   pub reports : ℕ
 
-abbrev pub withNodes : Store → List Node → Store
-withNodes s ns = record {
+-- a store just opened
+abbrev pub opened : ℕ → ℕ → Store
+opened n c = record { nodes = []; children = 0; nodeRoom = n; childRoom = c; error = none; nil = none; reports = 0 }
+
+-- a store with other nodes and another count of children
+abbrev pub withMade : Store → List Node → ℕ → Store
+withMade s ns c = record {
   nodes = ns;
-  children = s .children;
+  children = c;
   nodeRoom = s .nodeRoom;
   childRoom = s .childRoom;
   error = s .error;
@@ -47,9 +52,20 @@ withNodes s ns = record {
   reports = s .reports;
 }
 
--- a store just opened
-abbrev pub opened : ℕ → ℕ → Store
-opened n c = record { nodes = []; children = 0; nodeRoom = n; childRoom = c; error = none; nil = none; reports = 0 }
+abbrev pub withNodes : Store → List Node → Store
+withNodes s ns = withMade s ns (s .children)
+
+-- a store that remembers other types
+abbrev pub remembering : Store → Option Ty → Option Ty → Store
+remembering s e n = record {
+  nodes = s .nodes;
+  children = s .children;
+  nodeRoom = s .nodeRoom;
+  childRoom = s .childRoom;
+  error = e;
+  nil = n;
+  reports = s .reports;
+}
 
 -- the node at a place; past the last one a root of no size
 abbrev pub at : List Node → ℕ → Node
@@ -68,28 +84,23 @@ abbrev pub isRoot : Node → Bool
 isRoot (Root st z) = true
 isRoot (Child t) = false
 
--- one step of `find`: on to the parent, "combining inversions by exclusive or"; k goes on from there
-abbrev pub hop : Node → (Ty → Ty) → Ty → Ty
-hop (Root st z) k t = t
-hop (Child u) k t = k (flip (t .inv) u)
-
--- at most f parent steps
+-- at most f parent steps, "combining inversions by exclusive or"
 unfoldable pub climb : ℕ → List Node → Ty → Ty
 climb zero ns t = t
-climb (suc f) ns t = hop (at ns (t .idx)) (climb f ns) t
+climb (suc f) ns t = elim (at ns (t .idx)) [ Root st z ↦ t | Child u ↦ climb f ns (flip (t .inv) u) ]
 
 -- "`find` follows parents"
 unfoldable pub find : List Node → Ty → Ty
 find ns t = climb (length ns) ns t
 
--- the node t .idx is pointed at r, the root of the type t; k goes on at its parent
-abbrev pub point : Node → (List Node → Ty → List Node) → List Node → Ty → Ty → List Node
-point (Root st z) k ns r t = ns
-point (Child u) k ns r t = k (set ns (t .idx) (Child (flip (t .inv) r))) (flip (t .inv) u)
-
+-- at most f nodes on the path of the type t are pointed at r, the root of t
 unfoldable pub compress : ℕ → List Node → Ty → Ty → List Node
 compress zero ns r t = ns
-compress (suc f) ns r t = point (at ns (t .idx)) (λ ns′ t′. compress f ns′ r t′) ns r t
+compress (suc f) ns r t =
+    elim (at ns (t .idx)) [
+      | Root st z ↦ ns
+      | Child u ↦ compress f (set ns (t .idx) (Child (flip (t .inv) r))) r (flip (t .inv) u)
+    ]
 
 -- "`find_mut` also points every node on the path straight at the root, keeping each node's meaning": the nodes afterwards; its answer is `find`'s
 unfoldable pub findMut : List Node → Ty → List Node
@@ -99,6 +110,7 @@ findMut ns t = compress (length ns) ns (find ns t) t
 abbrev pub stateAt : List Node → Ty → State
 stateAt ns t = stateOf (at ns (find ns t .idx))
 
+-- "A node has no kind if its root isn't Known"
 abbrev pub isKnown : State → Bool
 isKnown (Known i k) = true
 isKnown (Unknown p) = false

@@ -10,9 +10,14 @@ use Rattle.scope.specs.Nodes.{Node, Store}
 use Rattle.scope.specs.Answers.{Answer}
 use Rattle.scope.specs.Force.{Forced, Mod}
 use Rattle.scope.specs.Sound.{reads}
-use Rattle.scope.specs.Calls.{Outcome, refused, done, Exported, Printed, findCall, findMutCall, nodeCall, childCall, nameCall, figuresCall, newCall, newStructCall, newUnionCall, newVarCall, newVarsCall, errorCall, nilCall, unifyCall, unifyTypesCall, unifyObjectsCall, unifyImplTypeCall, approxEqCall, unifyFnSigCall, forceKindCall, finishInferenceCall, finishWhereCall, findRelatedCall, selfInverseCall, isNilCall, getModCall, resetCall, importCall, exportCall, showCall, showImplTypeCall}
-use Rattle.scope.specs.Demand.{Maker, new, newVar, newStruct, newUnion, newVars, error, nil, Read, find, findMut, export, node, child, name, figures, Later, unifyTypes, unifyObjects, unifyImplType, unifyFnSig, finishInference, finishWhere, findRelated, selfInverse, isNil, getMod, approxEq, show, showImplType, Call, make, import, forceKind, unify, read, later, reset, next}
+use Rattle.scope.specs.Calls.{Outcome, refused, done, Exported, Printed, findCall, findMutCall, nodeCall, childCall, nameCall, figuresCall, newCall, newStructCall, newUnionCall}
+use Rattle.scope.specs.Calls.{newVarCall, newVarsCall, errorCall, nilCall, unifyCall, unifyTypesCall, unifyObjectsCall, unifyImplTypeCall, approxEqCall, unifyFnSigCall, forceKindCall}
+use Rattle.scope.specs.Calls.{finishInferenceCall, finishWhereCall, findRelatedCall, selfInverseCall, isNilCall, getModCall, resetCall, importCall, exportCall, showCall, showImplTypeCall}
+use Rattle.scope.specs.Demand.{Maker, new, newVar, newStruct, newUnion, newVars, error, nil, Read, find, findMut, export, node, child, name, figures, Later, unifyTypes, unifyObjects}
+use Rattle.scope.specs.Demand.{unifyImplType, unifyFnSig, finishInference, finishWhere, findRelated, selfInverse, isNil, getMod, approxEq, show, showImplType, Call, make, import}
+use Rattle.scope.specs.Demand.{forceKind, unify, read, later, reset, next}
 
+-- an answer of any call
 pub data Reply : Type 0 where
   number : ℕ → Reply
   type : Ty → Reply
@@ -38,6 +43,7 @@ reply f (done a s) = f a
 abbrev pub printed : Printed → Reply
 printed p = reply (λ n. text (p .part)) (p .answer)
 
+-- each call's answer
 abbrev pub replyMaker : Env → Store → Maker → Reply
 replyMaker e s (new a) = reply type (newCall e (reads s) a)
 replyMaker e s (newVar p) = reply type (newVarCall e (reads s) p)

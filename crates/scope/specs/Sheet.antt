@@ -1,14 +1,14 @@
 -- Program `sheet`: from input bytes to output bytes.
 use mathlib.Core.List.{List, [], _∷_, _++_}
-use mathlib.Core.Bool.{Bool, true, false, not, _&&_, _||_}
+use mathlib.Core.Bool.{Bool, true, false, not, _&&_}
 use mathlib.Core.Option.{Option, none, some}
-use Prim.Native.Nat.{ℕ, zero, suc, _+_, _-_, _*_}
-use lib.Dec.{eqb, ltb, leb}
+use Prim.Native.Nat.{ℕ, _+_, _-_, _*_}
+use lib.Dec.{eqb, leb}
 use lib.ListN.{length, replicate}
 use Rattle.scope.specs.Base.{pick, all}
 use Rattle.scope.specs.Text.{text}
-use Rattle.scope.specs.Limits.{NONE}
-use Rattle.scope.specs.Names.{Name, name, eqBytes}
+use Rattle.scope.specs.Limits.{SIGILS, NONE, MAX-LINE, MAX-DIGITS, SHEET-NODES, SHEET-CHILDREN, SHEET-TEXT}
+use Rattle.scope.specs.Names.{name, eqBytes}
 use Rattle.scope.specs.Chart.{Env}
 use Rattle.scope.specs.Types.{Ty, ty}
 use Rattle.scope.specs.Kinds.{TUPLE, REF, NEVER, DEFAULT}
@@ -47,7 +47,7 @@ valueFrom n [] = n
 valueFrom n (d ∷ ds) = valueFrom (n * 10 + (d - 48)) ds
 
 abbrev pub nodeWord : Bool → List ℕ → Option Ty
-nodeWord i w = pick (all isDigit w && (leb (length w) 4 && noLeadingZero w)) (some (ty i (valueFrom 0 w))) none
+nodeWord i w = pick (all isDigit w && (leb (length w) MAX-DIGITS && noLeadingZero w)) (some (ty i (valueFrom 0 w))) none
 
 -- "types as `3` or `~3`"
 unfoldable pub typeWord : List ℕ → Option Ty
@@ -101,23 +101,23 @@ wordsLine (w ∷ ws) = withTypes w (typeWords ws)
 
 -- "Any other line, an empty one or one over 255 bytes is a bad line"
 unfoldable pub parse : List ℕ → Line
-parse l = pick (leb (length l) 255) (wordsLine (words l)) bad
+parse l = pick (leb (length l) MAX-LINE) (wordsLine (words l)) bad
 
 -- "over an empty chart with no fn trait"
 abbrev pub sheetEnv : Env
 sheetEnv = record {
   records = [];
   fnTrait = NONE;
-  sigils = replicate 4 (name 0 0 0);
+  sigils = replicate SIGILS (name 0 0 0);
   texts = record { rule = []; chart = [] };
 }
 
 -- "`sheet` opens 256 nodes and 1,024 children .., and its text buffer is 4,096 bytes"
 abbrev pub sheetStore : Store
-sheetStore = opened 256 1024
+sheetStore = opened SHEET-NODES SHEET-CHILDREN
 
 abbrev pub sheetBuffer : List ℕ
-sheetBuffer = replicate 4096 0
+sheetBuffer = replicate SHEET-TEXT 0
 
 -- a printed line, and the store afterwards
 pub record Said : Type 0 where

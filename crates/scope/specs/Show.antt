@@ -5,14 +5,14 @@ use mathlib.Core.Option.{Option, none, some}
 use Prim.Native.Nat.{ℕ, zero, suc, _+_, _/_, _%_}
 use lib.Dec.{eqb, ltb}
 use lib.ListN.{length, getD}
-use Rattle.scope.specs.Base.{pick, xor}
+use Rattle.scope.specs.Base.{pick, xor, front, last}
 use Rattle.scope.specs.Text.{text}
 use Rattle.scope.specs.Names.{Texts, Name, bytes}
 use Rattle.scope.specs.Chart.{Record, Env, recordAt, sigilAt, TRAIT-FN-SORT}
 use Rattle.scope.specs.Types.{Ty, flip}
 use Rattle.scope.specs.Kinds.{Head, selfDual, TUPLE}
 use Rattle.scope.specs.Nodes.{Kind, State, Known, Unknown, InferenceFailed, Node, at, stateOf, find, kind}
-use Rattle.scope.specs.Unify.{parameters, returned, firstName, ImplType, Trait, Error}
+use Rattle.scope.specs.Unify.{firstName, ImplType, Trait, Error}
 use Rattle.scope.specs.Force.{isNil}
 
 pub data Piece : Type 0 where
@@ -61,7 +61,7 @@ abbrev pub object : Texts → Bool → List (Option Name) → List Ty → List P
 object x i ns [] = fixed (text "{}") ∷ []
 object x i ns (t ∷ ts) = fixed (text "{ ") ∷ (joined (entries x i ns (t ∷ ts)) ++ (fixed (text " }") ∷ []))
 
--- " -> " and the return, unless it is nil
+-- ` -> ` and the return, unless it is nil
 abbrev pub arrow : (Ty → Bool) → List Ty → List Piece
 arrow nil [] = []
 arrow nil (t ∷ ts) = pick (nil t) [] (fixed (text " -> ") ∷ sub t ∷ [])
@@ -69,7 +69,7 @@ arrow nil (t ∷ ts) = pick (nil t) [] (fixed (text " -> ") ∷ sub t ∷ [])
 -- `_show_fn_sig`
 abbrev pub signature : Texts → (Ty → Bool) → List (Option Name) → List Ty → List Piece
 signature x nil ns ts =
-    fixed (text "(") ∷ (joined (entries x false ns (parameters ts)) ++ (fixed (text ")") ∷ arrow nil (returned ts)))
+    fixed (text "(") ∷ (joined (entries x false ns (front ts)) ++ (fixed (text ")") ∷ arrow nil (last ts)))
 
 abbrev pub closure : Env → (Ty → Bool) → Head → List Ty → List Piece
 closure e nil h ts =

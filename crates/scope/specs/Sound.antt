@@ -2,16 +2,17 @@
 use mathlib.Core.List.{List, [], _∷_, map}
 use mathlib.Core.Bool.{Bool, true, false, not, _&&_, _||_}
 use mathlib.Core.Option.{Option, none, some}
-use Prim.Native.Nat.{ℕ, zero, suc, _+_}
+use Prim.Native.Nat.{ℕ, zero, suc}
 use lib.Dec.{eqb, ltb, leb}
 use lib.ListN.{length}
 use Rattle.scope.specs.Base.{pick, all, count, from}
+pub use Rattle.scope.specs.Base.{front, last}
 use Rattle.scope.specs.Limits.{MAX-NODES, MAX-CHILDREN}
 use Rattle.scope.specs.Names.{Name, name}
 use Rattle.scope.specs.Chart.{Env}
 use Rattle.scope.specs.Types.{Ty, ty, tyOf}
-use Rattle.scope.specs.Kinds.{Head, Row, rowOf, OWN-NAME, CHILD-NAMES, PARAMETER-NAMES, makeable, defined, flagIs}
-use Rattle.scope.specs.Nodes.{Kind, State, Known, Unknown, InferenceFailed, Node, Root, Child, Store, at, isRoot, stateOf, find, kidsOf}
+use Rattle.scope.specs.Kinds.{rowOf, OWN-NAME, CHILD-NAMES, PARAMETER-NAMES, makeable, defined, flagIs}
+use Rattle.scope.specs.Nodes.{Kind, Known, Unknown, InferenceFailed, Node, Root, Child, Store, at, isRoot, stateOf, find, kidsOf}
 
 -- a child's numbers: its type, and its name or zeros
 pub record Slot : Type 0 where
@@ -47,6 +48,7 @@ nameIn x i n = pick (eqb n 0) none (some (name x i n))
 abbrev pub nameClean : ℕ → ℕ → ℕ → Bool
 nameClean x i n = not (eqb n 0) || zeros (x ∷ i ∷ [])
 
+-- a child's name; its numbers where it has one, and where it has none
 abbrev pub slotName : Slot → Option Name
 slotName s = nameIn (s .text) (s .start) (s .len)
 
@@ -55,17 +57,6 @@ slotClean s = nameClean (s .text) (s .start) (s .len)
 
 abbrev pub slotBare : Slot → Bool
 slotBare s = zeros (s .text ∷ s .start ∷ s .len ∷ [])
-
--- all but the last
-abbrev pub front {ℓ} : {A : Type ℓ} → List A → List A
-front [] = []
-front (x ∷ []) = []
-front (x ∷ y ∷ ys) = x ∷ front (y ∷ ys)
-
-abbrev pub last {ℓ} : {A : Type ℓ} → List A → List A
-last [] = []
-last (x ∷ []) = x ∷ []
-last (x ∷ y ∷ ys) = last (y ∷ ys)
 
 -- a kind's names, where its row has them
 abbrev pub namesIn : Cell → List (Option Name)
@@ -133,6 +124,7 @@ falls (suc f) ns r = all (λ c. falls f ns (find ns c .idx)) (kidsOf (stateOf (a
 unfoldable pub treeSize : List Node → ℕ → ℕ
 treeSize ns r = count (λ i. eqb (find ns (ty false i) .idx) r) (from 0 (length ns))
 
+-- "a root size that isn't its tree's node count" is unsound
 abbrev pub sizeIs : List Node → ℕ → Node → Bool
 sizeIs ns i (Root st z) = eqb z (treeSize ns i)
 sizeIs ns i (Child t) = true
@@ -149,6 +141,7 @@ nodeSound e ns (Root (Unknown p) z) = true
 nodeSound e ns (Root InferenceFailed z) = true
 nodeSound e ns (Child t) = inStore ns t
 
+-- a remembered type is in the store
 abbrev pub remembered : List Node → Option Ty → Bool
 remembered ns none = true
 remembered ns (some t) = inStore ns t
@@ -166,6 +159,7 @@ shapeSound ns =
     all (λ i. rooted (length ns) ns i) is
     && (all (λ i. sizeIs ns i (at ns i)) is && all (λ i. falls (length ns) ns i) is)
 
+-- the whole store
 unfoldable pub soundStore : Env → Store → Bool
 soundStore e s =
     roomSound s

@@ -2,12 +2,12 @@
 use mathlib.Core.Path.{_≡_}
 use mathlib.Core.List.{List, [], _∷_, map}
 use mathlib.Core.Bool.{Bool, true, false, not, _&&_, _||_}
-use mathlib.Core.Option.{Option}
 use Prim.Native.Nat.{ℕ, zero, suc}
 use lib.Dec.{eqb, ltb}
 use lib.ListN.{length}
 use Rattle.scope.specs.Base.{pick}
-use Rattle.scope.specs.Names.{Texts, Name, bytesOr, ascending}
+use Rattle.scope.specs.Limits.{KINDS}
+use Rattle.scope.specs.Names.{Texts, bytesOr, ascending}
 use Rattle.scope.specs.Chart.{Env, sortAt}
 use Rattle.scope.specs.Types.{Ty}
 use Rattle.scope.specs.Kinds.{Head, Row, rowOf, dualBy, flagOf, shapeFits, numberOk, OBJECT, KEY, DEFINITION}
@@ -67,7 +67,7 @@ treeDefined e h =
 -- one of the fifteen kinds, with as many children as its row says
 abbrev pub headProper : Env → TreeHead → ℕ → Bool
 headProper e h n =
-    ltb (h .code) 15 && (shapeFits (rowOf (h .code) .shape) n && (treeNamesOk (h .code) (h .names) n && treeDefined e h))
+    ltb (h .code) KINDS && (shapeFits (rowOf (h .code) .shape) n && (treeNamesOk (h .code) (h .names) n && treeDefined e h))
 
 -- what is a tree: each head is a kind's, and only kinds that are not self-dual are marked
 unfoldable mutual

@@ -1,5 +1,5 @@
 -- "A type is a node number with an inversion bit". A lent number holds the bit above the node number.
-use mathlib.Core.Bool.{Bool, true, false}
+use mathlib.Core.Bool.{Bool}
 use Prim.Native.Nat.{ℕ, _+_, _%_}
 use lib.Dec.{leb}
 use Rattle.scope.specs.Base.{pick, xor}

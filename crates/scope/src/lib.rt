@@ -1,4 +1,5 @@
-// Document 01 as definitions: specs/ holds each of its sentences, proofs/ the laws that a reader expects of them. The limits stand here for the code, under the names that specs/ has.
+// Document 01 as definitions: specs/ holds each of its sentences, proofs/ the laws that a reader expects of them. Limits, counts and refusals' numbers stand here
+// for the code, under the names that specs/ has (Limits, Refusals).
 pub const MAX_NODES: usize = 4096;
 
 pub const MAX_CHILDREN: usize = 16384;
@@ -13,4 +14,46 @@ pub const MAX_RECORDS: usize = 1024;
 
 pub const MAX_NAME: usize = 255;
 
+pub const SIGILS: usize = 4;
+
+pub const MAX_FLEX: u32 = 3;
+
+pub const MAX_SORT: u32 = 7;
+
+pub const KINDS: usize = 15;
+
 pub const NONE: u32 = 4294967295;
+
+pub const MAX_REPORTS: u64 = 18446744073709551615;
+
+pub const MAX_LINE: usize = 255;
+
+pub const MAX_DIGITS: usize = 4;
+
+pub const SHEET_NODES: usize = 256;
+
+pub const SHEET_CHILDREN: usize = 1024;
+
+pub const SHEET_TEXT: usize = 4096;
+
+pub const UNOPENABLE: u32 = 1;
+
+pub const BAD_CHART: u32 = 2;
+
+pub const OUTSIDE: u32 = 3;
+
+pub const UNMAKEABLE: u32 = 4;
+
+pub const UNDEFINED: u32 = 5;
+
+pub const NO_ENTRY: u32 = 6;
+
+pub const SHORT: u32 = 7;
+
+pub const UNSOUND: u32 = 8;
+
+pub const SOURCE_UNSOUND: u32 = 9;
+
+pub const NODES_FULL: u32 = 10;
+
+pub const CHILDREN_FULL: u32 = 11;

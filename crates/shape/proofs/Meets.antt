@@ -12,8 +12,9 @@ use lib.ListN.{length, getD, replicate}
 use Rattle.scope.specs.Base.{all, count, from}
 use Rattle.scope.specs.Limits.{MAX-NODES}
 use Rattle.scope.specs.Types.{Ty, ty, flip, tyOf}
-use Rattle.scope.specs.Nodes.{Node, at, hop, climb, find, stateOf, kidsOf}
+use Rattle.scope.specs.Nodes.{Node, at, climb, find, stateOf, kidsOf}
 use Rattle.scope.specs.Nodes as nodes
+use Rattle.scope.proofs.Laws as scope
 use Rattle.scope.specs.Sound.{rooted, falls, treeSize, sizeIs, inStore, shapeSound}
 use Rattle.types.specs.declared.TypeIdx.{TypeIdx}
 use Rattle.layout.specs.Words.{slotAt, decode}
@@ -59,20 +60,16 @@ module _ (ns : List Node) (p : ℕ → Up) (step : (v : ℕ) → p v ≡ upNode 
   rooted-ends (suc d) v = rooted-by (at ns v) d v refl (rooted-ends d)
 
   -- `find`, by the node
-  climb-by : (x : Node) (d : ℕ) (t : Ty) → at ns (t .idx) ≡ x → climb (suc d) ns t ≡ hop x (climb d ns) t
-  unfolding climb
-  climb-by x d t e = rw e
-
   climb-root : (x : Node) (d z : ℕ) (t : Ty) → at ns (t .idx) ≡ x → upNode x ≡ Root z → climb d ns t ≡ t
   unfolding climb
   climb-root x zero z t e u = refl
-  climb-root (nodes.Root st y) (suc d) z t e u = climb-by (nodes.Root st y) d t e
+  climb-root (nodes.Root st y) (suc d) z t e u = scope.climb-root (suc d) ns t e
   climb-root (nodes.Child c) (suc d) z t e u = absurd (let f : _≡_ {A = ℕ} 0 1 = cc in omega arith)
 
   -- a climb goes on from a type with the parent's node
   climb-up : (x : Node) (d : ℕ) (u : TypeIdx) (t : Ty) → at ns (t .idx) ≡ x → upNode x ≡ Parent u → (c : Ty) × (c .idx ≡ u .0) × (climb (suc d) ns t ≡ climb d ns c)
   climb-up (nodes.Root st y) d u t e f = absurd (let z : _≡_ {A = ℕ} 0 1 = cc in omega arith)
-  climb-up (nodes.Child c) d u t e f = (flip (t .inv) c, cc, climb-by (nodes.Child c) d t e)
+  climb-up (nodes.Child c) d u t e f = (flip (t .inv) c, cc, scope.climb-child d ns t c e)
 
   climb-leads : (d : ℕ) {v r : ℕ} (t : Ty) → t .idx ≡ v → Leads p v r → ends (upward p) (suc d) v ≡ true → climb d ns t .idx ≡ r
   climb-leads d t q (here {v = v} {z = z} e) m =

@@ -16,13 +16,8 @@ numberOf Success = 0
 numberOf Failure = 1
 numberOf Indeterminate = 2
 
--- `is_success` and `is_failure`
+-- the one answer that merges
 abbrev pub isSuccess : Answer → Bool
 isSuccess Answer.Success = true
 isSuccess Answer.Failure = false
 isSuccess Answer.Indeterminate = false
-
-abbrev pub isFailure : Answer → Bool
-isFailure Answer.Success = false
-isFailure Answer.Failure = true
-isFailure Answer.Indeterminate = false

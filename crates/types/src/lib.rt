@@ -1,12 +1,11 @@
 // "A type is a node number with an inversion bit, and node numbers, types and inversion flags are never exchanged for one another."
-// Beside them the answers of unify, and Flex. The words and numbers mean what scope's definitions say.
+// Beside them the answers of unify. The words and numbers mean what scope's definitions say.
 ghost use mathlib.Core.Path.{_≡_};
 ghost use mathlib.Core.Bool.{true};
 ghost use Rattle.scope.specs.Base.{xor};
 ghost use Rattle.scope.specs.Types.{flip, tyOf};
 ghost use Rattle.scope.specs.Answers.{both, ofBool};
-ghost use Rattle.types.specs.Answers.{answerOf, numberOf, isSuccess, isFailure};
-ghost use Rattle.types.specs.Flexes.{flexNumber, flexOf};
+ghost use Rattle.types.specs.Answers.{answerOf, numberOf};
 
 // A type variable, or its inverse: the high bit denotes the inverse, and the remaining bits are a TypeIdx.
 pub struct Type(pub u32);
@@ -30,12 +29,6 @@ impl Type {
         ensures { λ r. ⌜ tyOf (r .0) ≡ flip (inv .0) (tyOf (idx .0)) ⌝ }
     {
         Type(idx.0).invert_if(inv)
-    }
-
-    pub fn from_idx(idx: TypeIdx) -> Type
-        ensures { λ r. ⌜ r .0 ≡ idx .0 ⌝ }
-    {
-        Type(idx.0)
     }
 
     pub fn inv(self) -> Inverted
@@ -100,26 +93,6 @@ impl UnifyResult {
         }
     }
 
-    pub fn is_success(self) -> bool
-        ensures { λ r. ⌜ r ≡ isSuccess (answerOf self) ⌝ }
-    {
-        match self {
-            UnifyResult::Success => true,
-            UnifyResult::Failure => false,
-            UnifyResult::Indeterminate => false,
-        }
-    }
-
-    pub fn is_failure(self) -> bool
-        ensures { λ r. ⌜ r ≡ isFailure (answerOf self) ⌝ }
-    {
-        match self {
-            UnifyResult::Success => false,
-            UnifyResult::Failure => true,
-            UnifyResult::Indeterminate => false,
-        }
-    }
-
     // The number of an answer, in the order of the enum.
     pub fn number(self) -> u32
         ensures { λ r. ⌜ r ≡ numberOf self ⌝ }
@@ -128,45 +101,6 @@ impl UnifyResult {
             UnifyResult::Success => 0,
             UnifyResult::Failure => 1,
             UnifyResult::Indeterminate => 2,
-        }
-    }
-}
-
-pub enum Flex {
-    None,
-    Fork,
-    Drop,
-    Full,
-}
-
-// A number's Flex, if it has one.
-pub enum FlexOf {
-    Is(Flex),
-    Nothing,
-}
-
-impl Flex {
-    // "`Flex` 0 to 3 in its order"
-    pub fn from_code(code: u32) -> FlexOf
-        ensures { λ r. ⌜ r ≡ flexOf code ⌝ }
-    {
-        match code {
-            0 => FlexOf::Is(Flex::None),
-            1 => FlexOf::Is(Flex::Fork),
-            2 => FlexOf::Is(Flex::Drop),
-            3 => FlexOf::Is(Flex::Full),
-            _ => FlexOf::Nothing,
-        }
-    }
-
-    pub fn code(self) -> u32
-        ensures { λ r. ⌜ r ≡ flexNumber self ⌝ }
-    {
-        match self {
-            Flex::None => 0,
-            Flex::Fork => 1,
-            Flex::Drop => 2,
-            Flex::Full => 3,
         }
     }
 }

@@ -3,7 +3,7 @@
 -- Assumes nothing.
 use mathlib.Core.Path.{_≡_, refl, ap, sym, _∙_, fun-ext}
 use mathlib.Core.Bool.{Bool, true, false, not, _||_, false≢true}
-use mathlib.Core.List.{List, [], _∷_}
+use mathlib.Core.List.{List, []}
 use Prim.Native.Nat.{ℕ, zero, suc, _+_, _-_, _≤_, _<_}
 use native.Mathlib.Omega.{arith}
 use lib.Dec.{eqb}
@@ -21,21 +21,23 @@ use Rattle.scope.specs.Force as force
 use Rattle.scope.proofs.SoundLaws.{SoundNodes}
 use Rattle.scope.proofs.Walks.{sound-walkable}
 use Rattle.scope.proofs.MarkLaws.{Clear, clear-zeros, occurs-marks, good, self-marks, self-at-marks}
+use Rattle.types.specs.declared.Inverted.{Inverted}
 use Rattle.layout.specs.Words.{slotAt, decode}
-use Rattle.layout.specs.Meaning.{slotMeans, kindMeans, readAt, Clean}
+use Rattle.layout.specs.Meaning.{slotMeans, kindMeans, readAt, heldIn, heldKids, Clean}
 use Rattle.layout.specs.declared.Kind.{Kind}
 use Rattle.layout.specs.declared.Slot.{Slot}
+use Rattle.layout.specs.declared.Held.{Held}
+use Rattle.layout.specs.declared.Held.the-variants.{Is, Nothing}
 use Rattle.layout.proofs.Lists.{all-from, from-all}
 use Rattle.layout.proofs.Laws.{length-decode}
+use Rattle.layout.proofs.HeldLaws.{held-kids}
 use Rattle.chart.specs.Words.{recordsOf}
 use Rattle.roots.specs.Found.{Found}
-use Rattle.walk.specs.declared.Held.{Held}
-use Rattle.walk.specs.declared.Held.the-variants.{Is, Nothing}
 use Rattle.walk.specs.declared.Mod.{Mod}
 use Rattle.walk.specs.declared.Mod.the-variants as mods
-use Rattle.walk.specs.Read.{heldIn, goodBy, goodAt, modMeans, modBy}
+use Rattle.walk.specs.Read.{goodBy, goodAt, modMeans, modBy}
 use Rattle.walk.specs.Asks.{Stands, Walks, Occurs, Inverses, Nil, Modded}
-use Rattle.walk.proofs.Laws.{kidsBy, nilBy, modIn, kids-read, good-read, nil-read, mod-read, root-is, kid-next, kid-none}
+use Rattle.walk.proofs.Laws.{nilBy, modIn, good-read, nil-read, mod-read, root-is, kid-next, kid-none}
 
 -- sound nodes can be walked
 pub sound-walks : (e : Env) {ws ks : List ℕ} {c n : ℕ} → Clean ws ks c n → n ≤ MAX-NODES → SoundNodes e (decode ws ks n) → Walks ws ks n
@@ -65,10 +67,10 @@ module _ {ws ks : List ℕ} {n x y : ℕ} (o : Occurs ws ks n x y) {i : ℕ} (r 
   pub occurs-is : i ≡ x → true ≡ occurs n (decode ws ks n) x (tyOf y .idx)
   occurs-is e = occurs-same n (decode ws ks n) x (tyOf y .idx) (omega (arith, o .node)) (sym r ∙ e)
 
-  pub occurs-none : {v q : Held} → (i ≡ x → ⊥) → v ≡ heldIn (readAt ws n i) → v ≡ q → kidsBy ks q ≡ [] → false ≡ occurs n (decode ws ks n) x (tyOf y .idx)
+  pub occurs-none : {v q : Held} → (i ≡ x → ⊥) → v ≡ heldIn (readAt ws n i) → v ≡ q → heldKids ks q ≡ [] → false ≡ occurs n (decode ws ks n) x (tyOf y .idx)
   occurs-none h e s z =
       occurs-leaf n (decode ws ks n) x (tyOf y .idx) (omega (arith, o .node)) (λ w. h (r ∙ w))
-      (rw (← r) (kids-read i (o .walks .stands .clean) e s ∙ z))
+      (rw (← r) (held-kids ws ks (o .walks .stands .made) n (o .walks .stands .clean) i e s ∙ z))
 
 pub occurs-walk : {ws ks : List ℕ} {n x y : ℕ} {ms : List ℕ} {b : Bool} → Occurs ws ks n x y
     → ms ≡ findRelated (decode ws ks n) (tyOf y) (replicate MAX-NODES 0) → b ≡ not (eqb (getD ms x 0) 0)
@@ -105,7 +107,7 @@ module _ {ws ks : List ℕ} {n t : ℕ} (o : Inverses ws ks n t) (param : Bool) 
       let l : length ns ≡ n = length-decode ws ks n in
       let w = self-marks (o .walks .walkable) param (clear (o .walks)) (tyOf t) (omega (arith, o .inside)) in
       let each : (i : ℕ) → goodAt ws n ms param i ≡ (eqb (getD ms i 0) 0 || good param (stateOf (at ns i))) =
-      λ i. ap (λ (g : Bool). eqb (getD ms i 0) 0 || g) (sym (good-read i (o .walks .stands .clean) refl param refl)) in
+      λ i. ap (λ (g : Bool). eqb (getD ms i 0) 0 || g) (sym (good-read i (o .walks .stands .clean) refl refl param)) in
       e ∙ (ap (λ (p : ℕ → Bool). all p (from 0 n)) (fun-ext each) ∙ rw m (sym (rw l at w)))
 
   -- the same at a root, as `unify` asks it
@@ -137,13 +139,13 @@ unfolding getModF
 mod-out x zero ns t h = refl
 mod-out x (suc f) ns t h = absurd (omega arith)
 
-mod-other : (x : Env) (g : Ty → force.Mod) (ks : List ℕ) (k : Kind) → (k .code ≡ REF → ⊥) → modIn x g ks (Is k) ≡ modBy (x .records) (k .code) (k .number)
+mod-other : (x : Env) (g : Ty → force.Mod) (ks : List ℕ) (j : Inverted) (k : Kind) → (k .code ≡ REF → ⊥) → modIn x g ks (Is j k) ≡ modBy (x .records) (k .code) (k .number)
 unfolding kindMeans
-mod-other x g ks k h = rw (ne-eqb (k .code) REF h, modOfState) refl
+mod-other x g ks j k h = rw (ne-eqb (k .code) REF h, modOfState) refl
 
-mod-ref : (x : Env) (g : Ty → force.Mod) (ks : List ℕ) (k : Kind) → k .code ≡ REF → modIn x g ks (Is k) ≡ modOfRef g (kindMeans ks k .kids)
+mod-ref : (x : Env) (g : Ty → force.Mod) (ks : List ℕ) (j : Inverted) (k : Kind) → k .code ≡ REF → modIn x g ks (Is j k) ≡ modOfRef g (kindMeans ks k .kids)
 unfolding kindMeans
-mod-ref x g ks k h = rw (eq-eqb (k .code) REF h, modOfState) refl
+mod-ref x g ks j k h = rw (eq-eqb (k .code) REF h, modOfState) refl
 
 -- f Refs from u on lead where n Refs from t on do
 pub record Looks (ws ks : List ℕ) (n t u f : ℕ) : Type 0 where
@@ -163,21 +165,21 @@ module _ {ws ks : List ℕ} {n t u f : ℕ} (c : Looks ws ks n t u f) where
   module _ {i : ℕ} {v : Held} (s : Stands ws ks n) (h : 0 < f) (r : i ≡ find (decode ws ks n) (tyOf u) .idx) (o : v ≡ heldIn (readAt ws n i)) where
     looks-here : (x : Env) {q : Held} → v ≡ q → modIn x (getModF x (f - 1) (decode ws ks n)) ks q ≡ getModF x f (decode ws ks n) (tyOf u)
     looks-here x e =
-        sym (mod-step x f (decode ws ks n) (tyOf u) h r ∙ mod-read i (s .clean) o x (getModF x (f - 1) (decode ws ks n)) e)
+        sym (mod-step x f (decode ws ks n) (tyOf u) h r ∙ mod-read i (s .clean) o e x (getModF x (f - 1) (decode ws ks n)))
 
     pub looks-none : {chart : List ℕ} → v ≡ Nothing → Modded ws ks n chart t mods.Nothing
     looks-none e = record { answer = λ x q. looks-here x e ∙ looks-whole x }
 
-    module _ {k : Kind} (e : v ≡ Is k) where
+    module _ {j : Inverted} {k : Kind} (e : v ≡ Is j k) where
       pub looks-kind : {chart : List ℕ} {m : Mod} → (k .code ≡ REF → ⊥) → modMeans m ≡ modBy (recordsOf chart) (k .code) (k .number)
           → Modded ws ks n chart t m
       looks-kind z w = record {
         answer = λ x q.
-            w ∙ (rw (← q) (sym (mod-other x (getModF x (f - 1) (decode ws ks n)) ks k z)) ∙ (looks-here x e ∙ looks-whole x));
+            w ∙ (rw (← q) (sym (mod-other x (getModF x (f - 1) (decode ws ks n)) ks j k z)) ∙ (looks-here x e ∙ looks-whole x));
       }
 
       looks-ref : (x : Env) → k .code ≡ REF → modOfRef (getModF x (f - 1) (decode ws ks n)) (kindMeans ks k .kids) ≡ getModF x f (decode ws ks n) (tyOf u)
-      looks-ref x z = sym (mod-ref x (getModF x (f - 1) (decode ws ks n)) ks k z) ∙ looks-here x e
+      looks-ref x z = sym (mod-ref x (getModF x (f - 1) (decode ws ks n)) ks j k z) ∙ looks-here x e
 
       pub looks-bare : {chart : List ℕ} → k .code ≡ REF → k .count < 1 → Modded ws ks n chart t mods.Nothing
       looks-bare z l = record {

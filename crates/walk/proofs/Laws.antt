@@ -14,87 +14,51 @@ use borrow.Author.Tests.{eqb-true, eqb-false, not-true, not-false}
 use Rattle.scope.specs.Chart.{Env}
 use Rattle.scope.specs.Types.{Ty, tyOf}
 use Rattle.scope.specs.Kinds.{TUPLE, selfDual}
-use Rattle.scope.specs.Nodes.{State, Node, at, stateOf, find, kidsOf}
+use Rattle.scope.specs.Nodes.{Node, at, stateOf, find, kidsOf}
 use Rattle.scope.specs.Nodes as nodes
 use Rattle.scope.specs.Force.{relatedKids, relatedF, findRelated, nilState, none-mod, modOfState}
 use Rattle.scope.specs.Force as force
 use Rattle.scope.proofs.Marks.{related-new, related-old}
 use Rattle.scope.proofs.MarkLaws.{good}
+use Rattle.types.specs.declared.Inverted.{Inverted}
 use Rattle.layout.specs.Words.{slotAt, decode}
-use Rattle.layout.specs.Meaning.{slotMeans, kindMeans, nodeMeans, readAt, Clean}
+use Rattle.layout.specs.Meaning.{slotMeans, kindMeans, readAt, heldIn, heldKids, Clean}
 use Rattle.layout.specs.declared.Kind.{Kind}
 use Rattle.layout.specs.declared.Slot.{Slot}
-use Rattle.layout.specs.declared.TypeState.the-variants.{Known, Unknown, InferenceFailed}
-use Rattle.layout.specs.declared.TypeNode.{TypeNode}
-use Rattle.layout.specs.declared.TypeNode.the-variants.{Root, Child}
-use Rattle.layout.proofs.Laws.{length-decode, read-node}
+use Rattle.layout.specs.declared.Held.{Held}
+use Rattle.layout.specs.declared.Held.the-variants.{Is, Nothing}
+use Rattle.layout.proofs.Laws.{length-decode}
 use Rattle.layout.proofs.ChildLaws.{length-kids, kid-at}
+use Rattle.layout.proofs.HeldLaws.{held-by, held-kids}
 use Rattle.roots.specs.Found.{Found}
-use Rattle.walk.specs.declared.Held.{Held}
-use Rattle.walk.specs.declared.Held.the-variants.{Is, Nothing}
-use Rattle.walk.specs.Read.{heldIn, goodBy}
+use Rattle.walk.specs.Read.{goodBy}
 use Rattle.walk.specs.Asks.{Stands}
 
 -- one node
 
-abbrev pub kidsBy : List ℕ → Held → List Ty
-kidsBy ks (Is k) = kindMeans ks k .kids
-kidsBy ks Nothing = []
-
 abbrev pub nilBy : Held → Bool
-nilBy (Is k) = eqb (k .code) TUPLE && eqb (k .count) 0
+nilBy (Is i k) = eqb (k .code) TUPLE && eqb (k .count) 0
 nilBy Nothing = false
 
 abbrev pub modIn : Env → (Ty → force.Mod) → List ℕ → Held → force.Mod
-modIn e g ks (Is k) = modOfState e g (nodes.Known false (kindMeans ks k))
+modIn e g ks (Is i k) = modOfState e g (nodes.Known false (kindMeans ks k))
 modIn e g ks Nothing = none-mod
 
-kids-held : (ks : List ℕ) (v : TypeNode) → kidsOf (stateOf (nodeMeans ks v)) ≡ kidsBy ks (heldIn v)
-kids-held ks (Root (Known i k) z) = refl
-kids-held ks (Root (Unknown s) z) = refl
-kids-held ks (Root InferenceFailed z) = refl
-kids-held ks (Child t) = refl
-
-good-held : (param : Bool) (ks : List ℕ) (v : TypeNode) → good param (stateOf (nodeMeans ks v)) ≡ goodBy param (heldIn v)
-unfolding kindMeans selfDual
-good-held param ks (Root (Known i k) z) = refl
-good-held param ks (Root (Unknown s) z) = refl
-good-held param ks (Root InferenceFailed z) = refl
-good-held param ks (Child t) = refl
-
-nil-kind : (ks : List ℕ) (i : Bool) (k : Kind) → nilState (nodes.Known i (kindMeans ks k)) ≡ nilBy (Is k)
+nil-kind : (ks : List ℕ) (i : Inverted) (k : Kind) → nilState (nodes.Known (i .0) (kindMeans ks k)) ≡ nilBy (Is i k)
 unfolding kindMeans
 nil-kind ks i k = ap (λ (m : ℕ). eqb (k .code) TUPLE && eqb m 0) (length-kids ks k)
 
-nil-held : (ks : List ℕ) (v : TypeNode) → nilState (stateOf (nodeMeans ks v)) ≡ nilBy (heldIn v)
-nil-held ks (Root (Known i k) z) = nil-kind ks (i .0) k
-nil-held ks (Root (Unknown s) z) = refl
-nil-held ks (Root InferenceFailed z) = refl
-nil-held ks (Child t) = refl
+-- what the code reads at i, where the words are clean
+module _ (i : ℕ) {ws ks : List ℕ} {c n : ℕ} (cl : Clean ws ks c n) {r q : Held} (e : r ≡ heldIn (readAt ws n i)) (s : r ≡ q) where
+  pub good-read : (param : Bool) → good param (stateOf (at (decode ws ks n) i)) ≡ goodBy param q
+  unfolding kindMeans selfDual
+  good-read param = held-by ws ks c n cl i e s (good param) (goodBy param) (λ j k. refl) (λ p. refl) refl
 
-mod-held : (e : Env) (g : Ty → force.Mod) (ks : List ℕ) (v : TypeNode) → modOfState e g (stateOf (nodeMeans ks v)) ≡ modIn e g ks (heldIn v)
-mod-held e g ks (Root (Known i k) z) = refl
-mod-held e g ks (Root (Unknown s) z) = refl
-mod-held e g ks (Root InferenceFailed z) = refl
-mod-held e g ks (Child t) = refl
+  pub nil-read : nilState (stateOf (at (decode ws ks n) i)) ≡ nilBy q
+  nil-read = held-by ws ks c n cl i e s nilState nilBy (nil-kind ks) (λ p. refl) refl
 
--- what f takes from the state of a node it takes, as h, from what the code reads there
-module _ (i : ℕ) {ws ks : List ℕ} {c n : ℕ} (cl : Clean ws ks c n) {r : Held} (e : r ≡ heldIn (readAt ws n i)) where
-  read-by : {A : Type 0} (f : State → A) (h : Held → A) → ((v : TypeNode) → f (stateOf (nodeMeans ks v)) ≡ h (heldIn v))
-      → {q : Held} → r ≡ q → f (stateOf (at (decode ws ks n) i)) ≡ h q
-  read-by f h each s = ap (λ (v : Node). f (stateOf v)) (sym (read-node ws ks c n cl i)) ∙ (each (readAt ws n i) ∙ ap h (sym e ∙ s))
-
-  pub kids-read : {q : Held} → r ≡ q → kidsOf (stateOf (at (decode ws ks n) i)) ≡ kidsBy ks q
-  kids-read = read-by kidsOf (kidsBy ks) (kids-held ks)
-
-  pub good-read : (param : Bool) {q : Held} → r ≡ q → good param (stateOf (at (decode ws ks n) i)) ≡ goodBy param q
-  good-read param = read-by (good param) (goodBy param) (good-held param ks)
-
-  pub nil-read : {q : Held} → r ≡ q → nilState (stateOf (at (decode ws ks n) i)) ≡ nilBy q
-  nil-read = read-by nilState nilBy (nil-held ks)
-
-  pub mod-read : (x : Env) (g : Ty → force.Mod) {q : Held} → r ≡ q → modOfState x g (stateOf (at (decode ws ks n) i)) ≡ modIn x g ks q
-  mod-read x g = read-by (modOfState x g) (modIn x g ks) (mod-held x g ks)
+  pub mod-read : (x : Env) (g : Ty → force.Mod) → modOfState x g (stateOf (at (decode ws ks n) i)) ≡ modIn x g ks q
+  mod-read x g = held-by ws ks c n cl i e s (modOfState x g) (modIn x g ks) (λ j k. refl) (λ p. refl) refl
 
 -- the root that the code finds
 pub root-is : {ws : List ℕ} {n t r i : ℕ} → Found ws n t r → i ≡ tyOf r .idx → (ks : List ℕ) → i ≡ find (decode ws ks n) (tyOf t) .idx
@@ -132,10 +96,10 @@ mark-new (suc f) ns ms t h r e = let k : suc f - 1 ≡ f = omega arith in rw (k,
 pub mark-kids : {ws ks : List ℕ} {n i : ℕ} (depth : ℕ) (ms : List ℕ) (t : Ty) {ms′ : List ℕ} {b : Bool} {v q : Held} → Stands ws ks n
     → (depth ≡ 0 → ⊥) → i ≡ find (decode ws ks n) t .idx → b ≡ not (eqb (getD ms i 0) 0) → b ≡ false → ms′ ≡ set ms i 1
     → v ≡ heldIn (readAt ws n i) → v ≡ q
-    → relatedKids (relatedF (depth - 1) (decode ws ks n)) ms′ (kidsBy ks q) ≡ relatedF depth (decode ws ks n) ms t
+    → relatedKids (relatedF (depth - 1) (decode ws ks n)) ms′ (heldKids ks q) ≡ relatedF depth (decode ws ks n) ms t
 mark-kids {ws} {ks} {n} {i} depth ms t s h r m e w v o =
     let z : getD ms i 0 ≡ 0 = eqb-true (getD ms i 0) 0 (not-false (eqb (getD ms i 0) 0) (sym m ∙ e)) in
-    rw (w, ← kids-read i (s .clean) v o) (sym (mark-new depth (decode ws ks n) ms t h r z))
+    rw (w, ← held-kids ws ks (s .made) n (s .clean) i v o) (sym (mark-new depth (decode ws ks n) ms t h r z))
 
 -- a depth of n is what `find_related` walks
 pub mark-whole : (ws ks : List ℕ) (n : ℕ) (ms : List ℕ) (t : Ty) → relatedF n (decode ws ks n) ms t ≡ findRelated (decode ws ks n) t ms

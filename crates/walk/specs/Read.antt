@@ -1,5 +1,4 @@
--- What the code reads of a node: its kind, if it has one. Beside it what a kind tells without its children: whether a type can be its own inverse,
--- and the answer of `get_mod`.
+-- What a kind tells without its children: whether a type can be its own inverse, and the answer of `get_mod`.
 use mathlib.Core.List.{List}
 use mathlib.Core.Bool.{Bool, false, _||_}
 use Prim.Native.Nat.{ℕ}
@@ -10,33 +9,19 @@ use Rattle.scope.specs.Chart.{Record, noRecord}
 use Rattle.scope.specs.Kinds.{PARAM, ERROR, rowOf, dualBy}
 use Rattle.scope.specs.Force.{none-mod, mod-of, error-mod, hasDef}
 use Rattle.scope.specs.Force as force
-use Rattle.layout.specs.Meaning.{readAt}
+use Rattle.layout.specs.Meaning.{readAt, heldIn}
 use Rattle.layout.specs.declared.Kind.{Kind}
-use Rattle.layout.specs.declared.TypeState.{TypeState}
-use Rattle.layout.specs.declared.TypeState.the-variants.{Known, Unknown, InferenceFailed}
-use Rattle.layout.specs.declared.TypeNode.{TypeNode}
-use Rattle.layout.specs.declared.TypeNode.the-variants.{Root, Child}
-use Rattle.walk.specs.declared.Held.{Held}
-use Rattle.walk.specs.declared.Held.the-variants as held
+use Rattle.layout.specs.declared.Held.{Held}
+use Rattle.layout.specs.declared.Held.the-variants as held
 use Rattle.walk.specs.declared.Mod.{Mod}
 use Rattle.walk.specs.declared.Mod.the-variants.{Nothing, Def, Error}
-
--- a node's kind
-abbrev pub heldBy : TypeState → Held
-heldBy (Known i k) = held.Is k
-heldBy (Unknown s) = held.Nothing
-heldBy InferenceFailed = held.Nothing
-
-abbrev pub heldIn : TypeNode → Held
-heldIn (Root st z) = heldBy st
-heldIn (Child t) = held.Nothing
 
 -- a kind that lets a type be its own inverse, children apart
 abbrev pub goodKind : Bool → Kind → Bool
 goodKind param k = pick (eqb (k .code) PARAM) param (dualBy (rowOf (k .code) .dual) (k .dual))
 
 abbrev pub goodBy : Bool → Held → Bool
-goodBy param (held.Is k) = goodKind param k
+goodBy param (held.Is i k) = goodKind param k
 goodBy param held.Nothing = false
 
 -- a node without a mark, or with a good kind

@@ -10,42 +10,21 @@ ghost use Rattle.scope.specs.Types.{tyOf};
 ghost use Rattle.scope.specs.Unify.{occurs, selfInverseOf};
 ghost use Rattle.scope.specs.Force.{hasDef, relatedF, findRelated};
 ghost use Rattle.layout.specs.Words.{nodeWords, decode};
-ghost use Rattle.layout.specs.Meaning.{readAt, Linked};
+ghost use Rattle.layout.specs.Meaning.{readAt, heldIn, Linked};
 ghost use Rattle.chart.specs.Words.{recordsOf};
-ghost use Rattle.walk.specs.Read.{heldIn, goodKind, goodBy, goodAt, modMeans, modBy};
+ghost use Rattle.walk.specs.Read.{goodKind, goodBy, goodAt, modMeans, modBy};
 ghost use Rattle.walk.specs.Asks.{Stands, Occurs, Inverses, Nil, Modded};
+use layout::Held;
 use layout::Kind;
-use layout::TypeNode;
-use layout::TypeState;
 use scope::MAX_NODES;
 use types::Type;
 use types::TypeIdx;
-
-// A node's kind, if it has one.
-enum Held {
-    Is(Kind),
-    Nothing,
-}
 
 // get_mod's answer: no definition, a definition's def number, or an error.
 pub enum Mod {
     Nothing,
     Def(u32),
     Error,
-}
-
-fn kind_at(ws: &[u32], n: u32, i: TypeIdx) -> Held
-    requires { ⌜ nodeWords n ≤ length (now ws) ⌝ }
-    ensures { λ r. ⌜ r ≡ heldIn (readAt (now (ws .entry)) n (i .0)) ⌝ }
-{
-    match layout::node_at(ws, n, i) {
-        TypeNode::Root { state, size: _ } => match state {
-            TypeState::Known(_, kind) => Held::Is(kind),
-            TypeState::Unknown(_) => Held::Nothing,
-            TypeState::InferenceFailed => Held::Nothing,
-        },
-        TypeNode::Child(_) => Held::Nothing,
-    }
 }
 
 // Nonzero is a mark; past the end there is none.
@@ -81,7 +60,7 @@ fn mark(ws: &[u32], ks: &[u32], n: u32, marks: &mut [u8], t: Type, depth: u32)
         return;
     }
     set_mark(marks, root);
-    let Held::Is(kind) = kind_at(ws, n, root) else {
+    let Held::Is(_, kind) = layout::held_at(ws, n, root) else {
         return;
     };
     let mut j: u32 = 0;
@@ -109,7 +88,7 @@ pub fn occurs(ws: &[u32], ks: &[u32], n: u32, x: TypeIdx, y: Type) -> bool
     if root.0 == x.0 {
         return true;
     }
-    let Held::Is(kind) = kind_at(ws, n, root) else {
+    let Held::Is(_, kind) = layout::held_at(ws, n, root) else {
         return false;
     };
     if kind.count == 0 {
@@ -135,8 +114,8 @@ fn good_at(ws: &[u32], n: u32, i: TypeIdx, param: bool) -> bool
     requires { ⌜ nodeWords n ≤ length (now ws) ⌝ }
     ensures { λ r. ⌜ r ≡ goodBy param (heldIn (readAt (now (ws .entry)) n (i .0))) ⌝ }
 {
-    match kind_at(ws, n, i) {
-        Held::Is(kind) => good_kind(kind, param),
+    match layout::held_at(ws, n, i) {
+        Held::Is(_, kind) => good_kind(kind, param),
         Held::Nothing => false,
     }
 }
@@ -174,7 +153,7 @@ pub fn is_nil(ws: &[u32], n: u32, t: Type) -> bool
     ensures { λ r. ⌜ Nil (now (ws .entry)) n (t .0) r ⌝ }
 {
     let root = roots::find(ws, n, t).idx();
-    let Held::Is(kind) = kind_at(ws, n, root) else {
+    let Held::Is(_, kind) = layout::held_at(ws, n, root) else {
         return false;
     };
     if kind.code == kinds::TUPLE {
@@ -221,7 +200,7 @@ pub fn get_mod(ws: &[u32], ks: &[u32], n: u32, chart: &[u32], t: Type) -> Mod
     let mut left = n;
     while 0 < left {
         let root = roots::find(ws, n, cur).idx();
-        let Held::Is(kind) = kind_at(ws, n, root) else {
+        let Held::Is(_, kind) = layout::held_at(ws, n, root) else {
             return Mod::Nothing;
         };
         if kind.code != kinds::REF {

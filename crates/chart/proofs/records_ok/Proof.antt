@@ -7,7 +7,7 @@ use Prim.Native.Nat.{_≤_, _-_}
 use lib.ListN.{length, drop}
 use Rattle.scope.specs.Base.{all}
 use Rattle.scope.specs.Chart.{recordOk, noRecord}
-use Rattle.names.proofs.Tests.{passes, fails}
+use Rattle.names.proofs.Tests.{passes, fails, all-step, all-fails, all-end}
 use Rattle.chart.specs.Words.{recordsOf}
 use Rattle.chart.specs.Env.{chartIn}
 use Rattle.chart.proofs.Laws as laws
@@ -38,7 +38,7 @@ returns : tie.Need-returns Inv-loop μ-loop
 returns c =
     let s = c .before .before .before .before .before .before .before .before .before .args in
     let l = c .before .before .before .before .before .loop in
-    sym (laws.all-fails (recordOk (chartIn (s .chart .now) (s .rule .now) (s .text .now))) (recordsOf (s .chart .now)) noRecord (l .n) (omega arith) (fails (c .before .record-ok .ensures) (c .if2 .taken))) ∙ l .inv .1
+    sym (all-fails (recordOk (chartIn (s .chart .now) (s .rule .now) (s .text .now))) (recordsOf (s .chart .now)) noRecord (l .n) (omega arith) (fails (c .before .record-ok .ensures) (c .if2 .taken))) ∙ l .inv .1
 
 add-n : tie.Need-add-n Inv-loop μ-loop
 add-n c = omega arith
@@ -50,13 +50,13 @@ loop-again : tie.Need-loop-again Inv-loop μ-loop
 loop-again c =
     let s = c .before .before .before .before .before .before .before .before .before .args in
     let l = c .before .before .before .before .before .loop in
-    (omega arith, sym (laws.all-step (recordOk (chartIn (s .chart .now) (s .rule .now) (s .text .now))) (recordsOf (s .chart .now)) noRecord (l .n) (omega arith) (passes (c .before .record-ok .ensures) (c .if2 .left))) ∙ l .inv .1)
+    (omega arith, sym (all-step (recordOk (chartIn (s .chart .now) (s .rule .now) (s .text .now))) (recordsOf (s .chart .now)) noRecord (l .n) (omega arith) (passes (c .before .record-ok .ensures) (c .if2 .left))) ∙ l .inv .1)
 
 returns-2 : tie.Need-returns-2 Inv-loop μ-loop
 returns-2 c =
     let s = c .before .before .before .before .before .before .before .args in
     let l = c .before .before .before .loop in
-    sym (laws.all-end (recordOk (chartIn (s .chart .now) (s .rule .now) (s .text .now))) (recordsOf (s .chart .now)) noRecord (l .n) (omega arith)) ∙ l .inv .1
+    sym (all-end (recordOk (chartIn (s .chart .now) (s .rule .now) (s .text .now))) (recordsOf (s .chart .now)) noRecord (l .n) (omega arith)) ∙ l .inv .1
 
 pub records-ok-spec : {M : Type 1} → statement M
 records-ok-spec =

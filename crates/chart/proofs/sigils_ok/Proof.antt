@@ -9,7 +9,7 @@ use Rattle.scope.specs.Base.{all}
 use Rattle.scope.specs.Names.{name}
 use Rattle.scope.specs.Chart.{sigilOk}
 use Rattle.names.specs.Place.{texts}
-use Rattle.names.proofs.Tests.{passes, fails}
+use Rattle.names.proofs.Tests.{passes, fails, all-step, all-fails, all-end}
 use Rattle.chart.specs.Env.{sigilsOf}
 use Rattle.chart.proofs.Laws as laws
 use Rattle.chart.proofs.sigils_ok.Statement.{statement}
@@ -36,7 +36,7 @@ returns : tie.Need-returns Inv-loop μ-loop
 returns c =
     let s = c .before .before .before .before .before .before .before .args in
     let l = c .before .before .before .before .loop in
-    sym (laws.all-fails (sigilOk (texts (s .rule .now) (s .text .now))) (sigilsOf (s .beside .sigils)) (name 0 0 0) (l .i) (omega (arith, laws.sigils-length (s .beside .sigils))) (rw (← c .before .before .sigil-at .ensures) (fails (c .before .sigil-ok .ensures) (c .if1 .taken)))) ∙ l .inv .1
+    sym (all-fails (sigilOk (texts (s .rule .now) (s .text .now))) (sigilsOf (s .beside .sigils)) (name 0 0 0) (l .i) (omega (arith, laws.sigils-length (s .beside .sigils))) (rw (← c .before .before .sigil-at .ensures) (fails (c .before .sigil-ok .ensures) (c .if1 .taken)))) ∙ l .inv .1
 
 add-i : tie.Need-add-i Inv-loop μ-loop
 add-i c = omega arith
@@ -48,13 +48,13 @@ loop-again : tie.Need-loop-again Inv-loop μ-loop
 loop-again c =
     let s = c .before .before .before .before .before .before .before .args in
     let l = c .before .before .before .before .loop in
-    (omega arith, sym (laws.all-step (sigilOk (texts (s .rule .now) (s .text .now))) (sigilsOf (s .beside .sigils)) (name 0 0 0) (l .i) (omega (arith, laws.sigils-length (s .beside .sigils))) (rw (← c .before .before .sigil-at .ensures) (passes (c .before .sigil-ok .ensures) (c .if1 .left)))) ∙ l .inv .1)
+    (omega arith, sym (all-step (sigilOk (texts (s .rule .now) (s .text .now))) (sigilsOf (s .beside .sigils)) (name 0 0 0) (l .i) (omega (arith, laws.sigils-length (s .beside .sigils))) (rw (← c .before .before .sigil-at .ensures) (passes (c .before .sigil-ok .ensures) (c .if1 .left)))) ∙ l .inv .1)
 
 returns-2 : tie.Need-returns-2 Inv-loop μ-loop
 returns-2 c =
     let s = c .before .before .before .before .args in
     let l = c .before .loop in
-    sym (laws.all-end (sigilOk (texts (s .rule .now) (s .text .now))) (sigilsOf (s .beside .sigils)) (name 0 0 0) (l .i) (omega (arith, laws.sigils-length (s .beside .sigils)))) ∙ l .inv .1
+    sym (all-end (sigilOk (texts (s .rule .now) (s .text .now))) (sigilsOf (s .beside .sigils)) (name 0 0 0) (l .i) (omega (arith, laws.sigils-length (s .beside .sigils)))) ∙ l .inv .1
 
 pub sigils-ok-spec : {M : Type 1} → statement M
 sigils-ok-spec =

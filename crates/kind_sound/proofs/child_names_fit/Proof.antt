@@ -8,7 +8,7 @@ use borrow.Author.Needs.{needs}
 use lib.ListN.{drop}
 use Rattle.scope.specs.Names.{bytes}
 use Rattle.scope.specs.Kinds.{objectNamesOk}
-use Rattle.names.specs.Place.{texts, nameIn}
+use Rattle.names.specs.Place.{texts, nameOf}
 use Rattle.names.proofs.Tests.{passes, fails}
 use Rattle.kind_sound.proofs.NameLaws.{childNames, name-below, names-past, name-there, upFrom, up-start, up-end, up-step, up-unnamed, up-unordered}
 use Rattle.kind_sound.proofs.child_names_fit.Statement.{statement}
@@ -16,7 +16,7 @@ use Rattle.kind_sound.proofs.child_names_fit.Tie as tie
 
 abbrev Inv-loop : tie.InvT-loop
 Inv-loop k ks rule text last₀ j₀ last j =
-    upFrom (texts rule text) (bytes (texts rule text) (nameIn last)) (drop j (childNames ks (k .first) (k .count)))
+    upFrom (texts rule text) (bytes (texts rule text) (nameOf last)) (drop j (childNames ks (k .first) (k .count)))
     ≡ objectNamesOk (texts rule text) (childNames ks (k .first) (k .count))
 
 abbrev μ-loop : tie.MeasureT-loop
@@ -39,8 +39,8 @@ returns c =
     let a = c .before .before .before .before .before .before .before .before .before .args in
     let l = c .before .before .before .before .before .loop in
     let x = texts (a .rule .now) (a .text .now) in
-    let n = nameIn (c .before .before .child-name .result) in
-    sym (up-unnamed x (bytes x (nameIn (l .last))) (childNames (a .ks .now) (a .k .first) (a .k .count)) (l .j) n
+    let n = nameOf (c .before .before .child-name .result) in
+    sym (up-unnamed x (bytes x (nameOf (l .last))) (childNames (a .ks .now) (a .k .first) (a .k .count)) (l .j) n
     (name-below (a .ks .now) (a .k .first) (a .k .count) (l .j) (c .before .before .before .if1 .taken))
     (name-there (a .ks .now) (a .k .first) (a .k .count) (l .j) (c .before .before .before .if1 .taken) n (c .before .before .child-name .ensures))
     (fails (c .before .name-ok .ensures) (c .if2 .taken))) ∙ l .inv
@@ -55,8 +55,8 @@ returns-2 c =
     let a = c .before .before .before .before .before .before .before .before .before .before .before .args in
     let l = c .before .before .before .before .before .before .before .loop in
     let x = texts (a .rule .now) (a .text .now) in
-    let n = nameIn (child-name .result) in
-    sym (up-unordered x (bytes x (nameIn (l .last))) (childNames (a .ks .now) (a .k .first) (a .k .count)) (l .j) n
+    let n = nameOf (child-name .result) in
+    sym (up-unordered x (bytes x (nameOf (l .last))) (childNames (a .ks .now) (a .k .first) (a .k .count)) (l .j) n
     (name-below (a .ks .now) (a .k .first) (a .k .count) (l .j) (if1 .taken))
     (name-there (a .ks .now) (a .k .first) (a .k .count) (l .j) (if1 .taken) n (child-name .ensures))
     (fails (c .before .name-before .ensures) (c .if3 .taken))) ∙ l .inv
@@ -75,8 +75,8 @@ loop-again c =
     let a = c .before .before .before .before .before .before .before .before .before .before .before .args in
     let l = c .before .before .before .before .before .before .before .loop in
     let x = texts (a .rule .now) (a .text .now) in
-    let n = nameIn (child-name .result) in
-    sym (up-step x (bytes x (nameIn (l .last))) (childNames (a .ks .now) (a .k .first) (a .k .count)) (l .j) n
+    let n = nameOf (child-name .result) in
+    sym (up-step x (bytes x (nameOf (l .last))) (childNames (a .ks .now) (a .k .first) (a .k .count)) (l .j) n
     (name-below (a .ks .now) (a .k .first) (a .k .count) (l .j) (if1 .taken))
     (name-there (a .ks .now) (a .k .first) (a .k .count) (l .j) (if1 .taken) n (child-name .ensures))
     (passes (name-ok .ensures) (c .before .before .if2 .left)) (passes (c .before .name-before .ensures) (c .if3 .left))) ∙ l .inv
@@ -86,7 +86,7 @@ returns-3 c =
     let a = c .before .before .before .before .before .before .args in
     let l = c .before .before .loop in
     let x = texts (a .rule .now) (a .text .now) in
-    sym (up-end x (bytes x (nameIn (l .last))) (childNames (a .ks .now) (a .k .first) (a .k .count)) (l .j)
+    sym (up-end x (bytes x (nameOf (l .last))) (childNames (a .ks .now) (a .k .first) (a .k .count)) (l .j)
     (names-past (a .ks .now) (a .k .first) (a .k .count) (l .j) (c .if1 .left))) ∙ l .inv
 
 pub child-names-fit-spec : {M : Type 1} → statement M

@@ -9,7 +9,7 @@ use borrow.Author.Needs.{needs}
 use lib.ListN.{drop}
 use Rattle.scope.specs.Base.{all}
 use Rattle.scope.specs.Names.{namedOrNone}
-use Rattle.names.specs.Place.{texts, nameIn}
+use Rattle.names.specs.Place.{texts, nameOf}
 use Rattle.names.proofs.Tests.{passes, fails}
 use Rattle.chart.proofs.Laws.{all-step, all-fails, all-end}
 use Rattle.kind_sound.proofs.NameLaws.{childNames, name-below, names-past, name-there}
@@ -39,7 +39,7 @@ returns c =
     let a = c .before .before .before .before .before .before .before .before .args in
     let l = c .before .before .before .before .loop in
     let p = namedOrNone (texts (a .rule .now) (a .text .now)) in
-    let n = nameIn (child-name .result) in
+    let n = nameOf (child-name .result) in
     sym (all-fails p (childNames (a .ks .now) (a .k .first) (a .n)) none (l .j) (name-below (a .ks .now) (a .k .first) (a .n) (l .j) (loop-test .taken))
     (ap p (name-there (a .ks .now) (a .k .first) (a .n) (l .j) (loop-test .taken) n (child-name .ensures)) ∙ fails (c .before .name-or-none .ensures) (c .if1 .taken))) ∙ l .inv
 
@@ -56,7 +56,7 @@ loop-again c =
     let a = c .before .before .before .before .before .before .before .before .args in
     let l = c .before .before .before .before .loop in
     let p = namedOrNone (texts (a .rule .now) (a .text .now)) in
-    let n = nameIn (child-name .result) in
+    let n = nameOf (child-name .result) in
     sym (all-step p (childNames (a .ks .now) (a .k .first) (a .n)) none (l .j) (name-below (a .ks .now) (a .k .first) (a .n) (l .j) (loop-test .taken))
     (ap p (name-there (a .ks .now) (a .k .first) (a .n) (l .j) (loop-test .taken) n (child-name .ensures)) ∙ passes (c .before .name-or-none .ensures) (c .if1 .left))) ∙ l .inv
 

@@ -8,12 +8,6 @@ use Rattle.kinds.proofs.sort_fits.Tie as tie
 row-of-requires : tie.Need-row-of-requires
 row-of-requires c κs = search needs
 
-cast-if2 : tie.Need-cast-if2
-cast-if2 c = search needs
-
-cast-result : tie.Need-cast-result
-cast-result c = search needs
-
 returns : tie.Need-returns
 returns c = rw (← (c .before .before .before .before .row-of .ensures), eq-eqb _ _ (c .before .before .if1 .taken), eq-eqb _ _ (c .if2 .taken))
 
@@ -24,4 +18,4 @@ returns-3 : tie.Need-returns-3
 returns-3 c = rw (← (c .before .before .row-of .ensures), ne-eqb _ _ (c .if1 .left))
 
 pub sort-fits-spec : {M : Type 1} → statement M
-sort-fits-spec = tie.close (tie.spec row-of-requires cast-if2 cast-result returns returns-2 returns-3)
+sort-fits-spec = tie.close (tie.spec row-of-requires returns returns-2 returns-3)

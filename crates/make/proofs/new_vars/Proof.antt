@@ -7,7 +7,7 @@ use mathlib.Core.Path.{_≡_, refl, _∙_}
 use lib.ListN.{length}
 use Rattle.scope.specs.Make.{newVars}
 use Rattle.layout.specs.Words.{storeIn}
-use Rattle.make.specs.Holds.{MadeAllIs}
+use Rattle.make.specs.Made.{MadeAllIs}
 use Rattle.make.proofs.VarLaws.{vars-none, vars-ready, vars-length, vars-more, vars-end}
 use Rattle.make.proofs.new_vars.Statement.{statement}
 use Rattle.make.proofs.new_vars.Tie as tie

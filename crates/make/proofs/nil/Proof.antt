@@ -1,55 +1,32 @@
--- `make::nil` meets its contract. A type that is remembered is returned and nothing changes; else one node more is pushed, and its type is
--- remembered beside what the store remembered before.
+-- `make::nil` meets its contract: what `remembered_or_new` makes of what the store remembers is what `makeNil` makes.
 -- Assumes nothing.
 use borrow.Author.Needs.{needs}
-use Rattle.make.proofs.MakeLaws.{pushable, nil-ready, nil-same, nil-new}
+use Rattle.make.proofs.MakeLaws.{once-ready, head-nil, nil-made}
 use Rattle.make.proofs.nil.Statement.{statement}
 use Rattle.make.proofs.nil.Tie as tie
 
 read-header-requires : tie.Need-read-header-requires
 read-header-requires c κs = search needs
 
-enum-known-was : tie.Need-enum-known-was
-enum-known-was c = search needs
-
-enum-told : tie.Need-enum-told
-enum-told c = search needs
-
-bare-kind-requires : tie.Need-bare-kind-requires
-bare-kind-requires c κs = search needs
-
-push-requires : tie.Need-push-requires
-push-requires c κs =
-    pushable (c .before .before .before .before .before .read-header .result) (nil-ready _ _ _ (c .before .before .before .before .before .read-header .ensures) (c .before .before .before .enum-told .given .1) (c .before .before .before .before .before .before .before .before .before .before .pre)) (c .before .before .before .before .before .read-header .ensures)
+remembered-or-new-requires : tie.Need-remembered-or-new-requires
+remembered-or-new-requires c κs =
+    let s = c .before .before .before .before .before .before .before in
+    let a = s .args in
+    let x = c .before .before .read-header in
+    once-ready (x .ensures) (head-nil (a .h .now) (a .ws .now) (a .ks .now) (x .ensures)) (s .pre)
 
 same-length : tie.Need-same-length
 same-length c = search needs
 
-returns : tie.Need-returns
-returns c = nil-same _ _ _ (c .before .before .before .read-header .ensures) (c .before .was .given .1) (c .before .before .before .before .before .before .before .before .pre .clean)
-
 same-length-2 : tie.Need-same-length-2
 same-length-2 c = search needs
 
-same-length-3 : tie.Need-same-length-3
-same-length-3 c = search needs
-
-returns-2 : tie.Need-returns-2
-returns-2 c =
-    nil-new _ _ _ (c .before .before .before .before .before .before .before .before .before .before .read-header .ensures) (nil-ready _ _ _ (c .before .before .before .before .before .before .before .before .before .before .read-header .ensures) (c .before .before .before .before .before .before .before .before .enum-told .given .1) (c .before .before .before .before .before .before .before .before .before .before .before .before .before .before .before .pre)) (c .before .before .before .before .before .before .before .bare-kind .ensures)
-    (c .before .before .before .before .before .before .before .before .enum-told .given .1) (c .before .before .before .before .push .ensures)
+returns : tie.Need-returns
+returns c =
+    let s = c .before .before .before .before .before .before .before .before .before .before .before .before in
+    let a = s .args in
+    let x = c .before .before .before .before .before .before .before .read-header in
+    nil-made (a .h .now) (a .ws .now) (a .ks .now) (x .ensures) (s .pre) (c .before .before .before .before .remembered-or-new .ensures)
 
 pub nil-spec : {M : Type 1} → statement M
-nil-spec =
-    tie.close
-    (tie.spec
-    read-header-requires
-    enum-known-was
-    enum-told
-    bare-kind-requires
-    push-requires
-    same-length
-    returns
-    same-length-2
-    same-length-3
-    returns-2)
+nil-spec = tie.close (tie.spec read-header-requires remembered-or-new-requires same-length same-length-2 returns)

@@ -2,8 +2,7 @@
 -- Assumes nothing.
 use mathlib.Core.Path.{ap, _∙_}
 use borrow.Author.Needs.{needs}
-use Rattle.layout.specs.Meaning.{readAt}
-use Rattle.merge.specs.Meaning.{nodeSize}
+use Rattle.layout.specs.Meaning.{nodeSize, readAt}
 use Rattle.merge.proofs.size_at.Statement.{statement}
 use Rattle.merge.proofs.size_at.Tie as tie
 

@@ -18,7 +18,11 @@ same-name-requires : tie.Need-same-name-requires
 same-name-requires c κs = search needs
 
 returns-4 : tie.Need-returns-4
-returns-4 c = same-key _ _ _ _ (c .before .before .before .before .before .before .if1 .left) (c .before .before .before .if2 .left) (c .before .if3 .left) (c .same-name .ensures)
+returns-4 c =
+    let code = c .before .before .before .before .before .before .before .before .if1 .left in
+    let number = c .before .before .before .before .before .if2 .left in
+    let key = c .before .before .before .if3 .left in
+    same-key _ _ _ _ code number key (c .same-name .ensures)
 
 pub same-kinds-spec : {M : Type 1} → statement M
 same-kinds-spec = tie.close (tie.spec returns returns-2 returns-3 same-name-requires returns-4)

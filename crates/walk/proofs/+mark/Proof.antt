@@ -17,7 +17,7 @@ use Rattle.layout.proofs.child_of.Reads as child-of-reads
 use Rattle.roots.proofs.find.Reads as find-reads
 use Rattle.types.proofs.Type.idx.Reads as idx-reads
 use Rattle.walk.proofs.is_marked.Reads as is-marked-reads
-use Rattle.walk.proofs.kind_at.Reads as kind-at-reads
+use Rattle.layout.proofs.held_at.Reads as held-at-reads
 use Rattle.walk.proofs.set_mark.Reads as set-mark-reads
 use Rattle.walk.proofs.+mark.{statement}
 use Rattle.walk.proofs.+mark.Tie.{close}
@@ -41,8 +41,8 @@ mark-claims t = (
   is-marked-reads.Learnt,
   set-mark-reads.Asked,
   set-mark-reads.Learnt,
-  kind-at-reads.Asked,
-  kind-at-reads.Learnt,
+  held-at-reads.Asked,
+  held-at-reads.Learnt,
   child-of-reads.Asked,
   child-of-reads.Learnt,
   mark-below t,
@@ -78,8 +78,8 @@ mark-returns-2 t c =
 mark-set-mark-requires : (t : ℕ) → mark-lts.Need-set-mark-requires (mark-claims t) (mark-at t) mark.Post mark-Inv-loop mark-μ-loop
 mark-set-mark-requires t c κs = search needs
 
-mark-kind-at-requires : (t : ℕ) → mark-lts.Need-kind-at-requires (mark-claims t) (mark-at t) mark.Post mark-Inv-loop mark-μ-loop
-mark-kind-at-requires t c κs =
+mark-held-at-requires : (t : ℕ) → mark-lts.Need-held-at-requires (mark-claims t) (mark-at t) mark.Post mark-Inv-loop mark-μ-loop
+mark-held-at-requires t c κs =
     let pre = c .before .before .before .before .before .before .before .before .before .before .before .before .before .pre in
     pre .1 .clean .room
 
@@ -100,7 +100,7 @@ mark-returns-3 t c =
     let f = b .before .before .before in
     let s = f .before .before .before .before .before in
     mark-kids (s .args .depth) _ _ (s .pre .1) (f .before .if1 .left) (root-is (f .find .ensures) (b .before .before .idx .ensures) _) (b .is-marked .ensures) (m .before .before .if2 .left)
-    (m .set-mark .ensures) (k .kind-at .ensures) (c .enum-told .given .1)
+    (m .set-mark .ensures) (k .held-at .ensures) (c .enum-told .given .1)
 
 mark-loop-holds : (t : ℕ) → mark-lts.Need-loop-holds (mark-claims t) (mark-at t) mark.Post mark-Inv-loop mark-μ-loop
 mark-loop-holds t c = turn-start _ _ _ _
@@ -124,7 +124,7 @@ mark-mark-requires t c κs =
 mark-add-j : (t : ℕ) → mark-lts.Need-add-j (mark-claims t) (mark-at t) mark.Post mark-Inv-loop mark-μ-loop
 mark-add-j t c =
     let a = c .before .before .before .before .before in
-    omega (arith, a .before .if3 .taken, a .before .before .struct-known .given .1 .1 .1 .1 .1 .1 .1 .1 .0)
+    omega (arith, a .before .if3 .taken, a .before .before .struct-known .given .1 .1 .1 .1 .1 .1 .0)
 
 mark-loop-less : (t : ℕ) → mark-lts.Need-loop-less (mark-claims t) (mark-at t) mark.Post mark-Inv-loop mark-μ-loop
 mark-loop-less t c = omega (arith, c .before .before .before .before .before .before .if3 .taken)
@@ -151,7 +151,7 @@ mark-returns-4 t c =
     let s = f .before .before .before .before .before in
     turn-end (l .loop .inv) (c .if3 .left)
     ∙ mark-kids (s .args .depth) _ _ (s .pre .1) (f .before .if1 .left) (root-is (f .find .ensures) (b .before .before .idx .ensures) _) (b .is-marked .ensures) (m .before .before .if2 .left)
-    (m .set-mark .ensures) (k .kind-at .ensures) (l .before .before .kind .given .1)
+    (m .set-mark .ensures) (k .held-at .ensures) (l .before .before .kind .given .1)
 
 pub +mark-spec : {M : Type 1} → statement M
 +mark-spec = close μ-mark λ t. mark-lts.spec (mark-claims t)
@@ -166,7 +166,7 @@ pub +mark-spec : {M : Type 1} → statement M
     (mark-same-length t)
     (mark-returns-2 t)
     (mark-set-mark-requires t)
-    (mark-kind-at-requires t)
+    (mark-held-at-requires t)
     (mark-enum-known-kind t)
     (mark-enum-told t)
     (mark-same-length-2 t)

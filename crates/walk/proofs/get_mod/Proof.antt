@@ -23,8 +23,8 @@ find-requires c κs = clean-linked _ _ _ _ (c .before .before .before .before .b
 idx-requires : tie.Need-idx-requires Inv-loop μ-loop
 idx-requires c κs = search needs
 
-kind-at-requires : tie.Need-kind-at-requires Inv-loop μ-loop
-kind-at-requires c κs = c .before .before .before .before .before .before .before .pre .clean .room
+held-at-requires : tie.Need-held-at-requires Inv-loop μ-loop
+held-at-requires c κs = c .before .before .before .before .before .before .before .pre .clean .room
 
 enum-known-kind : tie.Need-enum-known-kind Inv-loop μ-loop
 enum-known-kind c = search needs
@@ -39,7 +39,7 @@ returns c =
     let l = f .before .before in
     let s = l .before .before .before .before in
     let h = f .before .loop-test .taken in
-    looks-none (l .loop .inv) (s .pre) (omega arith) (root-is (f .find .ensures) (k .before .idx .ensures) _) (k .kind-at .ensures) (c .enum-told .given .1)
+    looks-none (l .loop .inv) (s .pre) (omega arith) (root-is (f .find .ensures) (k .before .idx .ensures) _) (k .held-at .ensures) (c .enum-told .given .1)
 
 mod-of-requires : tie.Need-mod-of-requires Inv-loop μ-loop
 mod-of-requires c κs = search needs
@@ -52,7 +52,7 @@ returns-2 c =
     let l = f .before .before in
     let s = l .before .before .before .before in
     let h = f .before .loop-test .taken in
-    looks-kind (l .loop .inv) (s .pre) (omega arith) (root-is (f .find .ensures) (k .before .idx .ensures) _) (k .kind-at .ensures) (kind .given .1) (c .before .if1 .taken) (c .mod-of .ensures)
+    looks-kind (l .loop .inv) (s .pre) (omega arith) (root-is (f .find .ensures) (k .before .idx .ensures) _) (k .held-at .ensures) (kind .given .1) (c .before .if1 .taken) (c .mod-of .ensures)
 
 returns-3 : tie.Need-returns-3 Inv-loop μ-loop
 returns-3 c =
@@ -62,7 +62,7 @@ returns-3 c =
     let l = f .before .before in
     let s = l .before .before .before .before in
     let h = f .before .loop-test .taken in
-    looks-bare (l .loop .inv) (s .pre) (omega arith) (root-is (f .find .ensures) (k .before .idx .ensures) _) (k .kind-at .ensures) (kind .given .1) (c .before .before .if1 .left) (c .if2 .taken)
+    looks-bare (l .loop .inv) (s .pre) (omega arith) (root-is (f .find .ensures) (k .before .idx .ensures) _) (k .held-at .ensures) (kind .given .1) (c .before .before .if1 .left) (c .if2 .taken)
 
 child-of-requires : tie.Need-child-of-requires Inv-loop μ-loop
 child-of-requires c κs = search needs
@@ -83,7 +83,7 @@ loop-again c =
     let l = f .before .before in
     let s = l .before .before .before .before in
     let h = f .before .loop-test .taken in
-    looks-on (l .loop .inv) (s .pre) (omega arith) (root-is (f .find .ensures) (k .before .idx .ensures) _) (k .kind-at .ensures) (kind .given .1) (child-of .result) (if1 .left)
+    looks-on (l .loop .inv) (s .pre) (omega arith) (root-is (f .find .ensures) (k .before .idx .ensures) _) (k .held-at .ensures) (kind .given .1) (child-of .result) (if1 .left)
     (omega (arith, c .before .before .if2 .left)) (child-of .ensures)
 
 returns-4 : tie.Need-returns-4 Inv-loop μ-loop
@@ -98,7 +98,7 @@ get-mod-spec =
     loop-holds
     find-requires
     idx-requires
-    kind-at-requires
+    held-at-requires
     enum-known-kind
     enum-told
     returns

@@ -4,8 +4,8 @@ use borrow.Author.Needs.{needs}
 use Rattle.walk.proofs.good_at.Statement.{statement}
 use Rattle.walk.proofs.good_at.Tie as tie
 
-kind-at-requires : tie.Need-kind-at-requires
-kind-at-requires c κs = search needs
+held-at-requires : tie.Need-held-at-requires
+held-at-requires c κs = search needs
 
 enum-known-kind : tie.Need-enum-known-kind
 enum-known-kind c = search needs
@@ -17,12 +17,12 @@ enum-told : tie.Need-enum-told
 enum-told c = search needs
 
 returns : tie.Need-returns
-returns c = rw (← c .before .before .before .before .kind-at .ensures, c .before .before .kind .given .1) (c .good-kind .ensures)
+returns c = rw (← c .before .before .before .before .held-at .ensures, c .before .before .kind .given .1) (c .good-kind .ensures)
 
 returns-2 : tie.Need-returns-2
-returns-2 c = rw (← c .before .before .kind-at .ensures, c .enum-told .given .1)
+returns-2 c = rw (← c .before .before .held-at .ensures, c .enum-told .given .1)
 
 pub good-at-spec : {M : Type 1} → statement M
 good-at-spec =
     tie.close
-    (tie.spec kind-at-requires enum-known-kind good-kind-requires enum-told returns returns-2)
+    (tie.spec held-at-requires enum-known-kind good-kind-requires enum-told returns returns-2)

@@ -14,8 +14,8 @@ idx-requires c κs = search needs
 returns : tie.Need-returns
 returns c = occurs-is (c .before .before .before .before .before .before .pre) (c .before .before .before .idx .ensures) (c .if1 .taken)
 
-kind-at-requires : tie.Need-kind-at-requires
-kind-at-requires c κs = search needs
+held-at-requires : tie.Need-held-at-requires
+held-at-requires c κs = search needs
 
 enum-known-kind : tie.Need-enum-known-kind
 enum-known-kind c = search needs
@@ -27,14 +27,14 @@ returns-2 : tie.Need-returns-2
 returns-2 c =
     let k = c .before .before in
     let s = k .before .before .before .before in
-    occurs-none (s .before .before .before .pre) (s .idx .ensures) (k .before .if1 .left) (k .kind-at .ensures) (c .enum-told .given .1) refl
+    occurs-none (s .before .before .before .pre) (s .idx .ensures) (k .before .if1 .left) (k .held-at .ensures) (c .enum-told .given .1) refl
 
 returns-3 : tie.Need-returns-3
 returns-3 c =
     let kind = c .before .before .before .kind in
     let k = c .before .before .before .before .before in
     let s = k .before .before .before .before in
-    occurs-none (s .before .before .before .pre) (s .idx .ensures) (k .before .if1 .left) (k .kind-at .ensures) (kind .given .1)
+    occurs-none (s .before .before .before .pre) (s .idx .ensures) (k .before .if1 .left) (k .held-at .ensures) (kind .given .1)
     (kid-none (s .before .before .before .args .ks .now) _ 0 (omega (arith, c .if2 .taken)))
 
 slice-aggregate-find-related : tie.Need-slice-aggregate-find-related
@@ -62,7 +62,7 @@ occurs-spec =
     (tie.spec
     idx-requires
     returns
-    kind-at-requires
+    held-at-requires
     enum-known-kind
     enum-told
     returns-2

@@ -1,0 +1,5 @@
+-- The laws that belong to no one function
+pub mod Laws
+pub mod RoomLaws
+pub mod OpenLaws
+pub mod InsideLaws
