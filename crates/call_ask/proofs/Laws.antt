@@ -32,7 +32,10 @@ use Rattle.promise.proofs.CallLaws.{call-outcome}
 use Rattle.promise.proofs.ReadLaws.{read-passed, read-facts, read-inside, nodes-read, read-clean}
 use Rattle.call_ask.specs.Replies.{MarksPromised}
 
-module _ {e : Env} {h ws ks : List ℕ} (w : ℕ) {n : ℕ} (q : TypesTested e h ws ks (tyOf w ∷ []) n) where
+module _ {chart : List ℕ} {b : Beside} {rule text h ws ks : List ℕ} (w : ℕ) {n : ℕ} (q : TypesTested chart b rule text h ws ks (tyOf w ∷ []) n) where
+  abbrev e : Env
+  e = envIn chart b rule text
+
   abbrev T : Ty
   T = tyOf w
 
@@ -47,7 +50,7 @@ module _ {e : Env} {h ws ks : List ℕ} (w : ℕ) {n : ℕ} (q : TypesTested e h
   marks-back : (ms : List ℕ) (m : ℕ) → firstBroken (marksTests ms) ≡ codeOf m → (m ≡ 0 → ⊥)
       → MarksPromised (findRelatedCall e (lentOf h ws ks) T ms) (Refused m) (storeIn h ws ks) ms ms
   unfolding findRelatedCall
-  marks-back ms m b z = record { outcome = judged-refused (marksTests ms) (marksAnswer ms (storeOf (lentOf h ws ks))) m b z; kept = λ y. refl }
+  marks-back ms m p z = record { outcome = judged-refused (marksTests ms) (marksAnswer ms (storeOf (lentOf h ws ks))) m p z; kept = λ y. refl }
 
   pub marks-refused : (n ≡ 0 → ⊥) → (ms : List ℕ) → MarksPromised (findRelatedCall e (lentOf h ws ks) T ms) (Refused n) (storeIn h ws ks) ms ms
   marks-refused z ms =
@@ -111,6 +114,6 @@ module _ {e : Env} {h ws ks : List ℕ} (w : ℕ) {n : ℕ} (q : TypesTested e h
     }
 
 -- the records of a chart that passes are those of its numbers
-module _ (chart : List ℕ) (b : Beside) (rule text : List ℕ) {h ws ks : List ℕ} {ts : List Ty} {n : ℕ} (q : TypesTested (envIn chart b rule text) h ws ks ts n) where
-  pub read-records : n ≡ 0 → envIn chart b rule text .records ≡ recordsOf chart
-  read-records z = ap (λ (y : Env). y .records) (lent-env chart b rule text h ws ks (read-passed q z))
+pub read-records : {chart : List ℕ} {b : Beside} {rule text h ws ks : List ℕ} {ts : List Ty} {n : ℕ} → TypesTested chart b rule text h ws ks ts n → n ≡ 0
+    → envIn chart b rule text .records ≡ recordsOf chart
+read-records {chart} {b} {rule} {text} {h} {ws} {ks} q z = ap (λ (y : Env). y .records) (lent-env chart b rule text h ws ks (read-passed q z))

@@ -10,6 +10,7 @@ use Rattle.scope.specs.Types.{Ty, tyOf}
 use Rattle.scope.specs.Nodes.{Node, Store, find, findMut, withNodes}
 use Rattle.scope.specs.Calls.{Outcome, done, outside, findMutCall}
 use Rattle.types.specs.declared.«Type».{«Type»}
+use Rattle.chart.specs.declared.Beside.{Beside}
 use Rattle.layout.specs.Words.{nodesMade, childrenMade, decode, storeIn, lentOf}
 use Rattle.layout.specs.Meaning.{Clean, headerIn}
 use Rattle.layout.specs.declared.Header.{Header}
@@ -17,12 +18,16 @@ use Rattle.layout.proofs.StoreLaws.{clean-nodes}
 use Rattle.make.specs.Holds.{Holds, Became}
 use Rattle.make.proofs.Laws.{store-nodes, holds-with, beyond-with}
 use Rattle.roots.specs.Found.{FoundMut}
+use Rattle.sound.specs.Tests.{envIn}
 use Rattle.promise.specs.Promise.{value, refusal, TypesTested, Promised}
 use Rattle.promise.proofs.Laws.{lent-clean-words}
 use Rattle.promise.proofs.CallLaws.{call-back, call-done}
 use Rattle.promise.proofs.ReadLaws.{read-passed}
 
-module _ {e : Env} {h ws ks : List ℕ} (t : «Type») {n : ℕ} (q : TypesTested e h ws ks (tyOf (t .0) ∷ []) n) where
+module _ {chart : List ℕ} {b : Beside} {rule text h ws ks : List ℕ} (t : «Type») {n : ℕ} (q : TypesTested chart b rule text h ws ks (tyOf (t .0) ∷ []) n) where
+  abbrev e : Env
+  e = envIn chart b rule text
+
   abbrev T : Ty
   T = tyOf (t .0)
 

@@ -9,13 +9,14 @@ use Rattle.scope.specs.Chart.{Env}
 use Rattle.scope.specs.Types.{Ty}
 use Rattle.scope.specs.Nodes.{Node, Store, at}
 use Rattle.scope.specs.Calls.{Outcome, refused, done, orRefused, firstBroken, storeOf, lentTests, readCall, nodeCall}
+use Rattle.chart.specs.declared.Beside.{Beside}
 use Rattle.layout.specs.Words.{childrenMade, decode, storeIn, lentOf}
 use Rattle.layout.specs.Meaning.{readAt, nodeMeans, storeMeans, headerIn}
 use Rattle.layout.specs.declared.Header.{Header}
 use Rattle.layout.specs.declared.TypeNode.{TypeNode}
 use Rattle.layout.proofs.Laws.{read-is, read-is-fit}
 use Rattle.layout.proofs.StoreLaws.{store-header}
-use Rattle.sound.specs.Tests.{codeOf}
+use Rattle.sound.specs.Tests.{envIn, codeOf}
 use Rattle.promise.specs.Promise.{typesTests, TypesTested, outcomeBy}
 use Rattle.promise.proofs.ReadLaws.{read-refused, read-clean, read-nodes}
 use Rattle.call_read.specs.declared.NodeAnswer.{NodeAnswer}
@@ -24,7 +25,10 @@ use Rattle.call_read.specs.Replies.{nodeReply, NodePromised}
 
 -- the two ways out of `node`
 
-module _ {e : Env} {h ws ks : List ℕ} {t : Ty} {n : ℕ} (q : TypesTested e h ws ks (t ∷ []) n) where
+module _ {chart : List ℕ} {b : Beside} {rule text h ws ks : List ℕ} {t : Ty} {n : ℕ} (q : TypesTested chart b rule text h ws ks (t ∷ []) n) where
+  abbrev e : Env
+  e = envIn chart b rule text
+
   pub node-refused : (n ≡ 0 → ⊥) → NodePromised (nodeCall e (lentOf h ws ks) t) (node.Refused n) h ws ks
   unfolding nodeCall
   node-refused z = record { outcome = read-refused q z _; fits = refl }
@@ -68,8 +72,9 @@ module _ (e : Env) (t : Ty) {h ws ks : List ℕ} {r : NodeAnswer} (q : NodePromi
 
 -- `figures`: no type is listed, and the store that the slices hold is its header and its nodes
 
-pub no-types : (e : Env) (h ws ks : List ℕ) (n : ℕ) → firstBroken (lentTests e (lentOf h ws ks)) ≡ codeOf n → TypesTested e h ws ks [] n
-no-types e h ws ks n q = record { first = q }
+pub no-types : (chart : List ℕ) (b : Beside) (rule text h ws ks : List ℕ) (n : ℕ) → firstBroken (lentTests (envIn chart b rule text) (lentOf h ws ks)) ≡ codeOf n
+    → TypesTested chart b rule text h ws ks [] n
+no-types chart b rule text h ws ks n q = record { first = q }
 
 pub figures-read : (h ws ks : List ℕ) {x : Header} → x ≡ headerIn h
     → done (storeIn h ws ks) (storeIn h ws ks) ≡ done (storeMeans x (decode ws ks (x .nodes))) (storeIn h ws ks)

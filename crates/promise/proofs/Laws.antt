@@ -175,18 +175,21 @@ lent-env chart b rule text h ws ks q =
 
 -- one type
 
-module _ (e : Env) (h ws ks : List ℕ) (t : Ty) (n : ℕ) (q : firstBroken (lentTests e (lentOf h ws ks)) ≡ codeOf n) where
-  pub one-lent : (n ≡ 0 → ⊥) → TypesTested e h ws ks (t ∷ []) n
-  one-lent z = record { first = lent-refused e h ws ks (outside (storeOf (lentOf h ws ks)) (t ∷ []) ∷ []) n q z }
+module _ (chart : List ℕ) (c : Beside) (rule text h ws ks : List ℕ) (t : Ty) (n : ℕ) (q : firstBroken (lentTests (envIn chart c rule text) (lentOf h ws ks)) ≡ codeOf n) where
+  abbrev env : Env
+  env = envIn chart c rule text
+
+  pub one-lent : (n ≡ 0 → ⊥) → TypesTested chart c rule text h ws ks (t ∷ []) n
+  one-lent z = record { first = lent-refused env h ws ks (outside (storeOf (lentOf h ws ks)) (t ∷ []) ∷ []) n q z }
 
   module _ (z : n ≡ 0) {x : Header} (g : x ≡ headerIn h) {b : Bool} (i : (ns : List Node) → length ns ≡ x .nodes → b ≡ inStore ns t) where
-    one-test : firstBroken (typesTests e (lentOf h ws ks) (t ∷ [])) ≡ firstBroken ((not b, 3) ∷ [])
-    one-test = types-test e h ws ks n q z x g (t ∷ []) b (λ ns m. i ns m ∙ sym (and-true (inStore ns t)))
+    one-test : firstBroken (typesTests env (lentOf h ws ks) (t ∷ [])) ≡ firstBroken ((not b, 3) ∷ [])
+    one-test = types-test env h ws ks n q z x g (t ∷ []) b (λ ns m. i ns m ∙ sym (and-true (inStore ns t)))
 
-    pub one-outside : b ≡ false → TypesTested e h ws ks (t ∷ []) 3
+    pub one-outside : b ≡ false → TypesTested chart c rule text h ws ks (t ∷ []) 3
     one-outside f = record { first = one-test ∙ rw f }
 
-    pub one-inside : b ≡ true → TypesTested e h ws ks (t ∷ []) 0
+    pub one-inside : b ≡ true → TypesTested chart c rule text h ws ks (t ∷ []) 0
     one-inside f = record { first = one-test ∙ rw f }
 
 -- listed types by their places

@@ -14,16 +14,21 @@ use Rattle.scope.specs.Nodes.{Node, Store}
 use Rattle.scope.specs.Sound.{inStore}
 use Rattle.scope.specs.Calls.{refused, done, firstBroken, storeOf, lentTests, outside, readCall}
 use Rattle.scope.proofs.SoundLaws.{SoundFacts}
+use Rattle.chart.specs.declared.Beside.{Beside}
 use Rattle.layout.specs.Words.{nodesMade, childrenMade, decode, storeIn, lentOf}
 use Rattle.layout.specs.Meaning.{Clean, Linked, headerIn}
 use Rattle.layout.specs.declared.Header.{Header}
 use Rattle.layout.proofs.StoreLaws.{clean-nodes}
 use Rattle.make.proofs.Laws.{store-nodes}
+use Rattle.sound.specs.Tests.{envIn}
 use Rattle.promise.specs.Promise.{typesTests, TypesTested}
 use Rattle.promise.proofs.Laws.{code-none, judged-refused, passed-next, test-passed, call-passed, lent-clean-words, lent-store, lent-facts, lent-linked}
 use Rattle.promise.proofs.CallLaws.{call-outcome}
 
-module _ {e : Env} {h ws ks : List ℕ} {ts : List Ty} {n : ℕ} (q : TypesTested e h ws ks ts n) where
+module _ {chart : List ℕ} {b : Beside} {rule text h ws ks : List ℕ} {ts : List Ty} {n : ℕ} (q : TypesTested chart b rule text h ws ks ts n) where
+  abbrev e : Env
+  e = envIn chart b rule text
+
   pub read-refused : {A : Type 0} → (n ≡ 0 → ⊥) → (a : A) → readCall e (lentOf h ws ks) ts a ≡ refused n
   read-refused z a = judged-refused (typesTests e (lentOf h ws ks) ts) (done a (storeOf (lentOf h ws ks))) n (q .first) z
 

@@ -9,10 +9,11 @@ use Rattle.scope.specs.Types.{Ty, tyOf}
 use Rattle.scope.specs.Nodes.{Store}
 use Rattle.scope.specs.Sound.{Lent}
 use Rattle.scope.specs.Calls.{Outcome, refused, done, firstBroken, storeOf, lentTests, outside}
+use Rattle.chart.specs.declared.Beside.{Beside}
 use Rattle.layout.specs.Words.{storeIn, lentOf, slots}
 use Rattle.make.specs.Holds.{Became}
 use Rattle.make.specs.Given.{entryCount}
-use Rattle.sound.specs.Tests.{codeOf}
+use Rattle.sound.specs.Tests.{envIn, codeOf}
 use Rattle.promise.specs.declared.TypeAnswer.{TypeAnswer}
 use Rattle.promise.specs.declared.TypeAnswer.the-variants as type
 use Rattle.promise.specs.declared.BoolAnswer.{BoolAnswer}
@@ -64,8 +65,8 @@ abbrev pub typesTests : Env → Lent → List Ty → List (Bool × ℕ)
 typesTests e l ts = lentTests e l ++ (outside (storeOf l) ts ∷ [])
 
 -- n is the first of refusals 2, 8 and 3 that stands for a call on listed types, and 0 where none does
-pub record TypesTested (e : Env) (h ws ks : List ℕ) (ts : List Ty) (n : ℕ) : Type 0 where
-  pub first : firstBroken (typesTests e (lentOf h ws ks) ts) ≡ codeOf n
+pub record TypesTested (chart : List ℕ) (b : Beside) (rule text h ws ks : List ℕ) (ts : List Ty) (n : ℕ) : Type 0 where
+  pub first : firstBroken (typesTests (envIn chart b rule text) (lentOf h ws ks) ts) ≡ codeOf n
 
 -- lent types, a word each
 abbrev pub typesIn : List ℕ → List Ty

@@ -35,7 +35,7 @@ returns-2 c =
     let test = c .before .before .before .refusal-at .ensures in
     read-nodes test (c .before .before .if1 .left) (c .before .read-header .ensures)
     (λ (ns : List Node). getMod e ns (tyOf (a .t .0)))
-    (c .get-mod .ensures .answer e (read-records (a .chart .now) (a .beside) (a .rule .now) (a .text .now) test (c .before .before .if1 .left)))
+    (c .get-mod .ensures .answer e (read-records test (c .before .before .if1 .left)))
 
 pub get-mod-spec : {M : Type 1} → statement M
 get-mod-spec =

@@ -4,7 +4,6 @@ use mathlib.Core.Path.{_∙_}
 use borrow.Author.Needs.{needs}
 use Rattle.scope.specs.Nodes.{Store}
 use Rattle.scope.specs.Calls.{figuresCall}
-use Rattle.sound.specs.Tests.{envIn}
 use Rattle.promise.proofs.ReadLaws.{read-refused, read-done}
 use Rattle.call_read.proofs.Laws.{no-types, figures-read}
 use Rattle.call_read.proofs.figures.Statement.{statement}
@@ -17,8 +16,8 @@ returns : tie.Need-returns
 unfolding figuresCall
 returns c =
     let a = c .before .before .before .before .before .before .before .before .args in
-    let e = envIn (a .chart .now) (a .beside) (a .rule .now) (a .text .now) in
-    read-refused (no-types e (a .h .now) (a .ws .now) (a .ks .now) (c .before .refusal .result) (c .before .refusal .ensures)) (c .if1 .taken) _
+    let lent = c .before .refusal in
+    read-refused (no-types (a .chart .now) (a .beside) (a .rule .now) (a .text .now) (a .h .now) (a .ws .now) (a .ks .now) (lent .result) (lent .ensures)) (c .if1 .taken) _
 
 read-header-requires : tie.Need-read-header-requires
 read-header-requires c κs = search needs
@@ -27,9 +26,9 @@ returns-2 : tie.Need-returns-2
 unfolding figuresCall
 returns-2 c =
     let a = c .before .before .before .before .before .before .before .before .before .args in
-    let e = envIn (a .chart .now) (a .beside) (a .rule .now) (a .text .now) in
     let lent = c .before .before .refusal in
-    read-done (no-types e (a .h .now) (a .ws .now) (a .ks .now) (lent .result) (lent .ensures)) (c .before .if1 .left) (λ (s : Store). s)
+    read-done (no-types (a .chart .now) (a .beside) (a .rule .now) (a .text .now) (a .h .now) (a .ws .now) (a .ks .now) (lent .result) (lent .ensures)) (c .before .if1 .left)
+    (λ (s : Store). s)
     ∙ figures-read (a .h .now) (a .ws .now) (a .ks .now) (c .read-header .ensures)
 
 pub figures-spec : {M : Type 1} → statement M

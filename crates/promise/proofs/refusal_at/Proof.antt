@@ -3,7 +3,6 @@
 use borrow.Author.Needs.{needs}
 use borrow.Author.Tests.{not-true, not-false}
 use Rattle.scope.specs.Types.{tyOf}
-use Rattle.sound.specs.Tests.{envIn}
 use Rattle.promise.proofs.Laws.{one-lent, one-outside, one-inside}
 use Rattle.promise.proofs.refusal_at.Statement.{statement}
 use Rattle.promise.proofs.refusal_at.Tie as tie
@@ -14,9 +13,9 @@ refusal-requires c κs = search needs
 returns : tie.Need-returns
 returns c =
     let a = c .before .before .before .before .before .before .before .before .args in
-    let e = envIn (a .chart .now) (a .beside) (a .rule .now) (a .text .now) in
     let lent = c .before .refusal in
-    one-lent e (a .h .now) (a .ws .now) (a .ks .now) (tyOf (a .t .0)) (lent .result) (lent .ensures) (c .if1 .taken)
+    one-lent (a .chart .now) (a .beside) (a .rule .now) (a .text .now) (a .h .now) (a .ws .now) (a .ks .now) (tyOf (a .t .0))
+    (lent .result) (lent .ensures) (c .if1 .taken)
 
 read-header-requires : tie.Need-read-header-requires
 read-header-requires c κs = search needs
@@ -27,20 +26,18 @@ type-inside-requires c κs = search needs
 returns-2 : tie.Need-returns-2
 returns-2 c =
     let a = c .before .before .before .before .before .before .before .before .before .before .before .args in
-    let e = envIn (a .chart .now) (a .beside) (a .rule .now) (a .text .now) in
     let lent = c .before .before .before .before .refusal in
     let inside = c .before .type-inside in
-    one-outside e (a .h .now) (a .ws .now) (a .ks .now) (tyOf (a .t .0)) (lent .result) (lent .ensures) (c .before .before .before .if1 .left)
-    (c .before .before .read-header .ensures) (inside .ensures) (not-true (inside .result) (c .if2 .taken))
+    one-outside (a .chart .now) (a .beside) (a .rule .now) (a .text .now) (a .h .now) (a .ws .now) (a .ks .now) (tyOf (a .t .0))
+    (lent .result) (lent .ensures) (c .before .before .before .if1 .left) (c .before .before .read-header .ensures) (inside .ensures) (not-true (inside .result) (c .if2 .taken))
 
 returns-3 : tie.Need-returns-3
 returns-3 c =
     let a = c .before .before .before .before .before .before .before .before .before .before .before .args in
-    let e = envIn (a .chart .now) (a .beside) (a .rule .now) (a .text .now) in
     let lent = c .before .before .before .before .refusal in
     let inside = c .before .type-inside in
-    one-inside e (a .h .now) (a .ws .now) (a .ks .now) (tyOf (a .t .0)) (lent .result) (lent .ensures) (c .before .before .before .if1 .left)
-    (c .before .before .read-header .ensures) (inside .ensures) (not-false (inside .result) (c .if2 .left))
+    one-inside (a .chart .now) (a .beside) (a .rule .now) (a .text .now) (a .h .now) (a .ws .now) (a .ks .now) (tyOf (a .t .0))
+    (lent .result) (lent .ensures) (c .before .before .before .if1 .left) (c .before .before .read-header .ensures) (inside .ensures) (not-false (inside .result) (c .if2 .left))
 
 pub refusal-at-spec : {M : Type 1} → statement M
 refusal-at-spec =
