@@ -41,14 +41,14 @@ nodeReply ks (node.Is v) = value (nodeMeans ks v)
 nodeReply ks (node.Refused n) = refusal n
 
 -- the node that is answered may stand in a store with c children made: its own lie among them, and names that its kind does not have are zeros
-abbrev pub answerFits : List ℕ → ℕ → NodeAnswer → Bool
-answerFits ks c (node.Is v) = nodeFits ks c v
-answerFits ks c (node.Refused n) = true
+abbrev pub nodeAnswerFits : List ℕ → ℕ → NodeAnswer → Bool
+nodeAnswerFits ks c (node.Is v) = nodeFits ks c v
+nodeAnswerFits ks c (node.Refused n) = true
 
 -- `node`: the call's outcome o is its reply with the store in h ws ks, and the node fits that store
 pub record NodePromised (o : Outcome Node) (r : NodeAnswer) (h ws ks : List ℕ) : Type 0 where
   pub outcome : o ≡ outcomeBy (nodeReply ks r) (storeIn h ws ks)
-  pub fits : answerFits ks (childrenMade h) r ≡ true
+  pub fits : nodeAnswerFits ks (childrenMade h) r ≡ true
 
 abbrev pub childReply : ChildAnswer → Reply (Option Ty)
 childReply (child.Is t) = value (some (tyOf (t .0)))
