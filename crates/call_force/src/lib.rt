@@ -8,13 +8,17 @@ ghost use Rattle.promise.specs.Promise.{doneReply, Promised};
 ghost use Rattle.call_force.specs.Replies.{ForcePromised};
 use chart::Beside;
 use force::Forced;
+use layout::Kind;
 use promise::DoneAnswer;
 use sound::NO_REFUSAL;
+use types::Inverted;
 use types::Type;
 
-// What a forced type has, or a refusal's number.
+// A forced type's inversion and kind; or none, and then the span of one that had not failed before; or a refusal's number.
 pub enum ForcedAnswer {
-    Is(Forced),
+    Known(Inverted, Kind),
+    Reported(u32),
+    Failed,
     Refused(u32),
 }
 
@@ -37,7 +41,11 @@ pub fn force_kind<'a>(
     if code != NO_REFUSAL {
         return ForcedAnswer::Refused(code);
     }
-    ForcedAnswer::Is(force::force_kind(h, ws, ks, t))
+    match force::force_kind(h, ws, ks, t) {
+        Forced::Known(i, kind) => ForcedAnswer::Known(i, kind),
+        Forced::Reported(span) => ForcedAnswer::Reported(span),
+        Forced::Failed => ForcedAnswer::Failed,
+    }
 }
 
 // "only roots without a kind change, each to Default uninverted"
