@@ -10,7 +10,7 @@ ghost use Rattle.layout.specs.Words.{lentOf};
 ghost use Rattle.sound.specs.Tests.{codeOf};
 ghost use Rattle.promise.specs.Promise.{Promised, doneReply, typeReply, typesIn};
 ghost use Rattle.call_make.specs.Opening.{enough};
-ghost use Rattle.call_make.specs.Listed.{Listed};
+ghost use Rattle.call_make.specs.Lists.{ListPromised};
 ghost use Rattle.call_new.specs.Lent.{plainArgs, given};
 ghost use Rattle.call_unify.specs.Answers.{unifyReply};
 ghost use Rattle.bench.specs.Numbers.{typeIn, doneIn, unifyIn, bare, lentEnv};
@@ -118,7 +118,7 @@ pub extern "C" fn faroalder_new_vars<'a>(
     count: u32,
     out: &mut [u32],
 ) -> u64
-    ensures { λ r. ⌜ Listed (newVarsCall (lentEnv (now (chart .entry)) (now (rule .entry)) (now (text .entry))) (lentOf (now (h .entry)) (now (ws .entry)) (now (ks .entry))) span count (length (now (out .entry)))) (doneIn r) count (now (h .entry)) (now (ws .entry)) (now (ks .entry)) (now (h .exit)) (now (ws .exit)) (now (ks .entry)) (now (out .entry)) (now (out .exit)) ⌝ }
+    ensures { λ r. ⌜ ListPromised (newVarsCall (lentEnv (now (chart .entry)) (now (rule .entry)) (now (text .entry))) (lentOf (now (h .entry)) (now (ws .entry)) (now (ks .entry))) span count (length (now (out .entry)))) (doneIn r) count (now (h .entry)) (now (ws .entry)) (now (ks .entry)) (now (h .exit)) (now (ws .exit)) (now (ks .entry)) (now (out .entry)) (now (out .exit)) ⌝ }
 {
     done_number(call_make::new_vars(chart, bare(), rule, text, h, ws, ks, span, count, out))
 }

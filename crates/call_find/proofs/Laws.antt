@@ -8,8 +8,9 @@ use Prim.Native.Nat.{ℕ}
 use Rattle.scope.specs.Chart.{Env}
 use Rattle.scope.specs.Types.{Ty, tyOf}
 use Rattle.scope.specs.Nodes.{Node, Store, find, findMut, withNodes}
-use Rattle.scope.specs.Calls.{Outcome, done, firstBroken, outside, findMutCall}
+use Rattle.scope.specs.Calls.{Outcome, done, outside, findMutCall}
 use Rattle.types.specs.declared.«Type».{«Type»}
+use Rattle.chart.specs.declared.Beside.{Beside}
 use Rattle.layout.specs.Words.{nodesMade, childrenMade, decode, storeIn, lentOf}
 use Rattle.layout.specs.Meaning.{Clean, headerIn}
 use Rattle.layout.specs.declared.Header.{Header}
@@ -17,13 +18,16 @@ use Rattle.layout.proofs.StoreLaws.{clean-nodes}
 use Rattle.make.specs.Holds.{Holds, Became}
 use Rattle.make.proofs.Laws.{store-nodes, holds-with, beyond-with}
 use Rattle.roots.specs.Found.{FoundMut}
-use Rattle.sound.specs.Tests.{codeOf}
-use Rattle.promise.specs.Promise.{value, refusal, typesTests, Promised}
+use Rattle.sound.specs.Tests.{envIn}
+use Rattle.promise.specs.Promise.{value, refusal, TypesTested, Promised}
 use Rattle.promise.proofs.Laws.{lent-clean-words}
 use Rattle.promise.proofs.CallLaws.{call-back, call-done}
 use Rattle.promise.proofs.ReadLaws.{read-passed}
 
-module _ (e : Env) (h ws ks : List ℕ) (t : «Type») (n : ℕ) (q : firstBroken (typesTests e (lentOf h ws ks) (tyOf (t .0) ∷ [])) ≡ codeOf n) where
+module _ {chart : List ℕ} {b : Beside} {rule text h ws ks : List ℕ} (t : «Type») {n : ℕ} (q : TypesTested chart b rule text h ws ks (tyOf (t .0) ∷ []) n) where
+  abbrev e : Env
+  e = envIn chart b rule text
+
   abbrev T : Ty
   T = tyOf (t .0)
 
@@ -40,11 +44,11 @@ module _ (e : Env) (h ws ks : List ℕ) (t : «Type») (n : ℕ) (q : firstBroke
 
   pub mut-refused : (n ≡ 0 → ⊥) → Promised (findMutCall e (lentOf h ws ks) T) (refusal n) h ws ks h ws ks
   unfolding findMutCall
-  mut-refused z = call-back e h ws ks tests work n q z
+  mut-refused z = call-back e h ws ks tests work n (q .first) z
 
   module _ (z : n ≡ 0) where
     held : Holds h ws ks S
-    held = record { clean = lent-clean-words e h ws ks (read-passed e h ws ks (T ∷ []) n q z); is = refl }
+    held = record { clean = lent-clean-words e h ws ks (read-passed q z); is = refl }
 
     relinked : (ws′ : List ℕ) (r : ℕ) → FoundMut ws (nodesMade h) ws′ (t .0) r → Became h ws ks h ws′ ks (withNodes S (decode ws′ ks (nodesMade h)))
     unfolding storeIn
@@ -55,11 +59,11 @@ module _ (e : Env) (h ws ks : List ℕ) (t : «Type») (n : ℕ) (q : firstBroke
           beyond = beyond-with held ws′ (f .words .long) (f .words .tail) c;
         }
 
-    pub mut-answer : (x : Header) → x ≡ headerIn h → {ws′ : List ℕ} {r : «Type»} → FoundMut ws (x .nodes) ws′ (t .0) (r .0)
+    pub mut-answer : {x : Header} {ws′ : List ℕ} {r : «Type»} → x ≡ headerIn h → FoundMut ws (x .nodes) ws′ (t .0) (r .0)
         → Promised (findMutCall e (lentOf h ws ks) T) (value (tyOf (r .0))) h ws ks h ws′ ks
     unfolding findMutCall
-    mut-answer x g {ws′} {r} f =
+    mut-answer {ws′ = ws′} {r = r} g f =
         let f′ : FoundMut ws (nodesMade h) ws′ (t .0) (r .0) = rw (ap (λ (y : Header). y .nodes) g) at f in
         let w : tyOf (r .0) ≡ find (S .nodes) T = f′ .root ks ∙ ap (λ (l : List Node). find l T) (sym (store-nodes h ws ks)) in
         let d : decode ws′ ks (nodesMade h) ≡ findMut (S .nodes) T = f′ .nodes ks ∙ ap (λ (l : List Node). findMut l T) (sym (store-nodes h ws ks)) in
-        call-done e h ws ks tests work n q z (rw (w, d)) (relinked ws′ (r .0) f′)
+        call-done e h ws ks tests work n (q .first) z (rw (w, d)) (relinked ws′ (r .0) f′)

@@ -1,22 +1,95 @@
--- What the core answers and leaves is forceKind's, so the definition's outcome is the code's answer with the store afterwards.
+-- What each call does to a store, and the two ways out of `force_kind`: it is turned back, or what the core answers and leaves is forceKind's. Forcing makes no
+-- child, so a kind that fitted the store before fits it afterwards.
 -- Assumes nothing.
-use mathlib.Core.Path.{_≡_, ap, sym}
-use mathlib.Core.List.{List}
+use mathlib.Core.Path.{_≡_, refl, ap, sym, _∙_}
+use mathlib.Core.Bool.{true}
+use mathlib.Core.List.{List, [], _∷_}
 use Prim.Native.Nat.{ℕ}
 use Rattle.scope.specs.Types.{Ty, tyOf}
-use Rattle.scope.specs.Nodes.{Store}
-use Rattle.scope.specs.Force.{forceKind}
+use Rattle.scope.specs.Nodes.{Store, State, withNodes, stateAt, find, findMut}
+use Rattle.scope.specs.Nodes as nodes
+use Rattle.scope.specs.Force.{fail, forceKind, finishInference, finishWhere}
 use Rattle.scope.specs.Force as scope
-use Rattle.scope.specs.Calls.{Outcome, done}
+use Rattle.scope.specs.Calls.{Outcome, done, outside, forceKindCall}
 use Rattle.types.specs.declared.«Type».{«Type»}
-use Rattle.layout.specs.Words.{storeIn}
-use Rattle.force.specs.Forcing.{forcedMeans, ForcedIs}
+use Rattle.chart.specs.declared.Beside.{Beside}
+use Rattle.layout.specs.Words.{childrenMade, storeIn, lentOf, clean}
+use Rattle.force.specs.Forcing.{forcedMeans, forcedFits, ForcedIs}
 use Rattle.force.specs.declared.Forced.{Forced}
+use Rattle.force.specs.declared.Forced.the-variants.{Known, Reported, Failed}
+use Rattle.sound.specs.Tests.{envIn}
+use Rattle.promise.specs.Promise.{value, TypesTested, Promised}
+use Rattle.promise.proofs.Laws.{lent-clean-words}
+use Rattle.promise.proofs.CallLaws.{call-back, call-done}
+use Rattle.promise.proofs.ReadLaws.{read-passed}
+use Rattle.call_force.specs.Replies.{answerOf, forcedReply, forcedAnswerFits, ForcePromised}
+use Rattle.call_force.specs.declared.ForcedAnswer.{ForcedAnswer}
+use Rattle.call_force.specs.declared.ForcedAnswer.the-variants.{Refused}
 
--- what `force_kind` does to a store
+-- what a call does to a store
+
 abbrev pub forcing : Ty → Store → Outcome scope.Forced
 forcing t s = done (forceKind s t .0) (forceKind s t .1)
 
-pub forced-done : {h ws ks h′ ws′ : List ℕ} {t : «Type»} {r : Forced} → ForcedIs h ws ks h′ ws′ t r
-    → forcing (tyOf (t .0)) (storeIn h ws ks) ≡ done (forcedMeans ks r) (forceKind (storeIn h ws ks) (tyOf (t .0)) .1)
-forced-done {h} {ws} {ks} {t = t} o = ap (λ (f : scope.Forced). done f (forceKind (storeIn h ws ks) (tyOf (t .0)) .1)) (sym (o .answer))
+abbrev pub finishing : Store → Outcome (Unit {0})
+finishing s = done tt (withNodes s (finishInference (s .nodes)))
+
+abbrev pub finishingWhere : List ℕ → Store → Outcome (Unit {0})
+finishingWhere bs s = done tt (withNodes s (finishWhere bs (s .nodes)))
+
+-- forcing makes no child
+
+fail-children : (s : Store) (r : Ty) (st : State) → fail s r st .children ≡ s .children
+fail-children s r (nodes.Known i k) = refl
+fail-children s r (nodes.Unknown p) = refl
+fail-children s r nodes.InferenceFailed = refl
+
+force-children : (s : Store) (t : Ty) → forceKind s t .1 .children ≡ s .children
+unfolding forceKind
+force-children s t = fail-children (withNodes s (findMut (s .nodes) t)) (find (s .nodes) t) (stateAt (s .nodes) t)
+
+forced-children : {h ws ks h′ ws′ : List ℕ} {t : «Type»} {r : Forced} → ForcedIs h ws ks h′ ws′ t r → childrenMade h′ ≡ childrenMade h
+unfolding storeIn
+forced-children {h} {ws} {ks} {t = t} o =
+    ap (λ (s : Store). s .children) (o .store .holds .is) ∙ force-children (storeIn h ws ks) (tyOf (t .0))
+
+-- the ways out
+
+means-reply : (ks : List ℕ) (f : Forced) → forcedReply ks (answerOf f) ≡ value (forcedMeans ks f)
+means-reply ks (Known i k) = refl
+means-reply ks (Reported p) = refl
+means-reply ks Failed = refl
+
+answer-fits : (ks : List ℕ) (c : ℕ) (f : Forced) → forcedAnswerFits ks c (answerOf f) ≡ forcedFits ks c f
+answer-fits ks c (Known i k) = refl
+answer-fits ks c (Reported p) = refl
+answer-fits ks c Failed = refl
+
+pub forced-fits : {h ws ks h′ ws′ : List ℕ} {t : «Type»} {f : Forced} {r : ForcedAnswer} → ForcedIs h ws ks h′ ws′ t f → answerOf f ≡ r
+    → forcedAnswerFits ks (childrenMade h′) r ≡ true
+forced-fits {h} {ks = ks} {h′ = h′} {f = f} o is =
+    ap (forcedAnswerFits ks (childrenMade h′)) (sym is)
+    ∙ (answer-fits ks (childrenMade h′) f ∙ (ap (λ (m : ℕ). forcedFits ks m f) (forced-children o) ∙ o .fits))
+
+module _ {chart : List ℕ} {b : Beside} {rule text h ws ks : List ℕ} (t : «Type») {n : ℕ} (q : TypesTested chart b rule text h ws ks (tyOf (t .0) ∷ []) n) where
+  abbrev T : Ty
+  T = tyOf (t .0)
+
+  pub forced-back : (n ≡ 0 → ⊥) → ForcePromised (forceKindCall (envIn chart b rule text) (lentOf h ws ks) T) (Refused n) h ws ks h ws
+  unfolding forceKindCall
+  forced-back z = record {
+    fits = refl;
+    promised = call-back (envIn chart b rule text) h ws ks (λ s. outside s (T ∷ []) ∷ []) (forcing T) n (q .first) z;
+  }
+
+  module _ (z : n ≡ 0) where
+    pub forced-clean : clean h ws ks ≡ true
+    forced-clean = lent-clean-words (envIn chart b rule text) h ws ks (read-passed q z)
+
+    pub forced-promised : {h′ ws′ : List ℕ} {f : Forced} {r : ForcedAnswer} → ForcedIs h ws ks h′ ws′ t f → answerOf f ≡ r
+        → Promised (forceKindCall (envIn chart b rule text) (lentOf h ws ks) T) (forcedReply ks r) h ws ks h′ ws′ ks
+    unfolding forceKindCall
+    forced-promised {f = f} o is =
+        rw (← is, means-reply ks f)
+        (call-done (envIn chart b rule text) h ws ks (λ s. outside s (T ∷ []) ∷ []) (forcing T) n (q .first) z
+        (ap (λ (y : scope.Forced). done y (forceKind (storeIn h ws ks) T .1)) (sym (o .answer))) (o .store))

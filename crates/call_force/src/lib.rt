@@ -5,16 +5,20 @@ ghost use Rattle.scope.specs.Calls.{forceKindCall, finishInferenceCall, finishW
 ghost use Rattle.layout.specs.Words.{lentOf};
 ghost use Rattle.sound.specs.Tests.{envIn};
 ghost use Rattle.promise.specs.Promise.{doneReply, Promised};
-ghost use Rattle.call_force.specs.Replies.{forcedReply};
+ghost use Rattle.call_force.specs.Replies.{ForcePromised};
 use chart::Beside;
 use force::Forced;
+use layout::Kind;
 use promise::DoneAnswer;
 use sound::NO_REFUSAL;
+use types::Inverted;
 use types::Type;
 
-// What a forced type has, or a refusal's number.
+// A forced type's inversion and kind; or none, and then the span of one that had not failed before; or a refusal's number.
 pub enum ForcedAnswer {
-    Is(Forced),
+    Known(Inverted, Kind),
+    Reported(u32),
+    Failed,
     Refused(u32),
 }
 
@@ -29,13 +33,19 @@ pub fn force_kind<'a>(
     ks: &[u32],
     t: Type,
 ) -> ForcedAnswer
-    ensures { λ r. ⌜ Promised (forceKindCall (envIn (now (chart .entry)) beside (now (rule .entry)) (now (text .entry))) (lentOf (now (h .entry)) (now (ws .entry)) (now (ks .entry))) (tyOf (t .0))) (forcedReply (now (ks .entry)) r) (now (h .entry)) (now (ws .entry)) (now (ks .entry)) (now (h .exit)) (now (ws .exit)) (now (ks .entry)) ⌝ }
+    ensures { λ r. ⌜ ForcePromised
+        (forceKindCall (envIn (now (chart .entry)) beside (now (rule .entry)) (now (text .entry))) (lentOf (now (h .entry)) (now (ws .entry)) (now (ks .entry))) (tyOf (t .0)))
+        r (now (h .entry)) (now (ws .entry)) (now (ks .entry)) (now (h .exit)) (now (ws .exit)) ⌝ }
 {
     let code = promise::refusal_at(chart, beside, rule, text, h, ws, ks, t);
     if code != NO_REFUSAL {
         return ForcedAnswer::Refused(code);
     }
-    ForcedAnswer::Is(force::force_kind(h, ws, ks, t))
+    match force::force_kind(h, ws, ks, t) {
+        Forced::Known(i, kind) => ForcedAnswer::Known(i, kind),
+        Forced::Reported(span) => ForcedAnswer::Reported(span),
+        Forced::Failed => ForcedAnswer::Failed,
+    }
 }
 
 // "only roots without a kind change, each to Default uninverted"
@@ -48,7 +58,9 @@ pub fn finish_inference<'a>(
     ws: &mut [u32],
     ks: &[u32],
 ) -> DoneAnswer
-    ensures { λ r. ⌜ Promised (finishInferenceCall (envIn (now (chart .entry)) beside (now (rule .entry)) (now (text .entry))) (lentOf (now (h .entry)) (now (ws .entry)) (now (ks .entry)))) (doneReply r) (now (h .entry)) (now (ws .entry)) (now (ks .entry)) (now (h .entry)) (now (ws .exit)) (now (ks .entry)) ⌝ }
+    ensures { λ r. ⌜ Promised
+        (finishInferenceCall (envIn (now (chart .entry)) beside (now (rule .entry)) (now (text .entry))) (lentOf (now (h .entry)) (now (ws .entry)) (now (ks .entry))))
+        (doneReply r) (now (h .entry)) (now (ws .entry)) (now (ks .entry)) (now (h .entry)) (now (ws .exit)) (now (ks .entry)) ⌝ }
 {
     let broken = sound::refusal(chart, beside, rule, text, h, ws, ks);
     if broken != NO_REFUSAL {
@@ -69,7 +81,10 @@ pub fn finish_inference_where<'a>(
     ks: &[u32],
     bytes: &[u8],
 ) -> DoneAnswer
-    ensures { λ r. ⌜ Promised (finishWhereCall (envIn (now (chart .entry)) beside (now (rule .entry)) (now (text .entry))) (lentOf (now (h .entry)) (now (ws .entry)) (now (ks .entry))) (now (bytes .entry))) (doneReply r) (now (h .entry)) (now (ws .entry)) (now (ks .entry)) (now (h .entry)) (now (ws .exit)) (now (ks .entry)) ⌝ }
+    ensures { λ r. ⌜ Promised
+        (finishWhereCall (envIn (now (chart .entry)) beside (now (rule .entry)) (now (text .entry))) (lentOf (now (h .entry)) (now (ws .entry)) (now (ks .entry)))
+        (now (bytes .entry)))
+        (doneReply r) (now (h .entry)) (now (ws .entry)) (now (ks .entry)) (now (h .entry)) (now (ws .exit)) (now (ks .entry)) ⌝ }
 {
     let lent = sound::refusal(chart, beside, rule, text, h, ws, ks);
     if lent != NO_REFUSAL {

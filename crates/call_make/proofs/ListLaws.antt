@@ -17,14 +17,16 @@ use Rattle.scope.specs.Nodes.{Store}
 use Rattle.scope.specs.Make.{MadeAll, newVar, newVars}
 use Rattle.scope.specs.Calls.{Outcome, done, firstBroken, storeOf, lentTests, roomTests, shortFor, newVarsCall}
 use Rattle.types.proofs.Laws.{ty-word}
+use Rattle.chart.specs.declared.Beside.{Beside}
 use Rattle.layout.specs.Words.{storeIn, lentOf}
 use Rattle.layout.proofs.Lists.{length-from, same-from}
 use Rattle.make.specs.Holds.{Ready, MadeAllIs}
-use Rattle.sound.specs.Tests.{codeOf}
+use Rattle.sound.specs.Tests.{envIn}
 use Rattle.promise.specs.declared.DoneAnswer.the-variants.{Done, Refused}
 use Rattle.promise.proofs.Laws.{code-first, code-next, test-stands, test-falls}
 use Rattle.promise.proofs.CallLaws.{call-back, call-done}
-use Rattle.call_make.specs.Listed.{Listed}
+use Rattle.call_make.specs.Room.{RoomTested}
+use Rattle.call_make.specs.Lists.{ListPromised}
 use Rattle.call_make.proofs.MakerLaws.{maker-ready}
 
 -- the types of n variables
@@ -66,8 +68,10 @@ module _ {h ws ks h′ ws′ ks′ out out′ : List ℕ} (p n : ℕ) (r : Ready
 
 -- the three ways out
 
-module _ (e : Env) (h ws ks : List ℕ) (p n : ℕ) (out : List ℕ) (c : ℕ)
-    (q : firstBroken (lentTests e (lentOf h ws ks) ++ roomTests (storeOf (lentOf h ws ks)) n 0) ≡ codeOf c) where
+module _ {chart : List ℕ} {b : Beside} {rule text h ws ks : List ℕ} (p n : ℕ) (out : List ℕ) {c : ℕ} (q : RoomTested chart b rule text h ws ks (λ _. n) c) where
+  abbrev e : Env
+  e = envIn chart b rule text
+
   abbrev short : Bool × ℕ
   short = shortFor (length out) n
 
@@ -77,20 +81,20 @@ module _ (e : Env) (h ws ks : List ℕ) (p n : ℕ) (out : List ℕ) (c : ℕ)
   abbrev work : Store → Outcome (List Ty)
   work s = let m : MadeAll = newVars s p n in done (m .types) (m .store)
 
-  pub vars-back : (c ≡ 0 → ⊥) → Listed (newVarsCall e (lentOf h ws ks) p n (length out)) (Refused c) n h ws ks h ws ks out out
+  pub vars-back : (c ≡ 0 → ⊥) → ListPromised (newVarsCall e (lentOf h ws ks) p n (length out)) (Refused c) n h ws ks h ws ks out out
   unfolding newVarsCall
   vars-back z = record {
     promised = call-back e h ws ks tests work c
-        (code-first (lentTests e (lentOf h ws ks) ++ roomTests (storeOf (lentOf h ws ks)) n 0) (short ∷ []) c q z) z;
+        (code-first (lentTests e (lentOf h ws ks) ++ roomTests (storeOf (lentOf h ws ks)) n 0) (short ∷ []) c (q .first) z) z;
     rest = refl;
     kept = λ y. refl;
   }
 
   module _ (z : c ≡ 0) where
     last-test : firstBroken (lentTests e (lentOf h ws ks) ++ tests (storeOf (lentOf h ws ks))) ≡ firstBroken (short ∷ [])
-    last-test = code-next (lentTests e (lentOf h ws ks) ++ roomTests (storeOf (lentOf h ws ks)) n 0) (short ∷ []) c q z
+    last-test = code-next (lentTests e (lentOf h ws ks) ++ roomTests (storeOf (lentOf h ws ks)) n 0) (short ∷ []) c (q .first) z
 
-    pub vars-short : length out < n → Listed (newVarsCall e (lentOf h ws ks) p n (length out)) (Refused 7) n h ws ks h ws ks out out
+    pub vars-short : length out < n → ListPromised (newVarsCall e (lentOf h ws ks) p n (length out)) (Refused 7) n h ws ks h ws ks out out
     unfolding newVarsCall
     vars-short l = record {
       promised = call-back e h ws ks tests work 7 (last-test ∙ test-stands 7 [] (lt-ltb (length out) n l)) (λ y. absurd (omega arith));
@@ -99,10 +103,10 @@ module _ (e : Env) (h ws ks : List ℕ) (p n : ℕ) (out : List ℕ) (c : ℕ)
     }
 
     pub vars-ready : Ready h ws ks n 0
-    vars-ready = maker-ready e h ws ks (λ s. n) c q z
+    vars-ready = maker-ready q z
 
     pub vars-done : {h′ ws′ ks′ out′ : List ℕ} → n ≤ length out → MadeAllIs h ws ks h′ ws′ ks′ out out′ (newVars (storeIn h ws ks) p n)
-        → Listed (newVarsCall e (lentOf h ws ks) p n (length out)) Done n h ws ks h′ ws′ ks′ out out′
+        → ListPromised (newVarsCall e (lentOf h ws ks) p n (length out)) Done n h ws ks h′ ws′ ks′ out out′
     unfolding newVarsCall
     vars-done l o = record {
       promised = call-done e h ws ks tests work 0 (last-test ∙ test-falls 7 [] (le-ltb (length out) n l)) refl

@@ -12,16 +12,18 @@ use Rattle.scope.specs.Nodes.{Store}
 use Rattle.scope.specs.Make.{Made}
 use Rattle.scope.specs.Calls.{Outcome, done, judged, firstBroken, storeOf, lentTests, roomTests, nodesFor, madeType}
 use Rattle.types.specs.declared.«Type».{«Type»}
+use Rattle.chart.specs.declared.Beside.{Beside}
 use Rattle.layout.specs.Words.{storeIn, lentOf}
 use Rattle.layout.specs.Meaning.{headerIn, rememberedMeans}
 use Rattle.layout.specs.declared.Header.{Header}
 use Rattle.layout.specs.declared.Remembered.{Remembered}
 use Rattle.make.specs.Holds.{Ready, MadeIs}
 use Rattle.make.proofs.MakeLaws.{error-is, nil-is}
-use Rattle.sound.specs.Tests.{codeOf}
+use Rattle.sound.specs.Tests.{envIn, codeOf}
 use Rattle.promise.specs.Promise.{value, refusal, Promised}
-use Rattle.promise.proofs.Laws.{code-none, broken-first, broken-next, passed-next, code-next, call-passed, lent-passed, lent-store}
+use Rattle.promise.proofs.Laws.{code-none, broken-first, broken-next, passed-next, code-next, call-passed, lent-refused, lent-passed, lent-store}
 use Rattle.promise.proofs.CallLaws.{call-back, call-done}
+use Rattle.call_make.specs.Room.{RoomTested}
 use Rattle.call_make.proofs.RoomLaws.{lent-room, lent-ready}
 
 -- a maker's answer as an outcome
@@ -33,56 +35,71 @@ later-by : (o : Option ℕ) (ts us vs : List (Bool × ℕ)) → firstBroken ts �
 later-by none ts us vs q f = broken-next ts us q ∙ (ap firstBroken (f q) ∙ sym (broken-next ts vs q))
 later-by (some n) ts us vs q f = broken-first ts us n q ∙ sym (broken-first ts vs n q)
 
-module _ (e : Env) (h ws ks : List ℕ) where
+-- refusal_for
+
+module _ (chart : List ℕ) (b : Beside) (rule text h ws ks : List ℕ) (a n : ℕ) (q : firstBroken (lentTests (envIn chart b rule text) (lentOf h ws ks)) ≡ codeOf n) where
+  abbrev env : Env
+  env = envIn chart b rule text
+
+  pub for-lent : (n ≡ 0 → ⊥) → RoomTested chart b rule text h ws ks (λ _. a) n
+  for-lent z = record { first = lent-refused env h ws ks (roomTests (storeOf (lentOf h ws ks)) a 0) n q z }
+
   -- room is tested once 2 and 8 are passed
-  pub room-next : (a n r : ℕ) → firstBroken (lentTests e (lentOf h ws ks)) ≡ codeOf n → n ≡ 0 → firstBroken (roomTests (storeIn h ws ks) a 0) ≡ codeOf r
-      → firstBroken (lentTests e (lentOf h ws ks) ++ roomTests (storeOf (lentOf h ws ks)) a 0) ≡ codeOf r
-  room-next a n r q z p =
-      code-next (lentTests e (lentOf h ws ks)) (roomTests (storeOf (lentOf h ws ks)) a 0) n q z
-      ∙ (lent-room e h ws ks (lent-passed e h ws ks n q z) a 0 ∙ p)
+  pub for-room : {r : ℕ} → n ≡ 0 → firstBroken (roomTests (storeIn h ws ks) a 0) ≡ codeOf r → RoomTested chart b rule text h ws ks (λ _. a) r
+  for-room z p = record {
+    first =
+        code-next (lentTests env (lentOf h ws ks)) (roomTests (storeOf (lentOf h ws ks)) a 0) n q z
+        ∙ (lent-room env h ws ks (lent-passed env h ws ks n q z) a 0 ∙ p);
+  }
 
-  module _ (need : Store → ℕ) (n : ℕ)
-      (q : firstBroken (lentTests e (lentOf h ws ks) ++ roomTests (storeOf (lentOf h ws ks)) (need (storeOf (lentOf h ws ks))) 0) ≡ codeOf n) where
-    abbrev tests : Store → List (Bool × ℕ)
-    tests s = roomTests s (need s) 0
+-- the makers
 
-    pub maker-ready : n ≡ 0 → Ready h ws ks (need (storeIn h ws ks)) 0
-    maker-ready z =
-        let l : Store = storeOf (lentOf h ws ks) in
-        let p = call-passed e h ws ks (tests l) n q z in
-        rw (lent-store e h ws ks p) at
-        (lent-ready e h ws ks p (need l) 0 (passed-next (lentTests e (lentOf h ws ks)) (tests l) (q ∙ code-none n z)))
+module _ {chart : List ℕ} {b : Beside} {rule text h ws ks : List ℕ} {need : Store → ℕ} {n : ℕ} (q : RoomTested chart b rule text h ws ks need n) where
+  abbrev e : Env
+  e = envIn chart b rule text
 
-    module _ (f : Store → Made) where
-      abbrev call : Outcome Ty
-      call = judged (lentTests e (lentOf h ws ks) ++ tests (storeOf (lentOf h ws ks))) (madeType (f (storeOf (lentOf h ws ks))))
+  abbrev tests : Store → List (Bool × ℕ)
+  tests s = roomTests s (need s) 0
 
-      pub maker-back : (n ≡ 0 → ⊥) → Promised call (refusal n) h ws ks h ws ks
-      maker-back z = call-back e h ws ks tests (λ s. madeType (f s)) n q z
+  pub maker-ready : n ≡ 0 → Ready h ws ks (need (storeIn h ws ks)) 0
+  maker-ready z =
+      let l : Store = storeOf (lentOf h ws ks) in
+      let p = call-passed e h ws ks (tests l) n (q .first) z in
+      rw (lent-store e h ws ks p) at
+      (lent-ready e h ws ks p (need l) 0 (passed-next (lentTests e (lentOf h ws ks)) (tests l) (q .first ∙ code-none n z)))
 
-      pub maker-done : {h′ ws′ ks′ : List ℕ} {t : «Type»} → n ≡ 0 → MadeIs h ws ks h′ ws′ ks′ t (f (storeIn h ws ks))
-          → Promised call (value (tyOf (t .0))) h ws ks h′ ws′ ks′
-      maker-done z o = call-done e h ws ks tests (λ s. madeType (f s)) n q z (made-done o) (o .store)
+  module _ (f : Store → Made) where
+    abbrev call : Outcome Ty
+    call = judged (lentTests e (lentOf h ws ks) ++ tests (storeOf (lentOf h ws ks))) (madeType (f (storeOf (lentOf h ws ks))))
 
-  -- a type that is made once
+    pub maker-back : (n ≡ 0 → ⊥) → Promised call (refusal n) h ws ks h ws ks
+    maker-back z = call-back e h ws ks tests (λ s. madeType (f s)) n (q .first) z
 
-  module _ (which : Store → Option Ty) (r : Remembered) (is : rememberedMeans r ≡ which (storeIn h ws ks)) (m n : ℕ) where
-    once-tests : m ≡ nodesFor (rememberedMeans r) → firstBroken (lentTests e (lentOf h ws ks) ++ roomTests (storeOf (lentOf h ws ks)) m 0) ≡ codeOf n
-        → firstBroken (lentTests e (lentOf h ws ks) ++ roomTests (storeOf (lentOf h ws ks)) (nodesFor (which (storeOf (lentOf h ws ks)))) 0) ≡ codeOf n
-    once-tests g q =
-        let l : Store = storeOf (lentOf h ws ks) in
-        let ts : List (Bool × ℕ) = lentTests e (lentOf h ws ks) in
-        sym (later-by (firstBroken ts) ts (roomTests l m 0) (roomTests l (nodesFor (which l)) 0) refl
-        (λ p. ap (λ (y : ℕ). roomTests l y 0) (g ∙ ap nodesFor (is ∙ sym (ap which (lent-store e h ws ks p))))))
-        ∙ q
+    pub maker-done : {h′ ws′ ks′ : List ℕ} {t : «Type»} → n ≡ 0 → MadeIs h ws ks h′ ws′ ks′ t (f (storeIn h ws ks))
+        → Promised call (value (tyOf (t .0))) h ws ks h′ ws′ ks′
+    maker-done z o = call-done e h ws ks tests (λ s. madeType (f s)) n (q .first) z (made-done o) (o .store)
 
-  module _ (x : Header) (g : x ≡ headerIn h) (m n : ℕ) where
-    pub error-tests : m ≡ nodesFor (rememberedMeans (x .error)) → firstBroken (lentTests e (lentOf h ws ks) ++ roomTests (storeOf (lentOf h ws ks)) m 0) ≡ codeOf n
-        → firstBroken (lentTests e (lentOf h ws ks) ++ roomTests (storeOf (lentOf h ws ks)) (nodesFor (storeOf (lentOf h ws ks) .error)) 0) ≡ codeOf n
-    error-tests p q =
-        once-tests (λ (s : Store). s .error) (x .error) (ap (λ (y : Header). rememberedMeans (y .error)) g ∙ error-is h ws ks) m n p q
+-- a type that is made once: `which` of a store, and `held` in its header
 
-    pub nil-tests : m ≡ nodesFor (rememberedMeans (x .nil)) → firstBroken (lentTests e (lentOf h ws ks) ++ roomTests (storeOf (lentOf h ws ks)) m 0) ≡ codeOf n
-        → firstBroken (lentTests e (lentOf h ws ks) ++ roomTests (storeOf (lentOf h ws ks)) (nodesFor (storeOf (lentOf h ws ks) .nil)) 0) ≡ codeOf n
-    nil-tests p q =
-        once-tests (λ (s : Store). s .nil) (x .nil) (ap (λ (y : Header). rememberedMeans (y .nil)) g ∙ nil-is h ws ks) m n p q
+module _ {chart : List ℕ} {b : Beside} {rule text h ws ks : List ℕ} {x : Header} {m n : ℕ} (g : x ≡ headerIn h) where
+  once-tested : (which : Store → Option Ty) (held : Header → Remembered) → rememberedMeans (held (headerIn h)) ≡ which (storeIn h ws ks)
+      → m ≡ nodesFor (rememberedMeans (held x)) → RoomTested chart b rule text h ws ks (λ _. m) n
+      → RoomTested chart b rule text h ws ks (λ s. nodesFor (which s)) n
+  once-tested which held is p q =
+      let l : Store = storeOf (lentOf h ws ks) in
+      let ts : List (Bool × ℕ) = lentTests (envIn chart b rule text) (lentOf h ws ks) in
+      let there : rememberedMeans (held x) ≡ which (storeIn h ws ks) = ap (λ (y : Header). rememberedMeans (held y)) g ∙ is in
+      record {
+        first =
+            sym (later-by (firstBroken ts) ts (roomTests l m 0) (roomTests l (nodesFor (which l)) 0) refl
+            (λ o. ap (λ (y : ℕ). roomTests l y 0) (p ∙ ap nodesFor (there ∙ sym (ap which (lent-store (envIn chart b rule text) h ws ks o))))))
+            ∙ q .first;
+      }
+
+  pub error-tested : m ≡ nodesFor (rememberedMeans (x .error)) → RoomTested chart b rule text h ws ks (λ _. m) n
+      → RoomTested chart b rule text h ws ks (λ s. nodesFor (s .error)) n
+  error-tested = once-tested (λ s. s .error) (λ y. y .error) (error-is h ws ks)
+
+  pub nil-tested : m ≡ nodesFor (rememberedMeans (x .nil)) → RoomTested chart b rule text h ws ks (λ _. m) n
+      → RoomTested chart b rule text h ws ks (λ s. nodesFor (s .nil)) n
+  nil-tested = once-tested (λ s. s .nil) (λ y. y .nil) (nil-is h ws ks)

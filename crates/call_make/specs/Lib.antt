@@ -1,2 +1,3 @@
 pub mod Opening
-pub mod Listed
+pub mod Room
+pub mod Lists

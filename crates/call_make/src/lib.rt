@@ -1,17 +1,18 @@
 // The calls that open, empty and fill a store, on any numbers at all: each tests and refuses, or makes what document 01 says. Refusals come in 01's order:
 // 2 and 8, then 10, 11 and 7; opening has 1 alone. What a call needs of room is tested here once, for every maker.
 ghost use mathlib.Core.Path.{_≡_};
-ghost use mathlib.Core.List.{List, [], _∷_, _++_};
+ghost use mathlib.Core.List.{List, [], _∷_};
 ghost use Prim.Native.Nat.{ℕ, _+_};
 ghost use lib.Dec.{ltb};
 ghost use lib.ListN.{length};
-ghost use Rattle.scope.specs.Calls.{firstBroken, openTest, storeOf, lentTests, roomTests, nodesFor, openCall, resetCall, newVarCall, newVarsCall, errorCall, nilCall};
+ghost use Rattle.scope.specs.Calls.{firstBroken, openTest, roomTests, nodesFor, openCall, resetCall, newVarCall, newVarsCall, errorCall, nilCall};
 ghost use Rattle.layout.specs.Words.{storeIn, lentOf};
 ghost use Rattle.layout.specs.Meaning.{rememberedMeans};
 ghost use Rattle.sound.specs.Tests.{envIn, codeOf};
 ghost use Rattle.promise.specs.Promise.{doneReply, typeReply, Promised};
 ghost use Rattle.call_make.specs.Opening.{enough};
-ghost use Rattle.call_make.specs.Listed.{Listed};
+ghost use Rattle.call_make.specs.Room.{RoomTested};
+ghost use Rattle.call_make.specs.Lists.{ListPromised};
 use chart::Beside;
 use layout::HEAD_WORDS;
 use layout::Remembered;
@@ -79,7 +80,8 @@ pub fn opening(h: &[u32], ws: &[u32], ks: &[u32], nodes: u32, children: u32) -> 
 
 // A store without nodes, whatever the slices held. "Nodes 0 to 4,096; children over all nodes ever made 0 to 16,384, both chosen at opening"
 pub fn open(h: &mut [u32], ws: &mut [u32], ks: &mut [u32], nodes: u32, children: u32) -> DoneAnswer
-    ensures { λ r. ⌜ Promised (openCall nodes children (enough nodes children (now (h .entry)) (now (ws .entry)) (now (ks .entry)))) (doneReply r) (now (h .entry)) (now (ws .entry)) (now (ks .entry)) (now (h .exit)) (now (ws .exit)) (now (ks .exit)) ⌝ }
+    ensures { λ r. ⌜ Promised (openCall nodes children (enough nodes children (now (h .entry)) (now (ws .entry)) (now (ks .entry))))
+        (doneReply r) (now (h .entry)) (now (ws .entry)) (now (ks .entry)) (now (h .exit)) (now (ws .exit)) (now (ks .exit)) ⌝ }
 {
     let code = opening(h, ws, ks, nodes, children);
     if code != NO_REFUSAL {
@@ -99,7 +101,9 @@ pub fn reset<'a>(
     ws: &mut [u32],
     ks: &mut [u32],
 ) -> DoneAnswer
-    ensures { λ r. ⌜ Promised (resetCall (envIn (now (chart .entry)) beside (now (rule .entry)) (now (text .entry))) (lentOf (now (h .entry)) (now (ws .entry)) (now (ks .entry)))) (doneReply r) (now (h .entry)) (now (ws .entry)) (now (ks .entry)) (now (h .exit)) (now (ws .exit)) (now (ks .exit)) ⌝ }
+    ensures { λ r. ⌜ Promised
+        (resetCall (envIn (now (chart .entry)) beside (now (rule .entry)) (now (text .entry))) (lentOf (now (h .entry)) (now (ws .entry)) (now (ks .entry))))
+        (doneReply r) (now (h .entry)) (now (ws .entry)) (now (ks .entry)) (now (h .exit)) (now (ws .exit)) (now (ks .exit)) ⌝ }
 {
     let broken = sound::refusal(chart, beside, rule, text, h, ws, ks);
     if broken != NO_REFUSAL {
@@ -120,7 +124,8 @@ fn refusal_for<'a>(
     ks: &[u32],
     nodes: u32,
 ) -> u32
-    ensures { λ r. ⌜ firstBroken (lentTests (envIn (now (chart .entry)) beside (now (rule .entry)) (now (text .entry))) (lentOf (now (h .entry)) (now (ws .entry)) (now (ks .entry))) ++ roomTests (storeOf (lentOf (now (h .entry)) (now (ws .entry)) (now (ks .entry)))) nodes 0) ≡ codeOf r ⌝ }
+    ensures { λ r. ⌜ RoomTested (now (chart .entry)) beside (now (rule .entry)) (now (text .entry)) (now (h .entry)) (now (ws .entry)) (now (ks .entry))
+        (λ _. nodes) r ⌝ }
 {
     let lent = sound::refusal(chart, beside, rule, text, h, ws, ks);
     if lent != NO_REFUSAL {
@@ -140,7 +145,9 @@ pub fn new_var<'a>(
     ks: &[u32],
     span: u32,
 ) -> TypeAnswer
-    ensures { λ r. ⌜ Promised (newVarCall (envIn (now (chart .entry)) beside (now (rule .entry)) (now (text .entry))) (lentOf (now (h .entry)) (now (ws .entry)) (now (ks .entry))) span) (typeReply r) (now (h .entry)) (now (ws .entry)) (now (ks .entry)) (now (h .exit)) (now (ws .exit)) (now (ks .entry)) ⌝ }
+    ensures { λ r. ⌜ Promised
+        (newVarCall (envIn (now (chart .entry)) beside (now (rule .entry)) (now (text .entry))) (lentOf (now (h .entry)) (now (ws .entry)) (now (ks .entry))) span)
+        (typeReply r) (now (h .entry)) (now (ws .entry)) (now (ks .entry)) (now (h .exit)) (now (ws .exit)) (now (ks .entry)) ⌝ }
 {
     let code = refusal_for(chart, beside, rule, text, h, ws, ks, 1);
     if code != NO_REFUSAL {
@@ -162,7 +169,11 @@ pub fn new_vars<'a>(
     count: u32,
     out: &mut [u32],
 ) -> DoneAnswer
-    ensures { λ r. ⌜ Listed (newVarsCall (envIn (now (chart .entry)) beside (now (rule .entry)) (now (text .entry))) (lentOf (now (h .entry)) (now (ws .entry)) (now (ks .entry))) span count (length (now (out .entry)))) r count (now (h .entry)) (now (ws .entry)) (now (ks .entry)) (now (h .exit)) (now (ws .exit)) (now (ks .entry)) (now (out .entry)) (now (out .exit)) ⌝ }
+    ensures { λ r. ⌜ ListPromised
+        (newVarsCall (envIn (now (chart .entry)) beside (now (rule .entry)) (now (text .entry))) (lentOf (now (h .entry)) (now (ws .entry)) (now (ks .entry)))
+        span count (length (now (out .entry))))
+        r count (now (h .entry)) (now (ws .entry)) (now (ks .entry)) (now (h .exit)) (now (ws .exit)) (now (ks .entry))
+        (now (out .entry)) (now (out .exit)) ⌝ }
 {
     let code = refusal_for(chart, beside, rule, text, h, ws, ks, count);
     if code != NO_REFUSAL {
@@ -195,7 +206,9 @@ pub fn error<'a>(
     ws: &mut [u32],
     ks: &[u32],
 ) -> TypeAnswer
-    ensures { λ r. ⌜ Promised (errorCall (envIn (now (chart .entry)) beside (now (rule .entry)) (now (text .entry))) (lentOf (now (h .entry)) (now (ws .entry)) (now (ks .entry)))) (typeReply r) (now (h .entry)) (now (ws .entry)) (now (ks .entry)) (now (h .exit)) (now (ws .exit)) (now (ks .entry)) ⌝ }
+    ensures { λ r. ⌜ Promised
+        (errorCall (envIn (now (chart .entry)) beside (now (rule .entry)) (now (text .entry))) (lentOf (now (h .entry)) (now (ws .entry)) (now (ks .entry))))
+        (typeReply r) (now (h .entry)) (now (ws .entry)) (now (ks .entry)) (now (h .exit)) (now (ws .exit)) (now (ks .entry)) ⌝ }
 {
     let x = layout::read_header(h);
     let was = x.error;
@@ -216,7 +229,9 @@ pub fn nil<'a>(
     ws: &mut [u32],
     ks: &[u32],
 ) -> TypeAnswer
-    ensures { λ r. ⌜ Promised (nilCall (envIn (now (chart .entry)) beside (now (rule .entry)) (now (text .entry))) (lentOf (now (h .entry)) (now (ws .entry)) (now (ks .entry)))) (typeReply r) (now (h .entry)) (now (ws .entry)) (now (ks .entry)) (now (h .exit)) (now (ws .exit)) (now (ks .entry)) ⌝ }
+    ensures { λ r. ⌜ Promised
+        (nilCall (envIn (now (chart .entry)) beside (now (rule .entry)) (now (text .entry))) (lentOf (now (h .entry)) (now (ws .entry)) (now (ks .entry))))
+        (typeReply r) (now (h .entry)) (now (ws .entry)) (now (ks .entry)) (now (h .exit)) (now (ws .exit)) (now (ks .entry)) ⌝ }
 {
     let x = layout::read_header(h);
     let was = x.nil;

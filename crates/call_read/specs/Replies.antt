@@ -2,21 +2,17 @@
 -- read is what it means in the store; past the end of a kind's children, or of its names, there is none.
 use mathlib.Core.Path.{_≡_}
 use mathlib.Core.List.{List}
-use mathlib.Core.Bool.{false}
+use mathlib.Core.Bool.{Bool, true}
 use mathlib.Core.Option.{Option, none, some}
 use Prim.Native.Nat.{ℕ}
 use Rattle.scope.specs.Names as scope
 use Rattle.scope.specs.Types.{Ty, tyOf}
 use Rattle.scope.specs.Nodes.{Node, Store}
-use Rattle.scope.specs.Force as force
 use Rattle.scope.specs.Calls.{Outcome}
 use Rattle.names.specs.Place.{nameIn}
-use Rattle.layout.specs.Words.{decode}
-use Rattle.layout.specs.Meaning.{nodeMeans, storeMeans}
-use Rattle.walk.specs.Read.{modMeans}
-use Rattle.promise.specs.Promise.{Reply, value, refusal, outcomeBy, answered, doneReply}
-use Rattle.promise.specs.declared.DoneAnswer.{DoneAnswer}
-use Rattle.promise.specs.declared.DoneAnswer.the-variants as end
+use Rattle.layout.specs.Words.{childrenMade, decode, storeIn}
+use Rattle.layout.specs.Meaning.{nodeMeans, nodeFits, storeMeans}
+use Rattle.promise.specs.Promise.{Reply, value, refusal, outcomeBy}
 use Rattle.call_read.specs.declared.Kid.{Kid}
 use Rattle.call_read.specs.declared.Kid.the-variants as kid
 use Rattle.call_read.specs.declared.Named.{Named}
@@ -29,8 +25,6 @@ use Rattle.call_read.specs.declared.NameAnswer.{NameAnswer}
 use Rattle.call_read.specs.declared.NameAnswer.the-variants as name
 use Rattle.call_read.specs.declared.FiguresAnswer.{FiguresAnswer}
 use Rattle.call_read.specs.declared.FiguresAnswer.the-variants as figures
-use Rattle.call_read.specs.declared.ModAnswer.{ModAnswer}
-use Rattle.call_read.specs.declared.ModAnswer.the-variants as mods
 
 -- a child or none, a name or none
 abbrev pub kidMeans : Kid → Option Ty
@@ -46,6 +40,16 @@ abbrev pub nodeReply : List ℕ → NodeAnswer → Reply Node
 nodeReply ks (node.Is v) = value (nodeMeans ks v)
 nodeReply ks (node.Refused n) = refusal n
 
+-- the node that is answered may stand in a store with c children made: its own lie among them, and names that its kind does not have are zeros
+abbrev pub nodeAnswerFits : List ℕ → ℕ → NodeAnswer → Bool
+nodeAnswerFits ks c (node.Is v) = nodeFits ks c v
+nodeAnswerFits ks c (node.Refused n) = true
+
+-- `node`: the call's outcome o is its reply with the store in h ws ks, and the node fits that store
+pub record NodePromised (o : Outcome Node) (r : NodeAnswer) (h ws ks : List ℕ) : Type 0 where
+  pub outcome : o ≡ outcomeBy (nodeReply ks r) (storeIn h ws ks)
+  pub fits : nodeAnswerFits ks (childrenMade h) r ≡ true
+
 abbrev pub childReply : ChildAnswer → Reply (Option Ty)
 childReply (child.Is t) = value (some (tyOf (t .0)))
 childReply child.Nothing = value none
@@ -60,17 +64,3 @@ nameReply (name.Refused n) = refusal n
 abbrev pub figuresReply : List ℕ → List ℕ → FiguresAnswer → Reply Store
 figuresReply ws ks (figures.Is x) = value (storeMeans x (decode ws ks (x .nodes)))
 figuresReply ws ks (figures.Refused n) = refusal n
-
-abbrev pub modReply : ModAnswer → Reply force.Mod
-modReply (mods.Is m) = value (modMeans m)
-modReply (mods.Refused n) = refusal n
-
--- `find_related` answers the marks afterwards
-abbrev pub marksReply : List ℕ → DoneAnswer → Reply (List ℕ)
-marksReply ms end.Done = value ms
-marksReply ms (end.Refused n) = refusal n
-
--- the call's outcome o is its reply with the store s; a refusal leaves the marks ms as found
-pub record Marked (o : Outcome (List ℕ)) (r : DoneAnswer) (s : Store) (ms ms′ : List ℕ) : Type 0 where
-  pub outcome : o ≡ outcomeBy (marksReply ms′ r) s
-  pub kept : answered (doneReply r) ≡ false → ms′ ≡ ms

@@ -1,18 +1,16 @@
-// The public calls that change no store, on any numbers at all: a node, a child, a name and the figures read; `is_nil`, `self_inverse`, `get_mod` and
-// `find_related`. Each tests and refuses, or answers what document 01 says. Refusals come in the order 2, 8, 3, 7.
+// The public calls that read a store, on any numbers at all: a node as it stands, its children and names by their index, and the figures. Each tests and
+// refuses, or answers what document 01 says. Refusals come in the order 2, 8, 3.
 ghost use mathlib.Core.Path.{_≡_};
 ghost use mathlib.Core.List.{map};
-ghost use mathlib.Core.Bool.{false};
 ghost use lib.ListN.{getElem?};
 ghost use Rattle.scope.specs.Types.{tyOf};
 ghost use Rattle.scope.specs.Sound.{nameIn, slotName};
-ghost use Rattle.scope.specs.Calls.{childAt, flat, childNameAt};
-ghost use Rattle.scope.specs.Calls.{nodeCall, childCall, nameCall, figuresCall, findRelatedCall, selfInverseCall, isNilCall, getModCall};
+ghost use Rattle.scope.specs.Calls.{childAt, flat, childNameAt, nodeCall, childCall, nameCall, figuresCall};
 ghost use Rattle.layout.specs.Words.{slots, lentOf, storeIn};
 ghost use Rattle.layout.specs.Meaning.{kindMeans, nodeMeans};
 ghost use Rattle.sound.specs.Tests.{envIn};
-ghost use Rattle.promise.specs.Promise.{boolReply, outcomeBy};
-ghost use Rattle.call_read.specs.Replies.{kidMeans, namedMeans, nodeReply, childReply, nameReply, figuresReply, modReply, Marked};
+ghost use Rattle.promise.specs.Promise.{outcomeBy};
+ghost use Rattle.call_read.specs.Replies.{kidMeans, namedMeans, NodePromised, childReply, nameReply, figuresReply};
 use chart::Beside;
 use kinds::CHILD_NAMES;
 use kinds::OWN_NAME;
@@ -22,12 +20,9 @@ use layout::Kind;
 use layout::TypeNode;
 use layout::TypeState;
 use names::Name;
-use promise::BoolAnswer;
-use promise::DoneAnswer;
 use promise::refusal_at;
 use sound::NO_REFUSAL;
 use types::Type;
-use walk::Mod;
 
 // A child, if there is one.
 pub enum Kid {
@@ -64,12 +59,6 @@ pub enum NameAnswer {
 // What of a store is no node, or a refusal's number.
 pub enum FiguresAnswer {
     Is(Header),
-    Refused(u32),
-}
-
-// get_mod's answer, or a refusal's number.
-pub enum ModAnswer {
-    Is(Mod),
     Refused(u32),
 }
 
@@ -166,7 +155,9 @@ pub fn node<'a>(
     ks: &[u32],
     t: Type,
 ) -> NodeAnswer
-    ensures { λ r. ⌜ nodeCall (envIn (now (chart .entry)) beside (now (rule .entry)) (now (text .entry))) (lentOf (now (h .entry)) (now (ws .entry)) (now (ks .entry))) (tyOf (t .0)) ≡ outcomeBy (nodeReply (now (ks .entry)) r) (storeIn (now (h .entry)) (now (ws .entry)) (now (ks .entry))) ⌝ }
+    ensures { λ r. ⌜ NodePromised
+        (nodeCall (envIn (now (chart .entry)) beside (now (rule .entry)) (now (text .entry))) (lentOf (now (h .entry)) (now (ws .entry)) (now (ks .entry))) (tyOf (t .0)))
+        r (now (h .entry)) (now (ws .entry)) (now (ks .entry)) ⌝ }
 {
     let code = refusal_at(chart, beside, rule, text, h, ws, ks, t);
     if code != NO_REFUSAL {
@@ -188,7 +179,9 @@ pub fn child<'a>(
     t: Type,
     j: u32,
 ) -> ChildAnswer
-    ensures { λ r. ⌜ childCall (envIn (now (chart .entry)) beside (now (rule .entry)) (now (text .entry))) (lentOf (now (h .entry)) (now (ws .entry)) (now (ks .entry))) (tyOf (t .0)) j ≡ outcomeBy (childReply r) (storeIn (now (h .entry)) (now (ws .entry)) (now (ks .entry))) ⌝ }
+    ensures { λ r. ⌜ childCall
+        (envIn (now (chart .entry)) beside (now (rule .entry)) (now (text .entry))) (lentOf (now (h .entry)) (now (ws .entry)) (now (ks .entry))) (tyOf (t .0)) j
+        ≡ outcomeBy (childReply r) (storeIn (now (h .entry)) (now (ws .entry)) (now (ks .entry))) ⌝ }
 {
     match node(chart, beside, rule, text, h, ws, ks, t) {
         NodeAnswer::Is(found) => match child_of_node(ks, found, j) {
@@ -211,7 +204,9 @@ pub fn child_name<'a>(
     t: Type,
     j: u32,
 ) -> NameAnswer
-    ensures { λ r. ⌜ nameCall (envIn (now (chart .entry)) beside (now (rule .entry)) (now (text .entry))) (lentOf (now (h .entry)) (now (ws .entry)) (now (ks .entry))) (tyOf (t .0)) j ≡ outcomeBy (nameReply r) (storeIn (now (h .entry)) (now (ws .entry)) (now (ks .entry))) ⌝ }
+    ensures { λ r. ⌜ nameCall
+        (envIn (now (chart .entry)) beside (now (rule .entry)) (now (text .entry))) (lentOf (now (h .entry)) (now (ws .entry)) (now (ks .entry))) (tyOf (t .0)) j
+        ≡ outcomeBy (nameReply r) (storeIn (now (h .entry)) (now (ws .entry)) (now (ks .entry))) ⌝ }
 {
     match node(chart, beside, rule, text, h, ws, ks, t) {
         NodeAnswer::Is(found) => match name_of_node(ks, found, j) {
@@ -232,117 +227,13 @@ pub fn figures<'a>(
     ws: &[u32],
     ks: &[u32],
 ) -> FiguresAnswer
-    ensures { λ r. ⌜ figuresCall (envIn (now (chart .entry)) beside (now (rule .entry)) (now (text .entry))) (lentOf (now (h .entry)) (now (ws .entry)) (now (ks .entry))) ≡ outcomeBy (figuresReply (now (ws .entry)) (now (ks .entry)) r) (storeIn (now (h .entry)) (now (ws .entry)) (now (ks .entry))) ⌝ }
+    ensures { λ r. ⌜ figuresCall
+        (envIn (now (chart .entry)) beside (now (rule .entry)) (now (text .entry))) (lentOf (now (h .entry)) (now (ws .entry)) (now (ks .entry)))
+        ≡ outcomeBy (figuresReply (now (ws .entry)) (now (ks .entry)) r) (storeIn (now (h .entry)) (now (ws .entry)) (now (ks .entry))) ⌝ }
 {
     let code = sound::refusal(chart, beside, rule, text, h, ws, ks);
     if code != NO_REFUSAL {
         return FiguresAnswer::Refused(code);
     }
     FiguresAnswer::Is(layout::read_header(h))
-}
-
-// A Tuple of nothing.
-pub fn is_nil<'a>(
-    chart: &[u32],
-    beside: Beside,
-    rule: &'a [u8],
-    text: &'a [u8],
-    h: &[u32],
-    ws: &[u32],
-    ks: &[u32],
-    t: Type,
-) -> BoolAnswer
-    ensures { λ r. ⌜ isNilCall (envIn (now (chart .entry)) beside (now (rule .entry)) (now (text .entry))) (lentOf (now (h .entry)) (now (ws .entry)) (now (ks .entry))) (tyOf (t .0)) ≡ outcomeBy (boolReply r) (storeIn (now (h .entry)) (now (ws .entry)) (now (ks .entry))) ⌝ }
-{
-    let code = refusal_at(chart, beside, rule, text, h, ws, ks, t);
-    if code != NO_REFUSAL {
-        return BoolAnswer::Refused(code);
-    }
-    let x = layout::read_header(h);
-    BoolAnswer::Is(walk::is_nil(ws, x.nodes, t))
-}
-
-// `_self_inverse`: a Param counts as param says.
-pub fn self_inverse_param<'a>(
-    chart: &[u32],
-    beside: Beside,
-    rule: &'a [u8],
-    text: &'a [u8],
-    h: &[u32],
-    ws: &[u32],
-    ks: &[u32],
-    t: Type,
-    param: bool,
-) -> BoolAnswer
-    ensures { λ r. ⌜ selfInverseCall (envIn (now (chart .entry)) beside (now (rule .entry)) (now (text .entry))) (lentOf (now (h .entry)) (now (ws .entry)) (now (ks .entry))) (tyOf (t .0)) param ≡ outcomeBy (boolReply r) (storeIn (now (h .entry)) (now (ws .entry)) (now (ks .entry))) ⌝ }
-{
-    let code = refusal_at(chart, beside, rule, text, h, ws, ks, t);
-    if code != NO_REFUSAL {
-        return BoolAnswer::Refused(code);
-    }
-    let x = layout::read_header(h);
-    BoolAnswer::Is(walk::self_inverse(ws, ks, x.nodes, t, param))
-}
-
-// "`self_inverse` holds where the root has a self-dual kind and it holds of every child; never where there is no kind."
-pub fn self_inverse<'a>(
-    chart: &[u32],
-    beside: Beside,
-    rule: &'a [u8],
-    text: &'a [u8],
-    h: &[u32],
-    ws: &[u32],
-    ks: &[u32],
-    t: Type,
-) -> BoolAnswer
-    ensures { λ r. ⌜ selfInverseCall (envIn (now (chart .entry)) beside (now (rule .entry)) (now (text .entry))) (lentOf (now (h .entry)) (now (ws .entry)) (now (ks .entry))) (tyOf (t .0)) false ≡ outcomeBy (boolReply r) (storeIn (now (h .entry)) (now (ws .entry)) (now (ks .entry))) ⌝ }
-{
-    self_inverse_param(chart, beside, rule, text, h, ws, ks, t, false)
-}
-
-// A definition's def number, through Refs.
-pub fn get_mod<'a>(
-    chart: &[u32],
-    beside: Beside,
-    rule: &'a [u8],
-    text: &'a [u8],
-    h: &[u32],
-    ws: &[u32],
-    ks: &[u32],
-    t: Type,
-) -> ModAnswer
-    ensures { λ r. ⌜ getModCall (envIn (now (chart .entry)) beside (now (rule .entry)) (now (text .entry))) (lentOf (now (h .entry)) (now (ws .entry)) (now (ks .entry))) (tyOf (t .0)) ≡ outcomeBy (modReply r) (storeIn (now (h .entry)) (now (ws .entry)) (now (ks .entry))) ⌝ }
-{
-    let code = refusal_at(chart, beside, rule, text, h, ws, ks, t);
-    if code != NO_REFUSAL {
-        return ModAnswer::Refused(code);
-    }
-    let x = layout::read_header(h);
-    ModAnswer::Is(walk::get_mod(ws, ks, x.nodes, chart, t))
-}
-
-// "`find_related` (lent marks, a byte for each node: nonzero means already in the set, and 1 is written for each root added; too few marks: 7)"
-pub fn find_related<'a>(
-    chart: &[u32],
-    beside: Beside,
-    rule: &'a [u8],
-    text: &'a [u8],
-    h: &[u32],
-    ws: &[u32],
-    ks: &[u32],
-    marks: &mut [u8],
-    t: Type,
-) -> DoneAnswer
-    ensures { λ r. ⌜ Marked (findRelatedCall (envIn (now (chart .entry)) beside (now (rule .entry)) (now (text .entry))) (lentOf (now (h .entry)) (now (ws .entry)) (now (ks .entry))) (tyOf (t .0)) (now (marks .entry))) r (storeIn (now (h .entry)) (now (ws .entry)) (now (ks .entry))) (now (marks .entry)) (now (marks .exit)) ⌝ }
-{
-    let code = refusal_at(chart, beside, rule, text, h, ws, ks, t);
-    if code != NO_REFUSAL {
-        return DoneAnswer::Refused(code);
-    }
-    let x = layout::read_header(h);
-    if marks.len() < x.nodes as usize {
-        return DoneAnswer::Refused(promise::SHORT);
-    }
-    walk::find_related(ws, ks, x.nodes, marks, t);
-    DoneAnswer::Done
 }

@@ -29,7 +29,7 @@ use Rattle.make.specs.Given.{entryCount}
 use Rattle.make.proofs.Laws.{store-count}
 use Rattle.sound.specs.Tests.{envIn, codeOf}
 use Rattle.sound.proofs.Laws.{sound-clean, env-ok, env-whole}
-use Rattle.promise.specs.Promise.{value, refusal, Promised, typesTests, typesIn, entryTypes}
+use Rattle.promise.specs.Promise.{value, refusal, Promised, typesTests, TypesTested, typesIn, entryTypes}
 
 -- a refusal's number as an option
 
@@ -173,16 +173,24 @@ pub lent-env : (chart : List ℕ) (b : Beside) (rule text h ws ks : List ℕ) �
 lent-env chart b rule text h ws ks q =
     env-whole chart b rule text (sym (env-ok chart b rule text) ∙ lent-chart (envIn chart b rule text) h ws ks q)
 
-module _ (e : Env) (h ws ks : List ℕ) (t : Ty) (n : ℕ) (q : firstBroken (lentTests e (lentOf h ws ks)) ≡ codeOf n) (z : n ≡ 0) where
-  module _ (x : Header) (g : x ≡ headerIn h) (b : Bool) (i : (ns : List Node) → length ns ≡ x .nodes → b ≡ inStore ns t) where
-    one-test : firstBroken (typesTests e (lentOf h ws ks) (t ∷ [])) ≡ firstBroken ((not b, 3) ∷ [])
-    one-test = types-test e h ws ks n q z x g (t ∷ []) b (λ ns m. i ns m ∙ sym (and-true (inStore ns t)))
+-- one type
 
-    pub one-outside : b ≡ false → firstBroken (typesTests e (lentOf h ws ks) (t ∷ [])) ≡ some 3
-    one-outside f = one-test ∙ rw f
+module _ (chart : List ℕ) (c : Beside) (rule text h ws ks : List ℕ) (t : Ty) (n : ℕ) (q : firstBroken (lentTests (envIn chart c rule text) (lentOf h ws ks)) ≡ codeOf n) where
+  abbrev env : Env
+  env = envIn chart c rule text
 
-    pub one-inside : b ≡ true → firstBroken (typesTests e (lentOf h ws ks) (t ∷ [])) ≡ none
-    one-inside f = one-test ∙ rw f
+  pub one-lent : (n ≡ 0 → ⊥) → TypesTested chart c rule text h ws ks (t ∷ []) n
+  one-lent z = record { first = lent-refused env h ws ks (outside (storeOf (lentOf h ws ks)) (t ∷ []) ∷ []) n q z }
+
+  module _ (z : n ≡ 0) {x : Header} (g : x ≡ headerIn h) {b : Bool} (i : (ns : List Node) → length ns ≡ x .nodes → b ≡ inStore ns t) where
+    one-test : firstBroken (typesTests env (lentOf h ws ks) (t ∷ [])) ≡ firstBroken ((not b, 3) ∷ [])
+    one-test = types-test env h ws ks n q z x g (t ∷ []) b (λ ns m. i ns m ∙ sym (and-true (inStore ns t)))
+
+    pub one-outside : b ≡ false → TypesTested chart c rule text h ws ks (t ∷ []) 3
+    one-outside f = record { first = one-test ∙ rw f }
+
+    pub one-inside : b ≡ true → TypesTested chart c rule text h ws ks (t ∷ []) 0
+    one-inside f = record { first = one-test ∙ rw f }
 
 -- listed types by their places
 

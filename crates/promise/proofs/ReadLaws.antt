@@ -14,27 +14,31 @@ use Rattle.scope.specs.Nodes.{Node, Store}
 use Rattle.scope.specs.Sound.{inStore}
 use Rattle.scope.specs.Calls.{refused, done, firstBroken, storeOf, lentTests, outside, readCall}
 use Rattle.scope.proofs.SoundLaws.{SoundFacts}
+use Rattle.chart.specs.declared.Beside.{Beside}
 use Rattle.layout.specs.Words.{nodesMade, childrenMade, decode, storeIn, lentOf}
 use Rattle.layout.specs.Meaning.{Clean, Linked, headerIn}
 use Rattle.layout.specs.declared.Header.{Header}
 use Rattle.layout.proofs.StoreLaws.{clean-nodes}
 use Rattle.make.proofs.Laws.{store-nodes}
-use Rattle.sound.specs.Tests.{codeOf}
-use Rattle.promise.specs.Promise.{typesTests}
+use Rattle.sound.specs.Tests.{envIn}
+use Rattle.promise.specs.Promise.{typesTests, TypesTested}
 use Rattle.promise.proofs.Laws.{code-none, judged-refused, passed-next, test-passed, call-passed, lent-clean-words, lent-store, lent-facts, lent-linked}
 use Rattle.promise.proofs.CallLaws.{call-outcome}
 
-module _ (e : Env) (h ws ks : List ℕ) (ts : List Ty) (n : ℕ) (q : firstBroken (typesTests e (lentOf h ws ks) ts) ≡ codeOf n) where
-  pub read-refused : {A : Type 0} (a : A) → (n ≡ 0 → ⊥) → readCall e (lentOf h ws ks) ts a ≡ refused n
-  read-refused a z = judged-refused (typesTests e (lentOf h ws ks) ts) (done a (storeOf (lentOf h ws ks))) n q z
+module _ {chart : List ℕ} {b : Beside} {rule text h ws ks : List ℕ} {ts : List Ty} {n : ℕ} (q : TypesTested chart b rule text h ws ks ts n) where
+  abbrev e : Env
+  e = envIn chart b rule text
+
+  pub read-refused : {A : Type 0} → (n ≡ 0 → ⊥) → (a : A) → readCall e (lentOf h ws ks) ts a ≡ refused n
+  read-refused z a = judged-refused (typesTests e (lentOf h ws ks) ts) (done a (storeOf (lentOf h ws ks))) n (q .first) z
 
   module _ (z : n ≡ 0) where
     pub read-passed : firstBroken (lentTests e (lentOf h ws ks)) ≡ none
-    read-passed = call-passed e h ws ks (outside (storeOf (lentOf h ws ks)) ts ∷ []) n q z
+    read-passed = call-passed e h ws ks (outside (storeOf (lentOf h ws ks)) ts ∷ []) n (q .first) z
 
     pub read-done : {A : Type 0} (f : Store → A)
         → readCall e (lentOf h ws ks) ts (f (storeOf (lentOf h ws ks))) ≡ done (f (storeIn h ws ks)) (storeIn h ws ks)
-    read-done f = call-outcome e h ws ks (λ s. outside s ts ∷ []) (λ s. done (f s) s) n q z
+    read-done f = call-outcome e h ws ks (λ s. outside s ts ∷ []) (λ s. done (f s) s) n (q .first) z
 
     pub read-facts : SoundFacts e (storeIn h ws ks)
     read-facts = lent-facts e h ws ks read-passed
@@ -42,13 +46,13 @@ module _ (e : Env) (h ws ks : List ℕ) (ts : List Ty) (n : ℕ) (q : firstBroke
     pub read-inside : all (inStore (storeIn h ws ks .nodes)) ts ≡ true
     read-inside =
         let o = outside (storeOf (lentOf h ws ks)) ts in
-        let p = passed-next (lentTests e (lentOf h ws ks)) (o ∷ []) (q ∙ code-none n z) in
+        let p = passed-next (lentTests e (lentOf h ws ks)) (o ∷ []) (q .first ∙ code-none n z) in
         ap (λ (s : Store). all (inStore (s .nodes)) ts) (sym (lent-store e h ws ks read-passed))
         ∙ not-false (all (inStore (storeOf (lentOf h ws ks) .nodes)) ts) (test-passed (o .0) (o .1) [] p)
 
     -- of the nodes alone
 
-    module _ (x : Header) (g : x ≡ headerIn h) where
+    module _ {x : Header} (g : x ≡ headerIn h) where
       made : x .nodes ≡ nodesMade h
       made = ap (λ (y : Header). y .nodes) g
 

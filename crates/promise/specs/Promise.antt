@@ -8,10 +8,12 @@ use Rattle.scope.specs.Chart.{Env}
 use Rattle.scope.specs.Types.{Ty, tyOf}
 use Rattle.scope.specs.Nodes.{Store}
 use Rattle.scope.specs.Sound.{Lent}
-use Rattle.scope.specs.Calls.{Outcome, refused, done, storeOf, lentTests, outside}
-use Rattle.layout.specs.Words.{storeIn, slots}
+use Rattle.scope.specs.Calls.{Outcome, refused, done, firstBroken, storeOf, lentTests, outside}
+use Rattle.chart.specs.declared.Beside.{Beside}
+use Rattle.layout.specs.Words.{storeIn, lentOf, slots}
 use Rattle.make.specs.Holds.{Became}
 use Rattle.make.specs.Given.{entryCount}
+use Rattle.sound.specs.Tests.{envIn, codeOf}
 use Rattle.promise.specs.declared.TypeAnswer.{TypeAnswer}
 use Rattle.promise.specs.declared.TypeAnswer.the-variants as type
 use Rattle.promise.specs.declared.BoolAnswer.{BoolAnswer}
@@ -46,7 +48,7 @@ answered (value a) = true
 answered (refusal n) = false
 
 -- every word is as found
-pub record Same (h ws ks h′ ws′ ks′ : List ℕ) : Type 0 where
+pub record AsFound (h ws ks h′ ws′ ks′ : List ℕ) : Type 0 where
   pub head : h′ ≡ h
   pub nodes : ws′ ≡ ws
   pub kids : ks′ ≡ ks
@@ -56,11 +58,15 @@ pub record Same (h ws ks h′ ws′ ks′ : List ℕ) : Type 0 where
 pub record Promised {A : Type 0} (o : Outcome A) (r : Reply A) (h ws ks h′ ws′ ks′ : List ℕ) : Type 0 where
   pub outcome : o ≡ outcomeBy r (storeIn h′ ws′ ks′)
   pub again : answered r ≡ true → Became h ws ks h′ ws′ ks′ (storeIn h′ ws′ ks′)
-  pub kept : answered r ≡ false → Same h ws ks h′ ws′ ks′
+  pub kept : answered r ≡ false → AsFound h ws ks h′ ws′ ks′
 
 -- the tests of a call on listed types
 abbrev pub typesTests : Env → Lent → List Ty → List (Bool × ℕ)
 typesTests e l ts = lentTests e l ++ (outside (storeOf l) ts ∷ [])
+
+-- n is the first of refusals 2, 8 and 3 that stands for a call on listed types, and 0 where none does
+pub record TypesTested (chart : List ℕ) (b : Beside) (rule text h ws ks : List ℕ) (ts : List Ty) (n : ℕ) : Type 0 where
+  pub first : firstBroken (typesTests (envIn chart b rule text) (lentOf h ws ks) ts) ≡ codeOf n
 
 -- lent types, a word each
 abbrev pub typesIn : List ℕ → List Ty

@@ -7,10 +7,7 @@ ghost use Rattle.scope.specs.Base.{all};
 ghost use Rattle.scope.specs.Types.{tyOf};
 ghost use Rattle.scope.specs.Nodes.{Node};
 ghost use Rattle.scope.specs.Sound.{inStore};
-ghost use Rattle.scope.specs.Calls.{firstBroken};
-ghost use Rattle.layout.specs.Words.{lentOf};
-ghost use Rattle.sound.specs.Tests.{envIn, codeOf};
-ghost use Rattle.promise.specs.Promise.{typesTests, typesIn, entryTypes};
+ghost use Rattle.promise.specs.Promise.{TypesTested, typesIn, entryTypes};
 use chart::Beside;
 use layout::CHILD_WORDS;
 use sound::NO_REFUSAL;
@@ -92,7 +89,8 @@ pub fn refusal_at<'a>(
     ks: &[u32],
     t: Type,
 ) -> u32
-    ensures { λ r. ⌜ firstBroken (typesTests (envIn (now (chart .entry)) beside (now (rule .entry)) (now (text .entry))) (lentOf (now (h .entry)) (now (ws .entry)) (now (ks .entry))) (tyOf (t .0) ∷ [])) ≡ codeOf r ⌝ }
+    ensures { λ r. ⌜ TypesTested (now (chart .entry)) beside (now (rule .entry)) (now (text .entry)) (now (h .entry)) (now (ws .entry)) (now (ks .entry))
+        (tyOf (t .0) ∷ []) r ⌝ }
 {
     let lent = sound::refusal(chart, beside, rule, text, h, ws, ks);
     if lent != NO_REFUSAL {

@@ -58,7 +58,7 @@ fn find_related_in<'a>(
     marks: &mut [u8],
     t: Type,
 ) {
-    match call_read::find_related(chart, beside, rule, text, h, ws, ks, marks, t) {
+    match call_ask::find_related(chart, beside, rule, text, h, ws, ks, marks, t) {
         DoneAnswer::Done => marked(marks),
         DoneAnswer::Refused(n) => writing::refused(n),
     }
@@ -171,20 +171,20 @@ fn root<'a>(
 ) {
     let t = Type(word(a, 0));
     if op == IS_NIL {
-        writing::bool_answer(call_read::is_nil(chart, beside, rule, text, h, ws, ks, t));
+        writing::bool_answer(call_ask::is_nil(chart, beside, rule, text, h, ws, ks, t));
         return;
     }
     if op == SELF_INVERSE {
-        writing::bool_answer(call_read::self_inverse(chart, beside, rule, text, h, ws, ks, t));
+        writing::bool_answer(call_ask::self_inverse(chart, beside, rule, text, h, ws, ks, t));
         return;
     }
     if op == SELF_INVERSE_PARAM {
         let param = word(a, 1) != 0;
-        let r = call_read::self_inverse_param(chart, beside, rule, text, h, ws, ks, t, param);
+        let r = call_ask::self_inverse_param(chart, beside, rule, text, h, ws, ks, t, param);
         writing::bool_answer(r);
         return;
     }
-    writing::mod_answer(call_read::get_mod(chart, beside, rule, text, h, ws, ks, t));
+    writing::mod_answer(call_ask::get_mod(chart, beside, rule, text, h, ws, ks, t));
 }
 
 pub(crate) fn call<'a>(

@@ -1,8 +1,8 @@
 // Answers and nodes as lines of text.
+use call_ask::ModAnswer;
 use call_force::ForcedAnswer;
 use call_read::ChildAnswer;
 use call_read::FiguresAnswer;
-use call_read::ModAnswer;
 use call_read::NameAnswer;
 use call_read::NodeAnswer;
 use call_unify::UnifyAnswer;

@@ -1,9 +1,6 @@
--- `finds::find_mut` meets its contract: a refusal writes nothing, and where no test breaks `roots` changes links alone, so the words say a store again.
+-- `call_find::find_mut` meets its contract: a refusal writes nothing, and where no test breaks `roots` changes links alone, so the words say a store again.
 -- Assumes nothing.
-use mathlib.Core.List.{[], _∷_}
 use borrow.Author.Needs.{needs}
-use Rattle.scope.specs.Types.{tyOf}
-use Rattle.sound.specs.Tests.{envIn}
 use Rattle.promise.proofs.ReadLaws.{read-linked}
 use Rattle.call_find.proofs.Laws.{mut-refused, mut-answer}
 use Rattle.call_find.proofs.find_mut.Statement.{statement}
@@ -18,16 +15,14 @@ same-length c = search needs
 returns : tie.Need-returns
 returns c =
     let a = c .before .before .before .before .before .before .before .before .before .args in
-    mut-refused (envIn (a .chart .now) (a .beside) (a .rule .now) (a .text .now)) (a .h .now) (a .ws .now) (a .ks .now) (a .t) (c .before .refusal-at .result) (c .before .refusal-at .ensures) (c .if1 .taken)
+    mut-refused (a .t) (c .before .refusal-at .ensures) (c .if1 .taken)
 
 read-header-requires : tie.Need-read-header-requires
 read-header-requires c κs = search needs
 
 find-mut-requires : tie.Need-find-mut-requires
 find-mut-requires c κs =
-    let a = c .before .before .before .before .before .before .before .before .before .before .before .args in
-    read-linked (envIn (a .chart .now) (a .beside) (a .rule .now) (a .text .now)) (a .h .now) (a .ws .now) (a .ks .now) (tyOf (a .t .0) ∷ []) (c .before .before .before .refusal-at .result) (c .before .before .before .refusal-at .ensures) (c .before .before .if1 .left)
-    (c .before .read-header .result) (c .before .read-header .ensures)
+    read-linked (c .before .before .before .refusal-at .ensures) (c .before .before .if1 .left) (c .before .read-header .ensures)
 
 same-length-2 : tie.Need-same-length-2
 same-length-2 c = search needs
@@ -35,8 +30,8 @@ same-length-2 c = search needs
 returns-2 : tie.Need-returns-2
 returns-2 c =
     let a = c .before .before .before .before .before .before .before .before .before .before .before .before .before .before .args in
-    mut-answer (envIn (a .chart .now) (a .beside) (a .rule .now) (a .text .now)) (a .h .now) (a .ws .now) (a .ks .now) (a .t) (c .before .before .before .before .before .before .refusal-at .result) (c .before .before .before .before .before .before .refusal-at .ensures) (c .before .before .before .before .before .if1 .left)
-    (c .before .before .before .before .read-header .result) (c .before .before .before .before .read-header .ensures) (c .before .before .find-mut .ensures)
+    mut-answer (a .t) (c .before .before .before .before .before .before .refusal-at .ensures) (c .before .before .before .before .before .if1 .left)
+    (c .before .before .before .before .read-header .ensures) (c .before .before .find-mut .ensures)
 
 pub find-mut-spec : {M : Type 1} → statement M
 find-mut-spec =

@@ -1,14 +1,13 @@
--- `forces::finish_inference` meets its contract: no test but 2 and 8 turns it back, and a store that they pass is clean.
+-- `call_force::finish_inference` meets its contract: no test but 2 and 8 turns it back, and a store that they pass is clean.
 -- Assumes nothing.
 use mathlib.Core.Path.{refl}
 use mathlib.Core.List.{[]}
 use borrow.Author.Needs.{needs}
-use Rattle.scope.specs.Nodes.{withNodes}
-use Rattle.scope.specs.Force.{finishInference}
-use Rattle.scope.specs.Calls.{done, finishInferenceCall}
+use Rattle.scope.specs.Calls.{finishInferenceCall}
 use Rattle.sound.specs.Tests.{envIn}
 use Rattle.promise.proofs.Laws.{lent-passed, lent-clean-words}
 use Rattle.promise.proofs.CallLaws.{call-back, call-done}
+use Rattle.call_force.proofs.Laws.{finishing}
 use Rattle.call_force.proofs.finish_inference.Statement.{statement}
 use Rattle.call_force.proofs.finish_inference.Tie as tie
 
@@ -22,13 +21,17 @@ returns : tie.Need-returns
 unfolding finishInferenceCall
 returns c =
     let a = c .before .before .before .before .before .before .before .before .before .args in
-    call-back (envIn (a .chart .now) (a .beside) (a .rule .now) (a .text .now)) (a .h .now) (a .ws .now) (a .ks .now) (λ s. []) (λ s. done tt (withNodes s (finishInference (s .nodes)))) (c .before .refusal .result) (c .before .refusal .ensures) (c .if1 .taken)
+    let e = envIn (a .chart .now) (a .beside) (a .rule .now) (a .text .now) in
+    let lent = c .before .refusal in
+    call-back e (a .h .now) (a .ws .now) (a .ks .now) (λ s. []) finishing (lent .result) (lent .ensures) (c .if1 .taken)
 
 finish-inference-requires : tie.Need-finish-inference-requires
 finish-inference-requires c κs =
     let a = c .before .before .before .before .before .before .before .before .before .before .args in
-    lent-clean-words (envIn (a .chart .now) (a .beside) (a .rule .now) (a .text .now)) (a .h .now) (a .ws .now) (a .ks .now)
-    (lent-passed (envIn (a .chart .now) (a .beside) (a .rule .now) (a .text .now)) (a .h .now) (a .ws .now) (a .ks .now) (c .before .before .refusal .result) (c .before .before .refusal .ensures) (c .before .if1 .left))
+    let e = envIn (a .chart .now) (a .beside) (a .rule .now) (a .text .now) in
+    let lent = c .before .before .refusal in
+    lent-clean-words e (a .h .now) (a .ws .now) (a .ks .now)
+    (lent-passed e (a .h .now) (a .ws .now) (a .ks .now) (lent .result) (lent .ensures) (c .before .if1 .left))
 
 same-length-2 : tie.Need-same-length-2
 same-length-2 c = search needs
@@ -37,7 +40,9 @@ returns-2 : tie.Need-returns-2
 unfolding finishInferenceCall
 returns-2 c =
     let a = c .before .before .before .before .before .before .before .before .before .before .before .before .before .args in
-    call-done (envIn (a .chart .now) (a .beside) (a .rule .now) (a .text .now)) (a .h .now) (a .ws .now) (a .ks .now) (λ s. []) (λ s. done tt (withNodes s (finishInference (s .nodes)))) (c .before .before .before .before .before .refusal .result) (c .before .before .before .before .before .refusal .ensures) (c .before .before .before .before .if1 .left) refl (c .before .before .finish-inference .ensures)
+    let e = envIn (a .chart .now) (a .beside) (a .rule .now) (a .text .now) in
+    let lent = c .before .before .before .before .before .refusal in
+    call-done e (a .h .now) (a .ws .now) (a .ks .now) (λ s. []) finishing (lent .result) (lent .ensures) (c .before .before .before .before .if1 .left) refl (c .before .before .finish-inference .ensures)
 
 pub finish-inference-spec : {M : Type 1} → statement M
 finish-inference-spec =

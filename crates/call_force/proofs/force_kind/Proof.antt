@@ -1,14 +1,9 @@
--- `forces::force_kind` meets its contract: a type that passes the tests is forced by the core, on a store that is clean.
+-- `call_force::force_kind` meets its contract: a type that passes the tests is forced by the core, on a store that is clean, and the answer is the core's.
 -- Assumes nothing.
-use mathlib.Core.List.{[], _∷_}
+use mathlib.Core.Path.{ap}
 use borrow.Author.Needs.{needs}
-use Rattle.scope.specs.Types.{tyOf}
-use Rattle.scope.specs.Calls.{outside, storeOf, forceKindCall}
-use Rattle.layout.specs.Words.{lentOf}
-use Rattle.sound.specs.Tests.{envIn}
-use Rattle.promise.proofs.Laws.{lent-clean-words, call-passed}
-use Rattle.promise.proofs.CallLaws.{call-back, call-done}
-use Rattle.call_force.proofs.Laws.{forcing, forced-done}
+use Rattle.call_force.specs.Replies.{answerOf}
+use Rattle.call_force.proofs.Laws.{forced-back, forced-clean, forced-fits, forced-promised}
 use Rattle.call_force.proofs.force_kind.Statement.{statement}
 use Rattle.call_force.proofs.force_kind.Tie as tie
 
@@ -22,17 +17,23 @@ same-length-2 : tie.Need-same-length-2
 same-length-2 c = search needs
 
 returns : tie.Need-returns
-unfolding forceKindCall
 returns c =
     let a = c .before .before .before .before .before .before .before .before .before .before .args in
-    call-back (envIn (a .chart .now) (a .beside) (a .rule .now) (a .text .now)) (a .h .now) (a .ws .now) (a .ks .now) (λ s. outside s (tyOf (a .t .0) ∷ []) ∷ []) (forcing (tyOf (a .t .0)))
-    (c .before .refusal-at .result) (c .before .refusal-at .ensures) (c .if1 .taken)
+    forced-back (a .t) (c .before .refusal-at .ensures) (c .if1 .taken)
 
 force-kind-requires : tie.Need-force-kind-requires
 force-kind-requires c κs =
     let a = c .before .before .before .before .before .before .before .before .before .before .before .before .args in
-    lent-clean-words (envIn (a .chart .now) (a .beside) (a .rule .now) (a .text .now)) (a .h .now) (a .ws .now) (a .ks .now)
-    (call-passed (envIn (a .chart .now) (a .beside) (a .rule .now) (a .text .now)) (a .h .now) (a .ws .now) (a .ks .now) (outside (storeOf (lentOf (a .h .now) (a .ws .now) (a .ks .now))) (tyOf (a .t .0) ∷ []) ∷ []) (c .before .before .before .refusal-at .result) (c .before .before .before .refusal-at .ensures) (c .before .before .if1 .left))
+    forced-clean (a .t) (c .before .before .before .refusal-at .ensures) (c .before .before .if1 .left)
+
+enum-known-i : tie.Need-enum-known-i
+enum-known-i c = search needs
+
+enum-known-span : tie.Need-enum-known-span
+enum-known-span c = search needs
+
+enum-told : tie.Need-enum-told
+enum-told c = search needs
 
 same-length-3 : tie.Need-same-length-3
 same-length-3 c = search needs
@@ -41,12 +42,40 @@ same-length-4 : tie.Need-same-length-4
 same-length-4 c = search needs
 
 returns-2 : tie.Need-returns-2
-unfolding forceKindCall
 returns-2 c =
-    let a = c .before .before .before .before .before .before .before .before .before .before .before .before .before .before .before .before .before .args in
-    call-done (envIn (a .chart .now) (a .beside) (a .rule .now) (a .text .now)) (a .h .now) (a .ws .now) (a .ks .now) (λ s. outside s (tyOf (a .t .0) ∷ []) ∷ []) (forcing (tyOf (a .t .0)))
-    (c .before .before .before .before .before .before .before .before .refusal-at .result) (c .before .before .before .before .before .before .before .before .refusal-at .ensures) (c .before .before .before .before .before .before .before .if1 .left)
-    (forced-done (c .before .before .before .before .force-kind .ensures)) (c .before .before .before .before .force-kind .ensures .store)
+    let a = c .before .before .before .before .before .before .before .before .before .before .before .before .before .before .before .before .before .before .before .before .args in
+    let test = c .before .before .before .before .before .before .before .before .before .before .before .refusal-at .ensures in
+    let o = c .before .before .before .before .before .before .before .force-kind .ensures in
+    let is = ap answerOf (c .before .i .given .1) in
+    record { fits = forced-fits o is; promised = forced-promised (a .t) test (c .before .before .before .before .before .before .before .before .before .before .if1 .left) o is }
+
+same-length-5 : tie.Need-same-length-5
+same-length-5 c = search needs
+
+same-length-6 : tie.Need-same-length-6
+same-length-6 c = search needs
+
+returns-3 : tie.Need-returns-3
+returns-3 c =
+    let a = c .before .before .before .before .before .before .before .before .before .before .before .before .before .before .before .before .before .before .before .before .args in
+    let test = c .before .before .before .before .before .before .before .before .before .before .before .refusal-at .ensures in
+    let o = c .before .before .before .before .before .before .before .force-kind .ensures in
+    let is = ap answerOf (c .before .span .given .1) in
+    record { fits = forced-fits o is; promised = forced-promised (a .t) test (c .before .before .before .before .before .before .before .before .before .before .if1 .left) o is }
+
+same-length-7 : tie.Need-same-length-7
+same-length-7 c = search needs
+
+same-length-8 : tie.Need-same-length-8
+same-length-8 c = search needs
+
+returns-4 : tie.Need-returns-4
+returns-4 c =
+    let a = c .before .before .before .before .before .before .before .before .before .before .before .before .before .before .before .before .before .before .before .args in
+    let test = c .before .before .before .before .before .before .before .before .before .before .refusal-at .ensures in
+    let o = c .before .before .before .before .before .before .force-kind .ensures in
+    let is = ap answerOf (c .enum-told .given .1) in
+    record { fits = forced-fits o is; promised = forced-promised (a .t) test (c .before .before .before .before .before .before .before .before .before .if1 .left) o is }
 
 pub force-kind-spec : {M : Type 1} → statement M
 force-kind-spec =
@@ -57,6 +86,15 @@ force-kind-spec =
     same-length-2
     returns
     force-kind-requires
+    enum-known-i
+    enum-known-span
+    enum-told
     same-length-3
     same-length-4
-    returns-2)
+    returns-2
+    same-length-5
+    same-length-6
+    returns-3
+    same-length-7
+    same-length-8
+    returns-4)

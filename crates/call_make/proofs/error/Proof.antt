@@ -1,10 +1,9 @@
--- `makes::error` meets its contract: one that is remembered needs no node, and the header says whether one is.
+-- `call_make::error` meets its contract: one that is remembered needs no node, and the header says whether one is.
 -- Assumes nothing.
 use borrow.Author.Needs.{needs}
 use Rattle.scope.specs.Make.{makeError}
-use Rattle.scope.specs.Calls.{nodesFor, errorCall}
-use Rattle.sound.specs.Tests.{envIn}
-use Rattle.call_make.proofs.MakerLaws.{maker-back, maker-ready, maker-done, error-tests}
+use Rattle.scope.specs.Calls.{errorCall}
+use Rattle.call_make.proofs.MakerLaws.{maker-back, maker-ready, maker-done, error-tested}
 use Rattle.call_make.proofs.error.Statement.{statement}
 use Rattle.call_make.proofs.error.Tie as tie
 
@@ -26,15 +25,15 @@ same-length-2 c = search needs
 returns : tie.Need-returns
 unfolding errorCall
 returns c =
-    let a = c .before .before .before .before .before .before .before .before .before .before .before .before .before .args in
-    maker-back (envIn (a .chart .now) (a .beside) (a .rule .now) (a .text .now)) (a .h .now) (a .ws .now) (a .ks .now) (λ s. nodesFor (s .error)) (c .before .refusal-for .result)
-    (error-tests (envIn (a .chart .now) (a .beside) (a .rule .now) (a .text .now)) (a .h .now) (a .ws .now) (a .ks .now) (c .before .before .before .before .before .read-header .result) (c .before .before .before .before .before .read-header .ensures) (c .before .before .nodes-for .result) (c .before .refusal-for .result) (c .before .before .nodes-for .ensures) (c .before .refusal-for .ensures)) makeError (c .if1 .taken)
+    let head = c .before .before .before .before .before .read-header in
+    let need = c .before .before .nodes-for in
+    maker-back (error-tested (head .ensures) (need .ensures) (c .before .refusal-for .ensures)) makeError (c .if1 .taken)
 
 error-requires : tie.Need-error-requires
 error-requires c κs =
-    let a = c .before .before .before .before .before .before .before .before .before .before .before .before .before .before .before .args in
-    maker-ready (envIn (a .chart .now) (a .beside) (a .rule .now) (a .text .now)) (a .h .now) (a .ws .now) (a .ks .now) (λ s. nodesFor (s .error)) (c .before .before .before .refusal-for .result)
-    (error-tests (envIn (a .chart .now) (a .beside) (a .rule .now) (a .text .now)) (a .h .now) (a .ws .now) (a .ks .now) (c .before .before .before .before .before .before .before .read-header .result) (c .before .before .before .before .before .before .before .read-header .ensures) (c .before .before .before .before .nodes-for .result) (c .before .before .before .refusal-for .result) (c .before .before .before .before .nodes-for .ensures) (c .before .before .before .refusal-for .ensures)) (c .before .before .if1 .left)
+    let head = c .before .before .before .before .before .before .before .read-header in
+    let need = c .before .before .before .before .nodes-for in
+    maker-ready (error-tested (head .ensures) (need .ensures) (c .before .before .before .refusal-for .ensures)) (c .before .before .if1 .left)
 
 same-length-3 : tie.Need-same-length-3
 same-length-3 c = search needs
@@ -45,9 +44,11 @@ same-length-4 c = search needs
 returns-2 : tie.Need-returns-2
 unfolding errorCall
 returns-2 c =
-    let a = c .before .before .before .before .before .before .before .before .before .before .before .before .before .before .before .before .before .before .before .before .args in
-    maker-done (envIn (a .chart .now) (a .beside) (a .rule .now) (a .text .now)) (a .h .now) (a .ws .now) (a .ks .now) (λ s. nodesFor (s .error)) (c .before .before .before .before .before .before .before .before .refusal-for .result)
-    (error-tests (envIn (a .chart .now) (a .beside) (a .rule .now) (a .text .now)) (a .h .now) (a .ws .now) (a .ks .now) (c .before .before .before .before .before .before .before .before .before .before .before .before .read-header .result) (c .before .before .before .before .before .before .before .before .before .before .before .before .read-header .ensures) (c .before .before .before .before .before .before .before .before .before .nodes-for .result) (c .before .before .before .before .before .before .before .before .refusal-for .result) (c .before .before .before .before .before .before .before .before .before .nodes-for .ensures) (c .before .before .before .before .before .before .before .before .refusal-for .ensures)) makeError (c .before .before .before .before .before .before .before .if1 .left) (c .before .before .before .before .error .ensures)
+    let head = c .before .before .before .before .before .before .before .before .before .before .before .before .read-header in
+    let need = c .before .before .before .before .before .before .before .before .before .nodes-for in
+    let test = c .before .before .before .before .before .before .before .before .refusal-for in
+    let passed = c .before .before .before .before .before .before .before .if1 .left in
+    maker-done (error-tested (head .ensures) (need .ensures) (test .ensures)) makeError passed (c .before .before .before .before .error .ensures)
 
 pub error-spec : {M : Type 1} → statement M
 error-spec =

@@ -1,4 +1,4 @@
--- `makes::long_enough` meets its contract: the first slice that is too short decides, and where neither of the first two is the third does.
+-- `call_make::long_enough` meets its contract: the first slice that is too short decides, and where neither of the first two is the third does.
 -- Assumes nothing.
 use mathlib.Core.Path.{sym}
 use borrow.Author.Needs.{needs}

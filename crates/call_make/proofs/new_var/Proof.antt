@@ -1,9 +1,8 @@
--- `makes::new_var` meets its contract: what passes the tests is ready for one node, and the core makes it.
+-- `call_make::new_var` meets its contract: what passes the tests is ready for one node, and the core makes it.
 -- Assumes nothing.
 use borrow.Author.Needs.{needs}
 use Rattle.scope.specs.Make.{newVar}
 use Rattle.scope.specs.Calls.{newVarCall}
-use Rattle.sound.specs.Tests.{envIn}
 use Rattle.call_make.proofs.MakerLaws.{maker-back, maker-ready, maker-done}
 use Rattle.call_make.proofs.new_var.Statement.{statement}
 use Rattle.call_make.proofs.new_var.Tie as tie
@@ -21,12 +20,10 @@ returns : tie.Need-returns
 unfolding newVarCall
 returns c =
     let a = c .before .before .before .before .before .before .before .before .before .before .args in
-    maker-back (envIn (a .chart .now) (a .beside) (a .rule .now) (a .text .now)) (a .h .now) (a .ws .now) (a .ks .now) (λ s. 1) (c .before .refusal-for .result) (c .before .refusal-for .ensures) (λ s. newVar s (a .span)) (c .if1 .taken)
+    maker-back (c .before .refusal-for .ensures) (λ s. newVar s (a .span)) (c .if1 .taken)
 
 new-var-requires : tie.Need-new-var-requires
-new-var-requires c κs =
-    let a = c .before .before .before .before .before .before .before .before .before .before .before .before .args in
-    maker-ready (envIn (a .chart .now) (a .beside) (a .rule .now) (a .text .now)) (a .h .now) (a .ws .now) (a .ks .now) (λ s. 1) (c .before .before .before .refusal-for .result) (c .before .before .before .refusal-for .ensures) (c .before .before .if1 .left)
+new-var-requires c κs = maker-ready (c .before .before .before .refusal-for .ensures) (c .before .before .if1 .left)
 
 same-length-3 : tie.Need-same-length-3
 same-length-3 c = search needs
@@ -38,7 +35,8 @@ returns-2 : tie.Need-returns-2
 unfolding newVarCall
 returns-2 c =
     let a = c .before .before .before .before .before .before .before .before .before .before .before .before .before .before .before .before .before .args in
-    maker-done (envIn (a .chart .now) (a .beside) (a .rule .now) (a .text .now)) (a .h .now) (a .ws .now) (a .ks .now) (λ s. 1) (c .before .before .before .before .before .before .before .before .refusal-for .result) (c .before .before .before .before .before .before .before .before .refusal-for .ensures) (λ s. newVar s (a .span)) (c .before .before .before .before .before .before .before .if1 .left) (c .before .before .before .before .new-var .ensures)
+    let test = c .before .before .before .before .before .before .before .before .refusal-for in
+    maker-done (test .ensures) (λ s. newVar s (a .span)) (c .before .before .before .before .before .before .before .if1 .left) (c .before .before .before .before .new-var .ensures)
 
 pub new-var-spec : {M : Type 1} → statement M
 new-var-spec =

@@ -1,7 +1,6 @@
--- `makes::new_vars` meets its contract: 10 is tested before 7, and where neither stands the types that the core writes are the reply.
+-- `call_make::new_vars` meets its contract: 10 is tested before 7, and where neither stands the types that the core writes are the reply.
 -- Assumes nothing.
 use borrow.Author.Needs.{needs}
-use Rattle.sound.specs.Tests.{envIn}
 use Rattle.call_make.proofs.ListLaws.{vars-back, vars-short, vars-ready, vars-done}
 use Rattle.call_make.proofs.new_vars.Statement.{statement}
 use Rattle.call_make.proofs.new_vars.Tie as tie
@@ -18,7 +17,7 @@ same-length-2 c = search needs
 returns : tie.Need-returns
 returns c =
     let a = c .before .before .before .before .before .before .before .before .before .before .before .args in
-    vars-back (envIn (a .chart .now) (a .beside) (a .rule .now) (a .text .now)) (a .h .now) (a .ws .now) (a .ks .now) (a .span) (a .count) (a .out .now) (c .before .refusal-for .result) (c .before .refusal-for .ensures) (c .if1 .taken)
+    vars-back (a .span) (a .count) (a .out .now) (c .before .refusal-for .ensures) (c .if1 .taken)
 
 same-length-3 : tie.Need-same-length-3
 same-length-3 c = search needs
@@ -29,12 +28,13 @@ same-length-4 c = search needs
 returns-2 : tie.Need-returns-2
 returns-2 c =
     let a = c .before .before .before .before .before .before .before .before .before .before .before .before .args in
-    vars-short (envIn (a .chart .now) (a .beside) (a .rule .now) (a .text .now)) (a .h .now) (a .ws .now) (a .ks .now) (a .span) (a .count) (a .out .now) (c .before .before .refusal-for .result) (c .before .before .refusal-for .ensures) (c .before .if1 .left) (c .if2 .taken)
+    vars-short (a .span) (a .count) (a .out .now) (c .before .before .refusal-for .ensures) (c .before .if1 .left) (c .if2 .taken)
 
 new-vars-requires : tie.Need-new-vars-requires
 new-vars-requires c κs =
     let a = c .before .before .before .before .before .before .before .before .before .before .before .before .before .before .before .args in
-    (vars-ready (envIn (a .chart .now) (a .beside) (a .rule .now) (a .text .now)) (a .h .now) (a .ws .now) (a .ks .now) (a .span) (a .count) (a .out .now) (c .before .before .before .before .before .refusal-for .result) (c .before .before .before .before .before .refusal-for .ensures) (c .before .before .before .before .if1 .left), c .before .before .before .if2 .left)
+    let test = c .before .before .before .before .before .refusal-for in
+    (vars-ready (a .span) (a .count) (a .out .now) (test .ensures) (c .before .before .before .before .if1 .left), c .before .before .before .if2 .left)
 
 same-length-5 : tie.Need-same-length-5
 same-length-5 c = search needs
@@ -48,7 +48,10 @@ same-length-7 c = search needs
 returns-3 : tie.Need-returns-3
 returns-3 c =
     let a = c .before .before .before .before .before .before .before .before .before .before .before .before .before .before .before .before .before .before .before .before .before .before .args in
-    vars-done (envIn (a .chart .now) (a .beside) (a .rule .now) (a .text .now)) (a .h .now) (a .ws .now) (a .ks .now) (a .span) (a .count) (a .out .now) (c .before .before .before .before .before .before .before .before .before .before .before .before .refusal-for .result) (c .before .before .before .before .before .before .before .before .before .before .before .before .refusal-for .ensures) (c .before .before .before .before .before .before .before .before .before .before .before .if1 .left) (c .before .before .before .before .before .before .before .before .before .before .if2 .left) (c .before .before .before .before .before .before .new-vars .ensures)
+    let test = c .before .before .before .before .before .before .before .before .before .before .before .before .refusal-for in
+    let passed = c .before .before .before .before .before .before .before .before .before .before .before .if1 .left in
+    let long = c .before .before .before .before .before .before .before .before .before .before .if2 .left in
+    vars-done (a .span) (a .count) (a .out .now) (test .ensures) passed long (c .before .before .before .before .before .before .new-vars .ensures)
 
 pub new-vars-spec : {M : Type 1} → statement M
 new-vars-spec =

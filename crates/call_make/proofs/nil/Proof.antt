@@ -1,10 +1,9 @@
--- `makes::nil` meets its contract: one that is remembered needs no node, and the header says whether one is.
+-- `call_make::nil` meets its contract: one that is remembered needs no node, and the header says whether one is.
 -- Assumes nothing.
 use borrow.Author.Needs.{needs}
 use Rattle.scope.specs.Make.{makeNil}
-use Rattle.scope.specs.Calls.{nodesFor, nilCall}
-use Rattle.sound.specs.Tests.{envIn}
-use Rattle.call_make.proofs.MakerLaws.{maker-back, maker-ready, maker-done, nil-tests}
+use Rattle.scope.specs.Calls.{nilCall}
+use Rattle.call_make.proofs.MakerLaws.{maker-back, maker-ready, maker-done, nil-tested}
 use Rattle.call_make.proofs.nil.Statement.{statement}
 use Rattle.call_make.proofs.nil.Tie as tie
 
@@ -26,15 +25,15 @@ same-length-2 c = search needs
 returns : tie.Need-returns
 unfolding nilCall
 returns c =
-    let a = c .before .before .before .before .before .before .before .before .before .before .before .before .before .args in
-    maker-back (envIn (a .chart .now) (a .beside) (a .rule .now) (a .text .now)) (a .h .now) (a .ws .now) (a .ks .now) (λ s. nodesFor (s .nil)) (c .before .refusal-for .result)
-    (nil-tests (envIn (a .chart .now) (a .beside) (a .rule .now) (a .text .now)) (a .h .now) (a .ws .now) (a .ks .now) (c .before .before .before .before .before .read-header .result) (c .before .before .before .before .before .read-header .ensures) (c .before .before .nodes-for .result) (c .before .refusal-for .result) (c .before .before .nodes-for .ensures) (c .before .refusal-for .ensures)) makeNil (c .if1 .taken)
+    let head = c .before .before .before .before .before .read-header in
+    let need = c .before .before .nodes-for in
+    maker-back (nil-tested (head .ensures) (need .ensures) (c .before .refusal-for .ensures)) makeNil (c .if1 .taken)
 
 nil-requires : tie.Need-nil-requires
 nil-requires c κs =
-    let a = c .before .before .before .before .before .before .before .before .before .before .before .before .before .before .before .args in
-    maker-ready (envIn (a .chart .now) (a .beside) (a .rule .now) (a .text .now)) (a .h .now) (a .ws .now) (a .ks .now) (λ s. nodesFor (s .nil)) (c .before .before .before .refusal-for .result)
-    (nil-tests (envIn (a .chart .now) (a .beside) (a .rule .now) (a .text .now)) (a .h .now) (a .ws .now) (a .ks .now) (c .before .before .before .before .before .before .before .read-header .result) (c .before .before .before .before .before .before .before .read-header .ensures) (c .before .before .before .before .nodes-for .result) (c .before .before .before .refusal-for .result) (c .before .before .before .before .nodes-for .ensures) (c .before .before .before .refusal-for .ensures)) (c .before .before .if1 .left)
+    let head = c .before .before .before .before .before .before .before .read-header in
+    let need = c .before .before .before .before .nodes-for in
+    maker-ready (nil-tested (head .ensures) (need .ensures) (c .before .before .before .refusal-for .ensures)) (c .before .before .if1 .left)
 
 same-length-3 : tie.Need-same-length-3
 same-length-3 c = search needs
@@ -45,9 +44,11 @@ same-length-4 c = search needs
 returns-2 : tie.Need-returns-2
 unfolding nilCall
 returns-2 c =
-    let a = c .before .before .before .before .before .before .before .before .before .before .before .before .before .before .before .before .before .before .before .before .args in
-    maker-done (envIn (a .chart .now) (a .beside) (a .rule .now) (a .text .now)) (a .h .now) (a .ws .now) (a .ks .now) (λ s. nodesFor (s .nil)) (c .before .before .before .before .before .before .before .before .refusal-for .result)
-    (nil-tests (envIn (a .chart .now) (a .beside) (a .rule .now) (a .text .now)) (a .h .now) (a .ws .now) (a .ks .now) (c .before .before .before .before .before .before .before .before .before .before .before .before .read-header .result) (c .before .before .before .before .before .before .before .before .before .before .before .before .read-header .ensures) (c .before .before .before .before .before .before .before .before .before .nodes-for .result) (c .before .before .before .before .before .before .before .before .refusal-for .result) (c .before .before .before .before .before .before .before .before .before .nodes-for .ensures) (c .before .before .before .before .before .before .before .before .refusal-for .ensures)) makeNil (c .before .before .before .before .before .before .before .if1 .left) (c .before .before .before .before .nil .ensures)
+    let head = c .before .before .before .before .before .before .before .before .before .before .before .before .read-header in
+    let need = c .before .before .before .before .before .before .before .before .before .nodes-for in
+    let test = c .before .before .before .before .before .before .before .before .refusal-for in
+    let passed = c .before .before .before .before .before .before .before .if1 .left in
+    maker-done (nil-tested (head .ensures) (need .ensures) (test .ensures)) makeNil passed (c .before .before .before .before .nil .ensures)
 
 pub nil-spec : {M : Type 1} → statement M
 nil-spec =

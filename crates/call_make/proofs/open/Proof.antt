@@ -1,4 +1,4 @@
--- `makes::open` meets its contract: slices that pass the test are what `make` asks, and it leaves the store just opened.
+-- `call_make::open` meets its contract: slices that pass the test are what `make` asks, and it leaves the store just opened.
 -- Assumes nothing.
 use borrow.Author.Needs.{needs}
 use Rattle.call_make.proofs.OpenLaws.{openable, open-back, open-done}
@@ -20,12 +20,14 @@ same-length-3 c = search needs
 returns : tie.Need-returns
 returns c =
     let a = c .before .before .before .before .before .before .before .before .args in
-    open-back (a .nodes) (a .children) (a .h .now) (a .ws .now) (a .ks .now) (c .before .opening .result) (c .before .opening .ensures) (c .if1 .taken)
+    let test = c .before .opening in
+    open-back (a .nodes) (a .children) (a .h .now) (a .ws .now) (a .ks .now) (test .result) (test .ensures) (c .if1 .taken)
 
 open-requires : tie.Need-open-requires
 open-requires c κs =
     let a = c .before .before .before .before .before .before .before .before .before .before .before .args in
-    openable (a .nodes) (a .children) (a .h .now) (a .ws .now) (a .ks .now) (c .before .before .before .before .opening .result) (c .before .before .before .before .opening .ensures) (c .before .before .before .if1 .left)
+    let test = c .before .before .before .before .opening in
+    openable (a .nodes) (a .children) (a .h .now) (a .ws .now) (a .ks .now) (test .result) (test .ensures) (c .before .before .before .if1 .left)
 
 same-length-4 : tie.Need-same-length-4
 same-length-4 c = search needs
@@ -39,7 +41,9 @@ same-length-6 c = search needs
 returns-2 : tie.Need-returns-2
 returns-2 c =
     let a = c .before .before .before .before .before .before .before .before .before .before .before .before .before .before .before .before .before .before .args in
-    open-done (a .nodes) (a .children) (a .h .now) (a .ws .now) (a .ks .now) (c .before .before .before .before .before .before .before .before .before .before .before .opening .result) (c .before .before .before .before .before .before .before .before .before .before .before .opening .ensures) (c .before .before .before .before .before .before .before .before .before .before .if1 .left) (c .before .before .before .before .before .before .«open» .ensures)
+    let test = c .before .before .before .before .before .before .before .before .before .before .before .opening in
+    let passed = c .before .before .before .before .before .before .before .before .before .before .if1 .left in
+    open-done (a .nodes) (a .children) (a .h .now) (a .ws .now) (a .ks .now) (test .result) (test .ensures) passed (c .before .before .before .before .before .before .«open» .ensures)
 
 pub open-spec : {M : Type 1} → statement M
 open-spec =

@@ -1,4 +1,4 @@
--- `makes::opening` meets its contract: each way out has its law.
+-- `call_make::opening` meets its contract: each way out has its law.
 -- Assumes nothing.
 use borrow.Author.Needs.{needs}
 use Rattle.call_make.specs.Opening.{enough}

@@ -1,11 +1,7 @@
--- `makes::refusal_for` meets its contract: 2 and 8 come first, and room is asked of a store that they do not turn back.
+-- `call_make::refusal_for` meets its contract: 2 and 8 come first, and room is asked of a store that they do not turn back.
 -- Assumes nothing.
 use borrow.Author.Needs.{needs}
-use Rattle.scope.specs.Calls.{storeOf, roomTests}
-use Rattle.layout.specs.Words.{lentOf}
-use Rattle.sound.specs.Tests.{envIn}
-use Rattle.promise.proofs.Laws.{lent-refused}
-use Rattle.call_make.proofs.MakerLaws.{room-next}
+use Rattle.call_make.proofs.MakerLaws.{for-lent, for-room}
 use Rattle.call_make.proofs.refusal_for.Statement.{statement}
 use Rattle.call_make.proofs.refusal_for.Tie as tie
 
@@ -15,7 +11,8 @@ refusal-requires c κs = search needs
 returns : tie.Need-returns
 returns c =
     let a = c .before .before .before .before .before .before .before .before .args in
-    lent-refused (envIn (a .chart .now) (a .beside) (a .rule .now) (a .text .now)) (a .h .now) (a .ws .now) (a .ks .now) (roomTests (storeOf (lentOf (a .h .now) (a .ws .now) (a .ks .now))) (a .nodes) 0) (c .before .refusal .result) (c .before .refusal .ensures) (c .if1 .taken)
+    let lent = c .before .refusal in
+    for-lent (a .chart .now) (a .beside) (a .rule .now) (a .text .now) (a .h .now) (a .ws .now) (a .ks .now) (a .nodes) (lent .result) (lent .ensures) (c .if1 .taken)
 
 room-requires : tie.Need-room-requires
 room-requires c κs = search needs
@@ -23,7 +20,9 @@ room-requires c κs = search needs
 returns-2 : tie.Need-returns-2
 returns-2 c =
     let a = c .before .before .before .before .before .before .before .before .before .args in
-    room-next (envIn (a .chart .now) (a .beside) (a .rule .now) (a .text .now)) (a .h .now) (a .ws .now) (a .ks .now) (a .nodes) (c .before .before .refusal .result) (c .room .result) (c .before .before .refusal .ensures) (c .before .if1 .left) (c .room .ensures (a .ws .now) (a .ks .now))
+    let lent = c .before .before .refusal in
+    for-room (a .chart .now) (a .beside) (a .rule .now) (a .text .now) (a .h .now) (a .ws .now) (a .ks .now) (a .nodes) (lent .result) (lent .ensures) (c .before .if1 .left)
+    (c .room .ensures (a .ws .now) (a .ks .now))
 
 pub refusal-for-spec : {M : Type 1} → statement M
 refusal-for-spec = tie.close (tie.spec refusal-requires returns room-requires returns-2)

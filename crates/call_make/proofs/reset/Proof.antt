@@ -1,4 +1,4 @@
--- `makes::reset` meets its contract: no test but 2 and 8 turns it back, and a store that they pass is clean.
+-- `call_make::reset` meets its contract: no test but 2 and 8 turns it back, and a store that they pass is clean.
 -- Assumes nothing.
 use mathlib.Core.Path.{refl}
 use mathlib.Core.List.{[]}
@@ -27,13 +27,17 @@ returns : tie.Need-returns
 unfolding resetCall
 returns c =
     let a = c .before .before .before .before .before .before .before .before .before .before .before .args in
-    call-back (envIn (a .chart .now) (a .beside) (a .rule .now) (a .text .now)) (a .h .now) (a .ws .now) (a .ks .now) (λ s. []) (λ s. done tt (reset s)) (c .before .refusal .result) (c .before .refusal .ensures) (c .if1 .taken)
+    let e = envIn (a .chart .now) (a .beside) (a .rule .now) (a .text .now) in
+    let lent = c .before .refusal in
+    call-back e (a .h .now) (a .ws .now) (a .ks .now) (λ s. []) (λ s. done tt (reset s)) (lent .result) (lent .ensures) (c .if1 .taken)
 
 reset-requires : tie.Need-reset-requires
 reset-requires c κs =
     let a = c .before .before .before .before .before .before .before .before .before .before .before .before .before .before .args in
-    lent-clean-words (envIn (a .chart .now) (a .beside) (a .rule .now) (a .text .now)) (a .h .now) (a .ws .now) (a .ks .now)
-    (lent-passed (envIn (a .chart .now) (a .beside) (a .rule .now) (a .text .now)) (a .h .now) (a .ws .now) (a .ks .now) (c .before .before .before .before .refusal .result) (c .before .before .before .before .refusal .ensures) (c .before .before .before .if1 .left))
+    let e = envIn (a .chart .now) (a .beside) (a .rule .now) (a .text .now) in
+    let lent = c .before .before .before .before .refusal in
+    lent-clean-words e (a .h .now) (a .ws .now) (a .ks .now)
+    (lent-passed e (a .h .now) (a .ws .now) (a .ks .now) (lent .result) (lent .ensures) (c .before .before .before .if1 .left))
 
 same-length-4 : tie.Need-same-length-4
 same-length-4 c = search needs
@@ -48,7 +52,11 @@ returns-2 : tie.Need-returns-2
 unfolding resetCall
 returns-2 c =
     let a = c .before .before .before .before .before .before .before .before .before .before .before .before .before .before .before .before .before .before .before .before .before .args in
-    call-done (envIn (a .chart .now) (a .beside) (a .rule .now) (a .text .now)) (a .h .now) (a .ws .now) (a .ks .now) (λ s. []) (λ s. done tt (reset s)) (c .before .before .before .before .before .before .before .before .before .before .before .refusal .result) (c .before .before .before .before .before .before .before .before .before .before .before .refusal .ensures) (c .before .before .before .before .before .before .before .before .before .before .if1 .left) refl (c .before .before .before .before .before .before .reset .ensures)
+    let e = envIn (a .chart .now) (a .beside) (a .rule .now) (a .text .now) in
+    let lent = c .before .before .before .before .before .before .before .before .before .before .before .refusal in
+    let passed = c .before .before .before .before .before .before .before .before .before .before .if1 .left in
+    call-done e (a .h .now) (a .ws .now) (a .ks .now) (λ s. []) (λ s. done tt (reset s)) (lent .result) (lent .ensures) passed refl
+    (c .before .before .before .before .before .before .reset .ensures)
 
 pub reset-spec : {M : Type 1} → statement M
 reset-spec =

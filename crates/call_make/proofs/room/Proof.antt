@@ -1,4 +1,4 @@
--- `makes::room` meets its contract: each way out has its law, and the laws look at the header alone.
+-- `call_make::room` meets its contract: each way out has its law, and the laws look at the header alone.
 -- Assumes nothing.
 use mathlib.Core.Path.{sym, _∙_}
 use borrow.Author.Needs.{needs}

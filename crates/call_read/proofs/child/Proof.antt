@@ -1,4 +1,4 @@
--- `reads::child` meets its contract: `node` refuses as the definition does, or answers the node that the definition reads the child of.
+-- `call_read::child` meets its contract: `node` refuses as the definition does, or answers the node that the definition reads the child of.
 -- Assumes nothing.
 use mathlib.Core.Path.{ap, _∙_}
 use borrow.Author.Needs.{needs}
@@ -33,22 +33,24 @@ returns : tie.Need-returns
 unfolding childCall
 returns c =
     let a = c .before .before .before .before .before .before .before .before .before .before .before .before .before .before .args in
-    of-found (envIn (a .chart .now) (a .beside) (a .rule .now) (a .text .now)) (a .h .now) (a .ws .now) (a .ks .now) (tyOf (a .t .0)) (c .before .before .before .before .before .before .before .node .ensures) (λ (v : Node). childAt v (a .j))
+    let e = envIn (a .chart .now) (a .beside) (a .rule .now) (a .text .now) in
+    of-found e (tyOf (a .t .0)) (c .before .before .before .before .before .before .before .node .ensures) (λ (v : Node). childAt v (a .j))
     (c .before .before .before .before .before .found .given .1) (c .before .before .before .child-of-node .ensures ∙ ap kidMeans (c .before .kid .given .1))
 
 returns-2 : tie.Need-returns-2
 unfolding childCall
 returns-2 c =
     let a = c .before .before .before .before .before .before .before .before .before .before .before .before .before .args in
-    of-found (envIn (a .chart .now) (a .beside) (a .rule .now) (a .text .now)) (a .h .now) (a .ws .now) (a .ks .now) (tyOf (a .t .0)) (c .before .before .before .before .before .before .node .ensures) (λ (v : Node). childAt v (a .j))
+    let e = envIn (a .chart .now) (a .beside) (a .rule .now) (a .text .now) in
+    of-found e (tyOf (a .t .0)) (c .before .before .before .before .before .before .node .ensures) (λ (v : Node). childAt v (a .j))
     (c .before .before .before .before .found .given .1) (c .before .before .child-of-node .ensures ∙ ap kidMeans (c .enum-told .given .1))
 
 returns-3 : tie.Need-returns-3
 unfolding childCall
 returns-3 c =
     let a = c .before .before .before .before .before .before .before .before .before .before .args in
-    of-refused (envIn (a .chart .now) (a .beside) (a .rule .now) (a .text .now)) (a .h .now) (a .ws .now) (a .ks .now) (tyOf (a .t .0)) (c .before .before .before .node .ensures) (λ (v : Node). childAt v (a .j))
-    (c .before .code .given .1)
+    let e = envIn (a .chart .now) (a .beside) (a .rule .now) (a .text .now) in
+    of-refused e (tyOf (a .t .0)) (c .before .before .before .node .ensures) (λ (v : Node). childAt v (a .j)) (c .before .code .given .1)
 
 pub child-spec : {M : Type 1} → statement M
 child-spec =

@@ -1,4 +1,4 @@
--- `reads::child_named` meets its contract: below n lies a child, whose name the definition reads, and past it none.
+-- `call_read::child_named` meets its contract: below n lies a child, whose name the definition reads, and past it none.
 -- Assumes nothing.
 use borrow.Author.Needs.{needs}
 use Rattle.call_read.proofs.NameLaws.{named-is, named-past}

@@ -1,4 +1,4 @@
--- `reads::child_of_kind` meets its contract: below the number of children lies one, and past it none.
+-- `call_read::child_of_kind` meets its contract: below the number of children lies one, and past it none.
 -- Assumes nothing.
 use borrow.Author.Needs.{needs}
 use Rattle.call_read.proofs.NameLaws.{kid-is, kid-past}

@@ -1,4 +1,4 @@
--- `reads::child_of_node` meets its contract: a Known root's children are its kind's, and no other node has any.
+-- `call_read::child_of_node` meets its contract: a Known root's children are its kind's, and no other node has any.
 -- Assumes nothing.
 use borrow.Author.Needs.{needs}
 use Rattle.call_read.proofs.child_of_node.Statement.{statement}

@@ -1,4 +1,4 @@
--- `reads::name_in` meets its contract: the definition tests the length as the code does.
+-- `call_read::name_in` meets its contract: the definition tests the length as the code does.
 -- Assumes nothing.
 use borrow.Author.Tests.{eq-eqb, ne-eqb}
 use Rattle.call_read.proofs.name_in.Statement.{statement}

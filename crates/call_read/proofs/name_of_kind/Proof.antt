@@ -1,4 +1,4 @@
--- `reads::name_of_kind` meets its contract: the row that was read is scope's, and there is one law for each way that a row has names.
+-- `call_read::name_of_kind` meets its contract: the row that was read is scope's, and there is one law for each way that a row has names.
 -- Assumes nothing.
 use mathlib.Core.Path.{ap}
 use borrow.Author.Needs.{needs}

@@ -1,4 +1,4 @@
--- `reads::name_of_node` meets its contract: a Known root's names are its kind's, and no other node has any.
+-- `call_read::name_of_node` meets its contract: a Known root's names are its kind's, and no other node has any.
 -- Assumes nothing.
 use borrow.Author.Needs.{needs}
 use Rattle.call_read.proofs.name_of_node.Statement.{statement}

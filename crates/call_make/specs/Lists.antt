@@ -17,7 +17,7 @@ listReply Done ws = value (map tyOf ws)
 listReply (Refused n) ws = refusal n
 
 -- the list was `out` and is now `out′`; the n types of an answer are its first n words
-pub record Listed (o : Outcome (List Ty)) (r : DoneAnswer) (n : ℕ) (h ws ks h′ ws′ ks′ out out′ : List ℕ) : Type 0 where
+pub record ListPromised (o : Outcome (List Ty)) (r : DoneAnswer) (n : ℕ) (h ws ks h′ ws′ ks′ out out′ : List ℕ) : Type 0 where
   pub promised : Promised o (listReply r (take n out′)) h ws ks h′ ws′ ks′
   pub rest : drop n out′ ≡ drop n out
   pub kept : answered (listReply r (take n out′)) ≡ false → out′ ≡ out

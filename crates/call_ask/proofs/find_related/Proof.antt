@@ -1,0 +1,51 @@
+-- `call_ask::find_related` meets its contract: a refusal writes no mark, and where no test breaks the walk's marks are the definition's.
+-- Assumes nothing.
+use borrow.Author.Needs.{needs}
+use Rattle.call_ask.proofs.Laws.{marks-refused, marks-short, marks-done, read-stands}
+use Rattle.call_ask.proofs.find_related.Statement.{statement}
+use Rattle.call_ask.proofs.find_related.Tie as tie
+
+refusal-at-requires : tie.Need-refusal-at-requires
+refusal-at-requires c κs = search needs
+
+returns : tie.Need-returns
+returns c =
+    let a = c .before .before .before .before .before .before .before .before .before .args in
+    marks-refused (a .t .0) (c .before .refusal-at .ensures) (c .if1 .taken) (a .marks .now)
+
+read-header-requires : tie.Need-read-header-requires
+read-header-requires c κs = search needs
+
+cast-if2 : tie.Need-cast-if2
+cast-if2 c = search needs
+
+returns-2 : tie.Need-returns-2
+returns-2 c =
+    let a = c .before .before .before .before .before .before .before .before .before .before .before .before .args in
+    marks-short (a .t .0) (c .before .before .before .before .refusal-at .ensures) (c .before .before .before .if1 .left) (c .before .before .read-header .ensures) (a .marks .now) (c .if2 .taken)
+
+find-related-requires : tie.Need-find-related-requires
+find-related-requires c κs =
+    let a = c .before .before .before .before .before .before .before .before .before .before .before .before .before .args in
+    read-stands (a .t .0) (c .before .before .before .before .before .refusal-at .ensures) (c .before .before .before .before .if1 .left) (c .before .before .before .read-header .ensures)
+
+same-length : tie.Need-same-length
+same-length c = search needs
+
+returns-3 : tie.Need-returns-3
+returns-3 c =
+    let a = c .before .before .before .before .before .before .before .before .before .before .before .before .before .before .before .before .args in
+    marks-done (a .t .0) (c .before .before .before .before .before .before .before .before .refusal-at .ensures) (c .before .before .before .before .before .before .before .if1 .left) (c .before .before .before .before .before .before .read-header .ensures) (c .before .before .before .before .if2 .left) (c .before .before .find-related .ensures)
+
+pub find-related-spec : {M : Type 1} → statement M
+find-related-spec =
+    tie.close
+    (tie.spec
+    refusal-at-requires
+    returns
+    read-header-requires
+    cast-if2
+    returns-2
+    find-related-requires
+    same-length
+    returns-3)
