@@ -3,7 +3,7 @@
 -- Assumes nothing.
 use mathlib.Core.Path.{_≡_, refl, ap, sym, _∙_}
 use mathlib.Core.Bool.{Bool, true, false}
-use mathlib.Core.Option.{Option, none, some}
+use mathlib.Core.Option.{none, some}
 use mathlib.Core.List.{List}
 use Prim.Native.Nat.{ℕ, _+_, _≤_}
 use native.Mathlib.Omega.{arith}
@@ -14,6 +14,7 @@ use Rattle.scope.specs.Limits.{NONE}
 use Rattle.scope.specs.Types.{Ty, ty, tyOf}
 use Rattle.scope.specs.Kinds.{rowOf, rows, NO-NAMES, TUPLE, ERROR}
 use Rattle.scope.specs.Nodes as nodes
+use Rattle.scope.specs.Nodes.{remembering}
 use Rattle.scope.specs.Make.{nextType, pushed, bare, new, newVar, again, rememberError, rememberNil, makeError, makeNil}
 use Rattle.scope.specs.Calls.{nodesFor}
 use Rattle.types.specs.declared.«Type».{«Type»}
@@ -32,18 +33,6 @@ use Rattle.layout.proofs.StoreLaws.{clean-lies, remembered-means}
 use Rattle.make.specs.Holds.{Became, Ready, MadeIs}
 use Rattle.make.specs.Header.{Pushable, Pushed, bareKind}
 use Rattle.make.proofs.Laws.{store-count, beyond-refl, push-holds, push-beyond}
-
--- a store that remembers other types
-abbrev pub remembering : nodes.Store → Option Ty → Option Ty → nodes.Store
-remembering s e z = record {
-  nodes = s .nodes;
-  children = s .children;
-  nodeRoom = s .nodeRoom;
-  childRoom = s .childRoom;
-  error = e;
-  nil = z;
-  reports = s .reports;
-}
 
 -- room, in the header's words
 pub record RoomIn (h : List ℕ) (n c : ℕ) : Type 0 where
