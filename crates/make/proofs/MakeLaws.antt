@@ -13,6 +13,7 @@ use Rattle.scope.specs.Limits.{MAX-NODES, MAX-CHILDREN, NONE}
 use Rattle.scope.specs.Types.{Ty, ty, tyOf}
 use Rattle.scope.specs.Kinds.{rowOf, rows, NO-NAMES, TUPLE, ERROR}
 use Rattle.scope.specs.Nodes as nodes
+use Rattle.scope.specs.Nodes.{remembering}
 use Rattle.scope.specs.Make.{Made, nextType, pushed, bare, new, newVar, again, rememberError, rememberNil, makeError, makeNil}
 use Rattle.scope.specs.Calls.{nodesFor}
 use Rattle.types.specs.declared.«Type».{«Type»}
@@ -33,18 +34,6 @@ use Rattle.store.proofs.Laws.{store-count, beyond-refl, remembered-fits, error-
 use Rattle.make.specs.Made.{MadeIs}
 use Rattle.make.specs.Header.{Pushable, Pushed, OnceReady, OnceMade}
 use Rattle.make.proofs.Laws.{push-holds, push-beyond}
-
--- a store that remembers other types
-abbrev pub remembering : nodes.Store → Option Ty → Option Ty → nodes.Store
-remembering s e z = record {
-  nodes = s .nodes;
-  children = s .children;
-  nodeRoom = s .nodeRoom;
-  childRoom = s .childRoom;
-  error = e;
-  nil = z;
-  reports = s .reports;
-}
 
 -- room, in the header's words
 pub record RoomIn (h : List ℕ) (n c : ℕ) : Type 0 where

@@ -35,25 +35,3 @@ pub const SHEET_NODES: usize = 256;
 pub const SHEET_CHILDREN: usize = 1024;
 
 pub const SHEET_TEXT: usize = 4096;
-
-pub const UNOPENABLE: u32 = 1;
-
-pub const BAD_CHART: u32 = 2;
-
-pub const OUTSIDE: u32 = 3;
-
-pub const UNMAKEABLE: u32 = 4;
-
-pub const UNDEFINED: u32 = 5;
-
-pub const NO_ENTRY: u32 = 6;
-
-pub const SHORT: u32 = 7;
-
-pub const UNSOUND: u32 = 8;
-
-pub const SOURCE_UNSOUND: u32 = 9;
-
-pub const NODES_FULL: u32 = 10;
-
-pub const CHILDREN_FULL: u32 = 11;

@@ -184,7 +184,7 @@ module _ {x : Texts} {ws ks ws₂ : List ℕ} {n d : ℕ} {p q a b : Ty} (c : Cl
   pub way-bind : {ws₃ : List ℕ} → m ≡ Bind → Bound ws₂ ws₃ n a b → Leaves ws ks ws₃ n (unifyF x n d (decode ws ks n) p q) Success
   way-bind e o =
       let r = c .tops .pair .ready in
-      record { same = went e ∙ o .nodes ks (r .children) (r .clean); clean = λ k cl. o .clean ks k (c .clean k cl); tail = o .tail ∙ c .tail }
+      record { same = went e ∙ ap (λ (ns : List Node). out ns answers.Success) (sym (o .nodes ks (r .children) (r .clean))); clean = λ k cl. o .clean ks k (c .clean k cl); tail = o .tail ∙ c .tail }
 
   pub way-kids : {ws₃ ws₄ : List ℕ} {k : Plan} {r s : UnifyResult} → m ≡ Kids k → Leaves ws₂ ks ws₃ n (does u (decode ws₂ ks n) (planMeans ks x k)) r
       → Settled ws₃ ws₄ n a b r s → Leaves ws ks ws₄ n (unifyF x n d (decode ws ks n) p q) s

@@ -11,12 +11,12 @@ use native.Mathlib.Decide.{ℕ-discrete}
 use lib.Dec.{eqb}
 use lib.ListN.{length, drop, length-map}
 use borrow.Author.Tests.{eq-eqb, ne-eqb, eqb-true}
-use Rattle.scope.specs.Base.{pick}
+use Rattle.scope.specs.Base.{pick, front, last}
 use Rattle.scope.specs.Names.{Texts, Name, name, bytes, bytesOr, eqBytes}
 use Rattle.scope.specs.Types.{Ty, tyOf, flip}
 use Rattle.scope.specs.Nodes.{Node}
 use Rattle.scope.specs.Answers.{Answer, Success, Failure, Indeterminate, both, ofBool}
-use Rattle.scope.specs.Unify.{Plan, Out, out, run, unifyF, answers, onto, zipped, runPlan, seek, shared, sharedNames, objectPlan, parameters, returned, after, signaturePlan}
+use Rattle.scope.specs.Unify.{Plan, Out, out, run, unifyF, answers, zipped, runPlan, seek, shared, sharedNames, objectPlan, after, signaturePlan}
 use Rattle.scope.specs.Sound as sound
 use Rattle.scope.specs.Sound.{slotName}
 use Rattle.types.specs.Answers.{answerOf}
@@ -251,15 +251,15 @@ module _ (x : Texts) (xs ys : List ℕ) (s : Runs) where
       rw (kid-length xs (s .a) (s .na), kid-length ys (s .b) (s .nb), ← e, z, p) refl
 
   object-step : (i : ℕ) → i < s .na
-      → objectRest i ≡ shared (s .inv .0) (kidTy xs (s .a + i)) (soughtIn x ys (slotPlace (slotAt xs (s .a + i))) (s .b) (s .nb)) (objectRest (i + 1))
+      → objectRest i ≡ after (shared (s .inv .0) (kidTy xs (s .a + i)) (soughtIn x ys (slotPlace (slotAt xs (s .a + i))) (s .b) (s .nb))) (objectRest (i + 1))
   unfolding sharedNames
   object-step i h =
       let p : s .a + (i + 1) ≡ suc (s .a + i) = omega arith in
       rw (one-more (s .na) i h, p, ← slot-bytes x (slotAt xs (s .a + i))) refl
 
   module _ (i : ℕ) (h : i < s .na) {m : Name} (f : Sought) (em : m ≡ slotPlace (slotAt xs (s .a + i))) (ef : soughtMeans f ≡ soughtIn x ys m (s .b) (s .nb)) where
-    object-to : {g : Sought} → f ≡ g → objectRest i ≡ shared (s .inv .0) (kidTy xs (s .a + i)) (soughtMeans g) (objectRest (i + 1))
-    object-to e = object-step i h ∙ ap (λ (o : Option Ty). shared (s .inv .0) (kidTy xs (s .a + i)) o (objectRest (i + 1)))
+    object-to : {g : Sought} → f ≡ g → objectRest i ≡ after (shared (s .inv .0) (kidTy xs (s .a + i)) (soughtMeans g)) (objectRest (i + 1))
+    object-to e = object-step i h ∙ ap (λ (o : Option Ty). after (shared (s .inv .0) (kidTy xs (s .a + i)) o) (objectRest (i + 1)))
         (ap (λ (k : Name). soughtIn x ys k (s .b) (s .nb)) (sym em) ∙ (sym ef ∙ ap soughtMeans e))
 
     module _ {ws₀ ks : List ℕ} {n d : ℕ} {o : Out} {ws : List ℕ} (r : UnifyResult) (g : Going x ws₀ ks n d o ws (both (answerOf r) (objectRest i .base)) (objectRest i .pairs)) where
@@ -288,7 +288,7 @@ stored-whole x ks s r e = object-whole x ks ks s r e
 
 -- a signature: its parameters, then its returns
 
-front-kids : (ks : List ℕ) (a n : ℕ) → parameters (kidsFrom ks a n) ≡ kidsFrom ks a (n - 1)
+front-kids : (ks : List ℕ) (a n : ℕ) → front (kidsFrom ks a n) ≡ kidsFrom ks a (n - 1)
 front-kids ks a zero = refl
 front-kids ks a (suc zero) = refl
 front-kids ks a (suc (suc n)) =
@@ -296,14 +296,14 @@ front-kids ks a (suc (suc n)) =
     let f : suc n - 1 ≡ n = omega arith in
     rw (e, front-kids ks (suc a) (suc n), f) refl
 
-last-kid : (ks : List ℕ) (a n : ℕ) → 0 < n → returned (kidsFrom ks a n) ≡ kidTy ks (a + (n - 1)) ∷ []
+last-kid : (ks : List ℕ) (a n : ℕ) → 0 < n → last (kidsFrom ks a n) ≡ kidTy ks (a + (n - 1)) ∷ []
 last-kid ks a zero h = absurd (omega arith)
 last-kid ks a (suc zero) h = let e : a + (suc zero - 1) ≡ a = omega arith in rw e refl
 last-kid ks a (suc (suc n)) h =
     let e : suc a + (suc n - 1) ≡ a + (suc (suc n) - 1) = omega arith in
     rw (last-kid ks (suc a) (suc n) (omega arith), e) refl
 
-no-kid : (ks : List ℕ) (a n : ℕ) → n ≡ 0 → returned (kidsFrom ks a n) ≡ []
+no-kid : (ks : List ℕ) (a n : ℕ) → n ≡ 0 → last (kidsFrom ks a n) ≡ []
 no-kid ks a n e = rw e refl
 
 -- `returns`
@@ -312,7 +312,7 @@ module _ (ks : List ℕ) (s : Runs) where
   unfolding runPlan
   returns-none r e q = rw (no-kid ks (s .a) (s .na) e) (go (ℕ-discrete (s .nb) 0))
     where
-      go : Dec (s .nb ≡ 0) → answers (answerOf r) ≡ runPlan (s .inv .0) [] (returned (kidsFrom ks (s .b) (s .nb)))
+      go : Dec (s .nb ≡ 0) → answers (answerOf r) ≡ runPlan (s .inv .0) [] (last (kidsFrom ks (s .b) (s .nb)))
       go (yes z) = unfold runPlan zipped in rw (no-kid ks (s .b) (s .nb) z, q, eq-eqb (s .nb) 0 z) refl
       go (no z) = unfold runPlan zipped in rw (last-kid ks (s .b) (s .nb) (omega arith), q, ne-eqb (s .nb) 0 z) refl
 
@@ -333,7 +333,7 @@ module _ (x : Texts) (ks : List ℕ) (s : Runs) {p : Runs} (ep : Parameters s p)
       rw (ep .a, ep .na, ep .b, ep .nb, ep .inv, et, front-kids ks (s .a) (s .na), front-kids ks (s .b) (s .nb)) refl
 
 module _ (x : Texts) (ks : List ℕ) {s : Runs} {p : Runs} (ep : Parameters s p) where
-  parameters-plan : planMeans ks x (Run p) ≡ runPlan (s .inv .0) (parameters (kidsFrom ks (s .a) (s .na))) (parameters (kidsFrom ks (s .b) (s .nb)))
+  parameters-plan : planMeans ks x (Run p) ≡ runPlan (s .inv .0) (front (kidsFrom ks (s .a) (s .na))) (front (kidsFrom ks (s .b) (s .nb)))
   unfolding planMeans
   parameters-plan = rw (ep .a, ep .na, ep .b, ep .nb, ep .inv, front-kids ks (s .a) (s .na), front-kids ks (s .b) (s .nb)) refl
 
@@ -342,7 +342,7 @@ module _ (x : Texts) (ks : List ℕ) {s : Runs} {p : Runs} (ep : Parameters s p)
   parameters-pairs {ws} {n} g = record {
     ready = g .ready;
     inside = subst (λ (l : Plan). Inside n (l .pairs)) (sym parameters-plan)
-        (λ q m. g .inside q (Memᴰ·append-left (runPlan (s .inv .0) (returned (kidsFrom ks (s .a) (s .na))) (returned (kidsFrom ks (s .b) (s .nb))) .pairs) m));
+        (λ q m. g .inside q (Memᴰ·append-left (runPlan (s .inv .0) (last (kidsFrom ks (s .a) (s .na))) (last (kidsFrom ks (s .b) (s .nb))) .pairs) m));
   }
 
   module _ {ws ws₁ : List ℕ} {n : ℕ} (d : ℕ) {q : UnifyResult} (g : Pairs x ws ks n (planMeans ks x (Signature s) .pairs))

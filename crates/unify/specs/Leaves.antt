@@ -5,12 +5,12 @@ use mathlib.Core.List.{List, [], _∷_, map}
 use mathlib.Core.Option.{Option, none, some}
 use Prim.Native.Nat.{ℕ, _-_}
 use lib.ListN.{drop}
-use Rattle.scope.specs.Base.{xor}
+use Rattle.scope.specs.Base.{xor, last}
 use Rattle.scope.specs.Names.{Texts, Name, name, bytes}
 use Rattle.scope.specs.Types.{Ty, tyOf}
 use Rattle.scope.specs.Nodes.{Node}
 use Rattle.scope.specs.Answers.{Success}
-use Rattle.scope.specs.Unify.{Out, out, run, answers, after, runPlan, returned, seek, bind, bindIf, settle, sameNode, meet}
+use Rattle.scope.specs.Unify.{Out, out, run, answers, after, runPlan, seek, bound, bind, settle, sameNode, meet}
 use Rattle.scope.specs.Unify.{ImplType, Trait, Error}
 use Rattle.scope.specs.Unify as scope
 use Rattle.scope.specs.Sound as sound
@@ -68,7 +68,7 @@ slotPlace s = name (s .text) (s .start) (s .len)
 -- what a meeting of two roots asks, each pair of children by u
 abbrev pub metBy : (List Node → Ty → Ty → Out) → Texts → List ℕ → List Node → Ty → Ty → Meeting → Out
 metBy u x ks ns a b (Done r) = out ns (answerOf r)
-metBy u x ks ns a b Bind = bindIf ns a b false
+metBy u x ks ns a b Bind = out (bound ns a b) Success
 metBy u x ks ns a b (Kids p) = let o : Out = does u ns (planMeans ks x p) in settle (o .nodes) a b (o .answer)
 
 abbrev pub pairsOf : Texts → List ℕ → Meeting → List (Ty × Ty)
@@ -110,4 +110,4 @@ returnsMean (Lacking r) = answers (answerOf r)
 returnsMean (Pair x y) = record { base = Success; pairs = (tyOf (x .0), tyOf (y .0)) ∷ [] }
 
 abbrev pub returnsPlan : List ℕ → Runs → scope.Plan
-returnsPlan ks s = runPlan (s .inv .0) (returned (kidsFrom ks (s .a) (s .na))) (returned (kidsFrom ks (s .b) (s .nb)))
+returnsPlan ks s = runPlan (s .inv .0) (last (kidsFrom ks (s .a) (s .na))) (last (kidsFrom ks (s .b) (s .nb)))
