@@ -22,12 +22,14 @@ use Rattle.layout.specs.Words.{childrenMade, decode, storeIn, lentOf}
 use Rattle.layout.specs.Meaning.{Clean, headerIn}
 use Rattle.layout.specs.declared.Header.{Header}
 use Rattle.layout.proofs.Laws.{length-decode}
-use Rattle.sound.specs.Tests.{envIn, codeOf}
+use Rattle.sound.specs.Tests.{envIn}
+use Rattle.refusals.specs.Codes.{codeOf}
 use Rattle.walk.specs.Asks.{Stands, Inverses}
 use Rattle.walk.proofs.Answers.{sound-walks}
 use Rattle.promise.specs.Promise.{typesTests, TypesTested}
 use Rattle.promise.specs.declared.DoneAnswer.the-variants.{Done, Refused}
-use Rattle.promise.proofs.Laws.{code-first, code-next, test-stands, test-falls, judged-refused, lent-env, lent-store}
+use Rattle.refusals.proofs.Laws.{code-first, code-next, test-stands, test-falls, judged-refused}
+use Rattle.promise.proofs.Laws.{lent-env, lent-store}
 use Rattle.promise.proofs.CallLaws.{call-outcome}
 use Rattle.promise.proofs.ReadLaws.{read-passed, read-facts, read-inside, nodes-read, read-clean}
 use Rattle.call_ask.specs.Replies.{MarksPromised}

@@ -12,7 +12,7 @@ use chart::Beside;
 use promise::BoolAnswer;
 use promise::DoneAnswer;
 use promise::refusal_at;
-use sound::NO_REFUSAL;
+use refusals::NO_REFUSAL;
 use types::Type;
 use walk::Mod;
 
@@ -133,7 +133,7 @@ pub fn find_related<'a>(
     }
     let x = layout::read_header(h);
     if marks.len() < x.nodes as usize {
-        return DoneAnswer::Refused(promise::SHORT);
+        return DoneAnswer::Refused(refusals::SHORT);
     }
     walk::find_related(ws, ks, x.nodes, marks, t);
     DoneAnswer::Done

@@ -15,8 +15,8 @@ use Rattle.layout.specs.Words.{nodesMade, childrenMade, decode, storeIn, lentOf
 use Rattle.layout.specs.Meaning.{Clean, headerIn}
 use Rattle.layout.specs.declared.Header.{Header}
 use Rattle.layout.proofs.StoreLaws.{clean-nodes}
-use Rattle.make.specs.Holds.{Holds, Became}
-use Rattle.make.proofs.Laws.{store-nodes, holds-with, beyond-with}
+use Rattle.store.specs.Holds.{Holds, Became}
+use Rattle.store.proofs.Laws.{store-nodes, holds-with, beyond-with}
 use Rattle.roots.specs.Found.{FoundMut}
 use Rattle.sound.specs.Tests.{envIn}
 use Rattle.promise.specs.Promise.{value, refusal, TypesTested, Promised}

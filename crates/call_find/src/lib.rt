@@ -8,7 +8,7 @@ ghost use Rattle.promise.specs.Promise.{typeReply, outcomeBy, Promised};
 use chart::Beside;
 use promise::TypeAnswer;
 use promise::refusal_at;
-use sound::NO_REFUSAL;
+use refusals::NO_REFUSAL;
 use types::Type;
 
 // "`find` follows parents, combining inversions by exclusive or."

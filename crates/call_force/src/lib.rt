@@ -10,7 +10,7 @@ use chart::Beside;
 use force::Forced;
 use layout::Kind;
 use promise::DoneAnswer;
-use sound::NO_REFUSAL;
+use refusals::NO_REFUSAL;
 use types::Inverted;
 use types::Type;
 

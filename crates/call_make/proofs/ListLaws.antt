@@ -20,10 +20,11 @@ use Rattle.types.proofs.Laws.{ty-word}
 use Rattle.chart.specs.declared.Beside.{Beside}
 use Rattle.layout.specs.Words.{storeIn, lentOf}
 use Rattle.layout.proofs.Lists.{length-from, same-from}
-use Rattle.make.specs.Holds.{Ready, MadeAllIs}
+use Rattle.store.specs.Holds.{Ready}
+use Rattle.make.specs.Made.{MadeAllIs}
 use Rattle.sound.specs.Tests.{envIn}
 use Rattle.promise.specs.declared.DoneAnswer.the-variants.{Done, Refused}
-use Rattle.promise.proofs.Laws.{code-first, code-next, test-stands, test-falls}
+use Rattle.refusals.proofs.Laws.{code-first, code-next, test-stands, test-falls}
 use Rattle.promise.proofs.CallLaws.{call-back, call-done}
 use Rattle.call_make.specs.Room.{RoomTested}
 use Rattle.call_make.specs.Lists.{ListPromised}

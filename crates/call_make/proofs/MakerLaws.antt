@@ -17,11 +17,14 @@ use Rattle.layout.specs.Words.{storeIn, lentOf}
 use Rattle.layout.specs.Meaning.{headerIn, rememberedMeans}
 use Rattle.layout.specs.declared.Header.{Header}
 use Rattle.layout.specs.declared.Remembered.{Remembered}
-use Rattle.make.specs.Holds.{Ready, MadeIs}
-use Rattle.make.proofs.MakeLaws.{error-is, nil-is}
-use Rattle.sound.specs.Tests.{envIn, codeOf}
+use Rattle.store.specs.Holds.{Ready}
+use Rattle.make.specs.Made.{MadeIs}
+use Rattle.store.proofs.Laws.{error-is, nil-is}
+use Rattle.sound.specs.Tests.{envIn}
+use Rattle.refusals.specs.Codes.{codeOf}
 use Rattle.promise.specs.Promise.{value, refusal, Promised}
-use Rattle.promise.proofs.Laws.{code-none, broken-first, broken-next, passed-next, code-next, call-passed, lent-refused, lent-passed, lent-store}
+use Rattle.refusals.proofs.Laws.{code-none, broken-first, broken-next, passed-next, code-next}
+use Rattle.promise.proofs.Laws.{call-passed, lent-refused, lent-passed, lent-store}
 use Rattle.promise.proofs.CallLaws.{call-back, call-done}
 use Rattle.call_make.specs.Room.{RoomTested}
 use Rattle.call_make.proofs.RoomLaws.{lent-room, lent-ready}

@@ -14,11 +14,12 @@ use Rattle.scope.specs.Calls.{firstBroken, openTest, openCall, done}
 use Rattle.scope.proofs.TestLaws.{or-no}
 use Rattle.names.proofs.Tests.{both}
 use Rattle.layout.specs.Words.{HEAD-WORDS, nodeWords, childWords}
-use Rattle.make.specs.Holds.{Became, Openable}
-use Rattle.sound.specs.Tests.{codeOf}
+use Rattle.store.specs.Holds.{Became, Openable}
+use Rattle.refusals.specs.Codes.{codeOf}
 use Rattle.promise.specs.Promise.{value, refusal, Promised}
-use Rattle.promise.proofs.Laws.{code-none, test-passed, judged-refused, judged-done, promised-back, promised-done}
-use Rattle.call_make.specs.Opening.{enough}
+use Rattle.refusals.proofs.Laws.{code-none, test-passed, judged-refused, judged-done}
+use Rattle.promise.proofs.Laws.{promised-back, promised-done}
+use Rattle.refusals.specs.Opening.{enough}
 
 -- refusal 1
 

@@ -17,9 +17,10 @@ use Rattle.scope.proofs.SoundLaws.{SoundFacts}
 use Rattle.layout.specs.Words.{storeIn, lentOf}
 use Rattle.layout.specs.Meaning.{headerIn}
 use Rattle.layout.specs.declared.Header.{Header}
-use Rattle.make.specs.Holds.{Ready}
-use Rattle.make.proofs.Laws.{store-count}
-use Rattle.promise.proofs.Laws.{test-stands, test-falls, test-passed, tests-passed, lent-facts, lent-clean-words, lent-store}
+use Rattle.store.specs.Holds.{Ready}
+use Rattle.store.proofs.Laws.{store-count}
+use Rattle.refusals.proofs.Laws.{test-stands, test-falls, test-passed, tests-passed}
+use Rattle.promise.proofs.Laws.{lent-facts, lent-clean-words, lent-store}
 
 -- the tests of room, by a header
 

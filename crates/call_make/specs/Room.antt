@@ -6,7 +6,8 @@ use Rattle.scope.specs.Nodes.{Store}
 use Rattle.scope.specs.Calls.{firstBroken, storeOf, lentTests, roomTests}
 use Rattle.chart.specs.declared.Beside.{Beside}
 use Rattle.layout.specs.Words.{lentOf}
-use Rattle.sound.specs.Tests.{envIn, codeOf}
+use Rattle.sound.specs.Tests.{envIn}
+use Rattle.refusals.specs.Codes.{codeOf}
 
 -- n is the first of refusals 2, 8 and 10 that stands, and 0 where none does
 pub record RoomTested (chart : List ℕ) (b : Beside) (rule text h ws ks : List ℕ) (need : Store → ℕ) (n : ℕ) : Type 0 where

@@ -8,22 +8,23 @@ ghost use lib.ListN.{length};
 ghost use Rattle.scope.specs.Calls.{firstBroken, openTest, roomTests, nodesFor, openCall, resetCall, newVarCall, newVarsCall, errorCall, nilCall};
 ghost use Rattle.layout.specs.Words.{storeIn, lentOf};
 ghost use Rattle.layout.specs.Meaning.{rememberedMeans};
-ghost use Rattle.sound.specs.Tests.{envIn, codeOf};
+ghost use Rattle.sound.specs.Tests.{envIn};
+ghost use Rattle.refusals.specs.Codes.{codeOf};
 ghost use Rattle.promise.specs.Promise.{doneReply, typeReply, Promised};
-ghost use Rattle.call_make.specs.Opening.{enough};
+ghost use Rattle.refusals.specs.Opening.{enough};
 ghost use Rattle.call_make.specs.Room.{RoomTested};
 ghost use Rattle.call_make.specs.Lists.{ListPromised};
 use chart::Beside;
 use layout::HEAD_WORDS;
 use layout::Remembered;
 use promise::DoneAnswer;
-use promise::NO_CHILDREN;
-use promise::NO_NODES;
-use promise::SHORT;
+use refusals::CHILDREN_FULL;
+use refusals::NODES_FULL;
+use refusals::SHORT;
 use promise::TypeAnswer;
 use scope::MAX_CHILDREN;
 use scope::MAX_NODES;
-use sound::NO_REFUSAL;
+use refusals::NO_REFUSAL;
 
 // "opening: capacity above the limit or buffers too short"
 pub const UNOPENABLE: u32 = 1;
@@ -41,10 +42,10 @@ pub fn room(h: &[u32], nodes: u32, children: u32) -> u32
 {
     let x = layout::read_header(h);
     if exceeds(x.nodes, nodes, x.node_room) {
-        return NO_NODES;
+        return NODES_FULL;
     }
     if exceeds(x.children, children, x.child_room) {
-        return NO_CHILDREN;
+        return CHILDREN_FULL;
     }
     NO_REFUSAL
 }

@@ -27,20 +27,26 @@ use Rattle.chart.specs.Env.{envOf, chartIn, chartAlone}
 use Rattle.types.specs.declared.«Type».{«Type»}
 use Rattle.layout.specs.Words.{storeIn, lentOf}
 use Rattle.layout.specs.Meaning.{kindCell, kindMeans, headerIn}
-use Rattle.layout.specs.Clean.{namedOf}
+use Rattle.layout.specs.Meaning.{namedOf}
 use Rattle.layout.specs.declared.Header.{Header}
 use Rattle.layout.specs.declared.Kind.{Kind}
 use Rattle.layout.proofs.KindLaws.{names-count}
 use Rattle.layout.proofs.Lists.{and-right}
 use Rattle.kind_sound.proofs.Laws.{flag-reads, defined-chart}
-use Rattle.make.specs.Holds.{Ready, MadeIs}
-use Rattle.make.specs.Given.{entryCount, kindAt, kindGiven, KindReady}
-use Rattle.make.specs.declared.NewKind as make
+use Rattle.store.specs.Holds.{Ready}
+use Rattle.make.specs.Made.{MadeIs}
+use Rattle.store.specs.Entries.{entryCount}
+use Rattle.make.specs.Given.{kindAt, kindGiven, KindReady}
+use Rattle.make.specs.declared.Head as make
 use Rattle.make.proofs.NewLaws.{kind-ready}
-use Rattle.sound.specs.Tests.{envIn, codeOf}
-use Rattle.promise.specs.Promise.{Promised, Reply, value, refusal, entryTypes}
-use Rattle.promise.proofs.Laws.{code-none, code-some, none-some, code-first, code-next, test-passed, tests-passed, judged-refused, judged-done, lent-refused, lent-passed, lent-next, lent-env, lent-store, lent-outside, entries-long, promised-back, promised-done}
-use Rattle.call_make.proofs.RoomLaws.{ready-more}
+use Rattle.sound.specs.Tests.{envIn}
+use Rattle.refusals.specs.Codes.{codeOf}
+use Rattle.promise.specs.Promise.{Promised, Reply, value, refusal}
+use Rattle.store.specs.Entries.{entryTypes}
+use Rattle.refusals.proofs.Laws.{code-none, code-some, none-some, code-first, code-next, test-passed, tests-passed, judged-refused, judged-done}
+use Rattle.promise.proofs.Laws.{lent-refused, lent-passed, lent-next, lent-env, lent-store, lent-outside, promised-back, promised-done}
+use Rattle.store.proofs.EntryLaws.{entries-long}
+use Rattle.refusals.proofs.RoomLaws.{ready-more}
 use Rattle.call_make.proofs.MakerLaws.{made-done}
 use Rattle.call_new.specs.declared.KindArgs.{KindArgs}
 use Rattle.call_new.specs.Lent.{withFlag, kindLent, tidy, given, listTests, kindTests, insideCall}
@@ -113,9 +119,9 @@ module _ (cs rule text : List ℕ) (k : KindArgs) (es : List ℕ) where
   pub torn-refused : (length es % 4 ≡ 0 → ⊥) → firstBroken (kindTests env (given k es)) ≡ codeOf 4
   torn-refused z = untidy-test k es env [] (rw (ne-eqb (length es % 4) 0 z))
 
-  module _ {n : make.NewKind} {kind : Kind} (f : n ≡ withFlag k flag) (g : kind ≡ kindAt n 0 (entryCount es)) (whole : length es % 4 ≡ 0) where
+  module _ {n : make.Head} {kind : Kind} (f : n ≡ withFlag k flag) (g : kind ≡ kindAt n 0 (entryCount es)) (whole : length es % 4 ≡ 0) where
     kind-is : kind ≡ kindLent k flag es
-    kind-is = g ∙ ap (λ (m : make.NewKind). kindAt m 0 (entryCount es)) f
+    kind-is = g ∙ ap (λ (m : make.Head). kindAt m 0 (entryCount es)) f
 
     tidy-by : {b : Bool} → b ≡ namesClean (kindCell es kind) → tidy k es ≡ b
     tidy-by q = rw (eq-eqb (length es % 4) 0 whole) (sym (q ∙ ap (λ (y : Kind). namesClean (kindCell es y)) kind-is))
@@ -185,7 +191,7 @@ module _ (cs rule text h ws ks : List ℕ) (k : KindArgs) (es : List ℕ) where
         inside-tidy : tidy k es ≡ true
         inside-tidy = tidy-go (tidy k es) refl
 
-        module _ {f : make.NewKind} (g : f ≡ withFlag k (flagOf (chartAlone cs) (k .code) (k .number))) where
+        module _ {f : make.Head} (g : f ≡ withFlag k (flagOf (chartAlone cs) (k .code) (k .number))) where
           pub inside-ready : Ready h ws ks 0 0 → KindReady h ws ks f es
           inside-ready r = rw g (kind-ready (withFlag k (flagOf (chartAlone cs) (k .code) (k .number))) es
               (ready-more 1 (entryCount es) r (p ws ks ∙ code-none m y))
@@ -194,7 +200,7 @@ module _ (cs rule text h ws ks : List ℕ) (k : KindArgs) (es : List ℕ) where
           kind-made : kindMade inner a ≡ kindGiven f es
           kind-made =
               given-kind k es inner (flagOf (chartAlone cs) (k .code) (k .number)) (flag-is cs rule text k es) inside-tidy
-              ∙ sym (ap (λ (n : make.NewKind). kindGiven n es) g)
+              ∙ sym (ap (λ (n : make.Head). kindGiven n es) g)
 
           pub inside-made : {h′ ws′ ks′ : List ℕ} {t : «Type»} → MadeIs h ws ks h′ ws′ ks′ t (new s (kindGiven f es))
               → Promised (insideCall inner s a) (value (tyOf (t .0))) h ws ks h′ ws′ ks′

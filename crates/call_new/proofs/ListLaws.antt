@@ -21,8 +21,8 @@ use Rattle.layout.specs.declared.Slot as code
 use Rattle.layout.proofs.Lists.{same-from, same-shift}
 use Rattle.layout.proofs.ChildLaws.{slot-here, slot-there, slots-front}
 use Rattle.layout.proofs.KindLaws.{names-none, fits-none, fits-clean}
-use Rattle.make.specs.Given.{entryCount}
-use Rattle.promise.specs.Promise.{entryTypes, typesIn}
+use Rattle.store.specs.Entries.{entryCount}
+use Rattle.store.specs.Entries.{entryTypes, typesIn}
 use Rattle.call_new.specs.declared.KindArgs.{KindArgs}
 use Rattle.call_new.specs.Lent.{kindLent, tidy, given, plainArgs, bareSlot, Listed}
 

@@ -20,13 +20,13 @@ use Rattle.scope.specs.Calls.{NewKind, Outcome, judged, roomTests, kindMade, ma
 use Rattle.layout.specs.Words.{CHILD-WORDS, slotAt}
 use Rattle.layout.specs.Meaning.{kindCell, kindMeans}
 use Rattle.layout.specs.declared.Kind.{Kind}
-use Rattle.make.specs.declared.NewKind as make
+use Rattle.make.specs.declared.Head as make
 use Rattle.make.specs.Given.{kindOver}
-use Rattle.promise.specs.Promise.{entryTypes}
+use Rattle.store.specs.Entries.{entryTypes}
 use Rattle.call_new.specs.declared.KindArgs.{KindArgs}
 
 -- the lent numbers, with the flag d
-abbrev pub withFlag : KindArgs → Bool → make.NewKind
+abbrev pub withFlag : KindArgs → Bool → make.Head
 withFlag k d = record {
   code = k .code;
   number = k .number;

@@ -9,23 +9,25 @@ ghost use Rattle.scope.specs.Calls.{firstBroken, over, newCall, newStructCall, 
 ghost use Rattle.chart.specs.Env.{chartIn, chartAlone};
 ghost use Rattle.layout.specs.Words.{childWords, storeIn, lentOf};
 ghost use Rattle.layout.specs.Meaning.{slotMeans};
-ghost use Rattle.make.specs.Holds.{Ready};
-ghost use Rattle.make.specs.Given.{entryCount};
-ghost use Rattle.sound.specs.Tests.{envIn, codeOf};
-ghost use Rattle.promise.specs.Promise.{Promised, typeReply, typesIn};
+ghost use Rattle.store.specs.Holds.{Ready};
+ghost use Rattle.store.specs.Entries.{entryCount};
+ghost use Rattle.sound.specs.Tests.{envIn};
+ghost use Rattle.refusals.specs.Codes.{codeOf};
+ghost use Rattle.promise.specs.Promise.{Promised, typeReply};
+ghost use Rattle.store.specs.Entries.{typesIn};
 ghost use Rattle.call_new.specs.Lent.{withFlag, given, plainArgs, bareSlot, Listed, listTests, kindTests, insideCall};
 use chart::Beside;
 use kinds::STRUCT;
 use kinds::UNION;
 use layout::CHILD_WORDS;
 use layout::Slot;
-use make::NewKind;
-use promise::OUTSIDE;
+use make::Head;
+use refusals::OUTSIDE;
 use promise::TypeAnswer;
-use promise::UNDEFINED;
-use promise::UNMAKEABLE;
+use refusals::UNDEFINED;
+use refusals::UNMAKEABLE;
 use scope::MAX_WIDTH;
-use sound::NO_REFUSAL;
+use refusals::NO_REFUSAL;
 use types::Type;
 
 // The words of 255 entries.
@@ -43,10 +45,10 @@ pub struct KindArgs {
 }
 
 // The kind with the chart's flag.
-fn flagged(k: KindArgs, chart: &[u32]) -> NewKind
+fn flagged(k: KindArgs, chart: &[u32]) -> Head
     ensures { λ r. ⌜ r ≡ withFlag k (flagOf (chartAlone (now (chart .entry))) (k .code) (k .number)) ⌝ }
 {
-    NewKind {
+    Head {
         code: k.code,
         number: k.number,
         dual: kind_sound::chart_flag(k.code, k.number, chart),
@@ -73,7 +75,7 @@ fn kind_refusal<'a>(
     }
     let count = (entries.len() / CHILD_WORDS) as u32;
     let kind = make::kind_of(flagged(k, chart), 0, count);
-    if !layout::clean::kind_clean(entries, kind) {
+    if !clean::names_clean(entries, kind) {
         return UNMAKEABLE;
     }
     if !kind_sound::can_be_made(kind, entries, rule, text) {
@@ -118,7 +120,7 @@ fn make_inside<'a>(
     if unmade != NO_REFUSAL {
         return TypeAnswer::Refused(unmade);
     }
-    let full = call_make::room(h, 1, (entries.len() / CHILD_WORDS) as u32);
+    let full = refusals::room(h, 1, (entries.len() / CHILD_WORDS) as u32);
     if full != NO_REFUSAL {
         return TypeAnswer::Refused(full);
     }
@@ -144,7 +146,7 @@ pub fn new<'a>(
         return TypeAnswer::Refused(lent);
     }
     let x = layout::read_header(h);
-    let inside = promise::entries_inside(entries, x.nodes);
+    let inside = refusals::entries_inside(entries, x.nodes);
     let listed = list_refusal(inside, entries.len() / CHILD_WORDS);
     if listed != NO_REFUSAL {
         return TypeAnswer::Refused(listed);
@@ -210,7 +212,7 @@ fn new_over<'a>(
         return TypeAnswer::Refused(unsound);
     }
     let x = layout::read_header(h);
-    let inside = promise::types_inside(types, x.nodes);
+    let inside = refusals::types_inside(types, x.nodes);
     let refused = list_refusal(inside, types.len());
     if refused != NO_REFUSAL {
         return TypeAnswer::Refused(refused);

@@ -19,7 +19,7 @@ use Rattle.layout.specs.Meaning.{slotMeans, kindMeans}
 use Rattle.layout.specs.declared.Kind.{Kind}
 use Rattle.layout.specs.declared.Slot.{Slot}
 use Rattle.layout.proofs.ChildLaws.{length-slots, slots-get, length-kids, kid-at}
-use Rattle.layout.proofs.CleanLaws.{front-slots}
+use Rattle.layout.proofs.ChildLaws.{front-slots}
 use Rattle.layout.proofs.KindLaws.{names-own, names-child, names-parameters}
 
 -- what lies at j

@@ -9,7 +9,7 @@ use Rattle.scope.specs.Names as scope
 use Rattle.scope.specs.Types.{Ty, tyOf}
 use Rattle.scope.specs.Nodes.{Node, Store}
 use Rattle.scope.specs.Calls.{Outcome}
-use Rattle.names.specs.Place.{nameIn}
+use Rattle.names.specs.Place.{nameOf}
 use Rattle.layout.specs.Words.{childrenMade, decode, storeIn}
 use Rattle.layout.specs.Meaning.{nodeMeans, nodeFits, storeMeans}
 use Rattle.promise.specs.Promise.{Reply, value, refusal, outcomeBy}
@@ -32,7 +32,7 @@ kidMeans (kid.Is t) = some (tyOf (t .0))
 kidMeans kid.Nothing = none
 
 abbrev pub namedMeans : Named → Option scope.Name
-namedMeans (named.Is n) = some (nameIn n)
+namedMeans (named.Is n) = some (nameOf n)
 namedMeans named.Nothing = none
 
 -- a node as it stands, with its children's words
@@ -56,7 +56,7 @@ childReply child.Nothing = value none
 childReply (child.Refused n) = refusal n
 
 abbrev pub nameReply : NameAnswer → Reply (Option scope.Name)
-nameReply (name.Is n) = value (some (nameIn n))
+nameReply (name.Is n) = value (some (nameOf n))
 nameReply name.Nothing = value none
 nameReply (name.Refused n) = refusal n
 

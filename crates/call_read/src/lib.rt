@@ -21,7 +21,7 @@ use layout::TypeNode;
 use layout::TypeState;
 use names::Name;
 use promise::refusal_at;
-use sound::NO_REFUSAL;
+use refusals::NO_REFUSAL;
 use types::Type;
 
 // A child, if there is one.

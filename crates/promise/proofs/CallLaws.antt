@@ -9,10 +9,11 @@ use Rattle.scope.specs.Chart.{Env}
 use Rattle.scope.specs.Nodes.{Store}
 use Rattle.scope.specs.Calls.{Outcome, done, judged, firstBroken, storeOf, lentTests}
 use Rattle.layout.specs.Words.{storeIn, lentOf}
-use Rattle.make.specs.Holds.{Became}
-use Rattle.sound.specs.Tests.{codeOf}
+use Rattle.store.specs.Holds.{Became}
+use Rattle.refusals.specs.Codes.{codeOf}
 use Rattle.promise.specs.Promise.{value, refusal, Promised}
-use Rattle.promise.proofs.Laws.{judged-refused, judged-done, lent-store, call-passed, promised-back, promised-done}
+use Rattle.refusals.proofs.Laws.{judged-refused, judged-done}
+use Rattle.promise.proofs.Laws.{lent-store, call-passed, promised-back, promised-done}
 
 module _ {A : Type 0} (e : Env) (h ws ks : List ℕ) (us : Store → List (Bool × ℕ)) (f : Store → Outcome A) (n : ℕ)
     (q : firstBroken (lentTests e (lentOf h ws ks) ++ us (storeOf (lentOf h ws ks))) ≡ codeOf n) where

@@ -24,12 +24,14 @@ use Rattle.layout.specs.declared.Header.{Header}
 use Rattle.layout.proofs.ChildLaws.{length-slots, slots-get}
 use Rattle.layout.proofs.LinkLaws.{clean-linked}
 use Rattle.layout.proofs.StoreLaws.{clean-nodes, lent-clean}
-use Rattle.make.specs.Holds.{Became}
-use Rattle.make.specs.Given.{entryCount}
-use Rattle.make.proofs.Laws.{store-count}
-use Rattle.sound.specs.Tests.{envIn, codeOf}
+use Rattle.store.specs.Holds.{Became}
+use Rattle.store.specs.Entries.{entryCount}
+use Rattle.store.proofs.Laws.{store-count}
+use Rattle.sound.specs.Tests.{envIn}
+use Rattle.refusals.specs.Codes.{codeOf}
 use Rattle.sound.proofs.Laws.{sound-clean, env-ok, env-whole}
-use Rattle.promise.specs.Promise.{value, refusal, Promised, typesTests, TypesTested, typesIn, entryTypes}
+use Rattle.promise.specs.Promise.{value, refusal, Promised, typesTests, TypesTested}
+use Rattle.store.specs.Entries.{typesIn, entryTypes}
 
 -- a refusal's number as an option
 

@@ -19,10 +19,11 @@ use Rattle.layout.specs.Words.{nodesMade, childrenMade, decode, storeIn, lentOf
 use Rattle.layout.specs.Meaning.{Clean, Linked, headerIn}
 use Rattle.layout.specs.declared.Header.{Header}
 use Rattle.layout.proofs.StoreLaws.{clean-nodes}
-use Rattle.make.proofs.Laws.{store-nodes}
+use Rattle.store.proofs.Laws.{store-nodes}
 use Rattle.sound.specs.Tests.{envIn}
 use Rattle.promise.specs.Promise.{typesTests, TypesTested}
-use Rattle.promise.proofs.Laws.{code-none, judged-refused, passed-next, test-passed, call-passed, lent-clean-words, lent-store, lent-facts, lent-linked}
+use Rattle.refusals.proofs.Laws.{code-none, judged-refused, passed-next, test-passed}
+use Rattle.promise.proofs.Laws.{call-passed, lent-clean-words, lent-store, lent-facts, lent-linked}
 use Rattle.promise.proofs.CallLaws.{call-outcome}
 
 module _ {chart : List ℕ} {b : Beside} {rule text h ws ks : List ℕ} {ts : List Ty} {n : ℕ} (q : TypesTested chart b rule text h ws ks ts n) where

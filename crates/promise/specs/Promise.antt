@@ -11,9 +11,10 @@ use Rattle.scope.specs.Sound.{Lent}
 use Rattle.scope.specs.Calls.{Outcome, refused, done, firstBroken, storeOf, lentTests, outside}
 use Rattle.chart.specs.declared.Beside.{Beside}
 use Rattle.layout.specs.Words.{storeIn, lentOf, slots}
-use Rattle.make.specs.Holds.{Became}
-use Rattle.make.specs.Given.{entryCount}
-use Rattle.sound.specs.Tests.{envIn, codeOf}
+use Rattle.store.specs.Holds.{Became}
+use Rattle.store.specs.Entries.{entryCount}
+use Rattle.sound.specs.Tests.{envIn}
+use Rattle.refusals.specs.Codes.{codeOf}
 use Rattle.promise.specs.declared.TypeAnswer.{TypeAnswer}
 use Rattle.promise.specs.declared.TypeAnswer.the-variants as type
 use Rattle.promise.specs.declared.BoolAnswer.{BoolAnswer}

@@ -7,10 +7,11 @@ ghost use Rattle.scope.specs.Base.{all};
 ghost use Rattle.scope.specs.Types.{tyOf};
 ghost use Rattle.scope.specs.Nodes.{Node};
 ghost use Rattle.scope.specs.Sound.{inStore};
-ghost use Rattle.promise.specs.Promise.{TypesTested, typesIn, entryTypes};
+ghost use Rattle.promise.specs.Promise.{TypesTested};
+ghost use Rattle.store.specs.Entries.{typesIn, entryTypes};
 use chart::Beside;
 use layout::CHILD_WORDS;
-use sound::NO_REFUSAL;
+use refusals::NO_REFUSAL;
 use types::Type;
 
 // "a type's node isn't in the store"
@@ -55,7 +56,7 @@ pub fn types_inside(ts: &[u32], n: u32) -> bool
 {
     let mut i: usize = 0;
     while i < ts.len() {
-        if !kind_sound::type_inside(Type(ts[i]), n) {
+        if !refusals::type_inside(Type(ts[i]), n) {
             return false;
         }
         i += 1;
@@ -70,7 +71,7 @@ pub fn entries_inside(es: &[u32], n: u32) -> bool
     let count = es.len() / CHILD_WORDS;
     let mut i: usize = 0;
     while i < count {
-        if !kind_sound::type_inside(layout::child_at(es, i).ty, n) {
+        if !refusals::type_inside(layout::child_at(es, i).ty, n) {
             return false;
         }
         i += 1;
@@ -97,7 +98,7 @@ pub fn refusal_at<'a>(
         return lent;
     }
     let x = layout::read_header(h);
-    if !kind_sound::type_inside(t, x.nodes) {
+    if !refusals::type_inside(t, x.nodes) {
         return OUTSIDE;
     }
     NO_REFUSAL

@@ -2,7 +2,7 @@
 -- Assumes nothing.
 use mathlib.Core.Path.{sym}
 use borrow.Author.Needs.{needs}
-use Rattle.call_make.proofs.OpenLaws.{short-head, short-nodes, enough-children}
+use Rattle.refusals.proofs.OpenLaws.{short-head, short-nodes, enough-children}
 use Rattle.call_make.proofs.long_enough.Statement.{statement}
 use Rattle.call_make.proofs.long_enough.Tie as tie
 

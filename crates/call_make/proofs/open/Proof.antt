@@ -1,7 +1,8 @@
 -- `call_make::open` meets its contract: slices that pass the test are what `make` asks, and it leaves the store just opened.
 -- Assumes nothing.
 use borrow.Author.Needs.{needs}
-use Rattle.call_make.proofs.OpenLaws.{openable, open-back, open-done}
+use Rattle.refusals.proofs.OpenLaws.{openable}
+use Rattle.call_make.proofs.OpenLaws.{open-back, open-done}
 use Rattle.call_make.proofs.open.Statement.{statement}
 use Rattle.call_make.proofs.open.Tie as tie
 

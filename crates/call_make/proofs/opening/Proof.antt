@@ -1,8 +1,8 @@
 -- `call_make::opening` meets its contract: each way out has its law.
 -- Assumes nothing.
 use borrow.Author.Needs.{needs}
-use Rattle.call_make.specs.Opening.{enough}
-use Rattle.call_make.proofs.OpenLaws.{many-nodes, many-children, words-short, words-enough}
+use Rattle.refusals.specs.Opening.{enough}
+use Rattle.refusals.proofs.OpenLaws.{many-nodes, many-children, words-short, words-enough}
 use Rattle.names.proofs.Tests.{passes, fails}
 use Rattle.call_make.proofs.opening.Statement.{statement}
 use Rattle.call_make.proofs.opening.Tie as tie

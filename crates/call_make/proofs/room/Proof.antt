@@ -2,7 +2,7 @@
 -- Assumes nothing.
 use mathlib.Core.Path.{sym, _∙_}
 use borrow.Author.Needs.{needs}
-use Rattle.call_make.proofs.RoomLaws.{no-nodes, no-children, room-left}
+use Rattle.refusals.proofs.RoomLaws.{nodes-full, children-full, room-left}
 use Rattle.call_make.proofs.room.Statement.{statement}
 use Rattle.call_make.proofs.room.Tie as tie
 
@@ -13,14 +13,14 @@ exceeds-requires : tie.Need-exceeds-requires
 exceeds-requires c κs = search needs
 
 returns : tie.Need-returns
-returns c = λ ws ks. no-nodes (c .before .before .before .before .args .h .now) ws ks (c .before .before .read-header .result) (c .before .before .read-header .ensures) (c .before .before .before .before .args .nodes) (c .before .before .before .before .args .children) (sym (c .before .exceeds .ensures) ∙ c .if1 .taken)
+returns c = λ ws ks. nodes-full (c .before .before .before .before .args .h .now) ws ks (c .before .before .read-header .result) (c .before .before .read-header .ensures) (c .before .before .before .before .args .nodes) (c .before .before .before .before .args .children) (sym (c .before .exceeds .ensures) ∙ c .if1 .taken)
 
 exceeds-requires-2 : tie.Need-exceeds-requires-2
 exceeds-requires-2 c κs = search needs
 
 returns-2 : tie.Need-returns-2
 returns-2 c = λ ws ks.
-    no-children (c .before .before .before .before .before .before .args .h .now) ws ks (c .before .before .before .before .read-header .result) (c .before .before .before .before .read-header .ensures) (c .before .before .before .before .before .before .args .nodes) (c .before .before .before .before .before .before .args .children) (sym (c .before .before .before .exceeds .ensures) ∙ c .before .before .if1 .left)
+    children-full (c .before .before .before .before .before .before .args .h .now) ws ks (c .before .before .before .before .read-header .result) (c .before .before .before .before .read-header .ensures) (c .before .before .before .before .before .before .args .nodes) (c .before .before .before .before .before .before .args .children) (sym (c .before .before .before .exceeds .ensures) ∙ c .before .before .if1 .left)
     (sym (c .before .exceeds2 .ensures) ∙ c .if2 .taken)
 
 returns-3 : tie.Need-returns-3

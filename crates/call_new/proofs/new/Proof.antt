@@ -4,10 +4,11 @@
 use mathlib.Core.Path.{refl}
 use borrow.Author.Needs.{needs}
 use Rattle.sound.specs.Tests.{envIn}
-use Rattle.make.specs.Given.{entryCount}
-use Rattle.promise.specs.Promise.{entryTypes}
+use Rattle.store.specs.Entries.{entryCount}
+use Rattle.store.specs.Entries.{entryTypes}
 use Rattle.call_new.specs.Lent.{given}
-use Rattle.promise.proofs.Laws.{lent-passed, entries-long}
+use Rattle.promise.proofs.Laws.{lent-passed}
+use Rattle.store.proofs.EntryLaws.{entries-long}
 use Rattle.call_make.proofs.RoomLaws.{lent-within}
 use Rattle.call_new.proofs.Laws.{given-kids, listed-narrow, new-lent, new-listed, new-promised}
 use Rattle.call_new.proofs.new.Statement.{statement}

@@ -8,7 +8,7 @@ use lib.ListN.{length, length-map}
 use Rattle.scope.specs.Types.{tyOf}
 use Rattle.scope.specs.Calls.{over}
 use Rattle.sound.specs.Tests.{envIn}
-use Rattle.promise.specs.Promise.{typesIn}
+use Rattle.store.specs.Entries.{typesIn}
 use Rattle.promise.proofs.Laws.{lent-passed}
 use Rattle.call_make.proofs.RoomLaws.{lent-within}
 use Rattle.call_new.proofs.Laws.{listed-narrow, new-lent, new-listed, new-promised}

@@ -11,10 +11,10 @@ use Rattle.scope.specs.Types.{tyOf}
 use Rattle.scope.specs.Nodes.{Node}
 use Rattle.scope.specs.Sound.{Slot, inStore}
 use Rattle.names.proofs.Tests.{passes, fails}
-use Rattle.chart.proofs.Laws.{all-step, all-fails, all-end}
-use Rattle.make.specs.Given.{entryCount}
-use Rattle.promise.specs.Promise.{entryTypes}
-use Rattle.promise.proofs.Laws.{entry-below, entry-past, entry-at}
+use Rattle.names.proofs.Tests.{all-step, all-fails, all-end}
+use Rattle.store.specs.Entries.{entryCount}
+use Rattle.store.specs.Entries.{entryTypes}
+use Rattle.store.proofs.EntryLaws.{entry-below, entry-past, entry-at}
 use Rattle.promise.proofs.entries_inside.Statement.{statement}
 use Rattle.promise.proofs.entries_inside.Tie as tie
 

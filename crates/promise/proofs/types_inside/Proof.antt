@@ -12,9 +12,9 @@ use Rattle.scope.specs.Types.{tyOf}
 use Rattle.scope.specs.Nodes.{Node}
 use Rattle.scope.specs.Sound.{inStore}
 use Rattle.names.proofs.Tests.{passes, fails}
-use Rattle.chart.proofs.Laws.{all-step, all-fails, all-end}
-use Rattle.promise.specs.Promise.{typesIn}
-use Rattle.promise.proofs.Laws.{listed-below, listed-past, listed-at}
+use Rattle.names.proofs.Tests.{all-step, all-fails, all-end}
+use Rattle.store.specs.Entries.{typesIn}
+use Rattle.store.proofs.EntryLaws.{listed-below, listed-past, listed-at}
 use Rattle.promise.proofs.types_inside.Statement.{statement}
 use Rattle.promise.proofs.types_inside.Tie as tie
 
