@@ -18,13 +18,13 @@ use chart::Beside;
 use layout::HEAD_WORDS;
 use layout::Remembered;
 use promise::DoneAnswer;
+use promise::TypeAnswer;
 use refusals::CHILDREN_FULL;
+use refusals::NO_REFUSAL;
 use refusals::NODES_FULL;
 use refusals::SHORT;
-use promise::TypeAnswer;
 use scope::MAX_CHILDREN;
 use scope::MAX_NODES;
-use refusals::NO_REFUSAL;
 
 // "opening: capacity above the limit or buffers too short"
 pub const UNOPENABLE: u32 = 1;

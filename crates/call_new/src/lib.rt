@@ -22,12 +22,12 @@ use kinds::UNION;
 use layout::CHILD_WORDS;
 use layout::Slot;
 use make::Head;
-use refusals::OUTSIDE;
 use promise::TypeAnswer;
+use refusals::NO_REFUSAL;
+use refusals::OUTSIDE;
 use refusals::UNDEFINED;
 use refusals::UNMAKEABLE;
 use scope::MAX_WIDTH;
-use refusals::NO_REFUSAL;
 use types::Type;
 
 // The words of 255 entries.

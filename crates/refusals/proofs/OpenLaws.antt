@@ -14,7 +14,8 @@ use Rattle.scope.proofs.TestLaws.{or-no}
 use Rattle.names.proofs.Tests.{both}
 use Rattle.layout.specs.Words.{HEAD-WORDS, nodeWords, childWords}
 use Rattle.store.specs.Holds.{Openable}
-use Rattle.refusals.specs.Codes.{UNOPENABLE, codeOf}
+use Rattle.scope.specs.Refusals.{UNOPENABLE}
+use Rattle.refusals.specs.Codes.{codeOf}
 use Rattle.refusals.specs.Opening.{enough}
 use Rattle.refusals.proofs.Laws.{code-none, test-passed}
 

@@ -16,7 +16,7 @@ use Rattle.layout.specs.Meaning.{headerIn}
 use Rattle.layout.specs.declared.Header.{Header}
 use Rattle.store.specs.Holds.{Ready}
 use Rattle.store.proofs.Laws.{store-count}
-use Rattle.refusals.specs.Codes.{NODES-FULL, CHILDREN-FULL}
+use Rattle.scope.specs.Refusals.{NODES-FULL, CHILDREN-FULL}
 use Rattle.refusals.proofs.Laws.{test-stands, test-falls, test-passed, tests-passed}
 
 -- the tests of room, by a header
