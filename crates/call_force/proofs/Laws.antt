@@ -14,15 +14,14 @@ use Rattle.scope.specs.Calls.{Outcome, done, outside, forceKindCall}
 use Rattle.types.specs.declared.«Type».{«Type»}
 use Rattle.chart.specs.declared.Beside.{Beside}
 use Rattle.layout.specs.Words.{childrenMade, storeIn, lentOf, clean}
-use Rattle.force.specs.Forcing.{forcedMeans, forcedFits, ForcedIs}
+use Rattle.force.specs.Forcing.{forcedFits, ForcedIs}
 use Rattle.force.specs.declared.Forced.{Forced}
-use Rattle.force.specs.declared.Forced.the-variants.{Known, Reported, Failed}
 use Rattle.sound.specs.Tests.{envIn}
-use Rattle.promise.specs.Promise.{value, TypesTested, Promised}
+use Rattle.promise.specs.Promise.{TypesTested}
 use Rattle.promise.proofs.Laws.{lent-clean-words}
 use Rattle.promise.proofs.CallLaws.{call-back, call-done}
 use Rattle.promise.proofs.ReadLaws.{read-passed}
-use Rattle.call_force.specs.Replies.{answerOf, forcedReply, forcedAnswerFits, ForcePromised}
+use Rattle.call_force.specs.Replies.{Answers, ForcePromised}
 use Rattle.call_force.specs.declared.ForcedAnswer.{ForcedAnswer}
 use Rattle.call_force.specs.declared.ForcedAnswer.the-variants.{Refused}
 
@@ -55,22 +54,6 @@ forced-children {h} {ws} {ks} {t = t} o =
 
 -- the ways out
 
-means-reply : (ks : List ℕ) (f : Forced) → forcedReply ks (answerOf f) ≡ value (forcedMeans ks f)
-means-reply ks (Known i k) = refl
-means-reply ks (Reported p) = refl
-means-reply ks Failed = refl
-
-answer-fits : (ks : List ℕ) (c : ℕ) (f : Forced) → forcedAnswerFits ks c (answerOf f) ≡ forcedFits ks c f
-answer-fits ks c (Known i k) = refl
-answer-fits ks c (Reported p) = refl
-answer-fits ks c Failed = refl
-
-pub forced-fits : {h ws ks h′ ws′ : List ℕ} {t : «Type»} {f : Forced} {r : ForcedAnswer} → ForcedIs h ws ks h′ ws′ t f → answerOf f ≡ r
-    → forcedAnswerFits ks (childrenMade h′) r ≡ true
-forced-fits {h} {ks = ks} {h′ = h′} {f = f} o is =
-    ap (forcedAnswerFits ks (childrenMade h′)) (sym is)
-    ∙ (answer-fits ks (childrenMade h′) f ∙ (ap (λ (m : ℕ). forcedFits ks m f) (forced-children o) ∙ o .fits))
-
 module _ {chart : List ℕ} {b : Beside} {rule text h ws ks : List ℕ} (t : «Type») {n : ℕ} (q : TypesTested chart b rule text h ws ks (tyOf (t .0) ∷ []) n) where
   abbrev T : Ty
   T = tyOf (t .0)
@@ -86,10 +69,12 @@ module _ {chart : List ℕ} {b : Beside} {rule text h ws ks : List ℕ} (t : «T
     pub forced-clean : clean h ws ks ≡ true
     forced-clean = lent-clean-words (envIn chart b rule text) h ws ks (read-passed q z)
 
-    pub forced-promised : {h′ ws′ : List ℕ} {f : Forced} {r : ForcedAnswer} → ForcedIs h ws ks h′ ws′ t f → answerOf f ≡ r
-        → Promised (forceKindCall (envIn chart b rule text) (lentOf h ws ks) T) (forcedReply ks r) h ws ks h′ ws′ ks
+    pub forced-done : {h′ ws′ : List ℕ} {f : Forced} {r : ForcedAnswer} → ForcedIs h ws ks h′ ws′ t f → Answers f r
+        → ForcePromised (forceKindCall (envIn chart b rule text) (lentOf h ws ks) T) r h ws ks h′ ws′
     unfolding forceKindCall
-    forced-promised {f = f} o is =
-        rw (← is, means-reply ks f)
-        (call-done (envIn chart b rule text) h ws ks (λ s. outside s (T ∷ []) ∷ []) (forcing T) n (q .first) z
-        (ap (λ (y : scope.Forced). done y (forceKind (storeIn h ws ks) T .1)) (sym (o .answer))) (o .store))
+    forced-done {h′ = h′} {f = f} o w = record {
+      fits = w .fits ks (childrenMade h′) ∙ (ap (λ (m : ℕ). forcedFits ks m f) (forced-children o) ∙ o .fits);
+      promised = rw (w .means ks)
+          (call-done (envIn chart b rule text) h ws ks (λ s. outside s (T ∷ []) ∷ []) (forcing T) n (q .first) z
+          (ap (λ (y : scope.Forced). done y (forceKind (storeIn h ws ks) T .1)) (sym (o .answer))) (o .store));
+    }

@@ -9,16 +9,10 @@ use Rattle.scope.specs.Calls.{Outcome}
 use Rattle.layout.specs.Words.{childrenMade}
 use Rattle.layout.specs.Meaning.{kindMeans, kindFits}
 use Rattle.force.specs.declared.Forced as core
-use Rattle.force.specs.declared.Forced.the-variants as forced
+use Rattle.force.specs.Forcing.{forcedMeans, forcedFits}
 use Rattle.promise.specs.Promise.{Reply, value, refusal, Promised}
 use Rattle.call_force.specs.declared.ForcedAnswer.{ForcedAnswer}
 use Rattle.call_force.specs.declared.ForcedAnswer.the-variants.{Known, Reported, Failed, Refused}
-
--- what the core answers, as the call answers it
-abbrev pub answerOf : core.Forced → ForcedAnswer
-answerOf (forced.Known i k) = Known i k
-answerOf (forced.Reported p) = Reported p
-answerOf forced.Failed = Failed
 
 abbrev pub forcedReply : List ℕ → ForcedAnswer → Reply Forced
 forcedReply ks (Known i k) = value (record { inv = i .0; kind = kindMeans ks k; span = none })
@@ -32,6 +26,11 @@ forcedAnswerFits ks c (Known i k) = kindFits ks c k
 forcedAnswerFits ks c (Reported p) = true
 forcedAnswerFits ks c Failed = true
 forcedAnswerFits ks c (Refused n) = true
+
+-- what the core answers, as the call does: it fits as the core's answer does, and means the same
+pub record Answers (f : core.Forced) (r : ForcedAnswer) : Type 0 where
+  pub fits : (ks : List ℕ) (c : ℕ) → forcedAnswerFits ks c r ≡ forcedFits ks c f
+  pub means : (ks : List ℕ) → forcedReply ks r ≡ value (forcedMeans ks f)
 
 -- what every call promises, and the kind in the answer r fits the store that the slices then hold
 pub record ForcePromised (o : Outcome Forced) (r : ForcedAnswer) (h ws ks h′ ws′ : List ℕ) : Type 0 where

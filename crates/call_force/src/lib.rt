@@ -5,7 +5,7 @@ ghost use Rattle.scope.specs.Calls.{forceKindCall, finishInferenceCall, finishW
 ghost use Rattle.layout.specs.Words.{lentOf};
 ghost use Rattle.sound.specs.Tests.{envIn};
 ghost use Rattle.promise.specs.Promise.{doneReply, Promised};
-ghost use Rattle.call_force.specs.Replies.{ForcePromised};
+ghost use Rattle.call_force.specs.Replies.{Answers, ForcePromised};
 use chart::Beside;
 use force::Forced;
 use layout::Kind;
@@ -20,6 +20,17 @@ pub enum ForcedAnswer {
     Reported(u32),
     Failed,
     Refused(u32),
+}
+
+// What the core answers, as the call does.
+fn answer(forced: Forced) -> ForcedAnswer
+    ensures { λ r. ⌜ Answers forced r ⌝ }
+{
+    match forced {
+        Forced::Known(i, kind) => ForcedAnswer::Known(i, kind),
+        Forced::Reported(span) => ForcedAnswer::Reported(span),
+        Forced::Failed => ForcedAnswer::Failed,
+    }
 }
 
 // "A Known gives its kind and its inversion combined with the type's. An Unknown becomes InferenceFailed, its span is in the answer and one report count rises."
@@ -41,11 +52,7 @@ pub fn force_kind<'a>(
     if code != NO_REFUSAL {
         return ForcedAnswer::Refused(code);
     }
-    match force::force_kind(h, ws, ks, t) {
-        Forced::Known(i, kind) => ForcedAnswer::Known(i, kind),
-        Forced::Reported(span) => ForcedAnswer::Reported(span),
-        Forced::Failed => ForcedAnswer::Failed,
-    }
+    answer(force::force_kind(h, ws, ks, t))
 }
 
 // "only roots without a kind change, each to Default uninverted"

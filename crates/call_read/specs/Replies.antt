@@ -8,10 +8,12 @@ use Prim.Native.Nat.{ℕ}
 use Rattle.scope.specs.Names as scope
 use Rattle.scope.specs.Types.{Ty, tyOf}
 use Rattle.scope.specs.Nodes.{Node, Store}
+use Rattle.scope.specs.Nodes as nodes
 use Rattle.scope.specs.Calls.{Outcome}
 use Rattle.names.specs.Place.{nameOf}
 use Rattle.layout.specs.Words.{childrenMade, decode, storeIn}
-use Rattle.layout.specs.Meaning.{nodeMeans, nodeFits, storeMeans}
+use Rattle.layout.specs.Meaning.{kindMeans, nodeMeans, kindFits, nodeFits, storeMeans}
+use Rattle.layout.specs.declared.TypeNode.{TypeNode}
 use Rattle.promise.specs.Promise.{Reply, value, refusal, outcomeBy}
 use Rattle.call_read.specs.declared.Kid.{Kid}
 use Rattle.call_read.specs.declared.Kid.the-variants as kid
@@ -37,18 +39,29 @@ namedMeans named.Nothing = none
 
 -- a node as it stands, with its children's words
 abbrev pub nodeReply : List ℕ → NodeAnswer → Reply Node
-nodeReply ks (node.Is v) = value (nodeMeans ks v)
+nodeReply ks (node.Known i k z) = value (nodes.Root (nodes.Known (i .0) (kindMeans ks k)) z)
+nodeReply ks (node.Unknown p z) = value (nodes.Root (nodes.Unknown p) z)
+nodeReply ks (node.InferenceFailed z) = value (nodes.Root nodes.InferenceFailed z)
+nodeReply ks (node.Child t) = value (nodes.Child (tyOf (t .0)))
 nodeReply ks (node.Refused n) = refusal n
 
--- the node that is answered may stand in a store with c children made: its own lie among them, and names that its kind does not have are zeros
+-- the kind that is answered may stand in a store with c children made: its own lie among them, and names that it does not have are zeros
 abbrev pub nodeAnswerFits : List ℕ → ℕ → NodeAnswer → Bool
-nodeAnswerFits ks c (node.Is v) = nodeFits ks c v
+nodeAnswerFits ks c (node.Known i k z) = kindFits ks c k
+nodeAnswerFits ks c (node.Unknown p z) = true
+nodeAnswerFits ks c (node.InferenceFailed z) = true
+nodeAnswerFits ks c (node.Child t) = true
 nodeAnswerFits ks c (node.Refused n) = true
 
--- `node`: the call's outcome o is its reply with the store in h ws ks, and the node fits that store
+-- a node that was read, as it is answered: it fits as the node does, and means the same
+pub record Answers (v : TypeNode) (r : NodeAnswer) : Type 0 where
+  pub fits : (ks : List ℕ) (c : ℕ) → nodeAnswerFits ks c r ≡ nodeFits ks c v
+  pub means : (ks : List ℕ) → nodeReply ks r ≡ value (nodeMeans ks v)
+
+-- `node`: the call's outcome o is its reply with the store in h ws ks, and the kind in the answer fits that store
 pub record NodePromised (o : Outcome Node) (r : NodeAnswer) (h ws ks : List ℕ) : Type 0 where
-  pub outcome : o ≡ outcomeBy (nodeReply ks r) (storeIn h ws ks)
   pub fits : nodeAnswerFits ks (childrenMade h) r ≡ true
+  pub outcome : o ≡ outcomeBy (nodeReply ks r) (storeIn h ws ks)
 
 abbrev pub childReply : ChildAnswer → Reply (Option Ty)
 childReply (child.Is t) = value (some (tyOf (t .0)))

@@ -10,7 +10,7 @@ ghost use Rattle.layout.specs.Words.{slots, lentOf, storeIn};
 ghost use Rattle.layout.specs.Meaning.{kindMeans, nodeMeans};
 ghost use Rattle.sound.specs.Tests.{envIn};
 ghost use Rattle.promise.specs.Promise.{outcomeBy};
-ghost use Rattle.call_read.specs.Replies.{kidMeans, namedMeans, NodePromised, childReply, nameReply, figuresReply};
+ghost use Rattle.call_read.specs.Replies.{kidMeans, namedMeans, Answers, NodePromised, childReply, nameReply, figuresReply};
 use chart::Beside;
 use kinds::CHILD_NAMES;
 use kinds::OWN_NAME;
@@ -21,7 +21,12 @@ use layout::TypeNode;
 use layout::TypeState;
 use names::Name;
 use promise::refusal_at;
+<<<<<<< HEAD
 use refusals::NO_REFUSAL;
+=======
+use refusals::NO_REFUSAL;
+use types::Inverted;
+>>>>>>> calls9
 use types::Type;
 
 // A child, if there is one.
@@ -36,9 +41,14 @@ pub enum Named {
     Nothing,
 }
 
-// A node as it stands, or a refusal's number.
+// A node as it stands, or a refusal's number. A root's last number is the size of its tree.
 pub enum NodeAnswer {
-    Is(TypeNode),
+    Known(Inverted, Kind, u32),
+    // The span, and the size.
+    Unknown(u32, u32),
+    InferenceFailed(u32),
+    // The parent.
+    Child(Type),
     Refused(u32),
 }
 
@@ -144,6 +154,20 @@ pub fn name_of_node(ks: &[u32], node: TypeNode, j: u32) -> Named
     }
 }
 
+// A node that was read, as it is answered.
+fn answer(node: TypeNode) -> NodeAnswer
+    ensures { λ r. ⌜ Answers node r ⌝ }
+{
+    match node {
+        TypeNode::Root { state, size } => match state {
+            TypeState::Known(i, kind) => NodeAnswer::Known(i, kind, size),
+            TypeState::Unknown(span) => NodeAnswer::Unknown(span, size),
+            TypeState::InferenceFailed => NodeAnswer::InferenceFailed(size),
+        },
+        TypeNode::Child(parent) => NodeAnswer::Child(parent),
+    }
+}
+
 // A type's node as it stands, be it a root or a child.
 pub fn node<'a>(
     chart: &[u32],
@@ -164,7 +188,7 @@ pub fn node<'a>(
         return NodeAnswer::Refused(code);
     }
     let x = layout::read_header(h);
-    NodeAnswer::Is(layout::node_at(ws, x.nodes, t.idx()))
+    answer(layout::node_at(ws, x.nodes, t.idx()))
 }
 
 // Child j of a type's node, none past the end.
@@ -183,12 +207,14 @@ pub fn child<'a>(
         (envIn (now (chart .entry)) beside (now (rule .entry)) (now (text .entry))) (lentOf (now (h .entry)) (now (ws .entry)) (now (ks .entry))) (tyOf (t .0)) j
         ≡ outcomeBy (childReply r) (storeIn (now (h .entry)) (now (ws .entry)) (now (ks .entry))) ⌝ }
 {
-    match node(chart, beside, rule, text, h, ws, ks, t) {
-        NodeAnswer::Is(found) => match child_of_node(ks, found, j) {
-            Kid::Is(kid) => ChildAnswer::Is(kid),
-            Kid::Nothing => ChildAnswer::Nothing,
-        },
-        NodeAnswer::Refused(code) => ChildAnswer::Refused(code),
+    let code = refusal_at(chart, beside, rule, text, h, ws, ks, t);
+    if code != NO_REFUSAL {
+        return ChildAnswer::Refused(code);
+    }
+    let x = layout::read_header(h);
+    match child_of_node(ks, layout::node_at(ws, x.nodes, t.idx()), j) {
+        Kid::Is(kid) => ChildAnswer::Is(kid),
+        Kid::Nothing => ChildAnswer::Nothing,
     }
 }
 
@@ -208,12 +234,14 @@ pub fn child_name<'a>(
         (envIn (now (chart .entry)) beside (now (rule .entry)) (now (text .entry))) (lentOf (now (h .entry)) (now (ws .entry)) (now (ks .entry))) (tyOf (t .0)) j
         ≡ outcomeBy (nameReply r) (storeIn (now (h .entry)) (now (ws .entry)) (now (ks .entry))) ⌝ }
 {
-    match node(chart, beside, rule, text, h, ws, ks, t) {
-        NodeAnswer::Is(found) => match name_of_node(ks, found, j) {
-            Named::Is(name) => NameAnswer::Is(name),
-            Named::Nothing => NameAnswer::Nothing,
-        },
-        NodeAnswer::Refused(code) => NameAnswer::Refused(code),
+    let code = refusal_at(chart, beside, rule, text, h, ws, ks, t);
+    if code != NO_REFUSAL {
+        return NameAnswer::Refused(code);
+    }
+    let x = layout::read_header(h);
+    match name_of_node(ks, layout::node_at(ws, x.nodes, t.idx()), j) {
+        Named::Is(name) => NameAnswer::Is(name),
+        Named::Nothing => NameAnswer::Nothing,
     }
 }
 

@@ -6,12 +6,9 @@ use call_read::FiguresAnswer;
 use call_read::NameAnswer;
 use call_read::NodeAnswer;
 use call_unify::UnifyAnswer;
-use force::Forced;
 use layout::Header;
 use layout::Kind;
 use layout::Remembered;
-use layout::TypeNode;
-use layout::TypeState;
 use names::Name;
 use promise::BoolAnswer;
 use promise::DoneAnswer;
@@ -207,60 +204,59 @@ fn kind<'a>(ks: &[u32], k: Kind, rule: &'a [u8], text: &'a [u8]) {
     children(ks, k, rule, text);
 }
 
-fn state<'a>(ks: &[u32], s: TypeState, rule: &'a [u8], text: &'a [u8]) {
-    match s {
-        TypeState::Known(i, k) => {
-            say(b"known ");
-            inverse(i);
-            kind(ks, k, rule, text);
-        }
-        TypeState::Unknown(span) => {
-            say(b"unknown ");
-            number(span);
-        }
-        TypeState::InferenceFailed => say(b"failed"),
-    }
+fn root(size: u32) {
+    say(b"root ");
+    number(size);
+    say(b" ");
 }
 
-fn node<'a>(ks: &[u32], v: TypeNode, rule: &'a [u8], text: &'a [u8]) {
-    match v {
-        TypeNode::Root { state: s, size } => {
-            say(b"root ");
-            number(size);
-            say(b" ");
-            state(ks, s, rule, text);
-        }
-        TypeNode::Child(t) => {
-            say(b"child ");
-            typ(t);
-        }
-    }
-    line();
+fn known<'a>(ks: &[u32], i: Inverted, k: Kind, rule: &'a [u8], text: &'a [u8]) {
+    say(b"known ");
+    inverse(i);
+    kind(ks, k, rule, text);
 }
 
 pub(crate) fn node_answer<'a>(a: NodeAnswer, ks: &[u32], rule: &'a [u8], text: &'a [u8]) {
     match a {
-        NodeAnswer::Is(v) => node(ks, v, rule, text),
+        NodeAnswer::Known(i, k, size) => {
+            root(size);
+            known(ks, i, k, rule, text);
+            line();
+        }
+        NodeAnswer::Unknown(span, size) => {
+            root(size);
+            say(b"unknown ");
+            number(span);
+            line();
+        }
+        NodeAnswer::InferenceFailed(size) => {
+            root(size);
+            say(b"failed");
+            line();
+        }
+        NodeAnswer::Child(t) => {
+            say(b"child ");
+            typ(t);
+            line();
+        }
         NodeAnswer::Refused(n) => refused(n),
     }
 }
 
 pub(crate) fn forced_answer<'a>(a: ForcedAnswer, ks: &[u32], rule: &'a [u8], text: &'a [u8]) {
     match a {
-        ForcedAnswer::Is(f) => {
-            match f {
-                Forced::Known(i, k) => {
-                    say(b"known ");
-                    inverse(i);
-                    kind(ks, k, rule, text);
-                }
-                Forced::Reported(span) => {
-                    no_kind();
-                    say(b" reported ");
-                    number(span);
-                }
-                Forced::Failed => no_kind(),
-            }
+        ForcedAnswer::Known(i, k) => {
+            known(ks, i, k, rule, text);
+            line();
+        }
+        ForcedAnswer::Reported(span) => {
+            no_kind();
+            say(b" reported ");
+            number(span);
+            line();
+        }
+        ForcedAnswer::Failed => {
+            no_kind();
             line();
         }
         ForcedAnswer::Refused(n) => refused(n),

@@ -19,13 +19,16 @@ idx-requires : tie.Need-idx-requires
 idx-requires c κs = search needs
 
 node-at-requires : tie.Need-node-at-requires
-node-at-requires c κs =
-    read-clean (c .before .before .before .refusal-at .ensures) (c .before .before .if1 .left) (c .before .read-header .ensures) .room
+node-at-requires c κs = read-clean (c .before .before .before .refusal-at .ensures) (c .before .before .if1 .left) (c .before .read-header .ensures) .room
+
+answer-requires : tie.Need-answer-requires
+answer-requires c κs = search needs
 
 returns-2 : tie.Need-returns-2
 returns-2 c =
-    node-found (c .before .before .before .before .refusal-at .ensures) (c .before .before .before .if1 .left) (c .before .before .read-header .ensures)
-    (c .node-at .ensures) (c .before .idx .ensures)
+    let test = c .before .before .before .before .before .refusal-at .ensures in
+    let head = c .before .before .before .read-header .ensures in
+    node-found test (c .before .before .before .before .if1 .left) head (c .before .before .idx .ensures) (c .before .node-at .ensures) (c .answer .ensures)
 
 pub node-spec : {M : Type 1} → statement M
 node-spec =
@@ -36,4 +39,5 @@ node-spec =
     read-header-requires
     idx-requires
     node-at-requires
+    answer-requires
     returns-2)
