@@ -6,14 +6,14 @@ use Prim.Native.Nat.{ℕ, _+_, min}
 use lib.ListN.{length, take, drop}
 
 -- what a buffer holds once bytes are written at its front: as many as there is room for, the rest as found
-unfoldable pub pageAfter : List ℕ → List ℕ → List ℕ
-pageAfter buf bs = take (length buf) (bs ++ drop (length bs) buf)
+unfoldable pub filled : List ℕ → List ℕ → List ℕ
+filled buf bs = take (length buf) (bs ++ drop (length bs) buf)
 
 -- the text so far is bs: buf₀ was lent, buf is what it holds now, and at is the text's length, or one more than the buffer's where the text did not fit
-pub record Page (buf₀ buf : List ℕ) (at : ℕ) (bs : List ℕ) : Type 0 where
-  pub page : buf ≡ pageAfter buf₀ bs
+pub record SoFar (buf₀ buf : List ℕ) (at : ℕ) (bs : List ℕ) : Type 0 where
+  pub holds : buf ≡ filled buf₀ bs
   pub place : at ≡ min (length bs) (length buf₀ + 1)
 
 -- a piece is appended to whatever the text was; the buffer and the place become buf′ and r
 pub record Appended (buf : List ℕ) (at : ℕ) (buf′ : List ℕ) (r : ℕ) (piece : List ℕ) : Type 0 where
-  pub keeps : (buf₀ bs : List ℕ) → Page buf₀ buf at bs → Page buf₀ buf′ r (bs ++ piece)
+  pub keeps : (buf₀ bs : List ℕ) → SoFar buf₀ buf at bs → SoFar buf₀ buf′ r (bs ++ piece)
