@@ -1,6 +1,7 @@
 // Bytes appended to a text in a lent buffer. A place above the buffer's length says that the text did not fit; a full buffer is left alone, so
 // pieces may follow one another without a test between them.
 ghost use mathlib.Core.Path.{_≡_};
+ghost use mathlib.Core.List.{[], _∷_};
 ghost use Prim.Native.Nat.{_+_, _<_};
 ghost use lib.Dec.{ltb};
 ghost use lib.ListN.{length};
@@ -28,6 +29,12 @@ pub fn put(buf: &mut [u8], at: usize, piece: &[u8]) -> usize
     }
     bytes::copy(piece, &mut buf[at..]);
     at + piece.len()
+}
+
+pub fn put_byte(buf: &mut [u8], at: usize, b: u8) -> usize
+    ensures { λ r. ⌜ Appended (now (buf .entry)) at (now (buf .exit)) r (b ∷ []) ⌝ }
+{
+    put(buf, at, &[b])
 }
 
 // "Node numbers are decimal": the digits are found from the last to the first, ten at most.
