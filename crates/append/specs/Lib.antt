@@ -1,1 +1,1 @@
-pub mod Page
+pub mod Appended

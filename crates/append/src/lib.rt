@@ -1,10 +1,12 @@
-// Bytes appended to a text in a lent buffer. A place above the buffer's length says that the text did not fit; a full buffer is left alone, so pieces may follow one another without a test between them.
+// Bytes appended to a text in a lent buffer. A place above the buffer's length says that the text did not fit; a full buffer is left alone, so
+// pieces may follow one another without a test between them.
 ghost use mathlib.Core.Path.{_≡_};
+ghost use mathlib.Core.List.{[], _∷_};
 ghost use Prim.Native.Nat.{_+_, _<_};
 ghost use lib.Dec.{ltb};
 ghost use lib.ListN.{length};
 ghost use Rattle.scope.specs.Show.{decimal};
-ghost use Rattle.append.specs.Page.{Appended};
+ghost use Rattle.append.specs.Appended.{Appended};
 
 // The text did not fit.
 pub fn is_full(buf: &[u8], at: usize) -> bool
@@ -20,17 +22,19 @@ pub fn put(buf: &mut [u8], at: usize, piece: &[u8]) -> usize
     if is_full(buf, at) {
         return at;
     }
-    let mut p = at;
-    let mut i: usize = 0;
-    while i < piece.len() {
-        if p == buf.len() {
-            return buf.len() + 1;
-        }
-        buf[p] = piece[i];
-        p += 1;
-        i += 1;
+    let room = buf.len() - at;
+    if room < piece.len() {
+        bytes::copy(&piece[..room], &mut buf[at..]);
+        return buf.len() + 1;
     }
-    p
+    bytes::copy(piece, &mut buf[at..]);
+    at + piece.len()
+}
+
+pub fn put_byte(buf: &mut [u8], at: usize, b: u8) -> usize
+    ensures { λ r. ⌜ Appended (now (buf .entry)) at (now (buf .exit)) r (b ∷ []) ⌝ }
+{
+    put(buf, at, &[b])
 }
 
 // "Node numbers are decimal": the digits are found from the last to the first, ten at most.

@@ -1,290 +1,102 @@
--- A kind's pieces, written out, are its level: by the fifteen codes. Items with commas between them are written one after another, each with what
--- stands before it. Assumes nothing.
+-- A kind's pieces, written out, are its level: by the fifteen codes, each of which says what stands before, between and after its children.
+-- Assumes nothing.
 use mathlib.Core.Path.{_≡_, refl, sym, ap, _∙_}
 use mathlib.Core.Bool.{Bool, true, false, not}
-use mathlib.Core.Option.{none}
-use mathlib.Core.List.{List, [], _∷_, _++_, map, append-assoc, append-nil}
-use Prim.Native.Nat.{ℕ, zero, suc, _+_, _-_, _≤_, _<_}
-use native.Mathlib.Nat.{add-zero, zero-add}
-use native.Mathlib.Numerals.{add-one}
+use mathlib.Core.List.{List, [], _∷_, _++_, append-assoc, append-nil}
+use Prim.Native.Nat.{ℕ, zero, suc, _+_, _-_, _<_}
 use native.Mathlib.Omega.{arith}
-use borrow.Author.Tests.{eq-eqb, ne-eqb, lt-ltb, le-ltb}
-use lib.Dec.{eqb, ltb}
-use lib.ListN.{length, length-map}
-use Rattle.scope.specs.Base.{pick, from, front, last}
+use borrow.Author.Tests.{eq-eqb, ne-eqb, le-ltb}
+use lib.Dec.{eqb}
+use Rattle.scope.specs.Base.{pick}
 use Rattle.scope.specs.Text.{text}
-use Rattle.scope.specs.Names.{Texts, name, bytes, bytesOr}
-use Rattle.scope.specs.Chart.{Env, recordAt, sigilAt}
-use Rattle.scope.specs.Types.{Ty, flip, tyOf}
-use Rattle.scope.specs.Kinds.{Head, rowOf, rows, selfDual}
-use Rattle.scope.specs.Sound.{nameIn, slotName}
-use Rattle.scope.specs.Show.{Piece, fixed, sub, render, decimal, joined, knownPieces, commas, params, tuple, object, entries, signature, ifConst, defined-name, kindPieces, nameOrDots}
-use Rattle.layout.specs.Words.{slotAt, slots}
+use Rattle.scope.specs.Names.{bytes}
+use Rattle.scope.specs.Chart.{Env, recordAt, sigilAt, TRAIT-FN-SORT}
+use Rattle.scope.specs.Types.{Ty, tyOf}
+use Rattle.scope.specs.Kinds.{PARAM, TUPLE, OBJECT, OPAQUE, STRUCT, ENUM, UNION, FN, CLOSURE, REF, KEY, IF-CONST, NEVER, DEFAULT, ERROR, rowOf, rows, selfDual}
+use Rattle.scope.specs.Show.{Piece, fixed, render, decimal, knownPieces, commas, defined-name, kindPieces}
+use Rattle.layout.specs.Words.{slotAt}
 use Rattle.layout.specs.Meaning.{kindMeans}
 use Rattle.layout.specs.declared.Kind.{Kind}
-use Rattle.layout.proofs.CleanLaws.{front-slots}
-use Rattle.layout.proofs.ChildLaws.{length-slots}
-use Rattle.show.specs.Level.{children, comma, label, gapOf, kidOf, shownOf, leadOf, closeOf, fixedOf, dualOf, levelOf}
+use Rattle.show_names.specs.Names.{comma, entryText, definedText}
+use Rattle.show_parts.specs.Parts.{gapOf, leadOf, closeOf, fixedOf, dualOf}
+use Rattle.show.specs.Level.{children, kidOf, shownOf, levelOf}
+use Rattle.show.proofs.Runs.{tys, kid, commas-run, params-run, tuple-run, object-run, signature-run, if-const-run, own-bytes}
 
-pub render-append : (g : Ty → List ℕ) (ps qs : List Piece) → render g (ps ++ qs) ≡ render g ps ++ render g qs
-unfolding render
-render-append g [] qs = refl
-render-append g (fixed bs ∷ ps) qs = rw (append-assoc, render-append g ps qs)
-render-append g (sub t ∷ ps) qs = rw (append-assoc, render-append g ps qs)
+-- the pieces, written out, are the level
+abbrev Levelled : (Ty → List ℕ) → Env → (Ty → Bool) → List ℕ → Bool → Kind → Type 0
+Levelled g e nil ks i k =
+    render g (kindPieces e nil i (kindMeans ks k))
+    ≡ leadOf e k ++ children (gapOf (e .texts) ks k) (λ j. g (kidOf ks k i j)) (closeOf k (shownOf nil ks k)) (shownOf nil ks k) 0
 
-pub suc-zero : (m : ℕ) → eqb (suc m) 0 ≡ false
-suc-zero m = ne-eqb (suc m) 0 (λ h. omega arith)
-
-pub comma-suc : (m : ℕ) → comma (suc m) ≡ text ", "
-comma-suc m = rw (suc-zero m)
-
-pub map-map : {A B C : Type 0} (f : B → C) (h : A → B) (l : List A) → map f (map h l) ≡ map (λ x. f (h x)) l
-map-map f h [] = refl
-map-map f h (x ∷ l) = rw (map-map f h l)
-
--- the last child apart
-children-last : (gap item : ℕ → List ℕ) (close : List ℕ) (n j : ℕ) → children gap item close (suc n) j ≡ children gap item (gap (j + n) ++ (item (j + n) ++ close)) n j
-unfolding children
-children-last gap item close zero j = rw add-zero
-children-last gap item close (suc n) j =
-    let s : j + suc n ≡ suc j + n = omega arith in
-    ap (λ (z : List ℕ). gap j ++ (item j ++ z)) (children-last gap item close n (suc j) ∙ rw s)
-
--- a run of items, each at its place
-module _ (g : Ty → List ℕ) (F : ℕ → List Piece) (gap item : ℕ → List ℕ) (close : List ℕ) (a N : ℕ)
-    (more : (m : ℕ) → suc m < N → text ", " ++ render g (F (a + suc m)) ≡ gap (suc m) ++ item (suc m)) where
-  -- after the first
-  joined-more : (n j : ℕ) → suc j + n ≤ N → render g (joined (F (a + j) ∷ map F (from (a + suc j) n))) ++ close ≡ render g (F (a + j)) ++ children gap item close n (suc j)
-  unfolding joined children render
-  joined-more zero j h = refl
-  joined-more (suc n) j h =
-      let s : suc (a + suc j) ≡ a + suc (suc j) = omega arith in
-      let rest : List Piece = joined (F (a + suc j) ∷ map F (from (a + suc (suc j)) n)) in
-      let ih : render g rest ++ close ≡ render g (F (a + suc j)) ++ children gap item close n (suc (suc j)) = joined-more n (suc j) (omega arith) in
-      ap (λ (z : ℕ). render g (joined (F (a + j) ∷ F (a + suc j) ∷ map F (from z n))) ++ close) s
-      ∙ ap (λ (z : List ℕ). z ++ close) (render-append g (F (a + j)) (fixed (text ", ") ∷ rest))
-      ∙ append-assoc (render g (F (a + j))) (text ", " ++ render g rest) close
-      ∙ ap (λ (z : List ℕ). render g (F (a + j)) ++ z)
-      (append-assoc (text ", ") (render g rest) close
-      ∙ ap (λ (z : List ℕ). text ", " ++ z) ih
-      ∙ sym (append-assoc (text ", ") (render g (F (a + suc j))) (children gap item close n (suc (suc j))))
-      ∙ ap (λ (z : List ℕ). z ++ children gap item close n (suc (suc j))) (more j (omega arith))
-      ∙ append-assoc (gap (suc j)) (item (suc j)) (children gap item close n (suc (suc j))))
-
-  joined-run : (n : ℕ) → n ≤ N → (0 < N → render g (F (a + 0)) ≡ gap 0 ++ item 0) → render g (joined (map F (from a n))) ++ close ≡ children gap item close n 0
-  unfolding joined children render
-  joined-run zero h first = refl
-  joined-run (suc n) h first =
-      let z : a ≡ a + 0 = omega arith in
-      let s : suc a ≡ a + 1 = omega arith in
-      ap (λ (y : ℕ). render g (joined (F y ∷ map F (from (suc a) n))) ++ close) z
-      ∙ ap (λ (y : ℕ). render g (joined (F (a + 0) ∷ map F (from y n))) ++ close) s
-      ∙ joined-more n 0 (omega arith)
-      ∙ ap (λ (y : List ℕ). y ++ children gap item close n 1) (first (omega arith))
-      ∙ append-assoc (gap 0) (item 0) (children gap item close n 1)
-
--- children of a kind, from their place a on
-module _ (g : Ty → List ℕ) (x : Texts) (i : Bool) (ks : List ℕ) (a : ℕ) where
-  abbrev kid : ℕ → List ℕ
-  kid j = g (flip i (tyOf (slotAt ks (a + j) .type)))
-
-  abbrev tys : ℕ → List Ty
-  tys n = map (λ s. tyOf (s .type)) (slots ks a n)
-
-  module _ (gap : ℕ → List ℕ) (plain : (j : ℕ) → gap j ≡ comma j) where
-    commas-run : (close : List ℕ) (n : ℕ) → render g (commas i (tys n)) ++ close ≡ children gap kid close n 0
-    unfolding render
-    commas-run close n =
-        let F : ℕ → List Piece = λ m. sub (flip i (tyOf (slotAt ks m .type))) ∷ [] in
-        let e : map (λ t. sub (flip i t) ∷ []) (tys n) ≡ map F (from a n) = rw (map-map, map-map) in
-        rw e (joined-run g F gap kid close a n (λ m h. rw (append-nil, plain (suc m), comma-suc m)) n (omega arith) (λ h. rw (append-nil, plain 0)))
-
-    params-run : (n : ℕ) → render g (params i (tys n)) ≡ pick (eqb n 0) [] (text "[") ++ children gap kid (pick (eqb n 0) [] (text "]")) n 0
-    unfolding render children
-    params-run zero = refl
-    params-run (suc n) =
-        rw (suc-zero n)
-        (ap (λ (z : List ℕ). text "[" ++ z) (render-append g (commas i (tys (suc n))) (fixed (text "]") ∷ []) ∙ commas-run (text "]") (suc n)))
-
-    tuple-run : (n : ℕ) → render g (tuple i (tys n)) ≡ text "(" ++ children gap kid (pick (eqb n 1) (text ",)") (text ")")) n 0
-    unfolding render
-    tuple-run n =
-        let l : length (tys n) ≡ n = length-map (slots ks a n) (λ s. tyOf (s .type)) ∙ length-slots ks a n in
-        ap (λ (z : List ℕ). text "(" ++ z)
-        (render-append g (commas i (tys n)) (fixed (pick (eqb (length (tys n)) 1) (text ",)") (text ")")) ∷ []) ∙ rw (append-nil, l) (commas-run (pick (eqb n 1) (text ",)") (text ")")) n))
-
-  entries-map : (b n : ℕ)
-      → entries x i (map slotName (slots ks b n)) (map (λ s. tyOf (s .type)) (slots ks b n))
-      ≡ map (λ m. fixed (nameOrDots x (slotName (slotAt ks m))) ∷ fixed (text ": ") ∷ sub (flip i (tyOf (slotAt ks m .type))) ∷ []) (from b n)
-  unfolding entries
-  entries-map b zero = refl
-  entries-map b (suc n) = rw (entries-map (suc b) n)
-
-  module _ (gap : ℕ → List ℕ) (N : ℕ) (named : (j : ℕ) → j < N → gap j ≡ comma j ++ label x (slotAt ks (a + j))) where
-    entries-run : (close : List ℕ) (n : ℕ) → n ≤ N → render g (joined (entries x i (map slotName (slots ks a n)) (tys n))) ++ close ≡ children gap kid close n 0
-    unfolding render
-    entries-run close n h =
-        let E : ℕ → List Piece = λ m. fixed (nameOrDots x (slotName (slotAt ks m))) ∷ fixed (text ": ") ∷ sub (flip i (tyOf (slotAt ks m .type))) ∷ [] in
-        rw (entries-map a n)
-        (joined-run g E gap kid close a N
-        (λ m h. rw (append-nil, named (suc m) h, comma-suc m) (ap (λ (z : List ℕ). text ", " ++ z) (sym (append-assoc (nameOrDots x (slotName (slotAt ks (a + suc m)))) (text ": ") (kid (suc m))))))
-        n h (λ h. rw (append-nil, named 0 h) (sym (append-assoc (nameOrDots x (slotName (slotAt ks (a + 0)))) (text ": ") (kid 0)))))
-
-    object-run : (n : ℕ) → n ≤ N → render g (object x i (map slotName (slots ks a n)) (tys n)) ≡ pick (eqb n 0) (text "{}") (text "{ ") ++ children gap kid (pick (eqb n 0) [] (text " }")) n 0
-    unfolding render children
-    object-run zero h = refl
-    object-run (suc n) h =
-        rw (suc-zero n)
-        (ap (λ (z : List ℕ). text "{ " ++ z)
-        (render-append g (joined (entries x i (map slotName (slots ks a (suc n))) (tys (suc n)))) (fixed (text " }") ∷ []) ∙ entries-run (text " }") (suc n) h))
-
-front-run : (ks : List ℕ) (b n : ℕ) → front (map (λ s. tyOf (s .type)) (slots ks b (suc n))) ≡ map (λ s. tyOf (s .type)) (slots ks b n)
-front-run ks b zero = refl
-front-run ks b (suc n) = ap (λ (z : List Ty). tyOf (slotAt ks b .type) ∷ z) (front-run ks (suc b) n)
-
-last-run : (ks : List ℕ) (b n : ℕ) → last (map (λ s. tyOf (s .type)) (slots ks b (suc n))) ≡ tyOf (slotAt ks (b + n) .type) ∷ []
-last-run ks b zero = rw (add-zero b)
-last-run ks b (suc n) =
-    let s : b + suc n ≡ suc b + n = omega arith in
-    last-run ks (suc b) n ∙ rw s
-
--- a signature: its parameters, then its return unless that is nil
-module _ (g : Ty → List ℕ) (x : Texts) (nil : Ty → Bool) (ks : List ℕ) (a : ℕ) (gap : ℕ → List ℕ) where
-  signature-bare : render g (signature x nil (map slotName (front (slots ks a 0))) (tys g x false ks a 0)) ≡ text "()"
-  unfolding render joined entries
-  signature-bare = refl
-
-  module _ (n : ℕ) (named : (j : ℕ) → j < n → gap j ≡ comma j ++ label x (slotAt ks (a + j))) (ret : gap n ≡ text ") -> ") where
-    abbrev written : List ℕ
-    written = render g (signature x nil (map slotName (front (slots ks a (suc n)))) (tys g x false ks a (suc n)))
-
-    abbrev listed : List Piece
-    listed = joined (entries x false (map slotName (slots ks a n)) (tys g x false ks a n))
-
-    signature-nil : nil (tyOf (slotAt ks (a + n) .type)) ≡ true → written ≡ text "(" ++ children gap (kid g x false ks a) (text ")") n 0
-    unfolding render
-    signature-nil h =
-        rw (front-slots ks a n, front-run ks a n, last-run ks a n, h)
-        (ap (λ (z : List ℕ). text "(" ++ z) (render-append g listed (fixed (text ")") ∷ []) ∙ entries-run g x false ks a gap n named (text ")") n (omega arith)))
-
-    signature-ret : nil (tyOf (slotAt ks (a + n) .type)) ≡ false → written ≡ text "(" ++ children gap (kid g x false ks a) [] (suc n) 0
-    unfolding render
-    signature-ret h =
-        let close : List ℕ = text ") -> " ++ (kid g x false ks a n ++ []) in
-        rw (front-slots ks a n, front-run ks a n, last-run ks a n, h, children-last gap (kid g x false ks a) [] n 0, zero-add n, ret)
-        (ap (λ (z : List ℕ). text "(" ++ z)
-        (render-append g listed (fixed (text ")") ∷ fixed (text " -> ") ∷ sub (tyOf (slotAt ks (a + n) .type)) ∷ []) ∙ entries-run g x false ks a gap n named close n (omega arith)))
-
-  -- by the number of children; of the return b says whether it is nil
-  abbrev seen : Bool → ℕ → ℕ
-  seen b n = pick (eqb n 0) 0 (pick b (n - 1) n)
-
-  signature-run : (n : ℕ) → ((j : ℕ) → j + 1 < n → gap j ≡ comma j ++ label x (slotAt ks (a + j))) → ((j : ℕ) → j + 1 ≡ n → gap j ≡ text ") -> ")
-      → (b : Bool) → nil (tyOf (slotAt ks (a + (n - 1)) .type)) ≡ b
-      → render g (signature x nil (map slotName (front (slots ks a n))) (tys g x false ks a n))
-      ≡ text "(" ++ children gap (kid g x false ks a) (pick (ltb (seen b n) n) (text ")") (pick (eqb n 0) (text ")") [])) (seen b n) 0
-  unfolding children
-  signature-run zero named ret b h = signature-bare
-  signature-run (suc n) named ret true h =
-      let s : suc n - 1 ≡ n = omega arith in
-      let w : nil (tyOf (slotAt ks (a + n) .type)) ≡ true = rw s at h in
-      rw (suc-zero n, s, lt-ltb n (suc n) (omega arith)) (signature-nil n (λ j l. named j (omega arith)) (ret n (omega arith)) w)
-  signature-run (suc n) named ret false h =
-      let s : suc n - 1 ≡ n = omega arith in
-      let w : nil (tyOf (slotAt ks (a + n) .type)) ≡ false = rw s at h in
-      rw (suc-zero n, le-ltb (suc n) (suc n) (omega arith)) (signature-ret n (λ j l. named j (omega arith)) (ret n (omega arith)) w)
-
--- if const: one or both of two
-module _ (g : Ty → List ℕ) (e : Env) (nil : Ty → Bool) (i : Bool) (h : Head) (ks : List ℕ) (a : ℕ) (gap : ℕ → List ℕ) (first : gap 0 ≡ []) (second : gap 1 ≡ text " } else { ") (n : ℕ) where
-  abbrev path : List ℕ
-  path = bytes (e .texts) (recordAt e (h .number) .path)
-
-  if-const-one : nil (tyOf (slotAt ks (a + 1) .type)) ≡ true
-      → render g (ifConst e nil i h (tys g (e .texts) i ks a (suc (suc n)))) ≡ (text "if const " ++ (path ++ text " { ")) ++ children gap (kid g (e .texts) i ks a) (text " }") 1 0
-  unfolding render children
-  if-const-one w =
-      let s : suc a ≡ a + 1 = omega arith in
-      rw (s, w, first, append-assoc path, add-zero a)
-
-  if-const-two : nil (tyOf (slotAt ks (a + 1) .type)) ≡ false
-      → render g (ifConst e nil i h (tys g (e .texts) i ks a (suc (suc n)))) ≡ (text "if const " ++ (path ++ text " { ")) ++ children gap (kid g (e .texts) i ks a) (text " }") 2 0
-  unfolding render children
-  if-const-two w =
-      let s : suc a ≡ a + 1 = omega arith in
-      rw (s, w, first, second, append-assoc path, add-zero a)
-
-module _ (g : Ty → List ℕ) (e : Env) (nil : Ty → Bool) (i : Bool) (h : Head) (ks : List ℕ) (a : ℕ) (gap : ℕ → List ℕ) (first : gap 0 ≡ []) (second : gap 1 ≡ text " } else { ") where
-  if-const-run : (n : ℕ) (b : Bool) → nil (tyOf (slotAt ks (a + 1) .type)) ≡ b
-      → render g (ifConst e nil i h (tys g (e .texts) i ks a n))
-      ≡ pick (ltb n 2) [] (text "if const " ++ (bytes (e .texts) (recordAt e (h .number) .path) ++ text " { "))
-      ++ children gap (kid g (e .texts) i ks a) (pick (ltb n 2) [] (text " }")) (pick (ltb n 2) 0 (pick b 1 2)) 0
-  unfolding render children
-  if-const-run zero b w = refl
-  if-const-run (suc zero) b w = refl
-  if-const-run (suc (suc n)) true w = rw (le-ltb (suc (suc n)) 2 (omega arith)) (if-const-one g e nil i h ks a gap first second n w)
-  if-const-run (suc (suc n)) false w = rw (le-ltb (suc (suc n)) 2 (omega arith)) (if-const-two g e nil i h ks a gap first second n w)
-
--- the bytes of a kind's own name; a name of no length has none
-own-bytes : (x : Texts) (t s l : ℕ) → bytesOr x (nameIn t s l) ≡ bytes x (name t s l)
-unfolding bytes
-own-bytes x t s zero = refl
-own-bytes x t s (suc l) = rw (suc-zero l)
-
--- a kind's pieces, by its code
-module _ (g : Ty → List ℕ) (e : Env) (nil : Ty → Bool) (ks : List ℕ) (number : ℕ) (dual : Bool) (flex txt start len first count : ℕ) where
+-- a kind's pieces, by its code: k with the code c
+module _ (g : Ty → List ℕ) (e : Env) (nil : Ty → Bool) (ks : List ℕ) (k : Kind) where
   abbrev of-code : ℕ → Kind
-  of-code c = record { code = c; number = number; dual = dual; flex = flex; text = txt; start = start; len = len; first = first; count = count }
+  of-code c = record {
+    code = c;
+    number = k .number;
+    dual = k .dual;
+    flex = k .flex;
+    text = k .text;
+    start = k .start;
+    len = k .len;
+    first = k .first;
+    count = k .count;
+  }
 
-  abbrev Levelled : Bool → Kind → Type 0
-  Levelled i k =
-      render g (kindPieces e nil i (kindMeans ks k))
-      ≡ leadOf e k ++ children (gapOf (e .texts) ks k) (λ j. g (kidOf ks k i j)) (closeOf k (shownOf nil ks k)) (shownOf nil ks k) 0
+  abbrev gap : ℕ → ℕ → List ℕ
+  gap c = gapOf (e .texts) ks (of-code c)
 
-  level-param : (i : Bool) → Levelled i (of-code 0)
+  abbrev Level-of : Bool → ℕ → Type 0
+  Level-of i c = Levelled g e nil ks i (of-code c)
+
+  level-param : (i : Bool) → Level-of i PARAM
   unfolding kindPieces kindMeans leadOf closeOf shownOf rowOf rows render children
   level-param i = rw own-bytes
 
-  gap-tuple : (j : ℕ) → gapOf (e .texts) ks (of-code 1) j ≡ comma j
+  gap-tuple : (j : ℕ) → gap TUPLE j ≡ comma j
   unfolding gapOf
   gap-tuple j = refl
 
-  level-tuple : (i : Bool) → Levelled i (of-code 1)
-  unfolding kindPieces kindMeans leadOf closeOf shownOf rowOf rows
-  level-tuple i = tuple-run g (e .texts) i ks first (gapOf (e .texts) ks (of-code 1)) gap-tuple count
+  level-tuple : (i : Bool) → Level-of i TUPLE
+  unfolding kindPieces kindMeans leadOf fixedOf closeOf shownOf rowOf rows
+  level-tuple i = tuple-run g (e .texts) i ks (k .first) (gap TUPLE) gap-tuple (k .count)
 
-  gap-object : (j : ℕ) → j < count → gapOf (e .texts) ks (of-code 2) j ≡ comma j ++ label (e .texts) (slotAt ks (first + j))
+  gap-object : (j : ℕ) → j < k .count → gap OBJECT j ≡ entryText (e .texts) ks k j
   unfolding gapOf
   gap-object j h = refl
 
-  level-object : (i : Bool) → Levelled i (of-code 2)
-  unfolding kindPieces kindMeans leadOf closeOf shownOf rowOf rows
-  level-object i = object-run g (e .texts) i ks first (gapOf (e .texts) ks (of-code 2)) count gap-object count (omega arith)
+  level-object : (i : Bool) → Level-of i OBJECT
+  unfolding kindPieces kindMeans leadOf fixedOf closeOf shownOf rowOf rows
+  level-object i = object-run g (e .texts) i ks (k .first) (gap OBJECT) (k .count) gap-object (k .count) (omega arith)
 
-  gap-defined : (c : ℕ) → eqb c 2 ≡ false → eqb c 8 ≡ false → eqb c 11 ≡ false → (j : ℕ) → gapOf (e .texts) ks (of-code c) j ≡ comma j
+  gap-defined : (c : ℕ) → eqb c OBJECT ≡ false → eqb c CLOSURE ≡ false → eqb c IF-CONST ≡ false → (j : ℕ) → gap c j ≡ comma j
   unfolding gapOf
   gap-defined c p q r j = rw (p, q, r)
 
-  defined-run : (i : Bool) (c : ℕ) → eqb c 2 ≡ false → eqb c 8 ≡ false → eqb c 11 ≡ false
-      → render g (defined-name e i (kindMeans ks (of-code c) .head) (tys g (e .texts) i ks first count))
-      ≡ (bytes (e .texts) (recordAt e number .name) ++ pick (eqb count 0) [] (text "[")) ++ children (gapOf (e .texts) ks (of-code c)) (kid g (e .texts) i ks first) (pick (eqb count 0) [] (text "]")) count 0
+  defined-run : (i : Bool) (c : ℕ) → eqb c OBJECT ≡ false → eqb c CLOSURE ≡ false → eqb c IF-CONST ≡ false
+      → render g (defined-name e i (kindMeans ks (of-code c) .head) (tys g (e .texts) i ks (k .first) (k .count)))
+      ≡ definedText e k ++ children (gap c) (kid g (e .texts) i ks (k .first)) (pick (eqb (k .count) 0) [] (text "]")) (k .count) 0
   unfolding kindMeans render
-  defined-run i c p q r = rw append-assoc (ap (λ (z : List ℕ). bytes (e .texts) (recordAt e number .name) ++ z) (params-run g (e .texts) i ks first (gapOf (e .texts) ks (of-code c)) (gap-defined c p q r) count))
+  defined-run i c p q r =
+      rw append-assoc
+      (ap (λ (z : List ℕ). bytes (e .texts) (recordAt e (k .number) .name) ++ z)
+      (params-run g (e .texts) i ks (k .first) (gap c) (gap-defined c p q r) (k .count)))
 
-  level-opaque : (i : Bool) → Levelled i (of-code 3)
+  level-opaque : (i : Bool) → Level-of i OPAQUE
   unfolding kindPieces kindMeans leadOf closeOf shownOf
-  level-opaque i = defined-run i 3 refl refl refl
+  level-opaque i = defined-run i OPAQUE refl refl refl
 
-  level-struct : (i : Bool) → Levelled i (of-code 4)
+  level-struct : (i : Bool) → Level-of i STRUCT
   unfolding kindPieces kindMeans leadOf closeOf shownOf
-  level-struct i = defined-run i 4 refl refl refl
+  level-struct i = defined-run i STRUCT refl refl refl
 
-  level-enum : (i : Bool) → Levelled i (of-code 5)
+  level-enum : (i : Bool) → Level-of i ENUM
   unfolding kindPieces kindMeans leadOf closeOf shownOf
-  level-enum i = defined-run i 5 refl refl refl
+  level-enum i = defined-run i ENUM refl refl refl
 
-  level-union : (i : Bool) → Levelled i (of-code 6)
+  level-union : (i : Bool) → Level-of i UNION
   unfolding kindPieces kindMeans leadOf closeOf shownOf
-  level-union i = defined-run i 6 refl refl refl
+  level-union i = defined-run i UNION refl refl refl
 
   function-by : (b : Bool) (x y z u v : List ℕ)
       → render g (pick b (fixed x ∷ fixed y ∷ fixed z ∷ fixed u ∷ []) (fixed x ∷ fixed v ∷ [])) ≡ pick b (x ++ (y ++ (z ++ u))) (x ++ v) ++ []
@@ -292,82 +104,91 @@ module _ (g : Ty → List ℕ) (e : Env) (nil : Ty → Bool) (ks : List ℕ) (nu
   function-by true x y z u v = simp append-nil
   function-by false x y z u v = simp append-nil
 
-  level-fn : (i : Bool) → Levelled i (of-code 7)
+  level-fn : (i : Bool) → Level-of i FN
   unfolding kindPieces kindMeans leadOf closeOf shownOf render children
-  level-fn i = function-by (eqb (recordAt e number .sort) 7) _ _ _ _ _
+  level-fn i = function-by (eqb (recordAt e (k .number) .sort) TRAIT-FN-SORT) _ _ _ _ _
 
-  gap-parameter : (j : ℕ) → j + 1 < count → gapOf (e .texts) ks (of-code 8) j ≡ comma j ++ label (e .texts) (slotAt ks (first + j))
+  gap-parameter : (j : ℕ) → j + 1 < k .count → gap CLOSURE j ≡ entryText (e .texts) ks k j
   unfolding gapOf
-  gap-parameter j h = rw (ne-eqb (j + 1) count (λ w. omega arith))
+  gap-parameter j h = rw (ne-eqb (j + 1) (k .count) (λ w. omega arith))
 
-  gap-return : (j : ℕ) → j + 1 ≡ count → gapOf (e .texts) ks (of-code 8) j ≡ text ") -> "
+  gap-return : (j : ℕ) → j + 1 ≡ k .count → gap CLOSURE j ≡ text ") -> "
   unfolding gapOf
-  gap-return j h = rw (eq-eqb (j + 1) count h)
+  gap-return j h = rw (eq-eqb (j + 1) (k .count) h)
 
-  level-closure : Levelled false (of-code 8)
+  level-closure : Level-of false CLOSURE
   unfolding kindPieces kindMeans leadOf closeOf shownOf rowOf rows render
   level-closure =
-      let sigil : List ℕ = bytes (e .texts) (sigilAt e flex) in
-      let b : Bool = nil (tyOf (slotAt ks (first + (count - 1)) .type)) in
-      rw (signature-run g (e .texts) nil ks first (gapOf (e .texts) ks (of-code 8)) count gap-parameter gap-return b refl, append-assoc sigil, append-assoc (decimal number))
+      let sigil : List ℕ = bytes (e .texts) (sigilAt e (k .flex)) in
+      let b : Bool = nil (tyOf (slotAt ks (k .first + (k .count - 1)) .type)) in
+      rw (
+        signature-run g (e .texts) nil ks (k .first) (gap CLOSURE) (k .count) gap-parameter gap-return b refl,
+        append-assoc sigil,
+        append-assoc (decimal (k .number)),
+      )
 
-  level-ref : (i : Bool) → Levelled i (of-code 9)
-  unfolding kindPieces kindMeans leadOf closeOf shownOf render fixedOf
-  level-ref i = ap (λ (z : List ℕ). text "&" ++ z) (sym (append-nil (render g (commas i (tys g (e .texts) i ks first count)))) ∙ commas-run g (e .texts) i ks first (gapOf (e .texts) ks (of-code 9)) (gap-defined 9 refl refl refl) [] count)
+  level-ref : (i : Bool) → Level-of i REF
+  unfolding kindPieces kindMeans leadOf fixedOf closeOf shownOf render
+  level-ref i =
+      ap (λ (z : List ℕ). text "&" ++ z)
+      (sym (append-nil (render g (commas i (tys g (e .texts) i ks (k .first) (k .count)))))
+      ∙ commas-run g (e .texts) i ks (k .first) (gap REF) (gap-defined REF refl refl refl) [] (k .count))
 
-  level-key : (i : Bool) → Levelled i (of-code 10)
+  level-key : (i : Bool) → Level-of i KEY
   unfolding kindPieces kindMeans leadOf closeOf shownOf rowOf rows render children
   level-key i = rw own-bytes
 
-  gap-first : gapOf (e .texts) ks (of-code 11) 0 ≡ []
+  gap-first : gap IF-CONST 0 ≡ []
   unfolding gapOf
   gap-first = refl
 
-  gap-second : gapOf (e .texts) ks (of-code 11) 1 ≡ text " } else { "
+  gap-second : gap IF-CONST 1 ≡ text " } else { "
   unfolding gapOf
   gap-second = refl
 
-  level-if-const : (i : Bool) → Levelled i (of-code 11)
+  level-if-const : (i : Bool) → Level-of i IF-CONST
   unfolding kindPieces kindMeans leadOf closeOf shownOf
   level-if-const i =
-      if-const-run g e nil i (kindMeans ks (of-code 11) .head) ks first (gapOf (e .texts) ks (of-code 11)) gap-first gap-second count (nil (tyOf (slotAt ks (first + 1) .type))) refl
+      let second : Bool = nil (tyOf (slotAt ks (k .first + 1) .type)) in
+      if-const-run g e nil i (kindMeans ks (of-code IF-CONST) .head) ks (k .first) (gap IF-CONST) gap-first gap-second (k .count) second refl
 
-  level-never : (i : Bool) → Levelled i (of-code 12)
-  unfolding kindPieces kindMeans leadOf closeOf shownOf render children fixedOf
+  level-never : (i : Bool) → Level-of i NEVER
+  unfolding kindPieces kindMeans leadOf fixedOf closeOf shownOf render children
   level-never i = refl
 
-  level-default : (i : Bool) → Levelled i (of-code 13)
-  unfolding kindPieces kindMeans leadOf closeOf shownOf render children fixedOf
+  level-default : (i : Bool) → Level-of i DEFAULT
+  unfolding kindPieces kindMeans leadOf fixedOf closeOf shownOf render children
   level-default i = refl
 
-  level-error : (i : Bool) → Levelled i (of-code 14)
-  unfolding kindPieces kindMeans leadOf closeOf shownOf render children fixedOf
+  level-error : (i : Bool) → Level-of i ERROR
+  unfolding kindPieces kindMeans leadOf fixedOf closeOf shownOf render children
   level-error i = refl
 
   pieces-none : (i : Bool) (c : ℕ) → kindPieces e nil i (kindMeans ks (of-code (suc (suc (suc (suc (suc (suc (suc (suc (suc (suc (suc (suc (suc (suc (suc c))))))))))))))))) ≡ []
   unfolding kindPieces kindMeans
   pieces-none i c = refl
 
-  level-other : (i : Bool) (c : ℕ) → 15 ≤ c → kindPieces e nil i (kindMeans ks (of-code c)) ≡ [] → Levelled i (of-code c)
-  unfolding leadOf closeOf shownOf render children fixedOf
+  level-other : (i : Bool) (c : ℕ) → ERROR < c → kindPieces e nil i (kindMeans ks (of-code c)) ≡ [] → Level-of i c
+  unfolding leadOf fixedOf closeOf shownOf render children
   level-other i c h z = rw (
     z,
-    ne-eqb c 0 (λ w. omega arith),
-    ne-eqb c 1 (λ w. omega arith),
-    ne-eqb c 2 (λ w. omega arith),
-    le-ltb c 7 (omega arith),
-    ne-eqb c 7 (λ w. omega arith),
-    ne-eqb c 8 (λ w. omega arith),
-    ne-eqb c 10 (λ w. omega arith),
-    ne-eqb c 11 (λ w. omega arith),
-    ne-eqb c 9 (λ w. omega arith),
-    ne-eqb c 12 (λ w. omega arith),
-    ne-eqb c 13 (λ w. omega arith),
-    ne-eqb c 14 (λ w. omega arith),
+    ne-eqb c PARAM (λ w. omega arith),
+    le-ltb c OPAQUE (omega arith),
+    ne-eqb c TUPLE (λ w. omega arith),
+    ne-eqb c OBJECT (λ w. omega arith),
+    le-ltb c FN (omega arith),
+    ne-eqb c FN (λ w. omega arith),
+    ne-eqb c CLOSURE (λ w. omega arith),
+    ne-eqb c KEY (λ w. omega arith),
+    ne-eqb c IF-CONST (λ w. omega arith),
+    ne-eqb c REF (λ w. omega arith),
+    ne-eqb c NEVER (λ w. omega arith),
+    ne-eqb c DEFAULT (λ w. omega arith),
+    ne-eqb c ERROR (λ w. omega arith),
   )
 
   -- a Closure's children are never inverted
-  level-by : (i : Bool) (c : ℕ) → (c ≡ 8 → i ≡ false) → Levelled i (of-code c)
+  level-by : (i : Bool) (c : ℕ) → (c ≡ CLOSURE → i ≡ false) → Level-of i c
   level-by i zero f = level-param i
   level-by i (suc zero) f = level-tuple i
   level-by i (suc (suc zero)) f = level-object i
@@ -385,38 +206,27 @@ module _ (g : Ty → List ℕ) (e : Env) (nil : Ty → Bool) (ks : List ℕ) (nu
   level-by i (suc (suc (suc (suc (suc (suc (suc (suc (suc (suc (suc (suc (suc (suc zero)))))))))))))) f = level-error i
   level-by i (suc (suc (suc (suc (suc (suc (suc (suc (suc (suc (suc (suc (suc (suc (suc c))))))))))))))) f = level-other i _ (omega arith) (pieces-none i c)
 
-level-kind : (g : Ty → List ℕ) (e : Env) (nil : Ty → Bool) (ks : List ℕ) (i : Bool) (k : Kind) → (k .code ≡ 8 → i ≡ false)
-    → render g (kindPieces e nil i (kindMeans ks k)) ≡ leadOf e k ++ children (gapOf (e .texts) ks k) (λ j. g (kidOf ks k i j)) (closeOf k (shownOf nil ks k)) (shownOf nil ks k) 0
-level-kind g e nil ks i k f = level-by g e nil ks (k .number) (k .dual) (k .flex) (k .text) (k .start) (k .len) (k .first) (k .count) i (k .code) f
+level-kind : (g : Ty → List ℕ) (e : Env) (nil : Ty → Bool) (ks : List ℕ) (i : Bool) (k : Kind) → (k .code ≡ CLOSURE → i ≡ false) → Levelled g e nil ks i k
+level-kind g e nil ks i k f = level-by g e nil ks k i (k .code) f
 
-closure-plain : (k : Kind) → k .code ≡ 8 → dualOf k ≡ false
+closure-plain : (k : Kind) → k .code ≡ CLOSURE → dualOf k ≡ false
 unfolding rowOf rows
 closure-plain k h = rw h
 
 -- by whether the kind is self-dual
-turned-by : (g : Ty → List ℕ) (P : Bool → List Piece) (L : Bool → List ℕ) (d : Bool) → (d ≡ true → render g (P true) ≡ L true) → render g (P false) ≡ L false
+turned-by : (g : Ty → List ℕ) (P : Bool → List Piece) (L : Bool → List ℕ) (d : Bool)
+    → (d ≡ true → render g (P true) ≡ L true) → render g (P false) ≡ L false
     → render g (pick (not d) (fixed (text "~") ∷ P false) (P true)) ≡ pick (not d) (text "~") [] ++ L d
 unfolding render
 turned-by g P L true a b = a refl
 turned-by g P L false a b = ap (λ (z : List ℕ). text "~" ++ z) b
 
 -- one level's text is its pieces', written out
-pub level-is : (g : Ty → List ℕ) (e : Env) (nil : Ty → Bool) (ks : List ℕ) (i : Bool) (k : Kind) → render g (knownPieces e nil i (kindMeans ks k)) ≡ levelOf g e nil ks i k
+pub level-is : (g : Ty → List ℕ) (e : Env) (nil : Ty → Bool) (ks : List ℕ) (i : Bool) (k : Kind)
+    → render g (knownPieces e nil i (kindMeans ks k)) ≡ levelOf g e nil ks i k
 unfolding levelOf selfDual kindMeans
 level-is g e nil ks true k =
     turned-by g (λ b. kindPieces e nil b (kindMeans ks k))
     (λ b. leadOf e k ++ children (gapOf (e .texts) ks k) (λ j. g (kidOf ks k b j)) (closeOf k (shownOf nil ks k)) (shownOf nil ks k) 0)
     (dualOf k) (λ d. level-kind g e nil ks true k (λ h. sym d ∙ closure-plain k h)) (level-kind g e nil ks false k (λ h. refl))
 level-is g e nil ks false k = level-kind g e nil ks false k (λ h. refl)
-
-pub children-next : (gap item : ℕ → List ℕ) (close : List ℕ) (m j : ℕ) → j < m → children gap item close (m - j) j ≡ gap j ++ (item j ++ children gap item close (m - (j + 1)) (j + 1))
-unfolding children
-children-next gap item close m j h =
-    let s : m - j ≡ suc (m - (j + 1)) = omega arith in
-    rw (s, add-one j)
-
-pub children-end : (gap item : ℕ → List ℕ) (close : List ℕ) (m j : ℕ) → m ≤ j → children gap item close (m - j) j ≡ close
-unfolding children
-children-end gap item close m j h =
-    let s : m - j ≡ 0 = omega arith in
-    rw s

@@ -1,4 +1,5 @@
 -- The laws that belong to no one function
-pub mod Level
-pub mod Laws
-pub mod Turns
+mod Laws
+mod Runs
+mod Level
+mod Turns

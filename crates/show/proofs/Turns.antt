@@ -25,13 +25,16 @@ use Rattle.layout.proofs.Laws.{read-node}
 use Rattle.types.specs.declared.Inverted.{Inverted}
 use Rattle.roots.specs.Found.{Found}
 use Rattle.walk.specs.Asks.{Stands}
-use Rattle.append.specs.Page.{Appended}
-use Rattle.append.proofs.Laws.{page-none, page-then}
+use Rattle.append.specs.Appended.{Appended}
+use Rattle.append.proofs.Laws.{append-none, append-then}
 use Rattle.show.specs.declared.Held.{Held}
 use Rattle.show.specs.declared.Held.the-variants.{Is, Nothing}
-use Rattle.show.specs.Level.{children, gapOf, kidOf, shownOf, leadOf, closeOf, tildeOf, innerOf, levelOf, unknownText}
+use Rattle.show_names.specs.Names.{unknownText}
+use Rattle.show_parts.specs.Parts.{gapOf, leadOf, closeOf, tildeOf}
+use Rattle.show.specs.Level.{children, kidOf, shownOf, innerOf, levelOf}
 use Rattle.show.specs.Read.{heldIn}
-use Rattle.show.proofs.Level.{level-is, children-next, children-end}
+use Rattle.show.proofs.Level.{level-is}
+use Rattle.show.proofs.Runs.{children-next, children-end}
 
 -- before child j of m: what is left gives the whole
 pub record Turn (gap item : ℕ → List ℕ) (close : List ℕ) (m : ℕ) (buf₀ : List ℕ) (p₀ : ℕ) (buf : List ℕ) (p j : ℕ) : Type 0 where
@@ -45,15 +48,17 @@ module _ (gap item : ℕ → List ℕ) (close : List ℕ) (m : ℕ) where
       let z : m - 0 ≡ m = omega arith in
       record { within = omega arith; long = refl; goes = λ buf′ r a. rw z at a }
 
-  pub turn-next : {buf₀ buf buf₁ buf₂ : List ℕ} {p₀ p q r j : ℕ} → Turn gap item close m buf₀ p₀ buf p j → j < m → Appended buf p buf₁ q (gap j) → Appended buf₁ q buf₂ r (item j)
+  pub turn-next : {buf₀ buf buf₁ buf₂ : List ℕ} {p₀ p q r j : ℕ}
+      → Turn gap item close m buf₀ p₀ buf p j → j < m → Appended buf p buf₁ q (gap j) → Appended buf₁ q buf₂ r (item j)
       → length buf₂ ≡ length buf₀ → Turn gap item close m buf₀ p₀ buf₂ r (j + 1)
   turn-next {j = j} t h a b l = record {
     within = omega arith;
     long = l;
-    goes = λ buf′ s d. t .goes buf′ s (rw (children-next gap item close m j h) (page-then a (page-then b d)));
+    goes = λ buf′ s d. t .goes buf′ s (rw (children-next gap item close m j h) (append-then a (append-then b d)));
   }
 
-  pub turn-end : {buf₀ buf buf′ : List ℕ} {p₀ p r j : ℕ} → Turn gap item close m buf₀ p₀ buf p j → m ≤ j → Appended buf p buf′ r close → Appended buf₀ p₀ buf′ r (children gap item close m 0)
+  pub turn-end : {buf₀ buf buf′ : List ℕ} {p₀ p r j : ℕ}
+      → Turn gap item close m buf₀ p₀ buf p j → m ≤ j → Appended buf p buf′ r close → Appended buf₀ p₀ buf′ r (children gap item close m 0)
   turn-end {buf′ = buf′} {r = r} {j = j} t h a = t .goes buf′ r (rw (children-end gap item close m j h) a)
 
 -- a node by what the code reads of it
@@ -66,7 +71,8 @@ state-known ks (Root (Unknown s) z) i k e = let z : _≡_ {A = ℕ} 0 1 = cc in 
 state-known ks (Root InferenceFailed z) i k e = let z : _≡_ {A = ℕ} 0 1 = cc in absurd (omega arith)
 state-known ks (Child t) i k e = let z : _≡_ {A = ℕ} 0 1 = cc in absurd (omega arith)
 
-state-unknown : (g : Ty → List ℕ) (e : Env) (nil : Ty → Bool) (r : Ty) (ks : List ℕ) (v : TypeNode) → heldIn v ≡ Nothing → render g (statePieces e nil r (stateOf (nodeMeans ks v))) ≡ unknownText r
+state-unknown : (g : Ty → List ℕ) (e : Env) (nil : Ty → Bool) (r : Ty) (ks : List ℕ) (v : TypeNode)
+    → heldIn v ≡ Nothing → render g (statePieces e nil r (stateOf (nodeMeans ks v))) ≡ unknownText r
 unfolding render
 state-unknown g e nil r ks (Root (Known j m) z) h = let z : _≡_ {A = ℕ} 0 1 = cc in absurd (omega arith)
 state-unknown g e nil r ks (Root (Unknown s) z) h = rw append-nil
@@ -75,7 +81,7 @@ state-unknown g e nil r ks (Child t) h = rw append-nil
 
 pub show-shallow : (e : Env) (depth : ℕ) (ns : List Node) (t : Ty) (buf : List ℕ) (p : ℕ) → depth ≡ 0 → Appended buf p buf p (showF e depth ns t)
 unfolding showF
-show-shallow e depth ns t buf p h = rw h (page-none buf p)
+show-shallow e depth ns t buf p h = rw h (append-none buf p)
 
 one-level : (e : Env) (depth : ℕ) (ns : List Node) (t : Ty) → (depth ≡ 0 → ⊥) → showF e depth ns t ≡ render (showF e (depth - 1) ns) (pieces e ns t)
 unfolding showF
@@ -104,21 +110,28 @@ module _ {ws ks : List ℕ} {n : ℕ} (st : Stands ws ks n) (e : Env) (depth : �
         ∙ ap (λ (u : Ty). render (showF e (depth - 1) ns) (statePieces e (isNil ns) u (stateOf (nodeMeans ks (readAt ws n i))))) (sym (f .root ks))
         ∙ state-unknown (showF e (depth - 1) ns) e (isNil ns) (tyOf root) ks (readAt ws n i) (sym held ∙ h)
 
-    pub show-known : (inv : Inverted) (k : Kind) → q ≡ Is inv k → (b d : Bool) (m : ℕ) → b ≡ xor (inv .0) (tyOf root .inv) → d ≡ innerOf b k → m ≡ shownOf (isNil ns) ks k
-        → showF e depth ns (tyOf t)
-        ≡ tildeOf b k ++ (leadOf e k ++ children (gapOf (e .texts) ks k) (λ j. showF e (depth - 1) ns (kidOf ks k d j)) (closeOf k m) m 0)
+    -- what the code writes for a kind: b is whether it is inverted, d whether its children are, m how many are shown
+    abbrev written : Kind → Bool → Bool → ℕ → List ℕ
+    written k b d m =
+        tildeOf b k ++ (leadOf e k ++ children (gapOf (e .texts) ks k) (λ j. showF e (depth - 1) ns (kidOf ks k d j)) (closeOf k m) m 0)
+
+    pub show-known : (inv : Inverted) (k : Kind) → q ≡ Is inv k → (b d : Bool) (m : ℕ)
+        → b ≡ xor (inv .0) (tyOf root .inv) → d ≡ innerOf b k → m ≡ shownOf (isNil ns) ks k → showF e depth ns (tyOf t) ≡ written k b d m
     unfolding pieces levelOf
     show-known inv k h b d m eb ed em =
+        let below : Ty → List ℕ = showF e (depth - 1) ns in
+        let state = read-state ∙ state-known ks (readAt ws n i) inv k (sym held ∙ h) in
         show-step deep
-        ∙ ap (λ (s : State). render (showF e (depth - 1) ns) (statePieces e (isNil ns) (find ns (tyOf t)) s)) (read-state ∙ state-known ks (readAt ws n i) inv k (sym held ∙ h))
-        ∙ ap (λ (u : Ty). render (showF e (depth - 1) ns) (statePieces e (isNil ns) u (nodes.Known (inv .0) (kindMeans ks k)))) (sym (f .root ks))
-        ∙ level-is (showF e (depth - 1) ns) e (isNil ns) ks (xor (inv .0) (tyOf root .inv)) k
-        ∙ ap (λ (c : Bool). levelOf (showF e (depth - 1) ns) e (isNil ns) ks c k) (sym eb)
-        ∙ ap (λ (c : Bool). tildeOf b k ++ (leadOf e k ++ children (gapOf (e .texts) ks k) (λ j. showF e (depth - 1) ns (kidOf ks k c j)) (closeOf k (shownOf (isNil ns) ks k)) (shownOf (isNil ns) ks k) 0)) (sym ed)
-        ∙ ap (λ (c : ℕ). tildeOf b k ++ (leadOf e k ++ children (gapOf (e .texts) ks k) (λ j. showF e (depth - 1) ns (kidOf ks k d j)) (closeOf k c) c 0)) (sym em)
+        ∙ ap (λ (s : State). render below (statePieces e (isNil ns) (find ns (tyOf t)) s)) state
+        ∙ ap (λ (u : Ty). render below (statePieces e (isNil ns) u (nodes.Known (inv .0) (kindMeans ks k)))) (sym (f .root ks))
+        ∙ level-is below e (isNil ns) ks (xor (inv .0) (tyOf root .inv)) k
+        ∙ ap (λ (c : Bool). levelOf below e (isNil ns) ks c k) (sym eb)
+        ∙ ap (λ (c : Bool). written k b c (shownOf (isNil ns) ks k)) (sym ed)
+        ∙ ap (λ (c : ℕ). written k b d c) (sym em)
 
 -- child j, as it was read and inverted
 pub kid-shown : {buf buf′ : List ℕ} {p r : ℕ} (e : Env) (depth : ℕ) (ns : List Node) (ks : List ℕ) (k : Kind) (d : Bool) (j : ℕ) (s : Slot) (u : ℕ)
-    → tyOf u ≡ flip d (tyOf (s .ty .0)) → slotMeans s ≡ slotAt ks (k .first + j) → Appended buf p buf′ r (showF e depth ns (tyOf u)) → Appended buf p buf′ r (showF e depth ns (kidOf ks k d j))
+    → tyOf u ≡ flip d (tyOf (s .ty .0)) → slotMeans s ≡ slotAt ks (k .first + j) → Appended buf p buf′ r (showF e depth ns (tyOf u))
+    → Appended buf p buf′ r (showF e depth ns (kidOf ks k d j))
 kid-shown {buf} {buf′} {p} {r} e depth ns ks k d j s u a b h =
     subst (λ (t : Ty). Appended buf p buf′ r (showF e depth ns t)) (a ∙ ap (λ w. flip d (tyOf (w .type))) b) h

@@ -1,4 +1,4 @@
--- `page::put_decimal` meets its contract: before each turn the digits found and the decimals of what is left are the number's; what is left has at
+-- `append::put_decimal` meets its contract: before each turn the digits found and the decimals of what is left are the number's; what is left has at
 -- most one digit more than there are places before. The measure is what is left.
 -- Assumes nothing.
 use mathlib.Core.Path.{_≡_, refl, sym}
@@ -71,7 +71,9 @@ returns c =
     let l = c .before .before .before .before .before .before .before .before .loop in
     let d = c .before .before .before .before .before .before .digit2 in
     let n = c .before .before .before .before .before .before .before .before .before .before .args .n in
-    rw (laws.decimal-put n (l .m) (l .i) (l .digits) (d .result) (c .before .before .before .before .before .before .before .loop-test .left) (l .inv .0) (l .inv .1) (d .ensures) (l .inv .3)) (c .before .before .put .ensures)
+    let small = c .before .before .before .before .before .before .before .loop-test .left in
+    rw (laws.decimal-put n (l .m) (l .i) (l .digits) (d .result) small (l .inv .0) (l .inv .1) (d .ensures) (l .inv .3))
+    (c .before .before .put .ensures)
 
 pub put-decimal-spec : {M : Type 1} → statement M
 put-decimal-spec =

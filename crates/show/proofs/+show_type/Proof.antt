@@ -1,19 +1,19 @@
 -- `show::show_type` meets its contract. The measure is the depth. A kind is written child after child; the loop's invariant: what is left to write
 -- gives, appended, what the whole gives.
 -- Assumes nothing.
-use mathlib.Core.Path.{sym, ap, _∙_}
+use mathlib.Core.Path.{ap, _∙_}
 use Prim.Native.Nat.{_-_}
 use native.Mathlib.Omega.{arith}
 use borrow.Author.Needs.{needs}
-use borrow.Author.Tests.{ltb-true}
 use Rattle.scope.specs.Base.{xor}
 use Rattle.scope.specs.Show.{showF}
 use Rattle.names.specs.Place.{texts}
 use Rattle.chart.specs.Env.{envOf}
 use Rattle.layout.specs.Words.{decode}
 use Rattle.layout.proofs.LinkLaws.{clean-linked}
-use Rattle.append.proofs.Laws.{page-full, page-then}
-use Rattle.show.specs.Level.{gapOf, kidOf, closeOf}
+use Rattle.append.proofs.Laws.{append-full, append-then, is-over}
+use Rattle.show_parts.specs.Parts.{gapOf, closeOf}
+use Rattle.show.specs.Level.{kidOf}
 use Rattle.show.proofs.Turns.{Turn, turn-start, turn-next, turn-end, show-shallow, show-unknown, show-known, kid-shown}
 use Prim.Native.Nat.{ℕ, _<_}
 use borrow.Fn.Kinds.{In}
@@ -26,11 +26,11 @@ use Rattle.append.proofs.is_full.Reads as is-full-reads
 use Rattle.roots.proofs.find.Reads as find-reads
 use Rattle.show.proofs.held_at.Reads as held-at-reads
 use Rattle.show.proofs.inner.Reads as inner-reads
-use Rattle.show.proofs.put_close.Reads as put-close-reads
-use Rattle.show.proofs.put_gap.Reads as put-gap-reads
-use Rattle.show.proofs.put_lead.Reads as put-lead-reads
-use Rattle.show.proofs.put_tilde.Reads as put-tilde-reads
-use Rattle.show.proofs.put_unknown.Reads as put-unknown-reads
+use Rattle.show_parts.proofs.put_close.Reads as put-close-reads
+use Rattle.show_parts.proofs.put_gap.Reads as put-gap-reads
+use Rattle.show_parts.proofs.put_lead.Reads as put-lead-reads
+use Rattle.show_parts.proofs.put_tilde.Reads as put-tilde-reads
+use Rattle.show_names.proofs.put_unknown.Reads as put-unknown-reads
 use Rattle.show.proofs.shown.Reads as shown-reads
 use Rattle.types.proofs.Inverted.xor.Reads as xor-reads
 use Rattle.types.proofs.Type.idx.Reads as idx-reads
@@ -50,11 +50,45 @@ show-type-below t =
     and 5 show-type-kinds.ps (falls 5 show-type-kinds.ps _<_ μ-show-type t) show-type.Pre
 
 abbrev show-type-claims : ℕ → show-type-lts.Claims
-show-type-claims t = (is-full-reads.Asked, is-full-reads.Learnt, find-reads.Asked, find-reads.Learnt, idx-reads.Asked, idx-reads.Learnt, held-at-reads.Asked, held-at-reads.Learnt, put-unknown-reads.Asked, put-unknown-reads.Learnt, inv-reads.Asked, inv-reads.Learnt, xor-reads.Asked, xor-reads.Learnt, put-tilde-reads.Asked, put-tilde-reads.Learnt, put-lead-reads.Asked, put-lead-reads.Learnt, inner-reads.Asked, inner-reads.Learnt, shown-reads.Asked, shown-reads.Learnt, put-gap-reads.Asked, put-gap-reads.Learnt, child-of-reads.Asked, child-of-reads.Learnt, invert-if-reads.Asked, invert-if-reads.Learnt, show-type-below t, show-type.Post, put-close-reads.Asked, put-close-reads.Learnt)
+show-type-claims t = (
+  is-full-reads.Asked,
+  is-full-reads.Learnt,
+  find-reads.Asked,
+  find-reads.Learnt,
+  idx-reads.Asked,
+  idx-reads.Learnt,
+  held-at-reads.Asked,
+  held-at-reads.Learnt,
+  put-unknown-reads.Asked,
+  put-unknown-reads.Learnt,
+  inv-reads.Asked,
+  inv-reads.Learnt,
+  xor-reads.Asked,
+  xor-reads.Learnt,
+  put-tilde-reads.Asked,
+  put-tilde-reads.Learnt,
+  put-lead-reads.Asked,
+  put-lead-reads.Learnt,
+  inner-reads.Asked,
+  inner-reads.Learnt,
+  shown-reads.Asked,
+  shown-reads.Learnt,
+  put-gap-reads.Asked,
+  put-gap-reads.Learnt,
+  child-of-reads.Asked,
+  child-of-reads.Learnt,
+  invert-if-reads.Asked,
+  invert-if-reads.Learnt,
+  show-type-below t,
+  show-type.Post,
+  put-close-reads.Asked,
+  put-close-reads.Learnt,
+)
 
 abbrev show-type-Inv-loop : show-type-lts.InvT-loop
 show-type-Inv-loop chart beside rule text ws ks n buf₀ at depth kind turned p₀ deep count j₀ buf p j =
-    Turn (gapOf (texts rule text) ks kind) (λ m. showF (envOf chart beside rule text) (depth - 1) (decode ws ks n) (kidOf ks kind (deep .0) m)) (closeOf kind count) count buf₀ p₀ buf p j
+    Turn (gapOf (texts rule text) ks kind) (λ m. showF (envOf chart beside rule text) (depth - 1) (decode ws ks n) (kidOf ks kind (deep .0) m))
+    (closeOf kind count) count buf₀ p₀ buf p j
 
 abbrev show-type-μ-loop : show-type-lts.MeasureT-loop
 show-type-μ-loop chart beside rule text ws ks n buf₀ at depth kind turned p₀ deep count j₀ buf p j =
@@ -70,7 +104,7 @@ show-type-same-length : (t : ℕ) → show-type-lts.Need-same-length (show-type-
 show-type-same-length t c = search needs
 
 show-type-returns-2 : (t : ℕ) → show-type-lts.Need-returns-2 (show-type-claims t) (show-type-at t) show-type.Post show-type-Inv-loop show-type-μ-loop
-show-type-returns-2 t c = page-full _ _ _ (ltb-true _ _ (sym (c .before .is-full .ensures) ∙ c .if2 .taken))
+show-type-returns-2 t c = append-full _ _ _ (is-over (c .before .is-full .ensures) (c .if2 .taken))
 
 show-type-find-requires : (t : ℕ) → show-type-lts.Need-find-requires (show-type-claims t) (show-type-at t) show-type.Post show-type-Inv-loop show-type-μ-loop
 show-type-find-requires t c κs = clean-linked _ _ _ _ (c .before .before .before .before .before .before .before .before .before .before .pre .1 .clean)
@@ -96,7 +130,15 @@ show-type-same-length-2 t c = search needs
 show-type-returns-3 : (t : ℕ) → show-type-lts.Need-returns-3 (show-type-claims t) (show-type-at t) show-type.Post show-type-Inv-loop show-type-μ-loop
 show-type-returns-3 t c =
     let a = c .before .before .before .before .before .before .before .before .before .before .before .before .before .before .before .before .before .before .before .args in
-    rw (show-unknown (c .before .before .before .before .before .before .before .before .before .before .before .before .before .before .before .before .before .before .before .pre .1) (envOf (a .chart .now) (a .beside) (a .rule .now) (a .text .now)) (a .depth) (a .t .0) (c .before .before .before .before .before .before .before .before .before .before .before .before .if1 .left) (c .before .before .before .before .before .before .before .before .find .result .0) (c .before .before .before .before .before .before .before .idx .result .0) (c .before .before .before .before .before .before .before .before .find .ensures) (c .before .before .before .before .before .before .before .idx .ensures) (c .before .before .before .before .before .before .held-at .result) (c .before .before .before .before .before .before .held-at .ensures) (c .before .before .before .before .enum-told .given .1)) (c .before .before .put-unknown .ensures)
+    let e = envOf (a .chart .now) (a .beside) (a .rule .now) (a .text .now) in
+    let st = c .before .before .before .before .before .before .before .before .before .before .before .before .before .before .before .before .before .before .before .pre .1 in
+    let deep = c .before .before .before .before .before .before .before .before .before .before .before .before .if1 .left in
+    let root = c .before .before .before .before .before .before .before .before .find in
+    let node = c .before .before .before .before .before .before .before .idx in
+    let held = c .before .before .before .before .before .before .held-at in
+    rw (show-unknown st e (a .depth) (a .t .0) deep (root .result .0) (node .result .0) (root .ensures) (node .ensures) (held .result) (held .ensures)
+    (c .before .before .before .before .enum-told .given .1))
+    (c .before .before .put-unknown .ensures)
 
 show-type-inv-requires : (t : ℕ) → show-type-lts.Need-inv-requires (show-type-claims t) (show-type-at t) show-type.Post show-type-Inv-loop show-type-μ-loop
 show-type-inv-requires t c κs = search needs
@@ -114,7 +156,11 @@ show-type-inner-requires : (t : ℕ) → show-type-lts.Need-inner-requires (show
 show-type-inner-requires t c κs = search needs
 
 show-type-shown-requires : (t : ℕ) → show-type-lts.Need-shown-requires (show-type-claims t) (show-type-at t) show-type.Post show-type-Inv-loop show-type-μ-loop
-show-type-shown-requires t c κs = c .before .before .before .before .before .before .before .before .before .before .before .before .before .before .before .before .before .before .before .before .before .before .before .before .before .before .before .pre .1
+show-type-shown-requires t c κs =
+    let pre =
+    c .before .before .before .before .before .before .before .before .before .before .before .before .before .before .before .before .before .before .before .before
+    .before .before .before .before .before .before .before .pre in
+    pre .1
 
 show-type-loop-holds : (t : ℕ) → show-type-lts.Need-loop-holds (show-type-claims t) (show-type-at t) show-type.Post show-type-Inv-loop show-type-μ-loop
 show-type-loop-holds t c = turn-start _ _ _ _ _ _
@@ -129,39 +175,89 @@ show-type-invert-if-requires : (t : ℕ) → show-type-lts.Need-invert-if-requir
 show-type-invert-if-requires t c κs = search needs
 
 show-type-sub-show-type : (t : ℕ) → show-type-lts.Need-sub-show-type (show-type-claims t) (show-type-at t) show-type.Post show-type-Inv-loop show-type-μ-loop
-show-type-sub-show-type t c = omega (arith, c .before .before .before .before .before .before .before .before .before .before .before .before .before .before .before .before .before .before .before .before .before .before .before .before .before .before .before .before .before .before .before .if1 .left)
+show-type-sub-show-type t c =
+    let deep =
+    c .before .before .before .before .before .before .before .before .before .before .before .before .before .before .before .before .before .before .before .before
+    .before .before .before .before .before .before .before .before .before .before .before .if1 .left in
+    omega (arith, deep)
 
 show-type-show-type-requires : (t : ℕ) → show-type-lts.Need-show-type-requires (show-type-claims t) (show-type-at t) show-type.Post show-type-Inv-loop show-type-μ-loop
-show-type-show-type-requires t c κs = (omega (arith, c .before .before .before .before .before .before .before .before .before .before .before .before .before .before .before .before .before .before .before .before .before .before .before .before .before .before .before .before .before .before .before .before .before .before .before .before .before .before .pre .0, c .before .before .before .before .before .before .before .before .before .before .before .before .before .before .before .before .before .before .before .before .before .before .before .before .before .before .before .before .before .before .before .if1 .left), c .before .before .before .before .before .before .before .before .before .before .before .before .before .before .before .before .before .before .before .before .before .before .before .before .before .before .before .before .before .before .before .before .before .before .before .before .before .before .pre .1)
+show-type-show-type-requires t c κs =
+    let pre =
+    c .before .before .before .before .before .before .before .before .before .before .before .before .before .before .before .before .before .before .before .before
+    .before .before .before .before .before .before .before .before .before .before .before .before .before .before .before .before .before .before .pre in
+    let deep =
+    c .before .before .before .before .before .before .before .before .before .before .before .before .before .before .before .before .before .before .before .before
+    .before .before .before .before .before .before .before .before .before .before .before .if1 .left in
+    (omega (arith, pre .0, deep), pre .1)
 
 show-type-add-j : (t : ℕ) → show-type-lts.Need-add-j (show-type-claims t) (show-type-at t) show-type.Post show-type-Inv-loop show-type-μ-loop
-show-type-add-j t c = omega (arith, c .before .before .before .before .before .before .before .before .before .before .before .loop-test .taken, c .before .before .before .before .before .before .before .before .before .before .before .before .before .shown .ok)
+show-type-add-j t c =
+    let more = c .before .before .before .before .before .before .before .before .before .before .before .loop-test .taken in
+    omega (arith, more, c .before .before .before .before .before .before .before .before .before .before .before .before .before .shown .ok)
 
 show-type-loop-less : (t : ℕ) → show-type-lts.Need-loop-less (show-type-claims t) (show-type-at t) show-type.Post show-type-Inv-loop show-type-μ-loop
 show-type-loop-less t c = omega (arith, c .before .before .before .before .before .before .before .before .before .before .before .loop-test .taken)
 
 show-type-loop-again : (t : ℕ) → show-type-lts.Need-loop-again (show-type-claims t) (show-type-at t) show-type.Post show-type-Inv-loop show-type-μ-loop
 show-type-loop-again t c =
-    let a = c .before .before .before .before .before .before .before .before .before .before .before .before .before .before .before .before .before .before .before .before .before .before .before .before .before .before .before .before .before .before .before .before .before .before .before .before .before .before .before .before .before .args in
+    let a =
+    c .before .before .before .before .before .before .before .before .before .before .before .before .before .before .before .before .before .before .before .before
+    .before .before .before .before .before .before .before .before .before .before .before .before .before .before .before .before .before .before .before .before .before .args in
+    let e = envOf (a .chart .now) (a .beside) (a .rule .now) (a .text .now) in
+    let k =
+    c .before .before .before .before .before .before .before .before .before .before .before .before .before .before .before .before .before .before .before .before
+    .before .before .before .before .before .before .inv .given .0 .1 .0 in
+    let deep = c .before .before .before .before .before .before .before .before .before .before .before .before .before .before .inner .result .0 in
     let l = c .before .before .before .before .before .before .before .before .before .before .before .before .loop in
-    let k = c .before .before .before .before .before .before .before .before .before .before .before .before .before .before .before .before .before .before .before .before .before .before .before .before .before .before .inv .given .0 .1 .0 in
-    let e = (envOf (a .chart .now) (a .beside) (a .rule .now) (a .text .now)) in
-    turn-next _ _ _ _ (l .inv) (c .before .before .before .before .before .before .before .before .before .before .before .loop-test .taken) (c .before .before .before .before .before .before .before .before .before .put-gap .ensures)
-    (kid-shown e (a .depth - 1) (decode (a .ws .now) (a .ks .now) (a .n)) (a .ks .now) k (c .before .before .before .before .before .before .before .before .before .before .before .before .before .before .inner .result .0) (l .j) (c .before .before .before .before .before .before .child-of .result) (c .before .before .before .invert-if .result .0) (c .before .before .before .invert-if .ensures) (c .before .before .before .before .before .before .child-of .ensures) (c .before .before .show-type .ensures))
-    (c .before .before .show-type .kept .1 .1 .1 .1 .1 .1 .1 .0 ∙ c .before .before .before .before .before .before .before .before .before .put-gap .kept .1 .1 .1 .0 ∙ l .inv .long)
+    let more = c .before .before .before .before .before .before .before .before .before .before .before .loop-test .taken in
+    let gap = c .before .before .before .before .before .before .before .before .before .put-gap in
+    let child = c .before .before .before .before .before .before .child-of in
+    let kid = c .before .before .before .invert-if in
+    let sub = c .before .before .show-type in
+    turn-next _ _ _ _ (l .inv) more (gap .ensures)
+    (kid-shown e (a .depth - 1) (decode (a .ws .now) (a .ks .now) (a .n)) (a .ks .now) k deep (l .j) (child .result) (kid .result .0) (kid .ensures) (child .ensures) (sub .ensures))
+    (sub .kept .1 .1 .1 .1 .1 .1 .1 .0 ∙ gap .kept .1 .1 .1 .0 ∙ l .inv .long)
 
 show-type-put-close-requires : (t : ℕ) → show-type-lts.Need-put-close-requires (show-type-claims t) (show-type-at t) show-type.Post show-type-Inv-loop show-type-μ-loop
 show-type-put-close-requires t c κs = search needs
 
 show-type-same-length-3 : (t : ℕ) → show-type-lts.Need-same-length-3 (show-type-claims t) (show-type-at t) show-type.Post show-type-Inv-loop show-type-μ-loop
-show-type-same-length-3 t c = c .before .before .put-close .kept .0 ∙ c .before .before .before .before .before .loop .inv .long ∙ c .before .before .before .before .before .before .before .before .before .before .put-lead .kept .1 .1 .1 .1 .0 ∙ c .before .before .before .before .before .before .before .before .before .before .before .before .before .before .put-tilde .kept .0
+show-type-same-length-3 t c =
+    let tilde = c .before .before .before .before .before .before .before .before .before .before .before .before .before .before .put-tilde in
+    let lead = c .before .before .before .before .before .before .before .before .before .before .put-lead in
+    let l = c .before .before .before .before .before .loop in
+    c .before .before .put-close .kept .0 ∙ l .inv .long ∙ lead .kept .1 .1 .1 .1 .0 ∙ tilde .kept .0
 
 show-type-returns-4 : (t : ℕ) → show-type-lts.Need-returns-4 (show-type-claims t) (show-type-at t) show-type.Post show-type-Inv-loop show-type-μ-loop
 show-type-returns-4 t c =
-    let a = c .before .before .before .before .before .before .before .before .before .before .before .before .before .before .before .before .before .before .before .before .before .before .before .before .before .before .before .before .before .before .before .before .before .before .args in
-    let g = c .before .before .before .before .before .before .before .before .before .before .before .before .before .before .before .before .before .before .before .inv .given in
-    rw (show-known (c .before .before .before .before .before .before .before .before .before .before .before .before .before .before .before .before .before .before .before .before .before .before .before .before .before .before .before .before .before .before .before .before .before .before .pre .1) (envOf (a .chart .now) (a .beside) (a .rule .now) (a .text .now)) (a .depth) (a .t .0) (c .before .before .before .before .before .before .before .before .before .before .before .before .before .before .before .before .before .before .before .before .before .before .before .before .before .before .before .if1 .left) (c .before .before .before .before .before .before .before .before .before .before .before .before .before .before .before .before .before .before .before .before .before .before .before .find .result .0) (c .before .before .before .before .before .before .before .before .before .before .before .before .before .before .before .before .before .before .before .before .before .before .idx .result .0) (c .before .before .before .before .before .before .before .before .before .before .before .before .before .before .before .before .before .before .before .before .before .before .before .find .ensures) (c .before .before .before .before .before .before .before .before .before .before .before .before .before .before .before .before .before .before .before .before .before .before .idx .ensures) (c .before .before .before .before .before .before .before .before .before .before .before .before .before .before .before .before .before .before .before .before .before .held-at .result) (c .before .before .before .before .before .before .before .before .before .before .before .before .before .before .before .before .before .before .before .before .before .held-at .ensures) (g .0 .0) (g .0 .1 .0) (g .1) (c .before .before .before .before .before .before .before .before .before .before .before .before .before .before .before .before .xor .result .0) (c .before .before .before .before .before .before .before .inner .result .0) (c .before .before .before .before .before .before .shown .result) (c .before .before .before .before .before .before .before .before .before .before .before .before .before .before .before .before .xor .ensures ∙ ap (xor (g .0 .0 .0)) (c .before .before .before .before .before .before .before .before .before .before .before .before .before .before .before .before .before .inv2 .ensures)) (c .before .before .before .before .before .before .before .inner .ensures) (c .before .before .before .before .before .before .shown .ensures))
-    (page-then (c .before .before .before .before .before .before .before .before .before .before .before .before .before .before .put-tilde .ensures) (page-then (c .before .before .before .before .before .before .before .before .before .before .put-lead .ensures) (turn-end _ _ _ _ (c .before .before .before .before .before .loop .inv) (c .before .before .before .before .loop-test .left) (c .before .before .put-close .ensures))))
+    let a =
+    c .before .before .before .before .before .before .before .before .before .before .before .before .before .before .before .before .before .before .before .before
+    .before .before .before .before .before .before .before .before .before .before .before .before .before .before .args in
+    let e = envOf (a .chart .now) (a .beside) (a .rule .now) (a .text .now) in
+    let st =
+    c .before .before .before .before .before .before .before .before .before .before .before .before .before .before .before .before .before .before .before .before
+    .before .before .before .before .before .before .before .before .before .before .before .before .before .before .pre .1 in
+    let deep =
+    c .before .before .before .before .before .before .before .before .before .before .before .before .before .before .before .before .before .before .before .before
+    .before .before .before .before .before .before .before .if1 .left in
+    let root =
+    c .before .before .before .before .before .before .before .before .before .before .before .before .before .before .before .before .before .before .before .before
+    .before .before .before .find in
+    let node = c .before .before .before .before .before .before .before .before .before .before .before .before .before .before .before .before .before .before .before .before .before .before .idx in
+    let held = c .before .before .before .before .before .before .before .before .before .before .before .before .before .before .before .before .before .before .before .before .before .held-at in
+    let is = c .before .before .before .before .before .before .before .before .before .before .before .before .before .before .before .before .before .before .before .inv .given in
+    let of-root = c .before .before .before .before .before .before .before .before .before .before .before .before .before .before .before .before .before .inv2 in
+    let turned = c .before .before .before .before .before .before .before .before .before .before .before .before .before .before .before .before .xor in
+    let within = c .before .before .before .before .before .before .before .inner in
+    let count = c .before .before .before .before .before .before .shown in
+    let tilde = c .before .before .before .before .before .before .before .before .before .before .before .before .before .before .put-tilde .ensures in
+    let lead = c .before .before .before .before .before .before .before .before .before .before .put-lead .ensures in
+    let l = c .before .before .before .before .before .loop in
+    rw (show-known st e (a .depth) (a .t .0) deep (root .result .0) (node .result .0) (root .ensures) (node .ensures) (held .result) (held .ensures)
+    (is .0 .0) (is .0 .1 .0) (is .1) (turned .result .0) (within .result .0) (count .result)
+    (turned .ensures ∙ ap (xor (is .0 .0 .0)) (of-root .ensures)) (within .ensures) (count .ensures))
+    (append-then tilde (append-then lead (turn-end _ _ _ _ (l .inv) (c .before .before .before .before .loop-test .left) (c .before .before .put-close .ensures))))
 
 pub +show-type-spec : {M : Type 1} → statement M
 +show-type-spec = close μ-show-type λ t. show-type-lts.spec (show-type-claims t)

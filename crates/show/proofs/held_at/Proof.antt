@@ -23,13 +23,19 @@ enum-told-3 : tie.Need-enum-told-3
 enum-told-3 c = search needs
 
 returns : tie.Need-returns
-returns c = rw (← c .before .before .before .before .before .before .node-at .ensures, c .before .before .before .before .state .given .1, c .before .state2 .given .1)
+returns c =
+    let node = c .before .before .before .before .before .before .node-at in
+    rw (← node .ensures, c .before .before .before .before .state .given .1, c .before .state2 .given .1)
 
 returns-2 : tie.Need-returns-2
-returns-2 c = rw (← c .before .before .before .before .before .node-at .ensures, c .before .before .before .state .given .1, c .enum-told .given .1)
+returns-2 c =
+    let node = c .before .before .before .before .before .node-at in
+    rw (← node .ensures, c .before .before .before .state .given .1, c .enum-told .given .1)
 
 returns-3 : tie.Need-returns-3
-returns-3 c = rw (← c .before .before .before .before .before .node-at .ensures, c .before .before .before .state .given .1, c .enum-told2 .given .1)
+returns-3 c =
+    let node = c .before .before .before .before .before .node-at in
+    rw (← node .ensures, c .before .before .before .state .given .1, c .enum-told2 .given .1)
 
 returns-4 : tie.Need-returns-4
 returns-4 c = rw (← c .before .before .node-at .ensures, c .enum-told3 .given .1)
