@@ -10,13 +10,14 @@ ghost use Rattle.scope.specs.Unify.{unify};
 ghost use Rattle.scope.specs.Calls.{nodesFor};
 ghost use Rattle.names.specs.Place.{texts};
 ghost use Rattle.layout.specs.Words.{storeIn, decode};
-ghost use Rattle.make.specs.Holds.{Became, Openable, Ready, MadeIs, MadeAllIs};
+ghost use Rattle.store.specs.Holds.{Became, Openable, Ready};
+ghost use Rattle.make.specs.Made.{MadeIs, MadeAllIs};
 ghost use Rattle.make.specs.Given.{KindReady, kindGiven};
 ghost use Rattle.call_new.specs.Lent.{plainArgs, withFlag};
 ghost use Rattle.unify.specs.Asks.{Pair};
 ghost use Rattle.unify.specs.Leaves.{Leaves};
 ghost use Rattle.bench.specs.Numbers.{typeWord, RESULTS, resultIn};
-use make::NewKind;
+use make::Head;
 use types::Type;
 
 #[no_mangle]
@@ -91,7 +92,7 @@ pub extern "C" fn faroalder_direct_new(
     requires { ⌜ KindReady (now h) (now ws) (now ks) (withFlag (plainArgs code number) false) (now entries) ⌝ }
     ensures { λ r. ⌜ MadeIs (now (h .entry)) (now (ws .entry)) (now (ks .entry)) (now (h .exit)) (now (ws .exit)) (now (ks .exit)) (typeWord r) (new (storeIn (now (h .entry)) (now (ws .entry)) (now (ks .entry))) (kindGiven (withFlag (plainArgs code number) false) (now (entries .entry)))) ⌝ }
 {
-    let k = NewKind {
+    let k = Head {
         code,
         number,
         dual: false,

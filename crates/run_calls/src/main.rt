@@ -58,7 +58,7 @@ fn nothing_lent() -> Lent {
         chart_at: 0,
         chart_len: 0,
         beside: Beside {
-            fn_trait: layout::NONE,
+            fn_trait: scope::NONE,
             sigils,
         },
         rule: 0,

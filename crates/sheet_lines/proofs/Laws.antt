@@ -19,7 +19,7 @@ use Rattle.scope.specs.Names.{eqBytes}
 use Rattle.scope.specs.Types.{Ty, ty, tyOf}
 use Rattle.scope.specs.Sheet as sheet
 use Rattle.scope.specs.Sheet.{lines, words, isDigit, valueFrom, noLeadingZero, nodeWord, typeWord, typeWords, plainLine, oneType, twoTypes, withTypes, wordsLine, parse}
-use Rattle.names.proofs.Laws.{same-equal}
+use Rattle.scope.proofs.NameLaws.{eq-bytes}
 use Rattle.names.proofs.Tests.{both}
 use Rattle.sheet_lines.specs.Places.{runOf, placeOf, wordsFrom}
 use Rattle.sheet_lines.specs.Meaning.{Parsed}
@@ -325,7 +325,7 @@ tuple-types (t ∷ u ∷ []) = refl
 tuple-types (t ∷ u ∷ v ∷ ts) = refl
 
 pub with-tuple : (w : List ℕ) (ts : List Ty) → eqBytes w (text "tuple") ≡ true → sheet.Line.tuple ts ≡ withTypes w (some ts)
-with-tuple w ts h = rw (same-equal w (text "tuple") h) (sym (tuple-types ts))
+with-tuple w ts h = rw (eq-bytes w (text "tuple") h) (sym (tuple-types ts))
 
 pub with-none : (w out : List ℕ) (n : ℕ) → n ≡ 0 → plainLine w ≡ withTypes w (some (map tyOf (take n out)))
 with-none w out n e = rw e

@@ -20,7 +20,7 @@ use Rattle.scope.specs.Sound.{nameIn, slotName, front}
 use Rattle.scope.specs.Unify.{parameters, returned}
 use Rattle.scope.specs.Show.{Piece, fixed, sub, render, joined, commas, params, tuple, object, entries, signature, ifConst, nameOrDots}
 use Rattle.layout.specs.Words.{slotAt, slots}
-use Rattle.layout.proofs.CleanLaws.{front-slots}
+use Rattle.layout.proofs.ChildLaws.{front-slots}
 use Rattle.layout.proofs.ChildLaws.{length-slots}
 use Rattle.show_names.specs.Names.{comma, label}
 use Rattle.show.specs.Level.{children}

@@ -4,7 +4,7 @@ ghost use mathlib.Core.List.{[]};
 ghost use Rattle.scope.specs.Chart.{recordAt};
 ghost use Rattle.scope.specs.Names.{bytes};
 ghost use Rattle.scope.specs.Types.{tyOf};
-ghost use Rattle.names.specs.Place.{texts, nameIn};
+ghost use Rattle.names.specs.Place.{texts, nameOf};
 ghost use Rattle.chart.specs.Env.{envOf, chartIn};
 ghost use Rattle.layout.specs.Meaning.{slotMeans};
 ghost use Rattle.append.specs.Appended.{Appended};
@@ -13,7 +13,7 @@ use append::put;
 use append::put_byte;
 use append::put_decimal;
 use chart::Beside;
-use chart::TRAIT_FN_SORT;
+use kinds::TRAIT_FN_SORT;
 use layout::Kind;
 use layout::Slot;
 use names::Name;
@@ -21,7 +21,7 @@ use types::Type;
 
 // A name's bytes, from its text.
 pub fn put_name<'a>(rule: &'a [u8], text: &'a [u8], buf: &mut [u8], at: usize, n: Name) -> usize
-    ensures { λ r. ⌜ Appended (now (buf .entry)) at (now (buf .exit)) r (bytes (texts (now (rule .entry)) (now (text .entry))) (nameIn n)) ⌝ }
+    ensures { λ r. ⌜ Appended (now (buf .entry)) at (now (buf .exit)) r (bytes (texts (now (rule .entry)) (now (text .entry))) (nameOf n)) ⌝ }
 {
     put(buf, at, names::bytes_of(n, rule, text))
 }
