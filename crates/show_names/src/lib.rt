@@ -40,15 +40,11 @@ pub fn put_comma(buf: &mut [u8], at: usize, j: u32) -> usize
 fn put_label<'a>(rule: &'a [u8], text: &'a [u8], buf: &mut [u8], at: usize, s: Slot) -> usize
     ensures { λ r. ⌜ Appended (now (buf .entry)) at (now (buf .exit)) r (label (texts (now (rule .entry)) (now (text .entry))) (slotMeans s)) ⌝ }
 {
-    if s.len == 0 {
+    let n = s.name;
+    if n.len == 0 {
         let dots = put(buf, at, b"...");
         return put(buf, dots, b": ");
     }
-    let n = Name {
-        text: s.text,
-        start: s.start,
-        len: s.len,
-    };
     let named = put_name(rule, text, buf, at, n);
     put(buf, named, b": ")
 }

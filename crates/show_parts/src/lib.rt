@@ -21,7 +21,6 @@ use kinds::PARAM;
 use kinds::REF;
 use kinds::TUPLE;
 use layout::Kind;
-use names::Name;
 use show_names::put_closure;
 use show_names::put_comma;
 use show_names::put_defined;
@@ -48,11 +47,7 @@ pub fn put_tilde(buf: &mut [u8], at: usize, i: Inverted, k: Kind) -> usize
 fn put_own<'a>(rule: &'a [u8], text: &'a [u8], buf: &mut [u8], at: usize, k: Kind) -> usize
     ensures { λ r. ⌜ Appended (now (buf .entry)) at (now (buf .exit)) r (ownText (texts (now (rule .entry)) (now (text .entry))) k) ⌝ }
 {
-    let n = Name {
-        text: k.text,
-        start: k.start,
-        len: k.len,
-    };
+    let n = k.name;
     put_name(rule, text, buf, at, n)
 }
 
