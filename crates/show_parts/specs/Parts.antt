@@ -6,15 +6,16 @@ use Prim.Native.Nat.{ℕ, _+_}
 use lib.Dec.{eqb, ltb}
 use Rattle.scope.specs.Base.{pick}
 use Rattle.scope.specs.Text.{text}
-use Rattle.scope.specs.Names.{Texts, name, bytes}
+use Rattle.scope.specs.Names.{Texts, bytes}
 use Rattle.scope.specs.Chart.{Env, recordAt}
 use Rattle.scope.specs.Kinds.{PARAM, TUPLE, OBJECT, OPAQUE, FN, CLOSURE, REF, KEY, IF-CONST, NEVER, DEFAULT, ERROR, rowOf, dualBy}
 use Rattle.layout.specs.declared.Kind.{Kind}
+use Rattle.names.specs.Place.{nameOf}
 use Rattle.show_names.specs.Names.{comma, entryText, definedText, functionText, closureText, ifConstText}
 
 -- a Param's or a Key's name
 abbrev pub ownText : Texts → Kind → List ℕ
-ownText x k = bytes x (name (k .text) (k .start) (k .len))
+ownText x k = bytes x (nameOf (k .name))
 
 -- the kinds that say no more than a fixed text before their n children
 unfoldable pub fixedOf : ℕ → ℕ → List ℕ
