@@ -36,9 +36,7 @@ module _ (g : Ty → List ℕ) (e : Env) (nil : Ty → Bool) (ks : List ℕ) (k 
     number = k .number;
     dual = k .dual;
     flex = k .flex;
-    text = k .text;
-    start = k .start;
-    len = k .len;
+    name = k .name;
     first = k .first;
     count = k .count;
   }

@@ -27,12 +27,12 @@ use Rattle.roots.specs.Found.{Found}
 use Rattle.walk.specs.Asks.{Stands}
 use Rattle.append.specs.Appended.{Appended}
 use Rattle.append.proofs.Laws.{append-none, append-then}
-use Rattle.show.specs.declared.Held.{Held}
-use Rattle.show.specs.declared.Held.the-variants.{Is, Nothing}
+use Rattle.layout.specs.declared.Held.{Held}
+use Rattle.layout.specs.declared.Held.the-variants.{Is, Nothing}
 use Rattle.show_names.specs.Names.{unknownText}
 use Rattle.show_parts.specs.Parts.{gapOf, leadOf, closeOf, tildeOf}
 use Rattle.show.specs.Level.{children, kidOf, shownOf, innerOf, levelOf}
-use Rattle.show.specs.Read.{heldIn}
+use Rattle.layout.specs.Meaning.{heldIn}
 use Rattle.show.proofs.Level.{level-is}
 use Rattle.show.proofs.Runs.{children-next, children-end}
 

@@ -1,27 +1,22 @@
 // A type's text into a lent buffer, straight from the store, the chart and the texts: no other buffer is used. One level after another is written, and
 // where the buffer is full work stops at once.
 ghost use mathlib.Core.Path.{_≡_};
-ghost use Prim.Native.Nat.{_≤_};
-ghost use lib.ListN.{length};
 ghost use Rattle.scope.specs.Types.{tyOf};
 ghost use Rattle.scope.specs.Force.{isNil};
 ghost use Rattle.scope.specs.Show.{showF};
 ghost use Rattle.chart.specs.Env.{envOf};
-ghost use Rattle.layout.specs.Words.{nodeWords, decode};
-ghost use Rattle.layout.specs.Meaning.{readAt};
+ghost use Rattle.layout.specs.Words.{decode};
 ghost use Rattle.walk.specs.Asks.{Stands};
 ghost use Rattle.append.specs.Appended.{Appended};
 ghost use Rattle.show.specs.Level.{shownOf, innerOf};
-ghost use Rattle.show.specs.Read.{heldIn};
 use chart::Beside;
 use kinds::CLOSURE;
 use kinds::FN;
 use kinds::IF_CONST;
 use kinds::PARAM;
 use kinds::REF;
+use layout::Held;
 use layout::Kind;
-use layout::TypeNode;
-use layout::TypeState;
 use show_names::put_unknown;
 use show_parts::put_close;
 use show_parts::put_gap;
@@ -29,7 +24,6 @@ use show_parts::put_lead;
 use show_parts::put_tilde;
 use types::Inverted;
 use types::Type;
-use types::TypeIdx;
 
 // How many of a kind's children are shown.
 fn shown(ws: &[u32], ks: &[u32], n: u32, k: Kind) -> u32
@@ -77,26 +71,6 @@ fn inner(i: Inverted, k: Kind) -> Inverted
     Inverted(false)
 }
 
-// A node's inversion and kind, if it has one.
-enum Held {
-    Is(Inverted, Kind),
-    Nothing,
-}
-
-fn held_at(ws: &[u32], n: u32, i: TypeIdx) -> Held
-    requires { ⌜ nodeWords n ≤ length (now ws) ⌝ }
-    ensures { λ r. ⌜ r ≡ heldIn (readAt (now (ws .entry)) n (i .0)) ⌝ }
-{
-    match layout::node_at(ws, n, i) {
-        TypeNode::Root { state, size: _ } => match state {
-            TypeState::Known(inv, kind) => Held::Is(inv, kind),
-            TypeState::Unknown(_) => Held::Nothing,
-            TypeState::InferenceFailed => Held::Nothing,
-        },
-        TypeNode::Child(_) => Held::Nothing,
-    }
-}
-
 // The text of a type, at most so many levels deep.
 pub fn show_type<'a>(
     chart: &[u32],
@@ -123,7 +97,7 @@ pub fn show_type<'a>(
         return at;
     }
     let root = roots::find(ws, n, t);
-    let Held::Is(inv, kind) = held_at(ws, n, root.idx()) else {
+    let Held::Is(inv, kind) = layout::held_at(ws, n, root.idx()) else {
         return put_unknown(buf, at, root);
     };
     let i = inv.xor(root.inv());

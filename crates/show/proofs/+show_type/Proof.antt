@@ -24,7 +24,7 @@ use Rattle.show.proofs.+show_type.Lts-show_type as show-type-lts
 use Rattle.layout.proofs.child_of.Reads as child-of-reads
 use Rattle.append.proofs.is_full.Reads as is-full-reads
 use Rattle.roots.proofs.find.Reads as find-reads
-use Rattle.show.proofs.held_at.Reads as held-at-reads
+use Rattle.layout.proofs.held_at.Reads as held-at-reads
 use Rattle.show.proofs.inner.Reads as inner-reads
 use Rattle.show_parts.proofs.put_close.Reads as put-close-reads
 use Rattle.show_parts.proofs.put_gap.Reads as put-gap-reads
