@@ -21,7 +21,9 @@ use Rattle.scope.specs.Sheet as sheet
 use Rattle.scope.specs.Sheet.{lines, words, isDigit, valueFrom, noLeadingZero, nodeWord, typeWord, typeWords, plainLine, oneType, twoTypes, withTypes, wordsLine, parse}
 use Rattle.scope.proofs.NameLaws.{eq-bytes}
 use Rattle.names.proofs.Tests.{both}
-use Rattle.sheet_lines.specs.Places.{runOf, placeOf, wordsFrom}
+use Rattle.bytes.specs.Bytes.{slice, indexOf, indexAfter}
+use Rattle.sheet_lines.specs.Limits.{MAX-LINE}
+use Rattle.sheet_lines.specs.Places.{nextPlace, wordsFrom}
 use Rattle.sheet_lines.specs.Meaning.{Parsed}
 use Rattle.sheet_lines.specs.declared.Line.{Line}
 
@@ -29,41 +31,42 @@ use Rattle.sheet_lines.specs.declared.Line.{Line}
 pub said : {r t b : Bool} → r ≡ t → r ≡ b → t ≡ b
 said e h = sym e ∙ h
 
+-- a word that was found to be v is v
+pub word-is : {r : Bool} (w v : List ℕ) → r ≡ eqBytes w v → r ≡ true → w ≡ v
+word-is w v e h = same-equal w v (said e h)
+
 -- where a byte stands next
 
-module _ (b : ℕ) (s : List ℕ) (i : ℕ) where
-  pub place-hit : i < length s → getD s i 0 ≡ b → i ≡ placeOf b s i
-  unfolding runOf
-  place-hit h e = rw (drop-cons s i 0 h, eq-eqb (getD s i 0) b e) (omega arith)
+-- a place past the end is its own
+pub place-past : (b : ℕ) (s : List ℕ) (i : ℕ) → length s < i → i ≡ nextPlace b s i
+unfolding indexOf
+place-past b s i h =
+    let past : length s ≤ i = omega arith in
+    rw (drop-of-length-le s past) (omega arith)
 
-  pub place-step : i < length s → (getD s i 0 ≡ b → ⊥) → placeOf b s (i + 1) ≡ placeOf b s i
-  unfolding runOf
-  place-step h n =
-      rw (drop-cons s i 0 h, ne-eqb (getD s i 0) b n)
-      (ap (λ (k : ℕ). i + 1 + runOf b (drop k s)) (add-one i) ∙ omega arith)
+-- what was looked through is all that is left
+pub place-found : (b : ℕ) (s : List ℕ) (i r : ℕ) → r ≡ i + indexOf b (slice i (length s) s) → r ≡ nextPlace b s i
+unfolding slice
+place-found b s i r e = e ∙ ap (λ (l : List ℕ). i + indexOf b (drop i l)) (take-all (length s) s (omega arith))
 
-  pub place-end : length s ≤ i → i ≡ placeOf b s i
-  unfolding runOf
-  place-end h = rw (drop-of-length-le s h) (omega arith)
-
-run-within-by : (b x : ℕ) (xs : List ℕ) (t : Bool) → eqb x b ≡ t → runOf b xs ≤ length xs → runOf b (x ∷ xs) ≤ suc (length xs)
-unfolding runOf
+run-within-by : (b x : ℕ) (xs : List ℕ) (t : Bool) → eqb x b ≡ t → indexOf b xs ≤ length xs → indexOf b (x ∷ xs) ≤ suc (length xs)
+unfolding indexOf indexAfter
 run-within-by b x xs true e h = rw e (omega arith)
 run-within-by b x xs false e h = rw e (omega arith)
 
-run-within : (b : ℕ) (s : List ℕ) → runOf b s ≤ length s
-unfolding runOf
+run-within : (b : ℕ) (s : List ℕ) → indexOf b s ≤ length s
+unfolding indexOf indexAfter
 run-within b [] = omega arith
 run-within b (x ∷ xs) = run-within-by b x xs (eqb x b) refl (run-within b xs)
 
 -- from a place within it goes on, and stays within
-pub place-within : (b : ℕ) (s : List ℕ) (i e : ℕ) → i ≤ length s → e ≡ placeOf b s i → (i ≤ e) × (e ≤ length s)
+pub place-within : (b : ℕ) (s : List ℕ) (i e : ℕ) → i ≤ length s → e ≡ nextPlace b s i → (i ≤ e) × (e ≤ length s)
 place-within b s i e h p = (omega arith, omega (arith, run-within b (drop i s), length-drop i s))
 
 -- what stands between two places
-place-between : (b : ℕ) (s : List ℕ) (i : ℕ) → take (placeOf b s i - i) (drop i s) ≡ take (runOf b (drop i s)) (drop i s)
+place-between : (b : ℕ) (s : List ℕ) (i : ℕ) → take (nextPlace b s i - i) (drop i s) ≡ take (indexOf b (drop i s)) (drop i s)
 place-between b s i =
-    let e : i + runOf b (drop i s) - i ≡ runOf b (drop i s) = omega arith in
+    let e : i + indexOf b (drop i s) - i ≡ indexOf b (drop i s) = omega arith in
     ap (λ (n : ℕ). take n (drop i s)) e
 
 -- words
@@ -71,15 +74,15 @@ place-between b s i =
 words-split-by :
     (b : ℕ) (bs : List ℕ) (t : Bool) →
     eqb b 32 ≡ t →
-    words bs ≡ take (runOf 32 bs) bs ∷ wordsFrom bs (suc (runOf 32 bs)) →
-    words (b ∷ bs) ≡ take (runOf 32 (b ∷ bs)) (b ∷ bs) ∷ wordsFrom (b ∷ bs) (suc (runOf 32 (b ∷ bs)))
-unfolding words wordsFrom runOf
+    words bs ≡ take (indexOf 32 bs) bs ∷ wordsFrom bs (suc (indexOf 32 bs)) →
+    words (b ∷ bs) ≡ take (indexOf 32 (b ∷ bs)) (b ∷ bs) ∷ wordsFrom (b ∷ bs) (suc (indexOf 32 (b ∷ bs)))
+unfolding words wordsFrom indexOf indexAfter
 words-split-by b bs true e h = rw (e, le-leb 1 (suc (length bs)) (omega arith))
-words-split-by b bs false e h = rw (e, h, leb·suc-suc (suc (runOf 32 bs)) (length bs))
+words-split-by b bs false e h = rw (e, h, leb·suc-suc (suc (indexOf 32 bs)) (length bs))
 
 -- a line's first word, and the others
-words-split : (l : List ℕ) → words l ≡ take (runOf 32 l) l ∷ wordsFrom l (suc (runOf 32 l))
-unfolding words wordsFrom runOf
+words-split : (l : List ℕ) → words l ≡ take (indexOf 32 l) l ∷ wordsFrom l (suc (indexOf 32 l))
+unfolding words wordsFrom indexOf indexAfter
 words-split [] = refl
 words-split (b ∷ bs) = words-split-by b bs (eqb b 32) refl (words-split bs)
 
@@ -102,14 +105,14 @@ words-inside l i h = rw (le-leb i (length l) h)
 words-at :
     (l : List ℕ) (i : ℕ) →
     i ≤ length l →
-    wordsFrom l i ≡ take (placeOf 32 l i - i) (drop i l) ∷ wordsFrom l (placeOf 32 l i + 1)
+    wordsFrom l i ≡ take (nextPlace 32 l i - i) (drop i l) ∷ wordsFrom l (nextPlace 32 l i + 1)
 words-at l i h =
     words-inside l i h
     ∙ (words-split (drop i l)
-    ∙ (ap (λ (ws : List (List ℕ)). take (runOf 32 (drop i l)) (drop i l) ∷ ws) (words-past l i (suc (runOf 32 (drop i l))) h ∙ ap (wordsFrom l) e)
-    ∙ ap (λ (w : List ℕ). w ∷ wordsFrom l (placeOf 32 l i + 1)) (sym (place-between 32 l i))))
+    ∙ (ap (λ (ws : List (List ℕ)). take (indexOf 32 (drop i l)) (drop i l) ∷ ws) (words-past l i (suc (indexOf 32 (drop i l))) h ∙ ap (wordsFrom l) e)
+    ∙ ap (λ (w : List ℕ). w ∷ wordsFrom l (nextPlace 32 l i + 1)) (sym (place-between 32 l i))))
   where
-    e : i + suc (runOf 32 (drop i l)) ≡ placeOf 32 l i + 1
+    e : i + suc (indexOf 32 (drop i l)) ≡ nextPlace 32 l i + 1
     e = omega arith
 
 -- no word past the end
@@ -122,34 +125,34 @@ words-end l i h = rw (lt-leb i (length l) h)
 lines-split-by :
     (b : ℕ) (bs : List ℕ) (t : Bool) →
     eqb b 10 ≡ t →
-    (1 ≤ length bs → lines bs ≡ take (runOf 10 bs) bs ∷ lines (drop (suc (runOf 10 bs)) bs)) →
-    lines (b ∷ bs) ≡ take (runOf 10 (b ∷ bs)) (b ∷ bs) ∷ lines (drop (suc (runOf 10 (b ∷ bs))) (b ∷ bs))
-unfolding lines runOf
+    (1 ≤ length bs → lines bs ≡ take (indexOf 10 bs) bs ∷ lines (drop (suc (indexOf 10 bs)) bs)) →
+    lines (b ∷ bs) ≡ take (indexOf 10 (b ∷ bs)) (b ∷ bs) ∷ lines (drop (suc (indexOf 10 (b ∷ bs))) (b ∷ bs))
+unfolding lines indexOf indexAfter
 lines-split-by b bs true e h = rw e
 lines-split-by b [] false e h = rw e
 lines-split-by b (c ∷ bs) false e h = rw (e, h (omega arith))
 
-lines-split : (l : List ℕ) → 1 ≤ length l → lines l ≡ take (runOf 10 l) l ∷ lines (drop (suc (runOf 10 l)) l)
+lines-split : (l : List ℕ) → 1 ≤ length l → lines l ≡ take (indexOf 10 l) l ∷ lines (drop (suc (indexOf 10 l)) l)
 lines-split [] h = absurd (omega arith)
 lines-split (b ∷ bs) h = lines-split-by b bs (eqb b 10) refl (lines-split bs)
 
 lines-at :
     (s : List ℕ) (i : ℕ) →
     i < length s →
-    lines (drop i s) ≡ take (placeOf 10 s i - i) (drop i s) ∷ lines (drop (placeOf 10 s i + 1) s)
+    lines (drop i s) ≡ take (nextPlace 10 s i - i) (drop i s) ∷ lines (drop (nextPlace 10 s i + 1) s)
 lines-at s i h =
     lines-split (drop i s) (rw (length-drop i s) (omega arith))
-    ∙ (ap (λ (l : List ℕ). take (runOf 10 (drop i s)) (drop i s) ∷ lines l) (drop-drop (suc (runOf 10 (drop i s))) i s ∙ ap (λ (k : ℕ). drop k s) e)
-    ∙ ap (λ (l : List ℕ). l ∷ lines (drop (placeOf 10 s i + 1) s)) (sym (place-between 10 s i)))
+    ∙ (ap (λ (l : List ℕ). take (indexOf 10 (drop i s)) (drop i s) ∷ lines l) (drop-drop (suc (indexOf 10 (drop i s))) i s ∙ ap (λ (k : ℕ). drop k s) e)
+    ∙ ap (λ (l : List ℕ). l ∷ lines (drop (nextPlace 10 s i + 1) s)) (sym (place-between 10 s i)))
   where
-    e : i + suc (runOf 10 (drop i s)) ≡ placeOf 10 s i + 1
+    e : i + suc (indexOf 10 (drop i s)) ≡ nextPlace 10 s i + 1
     e = omega arith
 
 -- the line from place i on ends at e, and the others start after it
 pub lines-turn :
     (s : List ℕ) (i e : ℕ) →
     i < length s →
-    e ≡ placeOf 10 s i →
+    e ≡ nextPlace 10 s i →
     lines (drop i s) ≡ take (e - i) (drop i s) ∷ lines (drop (e + 1) s)
 lines-turn s i e h p = rw p (lines-at s i h)
 
@@ -288,7 +291,7 @@ typed-longer t (b ∷ w) e = omega arith
 
 -- a turn: the word at place i ends at e
 
-module _ (line : List ℕ) (i e : ℕ) (h : i ≤ length line) (p : e ≡ placeOf 32 line i) where
+module _ (line : List ℕ) (i e : ℕ) (h : i ≤ length line) (p : e ≡ nextPlace 32 line i) where
   words-turn : wordsFrom line i ≡ take (e - i) (drop i line) ∷ wordsFrom line (e + 1)
   words-turn = rw p (words-at line i h)
 
@@ -367,23 +370,23 @@ pub parsed-like : {r : Line} {out : List ℕ} {l m : sheet.Line} → Parsed r ou
 parsed-like p e = record { means = p .means ∙ e; fits = p .fits }
 
 -- a line's first word is its command
-parse-words : (l : List ℕ) → length l ≤ 255 → withTypes (take (placeOf 32 l 0) l) (typeWords (wordsFrom l (placeOf 32 l 0 + 1))) ≡ parse l
+parse-words : (l : List ℕ) → length l ≤ MAX-LINE → withTypes (take (nextPlace 32 l 0) l) (typeWords (wordsFrom l (nextPlace 32 l 0 + 1))) ≡ parse l
 unfolding parse
 parse-words l h =
-    let e : placeOf 32 l 0 - 0 ≡ placeOf 32 l 0 = omega arith in
-    rw (le-leb (length l) 255 h)
+    let e : nextPlace 32 l 0 - 0 ≡ nextPlace 32 l 0 = omega arith in
+    rw (le-leb (length l) MAX-LINE h)
     (sym
     (ap wordsLine (sym (words-inside l 0 (omega arith)) ∙ words-at l 0 (omega arith))
-    ∙ ap (λ (n : ℕ). withTypes (take n l) (typeWords (wordsFrom l (placeOf 32 l 0 + 1)))) e))
+    ∙ ap (λ (n : ℕ). withTypes (take n l) (typeWords (wordsFrom l (nextPlace 32 l 0 + 1)))) e))
 
 pub parse-of :
     (l : List ℕ) (e : ℕ) (ts : Option (List Ty)) →
-    length l ≤ 255 →
-    e ≡ placeOf 32 l 0 →
+    length l ≤ MAX-LINE →
+    e ≡ nextPlace 32 l 0 →
     ts ≡ typeWords (wordsFrom l (e + 1)) →
     withTypes (take e l) ts ≡ parse l
 parse-of l e ts h p k = rw (k, p) (parse-words l h)
 
-pub parse-long : (l : List ℕ) → 255 < length l → sheet.Line.bad ≡ parse l
+pub parse-long : (l : List ℕ) → MAX-LINE < length l → sheet.Line.bad ≡ parse l
 unfolding parse
-parse-long l h = rw (lt-leb (length l) 255 h)
+parse-long l h = rw (lt-leb (length l) MAX-LINE h)

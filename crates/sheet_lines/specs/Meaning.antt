@@ -9,6 +9,7 @@ use Rattle.scope.specs.Text.{text}
 use Rattle.scope.specs.Names.{eqBytes}
 use Rattle.scope.specs.Types.{Ty, tyOf}
 use Rattle.scope.specs.Sheet as sheet
+use Rattle.sheet_lines.specs.Limits.{MAX-LINE, LINE-TYPES}
 use Rattle.sheet_lines.specs.declared.Line.{Line}
 use Rattle.sheet_lines.specs.declared.Line.the-variants.{Var, Nil, Never, Default, Error, Finish, Tuple, Ref, Unify, Show, Bad}
 use Rattle.sheet_lines.specs.declared.TypeWord.{TypeWord}
@@ -55,21 +56,21 @@ room Bad = 0
 -- a line read beside some words
 pub record Parsed (r : Line) (out : List ℕ) (l : sheet.Line) : Type 0 where
   pub means : lineMeans r out ≡ l
-  pub fits : room r ≤ 128
+  pub fits : room r ≤ LINE-TYPES
 
 abbrev pub countRoom : TypeCount → ℕ
 countRoom (count.Are n) = n
 countRoom count.Nothing = 0
 
--- "one over 255 bytes is a bad line": a shorter one has fewer than 128 types
+-- a line that is no longer than a line may be, and words for as many types as it may have
 pub record Room (line out : List ℕ) : Type 0 where
-  pub short : length line ≤ 255
-  pub room : 128 ≤ length out
+  pub short : length line ≤ MAX-LINE
+  pub room : LINE-TYPES ≤ length out
 
 -- types read into some words
 pub record Counted (r : TypeCount) (out : List ℕ) (ts : Option (List Ty)) : Type 0 where
   pub means : countMeans r out ≡ ts
-  pub fits : countRoom r ≤ 128
+  pub fits : countRoom r ≤ LINE-TYPES
 
 -- a line that means the same beside any words
 pub record Always (r : Line) (l : sheet.Line) : Type 0 where

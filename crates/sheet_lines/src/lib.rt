@@ -3,12 +3,13 @@ ghost use mathlib.Core.Path.{_≡_};
 ghost use mathlib.Core.Bool.{_&&_};
 ghost use mathlib.Core.List.{map};
 ghost use mathlib.Core.Option.{some};
-ghost use Prim.Native.Nat.{_≤_};
+ghost use Prim.Native.Nat.{_-_, _≤_};
 ghost use lib.Dec.{leb};
 ghost use lib.ListN.{length, take};
 ghost use Rattle.scope.specs.Types.{tyOf};
 ghost use Rattle.scope.specs.Sheet.{noLeadingZero, nodeWord, typeWord, typeWords, plainLine, oneType, twoTypes, withTypes, parse};
-ghost use Rattle.sheet_lines.specs.Places.{placeOf, wordsFrom};
+ghost use Rattle.sheet_lines.specs.Limits.{LINE-TYPES};
+ghost use Rattle.sheet_lines.specs.Places.{nextPlace, wordsFrom};
 ghost use Rattle.sheet_lines.specs.Meaning.{wordMeans, Room, Parsed, Counted, Always, Unless};
 use names::same_bytes;
 use types::Inverted;
@@ -17,6 +18,9 @@ use types::TypeIdx;
 
 // "Any other line, an empty one or one over 255 bytes is a bad line"
 const MAX_LINE: usize = 255;
+
+// A type takes a byte, and a space stands between two: no line has more types than this.
+pub const LINE_TYPES: usize = 128;
 
 // A Tuple holds how many types it has; they stand at the front of the words lent beside it.
 pub enum Line {
@@ -45,31 +49,29 @@ enum TypeCount {
     Nothing,
 }
 
-fn wide(x: u8) -> u32
-    ensures { λ r. ⌜ r ≡ x ⌝ }
+// What a digit's byte counts.
+fn digit_of(d: u8) -> u32
+    requires { ⌜ 48 ≤ d ⌝ }
+    ensures { λ r. ⌜ r ≡ d - 48 ⌝ }
 {
-    x as u32
+    (d - b'0') as u32
 }
 
 // The first place from `from` on where the byte stands, or the end.
-fn place_of(s: &[u8], from: usize, byte: u8) -> usize
-    ensures { λ r. ⌜ r ≡ placeOf byte (now (s .entry)) from ⌝ }
+fn next_place(s: &[u8], from: usize, byte: u8) -> usize
+    ensures { λ r. ⌜ r ≡ nextPlace byte (now (s .entry)) from ⌝ }
 {
-    let mut i = from;
-    while i < s.len() {
-        if s[i] == byte {
-            return i;
-        }
-        i += 1;
+    if s.len() < from {
+        return from;
     }
-    i // the end: the byte stands nowhere
+    bytes::scan::find(s, from, s.len(), byte)
 }
 
 // Where the line that starts at `from` ends: "a last line may lack its newline"
 pub fn line_end(input: &[u8], from: usize) -> usize
-    ensures { λ r. ⌜ r ≡ placeOf 10 (now (input .entry)) from ⌝ }
+    ensures { λ r. ⌜ r ≡ nextPlace 10 (now (input .entry)) from ⌝ }
 {
-    place_of(input, from, b'\n')
+    next_place(input, from, b'\n')
 }
 
 // "one to four decimal digits and no leading zero except `0` itself"
@@ -104,7 +106,7 @@ fn node_of(inv: Inverted, w: &[u8]) -> TypeWord
         if d > b'9' {
             return TypeWord::Nothing;
         }
-        n = n * 10 + wide(d - b'0');
+        n = n * 10 + digit_of(d);
         i += 1;
     }
     TypeWord::Is(Type::new(inv, TypeIdx(n)))
@@ -123,7 +125,7 @@ fn type_of(w: &[u8]) -> TypeWord
     node_of(Inverted(false), w)
 }
 
-// The words from a place on, read as types into `out`. Each takes a byte and a space, so 128 words of room are enough.
+// The words from a place on, read as types into `out`.
 fn types_from(line: &[u8], from: usize, out: &mut [u32]) -> TypeCount
     requires { ⌜ Room (now line) (now out) ⌝ }
     ensures { λ r. ⌜ Counted r (now (out .exit)) (typeWords (wordsFrom (now (line .entry)) from)) ⌝ }
@@ -131,7 +133,7 @@ fn types_from(line: &[u8], from: usize, out: &mut [u32]) -> TypeCount
     let mut n: usize = 0;
     let mut at = from;
     while at <= line.len() {
-        let e = place_of(line, at, b' ');
+        let e = next_place(line, at, b' ');
         let TypeWord::Is(t) = type_of(&line[at..e]) else {
             return TypeCount::Nothing;
         };
@@ -195,7 +197,7 @@ fn two_types(w: &[u8], t: Type, u: Type) -> Line
 
 // "`tuple` takes any number of types, none included; `ref` and `show` one; `unify` two; the rest none."
 fn line_of(w: &[u8], n: u32, out: &[u32]) -> Line
-    requires { ⌜ (n ≤ 128) × (128 ≤ length (now out)) ⌝ }
+    requires { ⌜ (n ≤ «LINE-TYPES») × («LINE-TYPES» ≤ length (now out)) ⌝ }
     ensures { λ r. ⌜ Parsed r (now (out .entry)) (withTypes (now (w .entry)) (some (map tyOf (take n (now (out .entry)))))) ⌝ }
 {
     if n == 0 {
@@ -215,13 +217,13 @@ fn line_of(w: &[u8], n: u32, out: &[u32]) -> Line
 
 // The words lent have room for the types of any line. What else they hold afterwards is left free.
 pub fn parse(line: &[u8], out: &mut [u32]) -> Line
-    requires { ⌜ 128 ≤ length (now out) ⌝ }
+    requires { ⌜ «LINE-TYPES» ≤ length (now out) ⌝ }
     ensures { λ r. ⌜ Parsed r (now (out .exit)) (parse (now (line .entry))) ⌝ }
 {
     if line.len() > MAX_LINE {
         return Line::Bad;
     }
-    let e = place_of(line, 0, b' ');
+    let e = next_place(line, 0, b' ');
     let TypeCount::Are(n) = types_from(line, e + 1, out) else {
         return Line::Bad;
     };

@@ -1,4 +1,4 @@
--- `bench::faroalder_error` meets its contract: it is `makes::error`, whose answer its number gives back.
+-- `bench::faroalder_error` meets its contract: it is `call_make::error`, whose answer its number gives back.
 -- Assumes nothing.
 use borrow.Author.Needs.{needs}
 use Rattle.bench.proofs.faroalder_error.Statement.{statement}

@@ -1,4 +1,4 @@
--- `bench::faroalder_new` meets its contract: it is `news::new`, whose answer its number gives back.
+-- `bench::faroalder_new` meets its contract: it is `call_new::new`, whose answer its number gives back.
 -- Assumes nothing.
 use borrow.Author.Needs.{needs}
 use Rattle.bench.proofs.faroalder_new.Statement.{statement}

@@ -1,4 +1,4 @@
--- `bench::faroalder_new_var` meets its contract: it is `makes::new_var`, whose answer its number gives back.
+-- `bench::faroalder_new_var` meets its contract: it is `call_make::new_var`, whose answer its number gives back.
 -- Assumes nothing.
 use borrow.Author.Needs.{needs}
 use Rattle.bench.proofs.faroalder_new_var.Statement.{statement}

@@ -1,4 +1,4 @@
--- `bench::faroalder_new_vars` meets its contract: it is `makes::new_vars`, whose answer its number gives back.
+-- `bench::faroalder_new_vars` meets its contract: it is `call_make::new_vars`, whose answer its number gives back.
 -- Assumes nothing.
 use borrow.Author.Needs.{needs}
 use Rattle.bench.proofs.faroalder_new_vars.Statement.{statement}

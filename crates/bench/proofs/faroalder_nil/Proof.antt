@@ -1,4 +1,4 @@
--- `bench::faroalder_nil` meets its contract: it is `makes::nil`, whose answer its number gives back.
+-- `bench::faroalder_nil` meets its contract: it is `call_make::nil`, whose answer its number gives back.
 -- Assumes nothing.
 use borrow.Author.Needs.{needs}
 use Rattle.bench.proofs.faroalder_nil.Statement.{statement}

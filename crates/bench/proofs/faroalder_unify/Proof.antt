@@ -1,4 +1,4 @@
--- `bench::faroalder_unify` meets its contract: it is `unifies::unify`, whose answer its number gives back.
+-- `bench::faroalder_unify` meets its contract: it is `call_unify::unify`, whose answer its number gives back.
 -- Assumes nothing.
 use borrow.Author.Needs.{needs}
 use Rattle.bench.proofs.faroalder_unify.Statement.{statement}

@@ -1,4 +1,4 @@
--- `trial::flips` is safe and ends: the measure is what is left of the slice, and lengths stay.
+-- `run_calls::flips` is safe and ends: the measure is what is left of the slice, and lengths stay.
 -- Assumes nothing.
 use mathlib.Core.Path.{_≡_}
 use Prim.Native.Nat.{_-_}

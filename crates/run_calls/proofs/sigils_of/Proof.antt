@@ -1,4 +1,4 @@
--- `trial::sigils_of` is safe and ends: the measure is what is left of the twelve.
+-- `run_calls::sigils_of` is safe and ends: the measure is what is left of the twelve.
 -- Assumes nothing.
 use mathlib.Core.Path.{_≡_, refl, _∙_}
 use Prim.Native.Nat.{_-_, _≤_}

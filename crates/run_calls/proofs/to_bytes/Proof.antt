@@ -1,4 +1,4 @@
--- `trial::to_bytes` meets its contract: as many are copied as there is room for. The measure is what is left to copy.
+-- `run_calls::to_bytes` meets its contract: as many are copied as there is room for. The measure is what is left to copy.
 -- Assumes nothing.
 use mathlib.Core.Path.{_≡_, sym}
 use Prim.Native.Nat.{_-_, _≤_}

@@ -1,4 +1,4 @@
--- `trial::turns` is safe and ends: the measure is what is left of the numbers, and lengths stay.
+-- `run_calls::turns` is safe and ends: the measure is what is left of the numbers, and lengths stay.
 -- Assumes nothing.
 use mathlib.Core.Path.{_≡_, _∙_}
 use Prim.Native.Nat.{_-_}

@@ -1,4 +1,4 @@
--- `trial::upto` meets its contract: the smaller of the two counts a part of the slice.
+-- `run_calls::upto` meets its contract: the smaller of the two counts a part of the slice.
 -- Assumes nothing.
 use mathlib.Core.Path.{sym}
 use lib.Seq.{length-take-le}

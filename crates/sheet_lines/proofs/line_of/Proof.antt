@@ -1,4 +1,4 @@
--- `lines::line_of` meets its contract: no type, one, two or more, and a tuple takes any number.
+-- `sheet_lines::line_of` meets its contract: no type, one, two or more, and a tuple takes any number.
 -- Assumes nothing.
 use mathlib.Core.List.{map}
 use Prim.Native.Nat.{_≤_}
@@ -32,7 +32,8 @@ returns-2 c =
     let w = s .w .now in
     let out = s .out .now in
     let t = laws.said (c .before .same-bytes .ensures) (c .if2 .taken) in
-    record { means = laws.with-tuple w (map tyOf (take (s .n) out)) t; fits = c .before .before .before .before .before .before .pre .0 }
+    let pre = c .before .before .before .before .before .before .pre in
+    record { means = laws.with-tuple w (map tyOf (take (s .n) out)) t; fits = pre .0 }
 
 shared-slice-read-t10 : tie.Need-shared-slice-read-t10
 shared-slice-read-t10 c = search needs
@@ -62,7 +63,8 @@ returns-4 c =
     let s = c .before .before .before .before .before .before .before .before .before .before .before .args in
     let w = s .w .now in
     let out = s .out .now in
-    let nt = laws.said (c .before .before .before .before .before .before .same-bytes .ensures) (c .before .before .before .before .before .if2 .left) in
+    let said = c .before .before .before .before .before .before .same-bytes .ensures in
+    let nt = laws.said said (c .before .before .before .before .before .if2 .left) in
     laws.parsed-like (c .two-types .ensures .beside nt out) (laws.with-two w out (s .n) (c .before .before .before .if4 .taken) (omega arith))
 
 returns-5 : tie.Need-returns-5

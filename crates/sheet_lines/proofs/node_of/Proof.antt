@@ -1,4 +1,4 @@
--- `lines::node_of` meets its contract. The digits passed give n, which is below a power of ten; those to come, started from n, give the whole word's value.
+-- `sheet_lines::node_of` meets its contract. The digits passed give n, which is below a power of ten; those to come, started from n, give the whole word's value.
 -- Assumes nothing.
 use mathlib.Core.Path.{_≡_, refl, sym, ap, _∙_}
 use mathlib.Core.Bool.{true, _&&_}
@@ -63,11 +63,11 @@ returns-3 c =
 mul-n : tie.Need-mul-n Inv-loop μ-loop
 mul-n c = omega (arith, laws.tens-small (c .before .before .before .before .loop .i) (omega arith))
 
-wide-requires : tie.Need-wide-requires Inv-loop μ-loop
-wide-requires c κs = search needs
+digit-of-requires : tie.Need-digit-of-requires Inv-loop μ-loop
+digit-of-requires c κs = search needs
 
 add-n : tie.Need-add-n Inv-loop μ-loop
-add-n c = omega (arith, laws.tens-small (c .before .before .before .before .before .loop .i) (omega arith), c .wide .ensures)
+add-n c = omega (arith, laws.tens-small (c .before .before .before .before .before .loop .i) (omega arith), c .digit-of .ensures)
 
 add-i : tie.Need-add-i Inv-loop μ-loop
 add-i c = omega arith
@@ -83,9 +83,9 @@ loop-again c =
       omega arith,
       l .inv .1,
       l .inv .2,
-      laws.tens-step (l .n) (l .i) (c .wide .result) (l .inv .3) (omega (arith, c .wide .ensures)),
+      laws.tens-step (l .n) (l .i) (c .digit-of .result) (l .inv .3) (omega (arith, c .digit-of .ensures)),
       laws.digit-step w (l .i) h (c .before .before .if2 .left) (c .before .if3 .left) ∙ l .inv .4,
-      laws.value-step w (l .i) h (l .n) (c .wide .result) (c .wide .ensures) ∙ l .inv .5,
+      laws.value-step w (l .i) h (l .n) (c .digit-of .result) (c .digit-of .ensures) ∙ l .inv .5,
     )
 
 new-requires : tie.Need-new-requires Inv-loop μ-loop
@@ -116,7 +116,7 @@ node-of-spec =
     returns-2
     returns-3
     mul-n
-    wide-requires
+    digit-of-requires
     add-n
     add-i
     loop-less

@@ -1,4 +1,4 @@
--- `lines::node_shape` meets its contract: no byte, one, too many, or a first byte that is tested.
+-- `sheet_lines::node_shape` meets its contract: no byte, one, too many, or a first byte that is tested.
 -- Assumes nothing.
 use borrow.Author.Needs.{needs}
 use native.Mathlib.Omega.{arith}
@@ -19,7 +19,9 @@ shared-slice-read-result : tie.Need-shared-slice-read-result
 shared-slice-read-result c = search needs
 
 returns-4 : tie.Need-returns-4
-returns-4 c = laws.shape-first (c .before .before .before .before .args .w .now) (omega (arith, c .before .before .before .if1 .left, c .before .before .if2 .left)) (c .before .if3 .left)
+returns-4 c =
+    let some = c .before .before .before .if1 .left in
+    laws.shape-first (c .before .before .before .before .args .w .now) (omega (arith, some, c .before .before .if2 .left)) (c .before .if3 .left)
 
 pub node-shape-spec : {M : Type 1} → statement M
 node-shape-spec =

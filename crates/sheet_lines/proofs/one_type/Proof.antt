@@ -1,4 +1,4 @@
--- `lines::one_type` meets its contract: the tests stand in the definition's order, after that for a tuple.
+-- `sheet_lines::one_type` meets its contract: the tests stand in the definition's order, after that for a tuple.
 -- Assumes nothing.
 use borrow.Author.Needs.{needs}
 use native.Mathlib.Omega.{arith}

@@ -1,4 +1,4 @@
--- `lines::parse` meets its contract: the first word is the command, and the words after its space are the types.
+-- `sheet_lines::parse` meets its contract: the first word is the command, and the words after its space are the types.
 -- Assumes nothing.
 use mathlib.Core.Path.{sym, ap, _∙_}
 use mathlib.Core.List.{map}
@@ -17,13 +17,13 @@ use Rattle.sheet_lines.proofs.parse.Tie as tie
 returns : tie.Need-returns
 returns c = record { means = laws.parse-long (c .before .before .before .args .line .now) (c .if1 .taken); fits = omega arith }
 
-place-of-requires : tie.Need-place-of-requires
-place-of-requires c κs = search needs
+next-place-requires : tie.Need-next-place-requires
+next-place-requires c κs = search needs
 
 add-types-from : tie.Need-add-types-from
 add-types-from c =
     let line = c .before .before .before .before .args .line .now in
-    omega (arith, laws.place-within 32 line 0 (c .place-of .result) (omega arith) (c .place-of .ensures))
+    omega (arith, laws.place-within 32 line 0 (c .next-place .result) (omega arith) (c .next-place .ensures))
 
 types-from-requires : tie.Need-types-from-requires
 types-from-requires c κs = search needs
@@ -40,9 +40,9 @@ same-length c = search needs
 returns-2 : tie.Need-returns-2
 returns-2 c =
     let line = c .before .before .before .before .before .before .before .before .before .before .args .line .now in
-    let e = c .before .before .before .before .before .before .place-of .result in
+    let e = c .before .before .before .before .before .before .next-place .result in
     let h = c .before .before .before .before .before .before .before .if1 .left in
-    let p = c .before .before .before .before .before .before .place-of .ensures in
+    let p = c .before .before .before .before .before .before .next-place .ensures in
     let out = c .before .before .before .before .types-from .last .1 .1 .0 in
     let ts = c .before .before .before .before .types-from .ensures .means in
     let t = ap (λ (r : TypeCount). countMeans r out) (sym (c .enum-told .given .1)) ∙ ts in
@@ -51,15 +51,16 @@ returns-2 c =
 slice-aggregate-line-of : tie.Need-slice-aggregate-line-of
 slice-aggregate-line-of c =
     let line = c .before .before .before .before .before .before .before .before .before .before .before .before .args .line .now in
-    let e = c .before .before .before .before .before .before .before .before .place-of .result in
-    let p = c .before .before .before .before .before .before .before .before .place-of .ensures in
+    let e = c .before .before .before .before .before .before .before .before .next-place .result in
+    let p = c .before .before .before .before .before .before .before .before .next-place .ensures in
     sym (length-take-le e line (laws.place-within 32 line 0 e (omega arith) p .1))
 
 line-of-requires : tie.Need-line-of-requires
 line-of-requires c κs =
     let f = c .before .before .before .before .before .before .before .types-from .ensures .fits in
     let l = c .before .before .before .before .before .before .before .types-from .kept .1 .1 .0 in
-    (rw (c .before .before .before .n .given .1) at f, omega (arith, l, c .before .before .before .before .before .before .before .before .before .before .before .before .before .pre))
+    let room = c .before .before .before .before .before .before .before .before .before .before .before .before .before .pre in
+    (rw (c .before .before .before .n .given .1) at f, omega (arith, l, room))
 
 same-length-2 : tie.Need-same-length-2
 same-length-2 c = search needs
@@ -67,9 +68,9 @@ same-length-2 c = search needs
 returns-3 : tie.Need-returns-3
 returns-3 c =
     let line = c .before .before .before .before .before .before .before .before .before .before .before .before .before .before .args .line .now in
-    let e = c .before .before .before .before .before .before .before .before .before .before .place-of .result in
+    let e = c .before .before .before .before .before .before .before .before .before .before .next-place .result in
     let h = c .before .before .before .before .before .before .before .before .before .before .before .if1 .left in
-    let p = c .before .before .before .before .before .before .before .before .before .before .place-of .ensures in
+    let p = c .before .before .before .before .before .before .before .before .before .before .next-place .ensures in
     let out = c .before .before .before .before .before .before .before .before .types-from .last .1 .1 .0 in
     let ts = c .before .before .before .before .before .before .before .before .types-from .ensures .means in
     let n = c .before .before .before .before .n .given .0 .0 in
@@ -81,7 +82,7 @@ parse-spec =
     tie.close
     (tie.spec
     returns
-    place-of-requires
+    next-place-requires
     add-types-from
     types-from-requires
     enum-known-n

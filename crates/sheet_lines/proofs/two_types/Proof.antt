@@ -1,4 +1,4 @@
--- `lines::two_types` meets its contract: the test stands after that for a tuple.
+-- `sheet_lines::two_types` meets its contract: the test stands after that for a tuple.
 -- Assumes nothing.
 use borrow.Author.Needs.{needs}
 use native.Mathlib.Omega.{arith}

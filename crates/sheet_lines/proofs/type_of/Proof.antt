@@ -1,4 +1,4 @@
--- `lines::type_of` meets its contract: no byte, a first byte `~` before a node, or a node.
+-- `sheet_lines::type_of` meets its contract: no byte, a first byte `~` before a node, or a node.
 -- Assumes nothing.
 use mathlib.Core.Path.{_∙_}
 use borrow.Author.Needs.{needs}
@@ -26,13 +26,17 @@ node-of-requires : tie.Need-node-of-requires
 node-of-requires c κs = search needs
 
 returns-2 : tie.Need-returns-2
-returns-2 c = c .node-of .ensures ∙ laws.type-tilde (c .before .before .before .before .before .before .args .w .now) (omega (arith, c .before .before .before .before .if1 .left)) (c .before .before .if2 .taken)
+returns-2 c =
+    let some = c .before .before .before .before .if1 .left in
+    c .node-of .ensures ∙ laws.type-tilde (c .before .before .before .before .before .before .args .w .now) (omega (arith, some)) (c .before .before .if2 .taken)
 
 node-of-requires-2 : tie.Need-node-of-requires-2
 node-of-requires-2 c κs = search needs
 
 returns-3 : tie.Need-returns-3
-returns-3 c = c .node-of2 .ensures ∙ laws.type-plain (c .before .before .before .before .before .args .w .now) (omega (arith, c .before .before .before .if1 .left)) (c .before .if2 .left)
+returns-3 c =
+    let some = c .before .before .before .if1 .left in
+    c .node-of2 .ensures ∙ laws.type-plain (c .before .before .before .before .before .args .w .now) (omega (arith, some)) (c .before .if2 .left)
 
 pub type-of-spec : {M : Type 1} → statement M
 type-of-spec =

@@ -1,4 +1,4 @@
--- `trial::asking::marked` is safe and ends: the measure is what is left of the marks.
+-- `run_calls::asking::marked` is safe and ends: the measure is what is left of the marks.
 -- Assumes nothing.
 use mathlib.Core.Path.{_≡_, refl, _∙_}
 use Prim.Native.Nat.{_-_, _≤_}

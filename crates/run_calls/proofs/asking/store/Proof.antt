@@ -1,4 +1,4 @@
--- `trial::asking::store` is safe and ends: the measure is what is left of the nodes.
+-- `run_calls::asking::store` is safe and ends: the measure is what is left of the nodes.
 -- Assumes nothing.
 use Prim.Native.Nat.{_-_}
 use native.Mathlib.Omega.{arith}

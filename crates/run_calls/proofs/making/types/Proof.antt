@@ -1,4 +1,4 @@
--- `trial::making::types` is safe and ends: the measure is what is left of the list.
+-- `run_calls::making::types` is safe and ends: the measure is what is left of the list.
 -- Assumes nothing.
 use mathlib.Core.Path.{_≡_, refl, _∙_}
 use Prim.Native.Nat.{_-_, _≤_}

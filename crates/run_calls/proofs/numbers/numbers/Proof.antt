@@ -1,4 +1,4 @@
--- `trial::numbers::numbers` is safe and ends: the measure is what is left of the text, and the room for numbers stays.
+-- `run_calls::numbers::numbers` is safe and ends: the measure is what is left of the text, and the room for numbers stays.
 -- Assumes nothing.
 use mathlib.Core.Path.{_≡_, refl, _∙_}
 use Prim.Native.Nat.{_-_, _≤_}

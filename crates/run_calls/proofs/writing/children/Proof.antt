@@ -1,4 +1,4 @@
--- `trial::writing::children` is safe and ends: the measure is what is left of the children.
+-- `run_calls::writing::children` is safe and ends: the measure is what is left of the children.
 -- Assumes nothing.
 use mathlib.Core.Path.{_≡_, refl, _∙_}
 use Prim.Native.Nat.{_-_, _≤_}

@@ -1,4 +1,4 @@
--- `trial::writing::words` is safe and ends: the measure is what is left of the list.
+-- `run_calls::writing::words` is safe and ends: the measure is what is left of the list.
 -- Assumes nothing.
 use Prim.Native.Nat.{_-_}
 use lib.ListN.{length}
