@@ -22,7 +22,7 @@ use Rattle.scope.specs.Sheet.{lines, words, isDigit, valueFrom, noLeadingZero, 
 use Rattle.scope.proofs.NameLaws.{eq-bytes}
 use Rattle.names.proofs.Tests.{both}
 use Rattle.bytes.specs.Bytes.{slice, indexOf, indexAfter}
-use Rattle.sheet_lines.specs.Limits.{MAX-LINE}
+use Rattle.scope.specs.Limits.{MAX-LINE, MAX-DIGITS}
 use Rattle.sheet_lines.specs.Places.{nextPlace, wordsFrom}
 use Rattle.sheet_lines.specs.Meaning.{Parsed}
 use Rattle.sheet_lines.specs.declared.Line.{Line}
@@ -33,7 +33,7 @@ said e h = sym e ∙ h
 
 -- a word that was found to be v is v
 pub word-is : {r : Bool} (w v : List ℕ) → r ≡ eqBytes w v → r ≡ true → w ≡ v
-word-is w v e h = same-equal w v (said e h)
+word-is w v e h = eq-bytes w v (said e h)
 
 -- where a byte stands next
 
@@ -193,28 +193,28 @@ module _ (w : List ℕ) (i : ℕ) (h : i < length w) where
 
 -- how long a node's word is, and how it begins
 
-pub shape-empty : (w : List ℕ) → length w ≡ 0 → false ≡ (leb (length w) 4 && noLeadingZero w)
+pub shape-empty : (w : List ℕ) → length w ≡ 0 → false ≡ (leb (length w) MAX-DIGITS && noLeadingZero w)
 shape-empty [] h = refl
 shape-empty (b ∷ w) h = absurd (omega arith)
 
-pub shape-one : (w : List ℕ) → length w ≡ 1 → true ≡ (leb (length w) 4 && noLeadingZero w)
+pub shape-one : (w : List ℕ) → length w ≡ 1 → true ≡ (leb (length w) MAX-DIGITS && noLeadingZero w)
 shape-one [] h = absurd (omega arith)
 shape-one (b ∷ []) h = refl
 shape-one (b ∷ c ∷ w) h = absurd (omega arith)
 
-pub shape-long : (w : List ℕ) → 4 < length w → false ≡ (leb (length w) 4 && noLeadingZero w)
-shape-long w h = rw (lt-leb (length w) 4 h)
+pub shape-long : (w : List ℕ) → MAX-DIGITS < length w → false ≡ (leb (length w) MAX-DIGITS && noLeadingZero w)
+shape-long w h = rw (lt-leb (length w) MAX-DIGITS h)
 
-pub shape-first : (w : List ℕ) → 2 ≤ length w → length w ≤ 4 → not (eqb (getD w 0 0) 48) ≡ (leb (length w) 4 && noLeadingZero w)
+pub shape-first : (w : List ℕ) → 2 ≤ length w → length w ≤ MAX-DIGITS → not (eqb (getD w 0 0) 48) ≡ (leb (length w) MAX-DIGITS && noLeadingZero w)
 shape-first [] h k = absurd (omega arith)
 shape-first (b ∷ []) h k = absurd (omega arith)
-shape-first (b ∷ c ∷ w) h k = rw (le-leb (suc (suc (length w))) 4 k)
+shape-first (b ∷ c ∷ w) h k = rw (le-leb (suc (suc (length w))) MAX-DIGITS k)
 
 -- a word that is no node
-pub node-shapeless : (b : Bool) (w : List ℕ) → (leb (length w) 4 && noLeadingZero w) ≡ false → nodeWord b w ≡ none
+pub node-shapeless : (b : Bool) (w : List ℕ) → (leb (length w) MAX-DIGITS && noLeadingZero w) ≡ false → nodeWord b w ≡ none
 node-shapeless b w e = go (all isDigit w)
   where
-    go : (t : Bool) → pick (t && (leb (length w) 4 && noLeadingZero w)) (some (ty b (valueFrom 0 w))) none ≡ none
+    go : (t : Bool) → pick (t && (leb (length w) MAX-DIGITS && noLeadingZero w)) (some (ty b (valueFrom 0 w))) none ≡ none
     go true = rw e
     go false = refl
 
@@ -224,14 +224,14 @@ node-other b w e = rw e
 -- a word that is one
 pub node-is :
     (b : Bool) (w : List ℕ) (n : ℕ) →
-    (leb (length w) 4 && noLeadingZero w) ≡ true →
+    (leb (length w) MAX-DIGITS && noLeadingZero w) ≡ true →
     all isDigit w ≡ true →
     valueFrom 0 w ≡ n →
     nodeWord b w ≡ some (ty b n)
 node-is b w n s d v = rw (d, s, v)
 
-pub shape-short : (w : List ℕ) → (leb (length w) 4 && noLeadingZero w) ≡ true → length w ≤ 4
-shape-short w e = leb-true (length w) 4 (both (leb (length w) 4) (noLeadingZero w) e .0)
+pub shape-short : (w : List ℕ) → (leb (length w) MAX-DIGITS && noLeadingZero w) ≡ true → length w ≤ MAX-DIGITS
+shape-short w e = leb-true (length w) MAX-DIGITS (both (leb (length w) MAX-DIGITS) (noLeadingZero w) e .0)
 
 -- a word's first byte
 

@@ -9,7 +9,8 @@ use Rattle.scope.specs.Text.{text}
 use Rattle.scope.specs.Names.{eqBytes}
 use Rattle.scope.specs.Types.{Ty, tyOf}
 use Rattle.scope.specs.Sheet as sheet
-use Rattle.sheet_lines.specs.Limits.{MAX-LINE, LINE-TYPES}
+use Rattle.scope.specs.Limits.{MAX-LINE}
+use Rattle.sheet_lines.specs.Limits.{LINE-TYPES}
 use Rattle.sheet_lines.specs.declared.Line.{Line}
 use Rattle.sheet_lines.specs.declared.Line.the-variants.{Var, Nil, Never, Default, Error, Finish, Tuple, Ref, Unify, Show, Bad}
 use Rattle.sheet_lines.specs.declared.TypeWord.{TypeWord}

@@ -6,18 +6,18 @@ ghost use mathlib.Core.Option.{some};
 ghost use Prim.Native.Nat.{_-_, _≤_};
 ghost use lib.Dec.{leb};
 ghost use lib.ListN.{length, take};
+ghost use Rattle.scope.specs.Limits.{«MAX-DIGITS»};
 ghost use Rattle.scope.specs.Types.{tyOf};
 ghost use Rattle.scope.specs.Sheet.{noLeadingZero, nodeWord, typeWord, typeWords, plainLine, oneType, twoTypes, withTypes, parse};
 ghost use Rattle.sheet_lines.specs.Limits.{LINE-TYPES};
 ghost use Rattle.sheet_lines.specs.Places.{nextPlace, wordsFrom};
 ghost use Rattle.sheet_lines.specs.Meaning.{wordMeans, Room, Parsed, Counted, Always, Unless};
 use names::same_bytes;
+use scope::MAX_DIGITS;
+use scope::MAX_LINE;
 use types::Inverted;
 use types::Type;
 use types::TypeIdx;
-
-// "Any other line, an empty one or one over 255 bytes is a bad line"
-const MAX_LINE: usize = 255;
 
 // A type takes a byte, and a space stands between two: no line has more types than this.
 pub const LINE_TYPES: usize = 128;
@@ -76,7 +76,7 @@ pub fn line_end(input: &[u8], from: usize) -> usize
 
 // "one to four decimal digits and no leading zero except `0` itself"
 fn node_shape(w: &[u8]) -> bool
-    ensures { λ r. ⌜ r ≡ (leb (length (now (w .entry))) 4 && noLeadingZero (now (w .entry))) ⌝ }
+    ensures { λ r. ⌜ r ≡ (leb (length (now (w .entry))) «MAX-DIGITS» && noLeadingZero (now (w .entry))) ⌝ }
 {
     if w.len() == 0 {
         return false;
@@ -84,7 +84,7 @@ fn node_shape(w: &[u8]) -> bool
     if w.len() == 1 {
         return true;
     }
-    if w.len() > 4 {
+    if w.len() > MAX_DIGITS {
         return false;
     }
     w[0] != b'0'
