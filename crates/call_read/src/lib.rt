@@ -21,12 +21,8 @@ use layout::TypeNode;
 use layout::TypeState;
 use names::Name;
 use promise::refusal_at;
-<<<<<<< HEAD
-use refusals::NO_REFUSAL;
-=======
 use refusals::NO_REFUSAL;
 use types::Inverted;
->>>>>>> calls9
 use types::Type;
 
 // A child, if there is one.
