@@ -5,18 +5,16 @@ use mathlib.Core.Bool.{Bool, true, false, _&&_}
 use mathlib.Core.List.{List, [], _∷_, map}
 use Prim.Native.Nat.{ℕ, zero, suc, _+_, _*_, _/_, _%_, _≤_, _<_}
 use native.Mathlib.Nat.{add-zero, zero-add, zero-mul, suc-mul}
-use native.Mathlib.Numerals.{add-one}
 use native.Mathlib.Decide.{decLt}
 use native.Mathlib.Omega.{arith}
 use lib.Dec.{eqb, leb}
-use lib.ListN.{length, getD, drop, drop-of-length-le, replicate, getD-replicate, length-replicate, List·getD-eq-default}
-use lib.Seq.{drop-cons, drop-drop, getD-drop}
+use lib.ListN.{length, getD, drop, replicate, getD-replicate, length-replicate, List·getD-eq-default}
+use lib.Seq.{drop-drop, getD-drop}
 use Rattle.scope.specs.Base.{all, from}
 use Rattle.scope.specs.Limits.{MAX-RECORDS}
 use Rattle.scope.specs.Names.{name, textsOk}
 use Rattle.scope.specs.Chart.{Record, noRecord, NO-SORT, recordOk, fnTraitOk, sigilOk, chartOk}
 use Rattle.names.specs.Place.{texts}
-use Rattle.names.proofs.Tests.{both}
 use Rattle.chart.specs.declared.Beside.{Beside}
 use Rattle.chart.specs.Env.{sigilsOf, envOf, chartIn, chartWordsOk}
 use Rattle.chart.specs.Words.{RECORD-WORDS, NAME-WORDS, runs, nameAt, recordIn, wordsOf, recordsOf, recordOf}

@@ -1,4 +1,5 @@
-// The chart's records on plain numbers, what stands beside the chart, and the test of chart and texts. One function, word, reads the chart; a definition that the chart lacks reads as a record of no sort.
+// The chart's records on plain numbers, what stands beside the chart, and the test of chart and texts. One function, word, reads the chart; a definition
+// that the chart lacks reads as a record of no sort.
 ghost use mathlib.Core.Path.{_≡_};
 ghost use mathlib.Core.List.{[]};
 ghost use mathlib.Core.Bool.{_||_};

@@ -13,7 +13,8 @@ use borrow.Author.Tests.{leb-true, le-leb, not-true}
 use Rattle.scope.specs.Limits.{NONE}
 use Rattle.scope.specs.Sound.{zeros, reads}
 use Rattle.layout.specs.Words as words
-use Rattle.layout.specs.Words.{HEAD-WORDS, nodeWords, childWords, nodeClean, decode, nodesMade, childrenMade, nodeRoom, childRoom, storeIn, longEnough, between, unusedZero, nodesClean, clean, lentOf}
+use Rattle.layout.specs.Words.{HEAD-WORDS, nodeWords, childWords, nodeClean, decode, nodesMade, childrenMade, nodeRoom, childRoom, storeIn}
+use Rattle.layout.specs.Words.{longEnough, between, unusedZero, nodesClean, clean, lentOf}
 use Rattle.layout.specs.Meaning.{HALF, rememberedOf, rememberedWord, rememberedMeans, rememberedFits, headerIn, putHeader, storeMeans, Clean, Lies, Grown}
 use Rattle.layout.specs.declared.Header.{Header}
 use Rattle.layout.specs.declared.Remembered.{Remembered}

@@ -16,7 +16,8 @@ use Rattle.scope.specs.Sound as sound
 use Rattle.types.specs.declared.«Type».{«Type»}
 use Rattle.types.specs.declared.Inverted.{Inverted}
 use Rattle.names.specs.Place.{nameFrom, noName}
-use Rattle.layout.specs.Words.{NODE-WORDS, CHILD-WORDS, HEAD-WORDS, KNOWN-TAG, nodeWords, childWords, nodeField, slotAt, slots, cellAt, nodeClean, nodesMade, childrenMade, nodeRoom, childRoom, reports}
+use Rattle.layout.specs.Words.{NODE-WORDS, CHILD-WORDS, HEAD-WORDS, KNOWN-TAG, nodeWords, childWords, nodeField, slotAt, slots, cellAt, nodeClean}
+use Rattle.layout.specs.Words.{nodesMade, childrenMade, nodeRoom, childRoom, reports}
 use Rattle.layout.specs.declared.Kind.{Kind}
 use Rattle.layout.specs.declared.Cell.{Cell}
 use Rattle.layout.specs.declared.Slot.{Slot}

@@ -1,11 +1,13 @@
 // A store in three lent slices of numbers: where each number lies, and how a node, a child and the header are read and written.
 // Nothing above this crate reads a word: it uses these functions and the laws of proofs/.
+mod encoding;
+
 ghost use mathlib.Core.Path.{_≡_};
 ghost use Prim.Native.Nat.{_+_, _*_, _≤_};
 ghost use lib.ListN.{length, getD};
 ghost use Rattle.layout.specs.Words.{NODE-WORDS, CHILD-WORDS, HEAD-WORDS, nodeWords, childWords, slotAt};
-ghost use Rattle.layout.specs.Meaning.{flagWord, cellIn, wordsOf, cellKind, nodeOf, plainCell, knownCell, cellOf, cellWords, readAt, putAt};
-ghost use Rattle.layout.specs.Meaning.{nodeState, nodeSize, heldIn, slotIn, slotWords, slotMeans, putSlot, rememberedOf, rememberedWord, headerIn, putHeader};
+ghost use Rattle.layout.specs.Meaning.{cellIn, cellKind, cellWords, readAt, putAt, nodeState, nodeSize, heldIn};
+ghost use Rattle.layout.specs.Meaning.{slotIn, slotWords, slotMeans, putSlot, rememberedOf, rememberedWord, headerIn, putHeader};
 use names::NO_NAME;
 use names::Name;
 use scope::NONE;
@@ -120,52 +122,6 @@ fn word(s: &[u32], i: usize) -> u32
     if i < s.len() { s[i] } else { 0 }
 }
 
-fn flag(b: bool) -> u32
-    ensures { λ r. ⌜ r ≡ flagWord b ⌝ }
-{
-    if b { 1 } else { 0 }
-}
-
-fn read_cell(s: &[u32]) -> Cell
-    requires { ⌜ length (now s) ≡ NODE-WORDS ⌝ }
-    ensures { λ r. ⌜ r ≡ cellIn (now (s .entry)) ⌝ }
-{
-    Cell {
-        tag: s[0],
-        link: s[1],
-        size: s[2],
-        inv: s[3],
-        code: s[4],
-        number: s[5],
-        dual: s[6],
-        flex: s[7],
-        name: Name {
-            text: s[8],
-            start: s[9],
-            len: s[10],
-        },
-        count: s[11],
-    }
-}
-
-fn write_cell(s: &mut [u32], c: Cell)
-    requires { ⌜ length (now s) ≡ NODE-WORDS ⌝ }
-    ensures { λ _. ⌜ now (s .exit) ≡ wordsOf c ⌝ }
-{
-    s[0] = c.tag;
-    s[1] = c.link;
-    s[2] = c.size;
-    s[3] = c.inv;
-    s[4] = c.code;
-    s[5] = c.number;
-    s[6] = c.dual;
-    s[7] = c.flex;
-    s[8] = c.name.text;
-    s[9] = c.name.start;
-    s[10] = c.name.len;
-    s[11] = c.count;
-}
-
 // The kind that a Known node's words say; their link is the place of its first child.
 pub fn kind_in(c: Cell) -> Kind
     ensures { λ r. ⌜ r ≡ cellKind c ⌝ }
@@ -182,80 +138,6 @@ pub fn kind_in(c: Cell) -> Kind
     }
 }
 
-fn node_of(c: Cell) -> TypeNode
-    ensures { λ r. ⌜ r ≡ nodeOf c ⌝ }
-{
-    if c.tag == CHILD_TAG {
-        return TypeNode::Child(Type(c.link));
-    }
-    let size = c.size;
-    if c.tag == UNKNOWN_TAG {
-        return TypeNode::Root {
-            state: TypeState::Unknown(c.link),
-            size,
-        };
-    }
-    if c.tag == FAILED_TAG {
-        return TypeNode::Root {
-            state: TypeState::InferenceFailed,
-            size,
-        };
-    }
-    TypeNode::Root {
-        state: TypeState::Known(Inverted(c.inv == 1), kind_in(c)),
-        size,
-    }
-}
-
-// The words of a node without a kind.
-fn plain_cell(tag: u32, link: u32, size: u32) -> Cell
-    ensures { λ r. ⌜ r ≡ plainCell tag link size ⌝ }
-{
-    Cell {
-        tag,
-        link,
-        size,
-        inv: 0,
-        code: 0,
-        number: 0,
-        dual: 0,
-        flex: 0,
-        name: NO_NAME,
-        count: 0,
-    }
-}
-
-fn known_cell(inv: Inverted, k: Kind, size: u32) -> Cell
-    ensures { λ r. ⌜ r ≡ knownCell inv k size ⌝ }
-{
-    let name = k.name;
-    Cell {
-        tag: KNOWN_TAG,
-        link: k.first,
-        size,
-        inv: flag(inv.0),
-        code: k.code,
-        number: k.number,
-        dual: flag(k.dual),
-        flex: k.flex,
-        name,
-        count: k.count,
-    }
-}
-
-fn cell_of(n: TypeNode) -> Cell
-    ensures { λ r. ⌜ r ≡ cellOf n ⌝ }
-{
-    match n {
-        TypeNode::Child(t) => plain_cell(CHILD_TAG, t.0, 0),
-        TypeNode::Root { state, size } => match state {
-            TypeState::Unknown(span) => plain_cell(UNKNOWN_TAG, span, size),
-            TypeState::InferenceFailed => plain_cell(FAILED_TAG, 0, size),
-            TypeState::Known(inv, kind) => known_cell(inv, kind, size),
-        },
-    }
-}
-
 // The words of node i.
 pub fn cell_at(ws: &[u32], i: TypeIdx) -> Cell
     requires { ⌜ i .0 * NODE-WORDS + NODE-WORDS ≤ length (now ws) ⌝ }
@@ -263,7 +145,7 @@ pub fn cell_at(ws: &[u32], i: TypeIdx) -> Cell
 {
     let a = i.0 as usize * NODE_WORDS;
     let e = a + NODE_WORDS;
-    read_cell(&ws[a..e])
+    encoding::read_cell(&ws[a..e])
 }
 
 // The node i of n; past them a root of no size.
@@ -277,7 +159,7 @@ pub fn node_at(ws: &[u32], n: u32, i: TypeIdx) -> TypeNode
             size: 0,
         };
     }
-    node_of(cell_at(ws, i))
+    encoding::node_of(cell_at(ws, i))
 }
 
 // A child has no state of its own, and no size.
@@ -321,7 +203,7 @@ pub fn put_node(ws: &mut [u32], n: u32, i: TypeIdx, node: TypeNode)
     }
     let end = (i.0 as usize + 1) * NODE_WORDS;
     let start = end - NODE_WORDS;
-    write_cell(&mut ws[start..end], cell_of(node));
+    encoding::write_cell(&mut ws[start..end], encoding::cell_of(node));
 }
 
 fn read_slot(s: &[u32]) -> Slot

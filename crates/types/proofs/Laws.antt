@@ -1,5 +1,5 @@
 -- A word below 2^32 and a type whose node number is below INV-BIT say the same: the high bit is the inversion, the rest the node.
--- Inversions combine by exclusive or, so two of the same kind undo each other. Callers use these laws and never open tyOf or wordOf.
+-- Callers use these laws and never open tyOf or wordOf.
 -- Assumes nothing.
 use mathlib.Core.Path.{_≡_, refl, ap, sym, _∙_}
 use mathlib.Core.Bool.{Bool, true, false}
@@ -9,56 +9,16 @@ use lib.Dec.{leb}
 use borrow.Author.Tests.{le-leb, lt-leb, leb-true, leb-false}
 use Rattle.scope.specs.Base.{xor}
 use Rattle.scope.specs.Types.{Ty, ty, flip, INV-BIT, tyOf, wordOf}
-use Rattle.types.specs.declared.«Type».{«Type»}
-use Rattle.types.specs.declared.TypeIdx.{TypeIdx}
 use Rattle.types.specs.declared.Inverted.{Inverted}
 
--- what each struct holds says which it is
-
-pub type-eq : (s t : «Type») → s .0 ≡ t .0 → s ≡ t
-type-eq s t e = ap (λ (n : ℕ). record { 0 = n }) e
-
-pub idx-eq : (s t : TypeIdx) → s .0 ≡ t .0 → s ≡ t
-idx-eq s t e = ap (λ (n : ℕ). record { 0 = n }) e
+-- what an inversion holds says which it is
 
 pub inverted-eq : (s t : Inverted) → s .0 ≡ t .0 → s ≡ t
 inverted-eq s t e = ap (λ (b : Bool). record { 0 = b }) e
 
--- exclusive or
-
-pub xor-false : (a : Bool) → xor a false ≡ a
+xor-false : (a : Bool) → xor a false ≡ a
 xor-false true = refl
 xor-false false = refl
-
-pub xor-self : (a : Bool) → xor a a ≡ false
-xor-self true = refl
-xor-self false = refl
-
-pub xor-comm : (a b : Bool) → xor a b ≡ xor b a
-xor-comm true true = refl
-xor-comm true false = refl
-xor-comm false true = refl
-xor-comm false false = refl
-
-pub xor-assoc : (a b c : Bool) → xor a (xor b c) ≡ xor (xor a b) c
-xor-assoc false b c = refl
-xor-assoc true false c = refl
-xor-assoc true true true = refl
-xor-assoc true true false = refl
-
--- flip
-
-pub flip-false : (t : Ty) → flip false t ≡ t
-flip-false t = refl
-
-pub flip-flip : (a b : Bool) (t : Ty) → flip a (flip b t) ≡ flip (xor a b) t
-flip-flip a b t = ap (λ (i : Bool). ty i (t .idx)) (xor-assoc a b (t .inv))
-
-pub flip-twice : (a : Bool) (t : Ty) → flip a (flip a t) ≡ t
-flip-twice a t = flip-flip a a t ∙ ap (λ (i : Bool). flip i t) (xor-self a)
-
-pub flip-ty : (a b : Bool) (n : ℕ) → flip a (ty b n) ≡ ty (xor a b) n
-flip-ty a b n = refl
 
 -- words
 
@@ -72,7 +32,7 @@ unfolding tyOf
 ty-plain n h = let e : n % INV-BIT ≡ n = omega arith in rw (lt-leb INV-BIT n h, e)
 
 -- a word with the bit is the inverse of what it is without
-pub ty-high : (w : ℕ) → INV-BIT ≤ w → w < 4294967296 → tyOf w ≡ ty true (w - INV-BIT)
+ty-high : (w : ℕ) → INV-BIT ≤ w → w < 4294967296 → tyOf w ≡ ty true (w - INV-BIT)
 unfolding tyOf
 ty-high w l h = let e : w % INV-BIT ≡ w - INV-BIT = omega arith in rw (le-leb INV-BIT w l, e)
 
@@ -95,31 +55,19 @@ ty-word-by true n h =
 pub ty-word : (t : Ty) → t .idx < INV-BIT → tyOf (wordOf t) ≡ t
 ty-word t h = ty-word-by (t .inv) (t .idx) h
 
-word-below-by : (b : Bool) (n : ℕ) → n < INV-BIT → wordOf (ty b n) < 4294967296
-unfolding wordOf
-word-below-by false n h = omega arith
-word-below-by true n h = omega arith
-
-pub word-below : (t : Ty) → t .idx < INV-BIT → wordOf t < 4294967296
-word-below t h = word-below-by (t .inv) (t .idx) h
-
 word-ty-by : (b : Bool) (w : ℕ) → w < 4294967296 → leb INV-BIT w ≡ b → wordOf (ty b (w % INV-BIT)) ≡ w
 unfolding wordOf
 word-ty-by true w h e = let l : INV-BIT ≤ w = leb-true INV-BIT w e in omega arith
 word-ty-by false w h e = let l : w < INV-BIT = leb-false INV-BIT w e in omega arith
 
 -- a word is read back from its type
-pub word-ty : (w : ℕ) → w < 4294967296 → wordOf (tyOf w) ≡ w
+word-ty : (w : ℕ) → w < 4294967296 → wordOf (tyOf w) ≡ w
 unfolding tyOf
 word-ty w h = word-ty-by (leb INV-BIT w) w h refl
 
 -- the word of which a type is known
 pub word-is : {t : Ty} (w : ℕ) → w < 4294967296 → tyOf w ≡ t → w ≡ wordOf t
 word-is w h e = sym (word-ty w h) ∙ ap wordOf e
-
--- two words with one type are one word
-pub word-same : (v w : ℕ) → v < 4294967296 → w < 4294967296 → tyOf v ≡ tyOf w → v ≡ w
-word-same v w hv hw e = word-is v hv e ∙ word-ty w hw
 
 -- what `new` makes of a node number
 pub ty-new : (i : Bool) (n : ℕ) → n < INV-BIT → flip i (tyOf n) ≡ ty i n

@@ -65,8 +65,9 @@ trait-ok-requires c κs = search needs
 returns-5 : tie.Need-returns-5
 unfolding recordOk
 returns-5 c =
+    let first = c .before .before .before .before .before .before .before .before .before in
     rw (
-      within TRAIT-FN-SORT (c .before .before .before .before .before .before .before .before .before .before .sort-at .ensures) (c .before .before .before .before .before .before .before .before .before .if1 .left),
+      within TRAIT-FN-SORT (first .before .sort-at .ensures) (first .if1 .left),
       ← c .before .before .before .before .before .before .before .before .name-at .ensures,
       passes (c .before .before .before .before .before .before .before .name-ok .ensures) (c .before .before .before .before .before .before .if2 .left),
       ← c .before .before .before .before .before .path-at .ensures,

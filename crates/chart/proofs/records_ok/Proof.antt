@@ -38,7 +38,8 @@ returns : tie.Need-returns Inv-loop μ-loop
 returns c =
     let s = c .before .before .before .before .before .before .before .before .before .args in
     let l = c .before .before .before .before .before .loop in
-    sym (all-fails (recordOk (chartIn (s .chart .now) (s .rule .now) (s .text .now))) (recordsOf (s .chart .now)) noRecord (l .n) (omega arith) (fails (c .before .record-ok .ensures) (c .if2 .taken))) ∙ l .inv .1
+    let ok = recordOk (chartIn (s .chart .now) (s .rule .now) (s .text .now)) in
+    sym (all-fails ok (recordsOf (s .chart .now)) noRecord (l .n) (omega arith) (fails (c .before .record-ok .ensures) (c .if2 .taken))) ∙ l .inv .1
 
 add-n : tie.Need-add-n Inv-loop μ-loop
 add-n c = omega arith
@@ -50,7 +51,9 @@ loop-again : tie.Need-loop-again Inv-loop μ-loop
 loop-again c =
     let s = c .before .before .before .before .before .before .before .before .before .args in
     let l = c .before .before .before .before .before .loop in
-    (omega arith, sym (all-step (recordOk (chartIn (s .chart .now) (s .rule .now) (s .text .now))) (recordsOf (s .chart .now)) noRecord (l .n) (omega arith) (passes (c .before .record-ok .ensures) (c .if2 .left))) ∙ l .inv .1)
+    let ok = recordOk (chartIn (s .chart .now) (s .rule .now) (s .text .now)) in
+    let step = all-step ok (recordsOf (s .chart .now)) noRecord (l .n) (omega arith) (passes (c .before .record-ok .ensures) (c .if2 .left)) in
+    (omega arith, sym step ∙ l .inv .1)
 
 returns-2 : tie.Need-returns-2 Inv-loop μ-loop
 returns-2 c =

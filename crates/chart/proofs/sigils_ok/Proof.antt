@@ -36,7 +36,9 @@ returns : tie.Need-returns Inv-loop μ-loop
 returns c =
     let s = c .before .before .before .before .before .before .before .args in
     let l = c .before .before .before .before .loop in
-    sym (all-fails (sigilOk (texts (s .rule .now) (s .text .now))) (sigilsOf (s .beside .sigils)) (name 0 0 0) (l .i) (omega (arith, laws.sigils-length (s .beside .sigils))) (rw (← c .before .before .sigil-at .ensures) (fails (c .before .sigil-ok .ensures) (c .if1 .taken)))) ∙ l .inv .1
+    let names = sigilsOf (s .beside .sigils) in
+    sym (all-fails (sigilOk (texts (s .rule .now) (s .text .now))) names (name 0 0 0) (l .i) (omega (arith, laws.sigils-length (s .beside .sigils)))
+    (rw (← c .before .before .sigil-at .ensures) (fails (c .before .sigil-ok .ensures) (c .if1 .taken)))) ∙ l .inv .1
 
 add-i : tie.Need-add-i Inv-loop μ-loop
 add-i c = omega arith
@@ -48,7 +50,11 @@ loop-again : tie.Need-loop-again Inv-loop μ-loop
 loop-again c =
     let s = c .before .before .before .before .before .before .before .args in
     let l = c .before .before .before .before .loop in
-    (omega arith, sym (all-step (sigilOk (texts (s .rule .now) (s .text .now))) (sigilsOf (s .beside .sigils)) (name 0 0 0) (l .i) (omega (arith, laws.sigils-length (s .beside .sigils))) (rw (← c .before .before .sigil-at .ensures) (passes (c .before .sigil-ok .ensures) (c .if1 .left)))) ∙ l .inv .1)
+    let names = sigilsOf (s .beside .sigils) in (
+      omega arith,
+      sym (all-step (sigilOk (texts (s .rule .now) (s .text .now))) names (name 0 0 0) (l .i) (omega (arith, laws.sigils-length (s .beside .sigils)))
+          (rw (← c .before .before .sigil-at .ensures) (passes (c .before .sigil-ok .ensures) (c .if1 .left)))) ∙ l .inv .1,
+    )
 
 returns-2 : tie.Need-returns-2 Inv-loop μ-loop
 returns-2 c =

@@ -9,7 +9,9 @@ read-header-requires : tie.Need-read-header-requires
 read-header-requires c κs = search needs
 
 push-requires : tie.Need-push-requires
-push-requires c κs = pushable (c .before .before .read-header .result) (c .before .before .before .before .before .before .before .pre) (c .before .before .read-header .ensures)
+push-requires c κs =
+    let x = c .before .before .read-header in
+    pushable (x .result) (c .before .before .before .before .before .before .before .pre) (x .ensures)
 
 same-length : tie.Need-same-length
 same-length c = search needs
@@ -18,7 +20,10 @@ same-length-2 : tie.Need-same-length-2
 same-length-2 c = search needs
 
 returns : tie.Need-returns
-returns c = var-made (c .before .before .before .before .before .before .before .before .before .before .before .before .pre) (c .before .before .before .before .before .before .before .read-header .ensures) (c .before .before .before .before .push .ensures)
+returns c =
+    let p = c .before .before .before .before in
+    let x = p .before .before .before in
+    var-made (x .before .before .before .before .before .pre) (x .read-header .ensures) (p .push .ensures)
 
 pub new-var-spec : {M : Type 1} → statement M
 new-var-spec =

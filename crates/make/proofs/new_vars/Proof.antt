@@ -13,7 +13,10 @@ use Rattle.make.proofs.new_vars.Statement.{statement}
 use Rattle.make.proofs.new_vars.Tie as tie
 
 abbrev Inv-loop : tie.InvT-loop
-Inv-loop h₀ ws₀ ks span count out₀ i₀ h ws out i = (i ≤ count) × ((length h ≡ length h₀) × ((length ws ≡ length ws₀) × MadeAllIs h₀ ws₀ ks h ws ks out₀ out (newVars (storeIn h₀ ws₀ ks) span i)))
+Inv-loop h₀ ws₀ ks span count out₀ i₀ h ws out i =
+    (i ≤ count)
+    × ((length h ≡ length h₀)
+    × ((length ws ≡ length ws₀) × MadeAllIs h₀ ws₀ ks h ws ks out₀ out (newVars (storeIn h₀ ws₀ ks) span i)))
 
 abbrev μ-loop : tie.MeasureT-loop
 μ-loop h₀ ws₀ ks span count out₀ i₀ h ws out i = count - i
@@ -37,7 +40,8 @@ mul-out c = omega arith
 slice-write-out : tie.Need-slice-write-out Inv-loop μ-loop
 slice-write-out c =
     let s = c .before .before .before .before .before .before .before .before .before .before .before .before .before in
-    omega (arith, vars-length (s .args .span) (c .before .before .before .before .before .before .before .before .loop .i) (c .before .before .before .before .before .before .before .before .loop .inv .1 .1 .1) (omega (arith, s .pre .1)))
+    let o = c .before .before .before .before .before .before .before .before .loop in
+    omega (arith, vars-length (s .args .span) (o .i) (o .inv .1 .1 .1) (omega (arith, s .pre .1)))
 
 add-i : tie.Need-add-i Inv-loop μ-loop
 add-i c = omega arith
@@ -48,7 +52,10 @@ loop-less c = omega arith
 loop-again : tie.Need-loop-again Inv-loop μ-loop
 loop-again c =
     let s = c .before .before .before .before .before .before .before .before .before .before .before .before .before in
-    (omega arith, (c .before .before .before .before .new-var .kept .0 ∙ c .before .before .before .before .before .before .before .before .loop .inv .1 .0, (c .before .before .before .before .new-var .kept .1 .0 ∙ c .before .before .before .before .before .before .before .before .loop .inv .1 .1 .0, vars-more (s .args .span) (c .before .before .before .before .before .before .before .before .loop .i) (c .before .before .before .before .before .before .before .before .loop .inv .1 .1 .1) (c .before .before .before .before .new-var .ensures) (omega (arith, s .pre .1)) (omega (arith, c .before .before .before .before .new-var .ok)) refl)))
+    let o = c .before .before .before .before .before .before .before .before .loop in
+    let v = c .before .before .before .before .new-var in
+    let more = vars-more (s .args .span) (o .i) (o .inv .1 .1 .1) (v .ensures) (omega (arith, s .pre .1)) (omega (arith, v .ok)) refl in
+    (omega arith, (v .kept .0 ∙ o .inv .1 .0, (v .kept .1 .0 ∙ o .inv .1 .1 .0, more)))
 
 same-length : tie.Need-same-length Inv-loop μ-loop
 same-length c = c .before .loop .inv .1 .0

@@ -33,7 +33,12 @@ same-length-3 : tie.Need-same-length-3
 same-length-3 c = search needs
 
 returns : tie.Need-returns
-returns c = open-became (c .before .before .before .before .before .before .before .before .before .before .before .before .before .before .before .before .before .before .pre) (c .before .before .before .before .before .before .before .before .before .before .before .before .before .node-words .ensures) (c .before .before .before .before .before .before .before .before .before .before .before .before .clear .ensures) (c .before .before .before .before .before .before .before .before .child-words .ensures) (c .before .before .before .before .before .before .before .clear2 .ensures) (c .before .before .before .no-nodes .ensures) (c .before .before .write-header .ensures)
+returns c =
+    let ks = c .before .before .before .before .before .before .before in
+    let ws = ks .before .before .before .before .before in
+    let s = ws .before .before .before .before .before .before in
+    open-became (s .pre) (ws .before .node-words .ensures) (ws .clear .ensures) (ks .before .child-words .ensures) (ks .clear2 .ensures)
+    (c .before .before .before .no-nodes .ensures) (c .before .before .write-header .ensures)
 
 pub open-spec : {M : Type 1} → statement M
 open-spec =

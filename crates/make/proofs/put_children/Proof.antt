@@ -38,7 +38,10 @@ loop-less c = omega arith
 loop-again : tie.Need-loop-again Inv-loop μ-loop
 loop-again c =
     let a = c .before .before .before .before .before .before .before .before .before .args in
-    (omega arith, (c .before .before .put-child .kept .0 ∙ c .before .before .before .before .before .before .loop .inv .1 .0, put-more (a .entries .now) (a .first) (c .before .before .before .before .before .before .loop .i) (c .before .before .before .before .before .before .loop .inv .1 .1) (omega arith) (c .before .before .before .child-at .ensures) (c .before .before .put-child .ensures)))
+    let o = c .before .before .before .before .before .before .loop in
+    let p = c .before .before .put-child in
+    let more = put-more (a .entries .now) (a .first) (o .i) (o .inv .1 .1) (omega arith) (c .before .before .before .child-at .ensures) (p .ensures) in
+    (omega arith, (p .kept .0 ∙ o .inv .1 .0, more))
 
 same-length : tie.Need-same-length Inv-loop μ-loop
 same-length c = c .before .loop .inv .1 .0

@@ -44,7 +44,12 @@ same-length-3 c = search needs
 returns : tie.Need-returns
 returns c =
     let s = c .before .before .before .before .before .before .before .before .before .before .before .before .before .before .before .before .before .before .before .before in
-    reset-became (s .args .h .now) (s .args .ws .now) (s .args .ks .now) (s .pre) (c .before .before .before .before .before .before .before .before .before .before .before .before .before .before .before .read-header .ensures) (c .before .before .before .before .before .before .before .before .before .before .before .before .before .node-words .ensures) (c .before .before .before .before .before .before .before .before .before .before .before .before .clear .ensures) (c .before .before .before .before .before .before .before .before .child-words .ensures) (c .before .before .before .before .before .before .before .clear2 .ensures) (c .before .before .before .no-nodes .ensures) (c .before .before .write-header .ensures)
+    let a = s .args in
+    let ks = c .before .before .before .before .before .before .before in
+    let ws = ks .before .before .before .before .before in
+    let x = ws .before .before .before .read-header in
+    reset-became (a .h .now) (a .ws .now) (a .ks .now) (s .pre) (x .ensures) (ws .before .node-words .ensures) (ws .clear .ensures)
+    (ks .before .child-words .ensures) (ks .clear2 .ensures) (c .before .before .before .no-nodes .ensures) (c .before .before .write-header .ensures)
 
 pub reset-spec : {M : Type 1} → statement M
 reset-spec =

@@ -1,8 +1,8 @@
--- `layout::cell_of` meets its contract. Each arm returns what the function that it calls ensures, at the node that the arm is for.
+-- `layout::encoding::cell_of` meets its contract. Each arm returns what the function that it calls ensures, at the node that the arm is for.
 -- Assumes nothing.
 use borrow.Author.Needs.{needs}
-use Rattle.layout.proofs.cell_of.Statement.{statement}
-use Rattle.layout.proofs.cell_of.Tie as tie
+use Rattle.layout.proofs.encoding.cell_of.Statement.{statement}
+use Rattle.layout.proofs.encoding.cell_of.Tie as tie
 
 enum-known-n : tie.Need-enum-known-n
 enum-known-n c = search needs

@@ -1,10 +1,10 @@
--- `layout::node_of` meets its contract. The tests that led to each return are those of nodeOf.
+-- `layout::encoding::node_of` meets its contract. The tests that led to each return are those of nodeOf.
 -- Assumes nothing.
 use borrow.Author.Tests.{eq-eqb, ne-eqb}
 use borrow.Author.Needs.{needs}
 use Rattle.layout.specs.Meaning.{nodeOf}
-use Rattle.layout.proofs.node_of.Statement.{statement}
-use Rattle.layout.proofs.node_of.Tie as tie
+use Rattle.layout.proofs.encoding.node_of.Statement.{statement}
+use Rattle.layout.proofs.encoding.node_of.Tie as tie
 
 returns : tie.Need-returns
 unfolding nodeOf

@@ -1,12 +1,12 @@
--- `layout::write_cell` meets its contract. Twelve stores over twelve words leave what was stored.
+-- `layout::encoding::write_cell` meets its contract. Twelve stores over twelve words leave what was stored.
 -- Assumes nothing.
 use native.Mathlib.Omega.{arith}
 use lib.ListN.{length-set}
 use Rattle.layout.specs.Meaning.{wordsOf}
 use Rattle.layout.proofs.Lists.{sets-all}
 use borrow.Author.Needs.{needs}
-use Rattle.layout.proofs.write_cell.Statement.{statement}
-use Rattle.layout.proofs.write_cell.Tie as tie
+use Rattle.layout.proofs.encoding.write_cell.Statement.{statement}
+use Rattle.layout.proofs.encoding.write_cell.Tie as tie
 
 slice-write-s : tie.Need-slice-write-s
 slice-write-s c = search needs

@@ -1,8 +1,8 @@
--- `layout::known_cell` meets its contract. Each word is a field of the kind, or the number that `flag` gives for a flag.
+-- `layout::encoding::known_cell` meets its contract. Each word is a field of the kind, or the number that `flag` gives for a flag.
 -- Assumes nothing.
 use borrow.Author.Needs.{needs}
-use Rattle.layout.proofs.known_cell.Statement.{statement}
-use Rattle.layout.proofs.known_cell.Tie as tie
+use Rattle.layout.proofs.encoding.known_cell.Statement.{statement}
+use Rattle.layout.proofs.encoding.known_cell.Tie as tie
 
 flag-requires : tie.Need-flag-requires
 flag-requires c κs = search needs
