@@ -34,11 +34,13 @@ use Rattle.layout.specs.Meaning.{headerIn}
 use Rattle.layout.specs.declared.Header.{Header}
 use Rattle.layout.proofs.Laws.{length-decode}
 use Rattle.layout.proofs.StoreLaws.{clean-nodes}
-use Rattle.make.specs.Holds.{Holds, Became}
-use Rattle.make.proofs.Laws.{store-count, beyond-refl, holds-with, beyond-with}
-use Rattle.sound.specs.Tests.{envIn, codeOf}
+use Rattle.store.specs.Holds.{Holds, Became}
+use Rattle.store.proofs.Laws.{store-count, beyond-refl, holds-with, beyond-with}
+use Rattle.sound.specs.Tests.{envIn}
+use Rattle.refusals.specs.Codes.{codeOf}
 use Rattle.promise.specs.Promise.{value, refusal, Promised}
-use Rattle.promise.proofs.Laws.{code-none, test-passed, tests-passed, lent-env, lent-facts, lent-clean-words, lent-store, lent-refused, lent-next, lent-passed}
+use Rattle.refusals.proofs.Laws.{code-none, test-passed, tests-passed}
+use Rattle.promise.proofs.Laws.{lent-env, lent-facts, lent-clean-words, lent-store, lent-refused, lent-next, lent-passed}
 use Rattle.promise.proofs.CallLaws.{call-back, call-done}
 use Rattle.meeting.specs.Asks.{SoundWords, Pair}
 use Rattle.unify.specs.Leaves.{Leaves}

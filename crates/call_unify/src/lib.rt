@@ -8,12 +8,13 @@ ghost use Rattle.scope.specs.Calls.{unifyCall, unifyTypesCall, unifyObjectsCall
 ghost use Rattle.types.specs.Impls.{implMeans};
 ghost use Rattle.layout.specs.Words.{lentOf};
 ghost use Rattle.sound.specs.Tests.{envIn};
-ghost use Rattle.promise.specs.Promise.{Promised, boolReply, typesIn};
+ghost use Rattle.promise.specs.Promise.{Promised, boolReply};
+ghost use Rattle.store.specs.Entries.{typesIn};
 ghost use Rattle.lent_tests.specs.Given.{entriesIn};
 ghost use Rattle.call_unify.specs.Answers.{unifyReply};
 use chart::Beside;
 use promise::BoolAnswer;
-use sound::NO_REFUSAL;
+use refusals::NO_REFUSAL;
 use types::Impl;
 use types::Inverted;
 use types::Type;

@@ -25,10 +25,10 @@ use Rattle.layout.specs.Words.{CHILD-WORDS, slots}
 use Rattle.layout.specs.declared.Kind.{Kind}
 use Rattle.layout.proofs.ChildLaws.{length-slots}
 use Rattle.kind_sound.proofs.NameLaws.{and-true, and-false, length-names, namesTest, child-names}
-use Rattle.sound.specs.Tests.{codeOf}
-use Rattle.promise.specs.Promise.{typesIn, entryTypes}
-use Rattle.promise.proofs.Laws.{code-first, code-next}
-use Rattle.make.specs.Given.{entryCount}
+use Rattle.refusals.specs.Codes.{codeOf}
+use Rattle.store.specs.Entries.{typesIn, entryTypes}
+use Rattle.refusals.proofs.Laws.{code-first, code-next}
+use Rattle.store.specs.Entries.{entryCount}
 use Rattle.lent_tests.specs.Given.{pairTests, listTests, sigTests, objectTests, implsTests, entryNames, entriesIn, objectOf, FirstOf}
 
 -- tests of two things each, in 01's order

@@ -16,10 +16,10 @@ use Rattle.scope.specs.Unify.{ImplType}
 use Rattle.scope.specs.Calls.{firstBroken, outside, tooMany, Entries, badEntries, implTests}
 use Rattle.layout.specs.Words.{CHILD-WORDS}
 use Rattle.layout.specs.declared.Kind.{Kind}
-use Rattle.sound.specs.Tests.{codeOf}
+use Rattle.refusals.specs.Codes.{codeOf}
 use Rattle.plan.specs.Meaning.{namesFrom}
-use Rattle.make.specs.Given.{entryCount}
-use Rattle.promise.specs.Promise.{entryTypes}
+use Rattle.store.specs.Entries.{entryCount}
+use Rattle.store.specs.Entries.{entryTypes}
 
 -- two types
 unfoldable pub pairTests : Ty → Ty → Store → List (Bool × ℕ)

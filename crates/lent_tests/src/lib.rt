@@ -11,16 +11,16 @@ ghost use Rattle.scope.specs.Sound.{inStore};
 ghost use Rattle.scope.specs.Calls.{tooMany, badEntries, implTypes, implDefined};
 ghost use Rattle.types.specs.Impls.{implMeans};
 ghost use Rattle.chart.specs.Env.{chartIn, chartAlone};
-ghost use Rattle.promise.specs.Promise.{typesIn};
+ghost use Rattle.store.specs.Entries.{typesIn};
 ghost use Rattle.lent_tests.specs.Given.{pairTests, listTests, sigTests, objectTests, implsTests, entriesIn, objectOf, FirstOf};
 use kinds::OBJECT;
 use layout::CHILD_WORDS;
 use layout::Kind;
-use promise::OUTSIDE;
-use promise::UNDEFINED;
-use promise::UNMAKEABLE;
+use refusals::OUTSIDE;
+use refusals::UNDEFINED;
+use refusals::UNMAKEABLE;
 use scope::MAX_LIST;
-use sound::NO_REFUSAL;
+use refusals::NO_REFUSAL;
 use types::Impl;
 use types::Type;
 
@@ -28,10 +28,10 @@ use types::Type;
 pub fn pair(a: Type, b: Type, n: u32) -> u32
     ensures { λ r. ⌜ FirstOf n (pairTests (tyOf (a .0)) (tyOf (b .0))) r ⌝ }
 {
-    if !kind_sound::type_inside(a, n) {
+    if !refusals::type_inside(a, n) {
         return OUTSIDE;
     }
-    if !kind_sound::type_inside(b, n) {
+    if !refusals::type_inside(b, n) {
         return OUTSIDE;
     }
     NO_REFUSAL
@@ -48,10 +48,10 @@ fn too_many(xs: &[u32]) -> bool
 pub fn lists(xs: &[u32], ys: &[u32], n: u32) -> u32
     ensures { λ r. ⌜ FirstOf n (listTests (typesIn (now (xs .entry))) (typesIn (now (ys .entry)))) r ⌝ }
 {
-    if !promise::types_inside(xs, n) {
+    if !refusals::types_inside(xs, n) {
         return OUTSIDE;
     }
-    if !promise::types_inside(ys, n) {
+    if !refusals::types_inside(ys, n) {
         return OUTSIDE;
     }
     if too_many(xs) {
@@ -110,10 +110,10 @@ pub fn objects<'a>(xs: &[u32], ys: &[u32], n: u32, rule: &'a [u8], text: &'a [u8
     ensures { λ r. ⌜ FirstOf n
         (objectTests (chartIn [] (now (rule .entry)) (now (text .entry))) (entriesIn (now (xs .entry))) (entriesIn (now (ys .entry)))) r ⌝ }
 {
-    if !promise::entries_inside(xs, n) {
+    if !refusals::entries_inside(xs, n) {
         return OUTSIDE;
     }
-    if !promise::entries_inside(ys, n) {
+    if !refusals::entries_inside(ys, n) {
         return OUTSIDE;
     }
     if bad_entries(xs, rule, text) {
@@ -130,7 +130,7 @@ fn impl_inside(a: Impl, xs: &[u32], n: u32) -> bool
     ensures { λ r. ⌜ ((ns : List Node) → length ns ≡ n → r ≡ all (inStore ns) (implTypes (implMeans a (now (xs .entry))))) ⌝ }
 {
     match a {
-        Impl::Trait(_) => promise::types_inside(xs, n),
+        Impl::Trait(_) => refusals::types_inside(xs, n),
         Impl::Error => true,
     }
 }

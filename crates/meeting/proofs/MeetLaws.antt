@@ -4,6 +4,7 @@
 use mathlib.Core.Path.{_≡_, refl, ap, sym, subst, _∙_}
 use mathlib.Core.Bool.{Bool, true, false, not, _||_}
 use mathlib.Core.List.{List, [], List·Memᴰ}
+use mathlib.Core.Option.{Option, none, some}
 use Prim.Native.Nat.{ℕ, _<_}
 use native.Mathlib.Omega.{arith}
 use lib.ListN.{length}
@@ -11,10 +12,18 @@ use borrow.Author.Tests.{eq-eqb, ne-eqb}
 use Rattle.scope.specs.Base.{xor}
 use Rattle.scope.specs.Names.{Texts}
 use Rattle.scope.specs.Types.{Ty}
+<<<<<<< HEAD:crates/meeting/proofs/MeetLaws.antt
 use Rattle.scope.specs.Nodes.{Node, at, isRoot, stateOf, climb, find}
 use Rattle.scope.specs.Nodes as nodes
 use Rattle.scope.specs.Answers.{ofBool}
 use Rattle.scope.specs.Unify.{Out, out, stateIn, meetStates, meet, occurs, selfInverseAt, selfInverseOf, bind, bindIf, settle}
+=======
+use Rattle.scope.specs.Nodes.{Node, at, isRoot, stateOf, climb, find, kindOf}
+use Rattle.scope.specs.Nodes as nodes
+use Rattle.scope.specs.Answers.{ofBool}
+use Rattle.scope.specs.Answers as answers
+use Rattle.scope.specs.Unify.{Out, out, stateIn, kindIn, meetKinds, sameNode, meet, occurs, selfInverseAt, selfInverseOf, bound, bind, settle}
+>>>>>>> scope9:crates/unify/proofs/MeetLaws.antt
 use Rattle.scope.specs.Unify as scope
 use Rattle.scope.proofs.PlanLaws.{plan-left, plan-right}
 use Rattle.scope.proofs.ImportKept.{sound-kids}
@@ -76,11 +85,14 @@ module _ {ws ks : List ℕ} {n : ℕ} {a b : Ty} where
 
   -- `without_kind`
 
+  abbrev binds : Bool → Out
+  binds t = pick t (out (decode ws ks n) answers.Failure) (out (bound (decode ws ks n) a b) answers.Success)
+
   bare-by : (t : Bool) (m : Meeting) → (occurs n (decode ws ks n) (a .idx) (b .idx) || occurs n (decode ws ks n) (b .idx) (a .idx)) ≡ t
-      → ((u : List Node → Ty → Ty → Out) (x : Texts) → bindIf (decode ws ks n) a b t ≡ metBy u x ks (decode ws ks n) a b m)
+      → ((u : List Node → Ty → Ty → Out) (x : Texts) → binds t ≡ metBy u x ks (decode ws ks n) a b m)
       → ((x : Texts) → pairsOf x ks m ≡ []) → Bare ws ks n a b m
   unfolding bind
-  bare-by t m e f g = record { same = λ u x. ap (bindIf (decode ws ks n) a b) e ∙ f u x; none = g }
+  bare-by t m e f g = record { same = λ u x. ap binds e ∙ f u x; none = g }
 
   pub bare-first : {i : ℕ} {t : Bool} → i ≡ a .idx → t ≡ occurs n (decode ws ks n) i (b .idx) → t ≡ true → Bare ws ks n a b (Done Failure)
   bare-first e f h = bare-by true (Done Failure) (rw (← e, ← f, h) refl) (λ u x. refl) (λ x. refl)
@@ -100,21 +112,20 @@ module _ {ws ks : List ℕ} {n : ℕ} {a b : Ty} where
 -- `meet`
 
 -- a node without a kind
-bare-left : (u : List Node → Ty → Ty → Out) (x : Texts) (ks : List ℕ) (n : ℕ) (ns : List Node) (a b : Ty) (v : TypeNode) (sb : nodes.State) (i : Bool) → heldIn i v ≡ Nothing
-    → meetStates u x n ns a b (stateOf (nodeMeans ks v)) sb ≡ bind n ns a b
-bare-left u x ks n ns a b (Root (Known j k) z) sb i e = let z : _≡_ {A = ℕ} 0 1 = cc in absurd (omega arith)
-bare-left u x ks n ns a b (Root (Unknown s) z) sb i e = refl
-bare-left u x ks n ns a b (Root InferenceFailed z) sb i e = refl
-bare-left u x ks n ns a b (Child t) sb i e = refl
+bare-left : (u : List Node → Ty → Ty → Out) (x : Texts) (ks : List ℕ) (n : ℕ) (ns : List Node) (a b : Ty) (v : TypeNode) (m : Option (Bool × nodes.Kind)) (i : Bool) → heldIn i v ≡ Nothing
+    → meetKinds u x n ns a b (kindOf a (stateOf (nodeMeans ks v))) m ≡ bind n ns a b
+bare-left u x ks n ns a b (Root (Known j k) z) m i e = let z : _≡_ {A = ℕ} 0 1 = cc in absurd (omega arith)
+bare-left u x ks n ns a b (Root (Unknown s) z) m i e = refl
+bare-left u x ks n ns a b (Root InferenceFailed z) m i e = refl
+bare-left u x ks n ns a b (Child t) m i e = refl
 
-bare-right : (u : List Node → Ty → Ty → Out) (x : Texts) (ks : List ℕ) (n : ℕ) (ns : List Node) (a b : Ty) (sa : nodes.State) (v : TypeNode) (i : Bool) → heldIn i v ≡ Nothing
-    → meetStates u x n ns a b sa (stateOf (nodeMeans ks v)) ≡ bind n ns a b
-bare-right u x ks n ns a b (nodes.Unknown s) v i e = refl
-bare-right u x ks n ns a b nodes.InferenceFailed v i e = refl
-bare-right u x ks n ns a b (nodes.Known c m) (Root (Known j k) z) i e = let z : _≡_ {A = ℕ} 0 1 = cc in absurd (omega arith)
-bare-right u x ks n ns a b (nodes.Known c m) (Root (Unknown s) z) i e = refl
-bare-right u x ks n ns a b (nodes.Known c m) (Root InferenceFailed z) i e = refl
-bare-right u x ks n ns a b (nodes.Known c m) (Child t) i e = refl
+bare-right : (u : List Node → Ty → Ty → Out) (x : Texts) (ks : List ℕ) (n : ℕ) (ns : List Node) (a b : Ty) (m : Option (Bool × nodes.Kind)) (v : TypeNode) (i : Bool) → heldIn i v ≡ Nothing
+    → meetKinds u x n ns a b m (kindOf b (stateOf (nodeMeans ks v))) ≡ bind n ns a b
+bare-right u x ks n ns a b none v i e = refl
+bare-right u x ks n ns a b (some m) (Root (Known j k) z) i e = let z : _≡_ {A = ℕ} 0 1 = cc in absurd (omega arith)
+bare-right u x ks n ns a b (some m) (Root (Unknown s) z) i e = refl
+bare-right u x ks n ns a b (some m) (Root InferenceFailed z) i e = refl
+bare-right u x ks n ns a b (some m) (Child t) i e = refl
 
 -- a node with one
 held-state : (ks : List ℕ) (v : TypeNode) (b : Bool) (i : Inverted) (k : Kind) → heldIn b v ≡ Is i k
@@ -143,7 +154,7 @@ module _ {x : Texts} {ws ks : List ℕ} {n : ℕ} {a b : Ty} (pre : Tops x ws ks
 
   module _ {i j : ℕ} (e : i ≡ a .idx) (f : j ≡ b .idx) (g : i ≡ j → ⊥) where
     abbrev meets : (List Node → Ty → Ty → Out) → Out
-    meets u = meetStates u x n (decode ws ks n) a b (stateIn (decode ws ks n) a) (stateIn (decode ws ks n) b)
+    meets u = meetKinds u x n (decode ws ks n) a b (kindIn (decode ws ks n) a) (kindIn (decode ws ks n) b)
 
     apart : (u : List Node → Ty → Ty → Out) → meet u x n (decode ws ks n) a b ≡ meets u
     unfolding meet
@@ -157,11 +168,11 @@ module _ {x : Texts} {ws ks : List ℕ} {n : ℕ} {a b : Ty} (pre : Tops x ws ks
 
     pub met-bare-first : {h : Held} {m : Meeting} → h ≡ heldIn (a .inv) (readAt ws n (a .idx)) → h ≡ Nothing → Bare ws ks n a b m → Met x ws ks n a b m
     met-bare-first p q = bare-met (λ u.
-        rw (← read a) (bare-left u x ks n (decode ws ks n) a b (readAt ws n (a .idx)) (stateIn (decode ws ks n) b) (a .inv) (sym p ∙ q)))
+        rw (← read a) (bare-left u x ks n (decode ws ks n) a b (readAt ws n (a .idx)) (kindIn (decode ws ks n) b) (a .inv) (sym p ∙ q)))
 
     pub met-bare-second : {h : Held} {m : Meeting} → h ≡ heldIn (b .inv) (readAt ws n (b .idx)) → h ≡ Nothing → Bare ws ks n a b m → Met x ws ks n a b m
     met-bare-second p q = bare-met (λ u.
-        rw (← read b) (bare-right u x ks n (decode ws ks n) a b (stateIn (decode ws ks n) a) (readAt ws n (b .idx)) (b .inv) (sym p ∙ q)))
+        rw (← read b) (bare-right u x ks n (decode ws ks n) a b (kindIn (decode ws ks n) a) (readAt ws n (b .idx)) (b .inv) (sym p ∙ q)))
 
     module _ {h h′ : Held} (eh : h ≡ heldIn (a .inv) (readAt ws n (a .idx))) (eg : h′ ≡ heldIn (b .inv) (readAt ws n (b .idx)))
         {c d : Inverted} {k m : Kind} (ek : h ≡ Is c k) (em : h′ ≡ Is d m) {v : Bool} (ev : v ≡ xor (c .0) (d .0)) {p : Plan} (pl : Planned x k m v p) where

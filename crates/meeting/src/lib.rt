@@ -3,7 +3,7 @@ ghost use mathlib.Core.Path.{_≡_};
 ghost use Prim.Native.Nat.{_+_, _-_, _≤_};
 ghost use lib.ListN.{length};
 ghost use Rattle.scope.specs.Types.{tyOf};
-ghost use Rattle.names.specs.Place.{texts, nameIn};
+ghost use Rattle.names.specs.Place.{texts, nameOf};
 ghost use Rattle.layout.specs.Words.{nodeWords, slotAt};
 ghost use Rattle.layout.specs.Meaning.{readAt};
 ghost use Rattle.meeting.specs.Asks.{Tops, Roots};
@@ -125,7 +125,7 @@ pub fn kid(ks: &[u32], a: u32, i: u32) -> Type
 }
 
 pub fn kid_name(ks: &[u32], a: u32, i: u32) -> Name
-    ensures { λ r. ⌜ nameIn r ≡ slotPlace (slotAt (now (ks .entry)) (a + i)) ⌝ }
+    ensures { λ r. ⌜ nameOf r ≡ slotPlace (slotAt (now (ks .entry)) (a + i)) ⌝ }
 {
     let s = layout::child_at(ks, place(a, i));
     Name {
@@ -144,7 +144,7 @@ pub fn seek<'a>(
     rule: &'a [u8],
     text: &'a [u8],
 ) -> Sought
-    ensures { λ r. ⌜ soughtMeans r ≡ soughtIn (texts (now (rule .entry)) (now (text .entry))) (now (ks .entry)) (nameIn name) b count ⌝ }
+    ensures { λ r. ⌜ soughtMeans r ≡ soughtIn (texts (now (rule .entry)) (now (text .entry))) (now (ks .entry)) (nameOf name) b count ⌝ }
 {
     let mut j: u32 = 0;
     while j < count {

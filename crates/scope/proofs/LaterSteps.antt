@@ -18,6 +18,7 @@ use Rattle.scope.specs.Unify.{Plan, answers, runPlan, objectPlan, after,
 use Rattle.scope.specs.Force.{finishWhere, finishInference, findRelated, isNil, getMod}
 use Rattle.scope.specs.Show.{show, showImplType}
 use Rattle.scope.specs.Sound.{reads, inStore}
+use Rattle.scope.specs.Refusals.{UNMAKEABLE}
 use Rattle.scope.specs.Calls.{refused, done, firstBroken, lentTests, outside, tooMany, shortFor, unified, unifyTypesCall, Entries, badEntries, unifyObjectsCall}
 use Rattle.scope.specs.Calls.{implTypes, implTests, unifyImplTypeCall, approxEqCall, unifyFnSigCall, finishInferenceCall, finishWhereCall, findRelatedCall}
 use Rattle.scope.specs.Calls.{selfInverseCall, isNilCall, getModCall, Printed, printedText, orUnprinted, showCall, showImplTypeCall}
@@ -92,11 +93,11 @@ module _ (e : Env) (s : Store) (ok : SoundFacts e s) where
   unfolding unifyTypesCall unifyObjectsCall unifyImplTypeCall unifyFnSigCall unifyTypes unifyObjects unifyImplType unifyFnSig finishInferenceCall
       finishWhereCall findRelatedCall selfInverseCall isNilCall getModCall approxEqCall showCall showImplTypeCall
   later-cases P (Demand.unifyTypes xs ys i) z f g r =
-      step-cases e s ok P (outside s (xs ++ ys) ∷ (tooMany xs || tooMany ys, 4) ∷ []) (unified s (unifyTypes (e .texts) (s .nodes) xs ys i)) z (λ t.
+      step-cases e s ok P (outside s (xs ++ ys) ∷ (tooMany xs || tooMany ys, UNMAKEABLE) ∷ []) (unified s (unifyTypes (e .texts) (s .nodes) xs ys i)) z (λ t.
       let h = all-inside (s .nodes) (xs ++ ys) (t .0) in
       g (runPlan i xs ys) (run-inside _ i xs ys (low-left _ xs ys h) (low-right _ xs ys h)))
   later-cases P (Demand.unifyObjects a b i) z f g r =
-      step-cases e s ok P (outside s (a .types ++ b .types) ∷ (badEntries e a || badEntries e b, 4) ∷ [])
+      step-cases e s ok P (outside s (a .types ++ b .types) ∷ (badEntries e a || badEntries e b, UNMAKEABLE) ∷ [])
       (unified s (unifyObjects (e .texts) (s .nodes) (a .names) (a .types) (b .names) (b .types) i)) z (λ t.
       let h = all-inside (s .nodes) (a .types ++ b .types) (t .0) in
       g (objectPlan (e .texts) i (a .names) (a .types) (b .names) (b .types))
@@ -106,7 +107,7 @@ module _ (e : Env) (s : Store) (ok : SoundFacts e s) where
       g (implPlan a b) (impl-inside _ a b (impl-low (a ∷ b ∷ []) (t .0) a (List·Memᴰ·head refl))
       (impl-low (a ∷ b ∷ []) (t .0) b (List·Memᴰ·tail (List·Memᴰ·head refl)))))
   later-cases P (Demand.unifyFnSig xs t ys q) z f g r =
-      step-cases e s ok P (outside s (xs ++ (t ∷ ys ++ (q ∷ []))) ∷ (tooMany xs || tooMany ys, 4) ∷ [])
+      step-cases e s ok P (outside s (xs ++ (t ∷ ys ++ (q ∷ []))) ∷ (tooMany xs || tooMany ys, UNMAKEABLE) ∷ [])
       (unified s (unifyFnSig (e .texts) (s .nodes) xs t ys q)) z (λ w.
       let h = all-inside (s .nodes) (xs ++ (t ∷ ys ++ (q ∷ []))) (w .0) in
       let h₁ = low-right _ xs (t ∷ ys ++ (q ∷ [])) h in

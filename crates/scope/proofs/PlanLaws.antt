@@ -10,7 +10,7 @@ use lib.Dec.{eqb, ltb, leb}
 use lib.ListN.{length}
 use borrow.Author.Tests.{eqb-true, eqb-false, eq-eqb, ne-eqb}
 use Rattle.scope.specs.Base.{pick, all}
-use Rattle.scope.specs.Limits.{MAX-WIDTH}
+use Rattle.scope.specs.Limits.{MAX-WIDTH, KINDS}
 use Rattle.scope.specs.Names.{Texts, Name, bytesOr, named, eqBytes, ascending}
 use Rattle.scope.specs.Chart.{Env}
 use Rattle.scope.specs.Types.{Ty, flip}
@@ -77,7 +77,7 @@ names-made x h n q =
     let r : Row = rowOf (h .code) in
     let fn : Bool = flexOk (h .code) (h .flex) && numberOk (r .number) (h .number) in
     let ns : Bool = namesOk x (r .names) (h .names) n in
-    let q₁ = and-eq-true-iff (ltb (h .code) 15) (leb n MAX-WIDTH && (shapeFits (r .shape) n && (ns && fn))) .0 q .1 in
+    let q₁ = and-eq-true-iff (ltb (h .code) KINDS) (leb n MAX-WIDTH && (shapeFits (r .shape) n && (ns && fn))) .0 q .1 in
     let q₂ = and-eq-true-iff (leb n MAX-WIDTH) (shapeFits (r .shape) n && (ns && fn)) .0 q₁ .1 in
     let q₃ = and-eq-true-iff (shapeFits (r .shape) n) (ns && fn) .0 q₂ .1 in
     and-eq-true-iff ns fn .0 q₃ .0

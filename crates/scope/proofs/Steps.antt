@@ -19,6 +19,7 @@ use Rattle.scope.specs.Force.{forceKind}
 use Rattle.scope.specs.Import.{MovedAll, import, export}
 use Rattle.scope.specs.Unify.{unify}
 use Rattle.scope.specs.Sound.{Lent, stray, reads, sound, soundStore, inStore}
+use Rattle.scope.specs.Refusals.{OUTSIDE, UNMAKEABLE, UNDEFINED, NO-ENTRY, SOURCE-UNSOUND, NODES-FULL, CHILDREN-FULL}
 use Rattle.scope.specs.Calls.{Outcome, refused, done, firstBroken, orRefused, judged, storeOf, outside, tooMany, lentTests, roomTests, shortFor, readCall, NewKind, kindMade}
 use Rattle.scope.specs.Calls.{over, newCall, newStructCall, newUnionCall, newVarCall, newVarsCall, nodesFor, errorCall, nilCall, unified, unifyCall, forceKindCall, importList}
 use Rattle.scope.specs.Calls.{importCall, findCall, findMutCall, nodeCall, childAt, childCall, childNameAt, nameCall, figuresCall, openTest, exportCall}
@@ -92,8 +93,8 @@ module _ (e : Env) (s : Store) (ok : SoundFacts e s) where
   unfolding newCall
   new-cases P a z f = step-cases P
       (outside s (a .kids)
-      ∷ (not (makeable (e .texts) (kindMade e a .head) (length (a .kids))), 4)
-      ∷ (not (defined e (kindMade e a .head)), 5)
+      ∷ (not (makeable (e .texts) (kindMade e a .head) (length (a .kids))), UNMAKEABLE)
+      ∷ (not (defined e (kindMade e a .head)), UNDEFINED)
       ∷ roomTests s 1 (length (a .kids)))
       _ z (λ t. f (new-kept e s (kindMade e a) ok
       (record {
@@ -142,12 +143,12 @@ module _ (e : Env) (s : Store) (ok : SoundFacts e s) where
       → (Imports l ts ps → P (went (import (storeOf l .nodes) ps s ts .work .dest))) → P (step s (importCall e (reads s) l ts ps h))
   unfolding importCall
   import-cases P l ts ps h z f = step-cases P
-      ((not (sound e l), 9)
-      ∷ (not (all (inStore ns) ts && all (inStore (s .nodes)) (importList ps)), 3)
-      ∷ (tooMany ts || tooMany (importList ps), 4)
-      ∷ (m .work .missing, 6)
-      ∷ (ltb (s .nodeRoom) (length (m .work .dest .nodes)), 10)
-      ∷ (ltb (s .childRoom) (m .work .dest .children), 11)
+      ((not (sound e l), SOURCE-UNSOUND)
+      ∷ (not (all (inStore ns) ts && all (inStore (s .nodes)) (importList ps)), OUTSIDE)
+      ∷ (tooMany ts || tooMany (importList ps), UNMAKEABLE)
+      ∷ (m .work .missing, NO-ENTRY)
+      ∷ (ltb (s .nodeRoom) (length (m .work .dest .nodes)), NODES-FULL)
+      ∷ (ltb (s .childRoom) (m .work .dest .children), CHILDREN-FULL)
       ∷ shortFor h (length ts)
       ∷ []) _ z (λ t. f (facts (source-facts l (t .0)) (t .1 .0) (t .1 .1 .1 .0) (t .1 .1 .1 .1 .0) (t .1 .1 .1 .1 .1 .0)))
     where
@@ -200,9 +201,9 @@ module _ (e : Env) (s : Store) (ok : SoundFacts e s) where
       (openTest n c b
       ∷ (lentTests e (reads s)
       ++ (outside s ts
-      ∷ (tooMany ts, 4)
-      ∷ (ltb n (length (m .work .dest .nodes)), 10)
-      ∷ (ltb c (m .work .dest .children), 11)
+      ∷ (tooMany ts, UNMAKEABLE)
+      ∷ (ltb n (length (m .work .dest .nodes)), NODES-FULL)
+      ∷ (ltb c (m .work .dest .children), CHILDREN-FULL)
       ∷ shortFor h (length ts)
       ∷ []))) (record { types = m .types; fresh = m .work .dest }) z f
   read-cases P (Demand.node t) z f g = read-call-cases P (t ∷ []) (at (s .nodes) (t .idx)) z f

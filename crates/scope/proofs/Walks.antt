@@ -7,7 +7,7 @@ use native.Mathlib.Omega.{arith}
 use lib.Dec.{ltb, leb}
 use lib.ListN.{length}
 use borrow.Author.Tests.{eqb-true}
-use Rattle.scope.specs.Limits.{MAX-WIDTH}
+use Rattle.scope.specs.Limits.{MAX-WIDTH, KINDS}
 use Rattle.scope.specs.Chart.{Env}
 use Rattle.scope.specs.Types.{Ty}
 use Rattle.scope.specs.Kinds.{rows, rowOf, shapeFits, makeable, PARAM}
@@ -30,7 +30,7 @@ unfolding makeable rowOf rows
 param-childless e k m q =
     let n : ℕ = length (k .kids) in
     let s : shapeFits (rowOf (k .head .code) .shape) n ≡ true =
-    and-left (shapeFits (rowOf (k .head .code) .shape) n) _ (and-right (leb n MAX-WIDTH) _ (and-right (ltb (k .head .code) 15) _ (m .made))) in
+    and-left (shapeFits (rowOf (k .head .code) .shape) n) _ (and-right (leb n MAX-WIDTH) _ (and-right (ltb (k .head .code) KINDS) _ (m .made))) in
     none-left (k .kids) (eqb-true n 0 (ap (λ (c : ℕ). shapeFits (rowOf c .shape) n) (sym q) ∙ s))
 
 pub sound-walkable : (e : Env) (ns : List Node) → SoundNodes e ns → Walkable ns

@@ -139,14 +139,15 @@ sameHead x h k =
     eqb (h .code) (k .code)
     && (eqb (h .number) (k .number) && (not (eqb (h .code) KEY) || eqBytes (firstName x (h .names)) (firstName x (k .names))))
 
--- may equal kinds meet where their inversions differ? Self-dual kinds may, Default not
+-- may equal kinds meet where their inversions differ? Self-dual kinds may, but a Default may not
 unfoldable pub crosses : Head → Bool
 crosses h = selfDual h && not (eqb (h .code) DEFAULT)
 
 abbrev pub isError : Head → Bool
 isError h = eqb (h .code) ERROR
 
--- "If both are Known": from two kinds, and whether their inversions differ, to what is to be done
+-- "If both are Known": i says whether their inversions differ. "either Error: Indeterminate"; equal kinds "unify children, inverted if inversions
+-- differ"; where they may not cross, "otherwise differing inversions: Failure"; "all else: Failure"
 unfoldable pub plan : Texts → Kind → Kind → Bool → Plan
 plan x k m i =
     pick (isError (k .head) || isError (m .head)) (answers Indeterminate)

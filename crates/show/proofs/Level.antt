@@ -11,14 +11,13 @@ use native.Mathlib.Omega.{arith}
 use borrow.Author.Tests.{eq-eqb, ne-eqb, lt-ltb, le-ltb}
 use lib.Dec.{eqb, ltb}
 use lib.ListN.{length, length-map}
-use Rattle.scope.specs.Base.{pick, from}
+use Rattle.scope.specs.Base.{pick, from, front, last}
 use Rattle.scope.specs.Text.{text}
 use Rattle.scope.specs.Names.{Texts, name, bytes, bytesOr}
 use Rattle.scope.specs.Chart.{Env, recordAt, sigilAt}
 use Rattle.scope.specs.Types.{Ty, flip, tyOf}
 use Rattle.scope.specs.Kinds.{Head, rowOf, rows, selfDual}
-use Rattle.scope.specs.Sound.{nameIn, slotName, front}
-use Rattle.scope.specs.Unify.{parameters, returned}
+use Rattle.scope.specs.Sound.{nameIn, slotName}
 use Rattle.scope.specs.Show.{Piece, fixed, sub, render, decimal, joined, knownPieces, commas, params, tuple, object, entries, signature, ifConst, defined-name, kindPieces, nameOrDots}
 use Rattle.layout.specs.Words.{slotAt, slots}
 use Rattle.layout.specs.Meaning.{kindMeans}
@@ -139,15 +138,15 @@ module _ (g : Ty → List ℕ) (x : Texts) (i : Bool) (ks : List ℕ) (a : ℕ) 
         (ap (λ (z : List ℕ). text "{ " ++ z)
         (render-append g (joined (entries x i (map slotName (slots ks a (suc n))) (tys (suc n)))) (fixed (text " }") ∷ []) ∙ entries-run (text " }") (suc n) h))
 
-parameters-run : (ks : List ℕ) (b n : ℕ) → parameters (map (λ s. tyOf (s .type)) (slots ks b (suc n))) ≡ map (λ s. tyOf (s .type)) (slots ks b n)
-parameters-run ks b zero = refl
-parameters-run ks b (suc n) = ap (λ (z : List Ty). tyOf (slotAt ks b .type) ∷ z) (parameters-run ks (suc b) n)
+front-run : (ks : List ℕ) (b n : ℕ) → front (map (λ s. tyOf (s .type)) (slots ks b (suc n))) ≡ map (λ s. tyOf (s .type)) (slots ks b n)
+front-run ks b zero = refl
+front-run ks b (suc n) = ap (λ (z : List Ty). tyOf (slotAt ks b .type) ∷ z) (front-run ks (suc b) n)
 
-returned-run : (ks : List ℕ) (b n : ℕ) → returned (map (λ s. tyOf (s .type)) (slots ks b (suc n))) ≡ tyOf (slotAt ks (b + n) .type) ∷ []
-returned-run ks b zero = rw (add-zero b)
-returned-run ks b (suc n) =
+last-run : (ks : List ℕ) (b n : ℕ) → last (map (λ s. tyOf (s .type)) (slots ks b (suc n))) ≡ tyOf (slotAt ks (b + n) .type) ∷ []
+last-run ks b zero = rw (add-zero b)
+last-run ks b (suc n) =
     let s : b + suc n ≡ suc b + n = omega arith in
-    returned-run ks (suc b) n ∙ rw s
+    last-run ks (suc b) n ∙ rw s
 
 -- a signature: its parameters, then its return unless that is nil
 module _ (g : Ty → List ℕ) (x : Texts) (nil : Ty → Bool) (ks : List ℕ) (a : ℕ) (gap : ℕ → List ℕ) where
@@ -165,14 +164,14 @@ module _ (g : Ty → List ℕ) (x : Texts) (nil : Ty → Bool) (ks : List ℕ) (
     signature-nil : nil (tyOf (slotAt ks (a + n) .type)) ≡ true → written ≡ text "(" ++ children gap (kid g x false ks a) (text ")") n 0
     unfolding render
     signature-nil h =
-        rw (front-slots ks a n, parameters-run ks a n, returned-run ks a n, h)
+        rw (front-slots ks a n, front-run ks a n, last-run ks a n, h)
         (ap (λ (z : List ℕ). text "(" ++ z) (render-append g listed (fixed (text ")") ∷ []) ∙ entries-run g x false ks a gap n named (text ")") n (omega arith)))
 
     signature-ret : nil (tyOf (slotAt ks (a + n) .type)) ≡ false → written ≡ text "(" ++ children gap (kid g x false ks a) [] (suc n) 0
     unfolding render
     signature-ret h =
         let close : List ℕ = text ") -> " ++ (kid g x false ks a n ++ []) in
-        rw (front-slots ks a n, parameters-run ks a n, returned-run ks a n, h, children-last gap (kid g x false ks a) [] n 0, zero-add n, ret)
+        rw (front-slots ks a n, front-run ks a n, last-run ks a n, h, children-last gap (kid g x false ks a) [] n 0, zero-add n, ret)
         (ap (λ (z : List ℕ). text "(" ++ z)
         (render-append g listed (fixed (text ")") ∷ fixed (text " -> ") ∷ sub (tyOf (slotAt ks (a + n) .type)) ∷ []) ∙ entries-run g x false ks a gap n named close n (omega arith)))
 

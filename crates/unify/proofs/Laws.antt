@@ -180,11 +180,17 @@ module _ {x : Texts} {ws ks ws₂ : List ℕ} {n d : ℕ} {p q a b : Ty} {m : Me
   way-done e = record { same = went e; clean = c .up .clean; tail = c .up .tail }
 
   pub way-bind : {ws₃ : List ℕ} → m ≡ Bind → Bound ws₂ ws₃ n a b → Leaves ws ks ws₃ n (unifyF x n d (decode ws ks n) p q) Success
+<<<<<<< HEAD
   way-bind e o = record {
     same = went e ∙ o .nodes ks (words .children) (words .clean);
     clean = λ h cl. o .clean ks h (c .up .clean h cl);
     tail = o .tail ∙ c .up .tail;
   }
+=======
+  way-bind e o =
+      let r = c .tops .pair .ready in
+      record { same = went e ∙ ap (λ (ns : List Node). out ns answers.Success) (sym (o .nodes ks (r .children) (r .clean))); clean = λ k cl. o .clean ks k (c .clean k cl); tail = o .tail ∙ c .tail }
+>>>>>>> scope9
 
   pub way-answer : {k : Plan} {ws₃ : List ℕ} {r s : UnifyResult} → m ≡ Kids k → k ≡ Answer r → Settled ws₂ ws₃ n a b r s
       → Leaves ws ks ws₃ n (unifyF x n d (decode ws ks n) p q) s

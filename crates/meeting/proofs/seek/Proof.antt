@@ -1,14 +1,14 @@
 -- `meeting::seek` meets its contract. The invariant: what the children from j on give is what all give. The measure is what is left of them.
 -- Assumes nothing.
 use Prim.Native.Nat.{_-_}
-use Rattle.names.specs.Place.{texts, nameIn}
+use Rattle.names.specs.Place.{texts, nameOf}
 use Rattle.meeting.proofs.KidLaws.{Seeking, seek-start, seek-here, seek-on, seek-over}
 use borrow.Author.Needs.{needs}
 use Rattle.meeting.proofs.seek.Statement.{statement}
 use Rattle.meeting.proofs.seek.Tie as tie
 
 abbrev Inv-loop : tie.InvT-loop
-Inv-loop ks name b count rule text j₀ j = Seeking (texts rule text) ks (nameIn name) b count j
+Inv-loop ks name b count rule text j₀ j = Seeking (texts rule text) ks (nameOf name) b count j
 
 abbrev μ-loop : tie.MeasureT-loop
 μ-loop ks name b count rule text j₀ j = count - j
