@@ -10,12 +10,12 @@ use native.Mathlib.Omega.{arith}
 use native.Mathlib.Decide.{ℕ-discrete}
 use lib.Dec.{eqb}
 use lib.ListN.{length, length-map}
-use borrow.Author.Tests.{eq-eqb, ne-eqb, eqb-true}
-use Rattle.scope.specs.Base.{pick}
-use Rattle.scope.specs.Names.{Texts, Name, name, bytes, bytesOr, eqBytes}
+use borrow.Author.Tests.{eq-eqb, ne-eqb}
+use Rattle.scope.specs.Base.{pick, front, last}
+use Rattle.scope.specs.Names.{Texts, Name, bytes, bytesOr, eqBytes}
 use Rattle.scope.specs.Types.{Ty, tyOf, flip}
 use Rattle.scope.specs.Answers.{ofBool}
-use Rattle.scope.specs.Unify.{answers, runPlan, zipped, seek, parameters, returned}
+use Rattle.scope.specs.Unify.{answers, runPlan, zipped, seek}
 use Rattle.scope.specs.Sound as sound
 use Rattle.scope.specs.Sound.{slotName}
 use Rattle.types.specs.Answers.{answerOf}
@@ -26,6 +26,7 @@ use Rattle.layout.specs.Words.{slotAt, slots}
 use Rattle.layout.proofs.ChildLaws.{length-slots}
 use Rattle.plan.specs.Meaning.{kidsFrom, namesFrom}
 use Rattle.plan.specs.declared.Runs.{Runs}
+use Rattle.plan.proofs.Laws.{name-bytes}
 use Rattle.meeting.specs.Kids.{slotPlace, soughtIn, returnsMean, returnsPlan}
 use Rattle.meeting.specs.declared.Returned.the-variants.{Lacking, Pair}
 
@@ -47,13 +48,8 @@ kidTy ks i = tyOf (slotAt ks i .type)
 
 -- `seek`
 
-slot-bytes-by : (b : Bool) (x : Texts) (t i n : ℕ) → eqb n 0 ≡ b → bytesOr x (pick b none (some (name t i n))) ≡ bytes x (name t i n)
-unfolding bytes
-slot-bytes-by true x t i n e = rw (eqb-true n 0 e)
-slot-bytes-by false x t i n e = refl
-
 pub slot-bytes : (x : Texts) (s : sound.Slot) → bytesOr x (slotName s) ≡ bytes x (slotPlace s)
-slot-bytes x s = slot-bytes-by (eqb (s .len) 0) x (s .text) (s .start) (s .len) refl
+slot-bytes x s = name-bytes x (s .text) (s .start) (s .len)
 
 -- what the children from the j-th on give
 abbrev seekRest : Texts → List ℕ → Name → ℕ → ℕ → ℕ → Option Ty
@@ -92,22 +88,22 @@ module _ {x : Texts} {ks : List ℕ} {m : Name} {b count j : ℕ} (w : Seeking x
 
 -- a signature: its parameters, then its returns
 
-pub parameter-kids : (ks : List ℕ) (a n : ℕ) → parameters (kidsFrom ks a n) ≡ kidsFrom ks a (n - 1)
-parameter-kids ks a zero = refl
-parameter-kids ks a (suc zero) = refl
-parameter-kids ks a (suc (suc n)) =
+pub front-kids : (ks : List ℕ) (a n : ℕ) → front (kidsFrom ks a n) ≡ kidsFrom ks a (n - 1)
+front-kids ks a zero = refl
+front-kids ks a (suc zero) = refl
+front-kids ks a (suc (suc n)) =
     let e : suc (suc n) - 1 ≡ suc n = omega arith in
     let f : suc n - 1 ≡ n = omega arith in
-    rw (e, parameter-kids ks (suc a) (suc n), f) refl
+    rw (e, front-kids ks (suc a) (suc n), f) refl
 
-returned-kid : (ks : List ℕ) (a n : ℕ) → 0 < n → returned (kidsFrom ks a n) ≡ kidTy ks (a + (n - 1)) ∷ []
-returned-kid ks a zero h = absurd (omega arith)
-returned-kid ks a (suc zero) h = let e : a + (suc zero - 1) ≡ a = omega arith in rw e refl
-returned-kid ks a (suc (suc n)) h =
+last-kid : (ks : List ℕ) (a n : ℕ) → 0 < n → last (kidsFrom ks a n) ≡ kidTy ks (a + (n - 1)) ∷ []
+last-kid ks a zero h = absurd (omega arith)
+last-kid ks a (suc zero) h = let e : a + (suc zero - 1) ≡ a = omega arith in rw e refl
+last-kid ks a (suc (suc n)) h =
     let e : suc a + (suc n - 1) ≡ a + (suc (suc n) - 1) = omega arith in
-    rw (returned-kid ks (suc a) (suc n) (omega arith), e) refl
+    rw (last-kid ks (suc a) (suc n) (omega arith), e) refl
 
-no-kid : (ks : List ℕ) (a n : ℕ) → n ≡ 0 → returned (kidsFrom ks a n) ≡ []
+no-kid : (ks : List ℕ) (a n : ℕ) → n ≡ 0 → last (kidsFrom ks a n) ≡ []
 no-kid ks a n e = rw e refl
 
 -- `returns`
@@ -116,16 +112,16 @@ module _ (ks : List ℕ) (s : Runs) where
   unfolding runPlan
   returns-none r e q = rw (no-kid ks (s .a) (s .na) e) (go (ℕ-discrete (s .nb) 0))
     where
-      go : Dec (s .nb ≡ 0) → answers (answerOf r) ≡ runPlan (s .inv .0) [] (returned (kidsFrom ks (s .b) (s .nb)))
+      go : Dec (s .nb ≡ 0) → answers (answerOf r) ≡ runPlan (s .inv .0) [] (last (kidsFrom ks (s .b) (s .nb)))
       go (yes z) = unfold runPlan zipped in rw (no-kid ks (s .b) (s .nb) z, q, eq-eqb (s .nb) 0 z) refl
-      go (no z) = unfold runPlan zipped in rw (returned-kid ks (s .b) (s .nb) (omega arith), q, ne-eqb (s .nb) 0 z) refl
+      go (no z) = unfold runPlan zipped in rw (last-kid ks (s .b) (s .nb) (omega arith), q, ne-eqb (s .nb) 0 z) refl
 
   pub returns-lack : (s .na ≡ 0 → ⊥) → s .nb ≡ 0 → returnsMean (Lacking Failure) ≡ returnsPlan ks s
   unfolding runPlan
-  returns-lack h e = rw (returned-kid ks (s .a) (s .na) (omega arith), no-kid ks (s .b) (s .nb) e) refl
+  returns-lack h e = rw (last-kid ks (s .a) (s .na) (omega arith), no-kid ks (s .b) (s .nb) e) refl
 
   pub returns-pair : (x y z : «Type») → (s .na ≡ 0 → ⊥) → (s .nb ≡ 0 → ⊥) → x .0 ≡ slotAt ks (s .a + (s .na - 1)) .type
       → z .0 ≡ slotAt ks (s .b + (s .nb - 1)) .type → tyOf (y .0) ≡ flip (s .inv .0) (tyOf (z .0)) → returnsMean (Pair x y) ≡ returnsPlan ks s
   unfolding runPlan zipped
   returns-pair x y z h g ex ez ey =
-      rw (returned-kid ks (s .a) (s .na) (omega arith), returned-kid ks (s .b) (s .nb) (omega arith), ey, ex, ez) refl
+      rw (last-kid ks (s .a) (s .na) (omega arith), last-kid ks (s .b) (s .nb) (omega arith), ey, ex, ez) refl

@@ -3,10 +3,11 @@ use mathlib.Core.Path.{_≡_}
 use mathlib.Core.List.{List, [], _∷_}
 use mathlib.Core.Option.{Option, none, some}
 use Prim.Native.Nat.{ℕ, _-_}
+use Rattle.scope.specs.Base.{last}
 use Rattle.scope.specs.Names.{Texts, Name, name, bytes}
 use Rattle.scope.specs.Types.{Ty, tyOf}
 use Rattle.scope.specs.Answers.{Success}
-use Rattle.scope.specs.Unify.{Plan, answers, runPlan, objectPlan, returned, seek}
+use Rattle.scope.specs.Unify.{Plan, answers, runPlan, objectPlan, seek}
 use Rattle.scope.specs.Sound as sound
 use Rattle.types.specs.Answers.{answerOf}
 use Rattle.plan.specs.Meaning.{kidsFrom, namesFrom}
@@ -46,4 +47,4 @@ returnsMean (Lacking r) = answers (answerOf r)
 returnsMean (Pair x y) = record { base = Success; pairs = (tyOf (x .0), tyOf (y .0)) ∷ [] }
 
 abbrev pub returnsPlan : List ℕ → Runs → Plan
-returnsPlan ks s = runPlan (s .inv .0) (returned (kidsFrom ks (s .a) (s .na))) (returned (kidsFrom ks (s .b) (s .nb)))
+returnsPlan ks s = runPlan (s .inv .0) (last (kidsFrom ks (s .a) (s .na))) (last (kidsFrom ks (s .b) (s .nb)))

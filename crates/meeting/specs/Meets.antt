@@ -1,33 +1,20 @@
 -- What two roots ask for, as scope's `meet` has it: an answer, a merge, or their children first.
 use mathlib.Core.Path.{_≡_}
-use mathlib.Core.Bool.{Bool, false}
 use mathlib.Core.List.{List, []}
 use Prim.Native.Nat.{ℕ}
-use Rattle.scope.specs.Base.{xor}
 use Rattle.scope.specs.Names.{Texts}
 use Rattle.scope.specs.Types.{Ty}
 use Rattle.scope.specs.Nodes.{Node}
-use Rattle.scope.specs.Unify.{Out, out, run, bind, bindIf, settle, sameNode, meet}
+use Rattle.scope.specs.Answers.{Success}
+use Rattle.scope.specs.Unify.{Out, out, run, bound, bind, settle, sameNode, meet}
 use Rattle.scope.specs.Unify as scope
 use Rattle.types.specs.Answers.{answerOf}
 use Rattle.types.specs.declared.UnifyResult.{UnifyResult}
 use Rattle.layout.specs.Words.{decode}
-use Rattle.layout.specs.declared.TypeState.the-variants.{Known, Unknown, InferenceFailed}
-use Rattle.layout.specs.declared.TypeNode.{TypeNode}
-use Rattle.layout.specs.declared.TypeNode.the-variants.{Root, Child}
 use Rattle.plan.specs.Meaning.{planMeans}
 use Rattle.meeting.specs.Asks.{Inside}
-use Rattle.meeting.specs.declared.Held.{Held}
-use Rattle.meeting.specs.declared.Held.the-variants.{Is, Nothing}
 use Rattle.meeting.specs.declared.Meeting.{Meeting}
 use Rattle.meeting.specs.declared.Meeting.the-variants.{Done, Bind, Kids}
-
--- a root's inversion as a type inverted if i sees it, and its kind
-abbrev pub heldIn : Bool → TypeNode → Held
-heldIn i (Root (Known j k) z) = Is (record { 0 = xor (j .0) i }) k
-heldIn i (Root (Unknown s) z) = Nothing
-heldIn i (Root InferenceFailed z) = Nothing
-heldIn i (Child t) = Nothing
 
 -- what a plan asks, each pair by u
 abbrev pub does : (List Node → Ty → Ty → Out) → List Node → scope.Plan → Out
@@ -36,7 +23,7 @@ does u ns l = run u ns (l .base) (l .pairs)
 -- what a meeting of two roots asks, each pair of children by u
 abbrev pub metBy : (List Node → Ty → Ty → Out) → Texts → List ℕ → List Node → Ty → Ty → Meeting → Out
 metBy u x ks ns a b (Done r) = out ns (answerOf r)
-metBy u x ks ns a b Bind = bindIf ns a b false
+metBy u x ks ns a b Bind = out (bound ns a b) Success
 metBy u x ks ns a b (Kids p) = let o : Out = does u ns (planMeans ks x p) in settle (o .nodes) a b (o .answer)
 
 abbrev pub pairsOf : Texts → List ℕ → Meeting → List (Ty × Ty)

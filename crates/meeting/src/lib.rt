@@ -1,21 +1,16 @@
 // What two roots ask for, and what is read of their children on the way. Nothing here changes a word.
 ghost use mathlib.Core.Path.{_≡_};
-ghost use Prim.Native.Nat.{_+_, _-_, _≤_};
-ghost use lib.ListN.{length};
+ghost use Prim.Native.Nat.{_+_, _-_};
 ghost use Rattle.scope.specs.Types.{tyOf};
 ghost use Rattle.names.specs.Place.{texts, nameOf};
-ghost use Rattle.layout.specs.Words.{nodeWords, slotAt};
-ghost use Rattle.layout.specs.Meaning.{readAt};
+ghost use Rattle.layout.specs.Words.{slotAt};
 ghost use Rattle.meeting.specs.Asks.{Tops, Roots};
-ghost use Rattle.meeting.specs.Meets.{heldIn, OneNode, Bare, Met};
+ghost use Rattle.meeting.specs.Meets.{OneNode, Bare, Met};
 ghost use Rattle.meeting.specs.Kids.{slotPlace, soughtMeans, soughtIn, Parameters, returnsMean, returnsPlan};
-use layout::Kind;
-use layout::TypeNode;
-use layout::TypeState;
+use layout::Held;
 use names::Name;
 use plan::Plan;
 use plan::Runs;
-use types::Inverted;
 use types::Type;
 use types::UnifyResult;
 
@@ -24,12 +19,6 @@ pub enum Meeting {
     Done(UnifyResult),
     Bind,
     Kids(Plan),
-}
-
-// A root's inversion, as a type sees it, and its kind.
-pub enum Held {
-    Is(Inverted, Kind),
-    Nothing,
 }
 
 // A signature's returns: a pair, or what their number answers.
@@ -42,20 +31,6 @@ pub enum Returned {
 pub enum Sought {
     Is(Type),
     Nothing,
-}
-
-fn kind_at(ws: &[u32], n: u32, t: Type) -> Held
-    requires { ⌜ nodeWords n ≤ length (now ws) ⌝ }
-    ensures { λ r. ⌜ r ≡ heldIn (tyOf (t .0) .inv) (readAt (now (ws .entry)) n (tyOf (t .0) .idx)) ⌝ }
-{
-    match layout::node_at(ws, n, t.idx()) {
-        TypeNode::Root { state, size: _ } => match state {
-            TypeState::Known(i, kind) => Held::Is(i.xor(t.inv()), kind),
-            TypeState::Unknown(_) => Held::Nothing,
-            TypeState::InferenceFailed => Held::Nothing,
-        },
-        TypeNode::Child(_) => Held::Nothing,
-    }
 }
 
 // "Same node: Success if the inversions agree or `self_inverse` holds, else Failure."
@@ -102,13 +77,14 @@ pub fn meet<'a>(
     if ia.0 == ib.0 {
         return Meeting::Done(same_node(ws, ks, n, a, b));
     }
-    let Held::Is(i, k) = kind_at(ws, n, a) else {
+    let Held::Is(i, k) = layout::held_at(ws, n, ia) else {
         return without_kind(ws, ks, n, a, b);
     };
-    let Held::Is(j, m) = kind_at(ws, n, b) else {
+    let Held::Is(j, m) = layout::held_at(ws, n, ib) else {
         return without_kind(ws, ks, n, a, b);
     };
-    Meeting::Kids(plan::plan_of(k, m, i.xor(j), rule, text))
+    let inv = i.xor(a.inv()).xor(j.xor(b.inv()));
+    Meeting::Kids(plan::plan_of(k, m, inv, rule, text))
 }
 
 // A child of a run.
@@ -127,12 +103,7 @@ pub fn kid(ks: &[u32], a: u32, i: u32) -> Type
 pub fn kid_name(ks: &[u32], a: u32, i: u32) -> Name
     ensures { λ r. ⌜ nameOf r ≡ slotPlace (slotAt (now (ks .entry)) (a + i)) ⌝ }
 {
-    let s = layout::child_at(ks, place(a, i));
-    Name {
-        text: s.text,
-        start: s.start,
-        len: s.len,
-    }
+    layout::child_at(ks, place(a, i)).name
 }
 
 // The type beside a name among count children from b on.

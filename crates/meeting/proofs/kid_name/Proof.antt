@@ -14,7 +14,9 @@ child-at-requires : tie.Need-child-at-requires
 child-at-requires c κs = search needs
 
 returns : tie.Need-returns
-returns c = let ks = c .before .before .before .args .ks .now in ap slotPlace (c .child-at .ensures ∙ ap (slotAt ks) (c .before .place .ensures))
+returns c =
+    let k = c .before in
+    ap slotPlace (k .child-at .ensures ∙ ap (slotAt (k .before .before .before .args .ks .now)) (k .before .place .ensures))
 
 pub kid-name-spec : {M : Type 1} → statement M
 kid-name-spec = tie.close (tie.spec place-requires child-at-requires returns)
