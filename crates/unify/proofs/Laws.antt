@@ -13,7 +13,7 @@ use Rattle.scope.specs.Chart.{Env}
 use Rattle.scope.specs.Types.{Ty, tyOf}
 use Rattle.scope.specs.Nodes.{Node, at, isRoot, sizeOf, find, findMut}
 use Rattle.scope.specs.Answers as answers
-use Rattle.scope.specs.Unify.{Out, run, settle, meet, unifyF}
+use Rattle.scope.specs.Unify.{Out, out, run, settle, meet, unifyF}
 use Rattle.scope.proofs.View.{View, view}
 use Rattle.scope.proofs.Paths.{Forest, Tidied, find-idx, find-inside, rep-root, find-mut-tidied, tidied-forest, tidied-trans, tidied-view}
 use Rattle.scope.proofs.Sizes.{size-le}
@@ -24,13 +24,13 @@ use Rattle.types.specs.declared.UnifyResult.the-variants.{Success, Failure}
 use Rattle.layout.specs.Words.{nodeWords, decode}
 use Rattle.layout.specs.Meaning.{Clean, Linked}
 use Rattle.layout.proofs.Laws.{length-decode}
+use Rattle.layout.proofs.HeldLaws.{size-read}
 use Rattle.layout.proofs.LinkLaws.{clean-linked}
 use Rattle.roots.specs.Found.{FoundMut}
 use Rattle.plan.specs.Meaning.{planMeans}
 use Rattle.plan.specs.declared.Plan.{Plan}
 use Rattle.plan.specs.declared.Plan.the-variants.{Answer}
 use Rattle.merge.specs.Meaning.{Adds, Bound, Settled}
-use Rattle.merge.proofs.Laws.{size-read}
 use Rattle.meeting.specs.Asks.{SoundWords, Pair, Tops, Inside, Pairs}
 use Rattle.meeting.specs.Meets.{does, metBy, pairsOf, Met}
 use Rattle.meeting.specs.declared.Meeting.{Meeting}
@@ -180,17 +180,11 @@ module _ {x : Texts} {ws ks ws₂ : List ℕ} {n d : ℕ} {p q a b : Ty} {m : Me
   way-done e = record { same = went e; clean = c .up .clean; tail = c .up .tail }
 
   pub way-bind : {ws₃ : List ℕ} → m ≡ Bind → Bound ws₂ ws₃ n a b → Leaves ws ks ws₃ n (unifyF x n d (decode ws ks n) p q) Success
-<<<<<<< HEAD
   way-bind e o = record {
-    same = went e ∙ o .nodes ks (words .children) (words .clean);
+    same = went e ∙ ap (λ (ns : List Node). out ns answers.Success) (sym (o .nodes ks (words .children) (words .clean)));
     clean = λ h cl. o .clean ks h (c .up .clean h cl);
     tail = o .tail ∙ c .up .tail;
   }
-=======
-  way-bind e o =
-      let r = c .tops .pair .ready in
-      record { same = went e ∙ ap (λ (ns : List Node). out ns answers.Success) (sym (o .nodes ks (r .children) (r .clean))); clean = λ k cl. o .clean ks k (c .clean k cl); tail = o .tail ∙ c .tail }
->>>>>>> scope9
 
   pub way-answer : {k : Plan} {ws₃ : List ℕ} {r s : UnifyResult} → m ≡ Kids k → k ≡ Answer r → Settled ws₂ ws₃ n a b r s
       → Leaves ws ks ws₃ n (unifyF x n d (decode ws ks n) p q) s

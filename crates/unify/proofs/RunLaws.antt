@@ -8,27 +8,15 @@ use mathlib.Core.Option.{Option}
 use Prim.Native.Nat.{ℕ, suc, _+_, _-_, _<_, _≤_}
 use native.Mathlib.Omega.{arith}
 use lib.Dec.{eqb}
-<<<<<<< HEAD
 use lib.ListN.{drop}
 use borrow.Author.Tests.{eq-eqb, ne-eqb}
+use Rattle.scope.specs.Base.{front}
 use Rattle.scope.specs.Names.{Texts, Name}
 use Rattle.scope.specs.Types.{Ty, tyOf, flip}
 use Rattle.scope.specs.Nodes.{Node}
 use Rattle.scope.specs.Answers.{Answer, Success, Failure, Indeterminate, both, ofBool}
-use Rattle.scope.specs.Unify.{Plan, Out, out, run, unifyF, answers, zipped, runPlan, shared, sharedNames, objectPlan, parameters, after, signaturePlan}
+use Rattle.scope.specs.Unify.{Plan, Out, out, run, unifyF, answers, zipped, runPlan, shared, sharedNames, objectPlan, after, signaturePlan}
 use Rattle.scope.proofs.Laws.{both-assoc, both-comm}
-=======
-use lib.ListN.{length, drop, length-map}
-use borrow.Author.Tests.{eq-eqb, ne-eqb, eqb-true}
-use Rattle.scope.specs.Base.{pick, front, last}
-use Rattle.scope.specs.Names.{Texts, Name, name, bytes, bytesOr, eqBytes}
-use Rattle.scope.specs.Types.{Ty, tyOf, flip}
-use Rattle.scope.specs.Nodes.{Node}
-use Rattle.scope.specs.Answers.{Answer, Success, Failure, Indeterminate, both, ofBool}
-use Rattle.scope.specs.Unify.{Plan, Out, out, run, unifyF, answers, zipped, runPlan, seek, shared, sharedNames, objectPlan, after, signaturePlan}
-use Rattle.scope.specs.Sound as sound
-use Rattle.scope.specs.Sound.{slotName}
->>>>>>> scope9
 use Rattle.types.specs.Answers.{answerOf}
 use Rattle.types.specs.declared.«Type».{«Type»}
 use Rattle.types.specs.declared.UnifyResult.{UnifyResult}
@@ -45,7 +33,7 @@ use Rattle.meeting.specs.declared.Returned.{Returned}
 use Rattle.meeting.specs.declared.Returned.the-variants as back
 use Rattle.meeting.specs.declared.Sought.{Sought}
 use Rattle.meeting.specs.declared.Sought.the-variants as found
-use Rattle.meeting.proofs.KidLaws.{one-more, none-left, kid-length, kidTy, slot-bytes, parameter-kids}
+use Rattle.meeting.proofs.KidLaws.{one-more, none-left, kid-length, kidTy, slot-bytes, front-kids}
 use Rattle.unify.specs.Leaves.{Leaves}
 use Rattle.unify.proofs.Laws.{words-pair, words-run}
 
@@ -239,42 +227,14 @@ module _ (x : Texts) (xs ys : List ℕ) (s : Runs) where
       let p : s .a + 0 ≡ s .a = omega arith in
       rw (kid-length xs (s .a) (s .na), kid-length ys (s .b) (s .nb), ← e, z, p) refl
 
-<<<<<<< HEAD
   object-step : (i : ℕ) → i < s .na → objectRest x xs ys s i
-      ≡ shared (s .inv .0) (kidTy xs (s .a + i)) (soughtIn x ys (slotPlace (slotAt xs (s .a + i))) (s .b) (s .nb)) (objectRest x xs ys s (i + 1))
-=======
-  object-step : (i : ℕ) → i < s .na
-      → objectRest i ≡ after (shared (s .inv .0) (kidTy xs (s .a + i)) (soughtIn x ys (slotPlace (slotAt xs (s .a + i))) (s .b) (s .nb))) (objectRest (i + 1))
->>>>>>> scope9
+      ≡ after (shared (s .inv .0) (kidTy xs (s .a + i)) (soughtIn x ys (slotPlace (slotAt xs (s .a + i))) (s .b) (s .nb))) (objectRest x xs ys s (i + 1))
   unfolding sharedNames
   object-step i h =
       let p : s .a + (i + 1) ≡ suc (s .a + i) = omega arith in
       rw (one-more (s .na) i h, p, ← slot-bytes x (slotAt xs (s .a + i))) refl
 
-<<<<<<< HEAD
   object-over : (i : ℕ) → s .na ≤ i → objectRest x xs ys s i ≡ answers Success
-=======
-  module _ (i : ℕ) (h : i < s .na) {m : Name} (f : Sought) (em : m ≡ slotPlace (slotAt xs (s .a + i))) (ef : soughtMeans f ≡ soughtIn x ys m (s .b) (s .nb)) where
-    object-to : {g : Sought} → f ≡ g → objectRest i ≡ after (shared (s .inv .0) (kidTy xs (s .a + i)) (soughtMeans g)) (objectRest (i + 1))
-    object-to e = object-step i h ∙ ap (λ (o : Option Ty). after (shared (s .inv .0) (kidTy xs (s .a + i)) o) (objectRest (i + 1)))
-        (ap (λ (k : Name). soughtIn x ys k (s .b) (s .nb)) (sym em) ∙ (sym ef ∙ ap soughtMeans e))
-
-    module _ {ws₀ ks : List ℕ} {n d : ℕ} {o : Out} {ws : List ℕ} (r : UnifyResult) (g : Going x ws₀ ks n d o ws (both (answerOf r) (objectRest i .base)) (objectRest i .pairs)) where
-      pub object-none : (r′ : UnifyResult) → f ≡ found.Nothing → answerOf r′ ≡ both (answerOf r) Failure
-          → Going x ws₀ ks n d o ws (both (answerOf r′) (objectRest (i + 1) .base)) (objectRest (i + 1) .pairs)
-      object-none r′ e q =
-          let l = object-to e in
-          going-to (ap (λ (t : Plan). both (answerOf r) (t .base)) l ∙ (both-fails (answerOf r) (objectRest (i + 1) .base) ∙ ap (λ (t : Answer). both t (objectRest (i + 1) .base)) (sym q)))
-          (ap (λ (t : Plan). t .pairs) l) g
-
-      -- the name is there: one pair, and the rest
-      pub object-found : (t : «Type») → f ≡ found.Is t
-          → Going x ws₀ ks n d o ws (both (answerOf r) (objectRest (i + 1) .base))
-          ((kidTy xs (s .a + i), flip (s .inv .0) (tyOf (t .0))) ∷ objectRest (i + 1) .pairs)
-      object-found t e = let l = object-to e in going-to (ap (λ (p : Plan). both (answerOf r) (p .base)) l) (ap (λ (p : Plan). p .pairs) l) g
-
-  pub object-over : (i : ℕ) → s .na ≤ i → objectRest i ≡ answers Success
->>>>>>> scope9
   unfolding sharedNames
   object-over i h = rw (none-left (s .na) i h) refl
 
@@ -288,8 +248,8 @@ module _ {x : Texts} {xs ys ws₀ ks : List ℕ} {n d : ℕ} {s : Runs} {ws : Li
 
   -- the i-th name's place m, and what was found beside it in the second object
   module _ (h : i < s .na) {m : Name} {f : Sought} (em : m ≡ slotPlace (slotAt xs (s .a + i))) (ef : soughtMeans f ≡ soughtIn x ys m (s .b) (s .nb)) where
-    object-to : (k : Sought) → f ≡ k → objectRest x xs ys s i ≡ shared (s .inv .0) (kidTy xs (s .a + i)) (soughtMeans k) rest
-    object-to k e = object-step x xs ys s i h ∙ ap (λ (v : Option Ty). shared (s .inv .0) (kidTy xs (s .a + i)) v rest)
+    object-to : (k : Sought) → f ≡ k → objectRest x xs ys s i ≡ after (shared (s .inv .0) (kidTy xs (s .a + i)) (soughtMeans k)) rest
+    object-to k e = object-step x xs ys s i h ∙ ap (λ (v : Option Ty). after (shared (s .inv .0) (kidTy xs (s .a + i)) v) rest)
         (ap (λ (v : Name). soughtIn x ys v (s .b) (s .nb)) (sym em) ∙ (sym ef ∙ ap soughtMeans e))
 
     pub object-none : {r′ : UnifyResult} → f ≡ found.Nothing → answerOf r′ ≡ both (answerOf r) Failure → ObjectLeft x xs ys ws₀ ks n d s ws r′ (i + 1)
@@ -339,63 +299,13 @@ stored-ends g h = object-ends g h
 
 -- a signature: its parameters, then its returns
 
-<<<<<<< HEAD
 module _ (x : Texts) (ks : List ℕ) {s p : Runs} (ep : Parameters s p) where
-  parameters-plan : planMeans ks x (plans.Run p) ≡ runPlan (s .inv .0) (parameters (kidsFrom ks (s .a) (s .na))) (parameters (kidsFrom ks (s .b) (s .nb)))
-=======
-front-kids : (ks : List ℕ) (a n : ℕ) → front (kidsFrom ks a n) ≡ kidsFrom ks a (n - 1)
-front-kids ks a zero = refl
-front-kids ks a (suc zero) = refl
-front-kids ks a (suc (suc n)) =
-    let e : suc (suc n) - 1 ≡ suc n = omega arith in
-    let f : suc n - 1 ≡ n = omega arith in
-    rw (e, front-kids ks (suc a) (suc n), f) refl
-
-last-kid : (ks : List ℕ) (a n : ℕ) → 0 < n → last (kidsFrom ks a n) ≡ kidTy ks (a + (n - 1)) ∷ []
-last-kid ks a zero h = absurd (omega arith)
-last-kid ks a (suc zero) h = let e : a + (suc zero - 1) ≡ a = omega arith in rw e refl
-last-kid ks a (suc (suc n)) h =
-    let e : suc a + (suc n - 1) ≡ a + (suc (suc n) - 1) = omega arith in
-    rw (last-kid ks (suc a) (suc n) (omega arith), e) refl
-
-no-kid : (ks : List ℕ) (a n : ℕ) → n ≡ 0 → last (kidsFrom ks a n) ≡ []
-no-kid ks a n e = rw e refl
-
--- `returns`
-module _ (ks : List ℕ) (s : Runs) where
-  pub returns-none : (r : UnifyResult) → s .na ≡ 0 → answerOf r ≡ ofBool (eqb (s .nb) 0) → returnsMean (back.Lacking r) ≡ returnsPlan ks s
-  unfolding runPlan
-  returns-none r e q = rw (no-kid ks (s .a) (s .na) e) (go (ℕ-discrete (s .nb) 0))
-    where
-      go : Dec (s .nb ≡ 0) → answers (answerOf r) ≡ runPlan (s .inv .0) [] (last (kidsFrom ks (s .b) (s .nb)))
-      go (yes z) = unfold runPlan zipped in rw (no-kid ks (s .b) (s .nb) z, q, eq-eqb (s .nb) 0 z) refl
-      go (no z) = unfold runPlan zipped in rw (last-kid ks (s .b) (s .nb) (omega arith), q, ne-eqb (s .nb) 0 z) refl
-
-  pub returns-lack : (s .na ≡ 0 → ⊥) → s .nb ≡ 0 → returnsMean (back.Lacking code.Failure) ≡ returnsPlan ks s
-  unfolding runPlan
-  returns-lack h e = rw (last-kid ks (s .a) (s .na) (omega arith), no-kid ks (s .b) (s .nb) e) refl
-
-  pub returns-pair : (x y z : «Type») → (s .na ≡ 0 → ⊥) → (s .nb ≡ 0 → ⊥) → x .0 ≡ slotAt ks (s .a + (s .na - 1)) .type
-      → z .0 ≡ slotAt ks (s .b + (s .nb - 1)) .type → tyOf (y .0) ≡ flip (s .inv .0) (tyOf (z .0)) → returnsMean (back.Pair x y) ≡ returnsPlan ks s
-  unfolding runPlan zipped
-  returns-pair x y z h g ex ez ey =
-      rw (last-kid ks (s .a) (s .na) (omega arith), last-kid ks (s .b) (s .nb) (omega arith), ey, ex, ez) refl
-
-module _ (x : Texts) (ks : List ℕ) (s : Runs) {p : Runs} (ep : Parameters s p) (t : Returned) (et : returnsMean t ≡ returnsPlan ks s) where
-  pub signature-split : planMeans ks x (Signature s) ≡ after (planMeans ks x (Run p)) (returnsMean t)
-  unfolding planMeans signaturePlan
-  signature-split =
-      rw (ep .a, ep .na, ep .b, ep .nb, ep .inv, et, front-kids ks (s .a) (s .na), front-kids ks (s .b) (s .nb)) refl
-
-module _ (x : Texts) (ks : List ℕ) {s : Runs} {p : Runs} (ep : Parameters s p) where
-  parameters-plan : planMeans ks x (Run p) ≡ runPlan (s .inv .0) (front (kidsFrom ks (s .a) (s .na))) (front (kidsFrom ks (s .b) (s .nb)))
->>>>>>> scope9
+  parameters-plan : planMeans ks x (plans.Run p) ≡ runPlan (s .inv .0) (front (kidsFrom ks (s .a) (s .na))) (front (kidsFrom ks (s .b) (s .nb)))
   unfolding planMeans
-  parameters-plan = rw (ep .a, ep .na, ep .b, ep .nb, ep .inv, parameter-kids ks (s .a) (s .na), parameter-kids ks (s .b) (s .nb)) refl
+  parameters-plan = rw (ep .a, ep .na, ep .b, ep .nb, ep .inv, front-kids ks (s .a) (s .na), front-kids ks (s .b) (s .nb)) refl
 
   signature-split : (t : Returned) → returnsMean t ≡ returnsPlan ks s → planMeans ks x (plans.Signature s) ≡ after (planMeans ks x (plans.Run p)) (returnsMean t)
   unfolding planMeans signaturePlan
-<<<<<<< HEAD
   signature-split t et = rw (parameters-plan, et) refl
 
 pub parameters-pairs : {x : Texts} {ws ks : List ℕ} {n : ℕ} {s p : Runs} → Pairs x ws ks n (planMeans ks x (plans.Signature s) .pairs) → Parameters s p
@@ -449,10 +359,4 @@ module _ {x : Texts} {ws ks ws₁ : List ℕ} {n d : ℕ} {s : Runs} {q : UnifyR
     same = whole-by ∙ rw (e, m .same, f) refl;
     clean = λ c cl. m .clean c (h .left .clean c cl);
     tail = m .tail ∙ h .left .tail;
-=======
-  parameters-pairs {ws} {n} g = record {
-    ready = g .ready;
-    inside = subst (λ (l : Plan). Inside n (l .pairs)) (sym parameters-plan)
-        (λ q m. g .inside q (Memᴰ·append-left (runPlan (s .inv .0) (last (kidsFrom ks (s .a) (s .na))) (last (kidsFrom ks (s .b) (s .nb))) .pairs) m));
->>>>>>> scope9
   }
