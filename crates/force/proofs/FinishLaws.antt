@@ -13,16 +13,14 @@ use Rattle.scope.specs.Nodes.{Node, Store, at, withNodes}
 use Rattle.scope.specs.Make.{bare}
 use Rattle.scope.specs.Force.{finishNode, finishInference, finishWhere}
 use Rattle.layout.specs.Words.{nodeWords, nodesMade, childrenMade, nodeRoom, childRoom, storeIn, clean}
-use Rattle.layout.specs.Meaning.{readAt, putAt, nodeMeans, nodeFits}
+use Rattle.layout.specs.Meaning.{readAt, putAt, nodeSize, nodeMeans, nodeFits}
 use Rattle.layout.specs.declared.TypeState.the-variants.{Known, Unknown, InferenceFailed}
 use Rattle.layout.specs.declared.TypeNode.{TypeNode}
 use Rattle.layout.specs.declared.TypeNode.the-variants.{Root, Child}
 use Rattle.layout.proofs.Laws.{length-put}
-use Rattle.make.specs.Holds.{Holds, Beyond, Became}
-use Rattle.make.proofs.Laws.{store-count, holds-clean, holds-read, holds-put, beyond-put, beyond-refl, beyond-trans}
-use Rattle.make.proofs.MakeLaws.{bare-means, bare-fits}
+use Rattle.store.specs.Holds.{Holds, Beyond, Became}
+use Rattle.store.proofs.Laws.{store-count, holds-clean, holds-read, holds-put, beyond-put, beyond-refl, beyond-trans, bare-means, bare-fits}
 use Rattle.force.specs.Finish.{defaultRoot, lacksKind, finishWords, chosen}
-use Rattle.force.specs.Forcing.{nodeSize}
 use Rattle.force.proofs.Laws.{Going, going-start, going-skip, going-put, going-end}
 
 -- what the code does with the node w that it read

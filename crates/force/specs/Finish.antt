@@ -8,13 +8,12 @@ use Rattle.scope.specs.Base.{pick}
 use Rattle.scope.specs.Kinds.{DEFAULT}
 use Rattle.scope.specs.Nodes.{Node, withNodes}
 use Rattle.layout.specs.Words.{storeIn}
-use Rattle.layout.specs.Meaning.{putAt}
+use Rattle.layout.specs.Meaning.{nodeSize, putAt}
 use Rattle.layout.specs.declared.TypeState.the-variants.{Known, Unknown, InferenceFailed}
 use Rattle.layout.specs.declared.TypeNode.{TypeNode}
 use Rattle.layout.specs.declared.TypeNode.the-variants.{Root, Child}
-use Rattle.make.specs.Header.{bareKind}
-use Rattle.make.specs.Holds.{Became}
-use Rattle.force.specs.Forcing.{nodeSize}
+use Rattle.store.specs.Bare.{bareKind}
+use Rattle.store.specs.Holds.{Became}
 
 -- a root of this size whose kind is Default
 abbrev pub defaultRoot : ℕ → TypeNode

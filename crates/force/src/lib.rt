@@ -8,11 +8,10 @@ ghost use Rattle.scope.specs.Force.{report, finishInference, finishWhere};
 ghost use Rattle.layout.specs.Words.{nodeWords, clean};
 ghost use Rattle.layout.specs.Meaning.{readAt};
 ghost use Rattle.force.specs.Finish.{defaultRoot, lacksKind, finishWords, chosen, Finished};
-ghost use Rattle.force.specs.Forcing.{nodeState, nodeSize, reporting, ForcedIs};
+ghost use Rattle.force.specs.Forcing.{reporting, ForcedIs};
 use kinds::DEFAULT;
 use layout::Header;
 use layout::Kind;
-use layout::NONE;
 use layout::TypeNode;
 use layout::TypeState;
 use types::Inverted;
@@ -33,7 +32,7 @@ pub enum Forced {
 fn default_root(size: u32) -> TypeNode
     ensures { λ r. ⌜ r ≡ defaultRoot size ⌝ }
 {
-    let kind = make::bare_kind(DEFAULT);
+    let kind = store::bare_kind(DEFAULT);
     TypeNode::Root {
         state: TypeState::Known(Inverted(false), kind),
         size,
@@ -60,7 +59,7 @@ fn finish_node(ws: &mut [u32], n: u32, i: TypeIdx)
 {
     let node = layout::node_at(ws, n, i);
     if lacks_kind(node) {
-        layout::put_node(ws, n, i, default_root(size_of(node)));
+        layout::put_node(ws, n, i, default_root(layout::size_of(node)));
     }
 }
 
@@ -105,25 +104,6 @@ pub fn finish_inference_where(h: &[u32], ws: &mut [u32], ks: &[u32], bytes: &[u8
     }
 }
 
-// A child has no state of its own, and no size.
-fn state_of(node: TypeNode) -> TypeState
-    ensures { λ r. ⌜ r ≡ nodeState node ⌝ }
-{
-    match node {
-        TypeNode::Root { state, size: _ } => state,
-        TypeNode::Child(_) => TypeState::Unknown(NONE),
-    }
-}
-
-fn size_of(node: TypeNode) -> u32
-    ensures { λ r. ⌜ r ≡ nodeSize node ⌝ }
-{
-    match node {
-        TypeNode::Root { state: _, size } => size,
-        TypeNode::Child(_) => 0,
-    }
-}
-
 fn one_more(n: u64) -> u64
     ensures { λ r. ⌜ r ≡ report n ⌝ }
 {
@@ -155,13 +135,13 @@ pub fn force_kind(h: &mut [u32], ws: &mut [u32], ks: &[u32], t: Type) -> Forced
     let root = roots::find_mut(ws, x.nodes, t);
     let i = root.idx();
     let node = layout::node_at(ws, x.nodes, i);
-    let state = state_of(node);
+    let state = layout::state_of(node);
     match state {
         TypeState::Known(inv, kind) => Forced::Known(inv.xor(root.inv()), kind),
         TypeState::Unknown(span) => {
             let failed = TypeNode::Root {
                 state: TypeState::InferenceFailed,
-                size: size_of(node),
+                size: layout::size_of(node),
             };
             layout::put_node(ws, x.nodes, i, failed);
             layout::write_header(h, with_reports(x, one_more(x.reports)));
