@@ -13,16 +13,24 @@ use Rattle.scope.specs.Nodes.{Node, Store, at, withNodes}
 use Rattle.scope.specs.Make.{bare}
 use Rattle.scope.specs.Force.{finishNode, finishInference, finishWhere}
 use Rattle.layout.specs.Words.{nodeWords, nodesMade, childrenMade, nodeRoom, childRoom, storeIn, clean}
-use Rattle.layout.specs.Meaning.{readAt, putAt, nodeMeans, nodeFits}
+use Rattle.layout.specs.Meaning.{readAt, putAt, nodeSize, nodeMeans, nodeFits}
 use Rattle.layout.specs.declared.TypeState.the-variants.{Known, Unknown, InferenceFailed}
 use Rattle.layout.specs.declared.TypeNode.{TypeNode}
 use Rattle.layout.specs.declared.TypeNode.the-variants.{Root, Child}
 use Rattle.layout.proofs.Laws.{length-put}
-use Rattle.make.specs.Holds.{Holds, Beyond, Became}
-use Rattle.make.proofs.Laws.{store-count, holds-clean, holds-read, holds-put, beyond-put, beyond-refl, beyond-trans}
-use Rattle.make.proofs.MakeLaws.{bare-means, bare-fits}
-use Rattle.force.specs.Finish.{defaultRoot, finishWords, chosen}
+use Rattle.store.specs.Holds.{Holds, Beyond, Became}
+use Rattle.store.proofs.Laws.{store-count, holds-clean, holds-read, holds-put, beyond-put, beyond-refl, beyond-trans, bare-means, bare-fits}
+use Rattle.force.specs.Finish.{defaultRoot, lacksKind, finishWords, chosen}
 use Rattle.force.proofs.Laws.{Going, going-start, going-skip, going-put, going-end}
+
+-- what the code does with the node w that it read
+
+module _ (ws : List ℕ) (n i : ℕ) {v w : TypeNode} {b : Bool} (e : w ≡ v) (s : b ≡ lacksKind w) where
+  pub finish-put : {z : ℕ} {d : TypeNode} {ws′ : List ℕ} → b ≡ true → z ≡ nodeSize w → d ≡ defaultRoot z → ws′ ≡ putAt ws n i d → ws′ ≡ finishWords ws n i v
+  finish-put t q r p = p ∙ rw (r, q, ← e, ← s, t) refl
+
+  pub finish-leave : b ≡ false → ws ≡ finishWords ws n i v
+  finish-leave t = rw (← e, ← s, t) refl
 
 -- the definitions, node by node
 
@@ -113,7 +121,8 @@ module _ {h ws₀ ks ws : List ℕ} {to : List Node} {i : ℕ} (o : Turned h ws�
     turn-by (Child t) q e = turned-skip (e ∙ (ap (finishNode true) q ∙ sym q))
 
     -- node i is read and finished
-    pub turned-finish : {ws′ : List ℕ} {n : ℕ} → at to i ≡ finishNode true (at from i) → n ≡ nodesMade h → ws′ ≡ finishWords ws n i (readAt ws n i) → Turned h ws₀ ks to (i + 1) ws′
+    pub turned-finish : {ws′ : List ℕ} {n : ℕ} → at to i ≡ finishNode true (at from i) → n ≡ nodesMade h → ws′ ≡ finishWords ws n i (readAt ws n i)
+        → Turned h ws₀ ks to (i + 1) ws′
     turned-finish e m q =
         rw (q, m)
         (turn-by (readAt ws (nodesMade h) i) (sym (o .going .above i (omega arith)) ∙ holds-read held i refl) e)

@@ -15,36 +15,22 @@ use Rattle.scope.specs.Force.{forced, fail, report, withReports, forceKind}
 use Rattle.types.specs.declared.«Type».{«Type»}
 use Rattle.types.specs.declared.Inverted.{Inverted}
 use Rattle.layout.specs.Words.{HEAD-WORDS, nodesMade, childrenMade, nodeRoom, childRoom, reports, storeIn, clean}
-use Rattle.layout.specs.Meaning.{readAt, putAt, headerIn, putHeader, stateMeans, stateFits, nodeMeans, nodeFits, Linked, Lies, Grown}
+use Rattle.layout.specs.Meaning.{readAt, putAt, headerIn, putHeader, nodeState, nodeSize, stateMeans, stateFits, nodeMeans, nodeFits, Linked, Lies, Grown}
 use Rattle.layout.specs.declared.Header.{Header}
 use Rattle.layout.specs.declared.Kind.{Kind}
 use Rattle.layout.specs.declared.TypeState.{TypeState}
 use Rattle.layout.specs.declared.TypeState.the-variants as state
 use Rattle.layout.specs.declared.TypeNode.{TypeNode}
-use Rattle.layout.specs.declared.TypeNode.the-variants.{Root, Child}
+use Rattle.layout.specs.declared.TypeNode.the-variants.{Root}
+use Rattle.layout.proofs.HeldLaws.{state-node, size-node, fits-node}
 use Rattle.layout.proofs.LinkLaws.{clean-linked}
 use Rattle.layout.proofs.StoreLaws.{tail-put-header, length-put-header, store-header, store-put, clean-lies, clean-nodes, clean-unused, clean-of, unused-grown}
 use Rattle.roots.specs.Found.{FoundMut}
-use Rattle.make.specs.Holds.{Holds, Beyond, Became}
-use Rattle.make.proofs.MakeLaws.{remembered-fits}
-use Rattle.make.proofs.Laws.{holds-nodes, holds-lies, holds-clean, holds-read, holds-fits, holds-with, beyond-with, holds-put, beyond-put}
-use Rattle.force.specs.Forcing.{nodeState, nodeSize, reporting, ForcedIs}
+use Rattle.store.specs.Holds.{Holds, Beyond, Became}
+use Rattle.store.proofs.Laws.{holds-nodes, holds-lies, holds-clean, holds-read, holds-fits, holds-with, beyond-with, holds-put, beyond-put, remembered-fits}
+use Rattle.force.specs.Forcing.{reporting, ForcedIs}
 use Rattle.force.specs.declared.Forced.the-variants.{Known, Reported, Failed}
 use Rattle.force.proofs.Laws.{state-kept}
-
--- a node's state and size in words
-
-state-means : (ks : List ℕ) (v : TypeNode) → stateMeans ks (nodeState v) ≡ stateOf (nodeMeans ks v)
-state-means ks (Root st z) = refl
-state-means ks (Child t) = refl
-
-size-means : (ks : List ℕ) (v : TypeNode) → nodeSize v ≡ sizeOf (nodeMeans ks v)
-size-means ks (Root st z) = refl
-size-means ks (Child t) = refl
-
-state-fits : (ks : List ℕ) (c : ℕ) (v : TypeNode) → nodeFits ks c v ≡ true → stateFits ks c (nodeState v) ≡ true
-state-fits ks c (Root st z) h = h
-state-fits ks c (Child t) h = refl
 
 -- find_mut on slices that hold a store
 
@@ -141,13 +127,13 @@ module _ (h ws ks : List ℕ) {ws′ : List ℕ} {x : Header} {t r : «Type»} {
   is-state : stateAt (s .nodes) T ≡ stateMeans ks st
   is-state =
       sym (state-kept (s .nodes) T (R .idx))
-      ∙ (ap (λ (j : ℕ). stateOf (at (findMut (s .nodes) T) j)) (sym place) ∙ (ap stateOf node ∙ (sym (state-means ks v) ∙ ap (stateMeans ks) (sym u))))
+      ∙ (ap (λ (j : ℕ). stateOf (at (findMut (s .nodes) T) j)) (sym place) ∙ (ap stateOf node ∙ (sym (state-node ks v) ∙ ap (stateMeans ks) (sym u))))
 
   fits : stateFits ks (childrenMade h) st ≡ true
-  fits = ap (stateFits ks (childrenMade h)) u ∙ state-fits ks (childrenMade h) v (holds-fits after i reads)
+  fits = ap (stateFits ks (childrenMade h)) u ∙ fits-node ks (childrenMade h) v (holds-fits after i reads)
 
   size : nodeSize v ≡ sizeOf (at (findMut (s .nodes) T) (R .idx))
-  size = size-means ks v ∙ (ap sizeOf (sym node) ∙ ap (λ (j : ℕ). sizeOf (at (findMut (s .nodes) T) j)) place)
+  size = size-node ks v ∙ (ap sizeOf (sym node) ∙ ap (λ (j : ℕ). sizeOf (at (findMut (s .nodes) T) j)) place)
 
   -- forceKind, once the state is known
   force-is : {a : nodes.State} → stateMeans ks st ≡ a → forceKind s T ≡ (forced R a, fail (withNodes s (findMut (s .nodes) T)) R a)

@@ -4,7 +4,6 @@ use mathlib.Core.Bool.{Bool, true}
 use mathlib.Core.Option.{none, some}
 use mathlib.Core.List.{List}
 use Prim.Native.Nat.{ℕ}
-use Rattle.scope.specs.Limits.{NONE}
 use Rattle.scope.specs.Types.{tyOf}
 use Rattle.scope.specs.Force.{forcedError, forceKind}
 use Rattle.scope.specs.Force as scope
@@ -12,22 +11,9 @@ use Rattle.types.specs.declared.«Type».{«Type»}
 use Rattle.layout.specs.Words.{childrenMade, storeIn}
 use Rattle.layout.specs.Meaning.{kindMeans, kindFits}
 use Rattle.layout.specs.declared.Header.{Header}
-use Rattle.layout.specs.declared.TypeState.{TypeState}
-use Rattle.layout.specs.declared.TypeState.the-variants as state
-use Rattle.layout.specs.declared.TypeNode.{TypeNode}
-use Rattle.layout.specs.declared.TypeNode.the-variants.{Root, Child}
-use Rattle.make.specs.Holds.{Became}
+use Rattle.store.specs.Holds.{Became}
 use Rattle.force.specs.declared.Forced.{Forced}
 use Rattle.force.specs.declared.Forced.the-variants.{Known, Reported, Failed}
-
--- a child has no state of its own, and no size
-abbrev pub nodeState : TypeNode → TypeState
-nodeState (Root st z) = st
-nodeState (Child t) = state.Unknown NONE
-
-abbrev pub nodeSize : TypeNode → ℕ
-nodeSize (Root st z) = z
-nodeSize (Child t) = 0
 
 abbrev pub forcedMeans : List ℕ → Forced → scope.Forced
 forcedMeans ks (Known i k) = record { inv = i .0; kind = kindMeans ks k; span = none }

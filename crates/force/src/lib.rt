@@ -4,17 +4,14 @@ ghost use mathlib.Core.Path.{_≡_};
 ghost use mathlib.Core.Bool.{true};
 ghost use Prim.Native.Nat.{_≤_};
 ghost use lib.ListN.{length};
-ghost use Rattle.scope.specs.Nodes.{withNodes};
 ghost use Rattle.scope.specs.Force.{report, finishInference, finishWhere};
-ghost use Rattle.layout.specs.Words.{nodeWords, storeIn, clean};
+ghost use Rattle.layout.specs.Words.{nodeWords, clean};
 ghost use Rattle.layout.specs.Meaning.{readAt};
-ghost use Rattle.make.specs.Holds.{Became};
-ghost use Rattle.force.specs.Finish.{defaultRoot, finishWords, chosen};
-ghost use Rattle.force.specs.Forcing.{nodeState, nodeSize, reporting, ForcedIs};
+ghost use Rattle.force.specs.Finish.{defaultRoot, lacksKind, finishWords, chosen, Finished};
+ghost use Rattle.force.specs.Forcing.{reporting, ForcedIs};
 use kinds::DEFAULT;
 use layout::Header;
 use layout::Kind;
-use layout::NONE;
 use layout::TypeNode;
 use layout::TypeState;
 use types::Inverted;
@@ -35,47 +32,55 @@ pub enum Forced {
 fn default_root(size: u32) -> TypeNode
     ensures { λ r. ⌜ r ≡ defaultRoot size ⌝ }
 {
-    let kind = make::bare_kind(DEFAULT);
+    let kind = store::bare_kind(DEFAULT);
     TypeNode::Root {
         state: TypeState::Known(Inverted(false), kind),
         size,
     }
 }
 
-// Node i of n: a root without a kind gets one.
-fn finish_node(ws: &mut [u32], n: u32, i: u32)
-    requires { ⌜ nodeWords n ≤ length (now ws) ⌝ }
-    ensures { λ _. ⌜ now (ws .exit) ≡ finishWords (now (ws .entry)) n i (readAt (now (ws .entry)) n i) ⌝ }
+fn lacks_kind(node: TypeNode) -> bool
+    ensures { λ r. ⌜ r ≡ lacksKind node ⌝ }
 {
-    let node = layout::node_at(ws, n, TypeIdx(i));
     match node {
-        TypeNode::Child(_) => {}
-        TypeNode::Root { state, size } => match state {
-            TypeState::Known(_, _) => {}
-            TypeState::Unknown(_) => layout::put_node(ws, n, TypeIdx(i), default_root(size)),
-            TypeState::InferenceFailed => layout::put_node(ws, n, TypeIdx(i), default_root(size)),
+        TypeNode::Child(_) => false,
+        TypeNode::Root { state, size: _ } => match state {
+            TypeState::Known(_, _) => false,
+            TypeState::Unknown(_) => true,
+            TypeState::InferenceFailed => true,
         },
+    }
+}
+
+// Node i of n: a root without a kind gets one.
+fn finish_node(ws: &mut [u32], n: u32, i: TypeIdx)
+    requires { ⌜ nodeWords n ≤ length (now ws) ⌝ }
+    ensures { λ _. ⌜ now (ws .exit) ≡ finishWords (now (ws .entry)) n (i .0) (readAt (now (ws .entry)) n (i .0)) ⌝ }
+{
+    let node = layout::node_at(ws, n, i);
+    if lacks_kind(node) {
+        layout::put_node(ws, n, i, default_root(layout::size_of(node)));
     }
 }
 
 // Every root without a kind gets Default.
 pub fn finish_inference(h: &[u32], ws: &mut [u32], ks: &[u32])
     requires { ⌜ clean (now h) (now ws) (now ks) ≡ true ⌝ }
-    ensures { λ _. ⌜ Became (now (h .entry)) (now (ws .entry)) (now (ks .entry)) (now (h .entry)) (now (ws .exit)) (now (ks .entry)) (withNodes (storeIn (now (h .entry)) (now (ws .entry)) (now (ks .entry))) (finishInference (storeIn (now (h .entry)) (now (ws .entry)) (now (ks .entry)) .nodes))) ⌝ }
+    ensures { λ _. ⌜ Finished (now (h .entry)) (now (ws .entry)) (now (ks .entry)) (now (ws .exit)) finishInference ⌝ }
 {
     let n = layout::read_header(h).nodes;
     let mut i = 0;
     while i < n {
-        finish_node(ws, n, i);
+        finish_node(ws, n, TypeIdx(i));
         i += 1;
     }
 }
 
 // "A lent byte for each node, nonzero chooses, absent means no."
-fn is_chosen(bytes: &[u8], i: u32) -> bool
-    ensures { λ r. ⌜ r ≡ chosen (now (bytes .entry)) i ⌝ }
+fn is_chosen(bytes: &[u8], i: TypeIdx) -> bool
+    ensures { λ r. ⌜ r ≡ chosen (now (bytes .entry)) (i .0) ⌝ }
 {
-    let at = i as usize;
+    let at = i.0 as usize;
     if at < bytes.len() {
         bytes[at] != 0
     } else {
@@ -86,35 +91,16 @@ fn is_chosen(bytes: &[u8], i: u32) -> bool
 // Every chosen root without a kind gets Default.
 pub fn finish_inference_where(h: &[u32], ws: &mut [u32], ks: &[u32], bytes: &[u8])
     requires { ⌜ clean (now h) (now ws) (now ks) ≡ true ⌝ }
-    ensures { λ _. ⌜ Became (now (h .entry)) (now (ws .entry)) (now (ks .entry)) (now (h .entry)) (now (ws .exit)) (now (ks .entry)) (withNodes (storeIn (now (h .entry)) (now (ws .entry)) (now (ks .entry))) (finishWhere (now (bytes .entry)) (storeIn (now (h .entry)) (now (ws .entry)) (now (ks .entry)) .nodes))) ⌝ }
+    ensures { λ _. ⌜ Finished (now (h .entry)) (now (ws .entry)) (now (ks .entry)) (now (ws .exit)) (finishWhere (now (bytes .entry))) ⌝ }
 {
     let n = layout::read_header(h).nodes;
     let mut next = 0;
     while next < n {
-        let i = next;
+        let i = TypeIdx(next);
         next += 1;
         if is_chosen(bytes, i) {
             finish_node(ws, n, i);
         }
-    }
-}
-
-// A child has no state of its own, and no size.
-fn state_of(node: TypeNode) -> TypeState
-    ensures { λ r. ⌜ r ≡ nodeState node ⌝ }
-{
-    match node {
-        TypeNode::Root { state, size: _ } => state,
-        TypeNode::Child(_) => TypeState::Unknown(NONE),
-    }
-}
-
-fn size_of(node: TypeNode) -> u32
-    ensures { λ r. ⌜ r ≡ nodeSize node ⌝ }
-{
-    match node {
-        TypeNode::Root { state: _, size } => size,
-        TypeNode::Child(_) => 0,
     }
 }
 
@@ -149,13 +135,13 @@ pub fn force_kind(h: &mut [u32], ws: &mut [u32], ks: &[u32], t: Type) -> Forced
     let root = roots::find_mut(ws, x.nodes, t);
     let i = root.idx();
     let node = layout::node_at(ws, x.nodes, i);
-    let state = state_of(node);
+    let state = layout::state_of(node);
     match state {
         TypeState::Known(inv, kind) => Forced::Known(inv.xor(root.inv()), kind),
         TypeState::Unknown(span) => {
             let failed = TypeNode::Root {
                 state: TypeState::InferenceFailed,
-                size: size_of(node),
+                size: layout::size_of(node),
             };
             layout::put_node(ws, x.nodes, i, failed);
             layout::write_header(h, with_reports(x, one_more(x.reports)));

@@ -1,9 +1,9 @@
 -- One law for each way out of a function, and for each turn of a loop. A table that is right stays right where a number is stored that is.
 -- Assumes nothing.
-use mathlib.Core.Path.{_≡_, refl, sym, ap, _∙_}
+use mathlib.Core.Path.{_≡_, sym, ap, _∙_}
 use mathlib.Core.Bool.{Bool, true, false, false≢true}
 use mathlib.Core.List.{List}
-use Prim.Native.Nat.{ℕ, zero, suc, _+_, _-_, _≤_, _<_}
+use Prim.Native.Nat.{ℕ, suc, _+_, _-_, _≤_, _<_}
 use native.Mathlib.Decide.{ℕ-discrete}
 use native.Mathlib.Numerals.{add-one}
 use native.Mathlib.Omega.{arith}
@@ -15,13 +15,14 @@ use lib.Seq.{getD-set-same, getD-set-other}
 use Rattle.scope.specs.Base.{pick}
 use Rattle.scope.specs.Limits.{MAX-NODES}
 use Rattle.types.specs.declared.TypeIdx.{TypeIdx}
+use Rattle.layout.proofs.Lists.{all-stop, all-done}
 use Rattle.shape.specs.declared.Up.{Up}
 use Rattle.shape.specs.declared.Up.the-variants.{Root, Parent}
 use Rattle.shape.specs.Walks.{ends, upward, Leads, here, more}
 use Rattle.shape.specs.Read.{ups, rootOf, tallied, sizeFits}
 use Rattle.shape.specs.Asks.{ParentsInside, TrueRoots, Climbs, Climbed, ClimbedAll, Rooted, Tallies, Tallied}
 use Rattle.shape.proofs.Tables.{zeros, blank-long, stored-by}
-use Rattle.shape.proofs.Lists.{all-stop, all-done, count-most, count-last}
+use Rattle.shape.proofs.Lists.{count-most, count-last}
 use Rattle.shape.proofs.Walks.{ends-none, ends-up, leads-ends}
 
 -- climb

@@ -3,12 +3,12 @@
 -- Assumes nothing.
 use mathlib.Core.Path.{_≡_, refl, sym, ap, _∙_}
 use mathlib.Core.Bool.{Bool, true, false, _&&_, false≢true}
-use mathlib.Core.List.{List, [], _∷_, map}
-use Prim.Native.Nat.{ℕ, zero, suc, _+_, _<_}
+use mathlib.Core.List.{List, map}
+use Prim.Native.Nat.{ℕ, zero, suc, _<_}
 use native.Mathlib.Omega.{arith}
 use borrow.Author.Tests.{ltb-true}
 use lib.Dec.{eqb}
-use lib.ListN.{length, getD, replicate}
+use lib.ListN.{length, replicate}
 use Rattle.scope.specs.Base.{all, count, from}
 use Rattle.scope.specs.Limits.{MAX-NODES}
 use Rattle.scope.specs.Types.{Ty, ty, flip, tyOf}
@@ -20,14 +20,16 @@ use Rattle.types.specs.declared.TypeIdx.{TypeIdx}
 use Rattle.layout.specs.Words.{slotAt, decode}
 use Rattle.layout.proofs.Lists.{all-from}
 use Rattle.layout.proofs.Laws.{length-decode, read-node}
-use Rattle.layout.specs.Meaning.{readAt, nodeMeans, kindMeans}
-use Rattle.layout.specs.declared.TypeState.the-variants.{Known, Unknown, InferenceFailed}
+use Rattle.layout.proofs.HeldLaws.{held-kids}
+use Rattle.layout.specs.Meaning.{readAt, heldIn, heldKids, nodeMeans, kindMeans}
+use Rattle.layout.specs.declared.Held.{Held}
+use Rattle.layout.specs.declared.Held.the-variants.{Is, Nothing}
 use Rattle.layout.specs.declared.TypeNode.{TypeNode}
 use Rattle.layout.specs.declared.TypeNode.the-variants as read
 use Rattle.shape.specs.declared.Up.{Up}
 use Rattle.shape.specs.declared.Up.the-variants.{Root, Parent}
 use Rattle.shape.specs.Walks.{ends, InRun, upward, toBy, Leads, here, more}
-use Rattle.shape.specs.Read.{idxOf, upIn, runIn, kidAt, ups, rootOf, kids, tallied, sizeBy, sizeFits}
+use Rattle.shape.specs.Read.{idxOf, upIn, firstOf, countOf, kidAt, ups, rootOf, kids, tallied, sizeBy, sizeFits}
 use Rattle.shape.specs.Asks.{nodeInside, Shaped, Complete, ClimbsAll, ClimbedAll, Rooted, Sizes, Falls}
 use Rattle.shape.proofs.Lists.{same-test, all-same, all-map, count-same}
 use Rattle.shape.proofs.Walks.{ends-none, ends-more, ends-root, ends-up, up-within, leads-ends, leads-below}
@@ -102,14 +104,12 @@ module _ (ns : List Node) (p : ℕ → Up) (step : (v : ℕ) → p v ≡ upNode 
       size-same v = size-by (at ns v) v ∙ ap (sizeBy (tallied roots n v)) (sym (step v))
 
 -- a test of a node's children, by their places
-kids-all : (ks : List ℕ) (q : Ty → Bool) (x : TypeNode) → all q (kidsOf (stateOf (nodeMeans ks x))) ≡ all (λ i. q (tyOf (slotAt ks i .type))) (from (runIn x .first) (runIn x .count))
+kids-all : (ks : List ℕ) (q : Ty → Bool) (h : Held) → all q (heldKids ks h) ≡ all (λ i. q (tyOf (slotAt ks i .type))) (from (firstOf h) (countOf h))
 unfolding kindMeans
-kids-all ks q (read.Root (Known i k) z) =
+kids-all ks q (Is i k) =
     all-map q (λ s. tyOf (s .type)) (map (slotAt ks) (from (k .first) (k .count)))
     ∙ all-map (λ s. q (tyOf (s .type))) (slotAt ks) (from (k .first) (k .count))
-kids-all ks q (read.Root (Unknown s) z) = refl
-kids-all ks q (read.Root InferenceFailed z) = refl
-kids-all ks q (read.Child t) = refl
+kids-all ks q Nothing = refl
 
 -- what lies inside the store
 inside-kids : (ns : List Node) (x : Node) → nodeInside ns x ≡ true → all (inStore ns) (kidsOf (stateOf x)) ≡ true
@@ -120,19 +120,18 @@ inside-up : (ns : List Node) (x : Node) → 0 < length ns → nodeInside ns x �
 inside-up ns (nodes.Root st z) l e = l
 inside-up ns (nodes.Child t) l e = ltb-true (t .idx) (length ns) e
 
-module _ (ws ks : List ℕ) (n : ℕ) (ns : List Node) (size : length ns ≡ n) (node : (v : ℕ) → at ns v ≡ nodeMeans ks (readAt ws n v))
+-- a store of n nodes, of which the code reads the steps up and what they hold
+module _ (ws ks : List ℕ) (n : ℕ) (ns : List Node) (size : length ns ≡ n) (step : (v : ℕ) → ups ws n v ≡ upNode (at ns v))
+    (held : (v : ℕ) → kidsOf (stateOf (at ns v)) ≡ heldKids ks (heldIn (readAt ws n v)))
     (inside : (v : ℕ) → v < n → nodeInside ns (at ns v) ≡ true) where
-  step : (v : ℕ) → ups ws n v ≡ upNode (at ns v)
-  step v = sym (ap upNode (node v) ∙ up-means ks (readAt ws n v))
-
   pub ups-inside : (v : ℕ) → v < n → toBy (ups ws n v) < n
   ups-inside v l = rw (step v, ← size) (inside-up ns (at ns v) (omega arith) (inside v l))
 
   pub kids-inside : (roots : List ℕ) (v i : ℕ) → v < n → InRun (kids ws ks n roots) v i → kidAt ks i < n
   kids-inside roots v i l r =
-      let x = readAt ws n v in
-      let e = sym (kids-all ks (inStore ns) x) ∙ ap (λ (y : Node). all (inStore ns) (kidsOf (stateOf y))) (sym (node v)) ∙ inside-kids ns (at ns v) (inside v l) in
-      rw (← size) (ltb-true (kidAt ks i) (length ns) (all-from (λ j. inStore ns (tyOf (slotAt ks j .type))) (runIn x .first) (runIn x .count) e i (r .from) (r .below)))
+      let h = heldIn (readAt ws n v) in
+      let e = sym (kids-all ks (inStore ns) h) ∙ ap (all (inStore ns)) (sym (held v)) ∙ inside-kids ns (at ns v) (inside v l) in
+      rw (← size) (ltb-true (kidAt ks i) (length ns) (all-from (λ j. inStore ns (tyOf (slotAt ks j .type))) (firstOf h) (countOf h) e i (r .from) (r .below)))
 
   -- no parent cycle
   rooted-all : all (λ i. rooted (length ns) ns i) (from 0 (length ns)) ≡ all (ends (upward (ups ws n)) n) (from 0 n)
@@ -153,9 +152,10 @@ module _ (ws ks : List ℕ) (n : ℕ) (ns : List Node) (size : length ns ≡ n) 
     sizes-all = rw size (all-same (λ i. sizeIs ns i (at ns i)) (sizeFits ws n roots) 0 n (λ v a b. size-same ns (ups ws n) step n size ups-inside roots complete v))
 
     -- no child cycle
-    falls-node : (d v : ℕ) → falls (suc d) ns v ≡ all (λ i. falls d ns (find ns (tyOf (slotAt ks i .type)) .idx)) (from (runIn (readAt ws n v) .first) (runIn (readAt ws n v) .count))
+    falls-node : (d v : ℕ) → falls (suc d) ns v
+        ≡ all (λ i. falls d ns (find ns (tyOf (slotAt ks i .type)) .idx)) (from (firstOf (heldIn (readAt ws n v))) (countOf (heldIn (readAt ws n v))))
     unfolding falls
-    falls-node d v = rw (node v) (kids-all ks (λ c. falls d ns (find ns c .idx)) (readAt ws n v))
+    falls-node d v = rw (held v) (kids-all ks (λ c. falls d ns (find ns c .idx)) (heldIn (readAt ws n v)))
 
     falls-same : (d v : ℕ) → v < n → falls d ns v ≡ ends (kids ws ks n roots) d v
     unfolding falls ends
@@ -164,7 +164,7 @@ module _ (ws ks : List ℕ) (n : ℕ) (ns : List Node) (size : length ns ≡ n) 
         let h : (u : ℕ) → u < n → falls d ns u ≡ ends (kids ws ks n roots) d u = falls-same d in
         falls-node d v
         ∙ all-same (λ i. falls d ns (find ns (tyOf (slotAt ks i .type)) .idx)) (λ i. ends (kids ws ks n roots) d (rootOf roots (kidAt ks i)))
-        (runIn (readAt ws n v) .first) (runIn (readAt ws n v) .count)
+        (firstOf (heldIn (readAt ws n v))) (countOf (heldIn (readAt ws n v)))
         (λ i a b. let k = kids-inside roots v i l (record { from = a; below = b }) in
         ap (falls d ns) (found (tyOf (slotAt ks i .type)) k) ∙ h (rootOf roots (kidAt ks i)) (roots-below (kidAt ks i) k))
 
@@ -179,24 +179,27 @@ module _ (ws ks : List ℕ) (n : ℕ) (ns : List Node) (size : length ns ≡ n) 
 -- for words that `shape_ok` is handed
 
 module _ {ws ks : List ℕ} {n : ℕ} (s : Shaped ws ks n) where
-  node : (v : ℕ) → at (decode ws ks n) v ≡ nodeMeans ks (readAt ws n v)
-  node v = sym (read-node ws ks (s .made) n (s .clean) v)
+  step : (v : ℕ) → ups ws n v ≡ upNode (at (decode ws ks n) v)
+  step v = sym (ap upNode (sym (read-node ws ks (s .made) n (s .clean) v)) ∙ up-means ks (readAt ws n v))
+
+  held : (v : ℕ) → kidsOf (stateOf (at (decode ws ks n) v)) ≡ heldKids ks (heldIn (readAt ws n v))
+  held v = held-kids ws ks (s .made) n (s .clean) v refl refl
 
   pub climbs-all : ClimbsAll ws (replicate MAX-NODES 0) n
   climbs-all = record {
-    parents = record { few = s .few; room = s .clean .room; inside = ups-inside ws ks n (decode ws ks n) (length-decode ws ks n) node (s .inside) };
+    parents = record { few = s .few; room = s .clean .room; inside = ups-inside ws ks n (decode ws ks n) (length-decode ws ks n) step held (s .inside) };
     right = right-none (ups ws n);
   }
 
   pub not-rooted : {roots : List ℕ} {r : Bool} → ClimbedAll (ups ws n) n roots r → r ≡ false → false ≡ shapeSound (decode ws ks n)
-  not-rooted f e = sym (shape-lost ws ks n (decode ws ks n) (length-decode ws ks n) node (s .inside) (sym (f .answer) ∙ e))
+  not-rooted f e = sym (shape-lost ws ks n (decode ws ks n) (length-decode ws ks n) step held (s .inside) (sym (f .answer) ∙ e))
 
   module _ {roots : List ℕ} {r : Bool} (f : ClimbedAll (ups ws n) n roots r) (e : r ≡ true) where
     rooted-roots : Rooted roots n
     rooted-roots = record {
       few = s .few;
       known = f .complete e .known;
-      below = roots-below ws ks n (decode ws ks n) (length-decode ws ks n) node (s .inside) roots (f .complete e);
+      below = roots-below ws ks n (decode ws ks n) (length-decode ws ks n) step held (s .inside) roots (f .complete e);
     }
 
     pub sizes : Sizes ws roots n
@@ -206,11 +209,11 @@ module _ {ws ks : List ℕ} {n : ℕ} (s : Shaped ws ks n) where
     falling = record {
       rooted = rooted-roots;
       room = s .clean .room;
-      below = kids-inside ws ks n (decode ws ks n) (length-decode ws ks n) node (s .inside) roots;
+      below = kids-inside ws ks n (decode ws ks n) (length-decode ws ks n) step held (s .inside) roots;
     }
 
     rest : shapeSound (decode ws ks n) ≡ (all (sizeFits ws n roots) (from 0 n) && all (ends (kids ws ks n roots) n) (from 0 n))
-    rest = shape-found ws ks n (decode ws ks n) (length-decode ws ks n) node (s .inside) roots (f .complete e) (sym (f .answer) ∙ e)
+    rest = shape-found ws ks n (decode ws ks n) (length-decode ws ks n) step held (s .inside) roots (f .complete e) (sym (f .answer) ∙ e)
 
     pub not-sized : {z : Bool} → z ≡ all (sizeFits ws n roots) (from 0 n) → z ≡ false → false ≡ shapeSound (decode ws ks n)
     not-sized p q = sym (rest ∙ rw (← p, q))

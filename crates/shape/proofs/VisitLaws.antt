@@ -1,7 +1,7 @@
 -- The ways out of `visit`, and the turns of its loop. A visit that fails came back to an open node, and each open node lies on the way to the next: if
 -- walks from nodes open before are longer than d nodes, then so are those from v, by one node less at a time.
 -- Assumes nothing.
-use mathlib.Core.Path.{_≡_, refl, sym, _∙_}
+use mathlib.Core.Path.{_≡_, refl, ap, sym, _∙_}
 use mathlib.Core.Bool.{Bool, true, false, false≢true}
 use mathlib.Core.List.{List}
 use Prim.Native.Nat.{ℕ, zero, suc, _+_, _≤_, _<_}
@@ -13,10 +13,13 @@ use lib.Dec.{eqb}
 use lib.ListN.{length, getD, set, length-set, replicate}
 use lib.Seq.{getD-set-same, getD-set-other}
 use Rattle.scope.specs.Limits.{MAX-NODES}
-use Rattle.layout.specs.Meaning.{readAt}
-use Rattle.shape.specs.declared.Run.{Run}
+use Rattle.types.specs.declared.Inverted.{Inverted}
+use Rattle.layout.specs.Meaning.{readAt, heldIn}
+use Rattle.layout.specs.declared.Kind.{Kind}
+use Rattle.layout.specs.declared.Held.{Held}
+use Rattle.layout.specs.declared.Held.the-variants.{Is, Nothing}
 use Rattle.shape.specs.Walks.{Graph, ends, InRun, Closed}
-use Rattle.shape.specs.Read.{runIn, kids, kidAt, rootOf}
+use Rattle.shape.specs.Read.{firstOf, countOf, kids, kidAt, rootOf}
 use Rattle.shape.specs.Asks.{OPEN, DONE, Open, TrueMarks, fresh, Falls, Visits, Visited}
 use Rattle.shape.proofs.Lists.{is-false, count-more}
 use Rattle.shape.proofs.Walks.{ends-none, ends-more, ends-not, ends-before}
@@ -179,13 +182,25 @@ module _ {ws ks roots before : List ℕ} {n v : ℕ} (a : Visits ws ks n roots b
   pub mark-small : v < MAX-NODES
   mark-small = omega (arith, a .node, a .falls .rooted .few)
 
-  -- what the code reads of v's run
-  pub in-run : {i : ℕ} {marks₁ marks : List ℕ} {r : Run} → r ≡ runIn (readAt ws n v) → Passed (kids ws ks n roots) n v i marks₁ marks
-      → i < r .first + r .count → InRun (kids ws ks n roots) v i
-  in-run e w l = record { from = w .low; below = rw (← e) l }
+  -- v holds no kind: it has no run to go through
+  pub visit-bare : {marks marks′ : List ℕ} {r : Held} → r ≡ heldIn (readAt ws n v) → r ≡ Nothing → marks ≡ set before v OPEN
+      → marks′ ≡ set marks v DONE → Visited (kids ws ks n roots) n v before marks′ true
+  visit-bare e q f h =
+      let g : Graph = kids ws ks n roots in
+      let d : g .deg v ≡ 0 = ap countOf (sym e ∙ q) in
+      rw (h, f) (visit-passed g n (a .marked) mark-small (passed-none g n mark-small (a .marked)) (kids-closed (a .falls)) (a .node) (omega arith))
 
-  pub run-done : {i : ℕ} {r : Run} → r ≡ runIn (readAt ws n v) → r .first + r .count ≤ i → kids ws ks n roots .first v + kids ws ks n roots .deg v ≤ i
-  run-done e l = rw (← e) l
+  -- v holds the kind k: what the code reads of its run
+  module _ {r : Held} {j : Inverted} {k : Kind} (e : r ≡ heldIn (readAt ws n v)) (q : r ≡ Is j k) where
+    pub run-first : {marks : List ℕ} → marks ≡ set before v OPEN → Passed (kids ws ks n roots) n v (k .first) marks marks
+    run-first f = rw f (rw (ap firstOf (sym e ∙ q)) at (passed-none (kids ws ks n roots) n mark-small (a .marked)))
+
+    pub in-run : {i : ℕ} {marks₁ marks : List ℕ} → Passed (kids ws ks n roots) n v i marks₁ marks → i < k .first + k .count
+        → InRun (kids ws ks n roots) v i
+    in-run w l = record { from = w .low; below = rw (sym e ∙ q) l }
+
+    pub run-done : {i : ℕ} → k .first + k .count ≤ i → kids ws ks n roots .first v + kids ws ks n roots .deg v ≤ i
+    run-done l = rw (sym e ∙ q) l
 
   pub kid-known : {i k : ℕ} → InRun (kids ws ks n roots) v i → k ≡ kidAt ks i → (k < MAX-NODES) × (0 < getD roots k 0)
   kid-known {i} r e =

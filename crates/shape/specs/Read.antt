@@ -1,6 +1,6 @@
 -- What the code reads of a store: the two walks over a store's words.
 use mathlib.Core.List.{List}
-use mathlib.Core.Bool.{Bool, true, false}
+use mathlib.Core.Bool.{Bool, true}
 use Prim.Native.Nat.{ℕ, _-_}
 use lib.Dec.{eqb}
 use lib.ListN.{getD}
@@ -8,12 +8,11 @@ use Rattle.scope.specs.Base.{count, from}
 use Rattle.scope.specs.Types.{tyOf}
 use Rattle.types.specs.declared.TypeIdx.{TypeIdx}
 use Rattle.layout.specs.Words.{slotAt}
-use Rattle.layout.specs.Meaning.{readAt}
-use Rattle.layout.specs.declared.TypeState.{TypeState}
-use Rattle.layout.specs.declared.TypeState.the-variants.{Known, Unknown, InferenceFailed}
+use Rattle.layout.specs.Meaning.{readAt, heldIn}
+use Rattle.layout.specs.declared.Held.{Held}
+use Rattle.layout.specs.declared.Held.the-variants.{Is, Nothing}
 use Rattle.layout.specs.declared.TypeNode.{TypeNode}
 use Rattle.layout.specs.declared.TypeNode.the-variants.{Root, Child}
-use Rattle.shape.specs.declared.Run.{Run}
 use Rattle.shape.specs.declared.Up.{Up}
 use Rattle.shape.specs.declared.Up.the-variants as up
 use Rattle.shape.specs.Walks.{Graph}
@@ -26,15 +25,14 @@ abbrev pub upIn : TypeNode → Up
 upIn (Root st z) = up.Root z
 upIn (Child t) = up.Parent (idxOf (tyOf (t .0) .idx))
 
--- the run of children of a state's kind
-abbrev pub runBy : TypeState → Run
-runBy (Known i k) = record { first = k .first; count = k .count }
-runBy (Unknown s) = record { first = 0; count = 0 }
-runBy InferenceFailed = record { first = 0; count = 0 }
+-- where the children of what a node holds begin, and how many there are
+abbrev pub firstOf : Held → ℕ
+firstOf (Is i k) = k .first
+firstOf Nothing = 0
 
-abbrev pub runIn : TypeNode → Run
-runIn (Root st z) = runBy st
-runIn (Child t) = record { first = 0; count = 0 }
+abbrev pub countOf : Held → ℕ
+countOf (Is i k) = k .count
+countOf Nothing = 0
 
 -- the node of the child at a place
 abbrev pub kidAt : List ℕ → ℕ → ℕ
@@ -51,8 +49,8 @@ rootOf roots v = getD roots v 0 - 1
 -- from each node to the roots of its kind's children
 abbrev pub kids : List ℕ → List ℕ → ℕ → List ℕ → Graph
 kids ws ks n roots = record {
-  first = λ v. runIn (readAt ws n v) .first;
-  deg = λ v. runIn (readAt ws n v) .count;
+  first = λ v. firstOf (heldIn (readAt ws n v));
+  deg = λ v. countOf (heldIn (readAt ws n v));
   to = λ i. rootOf roots (kidAt ks i);
 }
 

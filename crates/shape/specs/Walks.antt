@@ -1,6 +1,6 @@
 -- Walks from node to node, which both kinds of cycle are about. A node's ways on lie in a run of numbered places, and at each place stands a node.
 use mathlib.Core.Path.{_≡_}
-use mathlib.Core.Bool.{Bool, true, false}
+use mathlib.Core.Bool.{Bool, false}
 use Prim.Native.Nat.{ℕ, zero, suc, _+_, _≤_, _<_}
 use Rattle.scope.specs.Base.{all, from}
 use Rattle.types.specs.declared.TypeIdx.{TypeIdx}

@@ -8,11 +8,11 @@ ghost use Rattle.scope.specs.Limits.{MAX-NODES};
 ghost use Rattle.scope.specs.Sound.{shapeSound};
 ghost use Rattle.layout.specs.Words.{nodeWords, decode};
 ghost use Rattle.layout.specs.Meaning.{readAt};
-ghost use Rattle.shape.specs.Walks.{ends, upward};
-ghost use Rattle.shape.specs.Read.{upIn, runIn, kidAt, ups, rootOf, kids, sizeFits};
+ghost use Rattle.shape.specs.Walks.{ends};
+ghost use Rattle.shape.specs.Read.{upIn, kidAt, ups, rootOf, kids, sizeFits};
 ghost use Rattle.shape.specs.Asks.{Shaped, Climbs, Climbed, ClimbsAll, ClimbedAll, Tallies, Tallied, Sizes, Falls, Visits, Visited};
+use layout::Held;
 use layout::TypeNode;
-use layout::TypeState;
 use scope::MAX_NODES;
 use types::TypeIdx;
 
@@ -37,29 +37,6 @@ fn up_of(ws: &[u32], n: u32, v: TypeIdx) -> Up
     match layout::node_at(ws, n, v) {
         TypeNode::Root { state: _, size } => Up::Root(size),
         TypeNode::Child(t) => Up::Parent(t.idx()),
-    }
-}
-
-// Where the children of a node's kind begin, and how many there are.
-struct Run {
-    first: u32,
-    count: u32,
-}
-
-fn run_of(ws: &[u32], n: u32, v: TypeIdx) -> Run
-    requires { ⌜ nodeWords n ≤ length (now ws) ⌝ }
-    ensures { λ r. ⌜ r ≡ runIn (readAt (now (ws .entry)) n (v .0)) ⌝ }
-{
-    match layout::node_at(ws, n, v) {
-        TypeNode::Root { state, size: _ } => match state {
-            TypeState::Known(_, k) => Run {
-                first: k.first,
-                count: k.count,
-            },
-            TypeState::Unknown(_) => Run { first: 0, count: 0 },
-            TypeState::InferenceFailed => Run { first: 0, count: 0 },
-        },
-        TypeNode::Child(_) => Run { first: 0, count: 0 },
     }
 }
 
@@ -182,9 +159,12 @@ fn visit(ws: &[u32], ks: &[u32], n: u32, roots: &Table, marks: &mut Table, v: Ty
         return false;
     }
     put(marks, v, OPEN);
-    let run = run_of(ws, n, v);
-    let mut i = run.first as usize;
-    let end = i + run.count as usize;
+    let Held::Is(_, kind) = layout::held_at(ws, n, v) else {
+        put(marks, v, DONE);
+        return true;
+    };
+    let mut i = kind.first as usize;
+    let end = i + kind.count as usize;
     while i < end {
         let r = root_of(roots, kid_at(ks, i));
         if !visit(ws, ks, n, roots, marks, r) {

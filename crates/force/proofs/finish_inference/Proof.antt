@@ -24,7 +24,11 @@ read-header-requires c κs = search needs
 loop-holds : tie.Need-loop-holds Inv-loop μ-loop
 loop-holds c =
     let s = c .before .before .before .before in
-    (omega arith, (ap (λ (y : Header). y .nodes) (c .read-header .ensures), turned-start (s .args .h .now) (s .args .ws .now) (s .args .ks .now) (finishInference (storeIn (s .args .h .now) (s .args .ws .now) (s .args .ks .now) .nodes)) (s .pre)))
+    let h = s .args .h .now in
+    let ws = s .args .ws .now in
+    let ks = s .args .ks .now in
+    let count = ap (λ (y : Header). y .nodes) (c .read-header .ensures) in
+    (omega arith, (count, turned-start h ws ks (finishInference (storeIn h ws ks .nodes)) (s .pre)))
 
 finish-node-requires : tie.Need-finish-node-requires Inv-loop μ-loop
 finish-node-requires c κs = turned-room (c .before .before .loop .inv .1 .1) (c .before .before .loop .inv .1 .0)
@@ -36,7 +40,9 @@ loop-less : tie.Need-loop-less Inv-loop μ-loop
 loop-less c = omega arith
 
 loop-again : tie.Need-loop-again Inv-loop μ-loop
-loop-again c = (omega arith, (c .before .before .before .before .before .loop .inv .1 .0, inference-turn _ _ _ (c .before .before .before .before .before .loop .inv .1 .0) (c .before .before .before .before .loop-test .taken) (c .before .before .before .before .before .loop .inv .1 .1) (c .before .before .finish-node .ensures)))
+loop-again c =
+    let inv = c .before .before .before .before .before .loop .inv .1 in
+    (omega arith, (inv .0, inference-turn _ _ _ (inv .0) (c .before .before .before .before .loop-test .taken) (inv .1) (c .before .before .finish-node .ensures)))
 
 same-length : tie.Need-same-length Inv-loop μ-loop
 same-length c = c .before .loop .inv .1 .1 .long

@@ -24,7 +24,11 @@ read-header-requires c κs = search needs
 loop-holds : tie.Need-loop-holds Inv-loop μ-loop
 loop-holds c =
     let s = c .before .before .before .before .before in
-    (omega arith, (ap (λ (y : Header). y .nodes) (c .read-header .ensures), turned-start (s .args .h .now) (s .args .ws .now) (s .args .ks .now) (finishWhere (s .args .bytes .now) (storeIn (s .args .h .now) (s .args .ws .now) (s .args .ks .now) .nodes)) (s .pre)))
+    let h = s .args .h .now in
+    let ws = s .args .ws .now in
+    let ks = s .args .ks .now in
+    let count = ap (λ (y : Header). y .nodes) (c .read-header .ensures) in
+    (omega arith, (count, turned-start h ws ks (finishWhere (s .args .bytes .now) (storeIn h ws ks .nodes)) (s .pre)))
 
 add-next : tie.Need-add-next Inv-loop μ-loop
 add-next c = omega arith
@@ -39,13 +43,21 @@ loop-less : tie.Need-loop-less Inv-loop μ-loop
 loop-less c = omega arith
 
 loop-again : tie.Need-loop-again Inv-loop μ-loop
-loop-again c = (omega arith, (c .before .before .before .before .before .before .before .loop .inv .1 .0, where-turn _ _ _ (c .before .before .before .before .before .before .before .loop .inv .1 .0) (c .before .before .before .before .before .before .loop-test .taken) (c .before .before .before .before .before .before .before .before .before .before .before .before .before .args .bytes .now) (c .before .before .before .before .before .is-chosen .ensures) (c .before .before .before .before .before .before .before .loop .inv .1 .1) (c .before .before .before .before .if1 .taken) (c .before .before .finish-node .ensures)))
+loop-again c =
+    let inv = c .before .before .before .before .before .before .before .loop .inv .1 in
+    let bytes = c .before .before .before .before .before .before .before .before .before .before .before .before .before .args .bytes .now in
+    let below = c .before .before .before .before .before .before .loop-test .taken in
+    let chosen = c .before .before .before .before .before .is-chosen .ensures in
+    (omega arith, (inv .0, where-turn _ _ _ (inv .0) below bytes chosen (inv .1) (c .before .before .before .before .if1 .taken) (c .before .before .finish-node .ensures)))
 
 loop-less-2 : tie.Need-loop-less-2 Inv-loop μ-loop
 loop-less-2 c = omega arith
 
 loop-again-2 : tie.Need-loop-again-2 Inv-loop μ-loop
-loop-again-2 c = (omega arith, (c .before .before .before .loop .inv .1 .0, where-skip _ _ _ (c .before .before .before .loop .inv .1 .0) (c .before .before .loop-test .taken) (c .before .before .before .before .before .before .before .before .before .args .bytes .now) (c .before .is-chosen .ensures) (c .before .before .before .loop .inv .1 .1) (c .if1 .left)))
+loop-again-2 c =
+    let inv = c .before .before .before .loop .inv .1 in
+    let bytes = c .before .before .before .before .before .before .before .before .before .args .bytes .now in
+    (omega arith, (inv .0, where-skip _ _ _ (inv .0) (c .before .before .loop-test .taken) bytes (c .before .is-chosen .ensures) (inv .1) (c .if1 .left)))
 
 same-length : tie.Need-same-length Inv-loop μ-loop
 same-length c = c .before .loop .inv .1 .1 .long

@@ -49,7 +49,8 @@ with-reports-requires c κs = search needs
 
 write-header-requires : tie.Need-write-header-requires
 write-header-requires c κs =
-    let s = c .before .before .before .before .before .before .before .before .before .before .before .before .before .before .before .before .before .before .before .before .before .before .before .before in
+    let node = c .before .before .before .before .before .before .before .before .before .before .before .before in
+    let s = node .before .before .before .before .before .before .before .before .before .before .before .before in
     force-head (s .args .h .now) (s .args .ws .now) (s .args .ks .now) (s .pre)
 
 enum-told : tie.Need-enum-told
@@ -63,8 +64,13 @@ same-length-2 c = search needs
 
 returns : tie.Need-returns
 returns c =
-    let s = c .before .before .before .before .before .before .before .before .before .before .before .before .before .before .before .before .before .before in
-    force-known (s .args .h .now) (s .args .ws .now) (s .args .ks .now) (s .pre) (c .before .before .before .before .before .before .before .before .before .before .before .before .before .read-header .ensures) (c .before .before .before .before .before .before .before .before .before .before .before .find-mut .ensures) (c .before .before .before .before .before .before .before .before .idx .ensures) (c .before .before .before .before .before .before .node-at .ensures) (c .before .before .before .before .before .state-of .ensures) (c .before .before .before .state .given .1) (c .before .inv .ensures) (c .xor .ensures)
+    let node = c .before .before .before .before .before .before in
+    let idx = node .before .before in
+    let found = idx .before .before .before in
+    let header = found .before .before in
+    let s = header .before .before .before .before .before in
+    force-known (s .args .h .now) (s .args .ws .now) (s .args .ks .now) (s .pre) (header .read-header .ensures) (found .find-mut .ensures) (idx .idx .ensures) (node .node-at .ensures)
+    (c .before .before .before .before .before .state-of .ensures) (c .before .before .before .state .given .1) (c .before .inv .ensures) (c .xor .ensures)
 
 same-length-3 : tie.Need-same-length-3
 same-length-3 c = search needs
@@ -74,8 +80,15 @@ same-length-4 c = search needs
 
 returns-2 : tie.Need-returns-2
 returns-2 c =
-    let s = c .before .before .before .before .before .before .before .before .before .before .before .before .before .before .before .before .before .before .before .before .before .before .before .before .before .before .before in
-    force-reported (s .args .h .now) (s .args .ws .now) (s .args .ks .now) (s .pre) (c .before .before .before .before .before .before .before .before .before .before .before .before .before .before .before .before .before .before .before .before .before .before .read-header .ensures) (c .before .before .before .before .before .before .before .before .before .before .before .before .before .before .before .before .before .before .before .before .find-mut .ensures) (c .before .before .before .before .before .before .before .before .before .before .before .before .before .before .before .before .before .idx .ensures) (c .before .before .before .before .before .before .before .before .before .before .before .before .before .before .before .node-at .ensures) (c .before .before .before .before .before .before .before .before .before .before .before .before .before .before .state-of .ensures) (c .before .before .before .before .before .before .before .before .before .before .before .before .state2 .given .1) (c .before .before .before .before .before .before .before .before .before .before .size-of .ensures) (c .before .before .before .before .before .before .before .before .put-node .ensures) (c .before .before .before .before .one-more .ensures) (c .before .before .before .with-reports .ensures) (c .before .before .write-header .ensures)
+    let put = c .before .before .before .before .before .before .before .before in
+    let node = put .before .before .before .before .before .before .before in
+    let idx = node .before .before in
+    let found = idx .before .before .before in
+    let header = found .before .before in
+    let s = header .before .before .before .before .before in
+    force-reported (s .args .h .now) (s .args .ws .now) (s .args .ks .now) (s .pre) (header .read-header .ensures) (found .find-mut .ensures) (idx .idx .ensures) (node .node-at .ensures)
+    (put .before .before .before .before .before .before .state-of .ensures) (put .before .before .before .before .state2 .given .1) (put .before .before .size-of .ensures) (put .put-node .ensures)
+    (c .before .before .before .before .one-more .ensures) (c .before .before .before .with-reports .ensures) (c .before .before .write-header .ensures)
 
 same-length-5 : tie.Need-same-length-5
 same-length-5 c = search needs
@@ -85,8 +98,13 @@ same-length-6 c = search needs
 
 returns-3 : tie.Need-returns-3
 returns-3 c =
-    let s = c .before .before .before .before .before .before .before .before .before .before .before .before .before .before .before in
-    force-failed (s .args .h .now) (s .args .ws .now) (s .args .ks .now) (s .pre) (c .before .before .before .before .before .before .before .before .before .before .read-header .ensures) (c .before .before .before .before .before .before .before .before .find-mut .ensures) (c .before .before .before .before .before .idx .ensures) (c .before .before .before .node-at .ensures) (c .before .before .state-of .ensures) (c .enum-told .given .1)
+    let node = c .before .before .before in
+    let idx = node .before .before in
+    let found = idx .before .before .before in
+    let header = found .before .before in
+    let s = header .before .before .before .before .before in
+    force-failed (s .args .h .now) (s .args .ws .now) (s .args .ks .now) (s .pre) (header .read-header .ensures) (found .find-mut .ensures) (idx .idx .ensures) (node .node-at .ensures)
+    (c .before .before .state-of .ensures) (c .enum-told .given .1)
 
 pub force-kind-spec : {M : Type 1} → statement M
 force-kind-spec =

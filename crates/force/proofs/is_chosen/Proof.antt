@@ -5,6 +5,9 @@ use borrow.Author.Needs.{needs}
 use Rattle.force.proofs.is_chosen.Statement.{statement}
 use Rattle.force.proofs.is_chosen.Tie as tie
 
+cast-at : tie.Need-cast-at
+cast-at c = search needs
+
 shared-slice-read-result : tie.Need-shared-slice-read-result
 shared-slice-read-result c = search needs
 
@@ -12,7 +15,7 @@ returns : tie.Need-returns
 returns c = search needs
 
 returns-2 : tie.Need-returns-2
-returns-2 c = rw (List·getD-eq-default (c .before .args .bytes .now) 0 (c .if1 .left))
+returns-2 c = rw (List·getD-eq-default (c .before .before .args .bytes .now) 0 (c .if1 .left))
 
 pub is-chosen-spec : {M : Type 1} → statement M
-is-chosen-spec = tie.close (tie.spec shared-slice-read-result returns returns-2)
+is-chosen-spec = tie.close (tie.spec cast-at shared-slice-read-result returns returns-2)
