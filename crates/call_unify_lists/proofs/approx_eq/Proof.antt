@@ -1,13 +1,14 @@
--- `call_unify::approx_eq` meets its contract: as `unify_impl_type`, and nothing is written.
+-- `call_unify_lists::approx_eq` meets its contract: as `unify_impl_type`, and nothing is written.
 -- Assumes nothing.
 use mathlib.Core.Path.{ap, sym}
 use mathlib.Core.Bool.{Bool}
 use Rattle.scope.specs.Calls.{done}
 use Rattle.layout.specs.Words.{storeIn}
-use Rattle.call_unify.proofs.Laws.{Passed, impls-beside, back-lent, back-own, read-done, approx-form}
+use Rattle.call_unify.proofs.Laws.{Passed, back-lent, back-own, read-done}
+use Rattle.call_unify_lists.proofs.Laws.{impls-beside, approx-form}
 use borrow.Author.Needs.{needs}
-use Rattle.call_unify.proofs.approx_eq.Statement.{statement}
-use Rattle.call_unify.proofs.approx_eq.Tie as tie
+use Rattle.call_unify_lists.proofs.approx_eq.Statement.{statement}
+use Rattle.call_unify_lists.proofs.approx_eq.Tie as tie
 
 -- what is known where 2 and 8 do not turn the call back
 passed-there : (c : tie.After-read-header)

@@ -1,9 +1,10 @@
--- `call_unify::unify_types` meets its contract: as `unify`, over the types of two lists.
+-- `call_unify_lists::unify_types` meets its contract: as `unify`, over the types of two lists.
 -- Assumes nothing.
-use Rattle.call_unify.proofs.Laws.{Passed, lists-ask, back-lent, lent-words, back-own, unify-done, types-form}
+use Rattle.call_unify.proofs.Laws.{Passed, back-lent, lent-words, back-own, unify-done}
+use Rattle.call_unify_lists.proofs.Laws.{lists-ask, types-form}
 use borrow.Author.Needs.{needs}
-use Rattle.call_unify.proofs.unify_types.Statement.{statement}
-use Rattle.call_unify.proofs.unify_types.Tie as tie
+use Rattle.call_unify_lists.proofs.unify_types.Statement.{statement}
+use Rattle.call_unify_lists.proofs.unify_types.Tie as tie
 
 -- what is known where 2 and 8 do not turn the call back
 passed-there : (c : tie.After-read-header)

@@ -1,11 +1,12 @@
--- `call_unify::unify_objects` meets its contract: as `unify_types`; entries that 4 does not turn back are whole, so their names are the names that the core reads.
+-- `call_unify_lists::unify_objects` meets its contract: as `unify_types`; entries that 4 does not turn back are whole, so their names are the names that the core reads.
 -- Assumes nothing.
 use mathlib.Core.List.{[]}
 use Rattle.chart.specs.Env.{chartIn}
-use Rattle.call_unify.proofs.Laws.{Passed, objects-ask, objects-leave, objects-beside, back-lent, lent-words, back-own, unify-done, objects-form}
+use Rattle.call_unify.proofs.Laws.{Passed, back-lent, lent-words, back-own, unify-done}
+use Rattle.call_unify_lists.proofs.Laws.{objects-ask, objects-leave, objects-beside, objects-form}
 use borrow.Author.Needs.{needs}
-use Rattle.call_unify.proofs.unify_objects.Statement.{statement}
-use Rattle.call_unify.proofs.unify_objects.Tie as tie
+use Rattle.call_unify_lists.proofs.unify_objects.Statement.{statement}
+use Rattle.call_unify_lists.proofs.unify_objects.Tie as tie
 
 -- what is known where 2 and 8 do not turn the call back
 passed-there : (c : tie.After-read-header)

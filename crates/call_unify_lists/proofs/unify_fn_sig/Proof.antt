@@ -1,9 +1,10 @@
--- `call_unify::unify_fn_sig` meets its contract: as `unify_types`, over parameters and returns.
+-- `call_unify_lists::unify_fn_sig` meets its contract: as `unify_types`, over parameters and returns.
 -- Assumes nothing.
-use Rattle.call_unify.proofs.Laws.{Passed, signatures-ask, back-lent, lent-words, back-own, unify-done, signatures-form}
+use Rattle.call_unify.proofs.Laws.{Passed, back-lent, lent-words, back-own, unify-done}
+use Rattle.call_unify_lists.proofs.Laws.{signatures-ask, signatures-form}
 use borrow.Author.Needs.{needs}
-use Rattle.call_unify.proofs.unify_fn_sig.Statement.{statement}
-use Rattle.call_unify.proofs.unify_fn_sig.Tie as tie
+use Rattle.call_unify_lists.proofs.unify_fn_sig.Statement.{statement}
+use Rattle.call_unify_lists.proofs.unify_fn_sig.Tie as tie
 
 -- what is known where 2 and 8 do not turn the call back
 passed-there : (c : tie.After-read-header)

@@ -1,9 +1,10 @@
--- `call_unify::unify_impl_type` meets its contract: as `unify_types`, with 5 for a number that is no trait's.
+-- `call_unify_lists::unify_impl_type` meets its contract: as `unify_types`, with 5 for a number that is no trait's.
 -- Assumes nothing.
-use Rattle.call_unify.proofs.Laws.{Passed, impls-ask, impls-beside, back-lent, lent-words, back-own, unify-done, impls-form}
+use Rattle.call_unify.proofs.Laws.{Passed, back-lent, lent-words, back-own, unify-done}
+use Rattle.call_unify_lists.proofs.Laws.{impls-ask, impls-beside, impls-form}
 use borrow.Author.Needs.{needs}
-use Rattle.call_unify.proofs.unify_impl_type.Statement.{statement}
-use Rattle.call_unify.proofs.unify_impl_type.Tie as tie
+use Rattle.call_unify_lists.proofs.unify_impl_type.Statement.{statement}
+use Rattle.call_unify_lists.proofs.unify_impl_type.Tie as tie
 
 -- what is known where 2 and 8 do not turn the call back
 passed-there : (c : tie.After-read-header)
