@@ -47,14 +47,14 @@ module _ {n r : ℕ} (A : List Node → Bool) (us : Store → List (Bool × ℕ)
   abbrev store : Store
   store = withNodes (opened 0 0) ns
 
-  passed : firstBroken ((not (A ns), 3) ∷ us store) ≡ none
-  passed = t .code store m ∙ code-none r z
+  all-passed : firstBroken ((not (A ns), 3) ∷ us store) ≡ none
+  all-passed = t .code store m ∙ code-none r z
 
   pub first-passed : A ns ≡ true
-  first-passed = not-false (A ns) (test-passed (not (A ns)) 3 (us store) passed)
+  first-passed = not-false (A ns) (test-passed (not (A ns)) 3 (us store) all-passed)
 
   pub second-passed : firstBroken (us store) ≡ none
-  second-passed = tests-passed (not (A ns)) 3 (us store) passed
+  second-passed = tests-passed (not (A ns)) 3 (us store) all-passed
 
 -- what a core asks, of arguments that no test turned back
 
@@ -86,6 +86,10 @@ pub record Passed (chart : List ℕ) (b : Beside) (rule text h ws ks : List ℕ)
   pub lent : firstBroken (lentTests (envIn chart b rule text) (lentOf h ws ks)) ≡ codeOf code
   pub none : code ≡ 0
   pub header : x ≡ headerIn h
+
+pub passed : {chart : List ℕ} {b : Beside} {rule text h ws ks : List ℕ} {x : Header} {n : ℕ}
+    → firstBroken (lentTests (envIn chart b rule text) (lentOf h ws ks)) ≡ codeOf n → n ≡ 0 → x ≡ headerIn h → Passed chart b rule text h ws ks x
+passed {n = n} q z g = record { code = n; lent = q; none = z; header = g }
 
 module _ {chart : List ℕ} {b : Beside} {rule text h ws ks : List ℕ} {x : Header} (c : Passed chart b rule text h ws ks x) where
   abbrev env : Env
