@@ -43,7 +43,7 @@ fn lists<'a>(
     let xs = first(after(a, 2), n);
     let ys = after(after(a, 2), n);
     if op == UNIFY_TYPES {
-        writing::unify_answer(call_unify::unify_types(
+        writing::unify_answer(call_unify_lists::unify_types(
             chart,
             beside,
             rule,
@@ -57,7 +57,7 @@ fn lists<'a>(
         ));
         return;
     }
-    writing::unify_answer(call_unify::unify_objects(
+    writing::unify_answer(call_unify_lists::unify_objects(
         chart,
         beside,
         rule,
@@ -88,11 +88,35 @@ fn impls<'a>(
     let xs = first(after(a, 5), n);
     let ys = after(after(a, 5), n);
     if op == UNIFY_IMPL_TYPE {
-        let r = call_unify::unify_impl_type(chart, beside, rule, text, h, ws, ks, p, xs, q, ys);
+        let r = call_unify_lists::unify_impl_type(
+            chart,
+            beside,
+            rule,
+            text,
+            h,
+            ws,
+            ks,
+            p,
+            xs,
+            q,
+            ys,
+        );
         writing::unify_answer(r);
         return;
     }
-    writing::bool_answer(call_unify::approx_eq(chart, beside, rule, text, h, ws, ks, p, xs, q, ys));
+    writing::bool_answer(call_unify_lists::approx_eq(
+        chart,
+        beside,
+        rule,
+        text,
+        h,
+        ws,
+        ks,
+        p,
+        xs,
+        q,
+        ys,
+    ));
 }
 
 pub(crate) fn call<'a>(
@@ -120,7 +144,7 @@ pub(crate) fn call<'a>(
         let n = word(a, 2) as usize;
         let xs = first(after(a, 3), n);
         let ys = after(after(a, 3), n);
-        let r = call_unify::unify_fn_sig(chart, beside, rule, text, h, ws, ks, xs, x, ys, y);
+        let r = call_unify_lists::unify_fn_sig(chart, beside, rule, text, h, ws, ks, xs, x, ys, y);
         writing::unify_answer(r);
         return;
     }

@@ -1,19 +1,14 @@
--- `call_unify::approx_eq` meets its contract: as `unify_impl_type`, and nothing is written.
+-- `call_unify_lists::approx_eq` meets its contract: as `unify_impl_type`, and nothing is written.
 -- Assumes nothing.
 use mathlib.Core.Path.{ap, sym}
 use mathlib.Core.Bool.{Bool}
 use Rattle.scope.specs.Calls.{done}
 use Rattle.layout.specs.Words.{storeIn}
-use Rattle.call_unify.proofs.Laws.{Passed, impls-beside, back-lent, back-own, read-done, approx-form}
+use Rattle.call_unify.proofs.Laws.{passed, back-lent, back-own, read-done}
+use Rattle.call_unify_lists.proofs.Laws.{impls-beside, approx-form}
 use borrow.Author.Needs.{needs}
-use Rattle.call_unify.proofs.approx_eq.Statement.{statement}
-use Rattle.call_unify.proofs.approx_eq.Tie as tie
-
--- what is known where 2 and 8 do not turn the call back
-passed-there : (c : tie.After-read-header)
-    → let a = c .before .before .before .before .before .before .before .before .before .before .before .args in
-    Passed (a .chart .now) (a .beside) (a .rule .now) (a .text .now) (a .h .now) (a .ws .now) (a .ks .now) (c .read-header .result)
-passed-there c = record { code = c .before .before .refusal .result; lent = c .before .before .refusal .ensures; none = c .before .if1 .left; header = c .read-header .ensures }
+use Rattle.call_unify_lists.proofs.approx_eq.Statement.{statement}
+use Rattle.call_unify_lists.proofs.approx_eq.Tie as tie
 
 refusal-requires : tie.Need-refusal-requires
 refusal-requires c κs = search needs
@@ -29,7 +24,7 @@ impls-requires c κs = search needs
 
 returns-2 : tie.Need-returns-2
 returns-2 c =
-    let p = passed-there (c .before .before) in
+    let p = passed (c .before .before .before .before .refusal .ensures) (c .before .before .before .if1 .left) (c .before .before .read-header .ensures) in
     back-own p (approx-form _ _) (impls-beside p _ _ (c .before .impls .ensures)) (c .if2 .taken)
 
 same-trait-requires : tie.Need-same-trait-requires
@@ -39,7 +34,7 @@ returns-3 : tie.Need-returns-3
 returns-3 c =
     let a = c .before .before .before .before .before .before .before .before .before .before .before .before .before .before .args in
     let e = c .before in
-    let p = passed-there (e .before .before) in
+    let p = passed (e .before .before .before .before .refusal .ensures) (e .before .before .before .if1 .left) (e .before .before .read-header .ensures) in
     read-done p (approx-form _ _) (impls-beside p _ _ (e .before .impls .ensures)) (e .if2 .left)
     (ap (λ (t : Bool). done t (storeIn (a .h .now) (a .ws .now) (a .ks .now))) (sym (c .same-trait .ensures (a .xs .now) (a .ys .now))))
 
