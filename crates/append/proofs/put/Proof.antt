@@ -49,7 +49,8 @@ same-length-2 c = search needs
 returns-2 : tie.Need-returns-2
 returns-2 c =
     let a = c .before .before .before .before .before .before .before .before .before .before .before .args in
-    let room : a .at ≤ length (a .buf .now) = laws.has-room (c .before .before .before .before .before .before .before .is-full .ensures) (c .before .before .before .before .before .before .if1 .left) in
+    let test = c .before .before .before .before .before .before in
+    let room : a .at ≤ length (a .buf .now) = laws.has-room (test .before .is-full .ensures) (test .if1 .left) in
     let n = length (a .buf .now) - a .at in
     let copy = c .before .before .copy in
     let long : length (take n (a .piece .now)) ≡ n = length-take-le _ _ (omega arith) in
