@@ -16,6 +16,7 @@ ghost use Rattle.lent_tests.specs.Given.{pairTests, listTests, sigTests,
 use kinds::OBJECT;
 use layout::CHILD_WORDS;
 use layout::Kind;
+use names::NO_NAME;
 use refusals::NO_REFUSAL;
 use refusals::OUTSIDE;
 use refusals::UNDEFINED;
@@ -83,9 +84,7 @@ fn object_of(n: u32) -> Kind
         number: 0,
         dual: false,
         flex: 0,
-        text: 0,
-        start: 0,
-        len: 0,
+        name: NO_NAME,
         first: 0,
         count: n,
     }
@@ -95,7 +94,7 @@ fn object_of(n: u32) -> Kind
 fn bad_entries<'a>(xs: &[u32], rule: &'a [u8], text: &'a [u8]) -> bool
     ensures { λ r. ⌜ r ≡ badEntries (chartIn [] (now (rule .entry)) (now (text .entry))) (entriesIn (now (xs .entry))) ⌝ }
 {
-    let count = xs.len() / CHILD_WORDS;
+    let count = store::entry_count(xs);
     if count > MAX_LIST {
         return true;
     }

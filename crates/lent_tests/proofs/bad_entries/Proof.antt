@@ -7,11 +7,19 @@ use borrow.Author.Needs.{needs}
 use Rattle.lent_tests.proofs.bad_entries.Statement.{statement}
 use Rattle.lent_tests.proofs.bad_entries.Tie as tie
 
+entry-count-requires : tie.Need-entry-count-requires
+entry-count-requires c κs = search needs
+
 returns : tie.Need-returns
-returns c = let a = c .before .before .before .before .args in entries-many (a .xs .now) (chartIn [] (a .rule .now) (a .text .now)) (c .if1 .taken)
+returns c =
+    let n = c .before in
+    let a = n .before .before .before .before .args in
+    entries-many (a .xs .now) (chartIn [] (a .rule .now) (a .text .now)) (n .entry-count .ensures) (c .if1 .taken)
 
 returns-2 : tie.Need-returns-2
-returns-2 c = let a = c .before .before .before .before .before .args in entries-torn (a .xs .now) (chartIn [] (a .rule .now) (a .text .now)) (c .if2 .taken)
+returns-2 c =
+    let a = c .before .before .before .before .before .before .args in
+    entries-torn (a .xs .now) (chartIn [] (a .rule .now) (a .text .now)) (c .if2 .taken)
 
 cast-object-of : tie.Need-cast-object-of
 cast-object-of c = search needs
@@ -24,10 +32,20 @@ names-fit-requires c κs = search needs
 
 returns-3 : tie.Need-returns-3
 returns-3 c =
-    let a = c .before .before .before .before .before .before .before .args in
-    entries-named (a .xs .now) (chartIn [] (a .rule .now) (a .text .now)) (c .before .before .before .if1 .left) (c .before .before .if2 .left) (c .before .object-of .ensures) (c .names-fit .ensures)
+    let w = c .before .before in
+    let n = w .before .before in
+    let a = n .before .before .before .before .args in
+    entries-named (a .xs .now) (chartIn [] (a .rule .now) (a .text .now)) (n .entry-count .ensures) (w .before .if1 .left) (w .if2 .left)
+    (c .before .object-of .ensures) (c .names-fit .ensures)
 
 pub bad-entries-spec : {M : Type 1} → statement M
 bad-entries-spec =
     tie.close
-    (tie.spec returns returns-2 cast-object-of object-of-requires names-fit-requires returns-3)
+    (tie.spec
+    entry-count-requires
+    returns
+    returns-2
+    cast-object-of
+    object-of-requires
+    names-fit-requires
+    returns-3)
