@@ -15,7 +15,7 @@ use Rattle.scope.specs.Force.{forced, fail, report, withReports, forceKind}
 use Rattle.types.specs.declared.«Type».{«Type»}
 use Rattle.types.specs.declared.Inverted.{Inverted}
 use Rattle.layout.specs.Words.{HEAD-WORDS, nodesMade, childrenMade, nodeRoom, childRoom, reports, storeIn, clean}
-use Rattle.layout.specs.Meaning.{readAt, putAt, headerIn, putHeader, nodeState, nodeSize, stateMeans, stateFits, nodeMeans, nodeFits, Linked, Lies, Grown}
+use Rattle.layout.specs.Meaning.{readAt, putAt, headerIn, putHeader, nodeState, nodeSize, stateMeans, stateFits, nodeMeans, Linked, Lies, Grown}
 use Rattle.layout.specs.declared.Header.{Header}
 use Rattle.layout.specs.declared.Kind.{Kind}
 use Rattle.layout.specs.declared.TypeState.{TypeState}

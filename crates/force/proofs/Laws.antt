@@ -1,5 +1,5 @@
 -- A list that is changed node by node from the front: below i it is what it is to become, from i on what it was. What was to be done is done at its
--- end. And `find_mut` changes links alone, so each node keeps its state and its size.
+-- end. And `find_mut` changes links alone, so each node keeps its state.
 -- Assumes nothing.
 use mathlib.Core.Path.{_≡_, refl, ap, sym, _∙_}
 use mathlib.Core.Bool.{Bool, true, false}
@@ -11,7 +11,7 @@ use lib.ListN.{length, getD, set, length-set, List·getD-map}
 use lib.Seq.{getD-set-same, getD-set-other, map-set-same, ext-getD}
 use borrow.Author.Tests.{eqb-true, eqb-false}
 use Rattle.scope.specs.Types.{Ty, flip}
-use Rattle.scope.specs.Nodes.{State, Node, Root, Child, at, stateOf, sizeOf, find, compress, findMut}
+use Rattle.scope.specs.Nodes.{Node, Root, Child, at, stateOf, find, compress, findMut}
 use Rattle.scope.proofs.Laws.{compress-root, compress-child}
 use Rattle.layout.proofs.Laws.{past}
 
@@ -49,33 +49,23 @@ module _ {from to ns : List Node} {i : ℕ} (g : Going from to i ns) where
   pub going-end : length from ≤ i → length to ≡ length from → ns ≡ to
   going-end l e = ext-getD past ns to (g .long ∙ sym e) (λ j h. g .below j (omega (arith, g .long)))
 
--- states and sizes
+-- states
 
-abbrev own : Node → State × ℕ
-own v = (stateOf v, sizeOf v)
-
-own-point : (v : Node) (f : ℕ) (ns : List Node) (r t : Ty) → ((ms : List Node) (u : Ty) → map own (compress f ms r u) ≡ map own ms)
-    → at ns (t .idx) ≡ v → map own (compress (suc f) ns r t) ≡ map own ns
-own-point (Root st z) f ns r t h e = ap (map own) (compress-root (suc f) ns r t e)
-own-point (Child u) f ns r t h e =
-    ap (map own) (compress-child f ns r t u e)
+state-point : (v : Node) (f : ℕ) (ns : List Node) (r t : Ty) → ((ms : List Node) (u : Ty) → map stateOf (compress f ms r u) ≡ map stateOf ms)
+    → at ns (t .idx) ≡ v → map stateOf (compress (suc f) ns r t) ≡ map stateOf ns
+state-point (Root st z) f ns r t h e = ap (map stateOf) (compress-root (suc f) ns r t e)
+state-point (Child u) f ns r t h e =
+    ap (map stateOf) (compress-child f ns r t u e)
     ∙ (h (set ns (t .idx) (Child (flip (t .inv) r))) (flip (t .inv) u)
-    ∙ map-set-same own ns (t .idx) (Child (flip (t .inv) r)) past (sym (ap own e)))
+    ∙ map-set-same stateOf ns (t .idx) (Child (flip (t .inv) r)) past (sym (ap stateOf e)))
 
-own-compress : (f : ℕ) (ns : List Node) (r t : Ty) → map own (compress f ns r t) ≡ map own ns
+state-compress : (f : ℕ) (ns : List Node) (r t : Ty) → map stateOf (compress f ns r t) ≡ map stateOf ns
 unfolding compress
-own-compress zero ns r t = refl
-own-compress (suc f) ns r t = own-point (at ns (t .idx)) f ns r t (λ ms u. own-compress f ms r u) refl
+state-compress zero ns r t = refl
+state-compress (suc f) ns r t = state-point (at ns (t .idx)) f ns r t (λ ms u. state-compress f ms r u) refl
 
-module _ (ns : List Node) (t : Ty) (i : ℕ) where
-  own-kept : own (at (findMut ns t) i) ≡ own (at ns i)
-  unfolding findMut
-  own-kept =
-      sym (List·getD-map own (findMut ns t) i past)
-      ∙ (ap (λ l. getD l i (own past)) (own-compress (length ns) ns (find ns t) t) ∙ List·getD-map own ns i past)
-
-  pub state-kept : stateOf (at (findMut ns t) i) ≡ stateOf (at ns i)
-  state-kept = ap (λ p. p .0) own-kept
-
-  pub size-kept : sizeOf (at (findMut ns t) i) ≡ sizeOf (at ns i)
-  size-kept = ap (λ p. p .1) own-kept
+pub state-kept : (ns : List Node) (t : Ty) (i : ℕ) → stateOf (at (findMut ns t) i) ≡ stateOf (at ns i)
+unfolding findMut
+state-kept ns t i =
+    sym (List·getD-map stateOf (findMut ns t) i past)
+    ∙ (ap (λ l. getD l i (stateOf past)) (state-compress (length ns) ns (find ns t) t) ∙ List·getD-map stateOf ns i past)

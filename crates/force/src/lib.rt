@@ -14,12 +14,10 @@ use layout::Header;
 use layout::Kind;
 use layout::TypeNode;
 use layout::TypeState;
+use scope::MAX_REPORTS;
 use types::Inverted;
 use types::Type;
 use types::TypeIdx;
-
-// "A u64 that stops at its largest value."
-pub const MAX_REPORTS: u64 = 18_446_744_073_709_551_615;
 
 // What a forced type has: its inversion and kind; or none, and then the span of a type that had not failed before.
 pub enum Forced {
@@ -104,6 +102,7 @@ pub fn finish_inference_where(h: &[u32], ws: &mut [u32], ks: &[u32], bytes: &[u8
     }
 }
 
+// The count "stops at its largest value".
 fn one_more(n: u64) -> u64
     ensures { λ r. ⌜ r ≡ report n ⌝ }
 {
