@@ -27,7 +27,8 @@ use Rattle.layout.proofs.Laws.{length-decode}
 use Rattle.refusals.proofs.Laws.{test-passed}
 use Rattle.meeting.specs.Asks.{SoundWords}
 use Rattle.unify.specs.Leaves.{Leaves}
-use Rattle.unify_lists.specs.Lent.{entryNames, entryTypes, Lists, Objects, Signatures, Impls}
+use Rattle.unify_lists.specs.Lent.{Lists, Objects, Signatures, Impls}
+use Rattle.store.specs.Entries.{entryNames, entryTypes}
 use Rattle.unify_lists.proofs.CallerLaws.{given-lists, given-objects, given-signatures, given-impls}
 use Rattle.lent_tests.specs.Given.{listTests, sigTests, objectTests, implsTests, entriesIn, FirstOf}
 use Rattle.lent_tests.proofs.Laws.{fine-names, fine-count}
