@@ -14,6 +14,7 @@ use Rattle.scope.specs.Types.{Ty, tyOf}
 use Rattle.scope.specs.Nodes.{Node, Store}
 use Rattle.scope.specs.Sound.{inStore}
 use Rattle.scope.specs.Force.{findRelated}
+use Rattle.scope.specs.Refusals.{SHORT}
 use Rattle.scope.specs.Calls.{Outcome, done, firstBroken, storeOf, outside, shortFor, findRelatedCall}
 use Rattle.scope.proofs.SoundLaws.{SoundFacts}
 use Rattle.chart.specs.declared.Beside.{Beside}
@@ -101,8 +102,8 @@ module _ {chart : List ℕ} {b : Beside} {rule text h ws ks : List ℕ} (w : ℕ
         let o : Bool × ℕ = shortFor (length ms) (length (storeOf (lentOf h ws ks) .nodes)) in
         code-next (typesTests e (lentOf h ws ks) (T ∷ [])) (o ∷ []) n (q .first) z ∙ (ap (λ (u : Bool × ℕ). firstBroken (u ∷ [])) (marks-test ms) ∙ c)
 
-    pub marks-short : (ms : List ℕ) → length ms < x .nodes → MarksPromised (findRelatedCall e (lentOf h ws ks) T ms) (Refused 7) (storeIn h ws ks) ms ms
-    marks-short ms l = marks-back ms 7 (marks-code ms 7 (test-stands 7 [] (lt-ltb (length ms) (x .nodes) l))) (λ y. omega arith)
+    pub marks-short : (ms : List ℕ) → length ms < x .nodes → MarksPromised (findRelatedCall e (lentOf h ws ks) T ms) (Refused SHORT) (storeIn h ws ks) ms ms
+    marks-short ms l = marks-back ms SHORT (marks-code ms SHORT (test-stands SHORT [] (lt-ltb (length ms) (x .nodes) l))) (λ y. omega arith)
 
     pub marks-done : {ms ms′ : List ℕ} → x .nodes ≤ length ms → ms′ ≡ findRelated (decode ws ks (x .nodes)) T ms
         → MarksPromised (findRelatedCall e (lentOf h ws ks) T ms) Done (storeIn h ws ks) ms ms′
@@ -110,7 +111,7 @@ module _ {chart : List ℕ} {b : Beside} {rule text h ws ks : List ℕ} (w : ℕ
     marks-done {ms} {ms′} l r = record {
       outcome =
           call-outcome e h ws ks (λ s. outside s (T ∷ []) ∷ shortFor (length ms) (length (s .nodes)) ∷ []) (marksAnswer ms) 0
-          (marks-code ms 0 (test-falls 7 [] (le-ltb (length ms) (x .nodes) l))) refl
+          (marks-code ms 0 (test-falls SHORT [] (le-ltb (length ms) (x .nodes) l))) refl
           ∙ ap (λ (y : List ℕ). done y (storeIn h ws ks)) (ap (λ (y : List Node). findRelated y T ms) the-nodes ∙ sym r);
       kept = λ y. let v : _≡_ {A = ℕ} 0 1 = cc in absurd (omega arith);
     }

@@ -22,7 +22,9 @@ pub fn find<'a>(
     ks: &[u32],
     t: Type,
 ) -> TypeAnswer
-    ensures { λ r. ⌜ findCall (envIn (now (chart .entry)) beside (now (rule .entry)) (now (text .entry))) (lentOf (now (h .entry)) (now (ws .entry)) (now (ks .entry))) (tyOf (t .0)) ≡ outcomeBy (typeReply r) (storeIn (now (h .entry)) (now (ws .entry)) (now (ks .entry))) ⌝ }
+    ensures { λ r. ⌜ findCall
+        (envIn (now (chart .entry)) beside (now (rule .entry)) (now (text .entry))) (lentOf (now (h .entry)) (now (ws .entry)) (now (ks .entry))) (tyOf (t .0))
+        ≡ outcomeBy (typeReply r) (storeIn (now (h .entry)) (now (ws .entry)) (now (ks .entry))) ⌝ }
 {
     let code = refusal_at(chart, beside, rule, text, h, ws, ks, t);
     if code != NO_REFUSAL {
@@ -43,7 +45,9 @@ pub fn find_mut<'a>(
     ks: &[u32],
     t: Type,
 ) -> TypeAnswer
-    ensures { λ r. ⌜ Promised (findMutCall (envIn (now (chart .entry)) beside (now (rule .entry)) (now (text .entry))) (lentOf (now (h .entry)) (now (ws .entry)) (now (ks .entry))) (tyOf (t .0))) (typeReply r) (now (h .entry)) (now (ws .entry)) (now (ks .entry)) (now (h .entry)) (now (ws .exit)) (now (ks .entry)) ⌝ }
+    ensures { λ r. ⌜ Promised
+        (findMutCall (envIn (now (chart .entry)) beside (now (rule .entry)) (now (text .entry))) (lentOf (now (h .entry)) (now (ws .entry)) (now (ks .entry))) (tyOf (t .0)))
+        (typeReply r) (now (h .entry)) (now (ws .entry)) (now (ks .entry)) (now (h .entry)) (now (ws .exit)) (now (ks .entry)) ⌝ }
 {
     let refused = refusal_at(chart, beside, rule, text, h, ws, ks, t);
     if refused != NO_REFUSAL {

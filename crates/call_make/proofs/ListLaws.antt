@@ -14,6 +14,7 @@ use Rattle.scope.specs.Limits.{MAX-NODES}
 use Rattle.scope.specs.Chart.{Env}
 use Rattle.scope.specs.Types.{Ty, ty, tyOf, wordOf}
 use Rattle.scope.specs.Nodes.{Store}
+use Rattle.scope.specs.Refusals.{SHORT}
 use Rattle.scope.specs.Make.{MadeAll, newVar, newVars}
 use Rattle.scope.specs.Calls.{Outcome, done, firstBroken, storeOf, lentTests, roomTests, shortFor, newVarsCall}
 use Rattle.types.proofs.Laws.{ty-word}
@@ -95,10 +96,10 @@ module _ {chart : List ℕ} {b : Beside} {rule text h ws ks : List ℕ} (p n : �
     last-test : firstBroken (lentTests e (lentOf h ws ks) ++ tests (storeOf (lentOf h ws ks))) ≡ firstBroken (short ∷ [])
     last-test = code-next (lentTests e (lentOf h ws ks) ++ roomTests (storeOf (lentOf h ws ks)) n 0) (short ∷ []) c (q .first) z
 
-    pub vars-short : length out < n → ListPromised (newVarsCall e (lentOf h ws ks) p n (length out)) (Refused 7) n h ws ks h ws ks out out
+    pub vars-short : length out < n → ListPromised (newVarsCall e (lentOf h ws ks) p n (length out)) (Refused SHORT) n h ws ks h ws ks out out
     unfolding newVarsCall
     vars-short l = record {
-      promised = call-back e h ws ks tests work 7 (last-test ∙ test-stands 7 [] (lt-ltb (length out) n l)) (λ y. absurd (omega arith));
+      promised = call-back e h ws ks tests work SHORT (last-test ∙ test-stands SHORT [] (lt-ltb (length out) n l)) (λ y. absurd (omega arith));
       rest = refl;
       kept = λ y. refl;
     }
@@ -110,7 +111,7 @@ module _ {chart : List ℕ} {b : Beside} {rule text h ws ks : List ℕ} (p n : �
         → ListPromised (newVarsCall e (lentOf h ws ks) p n (length out)) Done n h ws ks h′ ws′ ks′ out out′
     unfolding newVarsCall
     vars-done l o = record {
-      promised = call-done e h ws ks tests work 0 (last-test ∙ test-falls 7 [] (le-ltb (length out) n l)) refl
+      promised = call-done e h ws ks tests work 0 (last-test ∙ test-falls SHORT [] (le-ltb (length out) n l)) refl
           (ap (λ (ts : List Ty). done ts (newVars (storeIn h ws ks) p n .store)) (sym (front p n vars-ready o))) (o .store);
       rest = vars-rest p n vars-ready o;
       kept = λ y. let v : _≡_ {A = ℕ} 0 1 = cc in absurd (omega arith);

@@ -1,84 +1,23 @@
--- Opening: one law for each way out of its test, and from the test passed to what `make` asks of the slices.
+-- Opening: one law for each way out of it, from the code of its test.
 -- Assumes nothing.
-use mathlib.Core.Path.{_≡_, _∙_}
-use mathlib.Core.Bool.{Bool, true, false, not, _&&_, _||_, or-true}
+use mathlib.Core.Path.{_≡_}
 use mathlib.Core.List.{List, [], _∷_}
-use mathlib.Core.Option.{none, some}
-use Prim.Native.Nat.{ℕ, _≤_, _<_}
-use lib.Dec.{ltb, leb}
-use lib.ListN.{length}
-use borrow.Author.Tests.{lt-ltb, le-ltb, ltb-false, le-leb, lt-leb, leb-true, not-false}
-use Rattle.scope.specs.Limits.{MAX-NODES, MAX-CHILDREN}
+use Prim.Native.Nat.{ℕ}
 use Rattle.scope.specs.Nodes.{opened}
 use Rattle.scope.specs.Calls.{firstBroken, openTest, openCall, done}
-use Rattle.scope.proofs.TestLaws.{or-no}
-use Rattle.names.proofs.Tests.{both}
-use Rattle.layout.specs.Words.{HEAD-WORDS, nodeWords, childWords}
-use Rattle.store.specs.Holds.{Became, Openable}
+use Rattle.store.specs.Holds.{Became}
 use Rattle.refusals.specs.Codes.{codeOf}
-use Rattle.promise.specs.Promise.{value, refusal, Promised}
-use Rattle.refusals.proofs.Laws.{code-none, test-passed, judged-refused, judged-done}
-use Rattle.promise.proofs.Laws.{promised-back, promised-done}
 use Rattle.refusals.specs.Opening.{enough}
+use Rattle.refusals.proofs.Laws.{judged-refused, judged-done}
+use Rattle.promise.specs.Promise.{value, refusal, Promised}
+use Rattle.promise.proofs.Laws.{promised-back, promised-done}
 
--- refusal 1
+module _ (n c : ℕ) (h ws ks : List ℕ) (r : ℕ) (q : firstBroken (openTest n c (enough n c h ws ks) ∷ []) ≡ codeOf r) where
+  pub open-back : (r ≡ 0 → ⊥) → Promised (openCall n c (enough n c h ws ks)) (refusal r) h ws ks h ws ks
+  unfolding openCall
+  open-back z = promised-back (judged-refused (openTest n c (enough n c h ws ks) ∷ []) (done tt (opened n c)) r q z)
 
-module _ (n c : ℕ) (b : Bool) where
-  pub many-nodes : MAX-NODES < n → firstBroken (openTest n c b ∷ []) ≡ some 1
-  many-nodes l = rw (lt-ltb MAX-NODES n l)
-
-  pub many-children : MAX-CHILDREN < c → firstBroken (openTest n c b ∷ []) ≡ some 1
-  many-children l = rw (lt-ltb MAX-CHILDREN c l, or-true (ltb MAX-NODES n))
-
-  module _ (l : n ≤ MAX-NODES) (m : c ≤ MAX-CHILDREN) where
-    pub words-short : b ≡ false → firstBroken (openTest n c b ∷ []) ≡ some 1
-    words-short q = rw (le-ltb MAX-NODES n l, le-ltb MAX-CHILDREN c m, q)
-
-    pub words-enough : b ≡ true → firstBroken (openTest n c b ∷ []) ≡ none
-    words-enough q = rw (le-ltb MAX-NODES n l, le-ltb MAX-CHILDREN c m, q)
-
-module _ (n c : ℕ) (h ws ks : List ℕ) where
-  -- the slices' words
-
-  pub short-head : length h < HEAD-WORDS → enough n c h ws ks ≡ false
-  unfolding enough
-  short-head l = rw (lt-leb HEAD-WORDS (length h) l)
-
-  module _ (a : HEAD-WORDS ≤ length h) where
-    pub short-nodes : {m : ℕ} → m ≡ nodeWords n → length ws < m → enough n c h ws ks ≡ false
-    unfolding enough
-    short-nodes e l = rw (le-leb HEAD-WORDS (length h) a, lt-leb (nodeWords n) (length ws) (rw e at l))
-
-    pub enough-children : {m k : ℕ} → m ≡ nodeWords n → m ≤ length ws → k ≡ childWords c → enough n c h ws ks ≡ leb k (length ks)
-    unfolding enough
-    enough-children e l d = rw (le-leb HEAD-WORDS (length h) a, le-leb (nodeWords n) (length ws) (rw e at l), d)
-
-  -- what the test gives
-
-  module _ (r : ℕ) (q : firstBroken (openTest n c (enough n c h ws ks) ∷ []) ≡ codeOf r) where
-    pub openable : r ≡ 0 → Openable n c h ws ks
-    unfolding enough
-    openable z =
-        let t : Bool × ℕ = openTest n c (enough n c h ws ks) in
-        let p = or-no (ltb MAX-NODES n) (ltb MAX-CHILDREN c || not (enough n c h ws ks)) (test-passed (t .0) 1 [] (q ∙ code-none r z)) in
-        let o = or-no (ltb MAX-CHILDREN c) (not (enough n c h ws ks)) (p .1) in
-        let a : Bool = leb (nodeWords n) (length ws) in
-        let b : Bool = leb (childWords c) (length ks) in
-        let w = both (leb HEAD-WORDS (length h)) (a && b) (not-false (enough n c h ws ks) (o .1)) in
-        let v = both a b (w .1) in
-        record {
-          nodes = ltb-false MAX-NODES n (p .0);
-          children = ltb-false MAX-CHILDREN c (o .0);
-          head = leb-true HEAD-WORDS (length h) (w .0);
-          nodeLen = leb-true (nodeWords n) (length ws) (v .0);
-          childLen = leb-true (childWords c) (length ks) (v .1);
-        }
-
-    pub open-back : (r ≡ 0 → ⊥) → Promised (openCall n c (enough n c h ws ks)) (refusal r) h ws ks h ws ks
-    unfolding openCall
-    open-back z = promised-back (judged-refused (openTest n c (enough n c h ws ks) ∷ []) (done tt (opened n c)) r q z)
-
-    pub open-done : {h′ ws′ ks′ : List ℕ} → r ≡ 0 → Became h ws ks h′ ws′ ks′ (opened n c)
-        → Promised (openCall n c (enough n c h ws ks)) (value tt) h ws ks h′ ws′ ks′
-    unfolding openCall
-    open-done z b = promised-done (judged-done (openTest n c (enough n c h ws ks) ∷ []) (done tt (opened n c)) r q z) b
+  pub open-done : {h′ ws′ ks′ : List ℕ} → r ≡ 0 → Became h ws ks h′ ws′ ks′ (opened n c)
+      → Promised (openCall n c (enough n c h ws ks)) (value tt) h ws ks h′ ws′ ks′
+  unfolding openCall
+  open-done z b = promised-done (judged-done (openTest n c (enough n c h ws ks) ∷ []) (done tt (opened n c)) r q z) b

@@ -1,90 +1,28 @@
 // The calls that open, empty and fill a store, on any numbers at all: each tests and refuses, or makes what document 01 says. Refusals come in 01's order:
-// 2 and 8, then 10, 11 and 7; opening has 1 alone. What a call needs of room is tested here once, for every maker.
+// 2 and 8, then 10, 11 and 7; opening has 1 alone.
 ghost use mathlib.Core.Path.{_≡_};
-ghost use mathlib.Core.List.{List, [], _∷_};
-ghost use Prim.Native.Nat.{ℕ, _+_};
-ghost use lib.Dec.{ltb};
 ghost use lib.ListN.{length};
-ghost use Rattle.scope.specs.Calls.{firstBroken, openTest, roomTests, nodesFor, openCall, resetCall, newVarCall, newVarsCall, errorCall, nilCall};
-ghost use Rattle.layout.specs.Words.{storeIn, lentOf};
+ghost use Rattle.scope.specs.Calls.{nodesFor, openCall, resetCall, newVarCall, newVarsCall, errorCall, nilCall};
+ghost use Rattle.layout.specs.Words.{lentOf};
 ghost use Rattle.layout.specs.Meaning.{rememberedMeans};
-ghost use Rattle.sound.specs.Tests.{envIn};
-ghost use Rattle.refusals.specs.Codes.{codeOf};
-ghost use Rattle.promise.specs.Promise.{doneReply, typeReply, Promised};
 ghost use Rattle.refusals.specs.Opening.{enough};
+ghost use Rattle.sound.specs.Tests.{envIn};
+ghost use Rattle.promise.specs.Promise.{doneReply, typeReply, Promised};
 ghost use Rattle.call_make.specs.Room.{RoomTested};
 ghost use Rattle.call_make.specs.Lists.{ListPromised};
 use chart::Beside;
-use layout::HEAD_WORDS;
 use layout::Remembered;
 use promise::DoneAnswer;
 use promise::TypeAnswer;
-use refusals::CHILDREN_FULL;
 use refusals::NO_REFUSAL;
-use refusals::NODES_FULL;
 use refusals::SHORT;
-use scope::MAX_CHILDREN;
-use scope::MAX_NODES;
-
-// "opening: capacity above the limit or buffers too short"
-pub const UNOPENABLE: u32 = 1;
-
-// "nodes made plus those needed exceed the capacity"
-fn exceeds(made: u32, more: u32, room: u32) -> bool
-    ensures { λ r. ⌜ r ≡ ltb room (made + more) ⌝ }
-{
-    (room as u64) < made as u64 + more as u64
-}
-
-// The first of refusals 10 and 11 that stands where so many nodes and children more are to be made, and 0 where none does. It looks at the header alone.
-pub fn room(h: &[u32], nodes: u32, children: u32) -> u32
-    ensures { λ r. ⌜ ((ws ks : List ℕ) → firstBroken (roomTests (storeIn (now (h .entry)) ws ks) nodes children) ≡ codeOf r) ⌝ }
-{
-    let x = layout::read_header(h);
-    if exceeds(x.nodes, nodes, x.node_room) {
-        return NODES_FULL;
-    }
-    if exceeds(x.children, children, x.child_room) {
-        return CHILDREN_FULL;
-    }
-    NO_REFUSAL
-}
-
-// The slices have the words that the capacities need.
-fn long_enough(h: &[u32], ws: &[u32], ks: &[u32], nodes: u32, children: u32) -> bool
-    ensures { λ r. ⌜ r ≡ enough nodes children (now (h .entry)) (now (ws .entry)) (now (ks .entry)) ⌝ }
-{
-    if h.len() < HEAD_WORDS {
-        return false;
-    }
-    if ws.len() < layout::node_words(nodes) {
-        return false;
-    }
-    layout::child_words(children) <= ks.len()
-}
-
-// Refusal 1 where it stands, and 0 where it does not.
-pub fn opening(h: &[u32], ws: &[u32], ks: &[u32], nodes: u32, children: u32) -> u32
-    ensures { λ r. ⌜ firstBroken (openTest nodes children (enough nodes children (now (h .entry)) (now (ws .entry)) (now (ks .entry))) ∷ []) ≡ codeOf r ⌝ }
-{
-    if nodes as usize > MAX_NODES {
-        return UNOPENABLE;
-    }
-    if children as usize > MAX_CHILDREN {
-        return UNOPENABLE;
-    }
-    if !long_enough(h, ws, ks, nodes, children) {
-        return UNOPENABLE;
-    }
-    NO_REFUSAL
-}
 
 // A store without nodes, whatever the slices held. "Nodes 0 to 4,096; children over all nodes ever made 0 to 16,384, both chosen at opening"
 pub fn open(h: &mut [u32], ws: &mut [u32], ks: &mut [u32], nodes: u32, children: u32) -> DoneAnswer
     ensures { λ r. ⌜ Promised (openCall nodes children (enough nodes children (now (h .entry)) (now (ws .entry)) (now (ks .entry))))
         (doneReply r) (now (h .entry)) (now (ws .entry)) (now (ks .entry)) (now (h .exit)) (now (ws .exit)) (now (ks .exit)) ⌝ }
 {
-    let code = opening(h, ws, ks, nodes, children);
+    let code = refusals::opening(h, ws, ks, nodes, children);
     if code != NO_REFUSAL {
         return DoneAnswer::Refused(code);
     }
@@ -132,7 +70,7 @@ fn refusal_for<'a>(
     if lent != NO_REFUSAL {
         return lent;
     }
-    room(h, nodes, 0)
+    refusals::room(h, nodes, 0)
 }
 
 // "`new_var`": a type without a kind, and its span.

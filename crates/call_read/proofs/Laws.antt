@@ -15,15 +15,9 @@ use Rattle.layout.specs.declared.Header.{Header}
 use Rattle.layout.specs.declared.TypeNode.{TypeNode}
 use Rattle.layout.proofs.Laws.{read-is, read-is-fit}
 use Rattle.layout.proofs.StoreLaws.{store-header}
-<<<<<<< HEAD
-use Rattle.sound.specs.Tests.{envIn}
-use Rattle.refusals.specs.Codes.{codeOf}
-use Rattle.promise.specs.Promise.{typesTests, TypesTested, outcomeBy}
-=======
 use Rattle.sound.specs.Tests.{envIn}
 use Rattle.refusals.specs.Codes.{codeOf}
 use Rattle.promise.specs.Promise.{Reply, TypesTested, outcomeBy}
->>>>>>> calls9
 use Rattle.promise.proofs.ReadLaws.{read-refused, read-clean, read-nodes}
 use Rattle.call_read.specs.declared.NodeAnswer.{NodeAnswer}
 use Rattle.call_read.specs.declared.NodeAnswer.the-variants as node

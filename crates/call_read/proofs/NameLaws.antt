@@ -8,18 +8,19 @@ use Prim.Native.Nat.{ℕ, zero, suc, _+_, _-_, _≤_, _<_}
 use native.Mathlib.Omega.{arith}
 use lib.ListN.{length, getD, getElem?, length-map, List·getD-map}
 use borrow.Author.Tests.{ne-eqb}
+use Rattle.scope.specs.Base.{front}
 use Rattle.scope.specs.Names as scope
 use Rattle.scope.specs.Types.{tyOf}
 use Rattle.scope.specs.Kinds.{rowOf, OWN-NAME, CHILD-NAMES, PARAMETER-NAMES}
-use Rattle.scope.specs.Sound.{nameIn, slotName, front}
+use Rattle.scope.specs.Sound.{nameIn, slotName}
 use Rattle.scope.specs.Sound as sound
 use Rattle.scope.specs.Calls.{flat}
+use Rattle.names.specs.declared.Name.{Name}
 use Rattle.layout.specs.Words.{slotAt, slots}
 use Rattle.layout.specs.Meaning.{slotMeans, kindMeans}
 use Rattle.layout.specs.declared.Kind.{Kind}
 use Rattle.layout.specs.declared.Slot.{Slot}
-use Rattle.layout.proofs.ChildLaws.{length-slots, slots-get, length-kids, kid-at}
-use Rattle.layout.proofs.ChildLaws.{front-slots}
+use Rattle.layout.proofs.ChildLaws.{length-slots, slots-get, length-kids, kid-at, front-slots}
 use Rattle.layout.proofs.KindLaws.{names-own, names-child, names-parameters}
 
 -- what lies at j
@@ -34,6 +35,10 @@ module _ {A : Type 0} where
   element-none [] j h = refl
   element-none (x ∷ l) zero h = absurd (omega arith)
   element-none (x ∷ l) (suc j) h = element-none l j (omega arith)
+
+-- a name as it lies in a store
+abbrev nameOr : Name → Option scope.Name
+nameOr n = nameIn (n .text) (n .start) (n .len)
 
 module _ (ks : List ℕ) (k : Kind) (j : ℕ) where
   pub kid-is : (s : Slot) → j < k .count → slotMeans s ≡ slotAt ks (k .first + j) → getElem? (kindMeans ks k .kids) j ≡ some (tyOf (s .ty .0))
@@ -50,7 +55,7 @@ module _ (ks : List ℕ) (k : Kind) (j : ℕ) where
     named-length : length (map slotName (slots ks (k .first) n)) ≡ n
     named-length = length-map (slots ks (k .first) n) slotName ∙ length-slots ks (k .first) n
 
-    pub named-is : (s : Slot) {o : Option scope.Name} → j < n → slotMeans s ≡ slotAt ks (k .first + j) → nameIn (s .text) (s .start) (s .len) ≡ o
+    pub named-is : (s : Slot) {o : Option scope.Name} → j < n → slotMeans s ≡ slotAt ks (k .first + j) → nameOr (s .name) ≡ o
         → flat (getElem? (map slotName (slots ks (k .first) n)) j) ≡ o
     named-is s h e w =
         let l = slots ks (k .first) n in
@@ -67,7 +72,7 @@ module _ (ks : List ℕ) (k : Kind) (j : ℕ) where
   nameOf l = flat (getElem? l j)
 
   module _ {o : Option scope.Name} {d : ℕ} (e : d ≡ rowOf (k .code) .names) where
-    pub own-first : d ≡ OWN-NAME → j ≡ 0 → nameIn (k .text) (k .start) (k .len) ≡ o → nameOf (kindMeans ks k .head .names) ≡ o
+    pub own-first : d ≡ OWN-NAME → j ≡ 0 → nameOr (k .name) ≡ o → nameOf (kindMeans ks k .head .names) ≡ o
     own-first q z w = ap nameOf (names-own ks k (sym e ∙ q)) ∙ rw z w
 
     pub child-named : d ≡ CHILD-NAMES → nameOf (map slotName (slots ks (k .first) (k .count))) ≡ o → nameOf (kindMeans ks k .head .names) ≡ o
@@ -84,7 +89,7 @@ module _ (ks : List ℕ) (k : Kind) (j : ℕ) where
   module _ {d : ℕ} (e : d ≡ rowOf (k .code) .names) where
     pub own-later : d ≡ OWN-NAME → (j ≡ 0 → ⊥) → nameOf (kindMeans ks k .head .names) ≡ none
     own-later q z =
-        ap nameOf (names-own ks k (sym e ∙ q)) ∙ ap flat (element-none (nameIn (k .text) (k .start) (k .len) ∷ []) j (omega arith))
+        ap nameOf (names-own ks k (sym e ∙ q)) ∙ ap flat (element-none (nameOr (k .name) ∷ []) j (omega arith))
 
     pub parameter-none : d ≡ PARAMETER-NAMES → k .count ≤ 0 → nameOf (kindMeans ks k .head .names) ≡ none
     parameter-none q h =

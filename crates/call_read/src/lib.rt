@@ -21,12 +21,8 @@ use layout::TypeNode;
 use layout::TypeState;
 use names::Name;
 use promise::refusal_at;
-<<<<<<< HEAD
-use refusals::NO_REFUSAL;
-=======
 use refusals::NO_REFUSAL;
 use types::Inverted;
->>>>>>> calls9
 use types::Type;
 
 // A child, if there is one.
@@ -97,14 +93,14 @@ pub fn child_of_node(ks: &[u32], node: TypeNode, j: u32) -> Kid
     }
 }
 
-// A name's three numbers; no name is empty.
-fn name_in(text: u32, start: u32, len: u32) -> Named
-    ensures { λ r. ⌜ nameIn text start len ≡ namedMeans r ⌝ }
+// A name as it lies in a store; no name is empty.
+fn name_in(n: Name) -> Named
+    ensures { λ r. ⌜ nameIn (n .text) (n .start) (n .len) ≡ namedMeans r ⌝ }
 {
-    if len == 0 {
+    if n.len == 0 {
         return Named::Nothing;
     }
-    Named::Is(Name { text, start, len })
+    Named::Is(n)
 }
 
 // Child j's name, among the first n of a kind's children.
@@ -115,7 +111,7 @@ fn child_named(ks: &[u32], kind: Kind, n: u32, j: u32) -> Named
         return Named::Nothing;
     }
     let kid = layout::child_of(ks, kind, j);
-    name_in(kid.text, kid.start, kid.len)
+    name_in(kid.name)
 }
 
 // Name j of a kind: its own is name 0; a child's has the child's number, and a Closure's return has none.
@@ -125,7 +121,7 @@ fn name_of_kind(ks: &[u32], kind: Kind, j: u32) -> Named
     let names = kinds::row_of(kind.code).names;
     if names == OWN_NAME {
         if j == 0 {
-            return name_in(kind.text, kind.start, kind.len);
+            return name_in(kind.name);
         }
         return Named::Nothing;
     }

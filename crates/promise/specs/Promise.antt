@@ -1,7 +1,7 @@
 -- What every public call promises, and the tests that they share. A reply is a value or a refusal's number. "Each public call's outcome equals a
 -- definition of its arguments: answer, store, buffers, for refusals too."
 use mathlib.Core.Path.{_≡_}
-use mathlib.Core.List.{List, [], _∷_, _++_, map}
+use mathlib.Core.List.{List, [], _∷_, _++_}
 use mathlib.Core.Bool.{Bool, true, false}
 use Prim.Native.Nat.{ℕ}
 use Rattle.scope.specs.Chart.{Env}
@@ -10,9 +10,8 @@ use Rattle.scope.specs.Nodes.{Store}
 use Rattle.scope.specs.Sound.{Lent}
 use Rattle.scope.specs.Calls.{Outcome, refused, done, firstBroken, storeOf, lentTests, outside}
 use Rattle.chart.specs.declared.Beside.{Beside}
-use Rattle.layout.specs.Words.{storeIn, lentOf, slots}
+use Rattle.layout.specs.Words.{storeIn, lentOf}
 use Rattle.store.specs.Holds.{Became}
-use Rattle.store.specs.Entries.{entryCount}
 use Rattle.sound.specs.Tests.{envIn}
 use Rattle.refusals.specs.Codes.{codeOf}
 use Rattle.promise.specs.declared.TypeAnswer.{TypeAnswer}
@@ -68,11 +67,3 @@ typesTests e l ts = lentTests e l ++ (outside (storeOf l) ts ∷ [])
 -- n is the first of refusals 2, 8 and 3 that stands for a call on listed types, and 0 where none does
 pub record TypesTested (chart : List ℕ) (b : Beside) (rule text h ws ks : List ℕ) (ts : List Ty) (n : ℕ) : Type 0 where
   pub first : firstBroken (typesTests (envIn chart b rule text) (lentOf h ws ks) ts) ≡ codeOf n
-
--- lent types, a word each
-abbrev pub typesIn : List ℕ → List Ty
-typesIn ts = map tyOf ts
-
--- the types of lent children, each an entry as `new_kind` is given it
-abbrev pub entryTypes : List ℕ → List Ty
-entryTypes es = map (λ s. tyOf (s .type)) (slots es 0 (entryCount es))

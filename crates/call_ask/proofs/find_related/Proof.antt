@@ -35,7 +35,12 @@ same-length c = search needs
 returns-3 : tie.Need-returns-3
 returns-3 c =
     let a = c .before .before .before .before .before .before .before .before .before .before .before .before .before .before .before .before .args in
-    marks-done (a .t .0) (c .before .before .before .before .before .before .before .before .refusal-at .ensures) (c .before .before .before .before .before .before .before .if1 .left) (c .before .before .before .before .before .before .read-header .ensures) (c .before .before .before .before .if2 .left) (c .before .before .find-related .ensures)
+    let refusalAt = c .before .before .before .before .before .before .before .before .refusal-at in
+    let if1 = c .before .before .before .before .before .before .before .if1 in
+    let readHeader = c .before .before .before .before .before .before .read-header in
+    let if2 = c .before .before .before .before .if2 in
+    let findRelated = c .before .before .find-related in
+    marks-done (a .t .0) (refusalAt .ensures) (if1 .left) (readHeader .ensures) (if2 .left) (findRelated .ensures)
 
 pub find-related-spec : {M : Type 1} → statement M
 find-related-spec =

@@ -30,8 +30,10 @@ unfolding isNilCall
 returns-2 c =
     let a = c .before .before .before .before .before .before .before .before .before .before .args in
     let test = c .before .before .before .refusal-at .ensures in
-    read-nodes test (c .before .before .if1 .left) (c .before .read-header .ensures)
-    (λ (ns : List Node). isNil ns (tyOf (a .t .0))) (c .is-nil .ensures .nil (a .ks .now) (childrenMade (a .h .now)) (read-clean test (c .before .before .if1 .left) (c .before .read-header .ensures)))
+    let passed = c .before .before .if1 .left in
+    let head = c .before .read-header .ensures in
+    read-nodes test passed head (λ (ns : List Node). isNil ns (tyOf (a .t .0)))
+    (c .is-nil .ensures .nil (a .ks .now) (childrenMade (a .h .now)) (read-clean test passed head))
 
 pub is-nil-spec : {M : Type 1} → statement M
 is-nil-spec =

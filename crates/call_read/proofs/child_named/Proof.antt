@@ -17,7 +17,9 @@ name-in-requires c κs = search needs
 
 returns-2 : tie.Need-returns-2
 returns-2 c =
-    named-is (c .before .before .before .before .args .ks .now) (c .before .before .before .before .args .kind) (c .before .before .before .before .args .j) (c .before .before .before .before .args .n) (c .before .child-of .result) (c .before .before .if1 .left) (c .before .child-of .ensures) (c .name-in .ensures)
+    let a = c .before .before .before .before .args in
+    let if1 = c .before .before .if1 in
+    named-is (a .ks .now) (a .kind) (a .j) (a .n) (c .before .child-of .result) (if1 .left) (c .before .child-of .ensures) (c .name-in .ensures)
 
 pub child-named-spec : {M : Type 1} → statement M
 child-named-spec = tie.close (tie.spec returns child-of-requires name-in-requires returns-2)

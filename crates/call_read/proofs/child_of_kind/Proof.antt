@@ -10,7 +10,9 @@ child-of-requires c κs = search needs
 
 returns : tie.Need-returns
 returns c =
-    kid-is (c .before .before .before .before .before .args .ks .now) (c .before .before .before .before .before .args .kind) (c .before .before .before .before .before .args .j) (c .before .child-of .result) (c .before .before .if1 .taken) (c .before .child-of .ensures)
+    let a = c .before .before .before .before .before .args in
+    let if1 = c .before .before .if1 in
+    kid-is (a .ks .now) (a .kind) (a .j) (c .before .child-of .result) (if1 .taken) (c .before .child-of .ensures)
 
 returns-2 : tie.Need-returns-2
 returns-2 c =

@@ -5,10 +5,10 @@ use Rattle.call_read.proofs.name_in.Statement.{statement}
 use Rattle.call_read.proofs.name_in.Tie as tie
 
 returns : tie.Need-returns
-returns c = rw (eq-eqb (c .before .args .len) 0 (c .if1 .taken))
+returns c = rw (eq-eqb (c .before .before .args .n .len) 0 (c .if1 .taken))
 
 returns-2 : tie.Need-returns-2
-returns-2 c = rw (ne-eqb (c .before .args .len) 0 (c .if1 .left))
+returns-2 c = rw (ne-eqb (c .before .before .args .n .len) 0 (c .if1 .left))
 
 pub name-in-spec : {M : Type 1} → statement M
 name-in-spec = tie.close (tie.spec returns returns-2)
