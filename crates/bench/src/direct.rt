@@ -14,7 +14,7 @@ ghost use Rattle.store.specs.Holds.{Became, Openable, Ready};
 ghost use Rattle.make.specs.Made.{MadeIs, MadeAllIs};
 ghost use Rattle.make.specs.Given.{KindReady, kindGiven};
 ghost use Rattle.call_new.specs.Lent.{plainArgs, withFlag};
-ghost use Rattle.unify.specs.Asks.{Pair};
+ghost use Rattle.meeting.specs.Asks.{Pair};
 ghost use Rattle.unify.specs.Leaves.{Leaves};
 ghost use Rattle.bench.specs.Numbers.{typeWord, RESULTS, resultIn};
 use make::Head;
@@ -119,5 +119,5 @@ pub extern "C" fn faroalder_direct_unify<'a>(
     ensures { λ r. ⌜ r < RESULTS ⌝ }
     ensures { λ r. ⌜ Leaves (now (ws .entry)) (now (ks .entry)) (now (ws .exit)) n (unify (texts (now (rule .entry)) (now (text .entry))) (decode (now (ws .entry)) (now (ks .entry)) n) (tyOf a) (tyOf b)) (resultIn r) ⌝ }
 {
-    unify::lists::unify_all(ws, ks, n, rule, text, Type(a), Type(b)).number()
+    unify_lists::unify_all(ws, ks, n, rule, text, Type(a), Type(b)).number()
 }

@@ -5,22 +5,20 @@ ghost use Prim.Native.Nat.{ℕ};
 ghost use Rattle.scope.specs.Types.{tyOf};
 ghost use Rattle.scope.specs.Unify.{approxEq};
 ghost use Rattle.scope.specs.Calls.{unifyCall, unifyTypesCall, unifyObjectsCall, unifyImplTypeCall, unifyFnSigCall, approxEqCall};
+ghost use Rattle.types.specs.Impls.{implMeans};
 ghost use Rattle.layout.specs.Words.{lentOf};
 ghost use Rattle.sound.specs.Tests.{envIn};
-ghost use Rattle.promise.specs.Promise.{Promised, boolReply, typesIn};
-ghost use Rattle.unify.specs.Leaves.{implMeans};
-ghost use Rattle.call_unify.specs.Given.{entriesIn};
+ghost use Rattle.promise.specs.Promise.{Promised, boolReply};
+ghost use Rattle.store.specs.Entries.{typesIn};
+ghost use Rattle.lent_tests.specs.Given.{entriesIn};
 ghost use Rattle.call_unify.specs.Answers.{unifyReply};
-
-pub mod given; // what the calls test of their arguments
-
 use chart::Beside;
 use promise::BoolAnswer;
-use sound::NO_REFUSAL;
+use refusals::NO_REFUSAL;
+use types::Impl;
 use types::Inverted;
 use types::Type;
 use types::UnifyResult;
-use unify::Impl;
 
 // Unify's answer, or a refusal's number.
 pub enum UnifyAnswer {
@@ -50,11 +48,11 @@ pub fn unify<'a>(
         return UnifyAnswer::Refused(lent);
     }
     let x = layout::read_header(h);
-    let refused = given::pair(a, b, x.nodes);
+    let refused = lent_tests::pair(a, b, x.nodes);
     if refused != NO_REFUSAL {
         return UnifyAnswer::Refused(refused);
     }
-    UnifyAnswer::Is(unify::lists::unify_all(ws, ks, x.nodes, rule, text, a, b))
+    UnifyAnswer::Is(unify_lists::unify_all(ws, ks, x.nodes, rule, text, a, b))
 }
 
 // Two lists of types, a word a type, the second's inverted if inv says so.
@@ -80,11 +78,11 @@ pub fn unify_types<'a>(
         return UnifyAnswer::Refused(lent);
     }
     let x = layout::read_header(h);
-    let refused = given::lists(xs, ys, x.nodes);
+    let refused = lent_tests::lists(xs, ys, x.nodes);
     if refused != NO_REFUSAL {
         return UnifyAnswer::Refused(refused);
     }
-    UnifyAnswer::Is(unify::lists::unify_lists(ws, ks, x.nodes, rule, text, xs, ys, inv))
+    UnifyAnswer::Is(unify_lists::unify_lists(ws, ks, x.nodes, rule, text, xs, ys, inv))
 }
 
 // Two objects, four words an entry, as children lie in a store.
@@ -110,11 +108,11 @@ pub fn unify_objects<'a>(
         return UnifyAnswer::Refused(lent);
     }
     let x = layout::read_header(h);
-    let refused = given::objects(xs, ys, x.nodes, rule, text);
+    let refused = lent_tests::objects(xs, ys, x.nodes, rule, text);
     if refused != NO_REFUSAL {
         return UnifyAnswer::Refused(refused);
     }
-    UnifyAnswer::Is(unify::lists::unify_entries(ws, ks, x.nodes, rule, text, xs, ys, inv))
+    UnifyAnswer::Is(unify_lists::unify_entries(ws, ks, x.nodes, rule, text, xs, ys, inv))
 }
 
 // Two traits, each over a list of types, or errors.
@@ -141,11 +139,11 @@ pub fn unify_impl_type<'a>(
         return UnifyAnswer::Refused(lent);
     }
     let x = layout::read_header(h);
-    let refused = given::impls(a, xs, b, ys, x.nodes, chart);
+    let refused = lent_tests::impls(a, xs, b, ys, x.nodes, chart);
     if refused != NO_REFUSAL {
         return UnifyAnswer::Refused(refused);
     }
-    UnifyAnswer::Is(unify::lists::unify_impl_type(ws, ks, x.nodes, rule, text, a, xs, b, ys))
+    UnifyAnswer::Is(unify_lists::unify_impl_type(ws, ks, x.nodes, rule, text, a, xs, b, ys))
 }
 
 // Two signatures: a list of parameters, and a return.
@@ -172,11 +170,11 @@ pub fn unify_fn_sig<'a>(
         return UnifyAnswer::Refused(lent);
     }
     let x = layout::read_header(h);
-    let refused = given::signatures(xs, r, ys, q, x.nodes);
+    let refused = lent_tests::signatures(xs, r, ys, q, x.nodes);
     if refused != NO_REFUSAL {
         return UnifyAnswer::Refused(refused);
     }
-    UnifyAnswer::Is(unify::lists::unify_fn_sig(ws, ks, x.nodes, rule, text, xs, r, ys, q))
+    UnifyAnswer::Is(unify_lists::unify_fn_sig(ws, ks, x.nodes, rule, text, xs, r, ys, q))
 }
 
 // Are two impl types of one trait? An error is of none.
@@ -216,7 +214,7 @@ pub fn approx_eq<'a>(
         return BoolAnswer::Refused(lent);
     }
     let x = layout::read_header(h);
-    let refused = given::impls(a, xs, b, ys, x.nodes, chart);
+    let refused = lent_tests::impls(a, xs, b, ys, x.nodes, chart);
     if refused != NO_REFUSAL {
         return BoolAnswer::Refused(refused);
     }

@@ -13,7 +13,7 @@ use Rattle.scope.specs.Names.{Texts, name, bytes, bytesOr, eqBytes}
 use Rattle.scope.specs.Kinds.{KEY, OBJECT, CLOSURE, ERROR, DEFAULT, rowOf, rows, dualBy, selfDual}
 use Rattle.scope.specs.Unify.{firstName, sameHead, kidsPlan}
 use Rattle.scope.specs.Unify as scope
-use Rattle.scope.specs.Sound.{namesIn}
+use Rattle.scope.specs.Sound.{nameIn, namesIn}
 use Rattle.names.specs.Place.{nameOf}
 use Rattle.types.specs.declared.Inverted.{Inverted}
 use Rattle.types.specs.declared.UnifyResult.the-variants.{Failure, Indeterminate}
@@ -24,16 +24,19 @@ use Rattle.plan.specs.Meaning.{namesFrom, planMeans, SameKinds, crossesK
 use Rattle.plan.specs.declared.Runs.{Runs}
 use Rattle.plan.specs.declared.Plan.the-variants.{Answer, Run, Object, Signature}
 
--- names: a Key's own, which is none where its length is 0, and an Object's
+-- names: none where the length is 0, which has no bytes; a Key's own, and an Object's
 
-own-name-by : (b : Bool) (x : Texts) (t i n : ℕ) → eqb n 0 ≡ b → bytesOr x (pick b none (some (name t i n))) ≡ bytes x (name t i n)
+name-bytes-by : (b : Bool) (x : Texts) (t i n : ℕ) → eqb n 0 ≡ b → bytesOr x (pick b none (some (name t i n))) ≡ bytes x (name t i n)
 unfolding bytes
-own-name-by true x t i n e = rw (eqb-true n 0 e)
-own-name-by false x t i n e = refl
+name-bytes-by true x t i n e = rw (eqb-true n 0 e)
+name-bytes-by false x t i n e = refl
+
+pub name-bytes : (x : Texts) (t i n : ℕ) → bytesOr x (nameIn t i n) ≡ bytes x (name t i n)
+name-bytes x t i n = name-bytes-by (eqb n 0) x t i n refl
 
 key-name : (x : Texts) (ks : List ℕ) (k : Kind) → k .code ≡ KEY → firstName x (namesIn (kindCell ks k)) ≡ bytes x (nameOf (k .name))
 unfolding rowOf rows
-key-name x ks k e = rw e (own-name-by (eqb (k .name .len) 0) x (k .name .text) (k .name .start) (k .name .len) refl)
+key-name x ks k e = rw e (name-bytes x (k .name .text) (k .name .start) (k .name .len))
 
 object-names : (ks : List ℕ) (k : Kind) → k .code ≡ OBJECT → namesIn (kindCell ks k) ≡ namesFrom ks (k .first) (k .count)
 unfolding rowOf rows

@@ -4,9 +4,9 @@ use crate::first;
 use crate::word;
 use crate::writing;
 use chart::Beside;
+use types::Impl;
 use types::Inverted;
 use types::Type;
-use unify::Impl;
 
 const UNIFY: u32 = 50; // two types
 

@@ -16,6 +16,12 @@ pub struct Inverted(pub bool);
 
 pub const INV_BIT: u32 = 0x8000_0000;
 
+// An impl type whose types are lent beside it: a trait, by its number, or an error.
+pub enum Impl {
+    Trait(u32),
+    Error,
+}
+
 impl Inverted {
     pub fn xor(self, other: Inverted) -> Inverted
         ensures { λ r. ⌜ r .0 ≡ xor (self .0) (other .0) ⌝ }

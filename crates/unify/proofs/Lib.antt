@@ -2,6 +2,3 @@
 pub mod Kept
 pub mod Laws
 pub mod RunLaws
-pub mod MeetLaws
-pub mod ListLaws
-pub mod CallerLaws

@@ -1,3 +1,1 @@
-pub mod Asks
-pub mod Entries
 pub mod Leaves

@@ -1,202 +1,21 @@
 // "The functions that unify a pair, a run and an object call each other in turn", depth falling from the node count. What is to be done with two roots is
 // read first, then their children are unified, then the answer is settled. The words of the nodes change as scope's `unify` says of the nodes.
-ghost use mathlib.Core.Path.{_≡_};
-ghost use Prim.Native.Nat.{_+_, _-_, _≤_};
-ghost use lib.ListN.{length};
 ghost use Rattle.scope.specs.Types.{tyOf};
 ghost use Rattle.scope.specs.Unify.{unifyF};
-ghost use Rattle.names.specs.Place.{texts, nameIn};
-ghost use Rattle.layout.specs.Words.{nodeWords, slotAt, decode};
-ghost use Rattle.layout.specs.Meaning.{readAt};
+ghost use Rattle.names.specs.Place.{texts};
+ghost use Rattle.layout.specs.Words.{decode};
 ghost use Rattle.plan.specs.Meaning.{planMeans};
 ghost use Rattle.plan.specs.declared.Plan.the-variants as plans;
-ghost use Rattle.unify.specs.Asks.{Pair, Tops, Roots, Pairs};
-ghost use Rattle.unify.specs.Leaves.{does, Leaves, heldIn, slotPlace, Same, Bare, Met, soughtMeans, soughtIn, Parameters, returnsMean, returnsPlan};
-
-pub mod lists; // whole pairs, and lent lists of types
-
-use layout::Kind;
-use layout::TypeNode;
-use layout::TypeState;
-use names::Name;
+ghost use Rattle.meeting.specs.Asks.{Pair, Pairs};
+ghost use Rattle.meeting.specs.Meets.{does};
+ghost use Rattle.unify.specs.Leaves.{Leaves};
+use meeting::Meeting;
+use meeting::Returned;
+use meeting::Sought;
 use plan::Plan;
 use plan::Runs;
-use types::Inverted;
 use types::Type;
 use types::UnifyResult;
-
-// What two roots ask for: nothing more, a merge, or their children first.
-pub enum Meeting {
-    Done(UnifyResult),
-    Bind,
-    Kids(Plan),
-}
-
-// A root's inversion, as a type sees it, and its kind.
-pub enum Held {
-    Is(Inverted, Kind),
-    Nothing,
-}
-
-// A signature's returns: a pair, or what their number answers.
-pub enum Returned {
-    Lacking(UnifyResult),
-    Pair(Type, Type),
-}
-
-// A trait, by its number, or an error.
-pub enum Impl {
-    Trait(u32),
-    Error,
-}
-
-// The type beside a name.
-pub enum Sought {
-    Is(Type),
-    Nothing,
-}
-
-fn kind_at(ws: &[u32], n: u32, t: Type) -> Held
-    requires { ⌜ nodeWords n ≤ length (now ws) ⌝ }
-    ensures { λ r. ⌜ r ≡ heldIn (tyOf (t .0) .inv) (readAt (now (ws .entry)) n (tyOf (t .0) .idx)) ⌝ }
-{
-    match layout::node_at(ws, n, t.idx()) {
-        TypeNode::Root { state, size: _ } => match state {
-            TypeState::Known(i, kind) => Held::Is(i.xor(t.inv()), kind),
-            TypeState::Unknown(_) => Held::Nothing,
-            TypeState::InferenceFailed => Held::Nothing,
-        },
-        TypeNode::Child(_) => Held::Nothing,
-    }
-}
-
-// "Same node: Success if the inversions agree or `self_inverse` holds, else Failure."
-fn same_node(ws: &[u32], ks: &[u32], n: u32, a: Type, b: Type) -> UnifyResult
-    requires { ⌜ Roots (now ws) (now ks) n (tyOf (a .0)) (tyOf (b .0)) ⌝ }
-    ensures { λ r. ⌜ Same (now (ws .entry)) (now (ks .entry)) n (tyOf (a .0)) (tyOf (b .0)) r ⌝ }
-{
-    let inv = a.inv().xor(b.inv());
-    if inv.0 {
-        return UnifyResult::from_bool(walk::self_inverse(ws, ks, n, a, false));
-    }
-    UnifyResult::Success
-}
-
-// "If either has no kind: Failure if one occurs in the other, else they merge."
-fn without_kind(ws: &[u32], ks: &[u32], n: u32, a: Type, b: Type) -> Meeting
-    requires { ⌜ Roots (now ws) (now ks) n (tyOf (a .0)) (tyOf (b .0)) ⌝ }
-    ensures { λ r. ⌜ Bare (now (ws .entry)) (now (ks .entry)) n (tyOf (a .0)) (tyOf (b .0)) r ⌝ }
-{
-    if walk::occurs(ws, ks, n, a.idx(), b) {
-        return Meeting::Done(UnifyResult::Failure);
-    }
-    if walk::occurs(ws, ks, n, b.idx(), a) {
-        return Meeting::Done(UnifyResult::Failure);
-    }
-    Meeting::Bind
-}
-
-// Two roots, and nothing is changed.
-fn meet<'a>(
-    ws: &[u32],
-    ks: &[u32],
-    n: u32,
-    rule: &'a [u8],
-    text: &'a [u8],
-    a: Type,
-    b: Type,
-) -> Meeting
-    requires { ⌜ Tops (texts (now rule) (now text)) (now ws) (now ks) n (tyOf (a .0)) (tyOf (b .0)) ⌝ }
-    ensures { λ r. ⌜ Met (texts (now (rule .entry)) (now (text .entry))) (now (ws .entry)) (now (ks .entry)) n (tyOf (a .0)) (tyOf (b .0)) r ⌝ }
-{
-    let ia = a.idx();
-    let ib = b.idx();
-    if ia.0 == ib.0 {
-        return Meeting::Done(same_node(ws, ks, n, a, b));
-    }
-    let Held::Is(i, k) = kind_at(ws, n, a) else {
-        return without_kind(ws, ks, n, a, b);
-    };
-    let Held::Is(j, m) = kind_at(ws, n, b) else {
-        return without_kind(ws, ks, n, a, b);
-    };
-    Meeting::Kids(plan::plan_of(k, m, i.xor(j), rule, text))
-}
-
-// A child of a run.
-fn place(a: u32, i: u32) -> usize
-    ensures { λ r. ⌜ r ≡ a + i ⌝ }
-{
-    a as usize + i as usize
-}
-
-fn kid(ks: &[u32], a: u32, i: u32) -> Type
-    ensures { λ r. ⌜ r .0 ≡ slotAt (now (ks .entry)) (a + i) .type ⌝ }
-{
-    layout::child_at(ks, place(a, i)).ty
-}
-
-fn kid_name(ks: &[u32], a: u32, i: u32) -> Name
-    ensures { λ r. ⌜ nameIn r ≡ slotPlace (slotAt (now (ks .entry)) (a + i)) ⌝ }
-{
-    let s = layout::child_at(ks, place(a, i));
-    Name {
-        text: s.text,
-        start: s.start,
-        len: s.len,
-    }
-}
-
-// The type beside a name among count children from b on.
-fn seek<'a>(ks: &[u32], name: Name, b: u32, count: u32, rule: &'a [u8], text: &'a [u8]) -> Sought
-    ensures { λ r. ⌜ soughtMeans r ≡ soughtIn (texts (now (rule .entry)) (now (text .entry))) (now (ks .entry)) (nameIn name) b count ⌝ }
-{
-    let mut j: u32 = 0;
-    while j < count {
-        if names::same_name(name, kid_name(ks, b, j), rule, text) {
-            return Sought::Is(kid(ks, b, j));
-        }
-        j += 1;
-    }
-    Sought::Nothing
-}
-
-// All but one.
-fn less(n: u32) -> u32
-    ensures { λ r. ⌜ r ≡ n - 1 ⌝ }
-{
-    if n == 0 { 0 } else { n - 1 }
-}
-
-// A signature's parameters: all children but the last.
-fn parameters(s: Runs) -> Runs
-    ensures { λ r. ⌜ Parameters s r ⌝ }
-{
-    let inv = s.inv;
-    Runs {
-        a: s.a,
-        na: less(s.na),
-        b: s.b,
-        nb: less(s.nb),
-        inv,
-    }
-}
-
-// Its returns: the last children.
-fn returns(ks: &[u32], s: Runs) -> Returned
-    ensures { λ r. ⌜ returnsMean r ≡ returnsPlan (now (ks .entry)) s ⌝ }
-{
-    if s.na == 0 {
-        return Returned::Lacking(UnifyResult::from_bool(s.nb == 0));
-    }
-    if s.nb == 0 {
-        return Returned::Lacking(UnifyResult::Failure);
-    }
-    let inv = s.inv;
-    let x = kid(ks, s.a, s.na - 1);
-    let y = kid(ks, s.b, s.nb - 1);
-    Returned::Pair(x, y.invert_if(inv))
-}
 
 // A pair of types, at a depth.
 pub fn unify<'a>(
@@ -218,7 +37,7 @@ pub fn unify<'a>(
     }
     let ra = roots::find_mut(ws, n, a);
     let rb = roots::find_mut(ws, n, b);
-    let m = meet(ws, ks, n, rule, text, ra, rb);
+    let m = meeting::meet(ws, ks, n, rule, text, ra, rb);
     match m {
         Meeting::Done(r) => r,
         Meeting::Bind => {
@@ -236,8 +55,8 @@ pub fn unify<'a>(
                 merge::settle(ws, n, ra, rb, r)
             }
             Plan::Signature(s) => {
-                let q = unify_types(ws, ks, n, rule, text, parameters(s), depth - 1);
-                let t = returns(ks, s);
+                let q = unify_types(ws, ks, n, rule, text, meeting::parameters(s), depth - 1);
+                let t = meeting::returns(ks, s);
                 match t {
                     Returned::Lacking(r) => merge::settle(ws, n, ra, rb, q.and(r)),
                     Returned::Pair(x, y) => {
@@ -272,8 +91,8 @@ pub fn unify_types<'a>(
     let mut r = UnifyResult::Success;
     let mut i: u32 = 0;
     while i < s.na {
-        let x = kid(ks, s.a, i);
-        let y = kid(ks, s.b, i).invert_if(inv);
+        let x = meeting::kid(ks, s.a, i);
+        let y = meeting::kid(ks, s.b, i).invert_if(inv);
         i += 1;
         r = r.and(unify(ws, ks, n, rule, text, x, y, depth));
     }
@@ -299,8 +118,8 @@ pub fn unify_objects<'a>(
     let mut r = UnifyResult::from_bool(s.na == s.nb);
     let mut j: u32 = 0;
     while j < s.na {
-        let x = kid(ks, s.a, j);
-        let f = seek(ks, kid_name(ks, s.a, j), s.b, s.nb, rule, text);
+        let x = meeting::kid(ks, s.a, j);
+        let f = meeting::seek(ks, meeting::kid_name(ks, s.a, j), s.b, s.nb, rule, text);
         j += 1;
         match f {
             Sought::Is(t) => {

@@ -1,9 +1,9 @@
--- `unifies::same_trait` meets its contract: an error is of no trait, and two traits are compared by their numbers.
+-- `call_unify::same_trait` meets its contract: an error is of no trait, and two traits are compared by their numbers.
 -- Assumes nothing.
 use mathlib.Core.Path.{refl, ap, sym}
 use Rattle.scope.specs.Unify.{approxEq}
-use Rattle.unify.specs.Leaves.{implMeans}
-use Rattle.unify.specs.declared.Impl.{Impl}
+use Rattle.types.specs.Impls.{implMeans}
+use Rattle.types.specs.declared.Impl.{Impl}
 use borrow.Author.Needs.{needs}
 use Rattle.call_unify.proofs.same_trait.Statement.{statement}
 use Rattle.call_unify.proofs.same_trait.Tie as tie

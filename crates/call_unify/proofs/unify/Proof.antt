@@ -1,11 +1,15 @@
--- `unifies::unify` meets its contract: 2 and 8 turn the call back, or 3 does, or the store is sound and both types are inside it, which is all that unifying asks.
+-- `call_unify::unify` meets its contract: 2 and 8 turn the call back, or 3 does, or the store is sound and both types are inside it, which is all that unifying asks.
 -- Assumes nothing.
-use Rattle.scope.specs.Types.{tyOf}
-use Rattle.scope.specs.Unify.{unify}
-use Rattle.call_unify.proofs.Laws.{pair-asks, back-lent, lent-ready, back-own, unify-done, unify-form}
+use Rattle.call_unify.proofs.Laws.{Passed, pair-asks, back-lent, lent-words, back-own, unify-done, unify-form}
 use borrow.Author.Needs.{needs}
 use Rattle.call_unify.proofs.unify.Statement.{statement}
 use Rattle.call_unify.proofs.unify.Tie as tie
+
+-- what is known where 2 and 8 do not turn the call back
+passed-there : (c : tie.After-read-header)
+    → let a = c .before .before .before .before .before .before .before .before .before .before .args in
+    Passed (a .chart .now) (a .beside) (a .rule .now) (a .text .now) (a .h .now) (a .ws .now) (a .ks .now) (c .read-header .result)
+passed-there c = record { code = c .before .before .refusal .result; lent = c .before .before .refusal .ensures; none = c .before .if1 .left; header = c .read-header .ensures }
 
 refusal-requires : tie.Need-refusal-requires
 refusal-requires c κs = search needs
@@ -14,11 +18,7 @@ same-length : tie.Need-same-length
 same-length c = search needs
 
 returns : tie.Need-returns
-returns c =
-    let a = c .before .before .before .before .before .before .before .before .before .args in
-    let lent = c .before .refusal in
-    back-lent (a .chart .now) (a .beside) (a .rule .now) (a .text .now) (a .h .now) (a .ws .now) (a .ks .now) (lent .result) (lent .ensures)
-    (unify-form (tyOf (a .a .0)) (tyOf (a .b .0))) (c .if1 .taken)
+returns c = back-lent _ ((unify-form _ _) .form) (c .before .refusal .ensures) (c .if1 .taken)
 
 read-header-requires : tie.Need-read-header-requires
 read-header-requires c κs = search needs
@@ -30,37 +30,20 @@ same-length-2 : tie.Need-same-length-2
 same-length-2 c = search needs
 
 returns-2 : tie.Need-returns-2
-returns-2 c =
-    let a = c .before .before .before .before .before .before .before .before .before .before .before .before .args in
-    let lent = c .before .before .before .before .refusal in
-    let x = c .before .before .read-header in
-    let own = c .before .pair in
-    back-own (a .chart .now) (a .beside) (a .rule .now) (a .text .now) (a .h .now) (a .ws .now) (a .ks .now) (lent .result) (lent .ensures) (c .before .before .before .if1 .left) (x .result) (x .ensures)
-    (unify-form (tyOf (a .a .0)) (tyOf (a .b .0))) (own .result) (own .ensures) (c .if2 .taken)
+returns-2 c = back-own (passed-there (c .before .before)) ((unify-form _ _) .form) (c .before .pair .ensures) (c .if2 .taken)
 
 unify-all-requires : tie.Need-unify-all-requires
-unify-all-requires c κs =
-    let a = c .before .before .before .before .before .before .before .before .before .before .before .before .before .args in
-    let lent = c .before .before .before .before .before .refusal in
-    let x = c .before .before .before .read-header in
-    let own = c .before .before .pair in
-    pair-asks
-    (lent-ready (a .chart .now) (a .beside) (a .rule .now) (a .text .now) (a .h .now) (a .ws .now) (a .ks .now) (lent .result) (lent .ensures) (c .before .before .before .before .if1 .left) (x .result) (x .ensures))
-    (c .before .if2 .left) (own .ensures)
+unify-all-requires c κs = pair-asks (lent-words (passed-there (c .before .before .before))) _ _ (c .before .before .pair .ensures) (c .before .if2 .left)
 
 same-length-3 : tie.Need-same-length-3
 same-length-3 c = search needs
 
 returns-3 : tie.Need-returns-3
 returns-3 c =
-    let a = c .before .before .before .before .before .before .before .before .before .before .before .before .before .before .before .before .args in
-    let lent = c .before .before .before .before .before .before .before .before .refusal in
-    let x = c .before .before .before .before .before .before .read-header in
-    let own = c .before .before .before .before .before .pair in
-    unify-done (a .chart .now) (a .beside) (a .rule .now) (a .text .now) (a .h .now) (a .ws .now) (a .ks .now) (lent .result) (lent .ensures) (c .before .before .before .before .before .before .before .if1 .left) (x .result) (x .ensures)
-    (λ y ns. unify y ns (tyOf (a .a .0)) (tyOf (a .b .0)))
-    (unify-form (tyOf (a .a .0)) (tyOf (a .b .0))) (own .result) (own .ensures) (c .before .before .before .before .if2 .left)
-    (c .before .before .unify-all .kept .0) (c .before .before .unify-all .ensures)
+    let v = c .before .before .unify-all in
+    let e = c .before .before .before .before in
+    let p = passed-there (e .before .before) in
+    unify-done p (unify-form _ _) (e .before .pair .ensures) (e .if2 .left) (v .kept .0) (v .ensures)
 
 pub unify-spec : {M : Type 1} → statement M
 unify-spec =

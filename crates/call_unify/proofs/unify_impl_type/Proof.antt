@@ -1,12 +1,15 @@
--- `unifies::unify_impl_type` meets its contract: as `unify_types`, with 5 for a number that is no trait's.
+-- `call_unify::unify_impl_type` meets its contract: as `unify_types`, with 5 for a number that is no trait's.
 -- Assumes nothing.
-use Rattle.scope.specs.Unify.{unifyImplType}
-use Rattle.chart.specs.Env.{chartAlone}
-use Rattle.unify.specs.Leaves.{implMeans}
-use Rattle.call_unify.proofs.Laws.{impls-ask, impls-beside, back-lent, lent-ready, back-own, unify-done, impls-form}
+use Rattle.call_unify.proofs.Laws.{Passed, impls-ask, impls-beside, back-lent, lent-words, back-own, unify-done, impls-form}
 use borrow.Author.Needs.{needs}
 use Rattle.call_unify.proofs.unify_impl_type.Statement.{statement}
 use Rattle.call_unify.proofs.unify_impl_type.Tie as tie
+
+-- what is known where 2 and 8 do not turn the call back
+passed-there : (c : tie.After-read-header)
+    → let a = c .before .before .before .before .before .before .before .before .before .before .before .before .args in
+    Passed (a .chart .now) (a .beside) (a .rule .now) (a .text .now) (a .h .now) (a .ws .now) (a .ks .now) (c .read-header .result)
+passed-there c = record { code = c .before .before .refusal .result; lent = c .before .before .refusal .ensures; none = c .before .if1 .left; header = c .read-header .ensures }
 
 refusal-requires : tie.Need-refusal-requires
 refusal-requires c κs = search needs
@@ -15,11 +18,7 @@ same-length : tie.Need-same-length
 same-length c = search needs
 
 returns : tie.Need-returns
-returns c =
-    let a = c .before .before .before .before .before .before .before .before .before .before .before .args in
-    let lent = c .before .refusal in
-    back-lent (a .chart .now) (a .beside) (a .rule .now) (a .text .now) (a .h .now) (a .ws .now) (a .ks .now) (lent .result) (lent .ensures)
-    (impls-form (implMeans (a .a) (a .xs .now)) (implMeans (a .b) (a .ys .now))) (c .if1 .taken)
+returns c = back-lent _ ((impls-form _ _) .form) (c .before .refusal .ensures) (c .if1 .taken)
 
 read-header-requires : tie.Need-read-header-requires
 read-header-requires c κs = search needs
@@ -32,38 +31,21 @@ same-length-2 c = search needs
 
 returns-2 : tie.Need-returns-2
 returns-2 c =
-    let a = c .before .before .before .before .before .before .before .before .before .before .before .before .before .before .args in
-    let lent = c .before .before .before .before .refusal in
-    let x = c .before .before .read-header in
-    let own = c .before .impls in
-    back-own (a .chart .now) (a .beside) (a .rule .now) (a .text .now) (a .h .now) (a .ws .now) (a .ks .now) (lent .result) (lent .ensures) (c .before .before .before .if1 .left) (x .result) (x .ensures)
-    (impls-form (implMeans (a .a) (a .xs .now)) (implMeans (a .b) (a .ys .now)))
-    (own .result) (impls-beside (a .chart .now) (a .beside) (a .rule .now) (a .text .now) (implMeans (a .a) (a .xs .now)) (implMeans (a .b) (a .ys .now)) (own .ensures)) (c .if2 .taken)
+    let p = passed-there (c .before .before) in
+    back-own p ((impls-form _ _) .form) (impls-beside p _ _ (c .before .impls .ensures)) (c .if2 .taken)
 
 unify-impl-type-requires : tie.Need-unify-impl-type-requires
-unify-impl-type-requires c κs =
-    let a = c .before .before .before .before .before .before .before .before .before .before .before .before .before .before .before .args in
-    let lent = c .before .before .before .before .before .refusal in
-    let x = c .before .before .before .read-header in
-    let own = c .before .before .impls in
-    impls-ask
-    (lent-ready (a .chart .now) (a .beside) (a .rule .now) (a .text .now) (a .h .now) (a .ws .now) (a .ks .now) (lent .result) (lent .ensures) (c .before .before .before .before .if1 .left) (x .result) (x .ensures))
-    (c .before .if2 .left) (chartAlone (a .chart .now)) (implMeans (a .a) (a .xs .now)) (implMeans (a .b) (a .ys .now)) (own .ensures)
+unify-impl-type-requires c κs = impls-ask (lent-words (passed-there (c .before .before .before))) _ _ _ _ _ (c .before .before .impls .ensures) (c .before .if2 .left)
 
 same-length-3 : tie.Need-same-length-3
 same-length-3 c = search needs
 
 returns-3 : tie.Need-returns-3
 returns-3 c =
-    let a = c .before .before .before .before .before .before .before .before .before .before .before .before .before .before .before .before .before .before .args in
-    let lent = c .before .before .before .before .before .before .before .before .refusal in
-    let x = c .before .before .before .before .before .before .read-header in
-    let own = c .before .before .before .before .before .impls in
-    unify-done (a .chart .now) (a .beside) (a .rule .now) (a .text .now) (a .h .now) (a .ws .now) (a .ks .now) (lent .result) (lent .ensures) (c .before .before .before .before .before .before .before .if1 .left) (x .result) (x .ensures)
-    (λ y ns. unifyImplType y ns (implMeans (a .a) (a .xs .now)) (implMeans (a .b) (a .ys .now)))
-    (impls-form (implMeans (a .a) (a .xs .now)) (implMeans (a .b) (a .ys .now)))
-    (own .result) (impls-beside (a .chart .now) (a .beside) (a .rule .now) (a .text .now) (implMeans (a .a) (a .xs .now)) (implMeans (a .b) (a .ys .now)) (own .ensures)) (c .before .before .before .before .if2 .left)
-    (c .before .before .unify-impl-type .kept .0) (c .before .before .unify-impl-type .ensures)
+    let v = c .before .before .unify-impl-type in
+    let e = c .before .before .before .before in
+    let p = passed-there (e .before .before) in
+    unify-done p (impls-form _ _) (impls-beside p _ _ (e .before .impls .ensures)) (e .if2 .left) (v .kept .0) (v .ensures)
 
 pub unify-impl-type-spec : {M : Type 1} → statement M
 unify-impl-type-spec =

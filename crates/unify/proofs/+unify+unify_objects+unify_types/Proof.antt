@@ -1,24 +1,19 @@
 -- The cycle `unify`, `unify_objects`, `unify_types` meets its contracts. The measure is twice the depth, and one more for a run and an object. A loop's
 -- invariant: the pairs that are left give what the whole gives, from words that still meet what is asked.
 -- Assumes nothing.
-use mathlib.Core.Path.{_≡_, refl, ap, _∙_}
+use mathlib.Core.Path.{_≡_, refl, _∙_}
 use native.Mathlib.Omega.{arith}
 use native.Mathlib.Nat.{pos-of-ne-zero}
 use borrow.Author.Needs.{needs}
 use lib.ListN.{length}
 use Rattle.scope.specs.Types.{tyOf}
-use Rattle.scope.specs.Answers.{Success, both}
-use Rattle.scope.specs.Unify.{unifyF}
 use Rattle.names.specs.Place.{texts}
-use Rattle.types.specs.Answers.{answerOf}
-use Rattle.layout.specs.Words.{decode}
-use Rattle.plan.specs.Meaning.{planMeans}
-use Rattle.plan.specs.declared.Plan.the-variants as plans
-use Rattle.unify.specs.Leaves.{does}
-use Rattle.unify.specs.declared.Meeting.the-variants.{Kids}
-use Rattle.unify.proofs.Laws.{ready-linked, climbed, no-depth, way-done, way-bind, way-kids, kids-pairs, kids-adds, tops-adds}
-use Rattle.unify.proofs.RunLaws.{Going, going-start, runRest, run-whole, run-fails, run-pair, run-next, run-ends, objectRest, stored-whole, object-none, object-ends, name-pair, name-next, parameters-pairs, returns-in, signature-lacking, signature-pair, answer-leaves}
-use Prim.Native.Nat.{ℕ, _+_, _-_, _*_, _<_}
+use Rattle.unify.proofs.Laws.{words-linked, Climbed, climbed, no-depth, tops-add}
+use Rattle.unify.proofs.Laws.{AtRoots, way-done, way-bind, way-answer, kids-pairs, kids-add, way-kids}
+use Rattle.unify.proofs.RunLaws.{RunLeft, RunNext, run-fails, run-start, run-pair, run-asks, run-next, run-ends}
+use Rattle.unify.proofs.RunLaws.{ObjectLeft, ObjectNext, stored-start, object-none, object-pair, object-asks, object-next, stored-ends}
+use Rattle.unify.proofs.RunLaws.{parameters-pairs, Halfway, returns-in, signature-lacking, signature-pair}
+use Prim.Native.Nat.{ℕ, _+_, _-_, _*_, _<_, _≤_}
 use borrow.Fn.Kinds.{In}
 use borrow.Fn.PlainCycle.{Measures, is, falls, and}
 use Rattle.unify.proofs.unify.Reads as unify
@@ -36,12 +31,12 @@ use Rattle.roots.proofs.find_mut.Reads as find-mut-reads
 use Rattle.types.proofs.Type.invert_if.Reads as invert-if-reads
 use Rattle.types.proofs.UnifyResult.and.Reads as and-reads
 use Rattle.types.proofs.UnifyResult.from_bool.Reads as from-bool-reads
-use Rattle.unify.proofs.kid.Reads as kid-reads
-use Rattle.unify.proofs.kid_name.Reads as kid-name-reads
-use Rattle.unify.proofs.meet.Reads as meet-reads
-use Rattle.unify.proofs.parameters.Reads as parameters-reads
-use Rattle.unify.proofs.returns.Reads as returns-reads
-use Rattle.unify.proofs.seek.Reads as seek-reads
+use Rattle.meeting.proofs.kid.Reads as kid-reads
+use Rattle.meeting.proofs.kid_name.Reads as kid-name-reads
+use Rattle.meeting.proofs.meet.Reads as meet-reads
+use Rattle.meeting.proofs.parameters.Reads as parameters-reads
+use Rattle.meeting.proofs.returns.Reads as returns-reads
+use Rattle.meeting.proofs.seek.Reads as seek-reads
 use Rattle.unify.proofs.+unify+unify_objects+unify_types.{statement}
 use Rattle.unify.proofs.+unify+unify_objects+unify_types.Tie.{close}
 
@@ -81,25 +76,116 @@ unify-types-below t =
     and 3 unify-types-kinds.ps (falls 3 unify-types-kinds.ps _<_ μ-unify-types t) unify-types.Pre
 
 abbrev unify-claims : ℕ → unify-lts.Claims
-unify-claims t = (find-mut-reads.Asked, find-mut-reads.Learnt, meet-reads.Asked, meet-reads.Learnt, bind-reads.Asked, bind-reads.Learnt, settle-reads.Asked, settle-reads.Learnt, unify-types-below t, unify-types.Post, unify-objects-below t, unify-objects.Post, parameters-reads.Asked, parameters-reads.Learnt, returns-reads.Asked, returns-reads.Learnt, and-reads.Asked, and-reads.Learnt, unify-below t, unify.Post)
+unify-claims t = (
+  find-mut-reads.Asked,
+  find-mut-reads.Learnt,
+  meet-reads.Asked,
+  meet-reads.Learnt,
+  bind-reads.Asked,
+  bind-reads.Learnt,
+  settle-reads.Asked,
+  settle-reads.Learnt,
+  unify-types-below t,
+  unify-types.Post,
+  unify-objects-below t,
+  unify-objects.Post,
+  parameters-reads.Asked,
+  parameters-reads.Learnt,
+  returns-reads.Asked,
+  returns-reads.Learnt,
+  and-reads.Asked,
+  and-reads.Learnt,
+  unify-below t,
+  unify.Post,
+)
 
 abbrev unify-objects-claims : ℕ → unify-objects-lts.Claims
-unify-objects-claims t = (from-bool-reads.Asked, from-bool-reads.Learnt, kid-reads.Asked, kid-reads.Learnt, kid-name-reads.Asked, kid-name-reads.Learnt, seek-reads.Asked, seek-reads.Learnt, invert-if-reads.Asked, invert-if-reads.Learnt, unify-below t, unify.Post, and-reads.Asked, and-reads.Learnt)
+unify-objects-claims t = (
+  from-bool-reads.Asked,
+  from-bool-reads.Learnt,
+  kid-reads.Asked,
+  kid-reads.Learnt,
+  kid-name-reads.Asked,
+  kid-name-reads.Learnt,
+  seek-reads.Asked,
+  seek-reads.Learnt,
+  invert-if-reads.Asked,
+  invert-if-reads.Learnt,
+  unify-below t,
+  unify.Post,
+  and-reads.Asked,
+  and-reads.Learnt,
+)
 
 abbrev unify-types-claims : ℕ → unify-types-lts.Claims
-unify-types-claims t = (kid-reads.Asked, kid-reads.Learnt, invert-if-reads.Asked, invert-if-reads.Learnt, unify-below t, unify.Post, and-reads.Asked, and-reads.Learnt)
+unify-types-claims t = (
+  kid-reads.Asked,
+  kid-reads.Learnt,
+  invert-if-reads.Asked,
+  invert-if-reads.Learnt,
+  unify-below t,
+  unify.Post,
+  and-reads.Asked,
+  and-reads.Learnt,
+)
+
+-- What is known at a place of `unify`.
+
+-- both roots are found
+module _ (t : ℕ) (c : unify-lts.After-find-mut2 (unify-claims t) (unify-at t) unify.Post) where
+  abbrev start : unify-lts.Start (unify-claims t) (unify-at t) unify.Post
+  start = c .before .before .before .before .before .before .before .before .before .before .before
+
+  deep-there : 1 ≤ start .args .depth
+  deep-there = pos-of-ne-zero (c .before .before .before .before .before .before .if1 .left)
+
+  falls-there : 2 * (start .args .depth - 1) + 1 < t
+  falls-there = omega (arith, deep-there, start .pre .0)
+
+  long-there : length (c .find-mut2 .last .0) ≡ length (start .args .ws .now)
+  long-there = c .find-mut2 .kept .0 ∙ c .before .before .before .before .find-mut .kept .0
+
+  climbed-there :
+      let a = start .args in
+      Climbed (texts (a .rule .now) (a .text .now)) (a .ws .now) (a .ks .now) (c .find-mut2 .last .0) (a .n) (a .depth)
+      (tyOf (a .a .0)) (tyOf (a .b .0)) (tyOf (c .before .before .before .before .find-mut .result .0)) (tyOf (c .find-mut2 .result .0))
+  climbed-there = climbed (start .pre .1) (c .before .before .before .before .before .before .if1 .left) (c .before .before .before .before .find-mut .ensures) (c .find-mut2 .ensures)
+
+-- the roots have met
+met-there : (t : ℕ) (c : unify-lts.After-meet (unify-claims t) (unify-at t) unify.Post)
+    → let g = c .before .before .before .before in
+    let a = start t g .args in
+    AtRoots (texts (a .rule .now) (a .text .now)) (a .ws .now) (a .ks .now) (g .find-mut2 .last .0) (a .n) (a .depth)
+    (tyOf (a .a .0)) (tyOf (a .b .0)) (tyOf (g .before .before .before .before .find-mut .result .0)) (tyOf (g .find-mut2 .result .0)) (c .meet .result)
+met-there t c = record { up = climbed-there t (c .before .before .before .before); met = c .meet .ensures }
+
+-- a signature's parameters are unified, and its returns are read
+halfway-there : (t : ℕ) (c : unify-lts.After-returns (unify-claims t) (unify-at t) unify.Post)
+    → let g = c .before .before .before .before .before .before .before .before .before .before .before .before .before .before .before .before in
+    let a = start t g .args in
+    Halfway (texts (a .rule .now) (a .text .now)) (g .find-mut2 .last .0) (a .ks .now) (c .before .before .before .unify-types2 .last .0) (a .n) (a .depth - 1)
+    (c .before .before .before .before .before .before .before .p4 .given .0 .0) (c .before .before .before .unify-types2 .result) (c .returns .result)
+halfway-there t c =
+    let k = c .before .before .before .before .before .before .before in
+    record {
+      pairs = kids-pairs (met-there t (k .before .before .before .before .before)) (k .before .before .before .m2 .given .1) (k .p4 .given .1);
+      front = c .before .before .before .before .parameters .result;
+      parameters = c .before .before .before .before .parameters .ensures;
+      left = c .before .before .before .unify-types2 .ensures;
+      returns = c .returns .ensures;
+    }
 
 unify-returns : (t : ℕ) → unify-lts.Need-returns (unify-claims t) (unify-at t) unify.Post
-unify-returns t c = no-depth (texts (c .before .before .before .before .before .args .rule .now) (c .before .before .before .before .before .args .text .now)) (c .before .before .before .before .before .args .ws .now) (c .before .before .before .before .before .args .ks .now) (c .before .before .before .before .before .args .n) (c .before .before .before .before .before .args .depth) (tyOf (c .before .before .before .before .before .args .a .0)) (tyOf (c .before .before .before .before .before .args .b .0)) (c .if1 .taken)
+unify-returns t c = no-depth (c .before .before .before .before .before .pre .1) (c .if1 .taken)
 
 unify-find-mut-requires : (t : ℕ) → unify-lts.Need-find-mut-requires (unify-claims t) (unify-at t) unify.Post
-unify-find-mut-requires t c κs = ready-linked (c .before .before .before .before .before .before .pre .1 .ready)
+unify-find-mut-requires t c κs = words-linked (c .before .before .before .before .before .before .pre .1 .words)
 
 unify-find-mut-requires-2 : (t : ℕ) → unify-lts.Need-find-mut-requires-2 (unify-claims t) (unify-at t) unify.Post
 unify-find-mut-requires-2 t c κs = c .before .before .before .find-mut .ensures .words .linked
 
 unify-meet-requires : (t : ℕ) → unify-lts.Need-meet-requires (unify-claims t) (unify-at t) unify.Post
-unify-meet-requires t c κs = (climbed (c .before .before .before .before .before .before .before .before .before .before .before .before .before .before .args .a .0) (c .before .before .before .before .before .before .before .before .before .before .before .before .before .before .args .b .0) (c .before .before .before .before .before .before .before .before .before .before .before .before .before .before .pre .1) (c .before .before .before .before .before .before .before .before .before .before .before .before .before .before .args .depth) (c .before .before .before .before .before .before .before .before .before .if1 .left) (c .before .before .before .before .before .before .before .find-mut .ensures) (c .before .before .before .find-mut2 .ensures)) .tops
+unify-meet-requires t c κs = climbed-there t (c .before .before .before) .tops
 
 unify-enum-known-m : (t : ℕ) → unify-lts.Need-enum-known-m (unify-claims t) (unify-at t) unify.Post
 unify-enum-known-m t c = search needs
@@ -108,7 +194,7 @@ unify-enum-told : (t : ℕ) → unify-lts.Need-enum-told (unify-claims t) (unify
 unify-enum-told t c = search needs
 
 unify-bind-requires : (t : ℕ) → unify-lts.Need-bind-requires (unify-claims t) (unify-at t) unify.Post
-unify-bind-requires t c κs = tops-adds (climbed (c .before .before .before .before .before .before .before .before .before .before .before .before .before .before .before .before .before .before .args .a .0) (c .before .before .before .before .before .before .before .before .before .before .before .before .before .before .before .before .before .before .args .b .0) (c .before .before .before .before .before .before .before .before .before .before .before .before .before .before .before .before .before .before .pre .1) (c .before .before .before .before .before .before .before .before .before .before .before .before .before .before .before .before .before .before .args .depth) (c .before .before .before .before .before .before .before .before .before .before .before .before .before .if1 .left) (c .before .before .before .before .before .before .before .before .before .before .before .find-mut .ensures) (c .before .before .before .before .before .before .before .find-mut2 .ensures)) (c .before .before .before .meet .ensures)
+unify-bind-requires t c κs = tops-add (climbed-there t (c .before .before .before .before .before .before .before))
 
 unify-enum-known-m-2 : (t : ℕ) → unify-lts.Need-enum-known-m-2 (unify-claims t) (unify-at t) unify.Post
 unify-enum-known-m-2 t c = search needs
@@ -117,31 +203,45 @@ unify-enum-known-p : (t : ℕ) → unify-lts.Need-enum-known-p (unify-claims t) 
 unify-enum-known-p t c = search needs
 
 unify-settle-requires : (t : ℕ) → unify-lts.Need-settle-requires (unify-claims t) (unify-at t) unify.Post
-unify-settle-requires t c κs = tops-adds (climbed (c .before .before .before .before .before .before .before .before .before .before .before .before .before .before .before .before .before .before .before .before .before .before .args .a .0) (c .before .before .before .before .before .before .before .before .before .before .before .before .before .before .before .before .before .before .before .before .before .before .args .b .0) (c .before .before .before .before .before .before .before .before .before .before .before .before .before .before .before .before .before .before .before .before .before .before .pre .1) (c .before .before .before .before .before .before .before .before .before .before .before .before .before .before .before .before .before .before .before .before .before .before .args .depth) (c .before .before .before .before .before .before .before .before .before .before .before .before .before .before .before .before .before .if1 .left) (c .before .before .before .before .before .before .before .before .before .before .before .before .before .before .before .find-mut .ensures) (c .before .before .before .before .before .before .before .before .before .before .before .find-mut2 .ensures)) (c .before .before .before .before .before .before .before .meet .ensures)
+unify-settle-requires t c κs = tops-add (climbed-there t (c .before .before .before .before .before .before .before .before .before .before .before))
 
 unify-enum-known-p-2 : (t : ℕ) → unify-lts.Need-enum-known-p-2 (unify-claims t) (unify-at t) unify.Post
 unify-enum-known-p-2 t c = search needs
 
 unify-sub-unify-types : (t : ℕ) → unify-lts.Need-sub-unify-types (unify-claims t) (unify-at t) unify.Post
-unify-sub-unify-types t c = omega (arith, pos-of-ne-zero (c .before .before .before .before .before .before .before .before .before .before .before .before .before .before .before .before .before .if1 .left))
+unify-sub-unify-types t c = deep-there t (c .before .before .before .before .before .before .before .before .before .before .before)
 
 unify-unify-types-requires : (t : ℕ) → unify-lts.Need-unify-types-requires (unify-claims t) (unify-at t) unify.Post
-unify-unify-types-requires t c κs = (omega (arith, pos-of-ne-zero (c .before .before .before .before .before .before .before .before .before .before .before .before .before .before .before .before .before .if1 .left), c .before .before .before .before .before .before .before .before .before .before .before .before .before .before .before .before .before .before .before .before .before .before .pre .0), kids-pairs (climbed (c .before .before .before .before .before .before .before .before .before .before .before .before .before .before .before .before .before .before .before .before .before .before .args .a .0) (c .before .before .before .before .before .before .before .before .before .before .before .before .before .before .before .before .before .before .before .before .before .before .args .b .0) (c .before .before .before .before .before .before .before .before .before .before .before .before .before .before .before .before .before .before .before .before .before .before .pre .1) (c .before .before .before .before .before .before .before .before .before .before .before .before .before .before .before .before .before .before .before .before .before .before .args .depth) (c .before .before .before .before .before .before .before .before .before .before .before .before .before .before .before .before .before .if1 .left) (c .before .before .before .before .before .before .before .before .before .before .before .before .before .before .before .find-mut .ensures) (c .before .before .before .before .before .before .before .before .before .before .before .find-mut2 .ensures)) (c .before .before .before .before .before .before .before .meet .ensures) (c .before .before .before .before .before .m2 .given .1) (c .before .before .p2 .given .1))
+unify-unify-types-requires t c κs =
+    let k = c .before .before in
+    let m = k .before .before .before .before .before in
+    (falls-there t (m .before .before .before .before), kids-pairs (met-there t m) (k .before .before .before .m2 .given .1) (k .p2 .given .1))
 
 unify-settle-requires-2 : (t : ℕ) → unify-lts.Need-settle-requires-2 (unify-claims t) (unify-at t) unify.Post
-unify-settle-requires-2 t c κs = kids-adds (climbed (c .before .before .before .before .before .before .before .before .before .before .before .before .before .before .before .before .before .before .before .before .before .before .before .before .before .before .args .a .0) (c .before .before .before .before .before .before .before .before .before .before .before .before .before .before .before .before .before .before .before .before .before .before .before .before .before .before .args .b .0) (c .before .before .before .before .before .before .before .before .before .before .before .before .before .before .before .before .before .before .before .before .before .before .before .before .before .before .pre .1) (c .before .before .before .before .before .before .before .before .before .before .before .before .before .before .before .before .before .before .before .before .before .before .before .before .before .before .args .depth) (c .before .before .before .before .before .before .before .before .before .before .before .before .before .before .before .before .before .before .before .before .before .if1 .left) (c .before .before .before .before .before .before .before .before .before .before .before .before .before .before .before .before .before .before .before .find-mut .ensures) (c .before .before .before .before .before .before .before .before .before .before .before .before .before .before .before .find-mut2 .ensures)) (c .before .before .before .before .before .before .before .before .before .before .before .meet .ensures) (planMeans (c .before .before .before .before .before .before .before .before .before .before .before .before .before .before .before .before .before .before .before .before .before .before .before .before .before .before .args .ks .now) (texts (c .before .before .before .before .before .before .before .before .before .before .before .before .before .before .before .before .before .before .before .before .before .before .before .before .before .before .args .rule .now) (c .before .before .before .before .before .before .before .before .before .before .before .before .before .before .before .before .before .before .before .before .before .before .before .before .before .before .args .text .now)) (plans.Run (c .before .before .before .before .before .before .p2 .given .0 .0))) (kids-pairs (climbed (c .before .before .before .before .before .before .before .before .before .before .before .before .before .before .before .before .before .before .before .before .before .before .before .before .before .before .args .a .0) (c .before .before .before .before .before .before .before .before .before .before .before .before .before .before .before .before .before .before .before .before .before .before .before .before .before .before .args .b .0) (c .before .before .before .before .before .before .before .before .before .before .before .before .before .before .before .before .before .before .before .before .before .before .before .before .before .before .pre .1) (c .before .before .before .before .before .before .before .before .before .before .before .before .before .before .before .before .before .before .before .before .before .before .before .before .before .before .args .depth) (c .before .before .before .before .before .before .before .before .before .before .before .before .before .before .before .before .before .before .before .before .before .if1 .left) (c .before .before .before .before .before .before .before .before .before .before .before .before .before .before .before .before .before .before .before .find-mut .ensures) (c .before .before .before .before .before .before .before .before .before .before .before .before .before .before .before .find-mut2 .ensures)) (c .before .before .before .before .before .before .before .before .before .before .before .meet .ensures) (c .before .before .before .before .before .before .before .before .before .m2 .given .1) (c .before .before .before .before .before .before .p2 .given .1) .inside) (c .before .before .before .unify-types .ensures)
+unify-settle-requires-2 t c κs =
+    let r = c .before .before .before in
+    let k = r .before .before .before in
+    let m = k .before .before .before .before .before in
+    kids-add (met-there t m) (k .before .before .before .m2 .given .1) (k .p2 .given .1) (r .unify-types .ensures)
 
 unify-enum-known-p-3 : (t : ℕ) → unify-lts.Need-enum-known-p-3 (unify-claims t) (unify-at t) unify.Post
 unify-enum-known-p-3 t c = search needs
 
 unify-sub-unify-objects : (t : ℕ) → unify-lts.Need-sub-unify-objects (unify-claims t) (unify-at t) unify.Post
-unify-sub-unify-objects t c = omega (arith, pos-of-ne-zero (c .before .before .before .before .before .before .before .before .before .before .before .before .before .before .before .before .before .if1 .left))
+unify-sub-unify-objects t c = deep-there t (c .before .before .before .before .before .before .before .before .before .before .before)
 
 unify-unify-objects-requires : (t : ℕ) → unify-lts.Need-unify-objects-requires (unify-claims t) (unify-at t) unify.Post
-unify-unify-objects-requires t c κs = (omega (arith, pos-of-ne-zero (c .before .before .before .before .before .before .before .before .before .before .before .before .before .before .before .before .before .if1 .left), c .before .before .before .before .before .before .before .before .before .before .before .before .before .before .before .before .before .before .before .before .before .before .pre .0), kids-pairs (climbed (c .before .before .before .before .before .before .before .before .before .before .before .before .before .before .before .before .before .before .before .before .before .before .args .a .0) (c .before .before .before .before .before .before .before .before .before .before .before .before .before .before .before .before .before .before .before .before .before .before .args .b .0) (c .before .before .before .before .before .before .before .before .before .before .before .before .before .before .before .before .before .before .before .before .before .before .pre .1) (c .before .before .before .before .before .before .before .before .before .before .before .before .before .before .before .before .before .before .before .before .before .before .args .depth) (c .before .before .before .before .before .before .before .before .before .before .before .before .before .before .before .before .before .if1 .left) (c .before .before .before .before .before .before .before .before .before .before .before .before .before .before .before .find-mut .ensures) (c .before .before .before .before .before .before .before .before .before .before .before .find-mut2 .ensures)) (c .before .before .before .before .before .before .before .meet .ensures) (c .before .before .before .before .before .m2 .given .1) (c .before .before .p3 .given .1))
+unify-unify-objects-requires t c κs =
+    let k = c .before .before in
+    let m = k .before .before .before .before .before in
+    (falls-there t (m .before .before .before .before), kids-pairs (met-there t m) (k .before .before .before .m2 .given .1) (k .p3 .given .1))
 
 unify-settle-requires-3 : (t : ℕ) → unify-lts.Need-settle-requires-3 (unify-claims t) (unify-at t) unify.Post
-unify-settle-requires-3 t c κs = kids-adds (climbed (c .before .before .before .before .before .before .before .before .before .before .before .before .before .before .before .before .before .before .before .before .before .before .before .before .before .before .args .a .0) (c .before .before .before .before .before .before .before .before .before .before .before .before .before .before .before .before .before .before .before .before .before .before .before .before .before .before .args .b .0) (c .before .before .before .before .before .before .before .before .before .before .before .before .before .before .before .before .before .before .before .before .before .before .before .before .before .before .pre .1) (c .before .before .before .before .before .before .before .before .before .before .before .before .before .before .before .before .before .before .before .before .before .before .before .before .before .before .args .depth) (c .before .before .before .before .before .before .before .before .before .before .before .before .before .before .before .before .before .before .before .before .before .if1 .left) (c .before .before .before .before .before .before .before .before .before .before .before .before .before .before .before .before .before .before .before .find-mut .ensures) (c .before .before .before .before .before .before .before .before .before .before .before .before .before .before .before .find-mut2 .ensures)) (c .before .before .before .before .before .before .before .before .before .before .before .meet .ensures) (planMeans (c .before .before .before .before .before .before .before .before .before .before .before .before .before .before .before .before .before .before .before .before .before .before .before .before .before .before .args .ks .now) (texts (c .before .before .before .before .before .before .before .before .before .before .before .before .before .before .before .before .before .before .before .before .before .before .before .before .before .before .args .rule .now) (c .before .before .before .before .before .before .before .before .before .before .before .before .before .before .before .before .before .before .before .before .before .before .before .before .before .before .args .text .now)) (plans.Object (c .before .before .before .before .before .before .p3 .given .0 .0))) (kids-pairs (climbed (c .before .before .before .before .before .before .before .before .before .before .before .before .before .before .before .before .before .before .before .before .before .before .before .before .before .before .args .a .0) (c .before .before .before .before .before .before .before .before .before .before .before .before .before .before .before .before .before .before .before .before .before .before .before .before .before .before .args .b .0) (c .before .before .before .before .before .before .before .before .before .before .before .before .before .before .before .before .before .before .before .before .before .before .before .before .before .before .pre .1) (c .before .before .before .before .before .before .before .before .before .before .before .before .before .before .before .before .before .before .before .before .before .before .before .before .before .before .args .depth) (c .before .before .before .before .before .before .before .before .before .before .before .before .before .before .before .before .before .before .before .before .before .if1 .left) (c .before .before .before .before .before .before .before .before .before .before .before .before .before .before .before .before .before .before .before .find-mut .ensures) (c .before .before .before .before .before .before .before .before .before .before .before .before .before .before .before .find-mut2 .ensures)) (c .before .before .before .before .before .before .before .before .before .before .before .meet .ensures) (c .before .before .before .before .before .before .before .before .before .m2 .given .1) (c .before .before .before .before .before .before .p3 .given .1) .inside) (c .before .before .before .unify-objects .ensures)
+unify-settle-requires-3 t c κs =
+    let r = c .before .before .before in
+    let k = r .before .before .before in
+    let m = k .before .before .before .before .before in
+    kids-add (met-there t m) (k .before .before .before .m2 .given .1) (k .p3 .given .1) (r .unify-objects .ensures)
 
 unify-enum-known-p-4 : (t : ℕ) → unify-lts.Need-enum-known-p-4 (unify-claims t) (unify-at t) unify.Post
 unify-enum-known-p-4 t c = search needs
@@ -150,10 +250,13 @@ unify-parameters-requires : (t : ℕ) → unify-lts.Need-parameters-requires (un
 unify-parameters-requires t c κs = search needs
 
 unify-sub-unify-types-2 : (t : ℕ) → unify-lts.Need-sub-unify-types-2 (unify-claims t) (unify-at t) unify.Post
-unify-sub-unify-types-2 t c = omega (arith, pos-of-ne-zero (c .before .before .before .before .before .before .before .before .before .before .before .before .before .before .before .before .before .before .if1 .left))
+unify-sub-unify-types-2 t c = deep-there t (c .before .before .before .before .before .before .before .before .before .before .before .before)
 
 unify-unify-types-requires-2 : (t : ℕ) → unify-lts.Need-unify-types-requires-2 (unify-claims t) (unify-at t) unify.Post
-unify-unify-types-requires-2 t c κs = (omega (arith, pos-of-ne-zero (c .before .before .before .before .before .before .before .before .before .before .before .before .before .before .before .before .before .before .if1 .left), c .before .before .before .before .before .before .before .before .before .before .before .before .before .before .before .before .before .before .before .before .before .before .before .pre .0), parameters-pairs (texts (c .before .before .before .before .before .before .before .before .before .before .before .before .before .before .before .before .before .before .before .before .before .before .before .args .rule .now) (c .before .before .before .before .before .before .before .before .before .before .before .before .before .before .before .before .before .before .before .before .before .before .before .args .text .now)) (c .before .before .before .before .before .before .before .before .before .before .before .before .before .before .before .before .before .before .before .before .before .before .before .args .ks .now) (c .parameters .ensures) (kids-pairs (climbed (c .before .before .before .before .before .before .before .before .before .before .before .before .before .before .before .before .before .before .before .before .before .before .before .args .a .0) (c .before .before .before .before .before .before .before .before .before .before .before .before .before .before .before .before .before .before .before .before .before .before .before .args .b .0) (c .before .before .before .before .before .before .before .before .before .before .before .before .before .before .before .before .before .before .before .before .before .before .before .pre .1) (c .before .before .before .before .before .before .before .before .before .before .before .before .before .before .before .before .before .before .before .before .before .before .before .args .depth) (c .before .before .before .before .before .before .before .before .before .before .before .before .before .before .before .before .before .before .if1 .left) (c .before .before .before .before .before .before .before .before .before .before .before .before .before .before .before .before .find-mut .ensures) (c .before .before .before .before .before .before .before .before .before .before .before .before .find-mut2 .ensures)) (c .before .before .before .before .before .before .before .before .meet .ensures) (c .before .before .before .before .before .before .m2 .given .1) (c .before .before .before .p4 .given .1)))
+unify-unify-types-requires-2 t c κs =
+    let k = c .before .before .before in
+    let m = k .before .before .before .before .before in
+    (falls-there t (m .before .before .before .before), parameters-pairs (kids-pairs (met-there t m) (k .before .before .before .m2 .given .1) (k .p4 .given .1)) (c .parameters .ensures))
 
 unify-returns-requires : (t : ℕ) → unify-lts.Need-returns-requires (unify-claims t) (unify-at t) unify.Post
 unify-returns-requires t c κs = search needs
@@ -165,78 +268,145 @@ unify-and-requires : (t : ℕ) → unify-lts.Need-and-requires (unify-claims t) 
 unify-and-requires t c κs = search needs
 
 unify-settle-requires-4 : (t : ℕ) → unify-lts.Need-settle-requires-4 (unify-claims t) (unify-at t) unify.Post
-unify-settle-requires-4 t c κs = kids-adds (climbed (c .before .before .before .before .before .before .before .before .before .before .before .before .before .before .before .before .before .before .before .before .before .before .before .before .before .before .before .before .before .before .before .before .args .a .0) (c .before .before .before .before .before .before .before .before .before .before .before .before .before .before .before .before .before .before .before .before .before .before .before .before .before .before .before .before .before .before .before .before .args .b .0) (c .before .before .before .before .before .before .before .before .before .before .before .before .before .before .before .before .before .before .before .before .before .before .before .before .before .before .before .before .before .before .before .before .pre .1) (c .before .before .before .before .before .before .before .before .before .before .before .before .before .before .before .before .before .before .before .before .before .before .before .before .before .before .before .before .before .before .before .before .args .depth) (c .before .before .before .before .before .before .before .before .before .before .before .before .before .before .before .before .before .before .before .before .before .before .before .before .before .before .before .if1 .left) (c .before .before .before .before .before .before .before .before .before .before .before .before .before .before .before .before .before .before .before .before .before .before .before .before .before .find-mut .ensures) (c .before .before .before .before .before .before .before .before .before .before .before .before .before .before .before .before .before .before .before .before .before .find-mut2 .ensures)) (c .before .before .before .before .before .before .before .before .before .before .before .before .before .before .before .before .before .meet .ensures) (planMeans (c .before .before .before .before .before .before .before .before .before .before .before .before .before .before .before .before .before .before .before .before .before .before .before .before .before .before .before .before .before .before .before .before .args .ks .now) (texts (c .before .before .before .before .before .before .before .before .before .before .before .before .before .before .before .before .before .before .before .before .before .before .before .before .before .before .before .before .before .before .before .before .args .rule .now) (c .before .before .before .before .before .before .before .before .before .before .before .before .before .before .before .before .before .before .before .before .before .before .before .before .before .before .before .before .before .before .before .before .args .text .now)) (plans.Signature (c .before .before .before .before .before .before .before .before .before .before .before .before .p4 .given .0 .0))) (kids-pairs (climbed (c .before .before .before .before .before .before .before .before .before .before .before .before .before .before .before .before .before .before .before .before .before .before .before .before .before .before .before .before .before .before .before .before .args .a .0) (c .before .before .before .before .before .before .before .before .before .before .before .before .before .before .before .before .before .before .before .before .before .before .before .before .before .before .before .before .before .before .before .before .args .b .0) (c .before .before .before .before .before .before .before .before .before .before .before .before .before .before .before .before .before .before .before .before .before .before .before .before .before .before .before .before .before .before .before .before .pre .1) (c .before .before .before .before .before .before .before .before .before .before .before .before .before .before .before .before .before .before .before .before .before .before .before .before .before .before .before .before .before .before .before .before .args .depth) (c .before .before .before .before .before .before .before .before .before .before .before .before .before .before .before .before .before .before .before .before .before .before .before .before .before .before .before .if1 .left) (c .before .before .before .before .before .before .before .before .before .before .before .before .before .before .before .before .before .before .before .before .before .before .before .before .before .find-mut .ensures) (c .before .before .before .before .before .before .before .before .before .before .before .before .before .before .before .before .before .before .before .before .before .find-mut2 .ensures)) (c .before .before .before .before .before .before .before .before .before .before .before .before .before .before .before .before .before .meet .ensures) (c .before .before .before .before .before .before .before .before .before .before .before .before .before .before .before .m2 .given .1) (c .before .before .before .before .before .before .before .before .before .before .before .before .p4 .given .1) .inside) (signature-lacking (texts (c .before .before .before .before .before .before .before .before .before .before .before .before .before .before .before .before .before .before .before .before .before .before .before .before .before .before .before .before .before .before .before .before .args .rule .now) (c .before .before .before .before .before .before .before .before .before .before .before .before .before .before .before .before .before .before .before .before .before .before .before .before .before .before .before .before .before .before .before .before .args .text .now)) (c .before .before .before .before .before .before .before .before .before .before .before .before .before .before .before .before .before .before .before .before .before .before .before .before .before .before .before .before .before .before .before .before .args .ks .now) (c .before .before .before .before .before .before .before .before .before .parameters .ensures) (c .before .before .before .before .before .before .before .before .before .before .before .before .before .before .before .before .before .before .before .before .before .before .before .before .before .before .before .before .before .before .before .before .args .depth - 1) (kids-pairs (climbed (c .before .before .before .before .before .before .before .before .before .before .before .before .before .before .before .before .before .before .before .before .before .before .before .before .before .before .before .before .before .before .before .before .args .a .0) (c .before .before .before .before .before .before .before .before .before .before .before .before .before .before .before .before .before .before .before .before .before .before .before .before .before .before .before .before .before .before .before .before .args .b .0) (c .before .before .before .before .before .before .before .before .before .before .before .before .before .before .before .before .before .before .before .before .before .before .before .before .before .before .before .before .before .before .before .before .pre .1) (c .before .before .before .before .before .before .before .before .before .before .before .before .before .before .before .before .before .before .before .before .before .before .before .before .before .before .before .before .before .before .before .before .args .depth) (c .before .before .before .before .before .before .before .before .before .before .before .before .before .before .before .before .before .before .before .before .before .before .before .before .before .before .before .if1 .left) (c .before .before .before .before .before .before .before .before .before .before .before .before .before .before .before .before .before .before .before .before .before .before .before .before .before .find-mut .ensures) (c .before .before .before .before .before .before .before .before .before .before .before .before .before .before .before .before .before .before .before .before .before .find-mut2 .ensures)) (c .before .before .before .before .before .before .before .before .before .before .before .before .before .before .before .before .before .meet .ensures) (c .before .before .before .before .before .before .before .before .before .before .before .before .before .before .before .m2 .given .1) (c .before .before .before .before .before .before .before .before .before .before .before .before .p4 .given .1)) (c .before .before .before .before .before .before .before .before .unify-types2 .ensures) (c .before .before .before .before .before .returns .result) (c .before .before .before .before .before .returns .ensures) _ (c .and .result) (c .before .before .before .t .given .1) (c .and .ensures))
+unify-settle-requires-4 t c κs =
+    let r = c in
+    let h = r .before .before .before .before .before in
+    let k = h .before .before .before .before .before .before .before in
+    let m = k .before .before .before .before .before in
+    kids-add (met-there t m) (k .before .before .before .m2 .given .1) (k .p4 .given .1)
+    (signature-lacking (halfway-there t h) (r .and .result) (r .before .before .before .t .given .1) (r .and .ensures))
 
 unify-enum-known-t-2 : (t : ℕ) → unify-lts.Need-enum-known-t-2 (unify-claims t) (unify-at t) unify.Post
 unify-enum-known-t-2 t c = search needs
 
 unify-sub-unify : (t : ℕ) → unify-lts.Need-sub-unify (unify-claims t) (unify-at t) unify.Post
-unify-sub-unify t c = omega (arith, pos-of-ne-zero (c .before .before .before .before .before .before .before .before .before .before .before .before .before .before .before .before .before .before .before .before .before .before .before .before .before .before .if1 .left))
+unify-sub-unify t c = deep-there t (c .before .before .before .before .before .before .before .before .before .before .before .before .before .before .before .before .before .before .before .before)
 
 unify-unify-requires : (t : ℕ) → unify-lts.Need-unify-requires (unify-claims t) (unify-at t) unify.Post
-unify-unify-requires t c κs = (omega (arith, pos-of-ne-zero (c .before .before .before .before .before .before .before .before .before .before .before .before .before .before .before .before .before .before .before .before .before .before .before .before .before .before .if1 .left), c .before .before .before .before .before .before .before .before .before .before .before .before .before .before .before .before .before .before .before .before .before .before .before .before .before .before .before .before .before .before .before .pre .0), returns-in (texts (c .before .before .before .before .before .before .before .before .before .before .before .before .before .before .before .before .before .before .before .before .before .before .before .before .before .before .before .before .before .before .before .args .rule .now) (c .before .before .before .before .before .before .before .before .before .before .before .before .before .before .before .before .before .before .before .before .before .before .before .before .before .before .before .before .before .before .before .args .text .now)) (c .before .before .before .before .before .before .before .before .before .before .before .before .before .before .before .before .before .before .before .before .before .before .before .before .before .before .before .before .before .before .before .args .ks .now) (c .before .before .before .before .before .before .before .before .parameters .ensures) (c .before .before .before .before .before .before .before .before .before .before .before .before .before .before .before .before .before .before .before .before .before .before .before .before .before .before .before .before .before .before .before .args .depth - 1) (kids-pairs (climbed (c .before .before .before .before .before .before .before .before .before .before .before .before .before .before .before .before .before .before .before .before .before .before .before .before .before .before .before .before .before .before .before .args .a .0) (c .before .before .before .before .before .before .before .before .before .before .before .before .before .before .before .before .before .before .before .before .before .before .before .before .before .before .before .before .before .before .before .args .b .0) (c .before .before .before .before .before .before .before .before .before .before .before .before .before .before .before .before .before .before .before .before .before .before .before .before .before .before .before .before .before .before .before .pre .1) (c .before .before .before .before .before .before .before .before .before .before .before .before .before .before .before .before .before .before .before .before .before .before .before .before .before .before .before .before .before .before .before .args .depth) (c .before .before .before .before .before .before .before .before .before .before .before .before .before .before .before .before .before .before .before .before .before .before .before .before .before .before .if1 .left) (c .before .before .before .before .before .before .before .before .before .before .before .before .before .before .before .before .before .before .before .before .before .before .before .before .find-mut .ensures) (c .before .before .before .before .before .before .before .before .before .before .before .before .before .before .before .before .before .before .before .before .find-mut2 .ensures)) (c .before .before .before .before .before .before .before .before .before .before .before .before .before .before .before .before .meet .ensures) (c .before .before .before .before .before .before .before .before .before .before .before .before .before .before .m2 .given .1) (c .before .before .before .before .before .before .before .before .before .before .before .p4 .given .1)) (c .before .before .before .before .before .before .before .unify-types2 .ensures) (c .before .before .before .before .returns .result) (c .before .before .before .before .returns .ensures) (c .before .before .t2 .given .1))
+unify-unify-requires t c κs =
+    let h = c .before .before .before .before in
+    let m = h .before .before .before .before .before .before .before .before .before .before .before .before in
+    (omega (arith, falls-there t (m .before .before .before .before)), returns-in (halfway-there t h) (c .before .before .t2 .given .1))
 
 unify-and-requires-2 : (t : ℕ) → unify-lts.Need-and-requires-2 (unify-claims t) (unify-at t) unify.Post
 unify-and-requires-2 t c κs = search needs
 
 unify-settle-requires-5 : (t : ℕ) → unify-lts.Need-settle-requires-5 (unify-claims t) (unify-at t) unify.Post
-unify-settle-requires-5 t c κs = kids-adds (climbed (c .before .before .before .before .before .before .before .before .before .before .before .before .before .before .before .before .before .before .before .before .before .before .before .before .before .before .before .before .before .before .before .before .before .before .before .before .args .a .0) (c .before .before .before .before .before .before .before .before .before .before .before .before .before .before .before .before .before .before .before .before .before .before .before .before .before .before .before .before .before .before .before .before .before .before .before .before .args .b .0) (c .before .before .before .before .before .before .before .before .before .before .before .before .before .before .before .before .before .before .before .before .before .before .before .before .before .before .before .before .before .before .before .before .before .before .before .before .pre .1) (c .before .before .before .before .before .before .before .before .before .before .before .before .before .before .before .before .before .before .before .before .before .before .before .before .before .before .before .before .before .before .before .before .before .before .before .before .args .depth) (c .before .before .before .before .before .before .before .before .before .before .before .before .before .before .before .before .before .before .before .before .before .before .before .before .before .before .before .before .before .before .before .if1 .left) (c .before .before .before .before .before .before .before .before .before .before .before .before .before .before .before .before .before .before .before .before .before .before .before .before .before .before .before .before .before .find-mut .ensures) (c .before .before .before .before .before .before .before .before .before .before .before .before .before .before .before .before .before .before .before .before .before .before .before .before .before .find-mut2 .ensures)) (c .before .before .before .before .before .before .before .before .before .before .before .before .before .before .before .before .before .before .before .before .before .meet .ensures) (planMeans (c .before .before .before .before .before .before .before .before .before .before .before .before .before .before .before .before .before .before .before .before .before .before .before .before .before .before .before .before .before .before .before .before .before .before .before .before .args .ks .now) (texts (c .before .before .before .before .before .before .before .before .before .before .before .before .before .before .before .before .before .before .before .before .before .before .before .before .before .before .before .before .before .before .before .before .before .before .before .before .args .rule .now) (c .before .before .before .before .before .before .before .before .before .before .before .before .before .before .before .before .before .before .before .before .before .before .before .before .before .before .before .before .before .before .before .before .before .before .before .before .args .text .now)) (plans.Signature (c .before .before .before .before .before .before .before .before .before .before .before .before .before .before .before .before .p4 .given .0 .0))) (kids-pairs (climbed (c .before .before .before .before .before .before .before .before .before .before .before .before .before .before .before .before .before .before .before .before .before .before .before .before .before .before .before .before .before .before .before .before .before .before .before .before .args .a .0) (c .before .before .before .before .before .before .before .before .before .before .before .before .before .before .before .before .before .before .before .before .before .before .before .before .before .before .before .before .before .before .before .before .before .before .before .before .args .b .0) (c .before .before .before .before .before .before .before .before .before .before .before .before .before .before .before .before .before .before .before .before .before .before .before .before .before .before .before .before .before .before .before .before .before .before .before .before .pre .1) (c .before .before .before .before .before .before .before .before .before .before .before .before .before .before .before .before .before .before .before .before .before .before .before .before .before .before .before .before .before .before .before .before .before .before .before .before .args .depth) (c .before .before .before .before .before .before .before .before .before .before .before .before .before .before .before .before .before .before .before .before .before .before .before .before .before .before .before .before .before .before .before .if1 .left) (c .before .before .before .before .before .before .before .before .before .before .before .before .before .before .before .before .before .before .before .before .before .before .before .before .before .before .before .before .before .find-mut .ensures) (c .before .before .before .before .before .before .before .before .before .before .before .before .before .before .before .before .before .before .before .before .before .before .before .before .before .find-mut2 .ensures)) (c .before .before .before .before .before .before .before .before .before .before .before .before .before .before .before .before .before .before .before .before .before .meet .ensures) (c .before .before .before .before .before .before .before .before .before .before .before .before .before .before .before .before .before .before .before .m2 .given .1) (c .before .before .before .before .before .before .before .before .before .before .before .before .before .before .before .before .p4 .given .1) .inside) (signature-pair (texts (c .before .before .before .before .before .before .before .before .before .before .before .before .before .before .before .before .before .before .before .before .before .before .before .before .before .before .before .before .before .before .before .before .before .before .before .before .args .rule .now) (c .before .before .before .before .before .before .before .before .before .before .before .before .before .before .before .before .before .before .before .before .before .before .before .before .before .before .before .before .before .before .before .before .before .before .before .before .args .text .now)) (c .before .before .before .before .before .before .before .before .before .before .before .before .before .before .before .before .before .before .before .before .before .before .before .before .before .before .before .before .before .before .before .before .before .before .before .before .args .ks .now) (c .before .before .before .before .before .before .before .before .before .before .before .before .before .parameters .ensures) (c .before .before .before .before .before .before .before .before .before .before .before .before .before .before .before .before .before .before .before .before .before .before .before .before .before .before .before .before .before .before .before .before .before .before .before .before .args .depth - 1) (kids-pairs (climbed (c .before .before .before .before .before .before .before .before .before .before .before .before .before .before .before .before .before .before .before .before .before .before .before .before .before .before .before .before .before .before .before .before .before .before .before .before .args .a .0) (c .before .before .before .before .before .before .before .before .before .before .before .before .before .before .before .before .before .before .before .before .before .before .before .before .before .before .before .before .before .before .before .before .before .before .before .before .args .b .0) (c .before .before .before .before .before .before .before .before .before .before .before .before .before .before .before .before .before .before .before .before .before .before .before .before .before .before .before .before .before .before .before .before .before .before .before .before .pre .1) (c .before .before .before .before .before .before .before .before .before .before .before .before .before .before .before .before .before .before .before .before .before .before .before .before .before .before .before .before .before .before .before .before .before .before .before .before .args .depth) (c .before .before .before .before .before .before .before .before .before .before .before .before .before .before .before .before .before .before .before .before .before .before .before .before .before .before .before .before .before .before .before .if1 .left) (c .before .before .before .before .before .before .before .before .before .before .before .before .before .before .before .before .before .before .before .before .before .before .before .before .before .before .before .before .before .find-mut .ensures) (c .before .before .before .before .before .before .before .before .before .before .before .before .before .before .before .before .before .before .before .before .before .before .before .before .before .find-mut2 .ensures)) (c .before .before .before .before .before .before .before .before .before .before .before .before .before .before .before .before .before .before .before .before .before .meet .ensures) (c .before .before .before .before .before .before .before .before .before .before .before .before .before .before .before .before .before .before .before .m2 .given .1) (c .before .before .before .before .before .before .before .before .before .before .before .before .before .before .before .before .p4 .given .1)) (c .before .before .before .before .before .before .before .before .before .before .before .before .unify-types2 .ensures) (c .before .before .before .before .before .before .before .before .before .returns .result) (c .before .before .before .before .before .before .before .before .before .returns .ensures) _ _ _ (c .and2 .result) (c .before .before .before .before .before .before .before .t2 .given .1) (c .before .before .before .before .unify .ensures) (c .and2 .ensures))
+unify-settle-requires-5 t c κs =
+    let r = c in
+    let q = r .before .before .before .before in
+    let h = q .before .before .before .before .before in
+    let k = h .before .before .before .before .before .before .before in
+    let m = k .before .before .before .before .before in
+    kids-add (met-there t m) (k .before .before .before .m2 .given .1) (k .p4 .given .1)
+    (signature-pair (halfway-there t h) (r .and2 .result) (q .before .before .before .t2 .given .1) (q .unify .ensures) (r .and2 .ensures))
 
 unify-same-length : (t : ℕ) → unify-lts.Need-same-length (unify-claims t) (unify-at t) unify.Post
 unify-same-length t c = search needs
 
 unify-returns-2 : (t : ℕ) → unify-lts.Need-returns-2 (unify-claims t) (unify-at t) unify.Post
-unify-returns-2 t c = way-done (climbed (c .before .before .before .before .before .before .before .before .before .before .before .before .before .before .before .before .before .before .args .a .0) (c .before .before .before .before .before .before .before .before .before .before .before .before .before .before .before .before .before .before .args .b .0) (c .before .before .before .before .before .before .before .before .before .before .before .before .before .before .before .before .before .before .pre .1) (c .before .before .before .before .before .before .before .before .before .before .before .before .before .before .before .before .before .before .args .depth) (c .before .before .before .before .before .before .before .before .before .before .before .before .before .if1 .left) (c .before .before .before .before .before .before .before .before .before .before .before .find-mut .ensures) (c .before .before .before .before .before .before .before .find-mut2 .ensures)) (c .before .before .before .meet .ensures) (c .before .m .given .1)
+unify-returns-2 t c = way-done (met-there t (c .before .before .before)) (c .before .m .given .1)
 
 unify-same-length-2 : (t : ℕ) → unify-lts.Need-same-length-2 (unify-claims t) (unify-at t) unify.Post
 unify-same-length-2 t c = search needs
 
 unify-returns-3 : (t : ℕ) → unify-lts.Need-returns-3 (unify-claims t) (unify-at t) unify.Post
-unify-returns-3 t c = way-bind (climbed (c .before .before .before .before .before .before .before .before .before .before .before .before .before .before .before .before .before .before .before .before .before .args .a .0) (c .before .before .before .before .before .before .before .before .before .before .before .before .before .before .before .before .before .before .before .before .before .args .b .0) (c .before .before .before .before .before .before .before .before .before .before .before .before .before .before .before .before .before .before .before .before .before .pre .1) (c .before .before .before .before .before .before .before .before .before .before .before .before .before .before .before .before .before .before .before .before .before .args .depth) (c .before .before .before .before .before .before .before .before .before .before .before .before .before .before .before .before .if1 .left) (c .before .before .before .before .before .before .before .before .before .before .before .before .before .before .find-mut .ensures) (c .before .before .before .before .before .before .before .before .before .before .find-mut2 .ensures)) (c .before .before .before .before .before .before .meet .ensures) (c .before .before .before .before .enum-told .given .1) (c .before .before .bind .ensures)
+unify-returns-3 t c = way-bind (met-there t (c .before .before .before .before .before .before)) (c .before .before .before .before .enum-told .given .1) (c .before .before .bind .ensures)
 
 unify-same-length-3 : (t : ℕ) → unify-lts.Need-same-length-3 (unify-claims t) (unify-at t) unify.Post
 unify-same-length-3 t c = search needs
 
 unify-returns-4 : (t : ℕ) → unify-lts.Need-returns-4 (unify-claims t) (unify-at t) unify.Post
-unify-returns-4 t c = way-kids (climbed (c .before .before .before .before .before .before .before .before .before .before .before .before .before .before .before .before .before .before .before .before .before .before .before .before .before .args .a .0) (c .before .before .before .before .before .before .before .before .before .before .before .before .before .before .before .before .before .before .before .before .before .before .before .before .before .args .b .0) (c .before .before .before .before .before .before .before .before .before .before .before .before .before .before .before .before .before .before .before .before .before .before .before .before .before .pre .1) (c .before .before .before .before .before .before .before .before .before .before .before .before .before .before .before .before .before .before .before .before .before .before .before .before .before .args .depth) (c .before .before .before .before .before .before .before .before .before .before .before .before .before .before .before .before .before .before .before .before .if1 .left) (c .before .before .before .before .before .before .before .before .before .before .before .before .before .before .before .before .before .before .find-mut .ensures) (c .before .before .before .before .before .before .before .before .before .before .before .before .before .before .find-mut2 .ensures)) (c .before .before .before .before .before .before .before .before .before .before .meet .ensures) (c .before .before .before .before .before .before .before .before .m2 .given .1 ∙ ap Kids (c .before .before .before .before .before .p .given .1)) (answer-leaves (texts (c .before .before .before .before .before .before .before .before .before .before .before .before .before .before .before .before .before .before .before .before .before .before .before .before .before .args .rule .now) (c .before .before .before .before .before .before .before .before .before .before .before .before .before .before .before .before .before .before .before .before .before .before .before .before .before .args .text .now)) _ (c .before .before .before .before .before .before .before .before .before .before .before .before .before .before .before .before .before .before .before .before .before .before .before .before .before .args .ks .now) (c .before .before .before .before .before .before .before .before .before .before .before .before .before .before .before .before .before .before .before .before .before .before .before .before .before .args .n) (c .before .before .before .before .before .before .before .before .before .before .before .before .before .before .before .before .before .before .before .before .before .before .before .before .before .args .depth - 1) _) (c .before .before .settle .ensures)
+unify-returns-4 t c =
+    let k = c .before .before .before .before .before in
+    let m = k .before .before .before .before .before in
+    way-answer (met-there t m) (k .before .before .before .m2 .given .1) (k .p .given .1) (c .before .before .settle .ensures)
 
 unify-same-length-4 : (t : ℕ) → unify-lts.Need-same-length-4 (unify-claims t) (unify-at t) unify.Post
-unify-same-length-4 t c = c .before .before .settle2 .kept .0 ∙ (c .before .before .before .before .before .before .unify-types .kept .0 ∙ (c .before .before .before .before .before .before .before .before .before .before .before .before .before .before .before .before .before .before .find-mut2 .kept .0 ∙ c .before .before .before .before .before .before .before .before .before .before .before .before .before .before .before .before .before .before .before .before .before .before .find-mut .kept .0))
+unify-same-length-4 t c =
+    let r = c .before .before .before .before .before .before in
+    c .before .before .settle2 .kept .0 ∙ (r .unify-types .kept .0 ∙ long-there t (r .before .before .before .before .before .before .before .before .before .before .before .before))
 
 unify-returns-5 : (t : ℕ) → unify-lts.Need-returns-5 (unify-claims t) (unify-at t) unify.Post
-unify-returns-5 t c = way-kids (climbed (c .before .before .before .before .before .before .before .before .before .before .before .before .before .before .before .before .before .before .before .before .before .before .before .before .before .before .before .before .before .args .a .0) (c .before .before .before .before .before .before .before .before .before .before .before .before .before .before .before .before .before .before .before .before .before .before .before .before .before .before .before .before .before .args .b .0) (c .before .before .before .before .before .before .before .before .before .before .before .before .before .before .before .before .before .before .before .before .before .before .before .before .before .before .before .before .before .pre .1) (c .before .before .before .before .before .before .before .before .before .before .before .before .before .before .before .before .before .before .before .before .before .before .before .before .before .before .before .before .before .args .depth) (c .before .before .before .before .before .before .before .before .before .before .before .before .before .before .before .before .before .before .before .before .before .before .before .before .if1 .left) (c .before .before .before .before .before .before .before .before .before .before .before .before .before .before .before .before .before .before .before .before .before .before .find-mut .ensures) (c .before .before .before .before .before .before .before .before .before .before .before .before .before .before .before .before .before .before .find-mut2 .ensures)) (c .before .before .before .before .before .before .before .before .before .before .before .before .before .before .meet .ensures) (c .before .before .before .before .before .before .before .before .before .before .before .before .m2 .given .1 ∙ ap Kids (c .before .before .before .before .before .before .before .before .before .p2 .given .1)) (c .before .before .before .before .before .before .unify-types .ensures) (c .before .before .settle2 .ensures)
+unify-returns-5 t c =
+    let s = c .before .before in
+    let r = s .before .before .before .before in
+    let k = r .before .before .before in
+    let m = k .before .before .before .before .before in
+    way-kids (met-there t m) (k .before .before .before .m2 .given .1) (k .p2 .given .1) (r .unify-types .ensures) (s .settle2 .ensures)
 
 unify-same-length-5 : (t : ℕ) → unify-lts.Need-same-length-5 (unify-claims t) (unify-at t) unify.Post
-unify-same-length-5 t c = c .before .before .settle3 .kept .0 ∙ (c .before .before .before .before .before .before .unify-objects .kept .0 ∙ (c .before .before .before .before .before .before .before .before .before .before .before .before .before .before .before .before .before .before .find-mut2 .kept .0 ∙ c .before .before .before .before .before .before .before .before .before .before .before .before .before .before .before .before .before .before .before .before .before .before .find-mut .kept .0))
+unify-same-length-5 t c =
+    let r = c .before .before .before .before .before .before in
+    c .before .before .settle3 .kept .0 ∙ (r .unify-objects .kept .0 ∙ long-there t (r .before .before .before .before .before .before .before .before .before .before .before .before))
 
 unify-returns-6 : (t : ℕ) → unify-lts.Need-returns-6 (unify-claims t) (unify-at t) unify.Post
-unify-returns-6 t c = way-kids (climbed (c .before .before .before .before .before .before .before .before .before .before .before .before .before .before .before .before .before .before .before .before .before .before .before .before .before .before .before .before .before .args .a .0) (c .before .before .before .before .before .before .before .before .before .before .before .before .before .before .before .before .before .before .before .before .before .before .before .before .before .before .before .before .before .args .b .0) (c .before .before .before .before .before .before .before .before .before .before .before .before .before .before .before .before .before .before .before .before .before .before .before .before .before .before .before .before .before .pre .1) (c .before .before .before .before .before .before .before .before .before .before .before .before .before .before .before .before .before .before .before .before .before .before .before .before .before .before .before .before .before .args .depth) (c .before .before .before .before .before .before .before .before .before .before .before .before .before .before .before .before .before .before .before .before .before .before .before .before .if1 .left) (c .before .before .before .before .before .before .before .before .before .before .before .before .before .before .before .before .before .before .before .before .before .before .find-mut .ensures) (c .before .before .before .before .before .before .before .before .before .before .before .before .before .before .before .before .before .before .find-mut2 .ensures)) (c .before .before .before .before .before .before .before .before .before .before .before .before .before .before .meet .ensures) (c .before .before .before .before .before .before .before .before .before .before .before .before .m2 .given .1 ∙ ap Kids (c .before .before .before .before .before .before .before .before .before .p3 .given .1)) (c .before .before .before .before .before .before .unify-objects .ensures) (c .before .before .settle3 .ensures)
+unify-returns-6 t c =
+    let s = c .before .before in
+    let r = s .before .before .before .before in
+    let k = r .before .before .before in
+    let m = k .before .before .before .before .before in
+    way-kids (met-there t m) (k .before .before .before .m2 .given .1) (k .p3 .given .1) (r .unify-objects .ensures) (s .settle3 .ensures)
 
 unify-same-length-6 : (t : ℕ) → unify-lts.Need-same-length-6 (unify-claims t) (unify-at t) unify.Post
-unify-same-length-6 t c = c .before .before .settle4 .kept .0 ∙ (c .before .before .before .before .before .before .before .before .before .before .before .unify-types2 .kept .0 ∙ (c .before .before .before .before .before .before .before .before .before .before .before .before .before .before .before .before .before .before .before .before .before .before .before .before .find-mut2 .kept .0 ∙ c .before .before .before .before .before .before .before .before .before .before .before .before .before .before .before .before .before .before .before .before .before .before .before .before .before .before .before .before .find-mut .kept .0))
+unify-same-length-6 t c =
+    let r = c .before .before .before .before .before .before .before .before .before .before .before in
+    c .before .before .settle4 .kept .0 ∙ (r .unify-types2 .kept .0 ∙ long-there t (r .before .before .before .before .before .before .before .before .before .before .before .before .before))
 
 unify-returns-7 : (t : ℕ) → unify-lts.Need-returns-7 (unify-claims t) (unify-at t) unify.Post
-unify-returns-7 t c = way-kids (climbed (c .before .before .before .before .before .before .before .before .before .before .before .before .before .before .before .before .before .before .before .before .before .before .before .before .before .before .before .before .before .before .before .before .before .before .before .args .a .0) (c .before .before .before .before .before .before .before .before .before .before .before .before .before .before .before .before .before .before .before .before .before .before .before .before .before .before .before .before .before .before .before .before .before .before .before .args .b .0) (c .before .before .before .before .before .before .before .before .before .before .before .before .before .before .before .before .before .before .before .before .before .before .before .before .before .before .before .before .before .before .before .before .before .before .before .pre .1) (c .before .before .before .before .before .before .before .before .before .before .before .before .before .before .before .before .before .before .before .before .before .before .before .before .before .before .before .before .before .before .before .before .before .before .before .args .depth) (c .before .before .before .before .before .before .before .before .before .before .before .before .before .before .before .before .before .before .before .before .before .before .before .before .before .before .before .before .before .before .if1 .left) (c .before .before .before .before .before .before .before .before .before .before .before .before .before .before .before .before .before .before .before .before .before .before .before .before .before .before .before .before .find-mut .ensures) (c .before .before .before .before .before .before .before .before .before .before .before .before .before .before .before .before .before .before .before .before .before .before .before .before .find-mut2 .ensures)) (c .before .before .before .before .before .before .before .before .before .before .before .before .before .before .before .before .before .before .before .before .meet .ensures) (c .before .before .before .before .before .before .before .before .before .before .before .before .before .before .before .before .before .before .m2 .given .1 ∙ ap Kids (c .before .before .before .before .before .before .before .before .before .before .before .before .before .before .before .p4 .given .1)) (signature-lacking (texts (c .before .before .before .before .before .before .before .before .before .before .before .before .before .before .before .before .before .before .before .before .before .before .before .before .before .before .before .before .before .before .before .before .before .before .before .args .rule .now) (c .before .before .before .before .before .before .before .before .before .before .before .before .before .before .before .before .before .before .before .before .before .before .before .before .before .before .before .before .before .before .before .before .before .before .before .args .text .now)) (c .before .before .before .before .before .before .before .before .before .before .before .before .before .before .before .before .before .before .before .before .before .before .before .before .before .before .before .before .before .before .before .before .before .before .before .args .ks .now) (c .before .before .before .before .before .before .before .before .before .before .before .before .parameters .ensures) (c .before .before .before .before .before .before .before .before .before .before .before .before .before .before .before .before .before .before .before .before .before .before .before .before .before .before .before .before .before .before .before .before .before .before .before .args .depth - 1) (kids-pairs (climbed (c .before .before .before .before .before .before .before .before .before .before .before .before .before .before .before .before .before .before .before .before .before .before .before .before .before .before .before .before .before .before .before .before .before .before .before .args .a .0) (c .before .before .before .before .before .before .before .before .before .before .before .before .before .before .before .before .before .before .before .before .before .before .before .before .before .before .before .before .before .before .before .before .before .before .before .args .b .0) (c .before .before .before .before .before .before .before .before .before .before .before .before .before .before .before .before .before .before .before .before .before .before .before .before .before .before .before .before .before .before .before .before .before .before .before .pre .1) (c .before .before .before .before .before .before .before .before .before .before .before .before .before .before .before .before .before .before .before .before .before .before .before .before .before .before .before .before .before .before .before .before .before .before .before .args .depth) (c .before .before .before .before .before .before .before .before .before .before .before .before .before .before .before .before .before .before .before .before .before .before .before .before .before .before .before .before .before .before .if1 .left) (c .before .before .before .before .before .before .before .before .before .before .before .before .before .before .before .before .before .before .before .before .before .before .before .before .before .before .before .before .find-mut .ensures) (c .before .before .before .before .before .before .before .before .before .before .before .before .before .before .before .before .before .before .before .before .before .before .before .before .find-mut2 .ensures)) (c .before .before .before .before .before .before .before .before .before .before .before .before .before .before .before .before .before .before .before .before .meet .ensures) (c .before .before .before .before .before .before .before .before .before .before .before .before .before .before .before .before .before .before .m2 .given .1) (c .before .before .before .before .before .before .before .before .before .before .before .before .before .before .before .p4 .given .1)) (c .before .before .before .before .before .before .before .before .before .before .before .unify-types2 .ensures) (c .before .before .before .before .before .before .before .before .returns .result) (c .before .before .before .before .before .before .before .before .returns .ensures) _ (c .before .before .before .and .result) (c .before .before .before .before .before .before .t .given .1) (c .before .before .before .and .ensures)) (c .before .before .settle4 .ensures)
+unify-returns-7 t c =
+    let s = c .before .before in
+    let r = s .before in
+    let h = r .before .before .before .before .before in
+    let k = h .before .before .before .before .before .before .before in
+    let m = k .before .before .before .before .before in
+    way-kids (met-there t m) (k .before .before .before .m2 .given .1) (k .p4 .given .1)
+    (signature-lacking (halfway-there t h) (r .and .result) (r .before .before .before .t .given .1) (r .and .ensures)) (s .settle4 .ensures)
 
 unify-same-length-7 : (t : ℕ) → unify-lts.Need-same-length-7 (unify-claims t) (unify-at t) unify.Post
-unify-same-length-7 t c = c .before .before .settle5 .kept .0 ∙ (c .before .before .before .before .before .before .before .unify .kept .0 ∙ (c .before .before .before .before .before .before .before .before .before .before .before .before .before .before .before .unify-types2 .kept .0 ∙ (c .before .before .before .before .before .before .before .before .before .before .before .before .before .before .before .before .before .before .before .before .before .before .before .before .before .before .before .before .find-mut2 .kept .0 ∙ c .before .before .before .before .before .before .before .before .before .before .before .before .before .before .before .before .before .before .before .before .before .before .before .before .before .before .before .before .before .before .before .before .find-mut .kept .0)))
+unify-same-length-7 t c =
+    let q = c .before .before .before .before .before .before .before in
+    let r = q .before .before .before .before .before .before .before .before in
+    let m = r .before .before .before .before .before .before .before .before .before in
+    c .before .before .settle5 .kept .0 ∙ (q .unify .kept .0 ∙ (r .unify-types2 .kept .0 ∙ long-there t (m .before .before .before .before)))
 
 unify-returns-8 : (t : ℕ) → unify-lts.Need-returns-8 (unify-claims t) (unify-at t) unify.Post
-unify-returns-8 t c = way-kids (climbed (c .before .before .before .before .before .before .before .before .before .before .before .before .before .before .before .before .before .before .before .before .before .before .before .before .before .before .before .before .before .before .before .before .before .before .before .before .before .before .before .args .a .0) (c .before .before .before .before .before .before .before .before .before .before .before .before .before .before .before .before .before .before .before .before .before .before .before .before .before .before .before .before .before .before .before .before .before .before .before .before .before .before .before .args .b .0) (c .before .before .before .before .before .before .before .before .before .before .before .before .before .before .before .before .before .before .before .before .before .before .before .before .before .before .before .before .before .before .before .before .before .before .before .before .before .before .before .pre .1) (c .before .before .before .before .before .before .before .before .before .before .before .before .before .before .before .before .before .before .before .before .before .before .before .before .before .before .before .before .before .before .before .before .before .before .before .before .before .before .before .args .depth) (c .before .before .before .before .before .before .before .before .before .before .before .before .before .before .before .before .before .before .before .before .before .before .before .before .before .before .before .before .before .before .before .before .before .before .if1 .left) (c .before .before .before .before .before .before .before .before .before .before .before .before .before .before .before .before .before .before .before .before .before .before .before .before .before .before .before .before .before .before .before .before .find-mut .ensures) (c .before .before .before .before .before .before .before .before .before .before .before .before .before .before .before .before .before .before .before .before .before .before .before .before .before .before .before .before .find-mut2 .ensures)) (c .before .before .before .before .before .before .before .before .before .before .before .before .before .before .before .before .before .before .before .before .before .before .before .before .meet .ensures) (c .before .before .before .before .before .before .before .before .before .before .before .before .before .before .before .before .before .before .before .before .before .before .m2 .given .1 ∙ ap Kids (c .before .before .before .before .before .before .before .before .before .before .before .before .before .before .before .before .before .before .before .p4 .given .1)) (signature-pair (texts (c .before .before .before .before .before .before .before .before .before .before .before .before .before .before .before .before .before .before .before .before .before .before .before .before .before .before .before .before .before .before .before .before .before .before .before .before .before .before .before .args .rule .now) (c .before .before .before .before .before .before .before .before .before .before .before .before .before .before .before .before .before .before .before .before .before .before .before .before .before .before .before .before .before .before .before .before .before .before .before .before .before .before .before .args .text .now)) (c .before .before .before .before .before .before .before .before .before .before .before .before .before .before .before .before .before .before .before .before .before .before .before .before .before .before .before .before .before .before .before .before .before .before .before .before .before .before .before .args .ks .now) (c .before .before .before .before .before .before .before .before .before .before .before .before .before .before .before .before .parameters .ensures) (c .before .before .before .before .before .before .before .before .before .before .before .before .before .before .before .before .before .before .before .before .before .before .before .before .before .before .before .before .before .before .before .before .before .before .before .before .before .before .before .args .depth - 1) (kids-pairs (climbed (c .before .before .before .before .before .before .before .before .before .before .before .before .before .before .before .before .before .before .before .before .before .before .before .before .before .before .before .before .before .before .before .before .before .before .before .before .before .before .before .args .a .0) (c .before .before .before .before .before .before .before .before .before .before .before .before .before .before .before .before .before .before .before .before .before .before .before .before .before .before .before .before .before .before .before .before .before .before .before .before .before .before .before .args .b .0) (c .before .before .before .before .before .before .before .before .before .before .before .before .before .before .before .before .before .before .before .before .before .before .before .before .before .before .before .before .before .before .before .before .before .before .before .before .before .before .before .pre .1) (c .before .before .before .before .before .before .before .before .before .before .before .before .before .before .before .before .before .before .before .before .before .before .before .before .before .before .before .before .before .before .before .before .before .before .before .before .before .before .before .args .depth) (c .before .before .before .before .before .before .before .before .before .before .before .before .before .before .before .before .before .before .before .before .before .before .before .before .before .before .before .before .before .before .before .before .before .before .if1 .left) (c .before .before .before .before .before .before .before .before .before .before .before .before .before .before .before .before .before .before .before .before .before .before .before .before .before .before .before .before .before .before .before .before .find-mut .ensures) (c .before .before .before .before .before .before .before .before .before .before .before .before .before .before .before .before .before .before .before .before .before .before .before .before .before .before .before .before .find-mut2 .ensures)) (c .before .before .before .before .before .before .before .before .before .before .before .before .before .before .before .before .before .before .before .before .before .before .before .before .meet .ensures) (c .before .before .before .before .before .before .before .before .before .before .before .before .before .before .before .before .before .before .before .before .before .before .m2 .given .1) (c .before .before .before .before .before .before .before .before .before .before .before .before .before .before .before .before .before .before .before .p4 .given .1)) (c .before .before .before .before .before .before .before .before .before .before .before .before .before .before .before .unify-types2 .ensures) (c .before .before .before .before .before .before .before .before .before .before .before .before .returns .result) (c .before .before .before .before .before .before .before .before .before .before .before .before .returns .ensures) _ _ _ (c .before .before .before .and2 .result) (c .before .before .before .before .before .before .before .before .before .before .t2 .given .1) (c .before .before .before .before .before .before .before .unify .ensures) (c .before .before .before .and2 .ensures)) (c .before .before .settle5 .ensures)
+unify-returns-8 t c =
+    let s = c .before .before in
+    let r = s .before in
+    let q = r .before .before .before .before in
+    let h = q .before .before .before .before .before in
+    let k = h .before .before .before .before .before .before .before in
+    let m = k .before .before .before .before .before in
+    way-kids (met-there t m) (k .before .before .before .m2 .given .1) (k .p4 .given .1)
+    (signature-pair (halfway-there t h) (r .and2 .result) (q .before .before .before .t2 .given .1) (q .unify .ensures) (r .and2 .ensures)) (s .settle5 .ensures)
 
 abbrev unify-objects-Inv-loop : unify-objects-lts.InvT-loop
 unify-objects-Inv-loop ws₀ ks n rule text s depth inv r₀ j₀ ws r j =
     (length ws ≡ length ws₀)
-    × Going (texts rule text) ws₀ ks n depth (does (unifyF (texts rule text) n depth) (decode ws₀ ks n) (planMeans ks (texts rule text) (plans.Object s))) ws (both (answerOf r) (objectRest (texts rule text) ks ks s j .base)) (objectRest (texts rule text) ks ks s j .pairs)
+    × ObjectLeft (texts rule text) ks ks ws₀ ks n depth s ws r j
 
 abbrev unify-objects-μ-loop : unify-objects-lts.MeasureT-loop
 unify-objects-μ-loop ws₀ ks n rule text s depth inv r₀ j₀ ws r j = s .na - j
+
+-- a name that both objects have
+name-there : (t : ℕ)
+    (c : unify-objects-lts.After-invert-if (unify-objects-claims t) (unify-objects-at t) unify-objects.Post unify-objects-Inv-loop unify-objects-μ-loop)
+    → let l = c .before .before .before .before .before .before .before .before .before .before in
+    let a = l .before .before .before .before .before .before .before .before .args in
+    ObjectNext (texts (a .rule .now) (a .text .now)) (a .ks .now) (a .ks .now) (a .ws .now) (a .ks .now) (a .n) (a .depth) (a .s)
+    (l .loop .ws) (l .loop .r) (l .loop .j) (c .before .before .before .before .before .before .before .kid .result .0) (c .invert-if .result .0)
+name-there t c =
+    let k = c .before .before .before .before .before in
+    let l = k .before .before .before .before .before in
+    object-pair (l .loop .inv .1) (k .before .before .before .if1 .taken) (k .before .kid-name .ensures) (k .seek .ensures)
+    (c .before .before .before .f .given .1) (k .before .before .kid .ensures) (c .invert-if .ensures)
 
 unify-objects-from-bool-requires : (t : ℕ) → unify-objects-lts.Need-from-bool-requires (unify-objects-claims t) (unify-objects-at t) unify-objects.Post unify-objects-Inv-loop unify-objects-μ-loop
 unify-objects-from-bool-requires t c κs = search needs
 
 unify-objects-loop-holds : (t : ℕ) → unify-objects-lts.Need-loop-holds (unify-objects-claims t) (unify-objects-at t) unify-objects.Post unify-objects-Inv-loop unify-objects-μ-loop
-unify-objects-loop-holds t c = (refl, going-start (planMeans (c .before .before .before .before .before .before .before .args .ks .now) (texts (c .before .before .before .before .before .before .before .args .rule .now) (c .before .before .before .before .before .before .before .args .text .now)) (plans.Object (c .before .before .before .before .before .before .before .args .s))) _ (stored-whole (texts (c .before .before .before .before .before .before .before .args .rule .now) (c .before .before .before .before .before .before .before .args .text .now)) (c .before .before .before .before .before .before .before .args .ks .now) (c .before .before .before .before .before .before .before .args .s) (c .from-bool .result) (c .from-bool .ensures)) (c .before .before .before .before .before .before .before .pre .1))
+unify-objects-loop-holds t c = (refl, stored-start (c .before .before .before .before .before .before .before .pre .1) (c .from-bool .ensures))
 
 unify-objects-kid-requires : (t : ℕ) → unify-objects-lts.Need-kid-requires (unify-objects-claims t) (unify-objects-at t) unify-objects.Post unify-objects-Inv-loop unify-objects-μ-loop
 unify-objects-kid-requires t c κs = search needs
@@ -257,7 +427,9 @@ unify-objects-invert-if-requires : (t : ℕ) → unify-objects-lts.Need-invert-i
 unify-objects-invert-if-requires t c κs = search needs
 
 unify-objects-unify-requires : (t : ℕ) → unify-objects-lts.Need-unify-requires (unify-objects-claims t) (unify-objects-at t) unify-objects.Post unify-objects-Inv-loop unify-objects-μ-loop
-unify-objects-unify-requires t c κs = (omega (arith, c .before .before .before .before .before .before .before .before .before .before .before .before .before .before .before .before .before .before .pre .0), name-pair (c .before .before .before .before .before .before .before .before .before .before .before .before .before .before .before .before .before .before .args .ks .now) (c .before .before .before .before .before .before .before .before .before .before .before .before .before .before .before .before .before .before .args .ks .now) (c .before .before .before .before .before .before .before .before .before .before .before .before .before .before .before .before .before .before .args .s) (c .before .before .before .before .before .before .before .before .before .before .loop .j) (c .before .before .before .before .before .before .before .before .before .before .loop .r) (c .before .before .before .before .before .before .before .before .if1 .taken) (c .before .before .before .before .before .seek .result) (c .before .before .before .before .before .before .kid-name .ensures) (c .before .before .before .before .before .seek .ensures) (c .before .before .before .f .given .0 .0) (c .before .before .before .f .given .1) (c .before .before .before .before .before .before .before .kid .result .0) (c .invert-if .result .0) (c .before .before .before .before .before .before .before .kid .ensures) (c .invert-if .ensures) (c .before .before .before .before .before .before .before .before .before .before .loop .inv .1))
+unify-objects-unify-requires t c κs =
+    let l = c .before .before .before .before .before .before .before .before .before .before in
+    (omega (arith, l .before .before .before .before .before .before .before .before .pre .0), object-asks (name-there t c))
 
 unify-objects-and-requires : (t : ℕ) → unify-objects-lts.Need-and-requires (unify-objects-claims t) (unify-objects-at t) unify-objects.Post unify-objects-Inv-loop unify-objects-μ-loop
 unify-objects-and-requires t c κs = search needs
@@ -266,7 +438,10 @@ unify-objects-loop-less : (t : ℕ) → unify-objects-lts.Need-loop-less (unify-
 unify-objects-loop-less t c = search needs
 
 unify-objects-loop-again : (t : ℕ) → unify-objects-lts.Need-loop-again (unify-objects-claims t) (unify-objects-at t) unify-objects.Post unify-objects-Inv-loop unify-objects-μ-loop
-unify-objects-loop-again t c = (c .before .before .before .unify .kept .0 ∙ c .before .before .before .before .before .before .before .before .before .before .before .before .before .before .loop .inv .0, name-next (c .before .before .before .before .before .before .before .before .before .before .before .before .before .before .before .before .before .before .before .before .before .before .args .ks .now) (c .before .before .before .before .before .before .before .before .before .before .before .before .before .before .before .before .before .before .before .before .before .before .args .ks .now) (c .before .before .before .before .before .before .before .before .before .before .before .before .before .before .before .before .before .before .before .before .before .before .args .s) (c .before .before .before .before .before .before .before .before .before .before .before .before .before .before .loop .j) (c .before .before .before .before .before .before .before .before .before .before .before .before .before .before .loop .r) (c .before .before .before .before .before .before .before .before .before .before .before .before .if1 .taken) (c .before .before .before .before .before .before .before .before .before .seek .result) (c .before .before .before .before .before .before .before .before .before .before .kid-name .ensures) (c .before .before .before .before .before .before .before .before .before .seek .ensures) (c .before .before .before .before .before .before .before .f .given .0 .0) (c .before .before .before .before .before .before .before .f .given .1) (c .before .before .before .before .before .before .before .before .before .before .before .kid .result .0) (c .before .before .before .before .invert-if .result .0) (c .before .before .before .before .before .before .before .before .before .before .before .kid .ensures) (c .before .before .before .before .invert-if .ensures) (c .before .before .before .before .before .before .before .before .before .before .before .before .before .before .loop .inv .1) (c .and .result) (c .before .before .before .unify .ensures) (c .and .ensures))
+unify-objects-loop-again t c =
+    let u = c .before .before .before in
+    let l = u .before .before .before .before .before .before .before .before .before .before .before in
+    (u .unify .kept .0 ∙ l .loop .inv .0, object-next (name-there t (u .before)) (u .unify .ensures) (c .and .ensures))
 
 unify-objects-enum-told : (t : ℕ) → unify-objects-lts.Need-enum-told (unify-objects-claims t) (unify-objects-at t) unify-objects.Post unify-objects-Inv-loop unify-objects-μ-loop
 unify-objects-enum-told t c = search needs
@@ -278,27 +453,43 @@ unify-objects-loop-less-2 : (t : ℕ) → unify-objects-lts.Need-loop-less-2 (un
 unify-objects-loop-less-2 t c = search needs
 
 unify-objects-loop-again-2 : (t : ℕ) → unify-objects-lts.Need-loop-again-2 (unify-objects-claims t) (unify-objects-at t) unify-objects.Post unify-objects-Inv-loop unify-objects-μ-loop
-unify-objects-loop-again-2 t c = (c .before .before .before .before .before .before .before .before .loop .inv .0, object-none (texts (c .before .before .before .before .before .before .before .before .before .before .before .before .before .before .before .before .args .rule .now) (c .before .before .before .before .before .before .before .before .before .before .before .before .before .before .before .before .args .text .now)) (c .before .before .before .before .before .before .before .before .before .before .before .before .before .before .before .before .args .ks .now) (c .before .before .before .before .before .before .before .before .before .before .before .before .before .before .before .before .args .ks .now) (c .before .before .before .before .before .before .before .before .before .before .before .before .before .before .before .before .args .s) (c .before .before .before .before .before .before .before .before .loop .j) (c .before .before .before .before .before .before .if1 .taken) (c .before .before .before .seek .result) (c .before .before .before .before .kid-name .ensures) (c .before .before .before .seek .ensures) (c .before .before .before .before .before .before .before .before .loop .r) (c .before .before .before .before .before .before .before .before .loop .inv .1) (c .and2 .result) (c .before .enum-told .given .1) (c .and2 .ensures))
+unify-objects-loop-again-2 t c =
+    let k = c .before .before .before in
+    let l = k .before .before .before .before .before in (
+      l .loop .inv .0,
+      object-none (l .loop .inv .1) (k .before .before .before .if1 .taken) (k .before .kid-name .ensures) (k .seek .ensures) (c .before .enum-told .given .1) (c .and2 .ensures),
+    )
 
 unify-objects-same-length : (t : ℕ) → unify-objects-lts.Need-same-length (unify-objects-claims t) (unify-objects-at t) unify-objects.Post unify-objects-Inv-loop unify-objects-μ-loop
 unify-objects-same-length t c = c .before .before .loop .inv .0
 
 unify-objects-returns : (t : ℕ) → unify-objects-lts.Need-returns (unify-objects-claims t) (unify-objects-at t) unify-objects.Post unify-objects-Inv-loop unify-objects-μ-loop
-unify-objects-returns t c = object-ends (c .before .before .before .before .before .before .before .before .before .before .args .s) (c .before .before .loop .j) (c .if1 .left) (c .before .before .loop .r) (c .before .before .before .before .before .before .before .before .before .before .args .ks .now) (c .before .before .before .before .before .before .before .before .before .before .args .ks .now) (c .before .before .loop .inv .1)
+unify-objects-returns t c = stored-ends (c .before .before .loop .inv .1) (c .if1 .left)
 
 abbrev unify-types-Inv-loop : unify-types-lts.InvT-loop
 unify-types-Inv-loop ws₀ ks n rule text s depth inv r₀ i₀ ws r i =
     (length ws ≡ length ws₀)
-    × Going (texts rule text) ws₀ ks n depth (does (unifyF (texts rule text) n depth) (decode ws₀ ks n) (planMeans ks (texts rule text) (plans.Run s))) ws (answerOf r) (runRest ks s i)
+    × RunLeft (texts rule text) ws₀ ks n depth s ws r i
 
 abbrev unify-types-μ-loop : unify-types-lts.MeasureT-loop
 unify-types-μ-loop ws₀ ks n rule text s depth inv r₀ i₀ ws r i = s .na - i
 
+-- a pair of children
+kids-there : (t : ℕ)
+    (c : unify-types-lts.After-invert-if (unify-types-claims t) (unify-types-at t) unify-types.Post unify-types-Inv-loop unify-types-μ-loop)
+    → let l = c .before .before .before .before .before in
+    let a = l .before .before .before .before .before .before .before .before .args in
+    RunNext (texts (a .rule .now) (a .text .now)) (a .ws .now) (a .ks .now) (a .n) (a .depth) (a .s) (l .loop .ws) (l .loop .r) (l .loop .i)
+    (c .before .before .kid .result .0) (c .invert-if .result .0)
+kids-there t c =
+    let l = c .before .before .before .before .before in
+    run-pair (l .loop .inv .1) (c .before .before .before .if2 .taken) (c .before .before .kid .ensures) (c .before .kid2 .ensures) (c .invert-if .ensures)
+
 unify-types-returns : (t : ℕ) → unify-types-lts.Need-returns (unify-types-claims t) (unify-types-at t) unify-types.Post unify-types-Inv-loop unify-types-μ-loop
-unify-types-returns t c = run-fails (texts (c .before .before .before .before .before .before .args .rule .now) (c .before .before .before .before .before .before .args .text .now)) (c .before .before .before .before .before .before .args .ws .now) (c .before .before .before .before .before .before .args .ks .now) (c .before .before .before .before .before .before .args .n) (c .before .before .before .before .before .before .args .depth) (c .before .before .before .before .before .before .args .s) (c .if1 .taken)
+unify-types-returns t c = run-fails _ _ (c .before .before .before .before .before .before .pre .1) (c .if1 .taken)
 
 unify-types-loop-holds : (t : ℕ) → unify-types-lts.Need-loop-holds (unify-types-claims t) (unify-types-at t) unify-types.Post unify-types-Inv-loop unify-types-μ-loop
-unify-types-loop-holds t c = (refl, going-start (planMeans (c .before .before .before .before .before .before .before .args .ks .now) (texts (c .before .before .before .before .before .before .before .args .rule .now) (c .before .before .before .before .before .before .before .args .text .now)) (plans.Run (c .before .before .before .before .before .before .before .args .s))) (record { base = Success; pairs = runRest (c .before .before .before .before .before .before .before .args .ks .now) (c .before .before .before .before .before .before .before .args .s) 0 }) (run-whole (texts (c .before .before .before .before .before .before .before .args .rule .now) (c .before .before .before .before .before .before .before .args .text .now)) (c .before .before .before .before .before .before .before .args .ks .now) (c .before .before .before .before .before .before .before .args .s) (c .before .if1 .left)) (c .before .before .before .before .before .before .before .pre .1))
+unify-types-loop-holds t c = (refl, run-start (c .before .before .before .before .before .before .before .pre .1) (c .before .if1 .left))
 
 unify-types-kid-requires : (t : ℕ) → unify-types-lts.Need-kid-requires (unify-types-claims t) (unify-types-at t) unify-types.Post unify-types-Inv-loop unify-types-μ-loop
 unify-types-kid-requires t c κs = search needs
@@ -313,7 +504,9 @@ unify-types-add-i : (t : ℕ) → unify-types-lts.Need-add-i (unify-types-claims
 unify-types-add-i t c = search needs
 
 unify-types-unify-requires : (t : ℕ) → unify-types-lts.Need-unify-requires (unify-types-claims t) (unify-types-at t) unify-types.Post unify-types-Inv-loop unify-types-μ-loop
-unify-types-unify-requires t c κs = (omega (arith, c .before .before .before .before .before .before .before .before .before .before .before .before .before .before .pre .0), run-pair (c .before .before .before .before .before .before .before .before .before .before .before .before .before .before .args .s) (c .before .before .before .before .before .before .loop .i) (c .before .before .before .before .before .before .loop .r) (c .before .before .before .before .if2 .taken) (c .before .before .before .kid .result .0) (c .before .invert-if .result .0) (c .before .before .kid2 .result .0) (c .before .before .before .kid .ensures) (c .before .before .kid2 .ensures) (c .before .invert-if .ensures) (c .before .before .before .before .before .before .loop .inv .1))
+unify-types-unify-requires t c κs =
+    let l = c .before .before .before .before .before .before in
+    (omega (arith, l .before .before .before .before .before .before .before .before .pre .0), run-asks (kids-there t (c .before)))
 
 unify-types-and-requires : (t : ℕ) → unify-types-lts.Need-and-requires (unify-types-claims t) (unify-types-at t) unify-types.Post unify-types-Inv-loop unify-types-μ-loop
 unify-types-and-requires t c κs = search needs
@@ -322,13 +515,16 @@ unify-types-loop-less : (t : ℕ) → unify-types-lts.Need-loop-less (unify-type
 unify-types-loop-less t c = search needs
 
 unify-types-loop-again : (t : ℕ) → unify-types-lts.Need-loop-again (unify-types-claims t) (unify-types-at t) unify-types.Post unify-types-Inv-loop unify-types-μ-loop
-unify-types-loop-again t c = (c .before .before .before .unify .kept .0 ∙ c .before .before .before .before .before .before .before .before .before .before .loop .inv .0, run-next (c .before .before .before .before .before .before .before .before .before .before .before .before .before .before .before .before .before .before .args .s) (c .before .before .before .before .before .before .before .before .before .before .loop .i) (c .before .before .before .before .before .before .before .before .before .before .loop .r) (c .before .before .before .before .before .before .before .before .if2 .taken) (c .before .before .before .before .before .before .before .kid .result .0) (c .before .before .before .before .before .invert-if .result .0) (c .before .before .before .before .before .before .kid2 .result .0) (c .before .before .before .before .before .before .before .kid .ensures) (c .before .before .before .before .before .before .kid2 .ensures) (c .before .before .before .before .before .invert-if .ensures) (c .before .before .before .before .before .before .before .before .before .before .loop .inv .1) (c .and .result) (c .before .before .before .unify .ensures) (c .and .ensures))
+unify-types-loop-again t c =
+    let u = c .before .before .before in
+    let l = u .before .before .before .before .before .before .before in
+    (u .unify .kept .0 ∙ l .loop .inv .0, run-next (kids-there t (u .before .before)) (u .unify .ensures) (c .and .ensures))
 
 unify-types-same-length : (t : ℕ) → unify-types-lts.Need-same-length (unify-types-claims t) (unify-types-at t) unify-types.Post unify-types-Inv-loop unify-types-μ-loop
 unify-types-same-length t c = c .before .before .loop .inv .0
 
 unify-types-returns-2 : (t : ℕ) → unify-types-lts.Need-returns-2 (unify-types-claims t) (unify-types-at t) unify-types.Post unify-types-Inv-loop unify-types-μ-loop
-unify-types-returns-2 t c = run-ends (c .before .before .before .before .before .before .before .before .before .before .args .s) (c .before .before .loop .i) (c .if2 .left) (c .before .before .loop .r) (c .before .before .loop .inv .1)
+unify-types-returns-2 t c = run-ends (c .before .before .loop .inv .1) (c .if2 .left)
 
 pub +unify+unify-objects+unify-types-spec : {M : Type 1} → statement M
 +unify+unify-objects+unify-types-spec =

@@ -1,0 +1,211 @@
+-- One law for each way out of the tests of arguments. Two lists are tested one after the other where scope tests both at once; a test of either has the same
+-- number, so the first that breaks is the same. Tests that a call lacks are passed.
+-- Assumes nothing.
+use mathlib.Core.Path.{_≡_, refl, ap, sym, _∙_}
+use mathlib.Core.Bool.{Bool, true, false, not, _&&_, _||_, false≢true}
+use mathlib.Core.List.{List, [], _∷_, _++_}
+use mathlib.Core.Option.{Option, none}
+use Prim.Native.Nat.{ℕ, _+_, _%_, _≤_, _<_}
+use native.Mathlib.Decide.{decLt}
+use native.Mathlib.Omega.{arith}
+use lib.Dec.{eqb, ltb}
+use lib.ListN.{length, length-map, length-append}
+use borrow.Author.Tests.{eq-eqb, ne-eqb, eqb-true, lt-ltb, le-ltb, not-true, not-false}
+use Rattle.scope.specs.Base.{all}
+use Rattle.scope.specs.Limits.{MAX-LIST}
+use Rattle.scope.specs.Names.{Name}
+use Rattle.scope.specs.Chart.{Env}
+use Rattle.scope.specs.Types.{Ty, tyOf}
+use Rattle.scope.specs.Kinds.{CHILD-NAMES, rows, rowOf, objectNamesOk}
+use Rattle.scope.specs.Nodes.{Node, Store}
+use Rattle.scope.specs.Unify.{ImplType}
+use Rattle.scope.specs.Sound.{inStore}
+use Rattle.scope.specs.Calls.{firstBroken, tooMany, Entries, badEntries, implTypes, implDefined}
+use Rattle.layout.specs.Words.{CHILD-WORDS, slots}
+use Rattle.layout.specs.declared.Kind.{Kind}
+use Rattle.layout.proofs.ChildLaws.{length-slots}
+use Rattle.kind_sound.proofs.NameLaws.{and-true, and-false, length-names, namesTest, child-names}
+use Rattle.refusals.specs.Codes.{codeOf}
+use Rattle.store.specs.Entries.{typesIn, entryTypes}
+use Rattle.refusals.proofs.Laws.{code-first, code-next}
+use Rattle.store.specs.Entries.{entryCount}
+use Rattle.lent_tests.specs.Given.{pairTests, listTests, sigTests, objectTests, implsTests, entryNames, entriesIn, objectOf, FirstOf}
+
+-- tests of two things each, in 01's order
+
+abbrev row : Bool → Bool → Bool → Bool → Bool → Bool → Option ℕ
+row a b v w p q = firstBroken ((not (a && b), 3) ∷ (v || w, 4) ∷ (not (p && q), 5) ∷ [])
+
+-- the tests ts ask A and B of the nodes, and whether v or w, p or q is so
+pub record Row (ts : Store → List (Bool × ℕ)) (A B : List Node → Bool) (v w p q : Bool) : Type 0 where
+  pub is : (s : Store) → firstBroken (ts s) ≡ row (A (s .nodes)) (B (s .nodes)) v w p q
+
+-- What the code's tests answered, in its order. i and j say A and B of the nodes, k and l say v and w, g and h say p and q
+module _ {n : ℕ} {ts : Store → List (Bool × ℕ)} {A B : List Node → Bool} {v w p q : Bool} (f : Row ts A B v w p q)
+    {i : Bool} (ei : (ns : List Node) → length ns ≡ n → i ≡ A ns) where
+  pub row-first : not i ≡ true → FirstOf n ts 3
+  row-first z = record { code = λ s m. f .is s ∙ ap (λ (a : Bool). row a (B (s .nodes)) v w p q) (sym (ei (s .nodes) m) ∙ not-true i z) }
+
+  module _ (ti : not i ≡ false) {j : Bool} (ej : (ns : List Node) → length ns ≡ n → j ≡ B ns) where
+    row-on : (s : Store) → length (s .nodes) ≡ n → (b : Bool) → j ≡ b → firstBroken (ts s) ≡ row true b v w p q
+    row-on s m b z =
+        f .is s
+        ∙ (ap (λ (a : Bool). row a (B (s .nodes)) v w p q) (sym (ei (s .nodes) m) ∙ not-false i ti)
+        ∙ ap (λ (c : Bool). row true c v w p q) (sym (ej (s .nodes) m) ∙ z))
+
+    pub row-second : not j ≡ true → FirstOf n ts 3
+    row-second z = record { code = λ s m. row-on s m false (not-true j z) }
+
+    module _ (tj : not j ≡ false) where
+      pub row-inside : (r : ℕ) → row true true v w p q ≡ codeOf r → FirstOf n ts r
+      row-inside r z = record { code = λ s m. row-on s m true (not-false j tj) ∙ z }
+
+      module _ {k : Bool} (ek : k ≡ v) where
+        pub row-many : k ≡ true → FirstOf n ts 4
+        row-many z = row-inside 4 (rw (← ek, z) refl)
+
+        module _ (fk : k ≡ false) {l : Bool} (el : l ≡ w) where
+          pub row-many-too : l ≡ true → FirstOf n ts 4
+          row-many-too z = row-inside 4 (rw (← ek, fk, ← el, z) refl)
+
+          pub row-made : l ≡ false → p ≡ true → q ≡ true → FirstOf n ts 0
+          row-made z tp tq = row-inside 0 (rw (← ek, fk, ← el, z, tp, tq) refl)
+
+          module _ (fl : l ≡ false) {g : Bool} (eg : g ≡ p) where
+            pub row-absent : not g ≡ true → FirstOf n ts 5
+            row-absent z = row-inside 5 (rw (← ek, fk, ← el, fl, ← eg, not-true g z) refl)
+
+            module _ (tg : not g ≡ false) {h : Bool} (eh : h ≡ q) where
+              pub row-absent-too : not h ≡ true → FirstOf n ts 5
+              row-absent-too z = row-inside 5 (rw (← ek, fk, ← el, fl, ← eg, not-false g tg, ← eh, not-true h z) refl)
+
+              pub row-defined : not h ≡ false → FirstOf n ts 0
+              row-defined z = row-inside 0 (rw (← ek, fk, ← el, fl, ← eg, not-false g tg, ← eh, not-false h z) refl)
+
+-- the tests of each call as such a row
+
+and-group : (a b c : Bool) → (a && (b && c)) ≡ ((a && b) && c)
+and-group true b c = refl
+and-group false b c = refl
+
+or-false : (a : Bool) → (a || false) ≡ a
+or-false true = refl
+or-false false = refl
+
+or-true : (a : Bool) → (a || true) ≡ true
+or-true true = refl
+or-true false = refl
+
+all-append : {A : Type 0} (f : A → Bool) (xs ys : List A) → all f (xs ++ ys) ≡ (all f xs && all f ys)
+all-append f [] ys = refl
+all-append f (x ∷ xs) ys = ap (λ (z : Bool). f x && z) (all-append f xs ys) ∙ and-group (f x) (all f xs) (all f ys)
+
+pub pair-row : (a b : Ty) → Row (pairTests a b) (λ ns. inStore ns a) (λ ns. inStore ns b) false false true true
+unfolding pairTests
+pair-row a b = record { is = λ s. rw (and-true (inStore (s .nodes) b)) refl }
+
+pub list-row : (xs ys : List Ty) → Row (listTests xs ys) (λ ns. all (inStore ns) xs) (λ ns. all (inStore ns) ys) (tooMany xs) (tooMany ys) true true
+unfolding listTests
+list-row xs ys = record { is = λ s. rw (all-append (inStore (s .nodes)) xs ys) refl }
+
+pub object-row : (e : Env) (a b : Entries) → Row (objectTests e a b) (λ ns. all (inStore ns) (a .types)) (λ ns. all (inStore ns) (b .types)) (badEntries e a) (badEntries e b) true true
+unfolding objectTests
+object-row e a b = record { is = λ s. rw (all-append (inStore (s .nodes)) (a .types) (b .types)) refl }
+
+pub impl-row : (e : Env) (a b : ImplType)
+    → Row (implsTests e a b) (λ ns. all (inStore ns) (implTypes a)) (λ ns. all (inStore ns) (implTypes b))
+    (tooMany (implTypes a)) (tooMany (implTypes b)) (implDefined e a) (implDefined e b)
+unfolding implsTests
+impl-row e a b = record {
+  is = λ s. rw (and-true (all (inStore (s .nodes)) (implTypes b)), or-false (tooMany (implTypes b)), and-true (implDefined e b)) refl;
+}
+
+-- two signatures: returns first, then parameters
+
+turn : (x r y q : Bool) → (x && (r && (y && (q && true)))) ≡ ((r && (q && true)) && (x && y))
+turn true true y true = and-true y
+turn true true y false = and-false y
+turn true false y q = refl
+turn false r y q = sym (and-false (r && (q && true)))
+
+and-split : (a b : Bool) (n : ℕ) (ts : List (Bool × ℕ)) → firstBroken ((not (a && b), n) ∷ ts) ≡ firstBroken ((not a, n) ∷ (not b, n) ∷ ts)
+and-split true b n ts = refl
+and-split false b n ts = refl
+
+module _ (xs : List Ty) (a : Ty) (ys : List Ty) (b : Ty) where
+  sig-split : (s : Store) → firstBroken (sigTests xs a ys b s) ≡ firstBroken (pairTests a b s ++ listTests xs ys s)
+  unfolding sigTests pairTests listTests
+  sig-split s =
+      let f : Ty → Bool = inStore (s .nodes) in
+      let us : List (Bool × ℕ) = (tooMany xs || tooMany ys, 4) ∷ [] in
+      let e : all f (xs ++ (a ∷ ys ++ (b ∷ []))) ≡ (all f (a ∷ b ∷ []) && all f (xs ++ ys)) =
+      all-append f xs (a ∷ ys ++ (b ∷ []))
+      ∙ (ap (λ (z : Bool). all f xs && (f a && z)) (all-append f ys (b ∷ []))
+      ∙ (turn (all f xs) (f a) (all f ys) (f b) ∙ ap (λ (z : Bool). all f (a ∷ b ∷ []) && z) (sym (all-append f xs ys)))) in
+      ap (λ (z : Bool). firstBroken ((not z, 3) ∷ us)) e ∙ and-split (all f (a ∷ b ∷ [])) (all f (xs ++ ys)) 3 us
+
+  module _ {n r : ℕ} (p : FirstOf n (pairTests a b) r) where
+    pub sig-back : (r ≡ 0 → ⊥) → FirstOf n (sigTests xs a ys b) r
+    sig-back z = record { code = λ s m. sig-split s ∙ code-first (pairTests a b s) (listTests xs ys s) r (p .code s m) z }
+
+    pub sig-on : {t : ℕ} → r ≡ 0 → FirstOf n (listTests xs ys) t → FirstOf n (sigTests xs a ys b) t
+    sig-on z l = record { code = λ s m. sig-split s ∙ (code-next (pairTests a b s) (listTests xs ys s) r (p .code s m) z ∙ l .code s m) }
+
+-- lists and entries
+
+pub list-many : (xs : List ℕ) → tooMany (typesIn xs) ≡ ltb MAX-LIST (length xs)
+list-many xs = rw (length-map xs tyOf) refl
+
+module _ (xs : List ℕ) where
+  length-types : length (entryTypes xs) ≡ entryCount xs
+  length-types = length-map (slots xs 0 (entryCount xs)) (λ s. tyOf (s .type)) ∙ length-slots xs 0 (entryCount xs)
+
+  names-whole : length xs % CHILD-WORDS ≡ 0 → entriesIn xs .names ≡ entryNames xs
+  names-whole e = rw (eq-eqb (length xs % CHILD-WORDS) 0 e) refl
+
+  names-torn : (length xs % CHILD-WORDS ≡ 0 → ⊥) → entriesIn xs .names ≡ entryNames xs ++ (none ∷ [])
+  names-torn h = rw (ne-eqb (length xs % CHILD-WORDS) 0 h) refl
+
+  torn-length : length (entryNames xs ++ (none ∷ [])) ≡ length (entryTypes xs) → ⊥
+  torn-length e = omega (arith, e, length-types, length-names xs 0 (entryCount xs), length-append (entryNames xs) (none ∷ []))
+
+  -- ways out of `bad_entries`
+  module _ (e : Env) where
+    pub entries-many : MAX-LIST < entryCount xs → true ≡ badEntries e (entriesIn xs)
+    entries-many h = rw (length-types, lt-ltb MAX-LIST (entryCount xs) h) refl
+
+    pub entries-torn : (length xs % CHILD-WORDS ≡ 0 → ⊥) → true ≡ badEntries e (entriesIn xs)
+    entries-torn h =
+        sym (ap (λ (ns : List (Option Name)). tooMany (entryTypes xs) || not (eqb (length ns) (length (entryTypes xs)) && objectNamesOk (e .texts) ns)) (names-torn h)
+        ∙ rw (ne-eqb (length (entryNames xs ++ (none ∷ []))) (length (entryTypes xs)) torn-length) (or-true (tooMany (entryTypes xs))))
+
+    object-row-names : (n : ℕ) → rowOf (objectOf n .code) .names ≡ CHILD-NAMES
+    unfolding rowOf rows
+    object-row-names n = refl
+
+    pub entries-named : {k : Kind} {t : Bool} → entryCount xs ≤ MAX-LIST → length xs % CHILD-WORDS ≡ 0 → k ≡ objectOf (entryCount xs) → t ≡ namesTest (e .texts) xs k
+        → not t ≡ badEntries e (entriesIn xs)
+    entries-named {k} {t} h w ek et =
+        let ns : List (Option Name) = entryNames xs in
+        let g : t ≡ objectNamesOk (e .texts) ns =
+        et ∙ (ap (namesTest (e .texts) xs) ek ∙ child-names (e .texts) xs (objectOf (entryCount xs)) CHILD-NAMES (sym (object-row-names (entryCount xs))) refl) in
+        let l : length ns ≡ length (entryTypes xs) = length-names xs 0 (entryCount xs) ∙ sym length-types in
+        let z : tooMany (entryTypes xs) ≡ false = rw (length-types, le-ltb MAX-LIST (entryCount xs) h) refl in
+        ap not g
+        ∙ sym (ap (λ (ms : List (Option Name)). tooMany (entryTypes xs) || not (eqb (length ms) (length (entryTypes xs)) && objectNamesOk (e .texts) ms)) (names-whole w)
+        ∙ rw (z, eq-eqb (length ns) (length (entryTypes xs)) l) refl)
+
+    -- entries that are not turned back are whole, and not too many
+    fine-by : (b : Bool) → eqb (length xs % CHILD-WORDS) 0 ≡ b → badEntries e (entriesIn xs) ≡ false → length xs % CHILD-WORDS ≡ 0
+    fine-by true q h = eqb-true (length xs % CHILD-WORDS) 0 q
+    fine-by false q h = absurd (false≢true (sym h ∙ sym (entries-torn (λ z. false≢true (sym q ∙ eq-eqb (length xs % CHILD-WORDS) 0 z)))))
+
+    pub fine-names : badEntries e (entriesIn xs) ≡ false → entriesIn xs .names ≡ entryNames xs
+    fine-names h = names-whole (fine-by (eqb (length xs % CHILD-WORDS) 0) refl h)
+
+    pub fine-count : badEntries e (entriesIn xs) ≡ false → entryCount xs ≤ MAX-LIST
+    fine-count h = go (decLt MAX-LIST (entryCount xs))
+      where
+        go : Dec (MAX-LIST < entryCount xs) → entryCount xs ≤ MAX-LIST
+        go (yes l) = absurd (false≢true (sym h ∙ sym (entries-many l)))
+        go (no l) = omega arith

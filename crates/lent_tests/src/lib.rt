@@ -1,0 +1,181 @@
+// What the public calls test of lent types, lists, entries and impl types: 3 over all types of all lists, however long these are, then 4, then 5. Any numbers
+// may be lent.
+ghost use mathlib.Core.Path.{_≡_};
+ghost use mathlib.Core.List.{List, []};
+ghost use Prim.Native.Nat.{ℕ};
+ghost use lib.ListN.{length};
+ghost use Rattle.scope.specs.Base.{all};
+ghost use Rattle.scope.specs.Types.{tyOf};
+ghost use Rattle.scope.specs.Nodes.{Node};
+ghost use Rattle.scope.specs.Sound.{inStore};
+ghost use Rattle.scope.specs.Calls.{tooMany, badEntries, implTypes, implDefined};
+ghost use Rattle.types.specs.Impls.{implMeans};
+ghost use Rattle.chart.specs.Env.{chartIn, chartAlone};
+ghost use Rattle.store.specs.Entries.{typesIn};
+ghost use Rattle.lent_tests.specs.Given.{pairTests, listTests, sigTests, objectTests, implsTests, entriesIn, objectOf, FirstOf};
+use kinds::OBJECT;
+use layout::CHILD_WORDS;
+use layout::Kind;
+use refusals::OUTSIDE;
+use refusals::UNDEFINED;
+use refusals::UNMAKEABLE;
+use scope::MAX_LIST;
+use refusals::NO_REFUSAL;
+use types::Impl;
+use types::Type;
+
+// Two types among n nodes.
+pub fn pair(a: Type, b: Type, n: u32) -> u32
+    ensures { λ r. ⌜ FirstOf n (pairTests (tyOf (a .0)) (tyOf (b .0))) r ⌝ }
+{
+    if !refusals::type_inside(a, n) {
+        return OUTSIDE;
+    }
+    if !refusals::type_inside(b, n) {
+        return OUTSIDE;
+    }
+    NO_REFUSAL
+}
+
+// "over 255 listed types or parameters"
+fn too_many(xs: &[u32]) -> bool
+    ensures { λ r. ⌜ r ≡ tooMany (typesIn (now (xs .entry))) ⌝ }
+{
+    xs.len() > MAX_LIST
+}
+
+// Two lists of types.
+pub fn lists(xs: &[u32], ys: &[u32], n: u32) -> u32
+    ensures { λ r. ⌜ FirstOf n (listTests (typesIn (now (xs .entry))) (typesIn (now (ys .entry)))) r ⌝ }
+{
+    if !refusals::types_inside(xs, n) {
+        return OUTSIDE;
+    }
+    if !refusals::types_inside(ys, n) {
+        return OUTSIDE;
+    }
+    if too_many(xs) {
+        return UNMAKEABLE;
+    }
+    if too_many(ys) {
+        return UNMAKEABLE;
+    }
+    NO_REFUSAL
+}
+
+// Two signatures: their parameters, and a return each.
+pub fn signatures(xs: &[u32], a: Type, ys: &[u32], b: Type, n: u32) -> u32
+    ensures { λ r. ⌜ FirstOf n (sigTests (typesIn (now (xs .entry))) (tyOf (a .0)) (typesIn (now (ys .entry))) (tyOf (b .0))) r ⌝ }
+{
+    let returns = pair(a, b, n);
+    if returns != NO_REFUSAL {
+        return returns;
+    }
+    lists(xs, ys, n)
+}
+
+// The kind of an object with so many entries.
+fn object_of(n: u32) -> Kind
+    ensures { λ r. ⌜ r ≡ objectOf n ⌝ }
+{
+    Kind {
+        code: OBJECT,
+        number: 0,
+        dual: false,
+        flex: 0,
+        text: 0,
+        start: 0,
+        len: 0,
+        first: 0,
+        count: n,
+    }
+}
+
+// Too many entries, no whole ones, or a bad name: "object names not strictly ascending". Names are read once their number is tested.
+fn bad_entries<'a>(xs: &[u32], rule: &'a [u8], text: &'a [u8]) -> bool
+    ensures { λ r. ⌜ r ≡ badEntries (chartIn [] (now (rule .entry)) (now (text .entry))) (entriesIn (now (xs .entry))) ⌝ }
+{
+    let count = xs.len() / CHILD_WORDS;
+    if count > MAX_LIST {
+        return true;
+    }
+    if xs.len() % CHILD_WORDS != 0 {
+        return true;
+    }
+    !kind_sound::names_fit(object_of(count as u32), xs, rule, text)
+}
+
+// Two objects, by their entries.
+pub fn objects<'a>(xs: &[u32], ys: &[u32], n: u32, rule: &'a [u8], text: &'a [u8]) -> u32
+    ensures { λ r. ⌜ FirstOf n
+        (objectTests (chartIn [] (now (rule .entry)) (now (text .entry))) (entriesIn (now (xs .entry))) (entriesIn (now (ys .entry)))) r ⌝ }
+{
+    if !refusals::entries_inside(xs, n) {
+        return OUTSIDE;
+    }
+    if !refusals::entries_inside(ys, n) {
+        return OUTSIDE;
+    }
+    if bad_entries(xs, rule, text) {
+        return UNMAKEABLE;
+    }
+    if bad_entries(ys, rule, text) {
+        return UNMAKEABLE;
+    }
+    NO_REFUSAL
+}
+
+// An impl type: the list beside an error is not read.
+fn impl_inside(a: Impl, xs: &[u32], n: u32) -> bool
+    ensures { λ r. ⌜ ((ns : List Node) → length ns ≡ n → r ≡ all (inStore ns) (implTypes (implMeans a (now (xs .entry))))) ⌝ }
+{
+    match a {
+        Impl::Trait(_) => refusals::types_inside(xs, n),
+        Impl::Error => true,
+    }
+}
+
+fn impl_too_many(a: Impl, xs: &[u32]) -> bool
+    ensures { λ r. ⌜ r ≡ tooMany (implTypes (implMeans a (now (xs .entry)))) ⌝ }
+{
+    match a {
+        Impl::Trait(_) => too_many(xs),
+        Impl::Error => false,
+    }
+}
+
+// "a definition is absent or of another sort": a trait's record stands at its number.
+fn impl_defined(a: Impl, chart: &[u32]) -> bool
+    ensures { λ r. ⌜ ((xs : List ℕ) → r ≡ implDefined (chartAlone (now (chart .entry))) (implMeans a xs)) ⌝ }
+{
+    match a {
+        Impl::Trait(i) => chart::is_trait(chart, i),
+        Impl::Error => true,
+    }
+}
+
+// Two impl types.
+pub fn impls(a: Impl, xs: &[u32], b: Impl, ys: &[u32], n: u32, chart: &[u32]) -> u32
+    ensures { λ r. ⌜ FirstOf n
+        (implsTests (chartAlone (now (chart .entry))) (implMeans a (now (xs .entry))) (implMeans b (now (ys .entry)))) r ⌝ }
+{
+    if !impl_inside(a, xs, n) {
+        return OUTSIDE;
+    }
+    if !impl_inside(b, ys, n) {
+        return OUTSIDE;
+    }
+    if impl_too_many(a, xs) {
+        return UNMAKEABLE;
+    }
+    if impl_too_many(b, ys) {
+        return UNMAKEABLE;
+    }
+    if !impl_defined(a, chart) {
+        return UNDEFINED;
+    }
+    if !impl_defined(b, chart) {
+        return UNDEFINED;
+    }
+    NO_REFUSAL
+}
