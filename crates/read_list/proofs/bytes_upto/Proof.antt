@@ -1,10 +1,10 @@
--- `run_calls::bytes_upto` meets its contract: the smaller of the two counts a part of the slice.
+-- `read_list::bytes_upto` meets its contract: the smaller of the two counts a part of the slice.
 -- Assumes nothing.
 use mathlib.Core.Path.{sym}
 use lib.Seq.{length-take-le}
 use native.Mathlib.Omega.{arith}
-use Rattle.run_calls.proofs.bytes_upto.Statement.{statement}
-use Rattle.run_calls.proofs.bytes_upto.Tie as tie
+use Rattle.read_list.proofs.bytes_upto.Statement.{statement}
+use Rattle.read_list.proofs.bytes_upto.Tie as tie
 
 returns : tie.Need-returns
 returns c = (omega arith, sym (length-take-le _ _ (omega arith)))
