@@ -11,7 +11,7 @@ use lib.Dec.{eqb, ltb, leb}
 use lib.ListN.{length, length-append}
 use borrow.Author.Tests.{ltb-true, ltb-false, lt-leb, eq-eqb, ne-eqb}
 use Rattle.scope.specs.Base.{pick, all}
-use Rattle.scope.specs.Limits.{MAX-WIDTH}
+use Rattle.scope.specs.Limits.{MAX-WIDTH, KINDS}
 use Rattle.scope.specs.Names.{Texts, Name}
 use Rattle.scope.specs.Chart.{Env}
 use Rattle.scope.specs.Types.{Ty, tyOf}
@@ -20,14 +20,14 @@ use Rattle.scope.specs.Nodes as nodes
 use Rattle.scope.specs.Nodes.{Node, Store}
 use Rattle.scope.specs.Sound.{Lent, inStore, namesClean}
 use Rattle.scope.specs.Make.{new}
+use Rattle.scope.specs.Refusals.{OUTSIDE, UNMAKEABLE, UNDEFINED}
 use Rattle.scope.specs.Calls.{NewKind, Outcome, judged, firstBroken, orRefused, storeOf, lentTests, outside, roomTests, kindMade, madeType, newCall}
 use Rattle.names.specs.Place.{texts}
 use Rattle.chart.specs.declared.Beside.{Beside}
 use Rattle.chart.specs.Env.{envOf, chartIn, chartAlone}
 use Rattle.types.specs.declared.«Type».{«Type»}
-use Rattle.layout.specs.Words.{storeIn, lentOf}
-use Rattle.layout.specs.Meaning.{kindCell, kindMeans, headerIn}
-use Rattle.layout.specs.Meaning.{namedOf}
+use Rattle.layout.specs.Words.{CHILD-WORDS, storeIn, lentOf}
+use Rattle.layout.specs.Meaning.{kindCell, kindMeans, headerIn, namedOf}
 use Rattle.layout.specs.declared.Header.{Header}
 use Rattle.layout.specs.declared.Kind.{Kind}
 use Rattle.layout.proofs.KindLaws.{names-count}
@@ -35,14 +35,13 @@ use Rattle.layout.proofs.Lists.{and-right}
 use Rattle.kind_sound.proofs.Laws.{flag-reads, defined-chart}
 use Rattle.store.specs.Holds.{Ready}
 use Rattle.make.specs.Made.{MadeIs}
-use Rattle.store.specs.Entries.{entryCount}
+use Rattle.store.specs.Entries.{entryCount, entryTypes}
 use Rattle.make.specs.Given.{kindAt, kindGiven, KindReady}
 use Rattle.make.specs.declared.Head as make
 use Rattle.make.proofs.NewLaws.{kind-ready}
 use Rattle.sound.specs.Tests.{envIn}
 use Rattle.refusals.specs.Codes.{codeOf}
 use Rattle.promise.specs.Promise.{Promised, Reply, value, refusal}
-use Rattle.store.specs.Entries.{entryTypes}
 use Rattle.refusals.proofs.Laws.{code-none, code-some, none-some, code-first, code-next, test-passed, tests-passed, judged-refused, judged-done}
 use Rattle.promise.proofs.Laws.{lent-refused, lent-passed, lent-next, lent-env, lent-store, lent-outside, promised-back, promised-done}
 use Rattle.store.proofs.EntryLaws.{entries-long}
@@ -56,12 +55,12 @@ use Rattle.call_new.specs.Lent.{withFlag, kindLent, tidy, given, listTes
 module _ (x : Texts) (h : Head) (n : ℕ) where
   wide-unmakeable : MAX-WIDTH < n → makeable x h n ≡ false
   unfolding makeable
-  wide-unmakeable q = rw (lt-leb n MAX-WIDTH q) (and-false (ltb (h .code) 15))
+  wide-unmakeable q = rw (lt-leb n MAX-WIDTH q) (and-false (ltb (h .code) KINDS))
 
   misnamed-unmakeable : namesOk x (rowOf (h .code) .names) (h .names) n ≡ false → makeable x h n ≡ false
   unfolding makeable
   misnamed-unmakeable q =
-      rw (q, and-false (shapeFits (rowOf (h .code) .shape) n), and-false (leb n MAX-WIDTH)) (and-false (ltb (h .code) 15))
+      rw (q, and-false (shapeFits (rowOf (h .code) .shape) n), and-false (leb n MAX-WIDTH)) (and-false (ltb (h .code) KINDS))
 
 over-by : (a b c : Bool) (x : Texts) (d n : ℕ) (ns : List (Option Name)) → eqb d OWN-NAME ≡ a → eqb d CHILD-NAMES ≡ b → eqb d PARAMETER-NAMES ≡ c
     → length ns ≡ pick a 1 (pick b n (pick c (n - 1) 0)) + 1 → namesOk x d ns n ≡ false
@@ -101,7 +100,7 @@ module _ (k : KindArgs) (es : List ℕ) where
       (misnamed-unmakeable (e .texts) _ (entryCount es) (surplus-misnamed (e .texts) es (kindLent k false es)))
 
   -- 4 turns back what is not tidy
-  untidy-test : (e : Env) (ts : List (Bool × ℕ)) → tidy k es ≡ false → firstBroken (kindTests e (given k es) ++ ts) ≡ some 4
+  untidy-test : (e : Env) (ts : List (Bool × ℕ)) → tidy k es ≡ false → firstBroken (kindTests e (given k es) ++ ts) ≡ some UNMAKEABLE
   untidy-test e ts t = rw (untidy-unmakeable e t)
 
 -- kind_refusal
@@ -116,17 +115,17 @@ module _ (cs rule text : List ℕ) (k : KindArgs) (es : List ℕ) where
   flag-is : flag ≡ flagOf env (k .code) (k .number)
   flag-is = flag-reads (chartAlone cs) env refl (k .code) (k .number)
 
-  pub torn-refused : (length es % 4 ≡ 0 → ⊥) → firstBroken (kindTests env (given k es)) ≡ codeOf 4
-  torn-refused z = untidy-test k es env [] (rw (ne-eqb (length es % 4) 0 z))
+  pub torn-refused : (length es % CHILD-WORDS ≡ 0 → ⊥) → firstBroken (kindTests env (given k es)) ≡ codeOf UNMAKEABLE
+  torn-refused z = untidy-test k es env [] (rw (ne-eqb (length es % CHILD-WORDS) 0 z))
 
-  module _ {n : make.Head} {kind : Kind} (f : n ≡ withFlag k flag) (g : kind ≡ kindAt n 0 (entryCount es)) (whole : length es % 4 ≡ 0) where
+  module _ {n : make.Head} {kind : Kind} (f : n ≡ withFlag k flag) (g : kind ≡ kindAt n 0 (entryCount es)) (whole : length es % CHILD-WORDS ≡ 0) where
     kind-is : kind ≡ kindLent k flag es
     kind-is = g ∙ ap (λ (m : make.Head). kindAt m 0 (entryCount es)) f
 
     tidy-by : {b : Bool} → b ≡ namesClean (kindCell es kind) → tidy k es ≡ b
-    tidy-by q = rw (eq-eqb (length es % 4) 0 whole) (sym (q ∙ ap (λ (y : Kind). namesClean (kindCell es y)) kind-is))
+    tidy-by q = rw (eq-eqb (length es % CHILD-WORDS) 0 whole) (sym (q ∙ ap (λ (y : Kind). namesClean (kindCell es y)) kind-is))
 
-    pub unclean-refused : {b : Bool} → b ≡ namesClean (kindCell es kind) → b ≡ false → firstBroken (kindTests env (given k es)) ≡ codeOf 4
+    pub unclean-refused : {b : Bool} → b ≡ namesClean (kindCell es kind) → b ≡ false → firstBroken (kindTests env (given k es)) ≡ codeOf UNMAKEABLE
     unclean-refused q z = untidy-test k es env [] (tidy-by q ∙ z)
 
     module _ {b : Bool} (q : b ≡ namesClean (kindCell es kind)) (y : b ≡ true) where
@@ -141,17 +140,17 @@ module _ (cs rule text : List ℕ) (k : KindArgs) (es : List ℕ) where
         made-test =
             ap (λ (y : nodes.Kind). makeable (texts rule text) (y .head) (length (given k es .kids))) made-is ∙ rw width-is (sym p)
 
-        pub unmade-refused : m ≡ false → firstBroken (kindTests env (given k es)) ≡ codeOf 4
+        pub unmade-refused : m ≡ false → firstBroken (kindTests env (given k es)) ≡ codeOf UNMAKEABLE
         unmade-refused z = rw (made-test ∙ z)
 
         module _ {d : Bool} (r : d ≡ defined (chartAlone cs) (kindMeans [] kind .head)) (o : m ≡ true) where
-          defined-test : firstBroken (kindTests env (given k es)) ≡ firstBroken ((not d, 5) ∷ [])
+          defined-test : firstBroken (kindTests env (given k es)) ≡ firstBroken ((not d, UNDEFINED) ∷ [])
           defined-test =
               let v : defined env (kindMade env (given k es) .head) ≡ d =
               ap (λ (y : nodes.Kind). defined env (y .head)) made-is ∙ (defined-chart env cs refl es kind ∙ sym r) in
               rw (made-test ∙ o, v)
 
-          pub undefined-refused : d ≡ false → firstBroken (kindTests env (given k es)) ≡ codeOf 5
+          pub undefined-refused : d ≡ false → firstBroken (kindTests env (given k es)) ≡ codeOf UNDEFINED
           undefined-refused z = defined-test ∙ rw z
 
           pub kind-passed : d ≡ true → firstBroken (kindTests env (given k es)) ≡ codeOf 0
@@ -186,7 +185,7 @@ module _ (cs rule text h ws ks : List ℕ) (k : KindArgs) (es : List ℕ) where
       module _ (y : m ≡ 0) where
         tidy-go : (t : Bool) → tidy k es ≡ t → tidy k es ≡ true
         tidy-go true r = r
-        tidy-go false r = none-some 4 (sym (untidy-test k es inner rooms r) ∙ (all-tests ∙ code-none m y))
+        tidy-go false r = none-some UNMAKEABLE (sym (untidy-test k es inner rooms r) ∙ (all-tests ∙ code-none m y))
 
         inside-tidy : tidy k es ≡ true
         inside-tidy = tidy-go (tidy k es) refl
@@ -195,7 +194,7 @@ module _ (cs rule text h ws ks : List ℕ) (k : KindArgs) (es : List ℕ) where
           pub inside-ready : Ready h ws ks 0 0 → KindReady h ws ks f es
           inside-ready r = rw g (kind-ready (withFlag k (flagOf (chartAlone cs) (k .code) (k .number))) es
               (ready-more 1 (entryCount es) r (p ws ks ∙ code-none m y))
-              (and-right (eqb (length es % 4) 0) (namesClean (kindCell es (kindLent k false es))) inside-tidy))
+              (and-right (eqb (length es % CHILD-WORDS) 0) (namesClean (kindCell es (kindLent k false es))) inside-tidy))
 
           kind-made : kindMade inner a ≡ kindGiven f es
           kind-made =
@@ -214,7 +213,7 @@ module _ (cs rule text h ws ks : List ℕ) (k : KindArgs) (es : List ℕ) where
 pub listed-narrow : (i : Bool) (w m : ℕ) → firstBroken (listTests i w) ≡ codeOf m → m ≡ 0 → w ≤ MAX-WIDTH
 listed-narrow i w m p z =
     let t : Bool = ltb MAX-WIDTH w in
-    ltb-false MAX-WIDTH w (test-passed t 4 [] (tests-passed (not i) 3 ((t, 4) ∷ []) (p ∙ code-none m z)))
+    ltb-false MAX-WIDTH w (test-passed t UNMAKEABLE [] (tests-passed (not i) OUTSIDE ((t, UNMAKEABLE) ∷ []) (p ∙ code-none m z)))
 
 beside-unread : (cs : List ℕ) (b : Beside) (rule text : List ℕ) (s : Store) (a : NewKind)
     → insideCall (envOf cs b rule text) s a ≡ insideCall (chartIn cs rule text) s a
@@ -247,7 +246,7 @@ module _ (cs : List ℕ) (b : Beside) (rule text h ws ks : List ℕ) (a : NewKin
 
     module _ (z : n ≡ 0) {x : Header} (g : x ≡ headerIn h) (ts : List Ty) (kids : a .kids ≡ ts) {w : ℕ} (many : length ts ≡ w) {i : Bool}
         (o : (ns : List Node) → length ns ≡ x .nodes → i ≡ all (inStore ns) ts) where
-      inside-tests : firstBroken tests ≡ firstBroken ((not i, 3) ∷ later)
+      inside-tests : firstBroken tests ≡ firstBroken ((not i, OUTSIDE) ∷ later)
       inside-tests =
           lent-next outer h ws ks (outside (storeOf lent) (a .kids) ∷ later) n q z
           ∙ ap (λ t. firstBroken (t ∷ later)) (ap (outside (storeOf lent)) kids ∙ lent-outside outer h ws ks (lent-passed outer h ws ks n q z) x g ts i o)
@@ -269,7 +268,7 @@ module _ (cs : List ℕ) (b : Beside) (rule text h ws ks : List ℕ) (a : NewKin
 
         module _ (y : m ≡ 0) where
           later-tests : firstBroken tests ≡ firstBroken later
-          later-tests = inside-tests ∙ rw (test-passed (not i) 3 ((ltb MAX-WIDTH w, 4) ∷ []) (p ∙ code-none m y))
+          later-tests = inside-tests ∙ rw (test-passed (not i) OUTSIDE ((ltb MAX-WIDTH w, UNMAKEABLE) ∷ []) (p ∙ code-none m y))
 
           new-inside : newCall outer lent a ≡ insideCall (chartIn cs rule text) (storeIn h ws ks) a
           new-inside =

@@ -15,14 +15,13 @@ use Rattle.scope.specs.Types.{tyOf}
 use Rattle.scope.specs.Kinds.{NO-NAMES, STRUCT, UNION, rows, rowOf}
 use Rattle.scope.specs.Sound.{slotBare}
 use Rattle.scope.specs.Calls.{over}
-use Rattle.layout.specs.Words.{childWords, slotAt, slots}
+use Rattle.layout.specs.Words.{CHILD-WORDS, childWords, slotAt, slots}
 use Rattle.layout.specs.Meaning.{slotMeans, putSlot}
 use Rattle.layout.specs.declared.Slot as code
 use Rattle.layout.proofs.Lists.{same-from, same-shift}
 use Rattle.layout.proofs.ChildLaws.{slot-here, slot-there, slots-front}
 use Rattle.layout.proofs.KindLaws.{names-none, fits-none, fits-clean}
-use Rattle.store.specs.Entries.{entryCount}
-use Rattle.store.specs.Entries.{entryTypes, typesIn}
+use Rattle.store.specs.Entries.{entryCount, entryTypes, typesIn}
 use Rattle.call_new.specs.declared.KindArgs.{KindArgs}
 use Rattle.call_new.specs.Lent.{kindLent, tidy, given, plainArgs, bareSlot, Listed}
 
@@ -31,7 +30,7 @@ use Rattle.call_new.specs.Lent.{kindLent, tidy, given, plainArgs, bareSl
 pub listed-none : {ts es : List ℕ} → Listed ts 0 es
 listed-none = record { each = λ i h. absurd (omega arith) }
 
-module _ (ts : List ℕ) (i : ℕ) {es es′ : List ℕ} {s : code.Slot} (o : Listed ts i es) (room : i * 4 + 4 ≤ length es)
+module _ (ts : List ℕ) (i : ℕ) {es es′ : List ℕ} {s : code.Slot} (o : Listed ts i es) (room : i * CHILD-WORDS + CHILD-WORDS ≤ length es)
     (is : slotMeans s ≡ bareSlot (getD ts i 0)) (q : es′ ≡ putSlot es i s) where
   pub listed-more : Listed ts (i + 1) es′
   listed-more = rw q (record {
@@ -58,8 +57,8 @@ module _ (ts es : List ℕ) (o : Listed ts (length ts) es) (room : childWords (l
   abbrev part : List ℕ
   part = take (childWords (length ts)) es
 
-  pub part-long : length part ≡ length ts * 4
-  part-long = length-take-le (length ts * 4) es room
+  pub part-long : length part ≡ childWords (length ts)
+  part-long = length-take-le (childWords (length ts)) es room
 
   part-count : entryCount part ≡ length ts
   part-count = omega (arith, part-long)
@@ -80,7 +79,7 @@ module _ (ts es : List ℕ) (o : Listed ts (length ts) es) (room : childWords (l
     part-tidy : tidy (plainArgs c n) part ≡ true
     part-tidy =
         let k = kindLent (plainArgs c n) false part in
-        rw (eq-eqb (length part % 4) 0 (omega (arith, part-long)))
+        rw (eq-eqb (length part % CHILD-WORDS) 0 (omega (arith, part-long)))
         (fits-clean part k (entryCount part) (fits-none part k (entryCount part) (omega arith) refl row (rw part-slots (all-bare ts))))
 
     plain-given : given (plainArgs c n) part ≡ over c n (typesIn ts)

@@ -16,7 +16,9 @@ use Rattle.scope.specs.Kinds.{makeable, defined}
 use Rattle.scope.specs.Nodes.{Store}
 use Rattle.scope.specs.Sound.{Slot, namesClean}
 use Rattle.scope.specs.Make.{new}
+use Rattle.scope.specs.Refusals.{OUTSIDE, UNMAKEABLE, UNDEFINED}
 use Rattle.scope.specs.Calls.{NewKind, Outcome, judged, roomTests, kindMade, madeType}
+use Rattle.names.specs.Place.{noName}
 use Rattle.layout.specs.Words.{CHILD-WORDS, slotAt}
 use Rattle.layout.specs.Meaning.{kindCell, kindMeans}
 use Rattle.layout.specs.declared.Kind.{Kind}
@@ -32,9 +34,7 @@ withFlag k d = record {
   number = k .number;
   dual = d;
   flex = k .flex;
-  text = k .text;
-  start = k .start;
-  len = k .len;
+  name = k .name;
 }
 
 -- the same as a kind over the entries; its names and children do not look at the flag
@@ -59,7 +59,7 @@ given k es = record {
 
 -- a kind without `Flex` or names
 abbrev pub plainArgs : ℕ → ℕ → KindArgs
-plainArgs c n = record { code = c; number = n; flex = 0; text = 0; start = 0; len = 0 }
+plainArgs c n = record { code = c; number = n; flex = 0; name = noName }
 
 -- a child without a name
 abbrev pub bareSlot : ℕ → Slot
@@ -71,11 +71,12 @@ pub record Listed (ts : List ℕ) (n : ℕ) (es : List ℕ) : Type 0 where
 
 -- 3, of a list of n types that are inside or not, and of 4 what the list alone decides
 abbrev pub listTests : Bool → ℕ → List (Bool × ℕ)
-listTests inside n = (not inside, 3) ∷ (ltb MAX-WIDTH n, 4) ∷ []
+listTests inside n = (not inside, OUTSIDE) ∷ (ltb MAX-WIDTH n, UNMAKEABLE) ∷ []
 
 -- 4 and 5
 abbrev pub kindTests : Env → NewKind → List (Bool × ℕ)
-kindTests e a = (not (makeable (e .texts) (kindMade e a .head) (length (a .kids))), 4) ∷ (not (defined e (kindMade e a .head)), 5) ∷ []
+kindTests e a =
+    (not (makeable (e .texts) (kindMade e a .head) (length (a .kids))), UNMAKEABLE) ∷ (not (defined e (kindMade e a .head)), UNDEFINED) ∷ []
 
 -- `newCall` once 2, 8 and 3 are passed
 abbrev pub insideCall : Env → Store → NewKind → Outcome Ty

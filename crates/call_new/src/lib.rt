@@ -22,6 +22,8 @@ use kinds::UNION;
 use layout::CHILD_WORDS;
 use layout::Slot;
 use make::Head;
+use names::NO_NAME;
+use names::Name;
 use promise::TypeAnswer;
 use refusals::NO_REFUSAL;
 use refusals::OUTSIDE;
@@ -30,8 +32,8 @@ use refusals::UNMAKEABLE;
 use scope::MAX_WIDTH;
 use types::Type;
 
-// The words of 255 entries.
-const LIST_WORDS: usize = 1020;
+// The words of the entries of the widest kind.
+const LIST_WORDS: usize = MAX_WIDTH * CHILD_WORDS;
 
 // What a kind is made of, its children and their names apart. Its flag is the chart's.
 pub struct KindArgs {
@@ -39,23 +41,20 @@ pub struct KindArgs {
     pub number: u32,
     pub flex: u32,
     // Its own name, or zeros.
-    pub text: u32,
-    pub start: u32,
-    pub len: u32,
+    pub name: Name,
 }
 
 // The kind with the chart's flag.
 fn flagged(k: KindArgs, chart: &[u32]) -> Head
     ensures { λ r. ⌜ r ≡ withFlag k (flagOf (chartAlone (now (chart .entry))) (k .code) (k .number)) ⌝ }
 {
+    let name = k.name;
     Head {
         code: k.code,
         number: k.number,
         dual: kind_sound::chart_flag(k.code, k.number, chart),
         flex: k.flex,
-        text: k.text,
-        start: k.start,
-        len: k.len,
+        name,
     }
 }
 
@@ -68,7 +67,8 @@ fn kind_refusal<'a>(
     entries: &[u32],
 ) -> u32
     requires { ⌜ entryCount (now entries) ≤ MAX-WIDTH ⌝ }
-    ensures { λ r. ⌜ firstBroken (kindTests (chartIn (now (chart .entry)) (now (rule .entry)) (now (text .entry))) (given k (now (entries .entry)))) ≡ codeOf r ⌝ }
+    ensures { λ r. ⌜ firstBroken
+        (kindTests (chartIn (now (chart .entry)) (now (rule .entry)) (now (text .entry))) (given k (now (entries .entry)))) ≡ codeOf r ⌝ }
 {
     if entries.len() % CHILD_WORDS != 0 {
         return UNMAKEABLE;
@@ -114,7 +114,10 @@ fn make_inside<'a>(
 ) -> TypeAnswer
     requires { ⌜ Ready (now h) (now ws) (now ks) 0 0 ⌝ }
     requires { ⌜ entryCount (now entries) ≤ MAX-WIDTH ⌝ }
-    ensures { λ r. ⌜ Promised (insideCall (chartIn (now (chart .entry)) (now (rule .entry)) (now (text .entry))) (storeIn (now (h .entry)) (now (ws .entry)) (now (ks .entry))) (given k (now (entries .entry)))) (typeReply r) (now (h .entry)) (now (ws .entry)) (now (ks .entry)) (now (h .exit)) (now (ws .exit)) (now (ks .exit)) ⌝ }
+    ensures { λ r. ⌜ Promised
+        (insideCall (chartIn (now (chart .entry)) (now (rule .entry)) (now (text .entry))) (storeIn (now (h .entry)) (now (ws .entry)) (now (ks .entry)))
+        (given k (now (entries .entry))))
+        (typeReply r) (now (h .entry)) (now (ws .entry)) (now (ks .entry)) (now (h .exit)) (now (ws .exit)) (now (ks .exit)) ⌝ }
 {
     let unmade = kind_refusal(chart, rule, text, k, entries);
     if unmade != NO_REFUSAL {
@@ -139,7 +142,10 @@ pub fn new<'a>(
     k: KindArgs,
     entries: &[u32],
 ) -> TypeAnswer
-    ensures { λ r. ⌜ Promised (newCall (envIn (now (chart .entry)) beside (now (rule .entry)) (now (text .entry))) (lentOf (now (h .entry)) (now (ws .entry)) (now (ks .entry))) (given k (now (entries .entry)))) (typeReply r) (now (h .entry)) (now (ws .entry)) (now (ks .entry)) (now (h .exit)) (now (ws .exit)) (now (ks .exit)) ⌝ }
+    ensures { λ r. ⌜ Promised
+        (newCall (envIn (now (chart .entry)) beside (now (rule .entry)) (now (text .entry))) (lentOf (now (h .entry)) (now (ws .entry)) (now (ks .entry)))
+        (given k (now (entries .entry))))
+        (typeReply r) (now (h .entry)) (now (ws .entry)) (now (ks .entry)) (now (h .exit)) (now (ws .exit)) (now (ks .exit)) ⌝ }
 {
     let lent = sound::refusal(chart, beside, rule, text, h, ws, ks);
     if lent != NO_REFUSAL {
@@ -160,9 +166,7 @@ fn bare_slot(w: u32) -> Slot
 {
     Slot {
         ty: Type(w),
-        text: 0,
-        start: 0,
-        len: 0,
+        name: NO_NAME,
     }
 }
 
@@ -185,9 +189,7 @@ fn plain_args(code: u32, number: u32) -> KindArgs
         code,
         number,
         flex: 0,
-        text: 0,
-        start: 0,
-        len: 0,
+        name: NO_NAME,
     }
 }
 
@@ -205,7 +207,10 @@ fn new_over<'a>(
     types: &[u32],
 ) -> TypeAnswer
     requires { ⌜ rowOf code .names ≡ NO-NAMES ⌝ }
-    ensures { λ r. ⌜ Promised (newCall (envIn (now (chart .entry)) beside (now (rule .entry)) (now (text .entry))) (lentOf (now (h .entry)) (now (ws .entry)) (now (ks .entry))) (over code number (typesIn (now (types .entry))))) (typeReply r) (now (h .entry)) (now (ws .entry)) (now (ks .entry)) (now (h .exit)) (now (ws .exit)) (now (ks .exit)) ⌝ }
+    ensures { λ r. ⌜ Promised
+        (newCall (envIn (now (chart .entry)) beside (now (rule .entry)) (now (text .entry))) (lentOf (now (h .entry)) (now (ws .entry)) (now (ks .entry)))
+        (over code number (typesIn (now (types .entry)))))
+        (typeReply r) (now (h .entry)) (now (ws .entry)) (now (ks .entry)) (now (h .exit)) (now (ws .exit)) (now (ks .exit)) ⌝ }
 {
     let unsound = sound::refusal(chart, beside, rule, text, h, ws, ks);
     if unsound != NO_REFUSAL {
@@ -236,7 +241,10 @@ pub fn new_struct<'a>(
     number: u32,
     types: &[u32],
 ) -> TypeAnswer
-    ensures { λ r. ⌜ Promised (newStructCall (envIn (now (chart .entry)) beside (now (rule .entry)) (now (text .entry))) (lentOf (now (h .entry)) (now (ws .entry)) (now (ks .entry))) number (typesIn (now (types .entry)))) (typeReply r) (now (h .entry)) (now (ws .entry)) (now (ks .entry)) (now (h .exit)) (now (ws .exit)) (now (ks .exit)) ⌝ }
+    ensures { λ r. ⌜ Promised
+        (newStructCall (envIn (now (chart .entry)) beside (now (rule .entry)) (now (text .entry))) (lentOf (now (h .entry)) (now (ws .entry)) (now (ks .entry)))
+        number (typesIn (now (types .entry))))
+        (typeReply r) (now (h .entry)) (now (ws .entry)) (now (ks .entry)) (now (h .exit)) (now (ws .exit)) (now (ks .exit)) ⌝ }
 {
     new_over(chart, beside, rule, text, h, ws, ks, STRUCT, number, types)
 }
@@ -253,7 +261,10 @@ pub fn new_union<'a>(
     number: u32,
     types: &[u32],
 ) -> TypeAnswer
-    ensures { λ r. ⌜ Promised (newUnionCall (envIn (now (chart .entry)) beside (now (rule .entry)) (now (text .entry))) (lentOf (now (h .entry)) (now (ws .entry)) (now (ks .entry))) number (typesIn (now (types .entry)))) (typeReply r) (now (h .entry)) (now (ws .entry)) (now (ks .entry)) (now (h .exit)) (now (ws .exit)) (now (ks .exit)) ⌝ }
+    ensures { λ r. ⌜ Promised
+        (newUnionCall (envIn (now (chart .entry)) beside (now (rule .entry)) (now (text .entry))) (lentOf (now (h .entry)) (now (ws .entry)) (now (ks .entry)))
+        number (typesIn (now (types .entry))))
+        (typeReply r) (now (h .entry)) (now (ws .entry)) (now (ks .entry)) (now (h .exit)) (now (ws .exit)) (now (ks .exit)) ⌝ }
 {
     new_over(chart, beside, rule, text, h, ws, ks, UNION, number, types)
 }

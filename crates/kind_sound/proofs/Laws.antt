@@ -2,16 +2,15 @@
 -- the nodes only how many there are. And a store with a kind of more than 255 children is not sound, so widths may be tested before all else.
 -- Assumes nothing.
 use mathlib.Core.Path.{_≡_, refl, ap, sym, _∙_, subst, fun-ext}
-use mathlib.Core.Bool.{Bool, true, false, _&&_, false≢true}
-use mathlib.Core.List.{List, [], _∷_}
-use Prim.Native.Nat.{ℕ, suc, _+_, _-_, _≤_, _<_}
-use native.Mathlib.Numerals.{add-one}
+use mathlib.Core.Bool.{Bool, true, false, _&&_, and-false, false≢true}
+use mathlib.Core.List.{List, []}
+use Prim.Native.Nat.{ℕ, _+_, _≤_, _<_}
 use native.Mathlib.Omega.{arith}
 use lib.Dec.{ltb, leb}
 use lib.ListN.{length, getD}
 use borrow.Author.Tests.{lt-ltb, leb-true, le-leb}
-use Rattle.scope.specs.Base.{all, from}
-use Rattle.scope.specs.Limits.{MAX-WIDTH}
+use Rattle.scope.specs.Base.{all}
+use Rattle.scope.specs.Limits.{MAX-WIDTH, KINDS}
 use Rattle.scope.specs.Chart.{Env}
 use Rattle.scope.specs.Types.{Ty, tyOf}
 use Rattle.scope.specs.Names.{Texts}
@@ -20,10 +19,10 @@ use Rattle.scope.specs.Nodes as nodes
 use Rattle.scope.specs.Sound as sound
 use Rattle.scope.specs.Sound.{inStore, kindSound, nodeSound, roomSound, soundStore, sound}
 use Rattle.names.specs.Place.{texts}
+use Rattle.names.proofs.Tests.{all-at}
 use Rattle.chart.specs.Words.{recordsOf}
 use Rattle.chart.specs.Env.{envOf, chartIn, chartAlone}
 use Rattle.chart.specs.declared.Beside.{Beside}
-use Rattle.chart.proofs.Laws.{all-at}
 use Rattle.layout.specs.Words.{slotAt, countAt, decode, nodesMade, childrenMade, storeIn, clean, lentOf}
 use Rattle.layout.specs.Meaning.{cellIn, cellOf, cellWords, slotMeans, kindMeans, nodeMeans, readAt, Clean}
 use Rattle.layout.specs.declared.Cell.{Cell}
@@ -32,33 +31,14 @@ use Rattle.layout.specs.declared.Slot.{Slot}
 use Rattle.layout.specs.declared.TypeState.the-variants.{Known, Unknown, InferenceFailed}
 use Rattle.layout.specs.declared.TypeNode.{TypeNode}
 use Rattle.layout.specs.declared.TypeNode.the-variants.{Root, Child}
-use Rattle.layout.proofs.Lists.{and-left, and-right, all-from, from-all}
+use Rattle.layout.proofs.Lists.{and-left, and-right, from-all}
 use Rattle.layout.proofs.Cells.{clean-words, field-word, says}
 use Rattle.layout.proofs.ChildLaws.{length-kids, kid-at}
 use Rattle.layout.proofs.Laws.{past, length-decode, read-node}
 use Rattle.layout.proofs.StoreLaws.{clean-nodes}
 use Rattle.kind_sound.specs.Nodes.{narrowNodes}
-use Rattle.kind_sound.proofs.NameLaws.{and-false}
-
--- a test of the numbers from i to n, one by one
-
-module _ (p : ℕ → Bool) (i n : ℕ) where
-  run-cons : i < n → from i (n - i) ≡ i ∷ from (i + 1) (n - (i + 1))
-  run-cons h = let z : n - i ≡ suc (n - (i + 1)) = omega arith in rw (z, add-one i)
-
-  pub run-step : i < n → p i ≡ true → all p (from i (n - i)) ≡ all p (from (i + 1) (n - (i + 1)))
-  run-step h e = rw (run-cons h, e)
-
-  pub run-fails : i < n → p i ≡ false → all p (from i (n - i)) ≡ false
-  run-fails h e = rw (run-cons h, e)
-
-  pub run-end : n ≤ i → all p (from i (n - i)) ≡ true
-  run-end h = let z : n - i ≡ 0 = omega arith in rw z
 
 -- the children of a kind, by their places
-
-abbrev pub no-kid : Ty
-no-kid = tyOf 0
 
 module _ (ks : List ℕ) (k : Kind) (j : ℕ) where
   pub kid-below : j < k .count → j < length (kindMeans ks k .kids)
@@ -67,10 +47,9 @@ module _ (ks : List ℕ) (k : Kind) (j : ℕ) where
   pub kids-past : k .count ≤ j → length (kindMeans ks k .kids) ≤ j
   kids-past h = rw (length-kids ks k) h
 
-  pub kid-inside : (ns : List nodes.Node) → j < k .count → (s : Slot) → slotMeans s ≡ slotAt ks (k .first + j)
-      → inStore ns (getD (kindMeans ks k .kids) j no-kid) ≡ inStore ns (tyOf (s .ty .0))
-  kid-inside ns h s e =
-      ap (inStore ns) (kid-at ks k j (record { type = 0; text = 0; start = 0; len = 0 }) h ∙ ap (λ (x : sound.Slot). tyOf (x .type)) (sym e))
+  -- child j, where the code has read it
+  pub kid-there : j < k .count → (s : Slot) → slotMeans s ≡ slotAt ks (k .first + j) → getD (kindMeans ks k .kids) j (tyOf 0) ≡ tyOf (s .ty .0)
+  kid-there h s e = kid-at ks k j (record { type = 0; text = 0; start = 0; len = 0 }) h ∙ ap (λ (x : sound.Slot). tyOf (x .type)) (sym e)
 
 -- what is read of the environment
 
@@ -102,7 +81,7 @@ module _ (e : Env) (ws : List ℕ) (same : e .records ≡ recordsOf ws) (ks : Li
 
 pub made-tests : (x : Texts) (ks : List ℕ) (k : Kind) (n : ℕ)
     → makeable x (kindMeans ks k .head) n
-    ≡ (ltb (k .code) 15
+    ≡ (ltb (k .code) KINDS
     && (leb n MAX-WIDTH
     && (shapeFits (rowOf (k .code) .shape) n
     && (namesOk x (rowOf (k .code) .names) (kindMeans ks k .head .names) n
@@ -168,7 +147,7 @@ made-narrow : (e : Env) (ns : List nodes.Node) (k : nodes.Kind) → kindSound e 
 unfolding kindSound makeable
 made-narrow e ns k h =
     let m : Bool = makeable (e .texts) (k .head) (length (k .kids)) in
-    leb-true (length (k .kids)) MAX-WIDTH (and-left (leb (length (k .kids)) MAX-WIDTH) _ (and-right (ltb (k .head .code) 15) _ (and-left m _ h)))
+    leb-true (length (k .kids)) MAX-WIDTH (and-left (leb (length (k .kids)) MAX-WIDTH) _ (and-right (ltb (k .head .code) KINDS) _ (and-left m _ h)))
 
 -- a node without a kind has no words for children
 sound-narrow : (e : Env) (ks : List ℕ) (ns : List nodes.Node) (v : TypeNode) → nodeSound e ns (nodeMeans ks v) ≡ true → cellOf v .count ≤ MAX-WIDTH

@@ -2,35 +2,29 @@
 -- tested by its place alone. Ascending names are held against the one before, the first against the empty name, which comes before every name that is ok.
 -- Assumes nothing.
 use mathlib.Core.Path.{_≡_, refl, ap, sym, _∙_}
-use mathlib.Core.Bool.{Bool, true, false, _&&_, false≢true}
+use mathlib.Core.Bool.{Bool, true, false, _&&_, and-true, and-false, false≢true}
 use mathlib.Core.Option.{Option, none, some}
 use mathlib.Core.List.{List, [], _∷_, map}
-use Prim.Native.Nat.{ℕ, zero, suc, _+_, _-_, _≤_, _<_}
+use Prim.Native.Nat.{ℕ, suc, _+_, _-_, _≤_, _<_}
 use native.Mathlib.Numerals.{add-one}
 use native.Mathlib.Omega.{arith}
 use lib.Dec.{eqb}
 use lib.ListN.{length, getD, drop, length-map, drop-of-length-le, List·getD-map}
 use lib.Seq.{drop-cons}
 use borrow.Author.Tests.{eq-eqb, ne-eqb, eqb-true}
-use Rattle.scope.specs.Base.{all, from}
+use Rattle.scope.specs.Base.{all, front}
 use Rattle.scope.specs.Names.{Texts, Name, name, bytes, inText, nameOk, ltBytes, ascending, bytesOr, named, namedOrNone}
 use Rattle.scope.specs.Kinds.{rowOf, OWN-NAME, CHILD-NAMES, PARAMETER-NAMES, objectNamesOk, namesOk}
-use Rattle.scope.specs.Sound.{Slot, nameIn, slotName, front}
+use Rattle.scope.specs.Sound.{nameIn, slotName}
+use Rattle.scope.specs.Sound as sound
+use Rattle.names.specs.Place.{nameOf}
 use Rattle.names.proofs.Laws.{name-length}
 use Rattle.layout.specs.Words.{slotAt, slots}
-use Rattle.layout.specs.Meaning.{kindMeans}
+use Rattle.layout.specs.Meaning.{slotMeans, kindMeans}
 use Rattle.layout.specs.declared.Kind.{Kind}
-use Rattle.layout.proofs.ChildLaws.{length-slots, slots-get}
+use Rattle.layout.specs.declared.Slot.{Slot}
+use Rattle.layout.proofs.ChildLaws.{length-slots, slots-get, front-slots}
 use Rattle.layout.proofs.KindLaws.{names-own, names-child, names-parameters}
-use Rattle.kind_sound.specs.Nodes.{placeOf}
-
-pub and-true : (a : Bool) → (a && true) ≡ a
-and-true true = refl
-and-true false = refl
-
-pub and-false : (a : Bool) → (a && false) ≡ false
-and-false true = refl
-and-false false = refl
 
 -- one name in words
 
@@ -69,7 +63,7 @@ childNames ks i n = map slotName (slots ks i n)
 pub length-names : (ks : List ℕ) (i n : ℕ) → length (childNames ks i n) ≡ n
 length-names ks i n = length-map (slots ks i n) slotName ∙ length-slots ks i n
 
-abbrev bare : Slot
+abbrev bare : sound.Slot
 bare = record { type = 0; text = 0; start = 0; len = 0 }
 
 module _ (ks : List ℕ) (i n j : ℕ) where
@@ -79,9 +73,9 @@ module _ (ks : List ℕ) (i n j : ℕ) where
   pub names-past : n ≤ j → length (childNames ks i n) ≤ j
   names-past h = rw (length-names ks i n) h
 
-  -- the j-th name, where the code has read its place
-  pub name-there : j < n → (m : Name) → m ≡ placeOf (slotAt ks (i + j)) → getD (childNames ks i n) j none ≡ nameOr m
-  name-there h m e = List·getD-map slotName (slots ks i n) j bare ∙ (ap slotName (slots-get ks i n j bare h) ∙ ap nameOr (sym e))
+  -- the j-th name, where the code has read the child
+  pub name-there : j < n → (c : Slot) → slotMeans c ≡ slotAt ks (i + j) → getD (childNames ks i n) j none ≡ nameOr (nameOf (c .name))
+  name-there h c e = List·getD-map slotName (slots ks i n) j bare ∙ ap slotName (slots-get ks i n j bare h ∙ sym e)
 
 -- "strictly ascending", held against the name before
 
@@ -129,14 +123,10 @@ module _ (x : Texts) (p : List ℕ) (ns : List (Option Name)) (j : ℕ) (n : Nam
 
 -- a Closure's parameters are all children but the last
 
-front-from : {A : Type 0} (f : ℕ → A) (i n : ℕ) → front (map f (from i (suc n))) ≡ map f (from i n)
-front-from f i zero = refl
-front-from {A} f i (suc n) = ap (λ (l : List A). f i ∷ l) (front-from f (suc i) n)
-
-front-slots : (ks : List ℕ) (i n : ℕ) → 0 < n → front (slots ks i n) ≡ slots ks i (n - 1)
-front-slots ks i n h =
+parameter-slots : (ks : List ℕ) (i n : ℕ) → 0 < n → front (slots ks i n) ≡ slots ks i (n - 1)
+parameter-slots ks i n h =
     let z : n ≡ suc (n - 1) = omega arith in
-    ap (λ (m : ℕ). front (slots ks i m)) z ∙ front-from (slotAt ks) i (n - 1)
+    ap (λ (m : ℕ). front (slots ks i m)) z ∙ front-slots ks i (n - 1)
 
 -- the names of a kind, by its row
 
@@ -150,11 +140,9 @@ module _ (x : Texts) (ks : List ℕ) (k : Kind) where
 
   -- d is what the code's row asks for
   module _ (d : ℕ) (row : d ≡ asked) where
-    pub own-names : d ≡ OWN-NAME → namesTest ≡ nameOk x (name (k .text) (k .start) (k .len))
+    pub own-names : d ≡ OWN-NAME → namesTest ≡ nameOk x (nameOf (k .name))
     unfolding namesOk
-    own-names e =
-        rw (names-own ks k (sym row ∙ e), ← row, e)
-        (and-true (named x (nameIn (k .text) (k .start) (k .len))) ∙ named-or x (name (k .text) (k .start) (k .len)))
+    own-names e = rw (names-own ks k (sym row ∙ e), ← row, e) (and-true (named x (nameOr (nameOf (k .name)))) ∙ named-or x (nameOf (k .name)))
 
     pub child-names : d ≡ CHILD-NAMES → namesTest ≡ objectNamesOk x (childNames ks (k .first) (k .count))
     unfolding namesOk
@@ -166,7 +154,7 @@ module _ (x : Texts) (ks : List ℕ) (k : Kind) where
     parameter-names e h =
         let n : ℕ = length (childNames ks (k .first) (k .count - 1)) in
         let z : suc n ≡ k .count = omega (arith, length-names ks (k .first) (k .count - 1)) in
-        rw (names-parameters ks k (sym row ∙ e), ← row, e, front-slots ks (k .first) (k .count) (omega arith), eq-eqb (suc n) (k .count) z)
+        rw (names-parameters ks k (sym row ∙ e), ← row, e, parameter-slots ks (k .first) (k .count) (omega arith), eq-eqb (suc n) (k .count) z)
 
     pub no-return : d ≡ PARAMETER-NAMES → k .count ≡ 0 → namesTest ≡ false
     unfolding namesOk

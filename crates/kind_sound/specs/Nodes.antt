@@ -1,20 +1,15 @@
--- A child's name, what the test of all nodes asks and says, and how wide a node's kind is.
+-- What the test of all nodes asks and says, and how wide a node's kind is.
 use mathlib.Core.Bool.{Bool}
 use mathlib.Core.List.{List}
 use Prim.Native.Nat.{ℕ}
 use lib.Dec.{leb}
 use Rattle.scope.specs.Base.{all, from}
 use Rattle.scope.specs.Limits.{MAX-WIDTH}
-use Rattle.scope.specs.Names.{Name, name}
 use Rattle.scope.specs.Chart.{Env}
 use Rattle.scope.specs.Nodes.{Node}
-use Rattle.scope.specs.Sound.{Slot, nodeSound}
+use Rattle.scope.specs.Sound.{nodeSound}
 use Rattle.layout.specs.Words.{countAt}
 use Rattle.layout.specs.Meaning.{Clean}
-
--- where a child's name lies; its length is 0 where there is none
-abbrev pub placeOf : Slot → Name
-placeOf s = name (s .text) (s .start) (s .len)
 
 -- n clean nodes, with so many children made
 pub record CleanNodes (ws ks : List ℕ) (n : ℕ) : Type 0 where

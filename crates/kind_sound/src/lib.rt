@@ -4,20 +4,18 @@
 // A kind's width is tested before its children are read: the time is that of the nodes and of at most 255 children each, whose names are at most 255 bytes.
 ghost use mathlib.Core.Path.{_≡_};
 ghost use mathlib.Core.List.{List, [], map};
-ghost use Prim.Native.Nat.{_+_, _≤_};
+ghost use Prim.Native.Nat.{_≤_};
 ghost use lib.ListN.{length};
 ghost use Rattle.scope.specs.Base.{all};
-ghost use Rattle.scope.specs.Names.{name, namedOrNone};
-ghost use Rattle.scope.specs.Types.{tyOf};
+ghost use Rattle.scope.specs.Names.{namedOrNone};
 ghost use Rattle.scope.specs.Kinds.{rowOf, objectNamesOk, namesOk, makeable, defined, flagOf, flagIs};
 ghost use Rattle.scope.specs.Nodes.{Node};
-ghost use Rattle.scope.specs.Sound.{slotName, inStore, kindSound, nodeSound, remembered};
-ghost use Rattle.scope.specs.Sound as sound;
-ghost use Rattle.names.specs.Place.{texts, nameOf};
+ghost use Rattle.scope.specs.Sound.{nameIn, slotName, inStore, kindSound, nodeSound, remembered};
+ghost use Rattle.names.specs.Place.{texts};
 ghost use Rattle.chart.specs.Env.{chartIn, chartAlone};
-ghost use Rattle.layout.specs.Words.{nodeWords, slotAt, slots, decode};
+ghost use Rattle.layout.specs.Words.{nodeWords, slots, decode};
 ghost use Rattle.layout.specs.Meaning.{kindMeans, nodeMeans, rememberedMeans};
-ghost use Rattle.kind_sound.specs.Nodes.{placeOf, CleanNodes, nodesSound, narrowNodes};
+ghost use Rattle.kind_sound.specs.Nodes.{CleanNodes, nodesSound, narrowNodes};
 use kinds::AS_CHART;
 use kinds::CHILD_NAMES;
 use kinds::ERROR;
@@ -27,36 +25,14 @@ use layout::Kind;
 use layout::Remembered;
 use layout::TypeNode;
 use layout::TypeState;
+use names::NO_NAME;
 use names::Name;
 use scope::MAX_WIDTH;
-use types::Type;
 use types::TypeIdx;
-
-fn own_name(k: Kind) -> Name
-    ensures { λ r. ⌜ nameOf r ≡ name (k .text) (k .start) (k .len) ⌝ }
-{
-    Name {
-        text: k.text,
-        start: k.start,
-        len: k.len,
-    }
-}
-
-// The name of child j; its length is 0 where there is none.
-fn child_name(ks: &[u32], k: Kind, j: u32) -> Name
-    ensures { λ r. ⌜ nameOf r ≡ placeOf (slotAt (now (ks .entry)) (k .first + j)) ⌝ }
-{
-    let s = layout::child_of(ks, k, j);
-    Name {
-        text: s.text,
-        start: s.start,
-        len: s.len,
-    }
-}
 
 // A name that may be missing.
 fn name_or_none(n: Name, rule: &[u8], text: &[u8]) -> bool
-    ensures { λ r. ⌜ r ≡ namedOrNone (texts (now (rule .entry)) (now (text .entry))) (sound.nameOf (n .text) (n .start) (n .len)) ⌝ }
+    ensures { λ r. ⌜ r ≡ namedOrNone (texts (now (rule .entry)) (now (text .entry))) (nameIn (n .text) (n .start) (n .len)) ⌝ }
 {
     if n.len == 0 {
         return true;
@@ -68,14 +44,10 @@ fn name_or_none(n: Name, rule: &[u8], text: &[u8]) -> bool
 fn child_names_fit<'a>(k: Kind, ks: &[u32], rule: &'a [u8], text: &'a [u8]) -> bool
     ensures { λ r. ⌜ r ≡ objectNamesOk (texts (now (rule .entry)) (now (text .entry))) (map slotName (slots (now (ks .entry)) (k .first) (k .count))) ⌝ }
 {
-    let mut last = Name {
-        text: 0,
-        start: 0,
-        len: 0,
-    };
+    let mut last = NO_NAME;
     let mut j: u32 = 0;
     while j < k.count {
-        let next = child_name(ks, k, j);
+        let next = layout::child_of(ks, k, j).name;
         if !names::name_ok(next, rule, text) {
             return false;
         }
@@ -94,7 +66,7 @@ fn parameter_names_fit(k: Kind, n: u32, ks: &[u32], rule: &[u8], text: &[u8]) ->
 {
     let mut j: u32 = 0;
     while j < n {
-        if !name_or_none(child_name(ks, k, j), rule, text) {
+        if !name_or_none(layout::child_of(ks, k, j).name, rule, text) {
             return false;
         }
         j += 1;
@@ -108,7 +80,7 @@ pub fn names_fit<'a>(k: Kind, ks: &[u32], rule: &'a [u8], text: &'a [u8]) -> boo
 {
     let names = kinds::row_of(k.code).names;
     if names == OWN_NAME {
-        return names::name_ok(own_name(k), rule, text);
+        return names::name_ok(k.name, rule, text);
     }
     if names == CHILD_NAMES {
         return child_names_fit(k, ks, rule, text);
@@ -173,19 +145,13 @@ pub fn has_chart_flag(k: Kind, chart: &[u32]) -> bool
     !flag
 }
 
-// A type's node is one of n. Of the nodes only their number is read, here and below.
-pub fn type_inside(t: Type, n: u32) -> bool
-    ensures { λ r. ⌜ ((ns : List Node) → length ns ≡ n → r ≡ inStore ns (tyOf (t .0))) ⌝ }
-{
-    t.idx().0 < n
-}
-
+// Each child of the kind is one of n nodes. Of the nodes only their number is read, here and below.
 pub fn kids_inside(k: Kind, ks: &[u32], n: u32) -> bool
     ensures { λ r. ⌜ ((ns : List Node) → length ns ≡ n → r ≡ all (inStore ns) (kindMeans (now (ks .entry)) k .kids)) ⌝ }
 {
     let mut j: u32 = 0;
     while j < k.count {
-        if !type_inside(layout::child_of(ks, k, j).ty, n) {
+        if !refusals::type_inside(layout::child_of(ks, k, j).ty, n) {
             return false;
         }
         j += 1;
@@ -197,7 +163,7 @@ pub fn remembered_inside(t: Remembered, n: u32) -> bool
     ensures { λ r. ⌜ ((ns : List Node) → length ns ≡ n → r ≡ remembered ns (rememberedMeans t)) ⌝ }
 {
     match t {
-        Remembered::Is(t) => type_inside(t, n),
+        Remembered::Is(t) => refusals::type_inside(t, n),
         Remembered::Nothing => true,
     }
 }
@@ -236,7 +202,7 @@ fn node_sound<'a>(
     ensures { λ r. ⌜ ((ns : List Node) → length ns ≡ n → r ≡ nodeSound (chartIn (now (chart .entry)) (now (rule .entry)) (now (text .entry))) ns (nodeMeans (now (ks .entry)) node)) ⌝ }
 {
     match node {
-        TypeNode::Child(t) => type_inside(t, n),
+        TypeNode::Child(t) => refusals::type_inside(t, n),
         TypeNode::Root { state, size: _ } => match state {
             TypeState::Known(_, kind) => kind_sound(kind, ks, n, chart, rule, text),
             TypeState::Unknown(_) => true,

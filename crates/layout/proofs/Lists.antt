@@ -2,7 +2,7 @@
 -- over the numbers from i on has its j-th entry at i + j. Nothing here knows what a word means.
 -- Assumes nothing.
 use mathlib.Core.Path.{_≡_, refl, ap, sym, _∙_}
-use mathlib.Core.Bool.{Bool, true, false, _&&_}
+use mathlib.Core.Bool.{Bool, true, false, _&&_, false≢true}
 use mathlib.Core.List.{List, [], _∷_, _++_, append-nil, map, map-append}
 use Prim.Native.Nat.{ℕ, zero, suc, _+_, _-_, _<_, _≤_}
 use native.Mathlib.Omega.{arith}
@@ -132,3 +132,14 @@ pub from-all : (p : ℕ → Bool) (i n : ℕ) → ((j : ℕ) → i ≤ j → j <
 from-all p i zero e = refl
 from-all p i (suc n) e =
     and-both (p i) (all p (from (suc i) n)) (e i (omega arith) (omega arith)) (from-all p (suc i) n (λ j a b. e j (omega arith) (omega arith)))
+
+-- a loop over the numbers below n has two ways out: the test fails at v, or has held of each number below v
+pub all-stop : (p : ℕ → Bool) (n v : ℕ) → v < n → p v ≡ false → false ≡ all p (from 0 n)
+all-stop p n v l e = go (all p (from 0 n)) refl
+  where
+    go : (b : Bool) → all p (from 0 n) ≡ b → false ≡ b
+    go true q = absurd (false≢true (sym e ∙ all-from p 0 n q v (omega arith) (omega arith)))
+    go false q = refl
+
+pub all-done : (p : ℕ → Bool) (n v : ℕ) → n ≤ v → ((u : ℕ) → u < v → p u ≡ true) → true ≡ all p (from 0 n)
+all-done p n v l f = sym (from-all p 0 n (λ u a b. f u (omega arith)))

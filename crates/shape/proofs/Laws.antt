@@ -15,13 +15,14 @@ use lib.Seq.{getD-set-same, getD-set-other}
 use Rattle.scope.specs.Base.{pick}
 use Rattle.scope.specs.Limits.{MAX-NODES}
 use Rattle.types.specs.declared.TypeIdx.{TypeIdx}
+use Rattle.layout.proofs.Lists.{all-stop, all-done}
 use Rattle.shape.specs.declared.Up.{Up}
 use Rattle.shape.specs.declared.Up.the-variants.{Root, Parent}
 use Rattle.shape.specs.Walks.{ends, upward, Leads, here, more}
 use Rattle.shape.specs.Read.{ups, rootOf, tallied, sizeFits}
 use Rattle.shape.specs.Asks.{ParentsInside, TrueRoots, Climbs, Climbed, ClimbedAll, Rooted, Tallies, Tallied}
 use Rattle.shape.proofs.Tables.{zeros, blank-long, stored-by}
-use Rattle.shape.proofs.Lists.{all-stop, all-done, count-most, count-last}
+use Rattle.shape.proofs.Lists.{count-most, count-last}
 use Rattle.shape.proofs.Walks.{ends-none, ends-up, leads-ends}
 
 -- climb

@@ -7,7 +7,7 @@ use Prim.Native.Nat.{ℕ, zero, suc, _+_, _≤_, _<_}
 use native.Mathlib.Decide.{ℕ-discrete}
 use native.Mathlib.Omega.{arith}
 use Rattle.scope.specs.Base.{pick, all, count, from}
-use Rattle.layout.proofs.Lists.{all-from, from-all}
+use Rattle.layout.proofs.Lists.{all-from}
 
 pub is-false : (b : Bool) → (b ≡ true → ⊥) → b ≡ false
 is-false true f = absurd (f refl)
@@ -22,13 +22,6 @@ same-test false b f g = sym (is-false b (λ e. false≢true (g e)))
 
 pub all-not : (p : ℕ → Bool) (i n j : ℕ) → i ≤ j → j < i + n → p j ≡ false → all p (from i n) ≡ false
 all-not p i n j a b e = is-false (all p (from i n)) (λ t. false≢true (sym e ∙ all-from p i n t j a b))
-
--- a loop's two ways out: the test fails at v, or has held of each number below n
-pub all-stop : (p : ℕ → Bool) (n v : ℕ) → v < n → p v ≡ false → false ≡ all p (from 0 n)
-all-stop p n v l e = sym (all-not p 0 n v (omega arith) (omega arith) e)
-
-pub all-done : (p : ℕ → Bool) (n v : ℕ) → n ≤ v → ((u : ℕ) → u < v → p u ≡ true) → true ≡ all p (from 0 n)
-all-done p n v l f = sym (from-all p 0 n (λ u a b. f u (omega arith)))
 
 -- a number at which the test fails
 abbrev pub Fails : (ℕ → Bool) → ℕ → ℕ → Type 0

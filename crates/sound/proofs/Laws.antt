@@ -2,9 +2,9 @@
 -- breaks; one that can is sound if it passes the tests that are left. What stands beside the chart says nothing of a store.
 -- Assumes nothing.
 use mathlib.Core.Path.{_≡_, refl, ap, sym, _∙_}
-use mathlib.Core.Bool.{Bool, true, false, not, _&&_, false≢true}
-use mathlib.Core.List.{List, [], _∷_}
-use mathlib.Core.Option.{Option, none, some}
+use mathlib.Core.Bool.{Bool, true, false, _&&_, and-true, and-false, false≢true}
+use mathlib.Core.List.{List}
+use mathlib.Core.Option.{none, some}
 use Prim.Native.Nat.{ℕ, _%_, _≤_, _<_}
 use native.Mathlib.Omega.{arith}
 use lib.Dec.{eqb, leb}
@@ -15,19 +15,17 @@ use Rattle.scope.specs.Limits.{MAX-NODES, MAX-CHILDREN}
 use Rattle.scope.specs.Chart.{Env, recordOk, chartOk}
 use Rattle.scope.specs.Nodes as nodes
 use Rattle.scope.specs.Sound.{Lent, stray, reads, nodeSound, remembered, roomSound, shapeSound, soundStore, sound}
-use Rattle.scope.specs.Calls.{firstBroken, lentTests}
-use Rattle.names.proofs.Tests.{both}
+use Rattle.scope.specs.Refusals.{BAD-CHART, UNSOUND, firstBroken, lentTests}
+use Rattle.names.proofs.Tests.{both, all-at}
 use Rattle.chart.specs.declared.Beside.{Beside}
 use Rattle.chart.specs.Words.{RECORD-WORDS}
 use Rattle.chart.specs.Env.{envOf, chartIn, chartWordsOk}
-use Rattle.chart.proofs.Laws.{all-at}
 use Rattle.layout.specs.Words.{nodeWords, nodesMade, childrenMade, nodeRoom, childRoom, decode, storeIn, clean, lentOf}
-use Rattle.layout.specs.Meaning.{Clean, Lies, headerIn, rememberedMeans}
+use Rattle.layout.specs.Meaning.{Lies, headerIn, rememberedMeans}
 use Rattle.layout.specs.declared.Header.{Header}
 use Rattle.layout.proofs.Laws.{past, length-decode}
 use Rattle.layout.proofs.StoreLaws.{remembered-means, clean-lies, clean-nodes, lent-clean}
 use Rattle.kind_sound.specs.Nodes.{CleanNodes, narrowNodes}
-use Rattle.kind_sound.proofs.NameLaws.{and-true, and-false}
 use Rattle.kind_sound.proofs.Laws.{kind-inside, nodes-beside, wide-unsound}
 use Rattle.shape.specs.Asks.{nodeInside, Shaped}
 use Rattle.sound.specs.Tests.{within, readable, noChart, envIn}
@@ -224,11 +222,11 @@ module _ (ws : List ℕ) (b : Beside) (rule text : List ℕ) where
   -- the first of the two tests that breaks
 
   module _ (l : Lent) where
-    pub refuses-chart : chartWordsOk ws b rule text ≡ false → firstBroken (lentTests (envIn ws b rule text) l) ≡ some 2
+    pub refuses-chart : chartWordsOk ws b rule text ≡ false → firstBroken (lentTests (envIn ws b rule text) l) ≡ some BAD-CHART
     refuses-chart h = rw (env-ok, h)
 
     module _ (h : chartWordsOk ws b rule text ≡ true) where
-      pub refuses-store : sound (chartIn ws rule text) l ≡ false → firstBroken (lentTests (envIn ws b rule text) l) ≡ some 8
+      pub refuses-store : sound (chartIn ws rule text) l ≡ false → firstBroken (lentTests (envIn ws b rule text) l) ≡ some UNSOUND
       refuses-store s = rw (env-ok, h, env-sound h l, s)
 
       pub refuses-nothing : sound (chartIn ws rule text) l ≡ true → firstBroken (lentTests (envIn ws b rule text) l) ≡ none

@@ -1,7 +1,6 @@
--- What the code tests before it reads a store, what any numbers are as a chart, and a refusal's number.
+-- What the code tests before it reads a store, and what any numbers are as a chart.
 use mathlib.Core.List.{List, [], _∷_}
 use mathlib.Core.Bool.{Bool, _&&_}
-use mathlib.Core.Option.{Option, none, some}
 use Prim.Native.Nat.{ℕ, _%_}
 use lib.Dec.{eqb, leb}
 use lib.ListN.{length}
@@ -30,7 +29,3 @@ noChart = record { records = noRecord ∷ []; fnTrait = NONE; sigils = []; texts
 -- what every call reads, of any numbers
 unfoldable pub envIn : List ℕ → Beside → List ℕ → List ℕ → Env
 envIn ws b rule text = pick (eqb (length ws % RECORD-WORDS) 0) (envOf ws b rule text) noChart
-
--- a refusal as the code answers it: 0 is none
-abbrev pub codeOf : ℕ → Option ℕ
-codeOf n = pick (eqb n 0) none (some n)

@@ -2,22 +2,17 @@
 // Any numbers at all may be lent. Capacities and widths are tested first, so each later test looks at no more than 4,096 nodes with 255 children each.
 ghost use mathlib.Core.Path.{_≡_};
 ghost use Rattle.scope.specs.Sound.{sound};
-ghost use Rattle.scope.specs.Calls.{firstBroken, lentTests};
+ghost use Rattle.scope.specs.Refusals.{firstBroken, lentTests};
 ghost use Rattle.chart.specs.Env.{chartIn};
 ghost use Rattle.layout.specs.Words.{lentOf};
-ghost use Rattle.sound.specs.Tests.{readable, envIn, codeOf};
+ghost use Rattle.refusals.specs.Codes.{codeOf};
+ghost use Rattle.sound.specs.Tests.{readable, envIn};
 use chart::Beside;
+use refusals::BAD_CHART;
+use refusals::NO_REFUSAL;
+use refusals::UNSOUND;
 use scope::MAX_CHILDREN;
 use scope::MAX_NODES;
-
-// No refusal stands.
-pub const NO_REFUSAL: u32 = 0;
-
-// "chart or texts break a limit, sort, flag or range"
-pub const BAD_CHART: u32 = 2;
-
-// A store that is not sound.
-pub const UNSOUND: u32 = 8;
 
 // The numbers say a store, its capacities are within the limits, and no kind of it is too wide.
 fn readable(h: &[u32], ws: &[u32], ks: &[u32]) -> bool
@@ -36,7 +31,7 @@ fn readable(h: &[u32], ws: &[u32], ks: &[u32]) -> bool
     if !kind_sound::widths_ok(ws, x.nodes) {
         return false;
     }
-    layout::clean::clean(h, ws, ks)
+    clean::clean(h, ws, ks)
 }
 
 // Whether refusal 8 does not stand, with this chart and these texts.

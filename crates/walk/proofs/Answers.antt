@@ -2,7 +2,7 @@
 -- definition at what the code reads, and for `get_mod` that looking through the Refs that are left gives what looking through all gives.
 -- Assumes nothing.
 use mathlib.Core.Path.{_≡_, refl, ap, sym, _∙_, fun-ext}
-use mathlib.Core.Bool.{Bool, true, false, not, _||_, false≢true}
+use mathlib.Core.Bool.{Bool, true, false, not, _||_}
 use mathlib.Core.List.{List, []}
 use Prim.Native.Nat.{ℕ, zero, suc, _+_, _-_, _≤_, _<_}
 use native.Mathlib.Omega.{arith}
@@ -28,7 +28,6 @@ use Rattle.layout.specs.declared.Kind.{Kind}
 use Rattle.layout.specs.declared.Slot.{Slot}
 use Rattle.layout.specs.declared.Held.{Held}
 use Rattle.layout.specs.declared.Held.the-variants.{Is, Nothing}
-use Rattle.layout.proofs.Lists.{all-from, from-all}
 use Rattle.layout.proofs.Laws.{length-decode}
 use Rattle.layout.proofs.HeldLaws.{held-kids}
 use Rattle.chart.specs.Words.{recordsOf}
@@ -88,16 +87,6 @@ module _ (ws : List ℕ) (n : ℕ) (ms : List ℕ) (param : Bool) (i : ℕ) {b :
 
   pub good-test : {r g : Bool} → b ≡ true → r ≡ goodBy param (heldIn (readAt ws n i)) → r ≡ g → goodAt ws n ms param i ≡ g
   good-test e s q = rw (not-true (eqb (getD ms i 0) 0) (sym m ∙ e)) (sym s ∙ q)
-
-pub all-fail : (p : ℕ → Bool) (n i : ℕ) → i < n → p i ≡ false → false ≡ all p (from 0 n)
-all-fail p n i h e = go (all p (from 0 n)) refl
-  where
-    go : (b : Bool) → all p (from 0 n) ≡ b → false ≡ b
-    go true q = absurd (false≢true (sym e ∙ all-from p 0 n q i (omega arith) (omega arith)))
-    go false q = refl
-
-pub all-pass : (p : ℕ → Bool) (n i : ℕ) → n ≤ i → ((u : ℕ) → u < i → p u ≡ true) → true ≡ all p (from 0 n)
-all-pass p n i h e = sym (from-all p 0 n (λ u a b. e u (omega arith)))
 
 module _ {ws ks : List ℕ} {n t : ℕ} (o : Inverses ws ks n t) (param : Bool) where
   pub inverse-walk : {ms : List ℕ} {b : Bool} → ms ≡ findRelated (decode ws ks n) (tyOf t) (replicate MAX-NODES 0)

@@ -42,7 +42,9 @@ returns-2 c =
     let a = c .before .before .before .before .before .before .before .before .before .before .before .before .before .args in
     let e = envIn (a .chart .now) (a .beside) (a .rule .now) (a .text .now) in
     let lent = c .before .before .before .before .before .refusal in
-    call-done e (a .h .now) (a .ws .now) (a .ks .now) (λ s. []) finishing (lent .result) (lent .ensures) (c .before .before .before .before .if1 .left) refl (c .before .before .finish-inference .ensures)
+    let if1 = c .before .before .before .before .if1 in
+    let finishInference = c .before .before .finish-inference in
+    call-done e (a .h .now) (a .ws .now) (a .ks .now) (λ s. []) finishing (lent .result) (lent .ensures) (if1 .left) refl (finishInference .ensures)
 
 pub finish-inference-spec : {M : Type 1} → statement M
 finish-inference-spec =

@@ -42,7 +42,10 @@ returns-2 c =
     let a = c .before .before .before .before .before .before .before .before .before .before .before .before .before .before .args in
     let e = envIn (a .chart .now) (a .beside) (a .rule .now) (a .text .now) in
     let lent = c .before .before .before .before .before .refusal in
-    call-done e (a .h .now) (a .ws .now) (a .ks .now) (λ s. []) (finishingWhere (a .bytes .now)) (lent .result) (lent .ensures) (c .before .before .before .before .if1 .left) refl (c .before .before .finish-inference-where .ensures)
+    let if1 = c .before .before .before .before .if1 in
+    let finishInferenceWhere = c .before .before .finish-inference-where in
+    call-done e (a .h .now) (a .ws .now) (a .ks .now) (λ s. []) (finishingWhere (a .bytes .now)) (lent .result) (lent .ensures) (if1 .left) refl
+    (finishInferenceWhere .ensures)
 
 pub finish-inference-where-spec : {M : Type 1} → statement M
 finish-inference-where-spec =

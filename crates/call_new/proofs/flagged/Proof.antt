@@ -1,4 +1,4 @@
--- `news::flagged` meets its contract: the flag is the one that `chart_flag` reads.
+-- `call_new::flagged` meets its contract: the flag is the one that `chart_flag` reads.
 -- Assumes nothing.
 use borrow.Author.Needs.{needs}
 use Rattle.call_new.proofs.flagged.Statement.{statement}

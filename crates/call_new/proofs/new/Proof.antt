@@ -1,4 +1,4 @@
--- `news::new` meets its contract: refusals of chart and store come first, then 3 over all entries and the width; what passes is left to `make_inside`,
+-- `call_new::new` meets its contract: refusals of chart and store come first, then 3 over all entries and the width; what passes is left to `make_inside`,
 -- which looks at nothing beside the chart.
 -- Assumes nothing.
 use mathlib.Core.Path.{refl}
@@ -29,7 +29,8 @@ same-length-3 c = search needs
 returns : tie.Need-returns
 returns c =
     let a = c .before .before .before .before .before .before .before .before .before .before .before .before .args in
-    new-lent (a .chart .now) (a .beside) (a .rule .now) (a .text .now) (a .h .now) (a .ws .now) (a .ks .now) (given (a .k) (a .entries .now)) (c .before .refusal .result) (c .before .refusal .ensures) (c .if1 .taken)
+    new-lent (a .chart .now) (a .beside) (a .rule .now) (a .text .now) (a .h .now) (a .ws .now) (a .ks .now) (given (a .k) (a .entries .now))
+    (c .before .refusal .result) (c .before .refusal .ensures) (c .if1 .taken)
 
 read-header-requires : tie.Need-read-header-requires
 read-header-requires c κs = search needs
@@ -52,15 +53,26 @@ same-length-6 c = search needs
 returns-2 : tie.Need-returns-2
 returns-2 c =
     let a = c .before .before .before .before .before .before .before .before .before .before .before .before .before .before .before .before .before .args in
-    new-listed (a .chart .now) (a .beside) (a .rule .now) (a .text .now) (a .h .now) (a .ws .now) (a .ks .now) (given (a .k) (a .entries .now)) (c .before .before .before .before .before .before .refusal .result) (c .before .before .before .before .before .before .refusal .ensures) (c .before .before .before .before .before .if1 .left) (c .before .before .before .read-header .ensures) (entryTypes (a .entries .now)) (given-kids (a .k) (a .entries .now)) (entries-long (a .entries .now)) (c .before .before .entries-inside .ensures) (c .before .list-refusal .ensures) (c .if2 .taken)
+    let refusal = c .before .before .before .before .before .before .refusal in
+    let if1 = c .before .before .before .before .before .if1 in
+    let readHeader = c .before .before .before .read-header in
+    let entriesInside = c .before .before .entries-inside in
+    new-listed (a .chart .now) (a .beside) (a .rule .now) (a .text .now) (a .h .now) (a .ws .now) (a .ks .now) (given (a .k) (a .entries .now))
+    (refusal .result) (refusal .ensures) (if1 .left) (readHeader .ensures) (entryTypes (a .entries .now)) (given-kids (a .k) (a .entries .now))
+    (entries-long (a .entries .now)) (entriesInside .ensures) (c .before .list-refusal .ensures) (c .if2 .taken)
 
 make-inside-requires : tie.Need-make-inside-requires
 make-inside-requires c κs =
-    let a = c .before .before .before .before .before .before .before .before .before .before .before .before .before .before .before .before .before .before .before .before .args in (
-      lent-within (envIn (a .chart .now) (a .beside) (a .rule .now) (a .text .now)) (a .h .now) (a .ws .now) (a .ks .now)
-          (lent-passed (envIn (a .chart .now) (a .beside) (a .rule .now) (a .text .now)) (a .h .now) (a .ws .now) (a .ks .now) (c .before .before .before .before .before .before .before .before .before .refusal .result) (c .before .before .before .before .before .before .before .before .before .refusal .ensures) (c .before .before .before .before .before .before .before .before .if1 .left)),
-      listed-narrow (c .before .before .before .before .before .entries-inside .result) (entryCount (a .entries .now)) (c .before .before .before .before .list-refusal .result) (c .before .before .before .before .list-refusal .ensures) (c .before .before .before .if2 .left),
-    )
+    let a = c .before .before .before .before .before .before .before .before .before .before .before .before .before .before .before .before .before .before .before .before .args in
+    let refusal = c .before .before .before .before .before .before .before .before .before .refusal in
+    let if1 = c .before .before .before .before .before .before .before .before .if1 in
+    let entriesInside = c .before .before .before .before .before .entries-inside in
+    let listRefusal = c .before .before .before .before .list-refusal in
+    let if2 = c .before .before .before .if2 in
+    let e = envIn (a .chart .now) (a .beside) (a .rule .now) (a .text .now) in
+    let passed = lent-passed e (a .h .now) (a .ws .now) (a .ks .now) (refusal .result) (refusal .ensures) (if1 .left) in
+    let narrow = listed-narrow (entriesInside .result) (entryCount (a .entries .now)) (listRefusal .result) (listRefusal .ensures) (if2 .left) in
+    (lent-within e (a .h .now) (a .ws .now) (a .ks .now) passed, narrow)
 
 same-length-7 : tie.Need-same-length-7
 same-length-7 c = search needs
@@ -73,9 +85,18 @@ same-length-9 c = search needs
 
 returns-3 : tie.Need-returns-3
 returns-3 c =
-    let a = c .before .before .before .before .before .before .before .before .before .before .before .before .before .before .before .before .before .before .before .before .before .before .before .before .before .before .before .args in
-    new-promised (a .chart .now) (a .beside) (a .rule .now) (a .text .now) (a .h .now) (a .ws .now) (a .ks .now) (given (a .k) (a .entries .now)) (c .before .before .before .before .before .before .before .before .before .before .before .before .before .before .before .before .refusal .result) (c .before .before .before .before .before .before .before .before .before .before .before .before .before .before .before .before .refusal .ensures) (c .before .before .before .before .before .before .before .before .before .before .before .before .before .before .before .if1 .left) (c .before .before .before .before .before .before .before .before .before .before .before .before .before .read-header .ensures) (entryTypes (a .entries .now)) (given-kids (a .k) (a .entries .now)) (entries-long (a .entries .now)) (c .before .before .before .before .before .before .before .before .before .before .before .before .entries-inside .ensures) (c .before .before .before .before .before .before .before .before .before .before .before .list-refusal .ensures) (c .before .before .before .before .before .before .before .before .before .before .if2 .left)
-    refl (c .before .before .before .before .before .before .make-inside .ensures)
+    let early = c .before .before .before .before .before .before .before .before .before .before .before .before in
+    let a = early .before .before .before .before .before .before .before .before .before .before .before .before .before .before .before .args in
+    let refusal = early .before .before .before .before .refusal in
+    let if1 = early .before .before .before .if1 in
+    let readHeader = early .before .read-header in
+    let entriesInside = early .entries-inside in
+    let listRefusal = c .before .before .before .before .before .before .before .before .before .before .before .list-refusal in
+    let if2 = c .before .before .before .before .before .before .before .before .before .before .if2 in
+    let makeInside = c .before .before .before .before .before .before .make-inside in
+    new-promised (a .chart .now) (a .beside) (a .rule .now) (a .text .now) (a .h .now) (a .ws .now) (a .ks .now) (given (a .k) (a .entries .now))
+    (refusal .result) (refusal .ensures) (if1 .left) (readHeader .ensures) (entryTypes (a .entries .now)) (given-kids (a .k) (a .entries .now))
+    (entries-long (a .entries .now)) (entriesInside .ensures) (listRefusal .ensures) (if2 .left) refl (makeInside .ensures)
 
 pub new-spec : {M : Type 1} → statement M
 new-spec =

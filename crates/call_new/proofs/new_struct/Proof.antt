@@ -1,4 +1,4 @@
--- `news::new_struct` meets its contract: a Struct's row has no names, and the call is `new` of a kind over the list.
+-- `call_new::new_struct` meets its contract: a Struct's row has no names, and the call is `new` of a kind over the list.
 -- Assumes nothing.
 use borrow.Author.Needs.{needs}
 use Rattle.scope.specs.Calls.{newStructCall}

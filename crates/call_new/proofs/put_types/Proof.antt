@@ -1,4 +1,4 @@
--- `news::put_types` meets its contract. The loop's invariant: the first i types stand as entries, and the words are as many. The measure is what is left
+-- `call_new::put_types` meets its contract. The loop's invariant: the first i types stand as entries, and the words are as many. The measure is what is left
 -- of the types.
 -- Assumes nothing.
 use mathlib.Core.Path.{_≡_, refl, _∙_}
@@ -41,7 +41,10 @@ loop-less c = omega arith
 loop-again : tie.Need-loop-again Inv-loop μ-loop
 loop-again c =
     let a = c .before .before .before .before .before .before .before .before .before .before .args in
-    (omega arith, (c .before .before .put-child .kept .0 ∙ c .before .before .before .before .before .before .before .loop .inv .1 .0, listed-more (a .types .now) (c .before .before .before .before .before .before .before .loop .i) (c .before .before .before .before .before .before .before .loop .inv .1 .1) (omega arith) (c .before .before .before .bare-slot .ensures) (c .before .before .put-child .ensures)))
+    let putChild = c .before .before .put-child in
+    let loop = c .before .before .before .before .before .before .before .loop in
+    let bareSlot = c .before .before .before .bare-slot in
+    (omega arith, (putChild .kept .0 ∙ loop .inv .1 .0, listed-more (a .types .now) (loop .i) (loop .inv .1 .1) (omega arith) (bareSlot .ensures) (putChild .ensures)))
 
 same-length : tie.Need-same-length Inv-loop μ-loop
 same-length c = c .before .loop .inv .1 .0

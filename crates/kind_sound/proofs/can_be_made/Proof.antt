@@ -3,14 +3,14 @@
 use native.Mathlib.Omega.{arith}
 use borrow.Author.Needs.{needs}
 use borrow.Author.Tests.{lt-ltb, le-ltb, le-leb, lt-leb}
-use Rattle.scope.specs.Limits.{MAX-WIDTH}
+use Rattle.scope.specs.Limits.{MAX-WIDTH, KINDS}
 use Rattle.names.proofs.Tests.{passes, fails}
 use Rattle.kind_sound.proofs.Laws.{made-tests}
 use Rattle.kind_sound.proofs.can_be_made.Statement.{statement}
 use Rattle.kind_sound.proofs.can_be_made.Tie as tie
 
 returns : tie.Need-returns
-returns c = rw (made-tests, le-ltb (c .before .before .before .before .before .args .k .code) 15 (omega arith))
+returns c = rw (made-tests, le-ltb (c .before .before .before .before .before .args .k .code) KINDS (omega arith))
 
 cast-n : tie.Need-cast-n
 cast-n c = search needs
@@ -18,7 +18,7 @@ cast-n c = search needs
 returns-2 : tie.Need-returns-2
 returns-2 c =
     let args = c .before .before .before .before .before .before .before .args in
-    rw (made-tests, lt-ltb (args .k .code) 15 (omega arith), lt-leb (args .k .count) MAX-WIDTH (c .if2 .taken))
+    rw (made-tests, lt-ltb (args .k .code) KINDS (omega arith), lt-leb (args .k .count) MAX-WIDTH (c .if2 .taken))
 
 shape-fits-requires : tie.Need-shape-fits-requires
 shape-fits-requires c κs = search needs
@@ -26,7 +26,7 @@ shape-fits-requires c κs = search needs
 returns-3 : tie.Need-returns-3
 returns-3 c =
     let k = c .before .before .before .before .before .before .before .before .before .args .k in
-    rw (made-tests, lt-ltb (k .code) 15 (omega arith), le-leb (k .count) MAX-WIDTH (c .before .before .if2 .left), fails (c .before .shape-fits .ensures) (c .if3 .taken))
+    rw (made-tests, lt-ltb (k .code) KINDS (omega arith), le-leb (k .count) MAX-WIDTH (c .before .before .if2 .left), fails (c .before .shape-fits .ensures) (c .if3 .taken))
 
 names-fit-requires : tie.Need-names-fit-requires
 names-fit-requires c κs = search needs
@@ -34,7 +34,7 @@ names-fit-requires c κs = search needs
 returns-4 : tie.Need-returns-4
 returns-4 c =
     let k = c .before .before .before .before .before .before .before .before .before .before .before .args .k in
-    let code = lt-ltb (k .code) 15 (omega arith) in
+    let code = lt-ltb (k .code) KINDS (omega arith) in
     let width = le-leb (k .count) MAX-WIDTH (c .before .before .before .before .if2 .left) in
     let shape = passes (c .before .before .before .shape-fits .ensures) (c .before .before .if3 .left) in
     rw (made-tests, code, width, shape, fails (c .before .names-fit .ensures) (c .if4 .taken))
@@ -45,7 +45,7 @@ flex-ok-requires c κs = search needs
 returns-5 : tie.Need-returns-5
 returns-5 c =
     let k = c .before .before .before .before .before .before .before .before .before .before .before .before .before .args .k in
-    let code = lt-ltb (k .code) 15 (omega arith) in
+    let code = lt-ltb (k .code) KINDS (omega arith) in
     let width = le-leb (k .count) MAX-WIDTH (c .before .before .before .before .before .before .if2 .left) in
     let shape = passes (c .before .before .before .before .before .shape-fits .ensures) (c .before .before .before .before .if3 .left) in
     let names = passes (c .before .before .before .names-fit .ensures) (c .before .before .if4 .left) in
@@ -57,7 +57,7 @@ number-ok-requires c κs = search needs
 returns-6 : tie.Need-returns-6
 returns-6 c =
     let k = c .before .before .before .before .before .before .before .before .before .before .before .before .before .before .args .k in
-    let code = lt-ltb (k .code) 15 (omega arith) in
+    let code = lt-ltb (k .code) KINDS (omega arith) in
     let width = le-leb (k .count) MAX-WIDTH (c .before .before .before .before .before .before .before .if2 .left) in
     let shape = passes (c .before .before .before .before .before .before .shape-fits .ensures) (c .before .before .before .before .before .if3 .left) in
     let names = passes (c .before .before .before .before .names-fit .ensures) (c .before .before .before .if4 .left) in

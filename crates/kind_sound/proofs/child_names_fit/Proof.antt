@@ -28,21 +28,23 @@ loop-holds c =
     let a = c .before .before .before .args in
     up-start (texts (a .rule .now) (a .text .now)) (childNames (a .ks .now) (a .k .first) (a .k .count))
 
-child-name-requires : tie.Need-child-name-requires Inv-loop μ-loop
-child-name-requires c κs = search needs
+child-of-requires : tie.Need-child-of-requires Inv-loop μ-loop
+child-of-requires c κs = search needs
 
 name-ok-requires : tie.Need-name-ok-requires Inv-loop μ-loop
 name-ok-requires c κs = search needs
 
 returns : tie.Need-returns Inv-loop μ-loop
 returns c =
-    let a = c .before .before .before .before .before .before .before .before .before .args in
-    let l = c .before .before .before .before .before .loop in
+    let if1 = c .before .before .before .before .if1 in
+    let child-of = c .before .before .before .child-of in
+    let a = c .before .before .before .before .before .before .before .before .before .before .args in
+    let l = c .before .before .before .before .before .before .loop in
     let x = texts (a .rule .now) (a .text .now) in
-    let n = nameOf (c .before .before .child-name .result) in
+    let n = nameOf (child-of .result .name) in
     sym (up-unnamed x (bytes x (nameOf (l .last))) (childNames (a .ks .now) (a .k .first) (a .k .count)) (l .j) n
-    (name-below (a .ks .now) (a .k .first) (a .k .count) (l .j) (c .before .before .before .if1 .taken))
-    (name-there (a .ks .now) (a .k .first) (a .k .count) (l .j) (c .before .before .before .if1 .taken) n (c .before .before .child-name .ensures))
+    (name-below (a .ks .now) (a .k .first) (a .k .count) (l .j) (if1 .taken))
+    (name-there (a .ks .now) (a .k .first) (a .k .count) (l .j) (if1 .taken) (child-of .result) (child-of .ensures))
     (fails (c .before .name-ok .ensures) (c .if2 .taken))) ∙ l .inv
 
 name-before-requires : tie.Need-name-before-requires Inv-loop μ-loop
@@ -50,15 +52,15 @@ name-before-requires c κs = search needs
 
 returns-2 : tie.Need-returns-2 Inv-loop μ-loop
 returns-2 c =
-    let if1 = c .before .before .before .before .before .if1 in
-    let child-name = c .before .before .before .before .child-name in
-    let a = c .before .before .before .before .before .before .before .before .before .before .before .args in
-    let l = c .before .before .before .before .before .before .before .loop in
+    let if1 = c .before .before .before .before .before .before .if1 in
+    let child-of = c .before .before .before .before .before .child-of in
+    let a = c .before .before .before .before .before .before .before .before .before .before .before .before .args in
+    let l = c .before .before .before .before .before .before .before .before .loop in
     let x = texts (a .rule .now) (a .text .now) in
-    let n = nameOf (child-name .result) in
+    let n = nameOf (child-of .result .name) in
     sym (up-unordered x (bytes x (nameOf (l .last))) (childNames (a .ks .now) (a .k .first) (a .k .count)) (l .j) n
     (name-below (a .ks .now) (a .k .first) (a .k .count) (l .j) (if1 .taken))
-    (name-there (a .ks .now) (a .k .first) (a .k .count) (l .j) (if1 .taken) n (child-name .ensures))
+    (name-there (a .ks .now) (a .k .first) (a .k .count) (l .j) (if1 .taken) (child-of .result) (child-of .ensures))
     (fails (c .before .name-before .ensures) (c .if3 .taken))) ∙ l .inv
 
 add-j : tie.Need-add-j Inv-loop μ-loop
@@ -69,16 +71,16 @@ loop-less c = omega arith
 
 loop-again : tie.Need-loop-again Inv-loop μ-loop
 loop-again c =
-    let if1 = c .before .before .before .before .before .if1 in
-    let child-name = c .before .before .before .before .child-name in
+    let if1 = c .before .before .before .before .before .before .if1 in
+    let child-of = c .before .before .before .before .before .child-of in
     let name-ok = c .before .before .before .name-ok in
-    let a = c .before .before .before .before .before .before .before .before .before .before .before .args in
-    let l = c .before .before .before .before .before .before .before .loop in
+    let a = c .before .before .before .before .before .before .before .before .before .before .before .before .args in
+    let l = c .before .before .before .before .before .before .before .before .loop in
     let x = texts (a .rule .now) (a .text .now) in
-    let n = nameOf (child-name .result) in
+    let n = nameOf (child-of .result .name) in
     sym (up-step x (bytes x (nameOf (l .last))) (childNames (a .ks .now) (a .k .first) (a .k .count)) (l .j) n
     (name-below (a .ks .now) (a .k .first) (a .k .count) (l .j) (if1 .taken))
-    (name-there (a .ks .now) (a .k .first) (a .k .count) (l .j) (if1 .taken) n (child-name .ensures))
+    (name-there (a .ks .now) (a .k .first) (a .k .count) (l .j) (if1 .taken) (child-of .result) (child-of .ensures))
     (passes (name-ok .ensures) (c .before .before .if2 .left)) (passes (c .before .name-before .ensures) (c .if3 .left))) ∙ l .inv
 
 returns-3 : tie.Need-returns-3 Inv-loop μ-loop
@@ -96,7 +98,7 @@ child-names-fit-spec =
     Inv-loop
     μ-loop
     loop-holds
-    child-name-requires
+    child-of-requires
     name-ok-requires
     returns
     name-before-requires

@@ -1,24 +1,18 @@
 -- `kind_sound::kids_inside` meets its contract. The loop's invariant: of any n nodes, the children from j on are among them if and only if all are. The
 -- measure is what is left of the children.
 -- Assumes nothing.
-use mathlib.Core.Path.{_≡_, refl, sym, _∙_}
-use mathlib.Core.List.{List}
+use mathlib.Core.Path.{refl}
 use Prim.Native.Nat.{_-_}
 use native.Mathlib.Omega.{arith}
 use borrow.Author.Needs.{needs}
-use lib.ListN.{length, drop}
-use Rattle.scope.specs.Base.{all}
-use Rattle.scope.specs.Nodes.{Node}
-use Rattle.scope.specs.Sound.{inStore}
-use Rattle.names.proofs.Tests.{passes, fails}
-use Rattle.chart.proofs.Laws.{all-step, all-fails, all-end}
 use Rattle.layout.specs.Meaning.{kindMeans}
-use Rattle.kind_sound.proofs.Laws.{kid-inside, kid-below, no-kid, kids-past}
+use Rattle.refusals.proofs.InsideLaws.{Left, inside-stop, inside-next, inside-end}
+use Rattle.kind_sound.proofs.Laws.{kid-there, kid-below, kids-past}
 use Rattle.kind_sound.proofs.kids_inside.Statement.{statement}
 use Rattle.kind_sound.proofs.kids_inside.Tie as tie
 
 abbrev Inv-loop : tie.InvT-loop
-Inv-loop k ks n j₀ j = (ns : List Node) → length ns ≡ n → all (inStore ns) (drop j (kindMeans ks k .kids)) ≡ all (inStore ns) (kindMeans ks k .kids)
+Inv-loop k ks n j₀ j = Left n (kindMeans ks k .kids) j
 
 abbrev μ-loop : tie.MeasureT-loop
 μ-loop k ks n j₀ j = k .count - j
@@ -34,13 +28,12 @@ type-inside-requires c κs = search needs
 
 returns : tie.Need-returns Inv-loop μ-loop
 returns c =
-    let if1 = c .before .before .before .if1 in
-    let child-of = c .before .before .child-of in
-    λ ns e.
-    let a = c .before .before .before .before .before .before .before .args in
+    let ks = c .before .before .before .before .before .before .before .args .ks .now in
+    let k = c .before .before .before .before .before .before .before .args .k in
     let l = c .before .before .before .before .before .loop in
-    sym (all-fails (inStore ns) (kindMeans (a .ks .now) (a .k) .kids) no-kid (l .j) (kid-below (a .ks .now) (a .k) (l .j) (if1 .taken))
-    (kid-inside (a .ks .now) (a .k) (l .j) ns (if1 .taken) (child-of .result) (child-of .ensures) ∙ fails (c .before .type-inside .ensures ns e) (c .if2 .taken))) ∙ l .inv ns e
+    let h = c .before .before .before .if1 .taken in
+    let kid = kid-there ks k (l .j) h (c .before .before .child-of .result) (c .before .before .child-of .ensures) in
+    inside-stop (kindMeans ks k .kids) (l .j) (l .inv) (kid-below ks k (l .j) h) kid (c .before .type-inside .ensures) (c .if2 .taken)
 
 add-j : tie.Need-add-j Inv-loop μ-loop
 add-j c = omega arith
@@ -50,19 +43,18 @@ loop-less c = omega arith
 
 loop-again : tie.Need-loop-again Inv-loop μ-loop
 loop-again c =
-    let if1 = c .before .before .before .if1 in
-    let child-of = c .before .before .child-of in
-    λ ns e.
-    let a = c .before .before .before .before .before .before .before .args in
+    let ks = c .before .before .before .before .before .before .before .args .ks .now in
+    let k = c .before .before .before .before .before .before .before .args .k in
     let l = c .before .before .before .before .before .loop in
-    sym (all-step (inStore ns) (kindMeans (a .ks .now) (a .k) .kids) no-kid (l .j) (kid-below (a .ks .now) (a .k) (l .j) (if1 .taken))
-    (kid-inside (a .ks .now) (a .k) (l .j) ns (if1 .taken) (child-of .result) (child-of .ensures) ∙ passes (c .before .type-inside .ensures ns e) (c .if2 .left))) ∙ l .inv ns e
+    let h = c .before .before .before .if1 .taken in
+    let kid = kid-there ks k (l .j) h (c .before .before .child-of .result) (c .before .before .child-of .ensures) in
+    inside-next (kindMeans ks k .kids) (l .j) (l .inv) (kid-below ks k (l .j) h) kid (c .before .type-inside .ensures) (c .if2 .left)
 
 returns-2 : tie.Need-returns-2 Inv-loop μ-loop
-returns-2 c = λ ns e.
+returns-2 c =
     let a = c .before .before .before .before .args in
     let l = c .before .before .loop in
-    sym (all-end (inStore ns) (kindMeans (a .ks .now) (a .k) .kids) no-kid (l .j) (kids-past (a .ks .now) (a .k) (l .j) (c .if1 .left))) ∙ l .inv ns e
+    inside-end (kindMeans (a .ks .now) (a .k) .kids) (l .j) (l .inv) (kids-past (a .ks .now) (a .k) (l .j) (c .if1 .left))
 
 pub kids-inside-spec : {M : Type 1} → statement M
 kids-inside-spec =

@@ -2,7 +2,6 @@
 -- Assumes nothing.
 use mathlib.Core.Path.{sym, ap, _∙_}
 use borrow.Author.Needs.{needs}
-use Rattle.scope.specs.Names.{nameOk}
 use Rattle.scope.specs.Kinds.{Row}
 use Rattle.names.specs.Place.{texts}
 use Rattle.kind_sound.proofs.NameLaws.{own-names, child-names, parameter-names, no-return, no-names}
@@ -12,19 +11,16 @@ use Rattle.kind_sound.proofs.names_fit.Tie as tie
 row-of-requires : tie.Need-row-of-requires
 row-of-requires c κs = search needs
 
-own-name-requires : tie.Need-own-name-requires
-own-name-requires c κs = search needs
-
 name-ok-requires : tie.Need-name-ok-requires
 name-ok-requires c κs = search needs
 
 returns : tie.Need-returns
 returns c =
-    let row-of = c .before .before .before .row-of in
-    let a = c .before .before .before .before .before .before .before .args in
+    let row-of = c .before .before .row-of in
+    let a = c .before .before .before .before .before .before .args in
     let x = texts (a .rule .now) (a .text .now) in
     let row = ap (λ (r : Row). r .names) (row-of .ensures) in
-    c .name-ok .ensures ∙ (ap (nameOk x) (c .before .own-name .ensures) ∙ sym (own-names x (a .ks .now) (a .k) (row-of .result .names) row (c .before .before .if1 .taken)))
+    c .name-ok .ensures ∙ sym (own-names x (a .ks .now) (a .k) (row-of .result .names) row (c .before .if1 .taken))
 
 child-names-fit-requires : tie.Need-child-names-fit-requires
 child-names-fit-requires c κs = search needs
@@ -71,7 +67,6 @@ names-fit-spec =
     tie.close
     (tie.spec
     row-of-requires
-    own-name-requires
     name-ok-requires
     returns
     child-names-fit-requires

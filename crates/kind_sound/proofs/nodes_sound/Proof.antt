@@ -7,9 +7,8 @@ use borrow.Author.Needs.{needs}
 use lib.ListN.{drop}
 use Rattle.scope.specs.Base.{all}
 use Rattle.scope.specs.Sound.{nodeSound}
-use Rattle.names.proofs.Tests.{passes, fails}
+use Rattle.names.proofs.Tests.{passes, fails, all-step, all-fails, all-end}
 use Rattle.chart.specs.Env.{chartIn}
-use Rattle.chart.proofs.Laws.{all-step, all-fails, all-end}
 use Rattle.layout.specs.Words.{decode}
 use Rattle.layout.proofs.Laws.{past, length-decode, read-is}
 use Rattle.kind_sound.proofs.Laws.{node-below, nodes-past}

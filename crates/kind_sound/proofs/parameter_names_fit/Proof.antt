@@ -9,9 +9,8 @@ use borrow.Author.Needs.{needs}
 use lib.ListN.{drop}
 use Rattle.scope.specs.Base.{all}
 use Rattle.scope.specs.Names.{namedOrNone}
-use Rattle.names.specs.Place.{texts, nameOf}
-use Rattle.names.proofs.Tests.{passes, fails}
-use Rattle.chart.proofs.Laws.{all-step, all-fails, all-end}
+use Rattle.names.specs.Place.{texts}
+use Rattle.names.proofs.Tests.{passes, fails, all-step, all-fails, all-end}
 use Rattle.kind_sound.proofs.NameLaws.{childNames, name-below, names-past, name-there}
 use Rattle.kind_sound.proofs.parameter_names_fit.Statement.{statement}
 use Rattle.kind_sound.proofs.parameter_names_fit.Tie as tie
@@ -26,8 +25,8 @@ abbrev μ-loop : tie.MeasureT-loop
 loop-holds : tie.Need-loop-holds Inv-loop μ-loop
 loop-holds c = refl
 
-child-name-requires : tie.Need-child-name-requires Inv-loop μ-loop
-child-name-requires c κs = search needs
+child-of-requires : tie.Need-child-of-requires Inv-loop μ-loop
+child-of-requires c κs = search needs
 
 name-or-none-requires : tie.Need-name-or-none-requires Inv-loop μ-loop
 name-or-none-requires c κs = search needs
@@ -35,13 +34,12 @@ name-or-none-requires c κs = search needs
 returns : tie.Need-returns Inv-loop μ-loop
 returns c =
     let loop-test = c .before .before .before .loop-test in
-    let child-name = c .before .before .child-name in
+    let child-of = c .before .before .child-of in
     let a = c .before .before .before .before .before .before .before .before .args in
     let l = c .before .before .before .before .loop in
     let p = namedOrNone (texts (a .rule .now) (a .text .now)) in
-    let n = nameOf (child-name .result) in
     sym (all-fails p (childNames (a .ks .now) (a .k .first) (a .n)) none (l .j) (name-below (a .ks .now) (a .k .first) (a .n) (l .j) (loop-test .taken))
-    (ap p (name-there (a .ks .now) (a .k .first) (a .n) (l .j) (loop-test .taken) n (child-name .ensures)) ∙ fails (c .before .name-or-none .ensures) (c .if1 .taken))) ∙ l .inv
+    (ap p (name-there (a .ks .now) (a .k .first) (a .n) (l .j) (loop-test .taken) (child-of .result) (child-of .ensures)) ∙ fails (c .before .name-or-none .ensures) (c .if1 .taken))) ∙ l .inv
 
 add-j : tie.Need-add-j Inv-loop μ-loop
 add-j c = omega arith
@@ -52,13 +50,12 @@ loop-less c = omega arith
 loop-again : tie.Need-loop-again Inv-loop μ-loop
 loop-again c =
     let loop-test = c .before .before .before .loop-test in
-    let child-name = c .before .before .child-name in
+    let child-of = c .before .before .child-of in
     let a = c .before .before .before .before .before .before .before .before .args in
     let l = c .before .before .before .before .loop in
     let p = namedOrNone (texts (a .rule .now) (a .text .now)) in
-    let n = nameOf (child-name .result) in
     sym (all-step p (childNames (a .ks .now) (a .k .first) (a .n)) none (l .j) (name-below (a .ks .now) (a .k .first) (a .n) (l .j) (loop-test .taken))
-    (ap p (name-there (a .ks .now) (a .k .first) (a .n) (l .j) (loop-test .taken) n (child-name .ensures)) ∙ passes (c .before .name-or-none .ensures) (c .if1 .left))) ∙ l .inv
+    (ap p (name-there (a .ks .now) (a .k .first) (a .n) (l .j) (loop-test .taken) (child-of .result) (child-of .ensures)) ∙ passes (c .before .name-or-none .ensures) (c .if1 .left))) ∙ l .inv
 
 returns-2 : tie.Need-returns-2 Inv-loop μ-loop
 returns-2 c =
@@ -74,7 +71,7 @@ parameter-names-fit-spec =
     Inv-loop
     μ-loop
     loop-holds
-    child-name-requires
+    child-of-requires
     name-or-none-requires
     returns
     add-j

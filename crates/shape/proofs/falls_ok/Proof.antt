@@ -4,8 +4,8 @@
 use Prim.Native.Nat.{_-_}
 use native.Mathlib.Omega.{arith}
 use borrow.Author.Tests.{not-true, not-false}
+use Rattle.layout.proofs.Lists.{all-stop, all-done}
 use Rattle.shape.specs.Read.{kids}
-use Rattle.shape.proofs.Lists.{all-stop, all-done}
 use Rattle.shape.proofs.VisitLaws as laws
 use Rattle.shape.proofs.falls_ok.Statement.{statement}
 use Rattle.shape.proofs.falls_ok.Tie as tie

@@ -6,8 +6,8 @@ use Prim.Native.Nat.{ℕ, _-_, _≤_, _<_}
 use native.Mathlib.Omega.{arith}
 use borrow.Author.Needs.{needs}
 use borrow.Author.Count.{below-more}
+use Rattle.layout.proofs.Lists.{all-stop, all-done}
 use Rattle.shape.specs.Read.{sizeFits}
-use Rattle.shape.proofs.Lists.{all-stop, all-done}
 use Rattle.shape.proofs.Laws as laws
 use Rattle.shape.proofs.sizes_ok.Statement.{statement}
 use Rattle.shape.proofs.sizes_ok.Tie as tie

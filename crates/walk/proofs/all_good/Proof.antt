@@ -7,8 +7,9 @@ use native.Mathlib.Omega.{arith}
 use borrow.Author.Count.{below-more}
 use borrow.Author.Needs.{needs}
 use borrow.Author.Tests.{not-true, not-false}
+use Rattle.layout.proofs.Lists.{all-stop, all-done}
 use Rattle.walk.specs.Read.{goodAt}
-use Rattle.walk.proofs.Answers.{good-skip, good-test, all-fail, all-pass}
+use Rattle.walk.proofs.Answers.{good-skip, good-test}
 use Rattle.walk.proofs.all_good.Statement.{statement}
 use Rattle.walk.proofs.all_good.Tie as tie
 
@@ -35,7 +36,7 @@ returns c =
     let b = c .before .before .before in
     let l = b .before .before in
     let s = l .before .before .before .args in
-    all-fail (goodAt (s .ws .now) (s .n) (s .marks .now) (s .param)) (s .n) (l .loop .i) (b .before .loop-test .taken)
+    all-stop (goodAt (s .ws .now) (s .n) (s .marks .now) (s .param)) (s .n) (l .loop .i) (b .before .loop-test .taken)
     (good-test (s .ws .now) (s .n) (s .marks .now) (s .param) (l .loop .i) (b .is-marked .ensures) (c .before .before .if1 .taken) (c .before .good-at .ensures) (not-true _ (c .if2 .taken)))
 
 loop-less : tie.Need-loop-less Inv-loop μ-loop
@@ -66,7 +67,7 @@ loop-again-2 c =
 returns-2 : tie.Need-returns-2 Inv-loop μ-loop
 returns-2 c =
     let s = c .before .before .before .before .args in
-    all-pass (goodAt (s .ws .now) (s .n) (s .marks .now) (s .param)) (s .n) (c .before .loop .i) (c .loop-test .left) (c .before .loop .inv .1)
+    all-done (goodAt (s .ws .now) (s .n) (s .marks .now) (s .param)) (s .n) (c .before .loop .i) (c .loop-test .left) (c .before .loop .inv .1)
 
 pub all-good-spec : {M : Type 1} → statement M
 all-good-spec =
