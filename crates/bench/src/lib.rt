@@ -18,9 +18,9 @@ ghost use Rattle.bench.specs.Numbers.{typeIn, doneIn, unifyIn, bare, len
 use call_new::KindArgs;
 use call_unify::UnifyAnswer;
 use chart::Beside;
-use scope::NONE;
 use promise::DoneAnswer;
 use promise::TypeAnswer;
+use scope::NONE;
 use types::Type;
 
 // Refusal n is this and n; every value is below.

@@ -91,7 +91,19 @@ fn impls<'a>(
         write_calls::unify_answer(r);
         return;
     }
-    write_calls::bool_answer(call_unify::approx_eq(chart, beside, rule, text, h, ws, ks, p, xs, q, ys));
+    write_calls::bool_answer(call_unify::approx_eq(
+        chart,
+        beside,
+        rule,
+        text,
+        h,
+        ws,
+        ks,
+        p,
+        xs,
+        q,
+        ys,
+    ));
 }
 
 pub(crate) fn call<'a>(

@@ -181,7 +181,16 @@ fn plain<'a>(
     a: &[u32],
 ) {
     if op == NEW_VAR {
-        write_calls::type_answer(call_make::new_var(chart, beside, rule, text, h, ws, ks, word(a, 0)));
+        write_calls::type_answer(call_make::new_var(
+            chart,
+            beside,
+            rule,
+            text,
+            h,
+            ws,
+            ks,
+            word(a, 0),
+        ));
         return;
     }
     if op == NEW_VARS {
