@@ -4,8 +4,7 @@
 use mathlib.Core.Path.{refl}
 use borrow.Author.Needs.{needs}
 use Rattle.sound.specs.Tests.{envIn}
-use Rattle.store.specs.Entries.{entryCount}
-use Rattle.store.specs.Entries.{entryTypes}
+use Rattle.store.specs.Entries.{entryCount, entryTypes}
 use Rattle.call_new.specs.Lent.{given}
 use Rattle.promise.proofs.Laws.{lent-passed}
 use Rattle.store.proofs.EntryLaws.{entries-long}
