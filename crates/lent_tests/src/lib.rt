@@ -16,11 +16,11 @@ ghost use Rattle.lent_tests.specs.Given.{pairTests, listTests, sigTests,
 use kinds::OBJECT;
 use layout::CHILD_WORDS;
 use layout::Kind;
+use refusals::NO_REFUSAL;
 use refusals::OUTSIDE;
 use refusals::UNDEFINED;
 use refusals::UNMAKEABLE;
 use scope::MAX_LIST;
-use refusals::NO_REFUSAL;
 use types::Impl;
 use types::Type;
 

@@ -3,7 +3,7 @@
 -- Assumes nothing.
 use mathlib.Core.Path.{_≡_, refl}
 use mathlib.Core.Bool.{Bool, true, false}
-use mathlib.Core.List.{List, [], _∷_, _++_, map, List·Memᴰ, List·Memᴰ·head, List·Memᴰ·tail, List·Memᴰ·append-cases, Memᴰ·append-left, Memᴰ·append-right}
+use mathlib.Core.List.{List, [], _∷_, _++_, List·Memᴰ, List·Memᴰ·head, List·Memᴰ·tail, List·Memᴰ·append-cases, Memᴰ·append-left, Memᴰ·append-right}
 use mathlib.Core.List.{List·Memᴰ·eq-of-singleton}
 use mathlib.Core.Logic.{_⊎_, inl, inr}
 use Prim.Native.Nat.{ℕ, _<_, _≤_}
@@ -14,7 +14,7 @@ use borrow.Author.Tests.{ltb-true}
 use Rattle.scope.specs.Base.{all}
 use Rattle.scope.specs.Limits.{MAX-LIST}
 use Rattle.scope.specs.Names.{Texts}
-use Rattle.scope.specs.Types.{Ty, tyOf}
+use Rattle.scope.specs.Types.{Ty}
 use Rattle.scope.specs.Answers.{Failure}
 use Rattle.scope.specs.Unify.{answers, runPlan, objectPlan, ImplType, Trait, Error, implPlan}
 use Rattle.scope.specs.Sound.{inStore}
@@ -26,8 +26,9 @@ use Rattle.types.specs.declared.Impl.{Impl}
 use Rattle.types.specs.declared.Inverted.{Inverted}
 use Rattle.layout.specs.Words.{decode}
 use Rattle.layout.proofs.Laws.{length-decode}
+use Rattle.store.specs.Entries.{entryCount, entryNames, entryTypes, typesIn}
 use Rattle.meeting.specs.Asks.{SoundWords, Pair, Pairs}
-use Rattle.unify_lists.specs.Lent.{entryCount, entryNames, entryTypes, Lists, Objects, Signatures, Impls}
+use Rattle.unify_lists.specs.Lent.{Lists, Objects, Signatures, Impls}
 
 module _ {x : Texts} {ws ks : List ℕ} {n : ℕ} (r : SoundWords x ws ks n) where
   -- the types that a call was given
@@ -54,8 +55,8 @@ module _ {x : Texts} {ws ks : List ℕ} {n : ℕ} (r : SoundWords x ws ks n) whe
   between-lists : {v : Bool} (xs ys : List Ty) {ps : List (Ty × Ty)} → Given (xs ++ ys) → Betweens v xs ys ps → Pairs x ws ks n ps
   between-lists xs ys h b = between-pairs (λ t m. below (xs ++ ys) h t (Memᴰ·append-left ys m)) (λ t m. below (xs ++ ys) h t (Memᴰ·append-right xs m)) b
 
-  pub given-lists : (xs ys : List ℕ) (inv : Inverted) → Given (map tyOf xs ++ map tyOf ys) → Lists x ws ks n xs ys inv
-  given-lists xs ys inv h = record { pairs = between-lists (map tyOf xs) (map tyOf ys) h (run-between (inv .0) (map tyOf xs) (map tyOf ys)) }
+  pub given-lists : (xs ys : List ℕ) (inv : Inverted) → Given (typesIn xs ++ typesIn ys) → Lists x ws ks n xs ys inv
+  given-lists xs ys inv h = record { pairs = between-lists (typesIn xs) (typesIn ys) h (run-between (inv .0) (typesIn xs) (typesIn ys)) }
 
   pub given-objects : (xs ys : List ℕ) (inv : Inverted) → Given (entryTypes xs ++ entryTypes ys) → entryCount xs ≤ MAX-LIST → entryCount ys ≤ MAX-LIST
       → Objects x ws ks n xs ys inv
@@ -66,14 +67,14 @@ module _ {x : Texts} {ws ks : List ℕ} {n : ℕ} (r : SoundWords x ws ks n) whe
     second = wy;
   }
 
-  pub given-signatures : (xs : List ℕ) (a : Ty) (ys : List ℕ) (b : Ty) → Given (map tyOf xs ++ (a ∷ map tyOf ys ++ (b ∷ []))) → Signatures x ws ks n xs a ys b
+  pub given-signatures : (xs : List ℕ) (a : Ty) (ys : List ℕ) (b : Ty) → Given (typesIn xs ++ (a ∷ typesIn ys ++ (b ∷ []))) → Signatures x ws ks n xs a ys b
   given-signatures xs a ys b h = record { pairs = record { words = r; inside = λ p w. go p (List·Memᴰ·append-cases (runPlan false ps qs .pairs) w) } }
     where
       ps : List Ty
-      ps = map tyOf xs
+      ps = typesIn xs
 
       qs : List Ty
-      qs = map tyOf ys
+      qs = typesIn ys
 
       of-first : (t : Ty) → List·Memᴰ t ps → t .idx < n
       of-first t m = below (ps ++ (a ∷ qs ++ (b ∷ []))) h t (Memᴰ·append-left (a ∷ qs ++ (b ∷ [])) m)

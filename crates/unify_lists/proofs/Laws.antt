@@ -3,7 +3,7 @@
 -- Assumes nothing.
 use mathlib.Core.Path.{_≡_, refl, ap, sym, subst, _∙_}
 use mathlib.Core.Bool.{Bool, false}
-use mathlib.Core.List.{List, [], _∷_, map, List·Memᴰ·head, Memᴰ·append-left, Memᴰ·append-right}
+use mathlib.Core.List.{List, [], _∷_, List·Memᴰ·head, Memᴰ·append-left, Memᴰ·append-right}
 use Prim.Native.Nat.{ℕ, _+_, _<_, _≤_}
 use native.Mathlib.Numerals.{add-one}
 use native.Mathlib.Omega.{arith}
@@ -24,6 +24,7 @@ use Rattle.types.specs.declared.UnifyResult.{UnifyResult}
 use Rattle.types.specs.declared.UnifyResult.the-variants as code
 use Rattle.layout.specs.Words.{decode}
 use Rattle.layout.proofs.Laws.{length-decode}
+use Rattle.store.specs.Entries.{entryCount, entryNames, entryTypes, typesIn}
 use Rattle.meeting.specs.Asks.{Pair, Pairs}
 use Rattle.meeting.specs.Meets.{does}
 use Rattle.meeting.specs.Kids.{objectsOf}
@@ -31,7 +32,7 @@ use Rattle.unify.specs.Leaves.{Leaves}
 use Rattle.unify.proofs.Kept.{carry-depth}
 use Rattle.unify.proofs.Laws.{words-run}
 use Rattle.unify.proofs.RunLaws.{Going, going-start, going-to, going-pair, going-on, going-end, does-after, ObjectLeft, object-start, object-ends}
-use Rattle.unify_lists.specs.Lent.{entryCount, entryNames, entryTypes, fromFirst, sigPlan, Lists, Objects, Signatures, Impls}
+use Rattle.unify_lists.specs.Lent.{fromFirst, sigPlan, Lists, Objects, Signatures, Impls}
 
 -- the node count is the depth
 
@@ -55,25 +56,25 @@ says x ws ks n l r e = record { same = ap (carry x (decode ws ks n)) e; clean = 
 
 -- the pairs of two lists from the i-th on
 abbrev listRest : Bool → List ℕ → List ℕ → ℕ → List (Ty × Ty)
-listRest v xs ys i = zipped v (map tyOf (drop i xs)) (map tyOf (drop i ys))
+listRest v xs ys i = zipped v (typesIn (drop i xs)) (typesIn (drop i ys))
 
 -- what two lists ask of ws₀ is left to be done from ws, once their first i pairs answered r
 pub record ListLeft (x : Texts) (ws₀ ks : List ℕ) (n : ℕ) (xs ys : List ℕ) (v : Bool) (ws : List ℕ) (r : UnifyResult) (i : ℕ) : Type 0 where
-  pub going : Going x ws₀ ks n n (unifyTypes x (decode ws₀ ks n) (map tyOf xs) (map tyOf ys) v) ws (answerOf r) (listRest v xs ys i)
+  pub going : Going x ws₀ ks n n (unifyTypes x (decode ws₀ ks n) (typesIn xs) (typesIn ys) v) ws (answerOf r) (listRest v xs ys i)
 
 -- the same, and the next pair's second type is in the word b
 pub record ListNext (x : Texts) (ws₀ ks : List ℕ) (n : ℕ) (xs ys : List ℕ) (v : Bool) (ws : List ℕ) (r : UnifyResult) (i b : ℕ) : Type 0 where
-  pub going : Going x ws₀ ks n n (unifyTypes x (decode ws₀ ks n) (map tyOf xs) (map tyOf ys) v) ws (answerOf r)
+  pub going : Going x ws₀ ks n n (unifyTypes x (decode ws₀ ks n) (typesIn xs) (typesIn ys) v) ws (answerOf r)
       ((tyOf (getD xs i 0), tyOf b) ∷ listRest v xs ys (i + 1))
 
-lists-length : (xs : List ℕ) → length (map tyOf xs) ≡ length xs
+lists-length : (xs : List ℕ) → length (typesIn xs) ≡ length xs
 lists-length xs = length-map xs tyOf
 
-list-differ : (v : Bool) (xs ys : List ℕ) → (length xs ≡ length ys → ⊥) → runPlan v (map tyOf xs) (map tyOf ys) ≡ answers Failure
+list-differ : (v : Bool) (xs ys : List ℕ) → (length xs ≡ length ys → ⊥) → runPlan v (typesIn xs) (typesIn ys) ≡ answers Failure
 unfolding runPlan
 list-differ v xs ys h = rw (lists-length xs, lists-length ys, ne-eqb (length xs) (length ys) h)
 
-list-whole : (v : Bool) (xs ys : List ℕ) → length xs ≡ length ys → runPlan v (map tyOf xs) (map tyOf ys) ≡ record { base = Success; pairs = listRest v xs ys 0 }
+list-whole : (v : Bool) (xs ys : List ℕ) → length xs ≡ length ys → runPlan v (typesIn xs) (typesIn ys) ≡ record { base = Success; pairs = listRest v xs ys 0 }
 unfolding runPlan
 list-whole v xs ys e = rw (lists-length xs, lists-length ys, eq-eqb (length xs) (length ys) e) refl
 
@@ -86,19 +87,19 @@ list-over : (v : Bool) (xs ys : List ℕ) (i : ℕ) → length xs ≤ i → list
 unfolding zipped
 list-over v xs ys i h = rw (drop-of-length-le xs {i = i} h) refl
 
-lists-carry : {x : Texts} {ws ks : List ℕ} {n : ℕ} (v : Bool) (xs ys : List ℕ) → Pairs x ws ks n (runPlan v (map tyOf xs) (map tyOf ys) .pairs)
-    → unifyTypes x (decode ws ks n) (map tyOf xs) (map tyOf ys) v ≡ does (unifyF x n n) (decode ws ks n) (runPlan v (map tyOf xs) (map tyOf ys))
+lists-carry : {x : Texts} {ws ks : List ℕ} {n : ℕ} (v : Bool) (xs ys : List ℕ) → Pairs x ws ks n (runPlan v (typesIn xs) (typesIn ys) .pairs)
+    → unifyTypes x (decode ws ks n) (typesIn xs) (typesIn ys) v ≡ does (unifyF x n n) (decode ws ks n) (runPlan v (typesIn xs) (typesIn ys))
 unfolding unifyTypes
-lists-carry v xs ys p = carries (runPlan v (map tyOf xs) (map tyOf ys)) p
+lists-carry v xs ys p = carries (runPlan v (typesIn xs) (typesIn ys)) p
 
 module _ {x : Texts} {ws ks : List ℕ} {n : ℕ} {xs ys : List ℕ} {inv : Inverted} (p : Lists x ws ks n xs ys inv) where
-  pub lists-differ : (length xs ≡ length ys → ⊥) → Leaves ws ks ws n (unifyTypes x (decode ws ks n) (map tyOf xs) (map tyOf ys) (inv .0)) code.Failure
+  pub lists-differ : (length xs ≡ length ys → ⊥) → Leaves ws ks ws n (unifyTypes x (decode ws ks n) (typesIn xs) (typesIn ys) (inv .0)) code.Failure
   unfolding unifyTypes
-  lists-differ h = says x ws ks n (runPlan (inv .0) (map tyOf xs) (map tyOf ys)) code.Failure (list-differ (inv .0) xs ys h)
+  lists-differ h = says x ws ks n (runPlan (inv .0) (typesIn xs) (typesIn ys)) code.Failure (list-differ (inv .0) xs ys h)
 
   pub lists-start : length xs ≡ length ys → ListLeft x ws ks n xs ys (inv .0) ws code.Success 0
   lists-start e = record {
-    going = going-start (runPlan (inv .0) (map tyOf xs) (map tyOf ys)) (record { base = Success; pairs = listRest (inv .0) xs ys 0 })
+    going = going-start (runPlan (inv .0) (typesIn xs) (typesIn ys)) (record { base = Success; pairs = listRest (inv .0) xs ys 0 })
         (lists-carry (inv .0) xs ys (p .pairs)) (list-whole (inv .0) xs ys e) (p .pairs);
   }
 
@@ -117,7 +118,7 @@ module _ {x : Texts} {ws₀ ks : List ℕ} {n : ℕ} {xs ys : List ℕ} {v : Boo
       → ListLeft x ws₀ ks n xs ys v ws′ r′ (i + 1)
   list-next p l f = record { going = going-to (sym f) refl (going-on (p .going) l) }
 
-  pub lists-end : ListLeft x ws₀ ks n xs ys v ws r i → length xs ≤ i → Leaves ws₀ ks ws n (unifyTypes x (decode ws₀ ks n) (map tyOf xs) (map tyOf ys) v) r
+  pub lists-end : ListLeft x ws₀ ks n xs ys v ws r i → length xs ≤ i → Leaves ws₀ ks ws n (unifyTypes x (decode ws₀ ks n) (typesIn xs) (typesIn ys) v) r
   lists-end g h = going-end refl (going-to refl (list-over v xs ys i h) (g .going))
 
 -- two lists of entries
@@ -138,7 +139,7 @@ module _ {x : Texts} {ws ks : List ℕ} {n : ℕ} {xs ys : List ℕ} {inv : Inve
 
 module _ {x : Texts} {ws ks : List ℕ} {n : ℕ} {xs ys : List ℕ} {a b : Ty} (p : Signatures x ws ks n xs a ys b) where
   abbrev parameters : Plan
-  parameters = runPlan false (map tyOf xs) (map tyOf ys)
+  parameters = runPlan false (typesIn xs) (typesIn ys)
 
   abbrev returns : Plan
   returns = runPlan false (a ∷ []) (b ∷ [])
@@ -146,7 +147,7 @@ module _ {x : Texts} {ws ks : List ℕ} {n : ℕ} {xs ys : List ℕ} {a b : Ty} 
   pub sig-parameters : Lists x ws ks n xs ys (record { 0 = false })
   sig-parameters = record { pairs = record { words = p .pairs .words; inside = λ q m. p .pairs .inside q (Memᴰ·append-left (returns .pairs) m) } }
 
-  module _ {ws₁ : List ℕ} {q : UnifyResult} (l : Leaves ws ks ws₁ n (unifyTypes x (decode ws ks n) (map tyOf xs) (map tyOf ys) false) q) where
+  module _ {ws₁ : List ℕ} {q : UnifyResult} (l : Leaves ws ks ws₁ n (unifyTypes x (decode ws ks n) (typesIn xs) (typesIn ys) false) q) where
     as-run : Leaves ws ks ws₁ n (does (unifyF x n n) (decode ws ks n) parameters) q
     as-run = subst (λ (o : Out). Leaves ws ks ws₁ n o q) (lists-carry false xs ys (sig-parameters .pairs)) l
 
@@ -157,10 +158,10 @@ module _ {x : Texts} {ws ks : List ℕ} {n : ℕ} {xs ys : List ℕ} {a b : Ty} 
         record { words = words-run (p .pairs .words) n (parameters .base) (parameters .pairs) (sig-parameters .pairs .inside) as-run; first = h .0; second = h .1 }
 
     pub sig-law : {ws₂ : List ℕ} {r t : UnifyResult} → Leaves ws₁ ks ws₂ n (unifyF x n n (decode ws₁ ks n) a b) r → answerOf t ≡ both (answerOf q) (answerOf r)
-        → Leaves ws ks ws₂ n (unifyFnSig x (decode ws ks n) (map tyOf xs) a (map tyOf ys) b) t
+        → Leaves ws ks ws₂ n (unifyFnSig x (decode ws ks n) (typesIn xs) a (typesIn ys) b) t
     unfolding unifyFnSig runPlan zipped run
     sig-law m f = record {
-      same = carries (sigPlan (map tyOf xs) a (map tyOf ys) b) (p .pairs)
+      same = carries (sigPlan (typesIn xs) a (typesIn ys) b) (p .pairs)
           ∙ (does-after (unifyF x n n) (decode ws ks n) parameters returns (as-run .same) ∙ rw (m .same, f) refl);
       clean = λ c cl. m .clean c (l .clean c cl);
       tail = m .tail ∙ l .tail;
@@ -186,13 +187,13 @@ module _ {x : Texts} {ws ks : List ℕ} {n : ℕ} {a b : Impl} {xs ys : List ℕ
       impl-other h = impl-says code.Failure (rw (ea, eb, ne-eqb i j h) refl)
 
       module _ (h : i ≡ j) where
-        impl-plan : implPlan (implMeans a xs) (implMeans b ys) ≡ runPlan false (map tyOf xs) (map tyOf ys)
+        impl-plan : implPlan (implMeans a xs) (implMeans b ys) ≡ runPlan false (typesIn xs) (typesIn ys)
         impl-plan = rw (ea, eb, eq-eqb i j h) refl
 
         pub impl-pairs : Lists x ws ks n xs ys (record { 0 = false })
         impl-pairs = record { pairs = subst (λ (l : Plan). Pairs x ws ks n (l .pairs)) impl-plan (p .pairs) }
 
-        pub impl-lists : {ws′ : List ℕ} {r : UnifyResult} → Leaves ws ks ws′ n (unifyTypes x (decode ws ks n) (map tyOf xs) (map tyOf ys) false) r
+        pub impl-lists : {ws′ : List ℕ} {r : UnifyResult} → Leaves ws ks ws′ n (unifyTypes x (decode ws ks n) (typesIn xs) (typesIn ys) false) r
             → Leaves ws ks ws′ n (unifyImplType x (decode ws ks n) (implMeans a xs) (implMeans b ys)) r
         unfolding unifyImplType unifyTypes
         impl-lists {ws′} {r} l = subst (λ (p : Plan). Leaves ws ks ws′ n (carry x (decode ws ks n) p) r) (sym impl-plan) l

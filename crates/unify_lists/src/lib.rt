@@ -1,6 +1,5 @@
 // What other callers unify: a pair as deep as there are nodes, and lent lists of types and of entries. Each is what scope's definition says.
 ghost use mathlib.Core.Path.{_≡_};
-ghost use mathlib.Core.List.{map};
 ghost use Prim.Native.Nat.{_≤_};
 ghost use Rattle.scope.specs.Limits.{«MAX-LIST»};
 ghost use Rattle.scope.specs.Types.{tyOf};
@@ -9,10 +8,10 @@ ghost use Rattle.scope.specs.Unify as scope;
 ghost use Rattle.names.specs.Place.{texts};
 ghost use Rattle.layout.specs.Words.{decode};
 ghost use Rattle.types.specs.Impls.{implMeans};
+ghost use Rattle.store.specs.Entries.{entryCount, entryNames, entryTypes, typesIn};
 ghost use Rattle.meeting.specs.Asks.{Pair};
 ghost use Rattle.unify.specs.Leaves.{Leaves};
-ghost use Rattle.unify_lists.specs.Lent.{entryCount, entryNames, entryTypes, Lists, Objects, Signatures, Impls};
-use layout::CHILD_WORDS;
+ghost use Rattle.unify_lists.specs.Lent.{Lists, Objects, Signatures, Impls};
 use meeting::Sought;
 use types::Impl;
 use types::Inverted;
@@ -50,7 +49,7 @@ pub fn unify_lists<'a>(
     requires { ⌜ Lists (texts (now rule) (now text)) (now ws) (now ks) n (now xs) (now ys) inv ⌝ }
     ensures { λ r. ⌜ Leaves (now (ws .entry)) (now (ks .entry)) (now (ws .exit)) n
         (unifyTypes (texts (now (rule .entry)) (now (text .entry))) (decode (now (ws .entry)) (now (ks .entry)) n)
-        (map tyOf (now (xs .entry))) (map tyOf (now (ys .entry))) (inv .0)) r ⌝ }
+        (typesIn (now (xs .entry))) (typesIn (now (ys .entry))) (inv .0)) r ⌝ }
 {
     if xs.len() != ys.len() {
         return UnifyResult::Failure;
@@ -66,12 +65,12 @@ pub fn unify_lists<'a>(
     r
 }
 
-// How many whole entries lent words hold.
+// How many entries lent words hold, of those that a list may have.
 fn entries(xs: &[u32]) -> u32
     requires { ⌜ entryCount (now xs) ≤ «MAX-LIST» ⌝ }
     ensures { λ r. ⌜ r ≡ entryCount (now (xs .entry)) ⌝ }
 {
-    (xs.len() / CHILD_WORDS) as u32
+    store::entry_count(xs) as u32
 }
 
 // Two lent objects, four words an entry: "Objects of different length or names answer Failure and still unify their shared names, in a's order".
@@ -125,7 +124,7 @@ pub fn unify_fn_sig<'a>(
     requires { ⌜ Signatures (texts (now rule) (now text)) (now ws) (now ks) n (now xs) (tyOf (a .0)) (now ys) (tyOf (b .0)) ⌝ }
     ensures { λ r. ⌜ Leaves (now (ws .entry)) (now (ks .entry)) (now (ws .exit)) n
         (unifyFnSig (texts (now (rule .entry)) (now (text .entry))) (decode (now (ws .entry)) (now (ks .entry)) n)
-        (map tyOf (now (xs .entry))) (tyOf (a .0)) (map tyOf (now (ys .entry))) (tyOf (b .0))) r ⌝ }
+        (typesIn (now (xs .entry))) (tyOf (a .0)) (typesIn (now (ys .entry))) (tyOf (b .0))) r ⌝ }
 {
     let q = unify_lists(ws, ks, n, rule, text, xs, ys, Inverted(false));
     let r = unify::unify(ws, ks, n, rule, text, a, b, n);
