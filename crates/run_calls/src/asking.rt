@@ -4,9 +4,10 @@ use chart::Beside;
 use promise::DoneAnswer;
 use read_list::after;
 use read_list::word;
+use scope::MAX_NODES;
 use types::Type;
 
-const FIND: u32 = 30; // type, here and below
+pub(crate) const FIND: u32 = 30; // type, here and below
 
 const FIND_MUT: u32 = 31;
 
@@ -29,8 +30,6 @@ const GET_MOD: u32 = 39;
 const FIND_RELATED: u32 = 40; // type, then a mark for each node
 // The figures, and every node.
 const STORE: u32 = 41;
-
-const ROOM: usize = 4096;
 
 fn find_related_in<'a>(
     chart: &[u32],
@@ -59,7 +58,7 @@ fn find_related<'a>(
     ks: &[u32],
     a: &[u32],
 ) {
-    let mut marks = [0u8; ROOM];
+    let mut marks = [0u8; MAX_NODES];
     let n = read_list::to_bytes(after(a, 1), &mut marks);
     find_related_in(
         chart,

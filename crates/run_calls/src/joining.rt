@@ -7,7 +7,7 @@ use types::Impl;
 use types::Inverted;
 use types::Type;
 
-const UNIFY: u32 = 50; // two types
+pub(crate) const UNIFY: u32 = 50; // two types
 
 const UNIFY_TYPES: u32 = 51; // inversion, how many types the first list has, both lists
 

@@ -7,12 +7,17 @@ mod joining; // unify and its family
 mod making; // open, reset, the makers, forcing and finishing
 
 use chart::Beside;
+use layout::CHILD_WORDS;
+use layout::HEAD_WORDS;
+use layout::NODE_WORDS;
 use read_list::after;
 use read_list::bytes_upto;
 use read_list::first;
 use read_list::to_bytes;
 use read_list::upto;
 use read_list::word;
+use scope::MAX_CHILDREN;
+use scope::MAX_NODES;
 
 const RULE: u32 = 0;
 
@@ -33,12 +38,13 @@ const CASE: u32 = 7;
 const WORDS: u32 = 8;
 
 // More words than the largest store needs, so that some are left over.
-const HEAD: usize = 10;
+const HEAD: usize = HEAD_WORDS + 2;
 
-const NODES: usize = 49_164;
+const NODES: usize = (MAX_NODES + 1) * NODE_WORDS;
 
-const KIDS: usize = 65_544;
+const KIDS: usize = (MAX_CHILDREN + 2) * CHILD_WORDS;
 
+// Room for a text, and for the list.
 const BYTES: usize = 4096;
 
 const NUMBERS: usize = 32_768;
@@ -207,7 +213,6 @@ fn flips<'a>(
         flip(chart, beside, rule, text, h, ws, ks, a, i);
         i += 1;
     }
-    write_calls::line();
 }
 
 // A call by its number.
@@ -228,6 +233,7 @@ fn call<'a>(
     }
     if op == FLIP {
         flips(chart, beside, rule, text, h, ws, ks, a);
+        write_calls::line();
         return;
     }
     if op == WORDS {
@@ -242,11 +248,11 @@ fn call<'a>(
         write_calls::line();
         return;
     }
-    if op < 30 {
+    if op < asking::FIND {
         making::call(op, chart, beside, rule, text, h, ws, ks, a);
         return;
     }
-    if op < 50 {
+    if op < joining::UNIFY {
         asking::call(op, chart, beside, rule, text, h, ws, ks, a);
         return;
     }

@@ -6,6 +6,7 @@ use promise::DoneAnswer;
 use read_list::after;
 use read_list::first;
 use read_list::word;
+use scope::MAX_NODES;
 use types::Type;
 
 const OPEN: u32 = 10; // nodes, children
@@ -31,8 +32,6 @@ const FORCE_KIND: u32 = 19; // type
 const FINISH: u32 = 20;
 
 const FINISH_WHERE: u32 = 21; // a byte for each node
-
-const ROOM: usize = 4096;
 
 fn kind_args(a: &[u32]) -> KindArgs {
     let name = Name {
@@ -92,7 +91,7 @@ fn new_vars<'a>(
     ks: &[u32],
     a: &[u32],
 ) {
-    let mut out = [0u32; ROOM];
+    let mut out = [0u32; MAX_NODES];
     let room = read_list::upto(&out, word(a, 2) as usize);
     new_vars_into(chart, beside, rule, text, h, ws, ks, a, &mut out[..room]);
 }
@@ -107,7 +106,7 @@ fn finish_where<'a>(
     ks: &[u32],
     a: &[u32],
 ) {
-    let mut bytes = [0u8; ROOM];
+    let mut bytes = [0u8; MAX_NODES];
     let n = read_list::to_bytes(a, &mut bytes);
     let r = call_force::finish_inference_where(chart, beside, rule, text, h, ws, ks, &bytes[..n]);
     write_calls::done(r);

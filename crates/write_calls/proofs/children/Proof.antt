@@ -1,10 +1,8 @@
 -- `write_calls::children` is safe and ends: the measure is what is left of the children.
 -- Assumes nothing.
-use mathlib.Core.Path.{_≡_, refl, _∙_}
-use Prim.Native.Nat.{_-_, _≤_}
+use Prim.Native.Nat.{_-_}
 use native.Mathlib.Omega.{arith}
 use borrow.Author.Needs.{needs}
-use lib.ListN.{length}
 use Rattle.write_calls.proofs.children.Statement.{statement}
 use Rattle.write_calls.proofs.children.Tie as tie
 
