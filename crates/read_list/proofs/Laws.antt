@@ -7,5 +7,5 @@ use lib.ListN.{length}
 use lib.Seq.{length-take-le}
 use Rattle.io.specs.Counts.{Counts}
 
-pub counts : {n : ℕ} {xs : List ℕ} → n ≤ length xs → Counts n xs
-counts {n} {xs} within = (within, sym (length-take-le n xs within))
+pub counts : (n : ℕ) (xs : List ℕ) → n ≤ length xs → Counts n xs
+counts n xs within = (within, sym (length-take-le n xs within))

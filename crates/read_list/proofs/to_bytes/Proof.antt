@@ -43,7 +43,7 @@ same-length : tie.Need-same-length Inv-loop μ-loop
 same-length c = search needs
 
 returns : tie.Need-returns Inv-loop μ-loop
-returns c = counts (omega arith)
+returns c = counts _ _ (omega arith)
 
 pub to-bytes-spec : {M : Type 1} → statement M
 to-bytes-spec =

@@ -6,10 +6,10 @@ use Rattle.read_list.proofs.upto.Statement.{statement}
 use Rattle.read_list.proofs.upto.Tie as tie
 
 returns : tie.Need-returns
-returns c = counts (omega arith)
+returns c = counts _ _ (omega arith)
 
 returns-2 : tie.Need-returns-2
-returns-2 c = counts (omega arith)
+returns-2 c = counts _ _ (omega arith)
 
 pub upto-spec : {M : Type 1} → statement M
 upto-spec = tie.close (tie.spec returns returns-2)
