@@ -18,6 +18,7 @@ ghost use Rattle.meeting.specs.Asks.{Pair};
 ghost use Rattle.unify.specs.Leaves.{Leaves};
 ghost use Rattle.bench.specs.Numbers.{typeWord, RESULTS, resultIn};
 use make::Head;
+use names::NO_NAME;
 use types::Type;
 
 #[no_mangle]
@@ -42,7 +43,8 @@ pub extern "C" fn faroalder_direct_new_var(
     span: u32,
 ) -> u32
     requires { ⌜ Ready (now h) (now ws) (now ks) 1 0 ⌝ }
-    ensures { λ r. ⌜ MadeIs (now (h .entry)) (now (ws .entry)) (now (ks .entry)) (now (h .exit)) (now (ws .exit)) (now (ks .entry)) (typeWord r) (newVar (storeIn (now (h .entry)) (now (ws .entry)) (now (ks .entry))) span) ⌝ }
+    ensures { λ r. ⌜ MadeIs (now (h .entry)) (now (ws .entry)) (now (ks .entry)) (now (h .exit)) (now (ws .exit)) (now (ks .entry))
+        (typeWord r) (newVar (storeIn (now (h .entry)) (now (ws .entry)) (now (ks .entry))) span) ⌝ }
 {
     make::new_var(h, ws, ks, span).0
 }
@@ -58,7 +60,8 @@ pub extern "C" fn faroalder_direct_new_vars(
 )
     requires { ⌜ Ready (now h) (now ws) (now ks) count 0 ⌝ }
     requires { ⌜ count ≤ length (now out) ⌝ }
-    ensures { λ _. ⌜ MadeAllIs (now (h .entry)) (now (ws .entry)) (now (ks .entry)) (now (h .exit)) (now (ws .exit)) (now (ks .entry)) (now (out .entry)) (now (out .exit)) (newVars (storeIn (now (h .entry)) (now (ws .entry)) (now (ks .entry))) span count) ⌝ }
+    ensures { λ _. ⌜ MadeAllIs (now (h .entry)) (now (ws .entry)) (now (ks .entry)) (now (h .exit)) (now (ws .exit)) (now (ks .entry))
+        (now (out .entry)) (now (out .exit)) (newVars (storeIn (now (h .entry)) (now (ws .entry)) (now (ks .entry))) span count) ⌝ }
 {
     make::new_vars(h, ws, ks, span, count, out);
 }
@@ -66,7 +69,8 @@ pub extern "C" fn faroalder_direct_new_vars(
 #[no_mangle]
 pub extern "C" fn faroalder_direct_error(h: &mut [u32], ws: &mut [u32], ks: &[u32]) -> u32
     requires { ⌜ Ready (now h) (now ws) (now ks) (nodesFor (storeIn (now h) (now ws) (now ks) .error)) 0 ⌝ }
-    ensures { λ r. ⌜ MadeIs (now (h .entry)) (now (ws .entry)) (now (ks .entry)) (now (h .exit)) (now (ws .exit)) (now (ks .entry)) (typeWord r) (makeError (storeIn (now (h .entry)) (now (ws .entry)) (now (ks .entry)))) ⌝ }
+    ensures { λ r. ⌜ MadeIs (now (h .entry)) (now (ws .entry)) (now (ks .entry)) (now (h .exit)) (now (ws .exit)) (now (ks .entry))
+        (typeWord r) (makeError (storeIn (now (h .entry)) (now (ws .entry)) (now (ks .entry)))) ⌝ }
 {
     make::error(h, ws, ks).0
 }
@@ -74,7 +78,8 @@ pub extern "C" fn faroalder_direct_error(h: &mut [u32], ws: &mut [u32], ks: &[u3
 #[no_mangle]
 pub extern "C" fn faroalder_direct_nil(h: &mut [u32], ws: &mut [u32], ks: &[u32]) -> u32
     requires { ⌜ Ready (now h) (now ws) (now ks) (nodesFor (storeIn (now h) (now ws) (now ks) .nil)) 0 ⌝ }
-    ensures { λ r. ⌜ MadeIs (now (h .entry)) (now (ws .entry)) (now (ks .entry)) (now (h .exit)) (now (ws .exit)) (now (ks .entry)) (typeWord r) (makeNil (storeIn (now (h .entry)) (now (ws .entry)) (now (ks .entry)))) ⌝ }
+    ensures { λ r. ⌜ MadeIs (now (h .entry)) (now (ws .entry)) (now (ks .entry)) (now (h .exit)) (now (ws .exit)) (now (ks .entry))
+        (typeWord r) (makeNil (storeIn (now (h .entry)) (now (ws .entry)) (now (ks .entry)))) ⌝ }
 {
     make::nil(h, ws, ks).0
 }
@@ -90,16 +95,15 @@ pub extern "C" fn faroalder_direct_new(
     entries: &[u32],
 ) -> u32
     requires { ⌜ KindReady (now h) (now ws) (now ks) (withFlag (plainArgs code number) false) (now entries) ⌝ }
-    ensures { λ r. ⌜ MadeIs (now (h .entry)) (now (ws .entry)) (now (ks .entry)) (now (h .exit)) (now (ws .exit)) (now (ks .exit)) (typeWord r) (new (storeIn (now (h .entry)) (now (ws .entry)) (now (ks .entry))) (kindGiven (withFlag (plainArgs code number) false) (now (entries .entry)))) ⌝ }
+    ensures { λ r. ⌜ MadeIs (now (h .entry)) (now (ws .entry)) (now (ks .entry)) (now (h .exit)) (now (ws .exit)) (now (ks .exit))
+        (typeWord r) (new (storeIn (now (h .entry)) (now (ws .entry)) (now (ks .entry))) (kindGiven (withFlag (plainArgs code number) false) (now (entries .entry)))) ⌝ }
 {
     let k = Head {
         code,
         number,
         dual: false,
         flex: 0,
-        text: 0,
-        start: 0,
-        len: 0,
+        name: NO_NAME,
     };
     make::new_kind(h, ws, ks, k, entries).0
 }
@@ -117,7 +121,8 @@ pub extern "C" fn faroalder_direct_unify<'a>(
 ) -> u32
     requires { ⌜ Pair (texts (now rule) (now text)) (now ws) (now ks) n (tyOf a) (tyOf b) ⌝ }
     ensures { λ r. ⌜ r < RESULTS ⌝ }
-    ensures { λ r. ⌜ Leaves (now (ws .entry)) (now (ks .entry)) (now (ws .exit)) n (unify (texts (now (rule .entry)) (now (text .entry))) (decode (now (ws .entry)) (now (ks .entry)) n) (tyOf a) (tyOf b)) (resultIn r) ⌝ }
+    ensures { λ r. ⌜ Leaves (now (ws .entry)) (now (ks .entry)) (now (ws .exit)) n
+        (unify (texts (now (rule .entry)) (now (text .entry))) (decode (now (ws .entry)) (now (ks .entry)) n) (tyOf a) (tyOf b)) (resultIn r) ⌝ }
 {
     unify_lists::unify_all(ws, ks, n, rule, text, Type(a), Type(b)).number()
 }

@@ -18,9 +18,10 @@ ghost use Rattle.bench.specs.Numbers.{typeIn, doneIn, unifyIn, bare, len
 use call_new::KindArgs;
 use call_unify::UnifyAnswer;
 use chart::Beside;
-use scope::NONE;
+use names::NO_NAME;
 use promise::DoneAnswer;
 use promise::TypeAnswer;
+use scope::NONE;
 use types::Type;
 
 // Refusal n is this and n; every value is below.
@@ -74,7 +75,9 @@ pub extern "C" fn faroalder_refusal<'a>(
     ws: &[u32],
     ks: &[u32],
 ) -> u32
-    ensures { λ r. ⌜ firstBroken (lentTests (lentEnv (now (chart .entry)) (now (rule .entry)) (now (text .entry))) (lentOf (now (h .entry)) (now (ws .entry)) (now (ks .entry)))) ≡ codeOf r ⌝ }
+    ensures { λ r. ⌜ firstBroken
+        (lentTests (lentEnv (now (chart .entry)) (now (rule .entry)) (now (text .entry))) (lentOf (now (h .entry)) (now (ws .entry)) (now (ks .entry))))
+        ≡ codeOf r ⌝ }
 {
     sound::refusal(chart, bare(), rule, text, h, ws, ks)
 }
@@ -87,7 +90,9 @@ pub extern "C" fn faroalder_open(
     nodes: u32,
     children: u32,
 ) -> u64
-    ensures { λ r. ⌜ Promised (openCall nodes children (enough nodes children (now (h .entry)) (now (ws .entry)) (now (ks .entry)))) (doneReply (doneIn r)) (now (h .entry)) (now (ws .entry)) (now (ks .entry)) (now (h .exit)) (now (ws .exit)) (now (ks .exit)) ⌝ }
+    ensures { λ r. ⌜ Promised
+        (openCall nodes children (enough nodes children (now (h .entry)) (now (ws .entry)) (now (ks .entry))))
+        (doneReply (doneIn r)) (now (h .entry)) (now (ws .entry)) (now (ks .entry)) (now (h .exit)) (now (ws .exit)) (now (ks .exit)) ⌝ }
 {
     done_number(call_make::open(h, ws, ks, nodes, children))
 }
@@ -102,7 +107,9 @@ pub extern "C" fn faroalder_new_var<'a>(
     ks: &[u32],
     span: u32,
 ) -> u64
-    ensures { λ r. ⌜ Promised (newVarCall (lentEnv (now (chart .entry)) (now (rule .entry)) (now (text .entry))) (lentOf (now (h .entry)) (now (ws .entry)) (now (ks .entry))) span) (typeReply (typeIn r)) (now (h .entry)) (now (ws .entry)) (now (ks .entry)) (now (h .exit)) (now (ws .exit)) (now (ks .entry)) ⌝ }
+    ensures { λ r. ⌜ Promised
+        (newVarCall (lentEnv (now (chart .entry)) (now (rule .entry)) (now (text .entry))) (lentOf (now (h .entry)) (now (ws .entry)) (now (ks .entry))) span)
+        (typeReply (typeIn r)) (now (h .entry)) (now (ws .entry)) (now (ks .entry)) (now (h .exit)) (now (ws .exit)) (now (ks .entry)) ⌝ }
 {
     type_number(call_make::new_var(chart, bare(), rule, text, h, ws, ks, span))
 }
@@ -119,7 +126,10 @@ pub extern "C" fn faroalder_new_vars<'a>(
     count: u32,
     out: &mut [u32],
 ) -> u64
-    ensures { λ r. ⌜ ListPromised (newVarsCall (lentEnv (now (chart .entry)) (now (rule .entry)) (now (text .entry))) (lentOf (now (h .entry)) (now (ws .entry)) (now (ks .entry))) span count (length (now (out .entry)))) (doneIn r) count (now (h .entry)) (now (ws .entry)) (now (ks .entry)) (now (h .exit)) (now (ws .exit)) (now (ks .entry)) (now (out .entry)) (now (out .exit)) ⌝ }
+    ensures { λ r. ⌜ ListPromised
+        (newVarsCall (lentEnv (now (chart .entry)) (now (rule .entry)) (now (text .entry))) (lentOf (now (h .entry)) (now (ws .entry)) (now (ks .entry)))
+        span count (length (now (out .entry))))
+        (doneIn r) count (now (h .entry)) (now (ws .entry)) (now (ks .entry)) (now (h .exit)) (now (ws .exit)) (now (ks .entry)) (now (out .entry)) (now (out .exit)) ⌝ }
 {
     done_number(call_make::new_vars(chart, bare(), rule, text, h, ws, ks, span, count, out))
 }
@@ -133,7 +143,9 @@ pub extern "C" fn faroalder_error<'a>(
     ws: &mut [u32],
     ks: &[u32],
 ) -> u64
-    ensures { λ r. ⌜ Promised (errorCall (lentEnv (now (chart .entry)) (now (rule .entry)) (now (text .entry))) (lentOf (now (h .entry)) (now (ws .entry)) (now (ks .entry)))) (typeReply (typeIn r)) (now (h .entry)) (now (ws .entry)) (now (ks .entry)) (now (h .exit)) (now (ws .exit)) (now (ks .entry)) ⌝ }
+    ensures { λ r. ⌜ Promised
+        (errorCall (lentEnv (now (chart .entry)) (now (rule .entry)) (now (text .entry))) (lentOf (now (h .entry)) (now (ws .entry)) (now (ks .entry))))
+        (typeReply (typeIn r)) (now (h .entry)) (now (ws .entry)) (now (ks .entry)) (now (h .exit)) (now (ws .exit)) (now (ks .entry)) ⌝ }
 {
     type_number(call_make::error(chart, bare(), rule, text, h, ws, ks))
 }
@@ -147,7 +159,9 @@ pub extern "C" fn faroalder_nil<'a>(
     ws: &mut [u32],
     ks: &[u32],
 ) -> u64
-    ensures { λ r. ⌜ Promised (nilCall (lentEnv (now (chart .entry)) (now (rule .entry)) (now (text .entry))) (lentOf (now (h .entry)) (now (ws .entry)) (now (ks .entry)))) (typeReply (typeIn r)) (now (h .entry)) (now (ws .entry)) (now (ks .entry)) (now (h .exit)) (now (ws .exit)) (now (ks .entry)) ⌝ }
+    ensures { λ r. ⌜ Promised
+        (nilCall (lentEnv (now (chart .entry)) (now (rule .entry)) (now (text .entry))) (lentOf (now (h .entry)) (now (ws .entry)) (now (ks .entry))))
+        (typeReply (typeIn r)) (now (h .entry)) (now (ws .entry)) (now (ks .entry)) (now (h .exit)) (now (ws .exit)) (now (ks .entry)) ⌝ }
 {
     type_number(call_make::nil(chart, bare(), rule, text, h, ws, ks))
 }
@@ -160,9 +174,7 @@ fn plain(code: u32, number: u32) -> KindArgs
         code,
         number,
         flex: 0,
-        text: 0,
-        start: 0,
-        len: 0,
+        name: NO_NAME,
     }
 }
 
@@ -179,7 +191,10 @@ pub extern "C" fn faroalder_new<'a>(
     number: u32,
     entries: &[u32],
 ) -> u64
-    ensures { λ r. ⌜ Promised (newCall (lentEnv (now (chart .entry)) (now (rule .entry)) (now (text .entry))) (lentOf (now (h .entry)) (now (ws .entry)) (now (ks .entry))) (given (plainArgs code number) (now (entries .entry)))) (typeReply (typeIn r)) (now (h .entry)) (now (ws .entry)) (now (ks .entry)) (now (h .exit)) (now (ws .exit)) (now (ks .exit)) ⌝ }
+    ensures { λ r. ⌜ Promised
+        (newCall (lentEnv (now (chart .entry)) (now (rule .entry)) (now (text .entry))) (lentOf (now (h .entry)) (now (ws .entry)) (now (ks .entry)))
+        (given (plainArgs code number) (now (entries .entry))))
+        (typeReply (typeIn r)) (now (h .entry)) (now (ws .entry)) (now (ks .entry)) (now (h .exit)) (now (ws .exit)) (now (ks .exit)) ⌝ }
 {
     let k = plain(code, number);
     type_number(call_new::new(chart, bare(), rule, text, h, ws, ks, k, entries))
@@ -196,7 +211,10 @@ pub extern "C" fn faroalder_new_struct<'a>(
     number: u32,
     types: &[u32],
 ) -> u64
-    ensures { λ r. ⌜ Promised (newStructCall (lentEnv (now (chart .entry)) (now (rule .entry)) (now (text .entry))) (lentOf (now (h .entry)) (now (ws .entry)) (now (ks .entry))) number (typesIn (now (types .entry)))) (typeReply (typeIn r)) (now (h .entry)) (now (ws .entry)) (now (ks .entry)) (now (h .exit)) (now (ws .exit)) (now (ks .exit)) ⌝ }
+    ensures { λ r. ⌜ Promised
+        (newStructCall (lentEnv (now (chart .entry)) (now (rule .entry)) (now (text .entry))) (lentOf (now (h .entry)) (now (ws .entry)) (now (ks .entry)))
+        number (typesIn (now (types .entry))))
+        (typeReply (typeIn r)) (now (h .entry)) (now (ws .entry)) (now (ks .entry)) (now (h .exit)) (now (ws .exit)) (now (ks .exit)) ⌝ }
 {
     type_number(call_new::new_struct(chart, bare(), rule, text, h, ws, ks, number, types))
 }
@@ -212,7 +230,10 @@ pub extern "C" fn faroalder_new_union<'a>(
     number: u32,
     types: &[u32],
 ) -> u64
-    ensures { λ r. ⌜ Promised (newUnionCall (lentEnv (now (chart .entry)) (now (rule .entry)) (now (text .entry))) (lentOf (now (h .entry)) (now (ws .entry)) (now (ks .entry))) number (typesIn (now (types .entry)))) (typeReply (typeIn r)) (now (h .entry)) (now (ws .entry)) (now (ks .entry)) (now (h .exit)) (now (ws .exit)) (now (ks .exit)) ⌝ }
+    ensures { λ r. ⌜ Promised
+        (newUnionCall (lentEnv (now (chart .entry)) (now (rule .entry)) (now (text .entry))) (lentOf (now (h .entry)) (now (ws .entry)) (now (ks .entry)))
+        number (typesIn (now (types .entry))))
+        (typeReply (typeIn r)) (now (h .entry)) (now (ws .entry)) (now (ks .entry)) (now (h .exit)) (now (ws .exit)) (now (ks .exit)) ⌝ }
 {
     type_number(call_new::new_union(chart, bare(), rule, text, h, ws, ks, number, types))
 }
@@ -228,7 +249,9 @@ pub extern "C" fn faroalder_unify<'a>(
     a: u32,
     b: u32,
 ) -> u64
-    ensures { λ r. ⌜ Promised (unifyCall (lentEnv (now (chart .entry)) (now (rule .entry)) (now (text .entry))) (lentOf (now (h .entry)) (now (ws .entry)) (now (ks .entry))) (tyOf a) (tyOf b)) (unifyReply (unifyIn r)) (now (h .entry)) (now (ws .entry)) (now (ks .entry)) (now (h .entry)) (now (ws .exit)) (now (ks .entry)) ⌝ }
+    ensures { λ r. ⌜ Promised
+        (unifyCall (lentEnv (now (chart .entry)) (now (rule .entry)) (now (text .entry))) (lentOf (now (h .entry)) (now (ws .entry)) (now (ks .entry))) (tyOf a) (tyOf b))
+        (unifyReply (unifyIn r)) (now (h .entry)) (now (ws .entry)) (now (ks .entry)) (now (h .entry)) (now (ws .exit)) (now (ks .entry)) ⌝ }
 {
     unify_number(call_unify::unify(chart, bare(), rule, text, h, ws, ks, Type(a), Type(b)))
 }

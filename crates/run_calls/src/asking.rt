@@ -1,13 +1,13 @@
 // Calls that change no store, and find_mut.
-use crate::after;
-use crate::word;
-use crate::writing;
 use call_read::FiguresAnswer;
 use chart::Beside;
 use promise::DoneAnswer;
+use read_list::after;
+use read_list::word;
+use scope::MAX_NODES;
 use types::Type;
 
-const FIND: u32 = 30; // type, here and below
+pub(crate) const FIND: u32 = 30; // type, here and below
 
 const FIND_MUT: u32 = 31;
 
@@ -31,22 +31,6 @@ const FIND_RELATED: u32 = 40; // type, then a mark for each node
 // The figures, and every node.
 const STORE: u32 = 41;
 
-const ROOM: usize = 4096;
-
-// The nodes with a mark.
-fn marked(marks: &[u8]) {
-    writing::say(b"marked");
-    let mut i = 0;
-    while i < marks.len() {
-        if marks[i] != 0 {
-            writing::say(b" ");
-            io::print_decimal(1, i as u64);
-        }
-        i += 1;
-    }
-    writing::line();
-}
-
 fn find_related_in<'a>(
     chart: &[u32],
     beside: Beside,
@@ -59,8 +43,8 @@ fn find_related_in<'a>(
     t: Type,
 ) {
     match call_ask::find_related(chart, beside, rule, text, h, ws, ks, marks, t) {
-        DoneAnswer::Done => marked(marks),
-        DoneAnswer::Refused(n) => writing::refused(n),
+        DoneAnswer::Done => write_calls::marked(marks),
+        DoneAnswer::Refused(n) => write_calls::refused(n),
     }
 }
 
@@ -74,8 +58,8 @@ fn find_related<'a>(
     ks: &[u32],
     a: &[u32],
 ) {
-    let mut marks = [0u8; ROOM];
-    let n = crate::to_bytes(after(a, 1), &mut marks);
+    let mut marks = [0u8; MAX_NODES];
+    let n = read_list::to_bytes(after(a, 1), &mut marks);
     find_related_in(
         chart,
         beside,
@@ -100,15 +84,15 @@ fn store<'a>(
     ks: &[u32],
 ) {
     let f = call_read::figures(chart, beside, rule, text, h, ws, ks);
-    writing::figures_answer(f);
+    write_calls::figures_answer(f);
     let FiguresAnswer::Is(x) = f else {
         return;
     };
     let mut i = 0;
     while i < x.nodes {
-        writing::say(b"  ");
+        write_calls::say(b"  ");
         let v = call_read::node(chart, beside, rule, text, h, ws, ks, Type(i));
-        writing::node_answer(v, ks, rule, text);
+        write_calls::node_answer(v, ks, rule, text);
         i += 1;
     }
 }
@@ -127,7 +111,7 @@ fn node<'a>(
 ) {
     let t = Type(word(a, 0));
     if op == NODE {
-        writing::node_answer(
+        write_calls::node_answer(
             call_read::node(chart, beside, rule, text, h, ws, ks, t),
             ks,
             rule,
@@ -136,7 +120,7 @@ fn node<'a>(
         return;
     }
     if op == CHILD {
-        writing::child_answer(call_read::child(
+        write_calls::child_answer(call_read::child(
             chart,
             beside,
             rule,
@@ -151,10 +135,10 @@ fn node<'a>(
     }
     if op == CHILD_NAME {
         let r = call_read::child_name(chart, beside, rule, text, h, ws, ks, t, word(a, 1));
-        writing::name_answer(r, rule, text);
+        write_calls::name_answer(r, rule, text);
         return;
     }
-    writing::figures_answer(call_read::figures(chart, beside, rule, text, h, ws, ks));
+    write_calls::figures_answer(call_read::figures(chart, beside, rule, text, h, ws, ks));
 }
 
 // What a type tells through its root.
@@ -171,20 +155,20 @@ fn root<'a>(
 ) {
     let t = Type(word(a, 0));
     if op == IS_NIL {
-        writing::bool_answer(call_ask::is_nil(chart, beside, rule, text, h, ws, ks, t));
+        write_calls::bool_answer(call_ask::is_nil(chart, beside, rule, text, h, ws, ks, t));
         return;
     }
     if op == SELF_INVERSE {
-        writing::bool_answer(call_ask::self_inverse(chart, beside, rule, text, h, ws, ks, t));
+        write_calls::bool_answer(call_ask::self_inverse(chart, beside, rule, text, h, ws, ks, t));
         return;
     }
     if op == SELF_INVERSE_PARAM {
         let param = word(a, 1) != 0;
         let r = call_ask::self_inverse_param(chart, beside, rule, text, h, ws, ks, t, param);
-        writing::bool_answer(r);
+        write_calls::bool_answer(r);
         return;
     }
-    writing::mod_answer(call_ask::get_mod(chart, beside, rule, text, h, ws, ks, t));
+    write_calls::mod_answer(call_ask::get_mod(chart, beside, rule, text, h, ws, ks, t));
 }
 
 pub(crate) fn call<'a>(
@@ -199,7 +183,7 @@ pub(crate) fn call<'a>(
     a: &[u32],
 ) {
     if op == FIND {
-        writing::type_answer(call_find::find(
+        write_calls::type_answer(call_find::find(
             chart,
             beside,
             rule,
@@ -212,7 +196,7 @@ pub(crate) fn call<'a>(
         return;
     }
     if op == FIND_MUT {
-        writing::type_answer(call_find::find_mut(
+        write_calls::type_answer(call_find::find_mut(
             chart,
             beside,
             rule,

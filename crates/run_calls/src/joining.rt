@@ -1,14 +1,13 @@
 // unify and its family.
-use crate::after;
-use crate::first;
-use crate::word;
-use crate::writing;
 use chart::Beside;
+use read_list::after;
+use read_list::first;
+use read_list::word;
 use types::Impl;
 use types::Inverted;
 use types::Type;
 
-const UNIFY: u32 = 50; // two types
+pub(crate) const UNIFY: u32 = 50; // two types
 
 const UNIFY_TYPES: u32 = 51; // inversion, how many types the first list has, both lists
 
@@ -43,7 +42,7 @@ fn lists<'a>(
     let xs = first(after(a, 2), n);
     let ys = after(after(a, 2), n);
     if op == UNIFY_TYPES {
-        writing::unify_answer(call_unify_lists::unify_types(
+        write_calls::unify_answer(call_unify_lists::unify_types(
             chart,
             beside,
             rule,
@@ -57,7 +56,7 @@ fn lists<'a>(
         ));
         return;
     }
-    writing::unify_answer(call_unify_lists::unify_objects(
+    write_calls::unify_answer(call_unify_lists::unify_objects(
         chart,
         beside,
         rule,
@@ -88,23 +87,11 @@ fn impls<'a>(
     let xs = first(after(a, 5), n);
     let ys = after(after(a, 5), n);
     if op == UNIFY_IMPL_TYPE {
-        let r = call_unify_lists::unify_impl_type(
-            chart,
-            beside,
-            rule,
-            text,
-            h,
-            ws,
-            ks,
-            p,
-            xs,
-            q,
-            ys,
-        );
-        writing::unify_answer(r);
+        let r = call_unify_lists::unify_impl_type(chart, beside, rule, text, h, ws, ks, p, xs, q, ys);
+        write_calls::unify_answer(r);
         return;
     }
-    writing::bool_answer(call_unify_lists::approx_eq(
+    write_calls::bool_answer(call_unify_lists::approx_eq(
         chart,
         beside,
         rule,
@@ -133,7 +120,7 @@ pub(crate) fn call<'a>(
     let x = Type(word(a, 0));
     let y = Type(word(a, 1));
     if op == UNIFY {
-        writing::unify_answer(call_unify::unify(chart, beside, rule, text, h, ws, ks, x, y));
+        write_calls::unify_answer(call_unify::unify(chart, beside, rule, text, h, ws, ks, x, y));
         return;
     }
     if op <= UNIFY_OBJECTS {
@@ -145,7 +132,7 @@ pub(crate) fn call<'a>(
         let xs = first(after(a, 3), n);
         let ys = after(after(a, 3), n);
         let r = call_unify_lists::unify_fn_sig(chart, beside, rule, text, h, ws, ks, xs, x, ys, y);
-        writing::unify_answer(r);
+        write_calls::unify_answer(r);
         return;
     }
     if op <= APPROX_EQ {

@@ -1,15 +1,23 @@
 // Runs a list of calls through the public calls and writes what each answers. The list is text on standard input: a call's number, how many numbers
 // follow, and these. What each number means stands in `making`, `asking` and `joining`; the ones here set what is lent and write words into it.
 ghost use Prim.Native.Nat.{_<_};
-ghost use Rattle.io.specs.Counts.{Counts};
 
 mod asking; // calls that change no store
 mod joining; // unify and its family
 mod making; // open, reset, the makers, forcing and finishing
-mod numbers; // text to numbers
-mod writing; // answers to text
 
 use chart::Beside;
+use layout::CHILD_WORDS;
+use layout::HEAD_WORDS;
+use layout::NODE_WORDS;
+use read_list::after;
+use read_list::bytes_upto;
+use read_list::first;
+use read_list::to_bytes;
+use read_list::upto;
+use read_list::word;
+use scope::MAX_CHILDREN;
+use scope::MAX_NODES;
 
 const RULE: u32 = 0;
 
@@ -30,12 +38,13 @@ const CASE: u32 = 7;
 const WORDS: u32 = 8;
 
 // More words than the largest store needs, so that some are left over.
-const HEAD: usize = 10;
+const HEAD: usize = HEAD_WORDS + 2;
 
-const NODES: usize = 49_164;
+const NODES: usize = (MAX_NODES + 1) * NODE_WORDS;
 
-const KIDS: usize = 65_544;
+const KIDS: usize = (MAX_CHILDREN + 2) * CHILD_WORDS;
 
+// Room for a text, and for the list.
 const BYTES: usize = 4096;
 
 const NUMBERS: usize = 32_768;
@@ -69,48 +78,6 @@ fn nothing_lent() -> Lent {
     }
 }
 
-// Number i, or 0.
-pub(crate) fn word(s: &[u32], i: usize) -> u32 {
-    if i < s.len() { s[i] } else { 0 }
-}
-
-// The numbers from a on.
-pub(crate) fn after(s: &[u32], a: usize) -> &[u32] {
-    if a < s.len() { &s[a..] } else { &s[..0] }
-}
-
-// The first n numbers, or all.
-pub(crate) fn first(s: &[u32], n: usize) -> &[u32] {
-    let m = upto(s, n);
-    &s[..m]
-}
-
-// How many of n words there are; of n bytes below.
-pub(crate) fn upto(s: &[u32], n: usize) -> usize
-    ensures { λ r. ⌜ Counts r (now (s .entry)) ⌝ }
-{
-    if n < s.len() { n } else { s.len() }
-}
-
-fn bytes_upto(s: &[u8], n: usize) -> usize
-    ensures { λ r. ⌜ Counts r (now (s .entry)) ⌝ }
-{
-    if n < s.len() { n } else { s.len() }
-}
-
-// The numbers as bytes, and how many.
-pub(crate) fn to_bytes(s: &[u32], out: &mut [u8]) -> usize
-    ensures { λ r. ⌜ Counts r (now (out .exit)) ⌝ }
-{
-    let n = bytes_upto(out, s.len());
-    let mut i = 0;
-    while i < n {
-        out[i] = (word(s, i) % 256) as u8;
-        i += 1;
-    }
-    n
-}
-
 fn sigils_of(a: &[u32]) -> [u32; 12] {
     let mut s = [0u32; 12];
     let mut i = 0;
@@ -127,10 +94,6 @@ fn beside_of(a: &[u32]) -> Beside {
         fn_trait: word(a, 0),
         sigils,
     }
-}
-
-fn wide(n: u32) -> usize {
-    n as usize
 }
 
 // What is lent from now on; `at` is where the call's numbers stand.
@@ -156,9 +119,9 @@ fn lend(op: u32, l: Lent, at: usize, a: &[u32], rule: &mut [u8], text: &mut [u8]
         m.beside = beside;
         return m;
     }
-    m.head = wide(word(a, 0));
-    m.nodes = wide(word(a, 1));
-    m.kids = wide(word(a, 2));
+    m.head = word(a, 0) as usize;
+    m.nodes = word(a, 1) as usize;
+    m.kids = word(a, 2) as usize;
     m
 }
 
@@ -216,8 +179,8 @@ fn flip<'a>(
     };
     poke(h, ws, ks, &[which, i, other(s, a)]);
     match call_find::find(chart, beside, rule, text, h, ws, ks, types::Type(0)) {
-        promise::TypeAnswer::Is(_) => writing::number(0),
-        promise::TypeAnswer::Refused(n) => writing::number(n),
+        promise::TypeAnswer::Is(_) => write_calls::number(0),
+        promise::TypeAnswer::Refused(n) => write_calls::number(n),
     }
     poke(h, ws, ks, &[which, i, s]);
 }
@@ -250,7 +213,6 @@ fn flips<'a>(
         flip(chart, beside, rule, text, h, ws, ks, a, i);
         i += 1;
     }
-    writing::line();
 }
 
 // A call by its number.
@@ -271,25 +233,26 @@ fn call<'a>(
     }
     if op == FLIP {
         flips(chart, beside, rule, text, h, ws, ks, a);
+        write_calls::line();
         return;
     }
     if op == WORDS {
-        writing::words(h);
-        writing::words(ws);
-        writing::words(ks);
+        write_calls::words(h);
+        write_calls::words(ws);
+        write_calls::words(ks);
         return;
     }
     if op == CASE {
-        writing::say(b"case ");
-        writing::number(word(a, 0));
-        writing::line();
+        write_calls::say(b"case ");
+        write_calls::number(word(a, 0));
+        write_calls::line();
         return;
     }
-    if op < 30 {
+    if op < asking::FIND {
         making::call(op, chart, beside, rule, text, h, ws, ks, a);
         return;
     }
-    if op < 50 {
+    if op < joining::UNIFY {
         asking::call(op, chart, beside, rule, text, h, ws, ks, a);
         return;
     }
@@ -387,6 +350,6 @@ fn main() {
     let mut input = io::large_buffer();
     let got = io::read_full(0, &mut input);
     let mut s = [0u32; NUMBERS];
-    let n = numbers::numbers(&input[..got], &mut s);
+    let n = read_list::numbers(&input[..got], &mut s);
     run(first(&s, n));
 }

@@ -1,11 +1,12 @@
 // Opening, the makers, forcing and finishing.
-use crate::after;
-use crate::first;
-use crate::word;
-use crate::writing;
 use call_new::KindArgs;
 use chart::Beside;
+use names::Name;
 use promise::DoneAnswer;
+use read_list::after;
+use read_list::first;
+use read_list::word;
+use scope::MAX_NODES;
 use types::Type;
 
 const OPEN: u32 = 10; // nodes, children
@@ -32,37 +33,25 @@ const FINISH: u32 = 20;
 
 const FINISH_WHERE: u32 = 21; // a byte for each node
 
-const ROOM: usize = 4096;
-
 fn kind_args(a: &[u32]) -> KindArgs {
+    let name = Name {
+        text: word(a, 3),
+        start: word(a, 4),
+        len: word(a, 5),
+    };
     KindArgs {
         code: word(a, 0),
         number: word(a, 1),
         flex: word(a, 2),
-        text: word(a, 3),
-        start: word(a, 4),
-        len: word(a, 5),
+        name,
     }
-}
-
-fn types(ts: &[u32]) {
-    let mut i = 0;
-    while i < ts.len() {
-        writing::say(b" ");
-        writing::typ(Type(ts[i]));
-        i += 1;
-    }
-    writing::line();
 }
 
 // The types that stand at the front of `out`, if the call was done.
 fn listed(a: DoneAnswer, out: &[u32], count: u32) {
     match a {
-        DoneAnswer::Done => {
-            writing::say(b"types");
-            types(first(out, count as usize));
-        }
-        DoneAnswer::Refused(n) => writing::refused(n),
+        DoneAnswer::Done => write_calls::types(first(out, count as usize)),
+        DoneAnswer::Refused(n) => write_calls::refused(n),
     }
 }
 
@@ -102,8 +91,8 @@ fn new_vars<'a>(
     ks: &[u32],
     a: &[u32],
 ) {
-    let mut out = [0u32; ROOM];
-    let room = crate::upto(&out, word(a, 2) as usize);
+    let mut out = [0u32; MAX_NODES];
+    let room = read_list::upto(&out, word(a, 2) as usize);
     new_vars_into(chart, beside, rule, text, h, ws, ks, a, &mut out[..room]);
 }
 
@@ -117,10 +106,10 @@ fn finish_where<'a>(
     ks: &[u32],
     a: &[u32],
 ) {
-    let mut bytes = [0u8; ROOM];
-    let n = crate::to_bytes(a, &mut bytes);
+    let mut bytes = [0u8; MAX_NODES];
+    let n = read_list::to_bytes(a, &mut bytes);
     let r = call_force::finish_inference_where(chart, beside, rule, text, h, ws, ks, &bytes[..n]);
-    writing::done(r);
+    write_calls::done(r);
 }
 
 // The makers that fill a kind.
@@ -147,7 +136,7 @@ fn kinds<'a>(
             kind_args(a),
             after(a, 6),
         );
-        writing::type_answer(r);
+        write_calls::type_answer(r);
         return;
     }
     if op == NEW_STRUCT {
@@ -162,7 +151,7 @@ fn kinds<'a>(
             word(a, 0),
             after(a, 1),
         );
-        writing::type_answer(r);
+        write_calls::type_answer(r);
         return;
     }
     let r = call_new::new_union(
@@ -176,7 +165,7 @@ fn kinds<'a>(
         word(a, 0),
         after(a, 1),
     );
-    writing::type_answer(r);
+    write_calls::type_answer(r);
 }
 
 fn plain<'a>(
@@ -191,7 +180,16 @@ fn plain<'a>(
     a: &[u32],
 ) {
     if op == NEW_VAR {
-        writing::type_answer(call_make::new_var(chart, beside, rule, text, h, ws, ks, word(a, 0)));
+        write_calls::type_answer(call_make::new_var(
+            chart,
+            beside,
+            rule,
+            text,
+            h,
+            ws,
+            ks,
+            word(a, 0),
+        ));
         return;
     }
     if op == NEW_VARS {
@@ -199,20 +197,20 @@ fn plain<'a>(
         return;
     }
     if op == ERROR {
-        writing::type_answer(call_make::error(chart, beside, rule, text, h, ws, ks));
+        write_calls::type_answer(call_make::error(chart, beside, rule, text, h, ws, ks));
         return;
     }
     if op == NIL {
-        writing::type_answer(call_make::nil(chart, beside, rule, text, h, ws, ks));
+        write_calls::type_answer(call_make::nil(chart, beside, rule, text, h, ws, ks));
         return;
     }
     if op == FORCE_KIND {
         let r = call_force::force_kind(chart, beside, rule, text, h, ws, ks, Type(word(a, 0)));
-        writing::forced_answer(r, ks, rule, text);
+        write_calls::forced_answer(r, ks, rule, text);
         return;
     }
     if op == FINISH {
-        writing::done(call_force::finish_inference(chart, beside, rule, text, h, ws, ks));
+        write_calls::done(call_force::finish_inference(chart, beside, rule, text, h, ws, ks));
         return;
     }
     finish_where(chart, beside, rule, text, h, ws, ks, a);
@@ -230,11 +228,11 @@ pub(crate) fn call<'a>(
     a: &[u32],
 ) {
     if op == OPEN {
-        writing::done(call_make::open(h, ws, ks, word(a, 0), word(a, 1)));
+        write_calls::done(call_make::open(h, ws, ks, word(a, 0), word(a, 1)));
         return;
     }
     if op == RESET {
-        writing::done(call_make::reset(chart, beside, rule, text, h, ws, ks));
+        write_calls::done(call_make::reset(chart, beside, rule, text, h, ws, ks));
         return;
     }
     if op <= NEW_UNION {

@@ -20,7 +20,9 @@ same-length-2 : tie.Need-same-length-2
 same-length-2 c = search needs
 
 returns : tie.Need-returns
-returns c = rw (c .type-number .ensures) (rw (c .before .before .before .before .before .before .before .before .bare .ensures) at (c .before .before .before .before .before .error .ensures))
+returns c =
+    let called = c .before .before .before .before .before in
+    rw (c .type-number .ensures) (rw (called .before .before .before .bare .ensures) at (called .error .ensures))
 
 pub faroalder-error-spec : {M : Type 1} → statement M
 faroalder-error-spec =

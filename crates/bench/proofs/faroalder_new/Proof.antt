@@ -26,7 +26,10 @@ same-length-3 : tie.Need-same-length-3
 same-length-3 c = search needs
 
 returns : tie.Need-returns
-returns c = rw (c .type-number .ensures) (rw (c .before .before .before .before .before .before .before .before .before .before .before .bare .ensures, c .before .before .before .before .before .before .before .before .before .before .before .before .plain .ensures) at (c .before .before .before .before .before .before .before .new .ensures))
+returns c =
+    let called = c .before .before .before .before .before .before .before in
+    let bare = called .before .before .before .before in
+    rw (c .type-number .ensures) (rw (bare .bare .ensures, bare .before .plain .ensures) at (called .new .ensures))
 
 pub faroalder-new-spec : {M : Type 1} → statement M
 faroalder-new-spec =

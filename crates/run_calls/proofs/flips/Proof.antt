@@ -35,9 +35,6 @@ loop-less c = omega arith
 loop-again : tie.Need-loop-again Inv-loop μ-loop
 loop-again c = search needs
 
-line-requires : tie.Need-line-requires Inv-loop μ-loop
-line-requires c κs = search needs
-
 same-length : tie.Need-same-length Inv-loop μ-loop
 same-length c = search needs
 
@@ -63,7 +60,6 @@ flips-spec =
     add-i
     loop-less
     loop-again
-    line-requires
     same-length
     same-length-2
     same-length-3

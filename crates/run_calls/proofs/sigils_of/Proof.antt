@@ -1,10 +1,8 @@
 -- `run_calls::sigils_of` is safe and ends: the measure is what is left of the twelve.
 -- Assumes nothing.
-use mathlib.Core.Path.{_≡_, refl, _∙_}
-use Prim.Native.Nat.{_-_, _≤_}
+use Prim.Native.Nat.{_-_}
 use native.Mathlib.Omega.{arith}
 use borrow.Author.Needs.{needs}
-use lib.ListN.{length}
 use Rattle.run_calls.proofs.sigils_of.Statement.{statement}
 use Rattle.run_calls.proofs.sigils_of.Tie as tie
 

@@ -9,7 +9,8 @@ use Rattle.run_calls.proofs.turns.Statement.{statement}
 use Rattle.run_calls.proofs.turns.Tie as tie
 
 abbrev Inv-loop : tie.InvT-loop
-Inv-loop s rule₀ text₀ h₀ ws₀ ks₀ l₀ at₀ rule text h ws ks l at = (length rule ≡ length rule₀) × (length text ≡ length text₀) × (length h ≡ length h₀) × (length ws ≡ length ws₀) × (length ks ≡ length ks₀)
+Inv-loop s rule₀ text₀ h₀ ws₀ ks₀ l₀ at₀ rule text h ws ks l at =
+    (length rule ≡ length rule₀) × (length text ≡ length text₀) × (length h ≡ length h₀) × (length ws ≡ length ws₀) × (length ks ≡ length ks₀)
 
 abbrev μ-loop : tie.MeasureT-loop
 μ-loop s rule₀ text₀ h₀ ws₀ ks₀ l₀ at₀ rule text h ws ks l at = length s - at
@@ -48,10 +49,17 @@ turn-requires : tie.Need-turn-requires Inv-loop μ-loop
 turn-requires c κs = search needs
 
 loop-less : tie.Need-loop-less Inv-loop μ-loop
-loop-less c = let h = c .before .before .before .before .before .before .before .before .before .before .before .before .before .before .before .before .before .next .ensures (c .before .before .before .before .before .before .before .before .before .before .before .before .before .before .before .before .before .before .before .before .before .before .before .loop-test .taken) in omega (arith, h, c .before .before .before .before .before .before .before .before .before .before .before .before .before .before .before .before .before .before .before .before .before .before .before .loop-test .taken)
+loop-less c =
+    let next = c .before .before .before .before .before .before .before .before .before .before .before .before .before .before .before .before .before in
+    let more = next .before .before .before .before .before .before .loop-test .taken in
+    omega (arith, more, next .next .ensures more)
 
 loop-again : tie.Need-loop-again Inv-loop μ-loop
-loop-again c = let k = c .before .before .before .before .before .before .before .before .before .before .turn .kept .1 .1 .1 .1 .1 in let v = c .before .before .before .before .before .before .before .before .before .before .before .before .before .before .before .before .before .before .before .before .before .before .before .before .loop .inv in (k .0 ∙ v .0, k .1 .0 ∙ v .1, k .1 .1 .0 ∙ v .2, k .1 .1 .1 .0 ∙ v .3, k .1 .1 .1 .1 .0 ∙ v .4)
+loop-again c =
+    let turn = c .before .before .before .before .before .before .before .before .before .before in
+    let k = turn .turn .kept .1 .1 .1 .1 .1 in
+    let v = turn .before .before .before .before .before .before .before .before .before .before .before .before .before .before .loop .inv in
+    (k .0 ∙ v .0, k .1 .0 ∙ v .1, k .1 .1 .0 ∙ v .2, k .1 .1 .1 .0 ∙ v .3, k .1 .1 .1 .1 .0 ∙ v .4)
 
 same-length : tie.Need-same-length Inv-loop μ-loop
 same-length c = search needs

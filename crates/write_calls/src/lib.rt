@@ -1,4 +1,4 @@
-// Answers and nodes as lines of text.
+// What the public calls answer, as lines of text.
 use call_ask::ModAnswer;
 use call_force::ForcedAnswer;
 use call_read::ChildAnswer;
@@ -13,6 +13,7 @@ use names::Name;
 use promise::BoolAnswer;
 use promise::DoneAnswer;
 use promise::TypeAnswer;
+use read_list::word;
 use types::Inverted;
 use types::Type;
 use types::UnifyResult;
@@ -20,31 +21,15 @@ use walk::Mod;
 
 const OUT: i32 = 1;
 
-pub(crate) fn say(text: &[u8]) {
+pub fn say(text: &[u8]) {
     io::write_all(OUT, text);
 }
 
-// "Both give Error uninverted."
-fn no_kind() {
-    say(b"known 14 0 0 0");
-}
-
-pub(crate) fn number(n: u32) {
+pub fn number(n: u32) {
     io::print_decimal(OUT, n as u64);
 }
 
-// Numbers on a line of their own.
-pub(crate) fn words(s: &[u32]) {
-    let mut i = 0;
-    while i < s.len() {
-        number(s[i]);
-        say(b" ");
-        i += 1;
-    }
-    line();
-}
-
-pub(crate) fn line() {
+pub fn line() {
     say(b"\n");
 }
 
@@ -54,7 +39,7 @@ fn inverse(i: Inverted) {
     }
 }
 
-pub(crate) fn typ(t: Type) {
+pub fn typ(t: Type) {
     inverse(t.inv());
     number(t.idx().0);
 }
@@ -67,20 +52,76 @@ fn flag(b: bool) {
     }
 }
 
-pub(crate) fn refused(n: u32) {
+// What a list is of.
+enum Form {
+    Word,
+    Type,
+    // A mark is written as its place.
+    Mark,
+}
+
+// Item i of a list of words or of marks.
+fn item(f: Form, ws: &[u32], marks: &[u8], i: usize) {
+    match f {
+        Form::Word => {
+            number(word(ws, i));
+            say(b" ");
+        }
+        Form::Type => {
+            say(b" ");
+            typ(Type(word(ws, i)));
+        }
+        Form::Mark => {
+            if i < marks.len() {
+                if marks[i] != 0 {
+                    say(b" ");
+                    io::print_decimal(OUT, i as u64);
+                }
+            }
+        }
+    }
+}
+
+// The first n items, to the line's end.
+fn list(f: Form, n: usize, ws: &[u32], marks: &[u8]) {
+    let mut i = 0;
+    while i < n {
+        item(f, ws, marks, i);
+        i += 1;
+    }
+    line();
+}
+
+// Numbers on a line of their own.
+pub fn words(s: &[u32]) {
+    list(Form::Word, s.len(), s, b"");
+}
+
+pub fn types(s: &[u32]) {
+    say(b"types");
+    list(Form::Type, s.len(), s, b"");
+}
+
+// The nodes with a mark.
+pub fn marked(marks: &[u8]) {
+    say(b"marked");
+    list(Form::Mark, marks.len(), &[0u32], marks);
+}
+
+pub fn refused(n: u32) {
     say(b"refused ");
     number(n);
     line();
 }
 
-pub(crate) fn done(a: DoneAnswer) {
+pub fn done(a: DoneAnswer) {
     match a {
         DoneAnswer::Done => say(b"done\n"),
         DoneAnswer::Refused(n) => refused(n),
     }
 }
 
-pub(crate) fn type_answer(a: TypeAnswer) {
+pub fn type_answer(a: TypeAnswer) {
     match a {
         TypeAnswer::Is(t) => {
             say(b"=");
@@ -91,7 +132,7 @@ pub(crate) fn type_answer(a: TypeAnswer) {
     }
 }
 
-pub(crate) fn bool_answer(a: BoolAnswer) {
+pub fn bool_answer(a: BoolAnswer) {
     match a {
         BoolAnswer::Is(b) => {
             flag(b);
@@ -109,14 +150,14 @@ fn result(r: UnifyResult) {
     }
 }
 
-pub(crate) fn unify_answer(a: UnifyAnswer) {
+pub fn unify_answer(a: UnifyAnswer) {
     match a {
         UnifyAnswer::Is(r) => result(r),
         UnifyAnswer::Refused(n) => refused(n),
     }
 }
 
-pub(crate) fn mod_answer(a: ModAnswer) {
+pub fn mod_answer(a: ModAnswer) {
     match a {
         ModAnswer::Is(m) => match m {
             Mod::Nothing => say(b"none\n"),
@@ -131,7 +172,7 @@ pub(crate) fn mod_answer(a: ModAnswer) {
     }
 }
 
-pub(crate) fn child_answer(a: ChildAnswer) {
+pub fn child_answer(a: ChildAnswer) {
     match a {
         ChildAnswer::Is(t) => {
             typ(t);
@@ -149,7 +190,7 @@ fn name<'a>(n: Name, rule: &'a [u8], text: &'a [u8]) {
     say(b"|");
 }
 
-pub(crate) fn name_answer<'a>(a: NameAnswer, rule: &'a [u8], text: &'a [u8]) {
+pub fn name_answer<'a>(a: NameAnswer, rule: &'a [u8], text: &'a [u8]) {
     match a {
         NameAnswer::Is(n) => {
             name(n, rule, text);
@@ -165,12 +206,8 @@ fn child<'a>(ks: &[u32], k: Kind, j: u32, rule: &'a [u8], text: &'a [u8]) {
     let s = layout::child_of(ks, k, j);
     say(b" ");
     typ(s.ty);
-    if s.len != 0 {
-        let n = Name {
-            text: s.text,
-            start: s.start,
-            len: s.len,
-        };
+    let n = s.name;
+    if n.len != 0 {
         name(n, rule, text);
     }
 }
@@ -192,13 +229,9 @@ fn kind<'a>(ks: &[u32], k: Kind, rule: &'a [u8], text: &'a [u8]) {
     flag(k.dual);
     say(b" ");
     number(k.flex);
-    if k.len != 0 {
+    let n = k.name;
+    if n.len != 0 {
         say(b" ");
-        let n = Name {
-            text: k.text,
-            start: k.start,
-            len: k.len,
-        };
         name(n, rule, text);
     }
     children(ks, k, rule, text);
@@ -216,7 +249,7 @@ fn known<'a>(ks: &[u32], i: Inverted, k: Kind, rule: &'a [u8], text: &'a [u8]) {
     kind(ks, k, rule, text);
 }
 
-pub(crate) fn node_answer<'a>(a: NodeAnswer, ks: &[u32], rule: &'a [u8], text: &'a [u8]) {
+pub fn node_answer<'a>(a: NodeAnswer, ks: &[u32], rule: &'a [u8], text: &'a [u8]) {
     match a {
         NodeAnswer::Known(i, k, size) => {
             root(size);
@@ -243,7 +276,12 @@ pub(crate) fn node_answer<'a>(a: NodeAnswer, ks: &[u32], rule: &'a [u8], text: &
     }
 }
 
-pub(crate) fn forced_answer<'a>(a: ForcedAnswer, ks: &[u32], rule: &'a [u8], text: &'a [u8]) {
+// "Both give Error uninverted."
+fn no_kind() {
+    say(b"known 14 0 0 0");
+}
+
+pub fn forced_answer<'a>(a: ForcedAnswer, ks: &[u32], rule: &'a [u8], text: &'a [u8]) {
     match a {
         ForcedAnswer::Known(i, k) => {
             known(ks, i, k, rule, text);
@@ -291,7 +329,7 @@ fn header(x: Header) {
     line();
 }
 
-pub(crate) fn figures_answer(a: FiguresAnswer) {
+pub fn figures_answer(a: FiguresAnswer) {
     match a {
         FiguresAnswer::Is(x) => header(x),
         FiguresAnswer::Refused(n) => refused(n),

@@ -1,13 +1,13 @@
--- `run_calls::to_bytes` meets its contract: as many are copied as there is room for. The measure is what is left to copy.
+-- `read_list::to_bytes` meets its contract: as many are copied as there is room for. The measure is what is left to copy.
 -- Assumes nothing.
-use mathlib.Core.Path.{_≡_, sym}
+use mathlib.Core.Path.{_≡_}
 use Prim.Native.Nat.{_-_, _≤_}
 use lib.ListN.{length}
-use lib.Seq.{length-take-le}
 use native.Mathlib.Omega.{arith}
 use borrow.Author.Needs.{needs}
-use Rattle.run_calls.proofs.to_bytes.Statement.{statement}
-use Rattle.run_calls.proofs.to_bytes.Tie as tie
+use Rattle.read_list.proofs.Laws.{counts}
+use Rattle.read_list.proofs.to_bytes.Statement.{statement}
+use Rattle.read_list.proofs.to_bytes.Tie as tie
 
 abbrev Inv-loop : tie.InvT-loop
 Inv-loop s out₀ n i₀ out i = (length out ≡ length out₀) × (n ≤ length out₀)
@@ -43,7 +43,7 @@ same-length : tie.Need-same-length Inv-loop μ-loop
 same-length c = search needs
 
 returns : tie.Need-returns Inv-loop μ-loop
-returns c = (omega arith, sym (length-take-le _ _ (omega arith)))
+returns c = counts _ _ (omega arith)
 
 pub to-bytes-spec : {M : Type 1} → statement M
 to-bytes-spec =
