@@ -87,7 +87,19 @@ fn impls<'a>(
     let xs = first(after(a, 5), n);
     let ys = after(after(a, 5), n);
     if op == UNIFY_IMPL_TYPE {
-        let r = call_unify_lists::unify_impl_type(chart, beside, rule, text, h, ws, ks, p, xs, q, ys);
+        let r = call_unify_lists::unify_impl_type(
+            chart,
+            beside,
+            rule,
+            text,
+            h,
+            ws,
+            ks,
+            p,
+            xs,
+            q,
+            ys,
+        );
         write_calls::unify_answer(r);
         return;
     }
