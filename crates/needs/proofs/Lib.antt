@@ -1,0 +1,3 @@
+pub mod RootLaws
+pub mod CountLaws
+pub mod SourceLaws
