@@ -1,9 +1,11 @@
 // Calls that change no store, and find_mut.
+use crate::numbers;
+use crate::numbers::after;
+use crate::numbers::word;
+use crate::writing;
 use call_read::FiguresAnswer;
 use chart::Beside;
 use promise::DoneAnswer;
-use read_list::after;
-use read_list::word;
 use scope::MAX_NODES;
 use types::Type;
 
@@ -43,8 +45,8 @@ fn find_related_in<'a>(
     t: Type,
 ) {
     match call_ask::find_related(chart, beside, rule, text, h, ws, ks, marks, t) {
-        DoneAnswer::Done => write_calls::marked(marks),
-        DoneAnswer::Refused(n) => write_calls::refused(n),
+        DoneAnswer::Done => writing::marked(marks),
+        DoneAnswer::Refused(n) => writing::refused(n),
     }
 }
 
@@ -59,7 +61,7 @@ fn find_related<'a>(
     a: &[u32],
 ) {
     let mut marks = [0u8; MAX_NODES];
-    let n = read_list::to_bytes(after(a, 1), &mut marks);
+    let n = numbers::to_bytes(after(a, 1), &mut marks);
     find_related_in(
         chart,
         beside,
@@ -84,15 +86,15 @@ fn store<'a>(
     ks: &[u32],
 ) {
     let f = call_read::figures(chart, beside, rule, text, h, ws, ks);
-    write_calls::figures_answer(f);
+    writing::figures_answer(f);
     let FiguresAnswer::Is(x) = f else {
         return;
     };
     let mut i = 0;
     while i < x.nodes {
-        write_calls::say(b"  ");
+        writing::say(b"  ");
         let v = call_read::node(chart, beside, rule, text, h, ws, ks, Type(i));
-        write_calls::node_answer(v, ks, rule, text);
+        writing::node_answer(v, ks, rule, text);
         i += 1;
     }
 }
@@ -111,7 +113,7 @@ fn node<'a>(
 ) {
     let t = Type(word(a, 0));
     if op == NODE {
-        write_calls::node_answer(
+        writing::node_answer(
             call_read::node(chart, beside, rule, text, h, ws, ks, t),
             ks,
             rule,
@@ -120,7 +122,7 @@ fn node<'a>(
         return;
     }
     if op == CHILD {
-        write_calls::child_answer(call_read::child(
+        writing::child_answer(call_read::child(
             chart,
             beside,
             rule,
@@ -135,10 +137,10 @@ fn node<'a>(
     }
     if op == CHILD_NAME {
         let r = call_read::child_name(chart, beside, rule, text, h, ws, ks, t, word(a, 1));
-        write_calls::name_answer(r, rule, text);
+        writing::name_answer(r, rule, text);
         return;
     }
-    write_calls::figures_answer(call_read::figures(chart, beside, rule, text, h, ws, ks));
+    writing::figures_answer(call_read::figures(chart, beside, rule, text, h, ws, ks));
 }
 
 // What a type tells through its root.
@@ -155,20 +157,20 @@ fn root<'a>(
 ) {
     let t = Type(word(a, 0));
     if op == IS_NIL {
-        write_calls::bool_answer(call_ask::is_nil(chart, beside, rule, text, h, ws, ks, t));
+        writing::bool_answer(call_ask::is_nil(chart, beside, rule, text, h, ws, ks, t));
         return;
     }
     if op == SELF_INVERSE {
-        write_calls::bool_answer(call_ask::self_inverse(chart, beside, rule, text, h, ws, ks, t));
+        writing::bool_answer(call_ask::self_inverse(chart, beside, rule, text, h, ws, ks, t));
         return;
     }
     if op == SELF_INVERSE_PARAM {
         let param = word(a, 1) != 0;
         let r = call_ask::self_inverse_param(chart, beside, rule, text, h, ws, ks, t, param);
-        write_calls::bool_answer(r);
+        writing::bool_answer(r);
         return;
     }
-    write_calls::mod_answer(call_ask::get_mod(chart, beside, rule, text, h, ws, ks, t));
+    writing::mod_answer(call_ask::get_mod(chart, beside, rule, text, h, ws, ks, t));
 }
 
 pub(crate) fn call<'a>(
@@ -183,7 +185,7 @@ pub(crate) fn call<'a>(
     a: &[u32],
 ) {
     if op == FIND {
-        write_calls::type_answer(call_find::find(
+        writing::type_answer(call_find::find(
             chart,
             beside,
             rule,
@@ -196,7 +198,7 @@ pub(crate) fn call<'a>(
         return;
     }
     if op == FIND_MUT {
-        write_calls::type_answer(call_find::find_mut(
+        writing::type_answer(call_find::find_mut(
             chart,
             beside,
             rule,

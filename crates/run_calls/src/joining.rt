@@ -1,8 +1,9 @@
 // unify and its family.
+use crate::numbers::after;
+use crate::numbers::first;
+use crate::numbers::word;
+use crate::writing;
 use chart::Beside;
-use read_list::after;
-use read_list::first;
-use read_list::word;
 use types::Impl;
 use types::Inverted;
 use types::Type;
@@ -42,7 +43,7 @@ fn lists<'a>(
     let xs = first(after(a, 2), n);
     let ys = after(after(a, 2), n);
     if op == UNIFY_TYPES {
-        write_calls::unify_answer(call_unify_lists::unify_types(
+        writing::unify_answer(call_unify_lists::unify_types(
             chart,
             beside,
             rule,
@@ -56,7 +57,7 @@ fn lists<'a>(
         ));
         return;
     }
-    write_calls::unify_answer(call_unify_lists::unify_objects(
+    writing::unify_answer(call_unify_lists::unify_objects(
         chart,
         beside,
         rule,
@@ -100,10 +101,10 @@ fn impls<'a>(
             q,
             ys,
         );
-        write_calls::unify_answer(r);
+        writing::unify_answer(r);
         return;
     }
-    write_calls::bool_answer(call_unify_lists::approx_eq(
+    writing::bool_answer(call_unify_lists::approx_eq(
         chart,
         beside,
         rule,
@@ -132,7 +133,7 @@ pub(crate) fn call<'a>(
     let x = Type(word(a, 0));
     let y = Type(word(a, 1));
     if op == UNIFY {
-        write_calls::unify_answer(call_unify::unify(chart, beside, rule, text, h, ws, ks, x, y));
+        writing::unify_answer(call_unify::unify(chart, beside, rule, text, h, ws, ks, x, y));
         return;
     }
     if op <= UNIFY_OBJECTS {
@@ -144,7 +145,7 @@ pub(crate) fn call<'a>(
         let xs = first(after(a, 3), n);
         let ys = after(after(a, 3), n);
         let r = call_unify_lists::unify_fn_sig(chart, beside, rule, text, h, ws, ks, xs, x, ys, y);
-        write_calls::unify_answer(r);
+        writing::unify_answer(r);
         return;
     }
     if op <= APPROX_EQ {

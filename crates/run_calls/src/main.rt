@@ -5,17 +5,19 @@ ghost use Prim.Native.Nat.{_<_};
 mod asking; // calls that change no store
 mod joining; // unify and its family
 mod making; // open, reset, the makers, forcing and finishing
+mod numbers; // text to numbers
+mod writing; // answers to text
 
+use crate::numbers::after;
+use crate::numbers::bytes_upto;
+use crate::numbers::first;
+use crate::numbers::to_bytes;
+use crate::numbers::upto;
+use crate::numbers::word;
 use chart::Beside;
 use layout::CHILD_WORDS;
 use layout::HEAD_WORDS;
 use layout::NODE_WORDS;
-use read_list::after;
-use read_list::bytes_upto;
-use read_list::first;
-use read_list::to_bytes;
-use read_list::upto;
-use read_list::word;
 use scope::MAX_CHILDREN;
 use scope::MAX_NODES;
 
@@ -179,8 +181,8 @@ fn flip<'a>(
     };
     poke(h, ws, ks, &[which, i, other(s, a)]);
     match call_find::find(chart, beside, rule, text, h, ws, ks, types::Type(0)) {
-        promise::TypeAnswer::Is(_) => write_calls::number(0),
-        promise::TypeAnswer::Refused(n) => write_calls::number(n),
+        promise::TypeAnswer::Is(_) => writing::number(0),
+        promise::TypeAnswer::Refused(n) => writing::number(n),
     }
     poke(h, ws, ks, &[which, i, s]);
 }
@@ -233,19 +235,19 @@ fn call<'a>(
     }
     if op == FLIP {
         flips(chart, beside, rule, text, h, ws, ks, a);
-        write_calls::line();
+        writing::line();
         return;
     }
     if op == WORDS {
-        write_calls::words(h);
-        write_calls::words(ws);
-        write_calls::words(ks);
+        writing::words(h);
+        writing::words(ws);
+        writing::words(ks);
         return;
     }
     if op == CASE {
-        write_calls::say(b"case ");
-        write_calls::number(word(a, 0));
-        write_calls::line();
+        writing::say(b"case ");
+        writing::number(word(a, 0));
+        writing::line();
         return;
     }
     if op < asking::FIND {
@@ -350,6 +352,6 @@ fn main() {
     let mut input = io::large_buffer();
     let got = io::read_full(0, &mut input);
     let mut s = [0u32; NUMBERS];
-    let n = read_list::numbers(&input[..got], &mut s);
+    let n = numbers::numbers(&input[..got], &mut s);
     run(first(&s, n));
 }

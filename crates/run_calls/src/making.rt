@@ -1,11 +1,13 @@
 // Opening, the makers, forcing and finishing.
+use crate::numbers;
+use crate::numbers::after;
+use crate::numbers::first;
+use crate::numbers::word;
+use crate::writing;
 use call_new::KindArgs;
 use chart::Beside;
 use names::Name;
 use promise::DoneAnswer;
-use read_list::after;
-use read_list::first;
-use read_list::word;
 use scope::MAX_NODES;
 use types::Type;
 
@@ -50,8 +52,8 @@ fn kind_args(a: &[u32]) -> KindArgs {
 // The types that stand at the front of `out`, if the call was done.
 fn listed(a: DoneAnswer, out: &[u32], count: u32) {
     match a {
-        DoneAnswer::Done => write_calls::types(first(out, count as usize)),
-        DoneAnswer::Refused(n) => write_calls::refused(n),
+        DoneAnswer::Done => writing::types(first(out, count as usize)),
+        DoneAnswer::Refused(n) => writing::refused(n),
     }
 }
 
@@ -92,7 +94,7 @@ fn new_vars<'a>(
     a: &[u32],
 ) {
     let mut out = [0u32; MAX_NODES];
-    let room = read_list::upto(&out, word(a, 2) as usize);
+    let room = numbers::upto(&out, word(a, 2) as usize);
     new_vars_into(chart, beside, rule, text, h, ws, ks, a, &mut out[..room]);
 }
 
@@ -107,9 +109,9 @@ fn finish_where<'a>(
     a: &[u32],
 ) {
     let mut bytes = [0u8; MAX_NODES];
-    let n = read_list::to_bytes(a, &mut bytes);
+    let n = numbers::to_bytes(a, &mut bytes);
     let r = call_force::finish_inference_where(chart, beside, rule, text, h, ws, ks, &bytes[..n]);
-    write_calls::done(r);
+    writing::done(r);
 }
 
 // The makers that fill a kind.
@@ -136,7 +138,7 @@ fn kinds<'a>(
             kind_args(a),
             after(a, 6),
         );
-        write_calls::type_answer(r);
+        writing::type_answer(r);
         return;
     }
     if op == NEW_STRUCT {
@@ -151,7 +153,7 @@ fn kinds<'a>(
             word(a, 0),
             after(a, 1),
         );
-        write_calls::type_answer(r);
+        writing::type_answer(r);
         return;
     }
     let r = call_new::new_union(
@@ -165,7 +167,7 @@ fn kinds<'a>(
         word(a, 0),
         after(a, 1),
     );
-    write_calls::type_answer(r);
+    writing::type_answer(r);
 }
 
 fn plain<'a>(
@@ -180,16 +182,7 @@ fn plain<'a>(
     a: &[u32],
 ) {
     if op == NEW_VAR {
-        write_calls::type_answer(call_make::new_var(
-            chart,
-            beside,
-            rule,
-            text,
-            h,
-            ws,
-            ks,
-            word(a, 0),
-        ));
+        writing::type_answer(call_make::new_var(chart, beside, rule, text, h, ws, ks, word(a, 0)));
         return;
     }
     if op == NEW_VARS {
@@ -197,20 +190,20 @@ fn plain<'a>(
         return;
     }
     if op == ERROR {
-        write_calls::type_answer(call_make::error(chart, beside, rule, text, h, ws, ks));
+        writing::type_answer(call_make::error(chart, beside, rule, text, h, ws, ks));
         return;
     }
     if op == NIL {
-        write_calls::type_answer(call_make::nil(chart, beside, rule, text, h, ws, ks));
+        writing::type_answer(call_make::nil(chart, beside, rule, text, h, ws, ks));
         return;
     }
     if op == FORCE_KIND {
         let r = call_force::force_kind(chart, beside, rule, text, h, ws, ks, Type(word(a, 0)));
-        write_calls::forced_answer(r, ks, rule, text);
+        writing::forced_answer(r, ks, rule, text);
         return;
     }
     if op == FINISH {
-        write_calls::done(call_force::finish_inference(chart, beside, rule, text, h, ws, ks));
+        writing::done(call_force::finish_inference(chart, beside, rule, text, h, ws, ks));
         return;
     }
     finish_where(chart, beside, rule, text, h, ws, ks, a);
@@ -228,11 +221,11 @@ pub(crate) fn call<'a>(
     a: &[u32],
 ) {
     if op == OPEN {
-        write_calls::done(call_make::open(h, ws, ks, word(a, 0), word(a, 1)));
+        writing::done(call_make::open(h, ws, ks, word(a, 0), word(a, 1)));
         return;
     }
     if op == RESET {
-        write_calls::done(call_make::reset(chart, beside, rule, text, h, ws, ks));
+        writing::done(call_make::reset(chart, beside, rule, text, h, ws, ks));
         return;
     }
     if op <= NEW_UNION {

@@ -1,10 +1,10 @@
--- `write_calls::children` is safe and ends: the measure is what is left of the children.
+-- `run_calls::writing::children` is safe and ends: the measure is what is left of the children.
 -- Assumes nothing.
 use Prim.Native.Nat.{_-_}
 use native.Mathlib.Omega.{arith}
 use borrow.Author.Needs.{needs}
-use Rattle.write_calls.proofs.children.Statement.{statement}
-use Rattle.write_calls.proofs.children.Tie as tie
+use Rattle.run_calls.proofs.writing.children.Statement.{statement}
+use Rattle.run_calls.proofs.writing.children.Tie as tie
 
 abbrev Inv-loop : tie.InvT-loop
 Inv-loop ks k rule text j₀ j = Unit {0}

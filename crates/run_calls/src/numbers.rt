@@ -80,7 +80,7 @@ fn step(out: &mut [u32], s: Seen, b: u8) -> Seen {
 }
 
 // The numbers of the text, and how many they are. The text ends with a newline.
-pub fn numbers(text: &[u8], out: &mut [u32]) -> usize {
+pub(crate) fn numbers(text: &[u8], out: &mut [u32]) -> usize {
     let mut s = Seen {
         count: 0,
         value: 0,
@@ -97,36 +97,36 @@ pub fn numbers(text: &[u8], out: &mut [u32]) -> usize {
 }
 
 // Number i, or 0.
-pub fn word(s: &[u32], i: usize) -> u32 {
+pub(crate) fn word(s: &[u32], i: usize) -> u32 {
     if i < s.len() { s[i] } else { 0 }
 }
 
 // The numbers from a on.
-pub fn after(s: &[u32], a: usize) -> &[u32] {
+pub(crate) fn after(s: &[u32], a: usize) -> &[u32] {
     if a < s.len() { &s[a..] } else { &s[..0] }
 }
 
 // The first n numbers, or all.
-pub fn first(s: &[u32], n: usize) -> &[u32] {
+pub(crate) fn first(s: &[u32], n: usize) -> &[u32] {
     let m = upto(s, n);
     &s[..m]
 }
 
 // How many of n words there are; of n bytes below.
-pub fn upto(s: &[u32], n: usize) -> usize
+pub(crate) fn upto(s: &[u32], n: usize) -> usize
     ensures { λ r. ⌜ Counts r (now (s .entry)) ⌝ }
 {
     if n < s.len() { n } else { s.len() }
 }
 
-pub fn bytes_upto(s: &[u8], n: usize) -> usize
+pub(crate) fn bytes_upto(s: &[u8], n: usize) -> usize
     ensures { λ r. ⌜ Counts r (now (s .entry)) ⌝ }
 {
     if n < s.len() { n } else { s.len() }
 }
 
 // The numbers as bytes, and how many.
-pub fn to_bytes(s: &[u32], out: &mut [u8]) -> usize
+pub(crate) fn to_bytes(s: &[u32], out: &mut [u8]) -> usize
     ensures { λ r. ⌜ Counts r (now (out .exit)) ⌝ }
 {
     let n = bytes_upto(out, s.len());

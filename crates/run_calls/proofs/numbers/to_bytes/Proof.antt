@@ -1,13 +1,13 @@
--- `read_list::to_bytes` meets its contract: as many are copied as there is room for. The measure is what is left to copy.
+-- `run_calls::numbers::to_bytes` meets its contract: as many are copied as there is room for. The measure is what is left to copy.
 -- Assumes nothing.
 use mathlib.Core.Path.{_≡_}
 use Prim.Native.Nat.{_-_, _≤_}
 use lib.ListN.{length}
 use native.Mathlib.Omega.{arith}
 use borrow.Author.Needs.{needs}
-use Rattle.read_list.proofs.Laws.{counts}
-use Rattle.read_list.proofs.to_bytes.Statement.{statement}
-use Rattle.read_list.proofs.to_bytes.Tie as tie
+use Rattle.run_calls.proofs.NumberLaws.{counts}
+use Rattle.run_calls.proofs.numbers.to_bytes.Statement.{statement}
+use Rattle.run_calls.proofs.numbers.to_bytes.Tie as tie
 
 abbrev Inv-loop : tie.InvT-loop
 Inv-loop s out₀ n i₀ out i = (length out ≡ length out₀) × (n ≤ length out₀)

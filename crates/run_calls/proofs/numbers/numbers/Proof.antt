@@ -1,12 +1,12 @@
--- `read_list::numbers` is safe and ends: the measure is what is left of the text, and the room for numbers stays.
+-- `run_calls::numbers::numbers` is safe and ends: the measure is what is left of the text, and the room for numbers stays.
 -- Assumes nothing.
 use mathlib.Core.Path.{_≡_}
 use Prim.Native.Nat.{_-_}
 use native.Mathlib.Omega.{arith}
 use borrow.Author.Needs.{needs}
 use lib.ListN.{length}
-use Rattle.read_list.proofs.numbers.Statement.{statement}
-use Rattle.read_list.proofs.numbers.Tie as tie
+use Rattle.run_calls.proofs.numbers.numbers.Statement.{statement}
+use Rattle.run_calls.proofs.numbers.numbers.Tie as tie
 
 abbrev Inv-loop : tie.InvT-loop
 Inv-loop text out₀ s₀ i₀ out s i = length out ≡ length out₀

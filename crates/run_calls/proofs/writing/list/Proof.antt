@@ -1,10 +1,10 @@
--- `write_calls::list` is safe and ends: the measure is what is left of the list.
+-- `run_calls::writing::list` is safe and ends: the measure is what is left of the list.
 -- Assumes nothing.
 use Prim.Native.Nat.{_-_}
 use native.Mathlib.Omega.{arith}
 use borrow.Author.Needs.{needs}
-use Rattle.write_calls.proofs.list.Statement.{statement}
-use Rattle.write_calls.proofs.list.Tie as tie
+use Rattle.run_calls.proofs.writing.list.Statement.{statement}
+use Rattle.run_calls.proofs.writing.list.Tie as tie
 
 abbrev Inv-loop : tie.InvT-loop
 Inv-loop f n ws marks i₀ i = Unit {0}

@@ -1,4 +1,5 @@
 // What the public calls answer, as lines of text.
+use crate::numbers::word;
 use call_ask::ModAnswer;
 use call_force::ForcedAnswer;
 use call_read::ChildAnswer;
@@ -13,7 +14,6 @@ use names::Name;
 use promise::BoolAnswer;
 use promise::DoneAnswer;
 use promise::TypeAnswer;
-use read_list::word;
 use types::Inverted;
 use types::Type;
 use types::UnifyResult;
@@ -21,15 +21,15 @@ use walk::Mod;
 
 const OUT: i32 = 1;
 
-pub fn say(text: &[u8]) {
+pub(crate) fn say(text: &[u8]) {
     io::write_all(OUT, text);
 }
 
-pub fn number(n: u32) {
+pub(crate) fn number(n: u32) {
     io::print_decimal(OUT, n as u64);
 }
 
-pub fn line() {
+pub(crate) fn line() {
     say(b"\n");
 }
 
@@ -39,7 +39,7 @@ fn inverse(i: Inverted) {
     }
 }
 
-pub fn typ(t: Type) {
+pub(crate) fn typ(t: Type) {
     inverse(t.inv());
     number(t.idx().0);
 }
@@ -93,35 +93,35 @@ fn list(f: Form, n: usize, ws: &[u32], marks: &[u8]) {
 }
 
 // Numbers on a line of their own.
-pub fn words(s: &[u32]) {
+pub(crate) fn words(s: &[u32]) {
     list(Form::Word, s.len(), s, b"");
 }
 
-pub fn types(s: &[u32]) {
+pub(crate) fn types(s: &[u32]) {
     say(b"types");
     list(Form::Type, s.len(), s, b"");
 }
 
 // The nodes with a mark.
-pub fn marked(marks: &[u8]) {
+pub(crate) fn marked(marks: &[u8]) {
     say(b"marked");
     list(Form::Mark, marks.len(), &[0u32], marks);
 }
 
-pub fn refused(n: u32) {
+pub(crate) fn refused(n: u32) {
     say(b"refused ");
     number(n);
     line();
 }
 
-pub fn done(a: DoneAnswer) {
+pub(crate) fn done(a: DoneAnswer) {
     match a {
         DoneAnswer::Done => say(b"done\n"),
         DoneAnswer::Refused(n) => refused(n),
     }
 }
 
-pub fn type_answer(a: TypeAnswer) {
+pub(crate) fn type_answer(a: TypeAnswer) {
     match a {
         TypeAnswer::Is(t) => {
             say(b"=");
@@ -132,7 +132,7 @@ pub fn type_answer(a: TypeAnswer) {
     }
 }
 
-pub fn bool_answer(a: BoolAnswer) {
+pub(crate) fn bool_answer(a: BoolAnswer) {
     match a {
         BoolAnswer::Is(b) => {
             flag(b);
@@ -150,14 +150,14 @@ fn result(r: UnifyResult) {
     }
 }
 
-pub fn unify_answer(a: UnifyAnswer) {
+pub(crate) fn unify_answer(a: UnifyAnswer) {
     match a {
         UnifyAnswer::Is(r) => result(r),
         UnifyAnswer::Refused(n) => refused(n),
     }
 }
 
-pub fn mod_answer(a: ModAnswer) {
+pub(crate) fn mod_answer(a: ModAnswer) {
     match a {
         ModAnswer::Is(m) => match m {
             Mod::Nothing => say(b"none\n"),
@@ -172,7 +172,7 @@ pub fn mod_answer(a: ModAnswer) {
     }
 }
 
-pub fn child_answer(a: ChildAnswer) {
+pub(crate) fn child_answer(a: ChildAnswer) {
     match a {
         ChildAnswer::Is(t) => {
             typ(t);
@@ -190,7 +190,7 @@ fn name<'a>(n: Name, rule: &'a [u8], text: &'a [u8]) {
     say(b"|");
 }
 
-pub fn name_answer<'a>(a: NameAnswer, rule: &'a [u8], text: &'a [u8]) {
+pub(crate) fn name_answer<'a>(a: NameAnswer, rule: &'a [u8], text: &'a [u8]) {
     match a {
         NameAnswer::Is(n) => {
             name(n, rule, text);
@@ -249,7 +249,7 @@ fn known<'a>(ks: &[u32], i: Inverted, k: Kind, rule: &'a [u8], text: &'a [u8]) {
     kind(ks, k, rule, text);
 }
 
-pub fn node_answer<'a>(a: NodeAnswer, ks: &[u32], rule: &'a [u8], text: &'a [u8]) {
+pub(crate) fn node_answer<'a>(a: NodeAnswer, ks: &[u32], rule: &'a [u8], text: &'a [u8]) {
     match a {
         NodeAnswer::Known(i, k, size) => {
             root(size);
@@ -281,7 +281,7 @@ fn no_kind() {
     say(b"known 14 0 0 0");
 }
 
-pub fn forced_answer<'a>(a: ForcedAnswer, ks: &[u32], rule: &'a [u8], text: &'a [u8]) {
+pub(crate) fn forced_answer<'a>(a: ForcedAnswer, ks: &[u32], rule: &'a [u8], text: &'a [u8]) {
     match a {
         ForcedAnswer::Known(i, k) => {
             known(ks, i, k, rule, text);
@@ -329,7 +329,7 @@ fn header(x: Header) {
     line();
 }
 
-pub fn figures_answer(a: FiguresAnswer) {
+pub(crate) fn figures_answer(a: FiguresAnswer) {
     match a {
         FiguresAnswer::Is(x) => header(x),
         FiguresAnswer::Refused(n) => refused(n),
