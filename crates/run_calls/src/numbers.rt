@@ -18,7 +18,7 @@ struct Seen {
     remark: bool,
 }
 
-fn wide(b: u8) -> u64
+fn digit(b: u8) -> u64
     ensures { λ r. ⌜ r ≡ b ⌝ }
 {
     b as u64
@@ -29,7 +29,7 @@ fn with_digit(value: u32, b: u8) -> u32 {
     if b < ZERO {
         return value;
     }
-    let v = value as u64 * 10 + wide(b - ZERO);
+    let v = value as u64 * 10 + digit(b - ZERO);
     (v % 4_294_967_296) as u32
 }
 

@@ -28,17 +28,17 @@ use Rattle.scope.proofs.UnifyKept.{Stable, stable-kinds, keeps, nodes-s
 
 module _ (e : Env) (n : ℕ) where
   -- n nodes that `unify` may be called on
-  record Ready (ns : List Node) : Type 0 where
+  record Whole (ns : List Node) : Type 0 where
     forest : Forest ns
     len : length ns ≡ n
     stable : Stable e n (view ns)
 
-  module _ (ns : List Node) (p q : Ty) (ok : Ready ns) (hp : p .idx < n) (hq : q .idx < n) (f : ℕ) where
+  module _ (ns : List Node) (p q : Ty) (ok : Whole ns) (hp : p .idx < n) (hq : q .idx < n) (f : ℕ) where
     seen-call : Sim ns (unifyF (e .texts) n f ns p q) (Seen.unify (e .texts) n f (view ns) p q)
     seen-call = unify-sim (e .texts) n (Stable e n) (keeps e n) f ns p q (ok .forest) (ok .len) (ok .stable) hp hq
 
-    ready-after : Ready (unifyF (e .texts) n f ns p q .nodes)
-    ready-after = record {
+    whole-after : Whole (unifyF (e .texts) n f ns p q .nodes)
+    whole-after = record {
       forest = seen-call .forest;
       len = seen-call .len ∙ ok .len;
       stable = subst (Stable e n) (sym (seen-call .views)) (keeps e n .step f (view ns) p q (ok .stable) hp hq);
@@ -50,19 +50,19 @@ module _ (e : Env) (n : ℕ) where
     chain-on {ls} x c d = subst (λ (g : View). Chain g (ri g x) ls) (sym (seen-call .views))
         (chain-after (unify-spec e n f (view ns) p q (ok .stable .good) (stable-kinds (ok .stable))) x c d)
 
-  ready-tidied : {ns ns′ : List Node} → Tidied ns ns′ → Ready ns → Ready ns′
-  ready-tidied t ok = record {
+  whole-tidied : {ns ns′ : List Node} → Tidied ns ns′ → Whole ns → Whole ns′
+  whole-tidied t ok = record {
     forest = tidied-forest t (ok .forest);
     len = t .len ∙ ok .len;
     stable = subst (Stable e n) (sym (tidied-view t (ok .forest))) (ok .stable);
   }
 
   abbrev SameDepths : ℕ → ℕ → Type 0
-  SameDepths f f′ = (ns : List Node) (p q : Ty) (ls : List ℕ) → Ready ns → p .idx < n → q .idx < n → Chain (view ns) (ri (view ns) p) ls
+  SameDepths f f′ = (ns : List Node) (p q : Ty) (ls : List ℕ) → Whole ns → p .idx < n → q .idx < n → Chain (view ns) (ri (view ns) p) ls
       → free n ls ≤ f → free n ls ≤ f′ → unifyF (e .texts) n f ns p q ≡ unifyF (e .texts) n f′ ns p q
 
   module _ (f f′ : ℕ) (ih : SameDepths f f′) where
-    run-depth : (ns : List Node) (r : Answer) (ps : List (Ty × Ty)) (ls : List ℕ) → Ready ns → Inside n ps → Chains (view ns) ls ps → free n ls ≤ f
+    run-depth : (ns : List Node) (r : Answer) (ps : List (Ty × Ty)) (ls : List ℕ) → Whole ns → Inside n ps → Chains (view ns) ls ps → free n ls ≤ f
         → free n ls ≤ f′ → run (unifyF (e .texts) n f) ns r ps ≡ run (unifyF (e .texts) n f′) ns r ps
     unfolding run
     run-depth ns r [] ls ok i c h h′ = refl
@@ -70,11 +70,11 @@ module _ (e : Env) (n : ℕ) where
         let o : Out = unifyF (e .texts) n f ns (p .0) (p .1) in
         let i₀ = i p (List·Memᴰ·head refl) in
         let c₀ = c p (List·Memᴰ·head refl) in
-        run-depth (o .nodes) (both r (o .answer)) ps ls (ready-after ns (p .0) (p .1) ok (i₀ .0) (i₀ .1) f) (λ q m. i q (List·Memᴰ·tail m))
+        run-depth (o .nodes) (both r (o .answer)) ps ls (whole-after ns (p .0) (p .1) ok (i₀ .0) (i₀ .1) f) (λ q m. i q (List·Memᴰ·tail m))
         (λ q m. chain-on ns (p .0) (p .1) ok (i₀ .0) (i₀ .1) f (q .0) c₀ (c q (List·Memᴰ·tail m))) h h′
         ∙ ap (λ (o : Out). run (unifyF (e .texts) n f′) (o .nodes) (both r (o .answer)) ps) (ih ns (p .0) (p .1) ls ok (i₀ .0) (i₀ .1) c₀ h h′)
 
-    meet-depth : (ns : List Node) (a b : Ty) (ls : List ℕ) → Ready ns → a .idx < n → view ns .rep (a .idx) ≡ ty false (a .idx) → Chain (view ns) (a .idx) ls
+    meet-depth : (ns : List Node) (a b : Ty) (ls : List ℕ) → Whole ns → a .idx < n → view ns .rep (a .idx) ≡ ty false (a .idx) → Chain (view ns) (a .idx) ls
         → free n ls ≤ suc f → free n ls ≤ suc f′ → meet (unifyF (e .texts) n f) (e .texts) n ns a b ≡ meet (unifyF (e .texts) n f′) (e .texts) n ns a b
     unfolding meet view
     meet-depth ns a b ls ok ha top ch h h′ =
@@ -111,14 +111,14 @@ module _ (e : Env) (n : ℕ) where
       t₁ : Tidied ns (findMut ns p)
       t₁ = find-mut-tidied (ok .forest) p
 
-      ok₁ : Ready (findMut ns p)
-      ok₁ = ready-tidied t₁ ok
+      ok₁ : Whole (findMut ns p)
+      ok₁ = whole-tidied t₁ ok
 
       t₂ : Tidied (findMut ns p) ns₂
       t₂ = find-mut-tidied (ok₁ .forest) q
 
-      ok₂ : Ready ns₂
-      ok₂ = ready-tidied t₂ ok₁
+      ok₂ : Whole ns₂
+      ok₂ = whole-tidied t₂ ok₁
 
       same : view ns₂ ≡ view ns
       same = tidied-view t₂ (ok₁ .forest) ∙ tidied-view t₁ (ok .forest)
