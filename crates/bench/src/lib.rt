@@ -11,7 +11,7 @@ ghost use Rattle.refusals.specs.Codes.{codeOf};
 ghost use Rattle.promise.specs.Promise.{Promised, doneReply, typeReply};
 ghost use Rattle.store.specs.Entries.{typesIn};
 ghost use Rattle.refusals.specs.Opening.{enough};
-ghost use Rattle.call_make.specs.Lists.{ListPromised};
+ghost use Rattle.promise.specs.Lists.{ListPromised};
 ghost use Rattle.call_new.specs.Lent.{plainArgs, given};
 ghost use Rattle.call_unify.specs.Answers.{unifyReply};
 ghost use Rattle.bench.specs.Numbers.{typeIn, doneIn, unifyIn, bare, lentEnv};

@@ -24,11 +24,11 @@ use Rattle.layout.proofs.Lists.{length-from, same-from}
 use Rattle.store.specs.Holds.{Ready}
 use Rattle.make.specs.Made.{MadeAllIs}
 use Rattle.sound.specs.Tests.{envIn}
+use Rattle.promise.specs.Lists.{ListPromised}
 use Rattle.promise.specs.declared.DoneAnswer.the-variants.{Done, Refused}
 use Rattle.refusals.proofs.Laws.{code-first, code-next, test-stands, test-falls}
 use Rattle.promise.proofs.CallLaws.{call-back, call-done}
 use Rattle.call_make.specs.Room.{RoomTested}
-use Rattle.call_make.specs.Lists.{ListPromised}
 use Rattle.call_make.proofs.MakerLaws.{maker-ready}
 
 -- the types of n variables

@@ -1,1 +1,4 @@
 pub mod Promise
+pub mod Lists
+pub mod Prints
+pub mod Exports

@@ -20,6 +20,12 @@ pub enum BoolAnswer {
     Refused(u32),
 }
 
+// A count, or a refusal's number.
+pub enum CountAnswer {
+    Is(usize),
+    Refused(u32),
+}
+
 // Nothing more to say, or a refusal's number.
 pub enum DoneAnswer {
     Done,
