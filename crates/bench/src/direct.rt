@@ -13,7 +13,7 @@ ghost use Rattle.layout.specs.Words.{storeIn, decode};
 ghost use Rattle.store.specs.Holds.{Became, Openable, Ready};
 ghost use Rattle.make.specs.Made.{MadeIs, MadeAllIs};
 ghost use Rattle.make.specs.Given.{KindReady, kindGiven};
-ghost use Rattle.call_new.specs.Lent.{plainArgs, withFlag};
+ghost use Rattle.lent_kind.specs.Lent.{plainArgs, withFlag};
 ghost use Rattle.meeting.specs.Asks.{Pair};
 ghost use Rattle.unify.specs.Leaves.{Leaves};
 ghost use Rattle.bench.specs.Numbers.{typeWord, RESULTS, resultIn};

@@ -2,103 +2,33 @@
 // the order 2, 8, 3, 4, 5, 10, 11. A list may be of any length: 3 is tested over all of it, and only then that it is no wider than 255.
 ghost use mathlib.Core.Path.{_≡_};
 ghost use Prim.Native.Nat.{_≤_};
-ghost use lib.ListN.{length};
 ghost use Rattle.scope.specs.Limits.{MAX-WIDTH};
-ghost use Rattle.scope.specs.Kinds.{NO-NAMES, rowOf, flagOf};
-ghost use Rattle.scope.specs.Calls.{firstBroken, over, newCall, newStructCall, newUnionCall};
-ghost use Rattle.chart.specs.Env.{chartIn, chartAlone};
-ghost use Rattle.layout.specs.Words.{childWords, storeIn, lentOf};
-ghost use Rattle.layout.specs.Meaning.{slotMeans};
+ghost use Rattle.scope.specs.Kinds.{NO-NAMES, rowOf};
+ghost use Rattle.scope.specs.Calls.{over, newCall, newStructCall, newUnionCall};
+ghost use Rattle.chart.specs.Env.{chartIn};
+ghost use Rattle.layout.specs.Words.{storeIn, lentOf};
 ghost use Rattle.store.specs.Holds.{Ready};
 ghost use Rattle.store.specs.Entries.{entryCount, typesIn};
 ghost use Rattle.sound.specs.Tests.{envIn};
-ghost use Rattle.refusals.specs.Codes.{codeOf};
 ghost use Rattle.promise.specs.Promise.{Promised, typeReply};
-ghost use Rattle.call_new.specs.Lent.{withFlag, given, plainArgs, bareSlot, Listed, listTests, kindTests, insideCall};
+ghost use Rattle.lent_kind.specs.Lent.{given};
+ghost use Rattle.call_new.specs.Inside.{insideCall};
 use chart::Beside;
 use kinds::STRUCT;
 use kinds::UNION;
 use layout::CHILD_WORDS;
-use layout::Slot;
-use make::Head;
-use names::NO_NAME;
-use names::Name;
+use lent_kind::KindArgs;
+use lent_kind::flagged;
+use lent_kind::kind_refusal;
+use lent_kind::list_refusal;
+use lent_kind::plain_args;
+use lent_kind::put_types;
 use promise::TypeAnswer;
 use refusals::NO_REFUSAL;
-use refusals::OUTSIDE;
-use refusals::UNDEFINED;
-use refusals::UNMAKEABLE;
 use scope::MAX_WIDTH;
-use types::Type;
 
 // The words of the entries of the widest kind.
 const LIST_WORDS: usize = MAX_WIDTH * CHILD_WORDS;
-
-// What a kind is made of, its children and their names apart. Its flag is the chart's.
-pub struct KindArgs {
-    pub code: u32,
-    pub number: u32,
-    pub flex: u32,
-    // Its own name, or zeros.
-    pub name: Name,
-}
-
-// The kind with the chart's flag.
-fn flagged(k: KindArgs, chart: &[u32]) -> Head
-    ensures { λ r. ⌜ r ≡ withFlag k (flagOf (chartAlone (now (chart .entry))) (k .code) (k .number)) ⌝ }
-{
-    let name = k.name;
-    Head {
-        code: k.code,
-        number: k.number,
-        dual: kind_sound::chart_flag(k.code, k.number, chart),
-        flex: k.flex,
-        name,
-    }
-}
-
-// The first of refusals 4 and 5 that stands, and 0 where none does.
-fn kind_refusal<'a>(
-    chart: &[u32],
-    rule: &'a [u8],
-    text: &'a [u8],
-    k: KindArgs,
-    entries: &[u32],
-) -> u32
-    requires { ⌜ entryCount (now entries) ≤ MAX-WIDTH ⌝ }
-    ensures { λ r. ⌜ firstBroken
-        (kindTests (chartIn (now (chart .entry)) (now (rule .entry)) (now (text .entry))) (given k (now (entries .entry)))) ≡ codeOf r ⌝ }
-{
-    if entries.len() % CHILD_WORDS != 0 {
-        return UNMAKEABLE;
-    }
-    let count = (entries.len() / CHILD_WORDS) as u32;
-    let kind = make::kind_of(flagged(k, chart), 0, count);
-    if !clean::names_clean(entries, kind) {
-        return UNMAKEABLE;
-    }
-    if !kind_sound::can_be_made(kind, entries, rule, text) {
-        return UNMAKEABLE;
-    }
-    if !kind_sound::is_defined(kind, chart) {
-        return UNDEFINED;
-    }
-    NO_REFUSAL
-}
-
-// The first of refusals 3 and 4 that stands for a list of n types: "over 255 children" comes after a type that is not in the store.
-fn list_refusal(inside: bool, n: usize) -> u32
-    ensures { λ r. ⌜ firstBroken (listTests inside n) ≡ codeOf r ⌝ }
-{
-    if !inside {
-        return OUTSIDE;
-    }
-    if n > MAX_WIDTH {
-        UNMAKEABLE
-    } else {
-        NO_REFUSAL
-    }
-}
 
 // What is left of `new` once 2, 8 and 3 are passed.
 fn make_inside<'a>(
@@ -157,39 +87,6 @@ pub fn new<'a>(
         return TypeAnswer::Refused(listed);
     }
     make_inside(chart, rule, text, h, ws, ks, k, entries)
-}
-
-// A child without a name.
-fn bare_slot(w: u32) -> Slot
-    ensures { λ r. ⌜ slotMeans r ≡ bareSlot w ⌝ }
-{
-    Slot {
-        ty: Type(w),
-        name: NO_NAME,
-    }
-}
-
-// The listed types as entries without names.
-fn put_types(es: &mut [u32], types: &[u32])
-    requires { ⌜ childWords (length (now types)) ≤ length (now es) ⌝ }
-    ensures { λ _. ⌜ Listed (now (types .entry)) (length (now (types .entry))) (now (es .exit)) ⌝ }
-{
-    let mut i = 0;
-    while i < types.len() {
-        layout::put_child(es, i, bare_slot(types[i]));
-        i += 1;
-    }
-}
-
-fn plain_args(code: u32, number: u32) -> KindArgs
-    ensures { λ r. ⌜ r ≡ plainArgs code number ⌝ }
-{
-    KindArgs {
-        code,
-        number,
-        flex: 0,
-        name: NO_NAME,
-    }
 }
 
 // A kind over a definition, from a plain list of types.

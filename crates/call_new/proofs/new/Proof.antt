@@ -5,11 +5,12 @@ use mathlib.Core.Path.{refl}
 use borrow.Author.Needs.{needs}
 use Rattle.sound.specs.Tests.{envIn}
 use Rattle.store.specs.Entries.{entryCount, entryTypes}
-use Rattle.call_new.specs.Lent.{given}
+use Rattle.lent_kind.specs.Lent.{given}
 use Rattle.promise.proofs.Laws.{lent-passed}
 use Rattle.store.proofs.EntryLaws.{entries-long}
 use Rattle.call_make.proofs.RoomLaws.{lent-within}
-use Rattle.call_new.proofs.Laws.{given-kids, listed-narrow, new-lent, new-listed, new-promised}
+use Rattle.lent_kind.proofs.Laws.{given-kids}
+use Rattle.call_new.proofs.Laws.{listed-narrow, new-lent, new-listed, new-promised}
 use Rattle.call_new.proofs.new.Statement.{statement}
 use Rattle.call_new.proofs.new.Tie as tie
 

@@ -12,7 +12,7 @@ use Rattle.store.specs.Entries.{typesIn}
 use Rattle.promise.proofs.Laws.{lent-passed}
 use Rattle.call_make.proofs.RoomLaws.{lent-within}
 use Rattle.call_new.proofs.Laws.{listed-narrow, new-lent, new-listed, new-promised}
-use Rattle.call_new.proofs.ListLaws.{part-long, part-narrow, part-given}
+use Rattle.lent_kind.proofs.ListLaws.{part-long, part-narrow, part-given}
 use Rattle.call_new.proofs.new_over.Statement.{statement}
 use Rattle.call_new.proofs.new_over.Tie as tie
 

@@ -2,7 +2,7 @@
 -- Assumes nothing.
 use borrow.Author.Needs.{needs}
 use Rattle.scope.specs.Calls.{newStructCall}
-use Rattle.call_new.proofs.ListLaws.{struct-row}
+use Rattle.lent_kind.proofs.ListLaws.{struct-row}
 use Rattle.call_new.proofs.new_struct.Statement.{statement}
 use Rattle.call_new.proofs.new_struct.Tie as tie
 

@@ -2,7 +2,7 @@
 -- Assumes nothing.
 use borrow.Author.Needs.{needs}
 use Rattle.scope.specs.Calls.{newUnionCall}
-use Rattle.call_new.proofs.ListLaws.{union-row}
+use Rattle.lent_kind.proofs.ListLaws.{union-row}
 use Rattle.call_new.proofs.new_union.Statement.{statement}
 use Rattle.call_new.proofs.new_union.Tie as tie
 

@@ -22,8 +22,8 @@ use Rattle.layout.proofs.Lists.{same-from, same-shift}
 use Rattle.layout.proofs.ChildLaws.{slot-here, slot-there, slots-front}
 use Rattle.layout.proofs.KindLaws.{names-none, fits-none, fits-clean}
 use Rattle.store.specs.Entries.{entryCount, entryTypes, typesIn}
-use Rattle.call_new.specs.declared.KindArgs.{KindArgs}
-use Rattle.call_new.specs.Lent.{kindLent, tidy, given, plainArgs, bareSlot, Listed}
+use Rattle.lent_kind.specs.declared.KindArgs.{KindArgs}
+use Rattle.lent_kind.specs.Lent.{kindLent, tidy, given, plainArgs, bareSlot, Listed}
 
 -- put_types
 

@@ -1,11 +1,11 @@
--- `call_new::kind_refusal` meets its contract: entries that are not whole and names that the kind does not have are a name too many; else the kind is the
+-- `lent_kind::kind_refusal` meets its contract: entries that are not whole and names that the kind does not have are a name too many; else the kind is the
 -- one that the entries' words mean, which `makeable` tests.
 -- Assumes nothing.
 use borrow.Author.Needs.{needs}
 use borrow.Author.Tests.{not-true, not-false}
-use Rattle.call_new.proofs.Laws.{torn-refused, unclean-refused, unmade-refused, undefined-refused, kind-passed}
-use Rattle.call_new.proofs.kind_refusal.Statement.{statement}
-use Rattle.call_new.proofs.kind_refusal.Tie as tie
+use Rattle.lent_kind.proofs.Laws.{torn-refused, unclean-refused, unmade-refused, undefined-refused, kind-passed}
+use Rattle.lent_kind.proofs.kind_refusal.Statement.{statement}
+use Rattle.lent_kind.proofs.kind_refusal.Tie as tie
 
 returns : tie.Need-returns
 returns c =

@@ -1,8 +1,8 @@
--- `call_new::flagged` meets its contract: the flag is the one that `chart_flag` reads.
+-- `lent_kind::flagged` meets its contract: the flag is the one that `chart_flag` reads.
 -- Assumes nothing.
 use borrow.Author.Needs.{needs}
-use Rattle.call_new.proofs.flagged.Statement.{statement}
-use Rattle.call_new.proofs.flagged.Tie as tie
+use Rattle.lent_kind.proofs.flagged.Statement.{statement}
+use Rattle.lent_kind.proofs.flagged.Tie as tie
 
 chart-flag-requires : tie.Need-chart-flag-requires
 chart-flag-requires c κs = search needs

@@ -1,4 +1,4 @@
--- `call_new::put_types` meets its contract. The loop's invariant: the first i types stand as entries, and the words are as many. The measure is what is left
+-- `lent_kind::put_types` meets its contract. The loop's invariant: the first i types stand as entries, and the words are as many. The measure is what is left
 -- of the types.
 -- Assumes nothing.
 use mathlib.Core.Path.{_≡_, refl, _∙_}
@@ -6,10 +6,10 @@ use Prim.Native.Nat.{_≤_, _-_}
 use native.Mathlib.Omega.{arith}
 use lib.ListN.{length}
 use borrow.Author.Needs.{needs}
-use Rattle.call_new.specs.Lent.{Listed}
-use Rattle.call_new.proofs.ListLaws.{listed-none, listed-more, listed-end}
-use Rattle.call_new.proofs.put_types.Statement.{statement}
-use Rattle.call_new.proofs.put_types.Tie as tie
+use Rattle.lent_kind.specs.Lent.{Listed}
+use Rattle.lent_kind.proofs.ListLaws.{listed-none, listed-more, listed-end}
+use Rattle.lent_kind.proofs.put_types.Statement.{statement}
+use Rattle.lent_kind.proofs.put_types.Tie as tie
 
 abbrev Inv-loop : tie.InvT-loop
 Inv-loop es₀ types i₀ es i = (i ≤ length types) × ((length es ≡ length es₀) × Listed types i es)

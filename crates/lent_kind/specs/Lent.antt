@@ -1,5 +1,5 @@
--- What `new`, `new_struct` and `new_union` are lent, and what of scope's `newCall` it is. A kind is lent as its numbers and its children's entries, each
--- as the store has it. Numbers that belong to no name of the kind, or to no whole entry, are one name too many, and 4 turns the kind back.
+-- A kind as it is lent, and what of scope's `newCall` it is: its numbers and its children's entries, each as the store has it. Numbers that belong to no
+-- name of the kind, or to no whole entry, are one name too many, and 4 turns the kind back.
 use mathlib.Core.Path.{_≡_}
 use mathlib.Core.List.{List, [], _∷_, _++_}
 use mathlib.Core.Bool.{Bool, false, not, _&&_}
@@ -11,13 +11,10 @@ use Rattle.scope.specs.Base.{pick}
 use Rattle.scope.specs.Limits.{MAX-WIDTH}
 use Rattle.scope.specs.Names.{Name}
 use Rattle.scope.specs.Chart.{Env}
-use Rattle.scope.specs.Types.{Ty}
 use Rattle.scope.specs.Kinds.{makeable, defined}
-use Rattle.scope.specs.Nodes.{Store}
 use Rattle.scope.specs.Sound.{Slot, namesClean}
-use Rattle.scope.specs.Make.{new}
 use Rattle.scope.specs.Refusals.{OUTSIDE, UNMAKEABLE, UNDEFINED}
-use Rattle.scope.specs.Calls.{NewKind, Outcome, judged, roomTests, kindMade, madeType}
+use Rattle.scope.specs.Calls.{NewKind, kindMade}
 use Rattle.names.specs.Place.{noName}
 use Rattle.layout.specs.Words.{CHILD-WORDS, slotAt}
 use Rattle.layout.specs.Meaning.{kindCell, kindMeans}
@@ -25,7 +22,7 @@ use Rattle.layout.specs.declared.Kind.{Kind}
 use Rattle.make.specs.declared.Head as make
 use Rattle.make.specs.Given.{kindOver}
 use Rattle.store.specs.Entries.{entryTypes}
-use Rattle.call_new.specs.declared.KindArgs.{KindArgs}
+use Rattle.lent_kind.specs.declared.KindArgs.{KindArgs}
 
 -- the lent numbers, with the flag d
 abbrev pub withFlag : KindArgs → Bool → make.Head
@@ -77,7 +74,3 @@ listTests inside n = (not inside, OUTSIDE) ∷ (ltb MAX-WIDTH n, UNMAKEABLE) ∷
 abbrev pub kindTests : Env → NewKind → List (Bool × ℕ)
 kindTests e a =
     (not (makeable (e .texts) (kindMade e a .head) (length (a .kids))), UNMAKEABLE) ∷ (not (defined e (kindMade e a .head)), UNDEFINED) ∷ []
-
--- `newCall` once 2, 8 and 3 are passed
-abbrev pub insideCall : Env → Store → NewKind → Outcome Ty
-insideCall e s a = judged (kindTests e a ++ roomTests s 1 (length (a .kids))) (madeType (new s (kindMade e a)))

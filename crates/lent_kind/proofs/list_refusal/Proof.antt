@@ -1,9 +1,9 @@
--- `call_new::list_refusal` meets its contract: 3 is tested before the width.
+-- `lent_kind::list_refusal` meets its contract: 3 is tested before the width.
 -- Assumes nothing.
 use borrow.Author.Tests.{not-true, not-false, lt-ltb, le-ltb}
 use Rattle.scope.specs.Limits.{MAX-WIDTH}
-use Rattle.call_new.proofs.list_refusal.Statement.{statement}
-use Rattle.call_new.proofs.list_refusal.Tie as tie
+use Rattle.lent_kind.proofs.list_refusal.Statement.{statement}
+use Rattle.lent_kind.proofs.list_refusal.Tie as tie
 
 returns : tie.Need-returns
 returns c = rw (not-true (c .before .args .inside) (c .if1 .taken))
