@@ -94,7 +94,7 @@ pub extern "C" fn faroalder_open(
         (openCall nodes children (enough nodes children (now (h .entry)) (now (ws .entry)) (now (ks .entry))))
         (doneReply (doneIn r)) (now (h .entry)) (now (ws .entry)) (now (ks .entry)) (now (h .exit)) (now (ws .exit)) (now (ks .exit)) ⌝ }
 {
-    done_number(call_make::open(h, ws, ks, nodes, children))
+    done_number(call_open::open(h, ws, ks, nodes, children))
 }
 
 #[no_mangle]

@@ -1,4 +1,3 @@
 pub mod RoomLaws
-pub mod OpenLaws
 pub mod MakerLaws
 pub mod ListLaws

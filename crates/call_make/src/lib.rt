@@ -1,13 +1,12 @@
-// The calls that open, empty and fill a store, on any numbers at all: each tests and refuses, or makes what document 01 says. Refusals come in 01's order:
-// 2 and 8, then 10, 11 and 7; opening has 1 alone.
+// The calls that fill a store with variables, the error type and nil, on any numbers at all: each tests and refuses, or makes what document 01 says.
+// Refusals come in 01's order: 2 and 8, then 10 and 7.
 ghost use mathlib.Core.Path.{_≡_};
 ghost use lib.ListN.{length};
-ghost use Rattle.scope.specs.Calls.{nodesFor, openCall, resetCall, newVarCall, newVarsCall, errorCall, nilCall};
+ghost use Rattle.scope.specs.Calls.{nodesFor, newVarCall, newVarsCall, errorCall, nilCall};
 ghost use Rattle.layout.specs.Words.{lentOf};
 ghost use Rattle.layout.specs.Meaning.{rememberedMeans};
-ghost use Rattle.refusals.specs.Opening.{enough};
 ghost use Rattle.sound.specs.Tests.{envIn};
-ghost use Rattle.promise.specs.Promise.{doneReply, typeReply, Promised};
+ghost use Rattle.promise.specs.Promise.{typeReply, Promised};
 ghost use Rattle.promise.specs.Lists.{ListPromised};
 ghost use Rattle.call_make.specs.Room.{RoomTested};
 use chart::Beside;
@@ -16,41 +15,6 @@ use promise::DoneAnswer;
 use promise::TypeAnswer;
 use refusals::NO_REFUSAL;
 use refusals::SHORT;
-
-// A store without nodes, whatever the slices held. "Nodes 0 to 4,096; children over all nodes ever made 0 to 16,384, both chosen at opening"
-pub fn open(h: &mut [u32], ws: &mut [u32], ks: &mut [u32], nodes: u32, children: u32) -> DoneAnswer
-    ensures { λ r. ⌜ Promised (openCall nodes children (enough nodes children (now (h .entry)) (now (ws .entry)) (now (ks .entry))))
-        (doneReply r) (now (h .entry)) (now (ws .entry)) (now (ks .entry)) (now (h .exit)) (now (ws .exit)) (now (ks .exit)) ⌝ }
-{
-    let code = refusals::opening(h, ws, ks, nodes, children);
-    if code != NO_REFUSAL {
-        return DoneAnswer::Refused(code);
-    }
-    make::open(h, ws, ks, nodes, children);
-    DoneAnswer::Done
-}
-
-// "`reset` frees all"; the report count "outlives `reset`".
-pub fn reset<'a>(
-    chart: &[u32],
-    beside: Beside,
-    rule: &'a [u8],
-    text: &'a [u8],
-    h: &mut [u32],
-    ws: &mut [u32],
-    ks: &mut [u32],
-) -> DoneAnswer
-    ensures { λ r. ⌜ Promised
-        (resetCall (envIn (now (chart .entry)) beside (now (rule .entry)) (now (text .entry))) (lentOf (now (h .entry)) (now (ws .entry)) (now (ks .entry))))
-        (doneReply r) (now (h .entry)) (now (ws .entry)) (now (ks .entry)) (now (h .exit)) (now (ws .exit)) (now (ks .exit)) ⌝ }
-{
-    let broken = sound::refusal(chart, beside, rule, text, h, ws, ks);
-    if broken != NO_REFUSAL {
-        return DoneAnswer::Refused(broken);
-    }
-    make::reset(h, ws, ks);
-    DoneAnswer::Done
-}
 
 // The first of refusals 2, 8 and 10 that stands where so many nodes more are to be made, and 0 where none does.
 fn refusal_for<'a>(

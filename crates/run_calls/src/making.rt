@@ -221,11 +221,11 @@ pub(crate) fn call<'a>(
     a: &[u32],
 ) {
     if op == OPEN {
-        writing::done(call_make::open(h, ws, ks, word(a, 0), word(a, 1)));
+        writing::done(call_open::open(h, ws, ks, word(a, 0), word(a, 1)));
         return;
     }
     if op == RESET {
-        writing::done(call_make::reset(chart, beside, rule, text, h, ws, ks));
+        writing::done(call_open::reset(chart, beside, rule, text, h, ws, ks));
         return;
     }
     if op <= NEW_UNION {

@@ -1,4 +1,4 @@
--- `bench::faroalder_open` meets its contract: it is `call_make::open`, whose answer its number gives back.
+-- `bench::faroalder_open` meets its contract: it is `call_open::open`, whose answer its number gives back.
 -- Assumes nothing.
 use borrow.Author.Needs.{needs}
 use Rattle.bench.proofs.faroalder_open.Statement.{statement}

@@ -1,4 +1,4 @@
--- `call_make::reset` meets its contract: no test but 2 and 8 turns it back, and a store that they pass is clean.
+-- `call_open::reset` meets its contract: no test but 2 and 8 turns it back, and a store that they pass is clean.
 -- Assumes nothing.
 use mathlib.Core.Path.{refl}
 use mathlib.Core.List.{[]}
@@ -8,8 +8,8 @@ use Rattle.scope.specs.Calls.{done, resetCall}
 use Rattle.sound.specs.Tests.{envIn}
 use Rattle.promise.proofs.Laws.{lent-passed, lent-clean-words}
 use Rattle.promise.proofs.CallLaws.{call-back, call-done}
-use Rattle.call_make.proofs.reset.Statement.{statement}
-use Rattle.call_make.proofs.reset.Tie as tie
+use Rattle.call_open.proofs.reset.Statement.{statement}
+use Rattle.call_open.proofs.reset.Tie as tie
 
 refusal-requires : tie.Need-refusal-requires
 refusal-requires c κs = search needs

@@ -1,10 +1,10 @@
--- `call_make::open` meets its contract: slices that pass the test are what `make` asks, and it leaves the store just opened.
+-- `call_open::open` meets its contract: slices that pass the test are what `make` asks, and it leaves the store just opened.
 -- Assumes nothing.
 use borrow.Author.Needs.{needs}
 use Rattle.refusals.proofs.OpenLaws.{openable}
-use Rattle.call_make.proofs.OpenLaws.{open-back, open-done}
-use Rattle.call_make.proofs.open.Statement.{statement}
-use Rattle.call_make.proofs.open.Tie as tie
+use Rattle.call_open.proofs.OpenLaws.{open-back, open-done}
+use Rattle.call_open.proofs.open.Statement.{statement}
+use Rattle.call_open.proofs.open.Tie as tie
 
 opening-requires : tie.Need-opening-requires
 opening-requires c κs = search needs
