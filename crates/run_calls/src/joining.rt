@@ -88,35 +88,11 @@ fn impls<'a>(
     let xs = first(after(a, 5), n);
     let ys = after(after(a, 5), n);
     if op == UNIFY_IMPL_TYPE {
-        let r = call_unify_lists::unify_impl_type(
-            chart,
-            beside,
-            rule,
-            text,
-            h,
-            ws,
-            ks,
-            p,
-            xs,
-            q,
-            ys,
-        );
+        let r = call_impl::unify_impl_type(chart, beside, rule, text, h, ws, ks, p, xs, q, ys);
         writing::unify_answer(r);
         return;
     }
-    writing::bool_answer(call_unify_lists::approx_eq(
-        chart,
-        beside,
-        rule,
-        text,
-        h,
-        ws,
-        ks,
-        p,
-        xs,
-        q,
-        ys,
-    ));
+    writing::bool_answer(call_impl::approx_eq(chart, beside, rule, text, h, ws, ks, p, xs, q, ys));
 }
 
 pub(crate) fn call<'a>(

@@ -1,14 +1,14 @@
--- `call_unify_lists::approx_eq` meets its contract: as `unify_impl_type`, and nothing is written.
+-- `call_impl::approx_eq` meets its contract: as `unify_impl_type`, and nothing is written.
 -- Assumes nothing.
 use mathlib.Core.Path.{ap, sym}
 use mathlib.Core.Bool.{Bool}
 use Rattle.scope.specs.Calls.{done}
 use Rattle.layout.specs.Words.{storeIn}
 use Rattle.call_unify.proofs.Laws.{passed, back-lent, back-own, read-done}
-use Rattle.call_unify_lists.proofs.Laws.{impls-beside, approx-form}
+use Rattle.call_impl.proofs.Laws.{impls-beside, approx-form}
 use borrow.Author.Needs.{needs}
-use Rattle.call_unify_lists.proofs.approx_eq.Statement.{statement}
-use Rattle.call_unify_lists.proofs.approx_eq.Tie as tie
+use Rattle.call_impl.proofs.approx_eq.Statement.{statement}
+use Rattle.call_impl.proofs.approx_eq.Tie as tie
 
 refusal-requires : tie.Need-refusal-requires
 refusal-requires c κs = search needs

@@ -1,10 +1,10 @@
--- `call_unify_lists::unify_impl_type` meets its contract: as `unify_types`, with 5 for a number that is no trait's.
+-- `call_impl::unify_impl_type` meets its contract: as `unify_types`, with 5 for a number that is no trait's.
 -- Assumes nothing.
 use Rattle.call_unify.proofs.Laws.{passed, back-lent, lent-words, back-own, unify-done}
-use Rattle.call_unify_lists.proofs.Laws.{impls-ask, impls-beside, impls-form}
+use Rattle.call_impl.proofs.Laws.{impls-ask, impls-beside, impls-form}
 use borrow.Author.Needs.{needs}
-use Rattle.call_unify_lists.proofs.unify_impl_type.Statement.{statement}
-use Rattle.call_unify_lists.proofs.unify_impl_type.Tie as tie
+use Rattle.call_impl.proofs.unify_impl_type.Statement.{statement}
+use Rattle.call_impl.proofs.unify_impl_type.Tie as tie
 
 refusal-requires : tie.Need-refusal-requires
 refusal-requires c κs = search needs
