@@ -1,0 +1,4 @@
+pub mod Contracts
+pub mod StepLaws
+pub mod PrintLaws
+pub mod Steps
