@@ -2,3 +2,5 @@ pub mod Contracts
 pub mod StepLaws
 pub mod PrintLaws
 pub mod Steps
+pub mod RunLaws
+pub mod Theorem

