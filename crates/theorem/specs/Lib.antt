@@ -2,3 +2,4 @@ pub mod Memory
 pub mod Steps
 pub mod Runs
 pub mod Theorem
+pub mod Contracts
