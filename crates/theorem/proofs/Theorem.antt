@@ -22,7 +22,8 @@ use Rattle.scope.proofs.SecondHalf.{second-half}
 use Rattle.theorem.specs.Memory.{Memory, Fixed, env, held, Opened}
 use Rattle.theorem.specs.Steps.{Ran}
 use Rattle.theorem.specs.Runs.{Runs, _then_, callsOf, joined, EachStep, asks}
-use Rattle.theorem.specs.Theorem.{FirstHalf, SecondHalf, Theorem}
+use Rattle.theorem.specs.Theorem.{FirstHalf, SecondHalf, Holds, Theorem}
+use Rattle.theorem.proofs.Contracts.{contracts}
 use Rattle.theorem.proofs.StepLaws.{Clean, clean-reads}
 use Rattle.theorem.proofs.Steps.{stepped}
 use Rattle.theorem.proofs.RunLaws.{Fresh, opened-clean, opened-fresh, Ended, ended, answer-given, given-answer, asked-same, answers-every, default-none, nodes-added, calls-joined}
@@ -71,8 +72,8 @@ module _ (f : Fixed) {m m′ : Memory} (run : Runs f m m′) (k : Clean m) where
     twelve = subst (λ (s : Store). (i : ℕ) → i < length (s .nodes) → rooted 12 (s .nodes) i ≡ true) (sym (end .store)) (h .twelve);
   }
 
-pub theorem : Theorem
-theorem f n c m m′ o run = record {
+lists : (f : Fixed) (n c : ℕ) (m m′ : Memory) → Opened n c m → (run : Runs f m m′) → Holds f n c run
+lists f n c m m′ o run = record {
   words = clean-reads (t .says) ∙ ap reads (t .store ∙ ap (λ (s : Store). after (env f) s (callsOf run)) (z .is));
   answers = t .answers ∙ ap (λ (s : Store). replies (env f) s (callsOf run)) (z .is);
   first = λ p. first f run k
@@ -89,3 +90,6 @@ theorem f n c m m′ o run = record {
 
     t : Ended f run
     t = ended f run k
+
+pub theorem : Theorem
+theorem = record { contracts = contracts; lists = lists }

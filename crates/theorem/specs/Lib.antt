@@ -1,5 +1,5 @@
 pub mod Memory
 pub mod Steps
 pub mod Runs
-pub mod Theorem
 pub mod Contracts
+pub mod Theorem

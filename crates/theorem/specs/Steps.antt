@@ -129,9 +129,9 @@ pub data Ran (f : Fixed) : Memory → Call → Reply → Memory → Type 0 where
       → Ran f m (call.later (call.isNil (tyOf (t .0)))) (replied says.flag (boolReply r)) m
   get-mod : {m : Memory} (t : «Type») (r : ModAnswer) → Told (getModCall (env f) (lent m) (tyOf (t .0))) (modReply r) m
       → Ran f m (call.later (call.getMod (tyOf (t .0)))) (replied says.mod-is (modReply r)) m
-  approx-eq : {m m′ : Memory} (a : Impl) (xs : List ℕ) (b : Impl) (ys : List ℕ) (r : BoolAnswer)
-      → Did (approxEqCall (env f) (lent m) (implMeans a xs) (implMeans b ys)) (boolReply r) m m′
-      → Ran f m (call.later (call.approxEq (implMeans a xs) (implMeans b ys))) (replied says.flag (boolReply r)) m′
+  approx-eq : {m : Memory} (a : Impl) (xs : List ℕ) (b : Impl) (ys : List ℕ) (r : BoolAnswer)
+      → Did (approxEqCall (env f) (lent m) (implMeans a xs) (implMeans b ys)) (boolReply r) m m
+      → Ran f m (call.later (call.approxEq (implMeans a xs) (implMeans b ys))) (replied says.flag (boolReply r)) m
   show : {m : Memory} (t : «Type») (buffer buffer′ : List ℕ) (r : CountAnswer)
       → PrintPromised (showCall (env f) (lent m) (tyOf (t .0)) buffer) (countReply r) (held m) buffer′
       → Ran f m (call.later (call.show (tyOf (t .0)) buffer)) (replied (λ n. says.text (take n buffer′)) (countReply r)) m

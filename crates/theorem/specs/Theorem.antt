@@ -16,6 +16,7 @@ use Rattle.theorem.specs.Memory.{Memory, Fixed, env, lent, held, Opened}
 use Rattle.theorem.specs.Steps.{Ran}
 use Rattle.theorem.specs.Runs.{Runs, _then_, callsOf, repliesOf, joined, EachStep, asks, answers, noDefault, nodesBy}
 use Rattle.theorem.specs.Runs as runs
+use Rattle.theorem.specs.Contracts.{Contracts}
 
 -- the first half
 pub record FirstHalf (f : Fixed) {m m′ : Memory} (run : Runs f m m′) : Type 0 where
@@ -54,5 +55,8 @@ pub record Holds (f : Fixed) (n c : ℕ) {m m′ : Memory} (run : Runs f m m′)
   pub first : Each inFirstHalf (callsOf run) → FirstHalf f run
   pub second : Each inSecondHalf (callsOf run) → SecondHalf f run
 
-abbrev pub Theorem : Type 0
-Theorem = (f : Fixed) (n c : ℕ) (m m′ : Memory) → Opened n c m → (run : Runs f m m′) → Holds f n c run
+pub record Theorem : Type 0 where
+  -- every public function's own contract is a step
+  pub contracts : Contracts
+  -- and of every list of steps all this holds: "Each half is a single claim about the whole list"
+  pub lists : (f : Fixed) (n c : ℕ) (m m′ : Memory) → Opened n c m → (run : Runs f m m′) → Holds f n c run
