@@ -4,7 +4,7 @@ use mathlib.Core.Path.{_≡_, refl, sym, ap, subst, _∙_}
 use mathlib.Core.Bool.{Bool, true, false}
 use mathlib.Core.List.{List, [], _∷_, _++_}
 use mathlib.Core.Option.{Option, none, some}
-use Prim.Native.Nat.{ℕ, zero, suc}
+use Prim.Native.Nat.{ℕ}
 use lib.Dec.{leb}
 use lib.ListN.{length, take, drop}
 use Rattle.scope.specs.Base.{pick}
@@ -15,15 +15,15 @@ use Rattle.scope.specs.Unify.{ImplType}
 use Rattle.scope.specs.Show.{show, showImplType}
 use Rattle.scope.specs.Sound.{Lent, reads}
 use Rattle.scope.specs.Refusals.{SHORT}
-use Rattle.scope.specs.Calls.{Outcome, refused, done, Printed, orUnprinted, printedText, firstBroken, storeOf, lentTests, outside, implTests, showCall, showImplTypeCall}
+use Rattle.scope.specs.Calls.{refused, done, Printed, orUnprinted, printedText, firstBroken, storeOf, lentTests, outside, implTests, showCall, showImplTypeCall}
 use Rattle.scope.specs.Demand.{step}
 use Rattle.scope.specs.Replies.{Reply, text, reply, printed}
-use Rattle.promise.specs.Promise.{value, refusal, outcomeBy}
+use Rattle.promise.specs.Promise.{value, refusal}
 use Rattle.promise.specs.Promise as promise
 use Rattle.promise.specs.Prints.{partReply, PrintPromised, PartPromised}
 use Rattle.theorem.specs.Memory.{Memory, lent, held}
 use Rattle.theorem.specs.Steps.{replied}
-use Rattle.theorem.proofs.StepLaws.{Clean, clean-reads, Leaves, told, not-done}
+use Rattle.theorem.proofs.StepLaws.{CleanWords, clean-reads, Leaves, told, not-done}
 
 take-front : (xs ys : List ℕ) → take (length xs) (xs ++ ys) ≡ xs
 take-front [] ys = refl
@@ -53,7 +53,7 @@ pub impl-tells : (e : Env) (l : Lent) (a : ImplType) (buffer : List ℕ) → Tel
 unfolding showImplTypeCall
 impl-tells e l a buffer = printed-tells (firstBroken (lentTests e l ++ implTests e (storeOf l) (a ∷ []))) (storeOf l) (showImplType e (storeOf l .nodes) a) buffer
 
-module _ (p : Lent → Printed) {m : Memory} (k : Clean m) where
+module _ (p : Lent → Printed) {m : Memory} (k : CleanWords m) where
   abbrev s : Store
   s = held m
 

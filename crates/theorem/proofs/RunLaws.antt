@@ -11,25 +11,22 @@ use native.Mathlib.Omega.{arith}
 use lib.Dec.{ltb}
 use lib.ListN.{length}
 use borrow.Author.Tests.{ltb-false}
-use Rattle.scope.specs.Base.{any}
 use Rattle.scope.specs.Limits.{MAX-NODES, MAX-CHILDREN}
 use Rattle.scope.specs.Chart.{Env}
-use Rattle.scope.specs.Types.{Ty}
 use Rattle.scope.specs.Nodes.{Store, opened, at, stateOf}
 use Rattle.scope.specs.Answers.{Answer}
 use Rattle.scope.specs.Sound.{reads}
 use Rattle.scope.specs.Calls.{Outcome, refused, done, openTest, openCall, unifyCall, storeOf}
 use Rattle.scope.specs.Calls.{newCall, newStructCall, newUnionCall, newVarCall, newVarsCall, errorCall, nilCall, importCall}
 use Rattle.scope.specs.Import.{copies}
-use Rattle.scope.specs.Trees.{Val, NodeFits, PairFits}
-use Rattle.scope.specs.Demand.{Maker, new, newVar, newStruct, newUnion, newVars, error, nil, Call, make, import, forceKind, unify, read, later, reset, given, step, stepMaker, stepOf, next, after}
-use Rattle.scope.specs.Demand.{statesMade, StatesFit, Asks, Asked, Answers, EveryAnswer, isDefault, MakesNoDefault, NoDefault, ifTaken, madeBy, nodesMade}
+use Rattle.scope.specs.Trees.{Val, NodeFits}
+use Rattle.scope.specs.Demand.{Maker, new, newVar, newStruct, newUnion, newVars, error, nil, Call, make, import, forceKind, unify, read, later, reset, given, step, stepMaker, next, after}
+use Rattle.scope.specs.Demand.{statesMade, Asks, Asked, Answers, EveryAnswer, isDefault, MakesNoDefault, NoDefault, ifTaken, madeBy, nodesMade}
 use Rattle.scope.specs.Replies.{Reply, type, types, answer, reply, replyMaker, replyOf, replies}
 use Rattle.scope.proofs.Steps.{judged-cases}
-use Rattle.promise.specs.Promise.{Promised}
 use Rattle.theorem.specs.Memory.{Memory, Fixed, env, held, roomy, Opened}
-use Rattle.theorem.specs.Runs.{Runs, stop, _then_, callsOf, repliesOf, joined, EachStep, added, wasMade, asks, answers, noDefault, nodesBy}
-use Rattle.theorem.proofs.StepLaws.{Clean, Leaves, Stepped, not-done}
+use Rattle.theorem.specs.Runs.{Runs, stop, _then_, callsOf, repliesOf, joined, EachStep, summed, wasMade, asks, unifyAnswers, noDefault, nodesBy}
+use Rattle.theorem.proofs.StepLaws.{CleanWords, Leaves, not-done}
 use Rattle.theorem.proofs.Steps.{stepped}
 
 -- opening
@@ -57,7 +54,7 @@ open-fresh n c b s = judged-cases (λ o. o ≡ done tt s → Fresh n c s) (openT
     same : _≡_ {A = Outcome (Unit {0})} (done tt (opened n c)) (done tt s) → s ≡ opened n c
     same q = cc
 
-pub opened-clean : {n c : ℕ} {m : Memory} → Opened n c m → Clean m
+pub opened-clean : {n c : ℕ} {m : Memory} → Opened n c m → CleanWords m
 opened-clean o = record { is = o .left .again refl .holds .clean }
 
 pub opened-fresh : {n c : ℕ} {m : Memory} → Opened n c m → Fresh n c (held m)
@@ -66,11 +63,11 @@ opened-fresh {n} {c} {m} o = open-fresh n c (roomy n c (o .found)) (held m) (o .
 -- the list
 
 pub record Ended (f : Fixed) {m m′ : Memory} (run : Runs f m m′) : Type 0 where
-  pub says : Clean m′
+  pub says : CleanWords m′
   pub store : held m′ ≡ after (env f) (held m) (callsOf run)
   pub answers : repliesOf run ≡ replies (env f) (held m) (callsOf run)
 
-pub ended : (f : Fixed) {m m′ : Memory} (run : Runs f m m′) → Clean m → Ended f run
+pub ended : (f : Fixed) {m m′ : Memory} (run : Runs f m m′) → CleanWords m → Ended f run
 unfolding after replies callsOf repliesOf
 ended f stop k = record { says = k; store = refl; answers = refl }
 ended f (_then_ {m} {c} {r} x xs) k =
@@ -127,7 +124,7 @@ module _ (e : Env) (m m′ : Memory) where
   asks-same v (later q) l = ((λ x. x), (λ x. x))
   asks-same v reset l = ((λ x. x), (λ x. x))
 
-  answers-same : (P : Answer → Type 0) (c : Call) {r : Reply} → Leaves (next e s c) (replyOf e s c) r m′ → answers P m c r m′ → Answers P e s c
+  answers-same : (P : Answer → Type 0) (c : Call) {r : Reply} → Leaves (next e s c) (replyOf e s c) r m′ → unifyAnswers P m c r m′ → Answers P e s c
   answers-same P (make k) l h = tt
   answers-same P (import x ts ps n) l h = tt
   answers-same P (forceKind t) l h = tt
@@ -162,7 +159,7 @@ module _ (f : Fixed) where
   abbrev e : Env
   e = env f
 
-  pub asked-same : (v : Val) {m m′ : Memory} (run : Runs f m m′) → Clean m → EachStep (asks e v) run ↔ Asked e v (held m) (callsOf run)
+  pub asked-same : (v : Val) {m m′ : Memory} (run : Runs f m m′) → CleanWords m → EachStep (asks e v) run ↔ Asked e v (held m) (callsOf run)
   unfolding EachStep Asked callsOf
   asked-same v stop k = ((λ x. x), (λ x. x))
   asked-same v (_then_ {m} {m₁} {c} x xs) k =
@@ -171,7 +168,7 @@ module _ (f : Fixed) where
       let t = subst (λ (s : Store). EachStep (asks e v) xs ↔ Asked e v s (callsOf xs)) (l .store) (asked-same v xs (l .says)) in
       ((λ y. (g .0 (y .0), t .0 (y .1))), (λ y. (g .1 (y .0), t .1 (y .1))))
 
-  pub answers-every : (P : Answer → Type 0) {m m′ : Memory} (run : Runs f m m′) → Clean m → EachStep (answers P) run
+  pub answers-every : (P : Answer → Type 0) {m m′ : Memory} (run : Runs f m m′) → CleanWords m → EachStep (unifyAnswers P) run
       → EveryAnswer P e (held m) (callsOf run)
   unfolding EachStep EveryAnswer callsOf
   answers-every P stop k h = tt
@@ -179,15 +176,15 @@ module _ (f : Fixed) where
       let l = stepped f k x in
       (answers-same e m m₁ P c l (h .0), subst (λ (s : Store). EveryAnswer P e s (callsOf xs)) (l .store) (answers-every P xs (l .says) (h .1)))
 
-  pub default-none : {m m′ : Memory} (run : Runs f m m′) → Clean m → EachStep (noDefault e) run → NoDefault e (held m) (callsOf run)
+  pub default-none : {m m′ : Memory} (run : Runs f m m′) → CleanWords m → EachStep (noDefault e) run → NoDefault e (held m) (callsOf run)
   unfolding EachStep NoDefault callsOf
   default-none stop k h = tt
   default-none (_then_ {m} {m₁} {c} x xs) k h =
       let l = stepped f k x in
       (default-same e m m₁ c l (h .0), subst (λ (s : Store). NoDefault e s (callsOf xs)) (l .store) (default-none xs (l .says) (h .1)))
 
-  pub nodes-added : {m m′ : Memory} (run : Runs f m m′) → Clean m → added (nodesBy e) run ≡ nodesMade e (held m) (callsOf run)
-  unfolding added nodesMade callsOf
+  pub nodes-added : {m m′ : Memory} (run : Runs f m m′) → CleanWords m → summed (nodesBy e) run ≡ nodesMade e (held m) (callsOf run)
+  unfolding summed nodesMade callsOf
   nodes-added stop k = refl
   nodes-added (_then_ {m} {m₁} {c} x xs) k =
       let l = stepped f k x in

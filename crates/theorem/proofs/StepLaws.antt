@@ -18,10 +18,10 @@ use Rattle.theorem.specs.Memory.{Memory, Fixed, env, lent, held, Did, To
 use Rattle.theorem.specs.Steps.{replied}
 
 -- the words say a store
-pub record Clean (m : Memory) : Type 0 where
+pub record CleanWords (m : Memory) : Type 0 where
   pub is : clean (m .head) (m .nodes) (m .kids) ≡ true
 
-pub clean-reads : {m : Memory} → Clean m → lent m ≡ reads (held m)
+pub clean-reads : {m : Memory} → CleanWords m → lent m ≡ reads (held m)
 clean-reads {m} k = lent-clean (m .head) (m .nodes) (m .kids) (k .is)
 
 -- a refusal is no answer
@@ -30,7 +30,7 @@ not-done q = let z : _≡_ {A = ℕ} 0 1 = cc in absurd (omega arith)
 
 -- the words m say the store s, and the answer r is x
 pub record Leaves (s : Store) (x r : Reply) (m : Memory) : Type 0 where
-  pub says : Clean m
+  pub says : CleanWords m
   pub store : held m ≡ s
   pub answer : r ≡ x
 
@@ -38,7 +38,7 @@ pub record Leaves (s : Store) (x r : Reply) (m : Memory) : Type 0 where
 abbrev pub Stepped : Fixed → Memory → Call → Reply → Memory → Type 0
 Stepped f m c r m′ = Leaves (next (env f) (held m) c) (replyOf (env f) (held m) c) r m′
 
-module _ {A : Type 0} (g : A → Reply) (o : Lent → Outcome A) {m : Memory} (k : Clean m) where
+module _ {A : Type 0} (g : A → Reply) (o : Lent → Outcome A) {m : Memory} (k : CleanWords m) where
   abbrev s : Store
   s = held m
 
@@ -54,7 +54,7 @@ module _ {A : Type 0} (g : A → Reply) (o : Lent → Outcome A) {m : Memory} (k
   did (value a) p = leaves (p .outcome) (record { says = record { is = p .again refl .holds .clean }; store = refl; answer = refl })
   did (refusal n) {m′} p =
       let same : m ≡ m′ = sym (λ i. record { head = p .kept refl .head i; nodes = p .kept refl .nodes i; kids = p .kept refl .kids i }) in
-      leaves (p .outcome) (record { says = subst Clean same k; store = sym (ap held same); answer = refl })
+      leaves (p .outcome) (record { says = subst CleanWords same k; store = sym (ap held same); answer = refl })
 
   pub told : (r : promise.Reply A) → Told (o (lent m)) r m → Leaves (step s (o (reads s)) .store) (reply g (o (reads s))) (replied g r) m
   told (value a) p = leaves p (record { says = k; store = refl; answer = refl })

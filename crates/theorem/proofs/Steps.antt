@@ -24,10 +24,10 @@ use Rattle.call_unify.specs.Answers.{unifyReply}
 use Rattle.theorem.specs.Memory.{Memory, Fixed, env, lent, held, roomy}
 use Rattle.theorem.specs.Steps.{Ran, listOf}
 use Rattle.theorem.specs.Steps as ran
-use Rattle.theorem.proofs.StepLaws.{Clean, Stepped, did, told}
+use Rattle.theorem.proofs.StepLaws.{CleanWords, Stepped, did, told}
 use Rattle.theorem.proofs.PrintLaws.{show-tells, impl-tells, parted, shown}
 
-pub stepped : (f : Fixed) {m m′ : Memory} {c : Call} {r : Reply} → Clean m → Ran f m c r m′ → Stepped f m c r m′
+pub stepped : (f : Fixed) {m m′ : Memory} {c : Call} {r : Reply} → CleanWords m → Ran f m c r m′ → Stepped f m c r m′
 stepped f h (ran.new k es r p) = did says.type (λ l. newCall (env f) l (given k es)) h (typeReply r) p
 stepped f h (ran.new-var span r p) = did says.type (λ l. newVarCall (env f) l span) h (typeReply r) p
 stepped f h (ran.new-struct n ts r p) = did says.type (λ l. newStructCall (env f) l n (typesIn ts)) h (typeReply r) p

@@ -2,19 +2,19 @@
 -- Assumes nothing.
 use mathlib.Core.Path.{_≡_, sym, ap, subst, _∙_}
 use mathlib.Core.Bool.{true}
-use mathlib.Core.List.{List, _∷_, _++_}
+use mathlib.Core.List.{_∷_, _++_}
 use mathlib.Core.Logic.{_↔_}
 use mathlib.Core.Option.{some}
 use Prim.Native.Nat.{ℕ, _<_}
 use lib.ListN.{length}
 use Rattle.scope.specs.Chart.{Env}
 use Rattle.scope.specs.Types.{Ty}
-use Rattle.scope.specs.Nodes.{Store, opened}
+use Rattle.scope.specs.Nodes.{Store}
 use Rattle.scope.specs.Answers.{Answer, Success, Failure}
 use Rattle.scope.specs.Sound.{reads, rooted}
 use Rattle.scope.specs.Calls.{unifyCall}
-use Rattle.scope.specs.Trees.{Val, Fits}
-use Rattle.scope.specs.Demand.{Call, unify, given, after, Each, inFirstHalf, inSecondHalf, SelfInverseNode, sizes, Contains}
+use Rattle.scope.specs.Trees.{Fits}
+use Rattle.scope.specs.Demand.{unify, given, after, SelfInverseNode, sizes, Contains}
 use Rattle.scope.specs.Demand as scope
 use Rattle.scope.specs.Replies.{Reply, answer, replies}
 use Rattle.scope.proofs.FirstHalf.{first-half}
@@ -22,9 +22,9 @@ use Rattle.scope.proofs.SecondHalf.{second-half}
 use Rattle.theorem.specs.Memory.{Memory, Fixed, env, held, Opened}
 use Rattle.theorem.specs.Steps.{Ran}
 use Rattle.theorem.specs.Runs.{Runs, _then_, callsOf, joined, EachStep, asks}
-use Rattle.theorem.specs.Theorem.{FirstHalf, SecondHalf, Holds, Theorem}
+use Rattle.theorem.specs.Theorem.{FirstHalf, SecondHalf, ListHolds, Theorem}
 use Rattle.theorem.proofs.Contracts.{contracts}
-use Rattle.theorem.proofs.StepLaws.{Clean, clean-reads}
+use Rattle.theorem.proofs.StepLaws.{CleanWords, clean-reads}
 use Rattle.theorem.proofs.Steps.{stepped}
 use Rattle.theorem.proofs.RunLaws.{Fresh, opened-clean, opened-fresh, Ended, ended, answer-given, given-answer, asked-same, answers-every, default-none, nodes-added, calls-joined}
 
@@ -32,7 +32,7 @@ use Rattle.theorem.proofs.RunLaws.{Fresh, opened-clean, opened-fresh, E
 meet : {A B C : Type 0} → (A ↔ B) → (C ↔ B) → A ↔ C
 meet g h = ((λ x. h .1 (g .0 x)), (λ x. g .1 (h .0 x)))
 
-module _ (f : Fixed) {m m′ : Memory} (run : Runs f m m′) (k : Clean m) where
+module _ (f : Fixed) {m m′ : Memory} (run : Runs f m m′) (k : CleanWords m) where
   abbrev e : Env
   e = env f
 
@@ -72,7 +72,7 @@ module _ (f : Fixed) {m m′ : Memory} (run : Runs f m m′) (k : Clean m) where
     twelve = subst (λ (s : Store). (i : ℕ) → i < length (s .nodes) → rooted 12 (s .nodes) i ≡ true) (sym (end .store)) (h .twelve);
   }
 
-lists : (f : Fixed) (n c : ℕ) (m m′ : Memory) → Opened n c m → (run : Runs f m m′) → Holds f n c run
+lists : (f : Fixed) (n c : ℕ) (m m′ : Memory) → Opened n c m → (run : Runs f m m′) → ListHolds f n c run
 lists f n c m m′ o run = record {
   words = clean-reads (t .says) ∙ ap reads (t .store ∙ ap (λ (s : Store). after (env f) s (callsOf run)) (z .is));
   answers = t .answers ∙ ap (λ (s : Store). replies (env f) s (callsOf run)) (z .is);
@@ -82,7 +82,7 @@ lists f n c m m′ o run = record {
       (subst (λ (s : Store). scope.SecondHalf (env f) s (callsOf run)) (sym (z .is)) (second-half (env f) n c (z .nodes) (z .children) (callsOf run) p));
 }
   where
-    k : Clean m
+    k : CleanWords m
     k = opened-clean o
 
     z : Fresh n c (held m)

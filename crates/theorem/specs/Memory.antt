@@ -4,6 +4,7 @@ use mathlib.Core.List.{List}
 use mathlib.Core.Bool.{Bool}
 use Prim.Native.Nat.{ℕ}
 use Rattle.scope.specs.Chart.{Env}
+use Rattle.scope.specs.Types.{Ty}
 use Rattle.scope.specs.Nodes.{Store}
 use Rattle.scope.specs.Sound.{Lent}
 use Rattle.scope.specs.Calls.{Outcome, openCall}
@@ -12,6 +13,8 @@ use Rattle.layout.specs.Words.{storeIn, lentOf}
 use Rattle.refusals.specs.Opening.{enough}
 use Rattle.sound.specs.Tests.{envIn}
 use Rattle.promise.specs.Promise.{Reply, outcomeBy, doneReply, Promised}
+use Rattle.promise.specs.Lists.{ListPromised}
+use Rattle.promise.specs.declared.DoneAnswer.{DoneAnswer}
 use Rattle.promise.specs.declared.DoneAnswer.the-variants as end
 
 -- the words of a store: its header, its nodes and their children
@@ -20,8 +23,9 @@ pub record Memory : Type 0 where
   pub nodes : List ℕ
   pub kids : List ℕ
 
-abbrev pub words : List ℕ → List ℕ → List ℕ → Memory
-words h ws ks = record { head = h; nodes = ws; kids = ks }
+-- three lists of words as one memory
+abbrev pub memoryOf : List ℕ → List ℕ → List ℕ → Memory
+memoryOf h ws ks = record { head = h; nodes = ws; kids = ks }
 
 -- "chart and texts stay as they are": what every call of a list reads beside the words
 pub record Fixed : Type 0 where
@@ -51,6 +55,10 @@ Did o r m m′ = Promised o r (m .head) (m .nodes) (m .kids) (m′ .head) (m′ 
 -- a call that only reads the words m
 abbrev pub Told : {A : Type 0} → Outcome A → Reply A → Memory → Type 0
 Told o r m = o ≡ outcomeBy r (held m)
+
+-- the same of a call that writes types at the front of the list `out`, n of them, and leaves it as out′
+abbrev pub DidList : Outcome (List Ty) → DoneAnswer → ℕ → Memory → Memory → List ℕ → List ℕ → Type 0
+DidList o r n m m′ out out′ = ListPromised o r n (m .head) (m .nodes) (m .kids) (m′ .head) (m′ .nodes) (m′ .kids) out out′
 
 -- "Each list starts from a store just opened, with no node": the words m are what `open` left, whatever they were, when it answered Done
 pub record Opened (n c : ℕ) (m : Memory) : Type 0 where

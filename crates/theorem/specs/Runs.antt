@@ -44,9 +44,9 @@ EachStep P stop = Unit {0}
 EachStep P (_then_ {m} {m₁} {c} {r} x xs) = P m c r m₁ × EachStep P xs
 
 -- a number for each, added up
-unfoldable pub added : {f : Fixed} {m m′ : Memory} → (Memory → Call → Reply → ℕ) → Runs f m m′ → ℕ
-added g stop = 0
-added g (_then_ {m} {c} {r} x xs) = g m c r + added g xs
+unfoldable pub summed : {f : Fixed} {m m′ : Memory} → (Memory → Call → Reply → ℕ) → Runs f m m′ → ℕ
+summed g stop = 0
+summed g (_then_ {m} {c} {r} x xs) = g m c r + summed g xs
 
 -- was a call made? A refusal is a number alone
 abbrev pub wasMade : Reply → Bool
@@ -77,14 +77,14 @@ asks e v m (later q) r m′ = Unit {0}
 asks e v m reset r m′ = Unit {0}
 
 -- the code's answer to a unify is one of these, or a refusal
-abbrev pub answers : (Answer → Type 0) → Memory → Call → Reply → Memory → Type 0
-answers P m (make k) r m′ = Unit {0}
-answers P m (import l ts ps h) r m′ = Unit {0}
-answers P m (forceKind t) r m′ = Unit {0}
-answers P m (unify a b) r m′ = (x : Answer) → r ≡ answer x → P x
-answers P m (read q) r m′ = Unit {0}
-answers P m (later q) r m′ = Unit {0}
-answers P m reset r m′ = Unit {0}
+abbrev pub unifyAnswers : (Answer → Type 0) → Memory → Call → Reply → Memory → Type 0
+unifyAnswers P m (make k) r m′ = Unit {0}
+unifyAnswers P m (import l ts ps h) r m′ = Unit {0}
+unifyAnswers P m (forceKind t) r m′ = Unit {0}
+unifyAnswers P m (unify a b) r m′ = (x : Answer) → r ≡ answer x → P x
+unifyAnswers P m (read q) r m′ = Unit {0}
+unifyAnswers P m (later q) r m′ = Unit {0}
+unifyAnswers P m reset r m′ = Unit {0}
 
 -- no Default is made or imported
 abbrev pub noDefault : Env → Memory → Call → Reply → Memory → Type 0

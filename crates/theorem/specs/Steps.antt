@@ -23,7 +23,7 @@ use Rattle.store.specs.Entries.{typesIn}
 use Rattle.lent_tests.specs.Given.{entriesIn}
 use Rattle.promise.specs.Promise.{value, refusal, typeReply, boolReply, doneReply}
 use Rattle.promise.specs.Promise as promise
-use Rattle.promise.specs.Lists.{listReply, ListPromised}
+use Rattle.promise.specs.Lists.{listReply}
 use Rattle.promise.specs.Exports.{exportReply, ExportPromised}
 use Rattle.promise.specs.Prints.{countReply, partReply, PrintPromised, PartPromised}
 use Rattle.promise.specs.declared.TypeAnswer.{TypeAnswer}
@@ -43,7 +43,7 @@ use Rattle.call_force.specs.Replies.{forcedReply, ForcePromised}
 use Rattle.call_force.specs.declared.ForcedAnswer.{ForcedAnswer}
 use Rattle.call_unify.specs.Answers.{unifyReply}
 use Rattle.call_unify.specs.declared.UnifyAnswer.{UnifyAnswer}
-use Rattle.theorem.specs.Memory.{Memory, words, Fixed, env, lent, held, roomy, Did, Told}
+use Rattle.theorem.specs.Memory.{Memory, memoryOf, Fixed, env, lent, held, roomy, Did, DidList, Told}
 
 -- the code's answer among every call's; "A refusal returns only its number"
 abbrev pub replied : {A : Type 0} → (A → Reply) → promise.Reply A → Reply
@@ -65,7 +65,7 @@ pub data Ran (f : Fixed) : Memory → Call → Reply → Memory → Type 0 where
   new-union : {m m′ : Memory} (number : ℕ) (ts : List ℕ) (r : TypeAnswer) → Did (newUnionCall (env f) (lent m) number (typesIn ts)) (typeReply r) m m′
       → Ran f m (call.make (call.newUnion number (typesIn ts))) (replied says.type (typeReply r)) m′
   new-vars : {m m′ : Memory} (span count : ℕ) (out out′ : List ℕ) (r : DoneAnswer)
-      → ListPromised (newVarsCall (env f) (lent m) span count (length out)) r count (m .head) (m .nodes) (m .kids) (m′ .head) (m′ .nodes) (m′ .kids) out out′
+      → DidList (newVarsCall (env f) (lent m) span count (length out)) r count m m′ out out′
       → Ran f m (call.make (call.newVars span count (length out))) (replied says.types (listReply r (take count out′))) m′
   error : {m m′ : Memory} (r : TypeAnswer) → Did (errorCall (env f) (lent m)) (typeReply r) m m′
       → Ran f m (call.make call.error) (replied says.type (typeReply r)) m′
@@ -74,13 +74,12 @@ pub data Ran (f : Fixed) : Memory → Call → Reply → Memory → Type 0 where
   -- `force_kind`, `unify`
   force-kind : {m : Memory} {h ws : List ℕ} (t : «Type») (r : ForcedAnswer)
       → ForcePromised (forceKindCall (env f) (lent m) (tyOf (t .0))) r (m .head) (m .nodes) (m .kids) h ws
-      → Ran f m (call.forceKind (tyOf (t .0))) (replied says.forced (forcedReply (m .kids) r)) (words h ws (m .kids))
+      → Ran f m (call.forceKind (tyOf (t .0))) (replied says.forced (forcedReply (m .kids) r)) (memoryOf h ws (m .kids))
   unify : {m m′ : Memory} (a b : «Type») (r : UnifyAnswer) → Did (unifyCall (env f) (lent m) (tyOf (a .0)) (tyOf (b .0))) (unifyReply r) m m′
       → Ran f m (call.unify (tyOf (a .0)) (tyOf (b .0))) (replied says.answer (unifyReply r)) m′
   -- `import`, whose source is any numbers
   import : {m m′ : Memory} (from : Memory) (ts : List ℕ) (listed : Bool) (params out out′ : List ℕ) (r : DoneAnswer)
-      → ListPromised (importCall (env f) (lent m) (lent from) (typesIn ts) (listOf listed params) (length out)) r (length ts)
-      (m .head) (m .nodes) (m .kids) (m′ .head) (m′ .nodes) (m′ .kids) out out′
+      → DidList (importCall (env f) (lent m) (lent from) (typesIn ts) (listOf listed params) (length out)) r (length ts) m m′ out out′
       → Ran f m (call.import (lent from) (typesIn ts) (listOf listed params) (length out)) (replied says.types (listReply r (take (length ts) out′))) m′
   -- the reads
   find : {m : Memory} (t : «Type») (r : TypeAnswer) → Told (findCall (env f) (lent m) (tyOf (t .0))) (typeReply r) m

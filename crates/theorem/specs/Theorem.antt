@@ -14,20 +14,19 @@ use Rattle.scope.specs.Demand.{unify, after, Each, inFirstHalf, inSecondHalf, S
 use Rattle.scope.specs.Replies.{Reply, answer, replies}
 use Rattle.theorem.specs.Memory.{Memory, Fixed, env, lent, held, Opened}
 use Rattle.theorem.specs.Steps.{Ran}
-use Rattle.theorem.specs.Runs.{Runs, _then_, callsOf, repliesOf, joined, EachStep, asks, answers, noDefault, nodesBy}
-use Rattle.theorem.specs.Runs as runs
+use Rattle.theorem.specs.Runs.{Runs, _then_, callsOf, repliesOf, joined, EachStep, summed, asks, unifyAnswers, noDefault, nodesBy}
 use Rattle.theorem.specs.Contracts.{Contracts}
 
 -- the first half
 pub record FirstHalf (f : Fixed) {m m′ : Memory} (run : Runs f m m′) : Type 0 where
   -- if every unify answered Success, finite trees fit the store that the words hold exactly when they fit every node as made and every pair unified
-  pub success : EachStep (answers (λ x. x ≡ Success)) run
+  pub success : EachStep (unifyAnswers (λ x. x ≡ Success)) run
       → (v : Val) → Proper (env f) v → Fits (env f) v (held m′ .nodes) ↔ EachStep (asks (env f) v) run
   -- a first Failure (no Default made or imported before) means that all such trees that also fit this pair give a self-inverse tree to some
   -- node that had no kind just before
   pub failure : {m₁ m₂ : Memory} {a b : Ty} (before : Runs f m m₁) (call : Ran f m₁ (unify a b) (answer Failure) m₂) (later : Runs f m₂ m′)
       → run ≡ joined before (call then later)
-      → EachStep (answers (λ x. x ≡ Failure → ⊥)) before
+      → EachStep (unifyAnswers (λ x. x ≡ Failure → ⊥)) before
       → EachStep (noDefault (env f)) before
       → (v : Val) → Proper (env f) v → EachStep (asks (env f) v) before → PairFits (env f) v a b
       → SelfInverseNode (env f) v (held m₁ .nodes)
@@ -40,14 +39,14 @@ pub record SecondHalf (f : Fixed) {m m′ : Memory} (run : Runs f m m′) : Type
       → Ran f m′ (unify a b) r m₃
       → r ≡ answer Success
   -- root sizes add up to the nodes made
-  pub added : sizes (held m′ .nodes) ≡ runs.added (nodesBy (env f)) run
+  pub added : sizes (held m′ .nodes) ≡ summed (nodesBy (env f)) run
   -- no type contains itself
   pub apart : (a : ℕ) → Contains (held m′ .nodes) a a → ⊥
   -- no node is over twelve parent steps from its root
   pub twelve : (i : ℕ) → i < length (held m′ .nodes) → rooted 12 (held m′ .nodes) i ≡ true
 
 -- of one list, from the slices that `open` left with room for n nodes and c children
-pub record Holds (f : Fixed) (n c : ℕ) {m m′ : Memory} (run : Runs f m m′) : Type 0 where
+pub record ListHolds (f : Fixed) (n c : ℕ) {m m′ : Memory} (run : Runs f m m′) : Type 0 where
   -- the words read as the store that the definitions' list leaves
   pub words : lent m′ ≡ reads (after (env f) (opened n c) (callsOf run))
   -- every code answer is the definitions' answer
@@ -59,4 +58,4 @@ pub record Theorem : Type 0 where
   -- every public function's own contract is a step
   pub contracts : Contracts
   -- and of every list of steps all this holds: "Each half is a single claim about the whole list"
-  pub lists : (f : Fixed) (n c : ℕ) (m m′ : Memory) → Opened n c m → (run : Runs f m m′) → Holds f n c run
+  pub lists : (f : Fixed) (n c : ℕ) (m m′ : Memory) → Opened n c m → (run : Runs f m m′) → ListHolds f n c run
