@@ -4,3 +4,4 @@ pub mod PrintLaws
 pub mod Steps
 pub mod RunLaws
 pub mod Theorem
+pub mod Example

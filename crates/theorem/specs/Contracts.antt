@@ -1,6 +1,6 @@
 -- Every public function's own contract is a step. `Learnt` is what the kit makes of a function's `ensures` for its callers: a claim of its lifetimes, its
 -- arguments, its answer and its arguments at exit. Each line says that whatever a function's contract allows, on any arguments, is a step of a list on
--- the words that it was lent, with the answer that it gave and the words that it left. So no step says less or more than the code was proved to do.
+-- the words that it was lent, with the answer that it gave and the words that it left. So `Theorem` speaks of every list that the code can run.
 use mathlib.Core.Path.{_≡_}
 use mathlib.Core.Bool.{false}
 use mathlib.Core.List.{List}
