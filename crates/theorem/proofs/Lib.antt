@@ -1,0 +1,7 @@
+pub mod Contracts
+pub mod StepLaws
+pub mod PrintLaws
+pub mod Steps
+pub mod RunLaws
+pub mod Theorem
+pub mod Example

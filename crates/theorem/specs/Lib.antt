@@ -1,0 +1,5 @@
+pub mod Memory
+pub mod Steps
+pub mod Runs
+pub mod Contracts
+pub mod Theorem
