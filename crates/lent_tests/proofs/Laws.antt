@@ -18,7 +18,7 @@ use Rattle.scope.specs.Chart.{Env}
 use Rattle.scope.specs.Types.{Ty, tyOf}
 use Rattle.scope.specs.Kinds.{CHILD-NAMES, rows, rowOf, objectNamesOk}
 use Rattle.scope.specs.Nodes.{Node, Store}
-use Rattle.scope.specs.Unify.{ImplType}
+use Rattle.scope.specs.Unify.{ImplType, Error}
 use Rattle.scope.specs.Sound.{inStore}
 use Rattle.scope.specs.Refusals.{OUTSIDE, UNMAKEABLE, UNDEFINED}
 use Rattle.scope.specs.Calls.{firstBroken, tooMany, Entries, badEntries, implTypes, implDefined}
@@ -29,7 +29,7 @@ use Rattle.store.specs.Entries.{entryCount, entryNames, entryTypes, typesIn}
 use Rattle.store.proofs.EntryLaws.{entries-long}
 use Rattle.refusals.specs.Codes.{NO-REFUSAL, codeOf}
 use Rattle.refusals.proofs.Laws.{code-first, code-next}
-use Rattle.lent_tests.specs.Given.{pairTests, listTests, sigTests, objectTests, implsTests, entriesIn, objectOf, FirstOf}
+use Rattle.lent_tests.specs.Given.{pairTests, listTests, sigTests, objectTests, implsTests, oneImplTests, entriesIn, objectOf, FirstOf}
 
 -- tests of two things each, in 01's order
 
@@ -107,6 +107,11 @@ unfolding implsTests
 impl-row e a b = record {
   is = λ s. rw (and-true (all (inStore (s .nodes)) (implTypes b)), or-false (tooMany (implTypes b)), and-true (implDefined e b)) refl;
 }
+
+-- an error beside an impl type passes every test
+pub one-impl : (e : Env) (a : ImplType) {n r : ℕ} → FirstOf n (implsTests e a Error) r → FirstOf n (oneImplTests e a) r
+unfolding implsTests oneImplTests
+one-impl e a t = record { code = t .code }
 
 -- two signatures: returns first, then parameters
 

@@ -28,12 +28,12 @@ pub record TupleOf (ws : List ℕ) (n t : ℕ) (r : Held) : Type 0 where
       → fnForm (isNil (decode ws ks n)) receiver (kind (decode ws ks n) (tyOf t)) ret other ≡ formOf ws ks n receiver r ret other
 
 -- whether something was found
-abbrev pub Found : Held → Type 0
-Found (Is i k) = Unit {0}
-Found Nothing = ⊥
+abbrev pub IsFound : Held → Type 0
+IsFound (Is i k) = Unit {0}
+IsFound Nothing = ⊥
 
 -- r holds the parameters of the trait i over the types xs where these have the fn form
 pub record Form (fnTrait : ℕ) (ws : List ℕ) (n i : ℕ) (xs : List ℕ) (r : Held) : Type 0 where
-  pub three : Found r → length xs ≡ 3
+  pub three : IsFound r → length xs ≡ 3
   pub is : (ks : List ℕ) → Stands ws ks n → (other : List Piece)
       → pick (eqb i fnTrait) (threeTypes (decode ws ks n) (typesIn xs) other) other ≡ formOf ws ks n (tyOf (getD xs 0 0)) r (tyOf (getD xs 2 0)) other

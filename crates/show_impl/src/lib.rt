@@ -90,7 +90,18 @@ fn show_params<'a>(
     while j < k.count {
         let q = put_comma(buf, p, j);
         let kid = layout::child_of(ks, k, j).ty;
-        p = show_all(chart, beside, rule, text, ws, ks, n, buf, q, kid.invert_if(i));
+        p = show_all(
+            chart,
+            beside,
+            rule,
+            text,
+            ws,
+            ks,
+            n,
+            buf,
+            q,
+            kid.invert_if(i),
+        );
         j += 1;
     }
     p
@@ -213,5 +224,19 @@ pub fn show_impl_type<'a>(
     };
     let receiver = Type(xs[0]);
     let ret = Type(xs[2]);
-    show_fn(chart, beside, rule, text, ws, ks, n, buf, at, receiver, inv, kind, ret)
+    show_fn(
+        chart,
+        beside,
+        rule,
+        text,
+        ws,
+        ks,
+        n,
+        buf,
+        at,
+        receiver,
+        inv,
+        kind,
+        ret,
+    )
 }
