@@ -3,7 +3,8 @@
 ghost use mathlib.Core.Path.{_≡_};
 ghost use lib.ListN.{length};
 ghost use Rattle.scope.specs.Types.{tyOf};
-ghost use Rattle.scope.specs.Calls.{showCall};
+ghost use Rattle.scope.specs.Calls.{showCall, showImplTypeCall};
+ghost use Rattle.types.specs.Impls.{implMeans};
 ghost use Rattle.layout.specs.Words.{lentOf, storeIn};
 ghost use Rattle.sound.specs.Tests.{envIn};
 ghost use Rattle.promise.specs.Prints.{PrintPromised, countReply};
@@ -12,6 +13,7 @@ use chart::Beside;
 use promise::CountAnswer;
 use promise::refusal_at;
 use refusals::NO_REFUSAL;
+use types::Impl;
 use types::Type;
 
 // A text that ends at its length, or past the buffer.
@@ -47,6 +49,38 @@ pub fn show<'a>(
     }
     let x = layout::read_header(h);
     let n = x.nodes;
-    let end = show::show_type(chart, beside, rule, text, ws, ks, n, buf, 0, t, n);
+    let end = show::show_all(chart, beside, rule, text, ws, ks, n, buf, 0, t);
+    printed(buf, end)
+}
+
+// An impl type's text, its types lent beside it.
+pub fn show_impl_type<'a>(
+    chart: &[u32],
+    beside: Beside,
+    rule: &'a [u8],
+    text: &'a [u8],
+    h: &[u32],
+    ws: &[u32],
+    ks: &[u32],
+    a: Impl,
+    xs: &[u32],
+    buf: &mut [u8],
+) -> CountAnswer
+    ensures { λ r. ⌜ PrintPromised
+        (showImplTypeCall (envIn (now (chart .entry)) beside (now (rule .entry)) (now (text .entry))) (lentOf (now (h .entry)) (now (ws .entry)) (now (ks .entry)))
+        (implMeans a (now (xs .entry))) (now (buf .entry)))
+        (countReply r) (storeIn (now (h .entry)) (now (ws .entry)) (now (ks .entry))) (now (buf .exit)) ⌝ }
+{
+    let lent = sound::refusal(chart, beside, rule, text, h, ws, ks);
+    if lent != NO_REFUSAL {
+        return CountAnswer::Refused(lent);
+    }
+    let x = layout::read_header(h);
+    let n = x.nodes;
+    let refused = lent_tests::one_impl(a, xs, n, chart);
+    if refused != NO_REFUSAL {
+        return CountAnswer::Refused(refused);
+    }
+    let end = show_impl::show_impl_type(chart, beside, rule, text, ws, ks, n, buf, 0, a, xs);
     printed(buf, end)
 }

@@ -10,7 +10,7 @@ use Rattle.scope.specs.Names.{Texts}
 use Rattle.scope.specs.Chart.{Env}
 use Rattle.scope.specs.Types.{Ty, tyOf}
 use Rattle.scope.specs.Nodes.{Node, Store}
-use Rattle.scope.specs.Unify.{unifyTypes, unifyObjects, unifyFnSig, unifyImplType, approxEq, ImplType, Trait, Error}
+use Rattle.scope.specs.Unify.{unifyTypes, unifyObjects, unifyFnSig, unifyImplType, approxEq, ImplType}
 use Rattle.scope.specs.Sound.{inStore}
 use Rattle.scope.specs.Calls.{done, tooMany, Entries, badEntries, implTypes, implDefined}
 use Rattle.scope.specs.Calls.{unifyTypesCall, unifyObjectsCall, unifyImplTypeCall, unifyFnSigCall, approxEqCall}
@@ -31,7 +31,7 @@ use Rattle.unify_lists.specs.Lent.{Lists, Objects, Signatures, Impls}
 use Rattle.store.specs.Entries.{entryNames, entryTypes}
 use Rattle.unify_lists.proofs.CallerLaws.{given-lists, given-objects, given-signatures, given-impls}
 use Rattle.lent_tests.specs.Given.{listTests, sigTests, objectTests, implsTests, entriesIn, FirstOf}
-use Rattle.lent_tests.proofs.Laws.{fine-names, fine-count}
+use Rattle.lent_tests.proofs.Laws.{defined-alone, fine-names, fine-count}
 use Rattle.call_unify.proofs.Laws.{second-passed, inside, Form, Unifies, Passed}
 
 -- what each core asks, of arguments that no test turned back
@@ -90,10 +90,6 @@ pub objects-beside : {chart : List ℕ} {b : Beside} {rule text h ws ks : List �
     → FirstOf (x .nodes) (objectTests (chartIn [] rule text) i j) m → FirstOf (x .nodes) (objectTests (envOf chart b rule text) i j) m
 unfolding objectTests
 objects-beside c i j t = record { code = t .code }
-
-defined-alone : (chart : List ℕ) (b : Beside) (rule text : List ℕ) (a : ImplType) → implDefined (envOf chart b rule text) a ≡ implDefined (chartAlone chart) a
-defined-alone chart b rule text (Trait n ts) = refl
-defined-alone chart b rule text Error = refl
 
 pub impls-beside : {chart : List ℕ} {b : Beside} {rule text h ws ks : List ℕ} {x : Header} {m : ℕ} → Passed chart b rule text h ws ks x → (i j : ImplType)
     → FirstOf (x .nodes) (implsTests (chartAlone chart) i j) m → FirstOf (x .nodes) (implsTests (envOf chart b rule text) i j) m
