@@ -7,7 +7,7 @@ use Prim.Native.Nat.{ℕ}
 use Rattle.scope.specs.Base.{all, any}
 use Rattle.scope.specs.Names.{Texts}
 use Rattle.scope.specs.Chart.{Env}
-use Rattle.scope.specs.Unify.{unifyImplType, approxEq, ImplType, Trait, Error}
+use Rattle.scope.specs.Unify.{unifyImplType, approxEq, ImplType}
 use Rattle.scope.specs.Sound.{inStore}
 use Rattle.scope.specs.Calls.{done, tooMany, implTypes, implDefined}
 use Rattle.scope.specs.Calls.{unifyImplTypeCall, approxEqCall}
@@ -19,6 +19,7 @@ use Rattle.layout.specs.declared.Header.{Header}
 use Rattle.meeting.specs.Asks.{SoundWords}
 use Rattle.unify_lists.specs.Lent.{Impls}
 use Rattle.unify_lists.proofs.CallerLaws.{given-impls}
+use Rattle.lent_tests.proofs.Laws.{defined-alone}
 use Rattle.lent_tests.specs.Given.{implsTests, FirstOf}
 use Rattle.call_unify.proofs.Laws.{inside, Form, Unifies, Passed}
 
@@ -34,10 +35,6 @@ module _ {x : Texts} {ws ks : List ℕ} {n r : ℕ} (w : SoundWords x ws ks n) w
       (λ s. (any (λ i. tooMany (implTypes i)) both, 4) ∷ (not (all (implDefined e) both), 5) ∷ []) t z)
 
 -- a trait is asked of the chart's records alone
-
-defined-alone : (chart : List ℕ) (b : Beside) (rule text : List ℕ) (a : ImplType) → implDefined (envOf chart b rule text) a ≡ implDefined (chartAlone chart) a
-defined-alone chart b rule text (Trait n ts) = refl
-defined-alone chart b rule text Error = refl
 
 pub impls-beside : {chart : List ℕ} {b : Beside} {rule text h ws ks : List ℕ} {x : Header} {m : ℕ} → Passed chart b rule text h ws ks x → (i j : ImplType)
     → FirstOf (x .nodes) (implsTests (chartAlone chart) i j) m → FirstOf (x .nodes) (implsTests (envOf chart b rule text) i j) m

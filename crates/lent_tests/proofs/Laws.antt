@@ -18,10 +18,12 @@ use Rattle.scope.specs.Chart.{Env}
 use Rattle.scope.specs.Types.{Ty, tyOf}
 use Rattle.scope.specs.Kinds.{CHILD-NAMES, rows, rowOf, objectNamesOk}
 use Rattle.scope.specs.Nodes.{Node, Store}
-use Rattle.scope.specs.Unify.{ImplType}
+use Rattle.scope.specs.Unify.{ImplType, Trait, Error}
 use Rattle.scope.specs.Sound.{inStore}
 use Rattle.scope.specs.Refusals.{OUTSIDE, UNMAKEABLE, UNDEFINED}
 use Rattle.scope.specs.Calls.{firstBroken, tooMany, Entries, badEntries, implTypes, implDefined}
+use Rattle.chart.specs.Env.{envOf, chartAlone}
+use Rattle.chart.specs.declared.Beside.{Beside}
 use Rattle.layout.specs.Words.{CHILD-WORDS}
 use Rattle.layout.specs.declared.Kind.{Kind}
 use Rattle.kind_sound.proofs.NameLaws.{length-names, namesTest, child-names}
@@ -29,7 +31,7 @@ use Rattle.store.specs.Entries.{entryCount, entryNames, entryTypes, typesIn}
 use Rattle.store.proofs.EntryLaws.{entries-long}
 use Rattle.refusals.specs.Codes.{NO-REFUSAL, codeOf}
 use Rattle.refusals.proofs.Laws.{code-first, code-next}
-use Rattle.lent_tests.specs.Given.{pairTests, listTests, sigTests, objectTests, implsTests, entriesIn, objectOf, FirstOf}
+use Rattle.lent_tests.specs.Given.{pairTests, listTests, sigTests, objectTests, implsTests, oneImplTests, entriesIn, objectOf, FirstOf}
 
 -- tests of two things each, in 01's order
 
@@ -107,6 +109,16 @@ unfolding implsTests
 impl-row e a b = record {
   is = λ s. rw (and-true (all (inStore (s .nodes)) (implTypes b)), or-false (tooMany (implTypes b)), and-true (implDefined e b)) refl;
 }
+
+-- a trait is asked of the chart's records alone
+pub defined-alone : (chart : List ℕ) (b : Beside) (rule text : List ℕ) (a : ImplType) → implDefined (envOf chart b rule text) a ≡ implDefined (chartAlone chart) a
+defined-alone chart b rule text (Trait n ts) = refl
+defined-alone chart b rule text Error = refl
+
+-- an error beside an impl type passes every test
+pub one-impl : (e : Env) (a : ImplType) {n r : ℕ} → FirstOf n (implsTests e a Error) r → FirstOf n (oneImplTests e a) r
+unfolding implsTests oneImplTests
+one-impl e a t = record { code = t .code }
 
 -- two signatures: returns first, then parameters
 

@@ -40,6 +40,10 @@ objectTests e a b s = outside s (a .types ++ b .types) ∷ (badEntries e a || ba
 unfoldable pub implsTests : Env → ImplType → ImplType → Store → List (Bool × ℕ)
 implsTests e a b s = implTests e s (a ∷ b ∷ [])
 
+-- one impl type
+unfoldable pub oneImplTests : Env → ImplType → Store → List (Bool × ℕ)
+oneImplTests e a s = implTests e s (a ∷ [])
+
 -- the entries that numbers are, four an entry: their names and types. Numbers that are no whole entry are one name too many
 abbrev pub entriesIn : List ℕ → Entries
 entriesIn xs = record {

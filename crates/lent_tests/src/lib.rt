@@ -12,7 +12,7 @@ ghost use Rattle.scope.specs.Calls.{tooMany, badEntries, implTypes, implDefined
 ghost use Rattle.types.specs.Impls.{implMeans};
 ghost use Rattle.chart.specs.Env.{chartIn, chartAlone};
 ghost use Rattle.store.specs.Entries.{typesIn};
-ghost use Rattle.lent_tests.specs.Given.{pairTests, listTests, sigTests, objectTests, implsTests, entriesIn, objectOf, FirstOf};
+ghost use Rattle.lent_tests.specs.Given.{pairTests, listTests, sigTests, objectTests, implsTests, oneImplTests, entriesIn, objectOf, FirstOf};
 use kinds::OBJECT;
 use layout::CHILD_WORDS;
 use layout::Kind;
@@ -177,4 +177,11 @@ pub fn impls(a: Impl, xs: &[u32], b: Impl, ys: &[u32], n: u32, chart: &[u32]) ->
         return UNDEFINED;
     }
     NO_REFUSAL
+}
+
+// One impl type: an error beside it passes every test.
+pub fn one_impl(a: Impl, xs: &[u32], n: u32, chart: &[u32]) -> u32
+    ensures { λ r. ⌜ FirstOf n (oneImplTests (chartAlone (now (chart .entry))) (implMeans a (now (xs .entry)))) r ⌝ }
+{
+    impls(a, xs, Impl::Error, xs, n, chart)
 }

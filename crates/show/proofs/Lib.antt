@@ -1,5 +1,5 @@
 -- The laws that belong to no one function
 mod Laws
-mod Runs
+pub mod Runs
 mod Level
-mod Turns
+pub mod Turns

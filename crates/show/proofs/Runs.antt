@@ -24,7 +24,7 @@ use Rattle.layout.proofs.ChildLaws.{length-slots}
 use Rattle.show_names.specs.Names.{comma, label}
 use Rattle.show.specs.Level.{children}
 
-render-append : (g : Ty → List ℕ) (ps qs : List Piece) → render g (ps ++ qs) ≡ render g ps ++ render g qs
+pub render-append : (g : Ty → List ℕ) (ps qs : List Piece) → render g (ps ++ qs) ≡ render g ps ++ render g qs
 unfolding render
 render-append g [] qs = refl
 render-append g (fixed bs ∷ ps) qs = rw (append-assoc, render-append g ps qs)
@@ -33,10 +33,10 @@ render-append g (sub t ∷ ps) qs = rw (append-assoc, render-append g ps qs)
 suc-zero : (m : ℕ) → eqb (suc m) 0 ≡ false
 suc-zero m = ne-eqb (suc m) 0 (λ h. omega arith)
 
-comma-suc : (m : ℕ) → comma (suc m) ≡ text ", "
+pub comma-suc : (m : ℕ) → comma (suc m) ≡ text ", "
 comma-suc m = rw (suc-zero m)
 
-map-map : {A B C : Type 0} (f : B → C) (h : A → B) (l : List A) → map f (map h l) ≡ map (λ x. f (h x)) l
+pub map-map : {A B C : Type 0} (f : B → C) (h : A → B) (l : List A) → map f (map h l) ≡ map (λ x. f (h x)) l
 map-map f h [] = refl
 map-map f h (x ∷ l) = rw (map-map f h l)
 
@@ -69,7 +69,7 @@ module _ (g : Ty → List ℕ) (F : ℕ → List Piece) (gap item : ℕ → List
       ∙ ap (λ (z : List ℕ). z ++ children gap item close n (suc (suc j))) (more j (omega arith))
       ∙ append-assoc (gap (suc j)) (item (suc j)) (children gap item close n (suc (suc j))))
 
-  joined-run : (n : ℕ) → n ≤ N → (0 < N → render g (F (a + 0)) ≡ gap 0 ++ item 0) → render g (joined (map F (from a n))) ++ close ≡ children gap item close n 0
+  pub joined-run : (n : ℕ) → n ≤ N → (0 < N → render g (F (a + 0)) ≡ gap 0 ++ item 0) → render g (joined (map F (from a n))) ++ close ≡ children gap item close n 0
   unfolding joined children render
   joined-run zero h first = refl
   joined-run (suc n) h first =

@@ -13,7 +13,7 @@ use Rattle.scope.specs.Types.{Ty, flip, tyOf}
 use Rattle.scope.specs.Nodes.{State, Node, at, stateOf, find}
 use Rattle.scope.specs.Nodes as nodes
 use Rattle.scope.specs.Force.{isNil}
-use Rattle.scope.specs.Show.{render, statePieces, pieces, showF}
+use Rattle.scope.specs.Show.{render, statePieces, pieces, showF, show}
 use Rattle.layout.specs.Words.{slotAt, decode}
 use Rattle.layout.specs.Meaning.{slotMeans, kindMeans, nodeMeans, readAt}
 use Rattle.layout.specs.declared.Slot.{Slot}
@@ -21,7 +21,7 @@ use Rattle.layout.specs.declared.Kind.{Kind}
 use Rattle.layout.specs.declared.TypeState.the-variants.{Known, Unknown, InferenceFailed}
 use Rattle.layout.specs.declared.TypeNode.{TypeNode}
 use Rattle.layout.specs.declared.TypeNode.the-variants.{Root, Child}
-use Rattle.layout.proofs.Laws.{read-node}
+use Rattle.layout.proofs.Laws.{read-node, length-decode}
 use Rattle.types.specs.declared.Inverted.{Inverted}
 use Rattle.roots.specs.Found.{Found}
 use Rattle.walk.specs.Asks.{Stands}
@@ -135,3 +135,8 @@ pub kid-shown : {buf buf′ : List ℕ} {p r : ℕ} (e : Env) (depth : ℕ) (ns 
     → Appended buf p buf′ r (showF e depth ns (kidOf ks k d j))
 kid-shown {buf} {buf′} {p} {r} e depth ns ks k d j s u a b h =
     subst (λ (t : Ty). Appended buf p buf′ r (showF e depth ns t)) (a ∙ ap (λ w. flip d (tyOf (w .type))) b) h
+
+-- as deep as there are nodes
+pub show-whole : (e : Env) (ws ks : List ℕ) (n : ℕ) (t : Ty) → showF e n (decode ws ks n) t ≡ show e (decode ws ks n) t
+unfolding show
+show-whole e ws ks n t = ap (λ (m : ℕ). showF e m (decode ws ks n) t) (sym (length-decode ws ks n))

@@ -3,7 +3,7 @@
 ghost use mathlib.Core.Path.{_≡_};
 ghost use Rattle.scope.specs.Types.{tyOf};
 ghost use Rattle.scope.specs.Force.{isNil};
-ghost use Rattle.scope.specs.Show.{showF};
+ghost use Rattle.scope.specs.Show.{showF, show};
 ghost use Rattle.chart.specs.Env.{envOf};
 ghost use Rattle.layout.specs.Words.{decode};
 ghost use Rattle.walk.specs.Asks.{Stands};
@@ -125,4 +125,24 @@ pub fn show_type<'a>(
         j += 1;
     }
     put_close(buf, p, kind, count)
+}
+
+// The text of a type, as deep as there are nodes.
+pub fn show_all<'a>(
+    chart: &[u32],
+    beside: Beside,
+    rule: &'a [u8],
+    text: &'a [u8],
+    ws: &[u32],
+    ks: &[u32],
+    n: u32,
+    buf: &mut [u8],
+    at: usize,
+    t: Type,
+) -> usize
+    requires { ⌜ Stands (now ws) (now ks) n ⌝ }
+    ensures { λ r. ⌜ Appended (now (buf .entry)) at (now (buf .exit)) r
+        (show (envOf (now (chart .entry)) beside (now (rule .entry)) (now (text .entry))) (decode (now (ws .entry)) (now (ks .entry)) n) (tyOf (t .0))) ⌝ }
+{
+    show_type(chart, beside, rule, text, ws, ks, n, buf, at, t, n)
 }

@@ -1,0 +1,17 @@
+-- What a printer's answer says beside the part that is handed back: a refusal's number, 0 where none stands; and the part's length, "on 7 the whole buffer, on
+-- any other refusal an empty part".
+use Prim.Native.Nat.{ℕ}
+use lib.Dec.{eqb}
+use Rattle.scope.specs.Base.{pick}
+use Rattle.scope.specs.Refusals.{SHORT}
+use Rattle.refusals.specs.Codes.{NO-REFUSAL}
+use Rattle.promise.specs.declared.CountAnswer.{CountAnswer}
+use Rattle.promise.specs.declared.CountAnswer.the-variants.{Is, Refused}
+
+abbrev pub codeIn : CountAnswer → ℕ
+codeIn (Is n) = NO-REFUSAL
+codeIn (Refused n) = n
+
+abbrev pub partIn : CountAnswer → ℕ → ℕ
+partIn (Is n) room = n
+partIn (Refused n) room = pick (eqb n SHORT) room 0

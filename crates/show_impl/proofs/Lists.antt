@@ -1,0 +1,94 @@
+-- A lent list of types and a kind's children are written one after another, with commas between them; a trait's name and list, and the fn form, piece after
+-- piece.
+-- Assumes nothing.
+use mathlib.Core.Path.{_≡_, refl, ap, sym, _∙_, subst}
+use mathlib.Core.Bool.{Bool, true, false}
+use mathlib.Core.List.{List, [], _∷_, _++_, map, append-nil}
+use Prim.Native.Nat.{ℕ, zero, suc, _+_, _≤_, _<_}
+use native.Mathlib.Nat.{zero-add}
+use native.Mathlib.Omega.{arith}
+use lib.ListN.{length, getD}
+use Rattle.scope.specs.Base.{from}
+use Rattle.scope.specs.Text.{text}
+use Rattle.scope.specs.Names.{Texts, bytes}
+use Rattle.scope.specs.Chart.{Env, recordAt}
+use Rattle.scope.specs.Types.{Ty, flip, tyOf}
+use Rattle.scope.specs.Show.{Piece, fixed, sub, render, commas, params, traitPieces, fnPieces, arrow}
+use Rattle.layout.specs.Words.{slotAt}
+use Rattle.layout.specs.Meaning.{slotMeans, kindMeans}
+use Rattle.layout.specs.declared.Slot.{Slot}
+use Rattle.layout.specs.declared.Kind.{Kind}
+use Rattle.append.specs.Appended.{Appended}
+use Rattle.append.proofs.Laws.{append-none, append-then}
+use Rattle.show.specs.Level.{children, kidOf}
+use Rattle.show.proofs.Runs.{render-append, map-map, comma-suc, joined-run, commas-run}
+use Rattle.show.proofs.Turns.{Turn, turn-end}
+use Rattle.show_names.specs.Names.{comma}
+
+-- a list by its places
+
+map-from : {A : Type 0} (f : ℕ → A) (a n : ℕ) → map f (from (suc a) n) ≡ map (λ m. f (suc m)) (from a n)
+map-from f a zero = refl
+map-from f a (suc n) = rw (map-from f (suc a) n)
+
+list-from : {A : Type 0} (f : ℕ → A) (xs : List ℕ) → map f xs ≡ map (λ m. f (getD xs m 0)) (from 0 (length xs))
+list-from f [] = refl
+list-from f (x ∷ xs) = ap (λ l. f x ∷ l) (list-from f xs ∙ sym (map-from (λ m. f (getD (x ∷ xs) m 0)) 0 (length xs)))
+
+module _ (g : Ty → List ℕ) where
+  -- type j of a lent list
+  abbrev pub item : List ℕ → ℕ → List ℕ
+  item xs j = g (tyOf (getD xs j 0))
+
+  list-run : (xs : List ℕ) (close : List ℕ) → render g (commas false (map tyOf xs)) ++ close ≡ children comma (item xs) close (length xs) 0
+  unfolding render
+  list-run xs close =
+      let F : ℕ → List Piece = λ m. sub (tyOf (getD xs m 0)) ∷ [] in
+      let e : map (λ t. sub (flip false t) ∷ []) (map tyOf xs) ≡ map F (from 0 (length xs)) =
+      map-map (λ t. sub (flip false t) ∷ []) tyOf xs ∙ list-from (λ x. sub (tyOf x) ∷ []) xs in
+      rw e (joined-run g F comma (item xs) close 0 (length xs) (λ m h. rw (append-nil, zero-add (suc m), comma-suc m)) (length xs) (omega arith) (λ h. rw (append-nil, zero-add 0)))
+
+  pub list-end : (xs : List ℕ) {buf₀ buf : List ℕ} {p₀ p j : ℕ} → Turn comma (item xs) [] (length xs) buf₀ p₀ buf p j → length xs ≤ j
+      → Appended buf₀ p₀ buf p (render g (commas false (map tyOf xs)))
+  list-end xs {buf₀} {buf} {p₀} {p} {j} t h =
+      rw (sym (append-nil (render g (commas false (map tyOf xs)))) ∙ list-run xs []) (turn-end comma (item xs) [] (length xs) t h (append-none buf p))
+
+  -- child j of a kind
+  abbrev pub child : List ℕ → Kind → Bool → ℕ → List ℕ
+  child ks k i j = g (kidOf ks k i j)
+
+  -- child j, as it was read and inverted
+  pub child-read : {buf buf′ : List ℕ} {p r : ℕ} (ks : List ℕ) (k : Kind) (i : Bool) (j : ℕ) (s : Slot) (u : ℕ)
+      → tyOf u ≡ flip i (tyOf (s .ty .0)) → slotMeans s ≡ slotAt ks (k .first + j) → Appended buf p buf′ r (g (tyOf u)) → Appended buf p buf′ r (child ks k i j)
+  child-read {buf} {buf′} {p} {r} ks k i j s u a b h =
+      subst (λ (t : Ty). Appended buf p buf′ r (g t)) (a ∙ ap (λ w. flip i (tyOf (w .type))) b) h
+
+  pub params-end : (x : Texts) (ks : List ℕ) (k : Kind) (i : Bool) {buf₀ buf : List ℕ} {p₀ p j : ℕ} → Turn comma (child ks k i) [] (k .count) buf₀ p₀ buf p j → k .count ≤ j
+      → Appended buf₀ p₀ buf p (render g (commas i (kindMeans ks k .kids)))
+  unfolding kindMeans
+  params-end x ks k i {buf₀} {buf} {p₀} {p} {j} t h =
+      rw (sym (append-nil (render g (commas i (kindMeans ks k .kids)))) ∙ commas-run g x i ks (k .first) comma (λ m. refl) [] (k .count))
+      (turn-end comma (child ks k i) [] (k .count) t h (append-none buf p))
+
+  -- a trait's name alone, and with its list
+  pub trait-bare : (e : Env) (i : ℕ) (xs : List ℕ) → length xs ≡ 0 → render g (traitPieces e i (map tyOf xs)) ≡ bytes (e .texts) (recordAt e i .name)
+  unfolding render
+  trait-bare e i [] h = append-nil (bytes (e .texts) (recordAt e i .name))
+  trait-bare e i (x ∷ xs) h = absurd (omega arith)
+
+  pub trait-listed : (e : Env) (i : ℕ) (xs : List ℕ) → (length xs ≡ 0 → ⊥)
+      → render g (traitPieces e i (map tyOf xs)) ≡ bytes (e .texts) (recordAt e i .name) ++ (text "[" ++ (render g (commas false (map tyOf xs)) ++ text "]"))
+  unfolding render
+  trait-listed e i [] h = absurd (h refl)
+  trait-listed e i (x ∷ xs) h = rw (render-append g (commas false (map tyOf (x ∷ xs))) (fixed (text "]") ∷ []))
+
+  -- the fn form without a return, and with one
+  module _ (nil : Ty → Bool) (receiver : Ty) (i : Bool) (ps : List Ty) (ret : Ty) where
+    pub fn-nil : nil ret ≡ true → render g (fnPieces nil receiver i ps ret) ≡ text "fn " ++ (g receiver ++ (text "(" ++ (render g (commas i ps) ++ text ")")))
+    unfolding render
+    fn-nil h = rw (h, render-append g (commas i ps) (fixed (text ")") ∷ []))
+
+    pub fn-returns : nil ret ≡ false
+        → render g (fnPieces nil receiver i ps ret) ≡ text "fn " ++ (g receiver ++ (text "(" ++ (render g (commas i ps) ++ (text ")" ++ (text " -> " ++ g ret)))))
+    unfolding render
+    fn-returns h = rw (h, render-append g (commas i ps) (fixed (text ")") ∷ fixed (text " -> ") ∷ sub ret ∷ []), append-nil (g ret))

@@ -1,0 +1,74 @@
+-- `show_impl::show_list` meets its contract. The loop's invariant: what is left to write gives, appended, what the whole gives.
+-- Assumes nothing.
+use mathlib.Core.Path.{_∙_}
+use mathlib.Core.List.{[]}
+use Prim.Native.Nat.{_-_}
+use native.Mathlib.Omega.{arith}
+use lib.ListN.{length}
+use borrow.Author.Needs.{needs}
+use Rattle.scope.specs.Show.{show}
+use Rattle.chart.specs.Env.{envOf}
+use Rattle.layout.specs.Words.{decode}
+use Rattle.show.proofs.Turns.{Turn, turn-start, turn-next}
+use Rattle.show_names.specs.Names.{comma}
+use Rattle.show_impl.proofs.Lists.{item, list-end}
+use Rattle.show_impl.proofs.show_list.Statement.{statement}
+use Rattle.show_impl.proofs.show_list.Tie as tie
+
+abbrev Inv-loop : tie.InvT-loop
+Inv-loop chart beside rule text ws ks n buf₀ at xs p₀ j₀ buf p j =
+    Turn comma (item (show (envOf chart beside rule text) (decode ws ks n)) xs) [] (length xs) buf₀ p₀ buf p j
+
+abbrev μ-loop : tie.MeasureT-loop
+μ-loop chart beside rule text ws ks n buf₀ at xs p₀ j₀ buf p j = length xs - j
+
+loop-holds : tie.Need-loop-holds Inv-loop μ-loop
+loop-holds c = turn-start _ _ _ _ _ _
+
+put-between-requires : tie.Need-put-between-requires Inv-loop μ-loop
+put-between-requires c κs = search needs
+
+mul-t15 : tie.Need-mul-t15 Inv-loop μ-loop
+mul-t15 c = search needs
+
+shared-slice-read-t20 : tie.Need-shared-slice-read-t20 Inv-loop μ-loop
+shared-slice-read-t20 c = search needs
+
+show-all-requires : tie.Need-show-all-requires Inv-loop μ-loop
+show-all-requires c κs = c .before .before .before .before .before .before .before .before .before .before .before .before .before .before .before .pre
+
+add-j : tie.Need-add-j Inv-loop μ-loop
+add-j c = search needs
+
+loop-less : tie.Need-loop-less Inv-loop μ-loop
+loop-less c = omega (arith, c .before .before .before .before .before .before .before .before .before .loop-test .taken)
+
+loop-again : tie.Need-loop-again Inv-loop μ-loop
+loop-again c =
+    turn-next _ _ _ _ (c .before .before .before .before .before .before .before .before .before .before .loop .inv) (c .before .before .before .before .before .before
+    .before .before .before .loop-test .taken) (c .before .before .before .before .before .before .before .put-between .ensures) (c .before .before .show-all .ensures)
+    (c .before .before .show-all .kept .1 .1 .1 .1 .1 .1 .1 .0 ∙ c .before .before .before .before .before .before .before .put-between .kept .0 ∙ c .before .before
+    .before .before .before .before .before .before .before .before .loop .inv .long)
+
+same-length : tie.Need-same-length Inv-loop μ-loop
+same-length c = c .before .loop .inv .long
+
+returns : tie.Need-returns Inv-loop μ-loop
+returns c = list-end _ (c .before .before .before .before .before .before .before .before .before .args .xs .now) (c .before .loop .inv) (c .loop-test .left)
+
+pub show-list-spec : {M : Type 1} → statement M
+show-list-spec =
+    tie.close
+    (tie.spec
+    Inv-loop
+    μ-loop
+    loop-holds
+    put-between-requires
+    mul-t15
+    shared-slice-read-t20
+    show-all-requires
+    add-j
+    loop-less
+    loop-again
+    same-length
+    returns)
