@@ -21,6 +21,7 @@ use Rattle.store.specs.Entries.{typesIn}
 use Rattle.lent_tests.specs.Given.{entriesIn}
 use Rattle.promise.specs.Promise.{typeReply, boolReply, doneReply}
 use Rattle.promise.specs.Lists.{listReply}
+use Rattle.promise.specs.Prints.{countReply, partReply}
 use Rattle.promise.specs.declared.DoneAnswer.the-variants.{Done}
 use Rattle.call_open.proofs as opening
 use Rattle.call_make.proofs as call_make
@@ -37,6 +38,8 @@ use Rattle.call_unify.proofs as call_unify
 use Rattle.call_unify.specs.Answers.{unifyReply}
 use Rattle.call_unify_lists.proofs as call_unify_lists
 use Rattle.call_impl.proofs as call_impl
+use Rattle.call_show.proofs as call_show
+use Rattle.call_show_part.proofs as call_show_part
 use Rattle.theorem.specs.Memory.{Memory, memoryOf, Fixed, Opened}
 use Rattle.theorem.specs.Steps.{replied, Ran}
 
@@ -148,5 +151,16 @@ pub record Contracts : Type 0 where
       (λ κs a r x. RanOn a (call.later (call.getMod (tyOf (arg1 a .0)))) (replied says.mod-is (modReply r)) (wordsIn a))
   pub approx-eq : Allows call_impl.approx_eq.Kinds.ps call_impl.approx_eq.Kinds.r call_impl.approx_eq.Reads.Asked call_impl.approx_eq.Reads.Learnt
       (λ κs a r x. RanOn a (call.later (call.approxEq (implMeans (arg1 a) (arg2 a .now)) (implMeans (arg3 a) (arg4 a .now)))) (replied says.flag (boolReply r)) (wordsIn a))
+  pub show : Allows call_show.show.Kinds.ps call_show.show.Kinds.r call_show.show.Reads.Asked call_show.show.Reads.Learnt
+      (λ κs a r x. RanOn a (call.later (call.show (tyOf (arg1 a .0)) (arg2 a .now))) (replied (λ n. says.text (take n (arg2 x .now))) (countReply r)) (wordsIn a))
+  pub show-impl-type : Allows call_show.show_impl_type.Kinds.ps call_show.show_impl_type.Kinds.r call_show.show_impl_type.Reads.Asked call_show.show_impl_type.Reads.Learnt
+      (λ κs a r x. RanOn a (call.later (call.showImplType (implMeans (arg1 a) (arg2 a .now)) (arg3 a .now)))
+      (replied (λ n. says.text (take n (arg3 x .now))) (countReply r)) (wordsIn a))
+  pub show-part : Allows call_show_part.show_part.Kinds.ps call_show_part.show_part.Kinds.r call_show_part.show_part.Reads.Asked call_show_part.show_part.Reads.Learnt
+      (λ κs a r x. RanOn a (call.later (call.show (tyOf (arg1 a .0)) (arg2 a .now))) (replied (λ n. says.text (r .now)) (partReply (arg3 x .now) (r .now))) (wordsIn a))
+  pub show-impl-type-part : Allows call_show_part.show_impl_type_part.Kinds.ps call_show_part.show_impl_type_part.Kinds.r
+      call_show_part.show_impl_type_part.Reads.Asked call_show_part.show_impl_type_part.Reads.Learnt
+      (λ κs a r x. RanOn a (call.later (call.showImplType (implMeans (arg1 a) (arg2 a .now)) (arg3 a .now)))
+      (replied (λ n. says.text (r .now)) (partReply (arg4 x .now) (r .now))) (wordsIn a))
   pub reset : Allows opening.reset.Kinds.ps opening.reset.Kinds.r opening.reset.Reads.Asked opening.reset.Reads.Learnt
       (λ κs a r x. RanOn a call.reset (replied (λ u. says.nothing) (doneReply r)) (wordsIn x))
