@@ -117,10 +117,11 @@ fn needed(
     ensures { λ r. ⌜ NeedsTested (now (h .entry)) (now (sw .entry)) (now (sk .entry)) n (listOf listed (now (params .entry))) (now (ts .entry)) r ⌝ }
 {
     let wanted = needs::of_import(sw, sk, n, params_of(listed, params), ts);
+    let full = refusals::room(h, wanted.nodes, wanted.children);
     if wanted.missing {
         return NO_ENTRY;
     }
-    refusals::room(h, wanted.nodes, wanted.children)
+    full
 }
 
 // The first of all refusals but 7 that stands, and 0 where none does.

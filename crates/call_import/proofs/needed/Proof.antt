@@ -11,15 +11,15 @@ params-of-requires c κs = search needs
 of-import-requires : tie.Need-of-import-requires
 of-import-requires c κs = search needs
 
-returns : tie.Need-returns
-returns c = needs-missing (c .before .before .params-of .ensures) (c .before .of-import .ensures) (c .if1 .taken)
-
 room-requires : tie.Need-room-requires
 room-requires c κs = search needs
 
+returns : tie.Need-returns
+returns c = needs-missing (c .before .before .before .params-of .ensures) (c .before .before .of-import .ensures) (c .if1 .taken)
+
 returns-2 : tie.Need-returns-2
-returns-2 c = needs-room (c .before .before .before .params-of .ensures) (c .before .before .of-import .ensures) (c .before .if1 .left) (c .room .ensures)
+returns-2 c = needs-room (c .before .before .before .params-of .ensures) (c .before .before .of-import .ensures) (c .if1 .left) (c .before .room .ensures)
 
 pub needed-spec : {M : Type 1} → statement M
 needed-spec =
-    tie.close (tie.spec params-of-requires of-import-requires returns room-requires returns-2)
+    tie.close (tie.spec params-of-requires of-import-requires room-requires returns returns-2)
