@@ -1,0 +1,4 @@
+pub mod PlaceLaws
+pub mod StepLaws
+pub mod ApartLaws
+pub mod MovedLaws
