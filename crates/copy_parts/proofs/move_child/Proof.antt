@@ -1,11 +1,11 @@
--- `copy::move_child` meets its contract: the slot that is put has the type and the source's name.
+-- `copy_parts::move_child` meets its contract: the slot that is put has the type and the source's name.
 -- Assumes nothing.
 use mathlib.Core.Path.{ap}
 use Rattle.scope.specs.Sound.{Slot}
-use Rattle.copy.specs.Steps.{retyped}
+use Rattle.copy_parts.specs.Steps.{retyped}
 use borrow.Author.Needs.{needs}
-use Rattle.copy.proofs.move_child.Statement.{statement}
-use Rattle.copy.proofs.move_child.Tie as tie
+use Rattle.copy_parts.proofs.move_child.Statement.{statement}
+use Rattle.copy_parts.proofs.move_child.Tie as tie
 
 child-requires : tie.Need-child-requires
 child-requires c κs = search needs

@@ -1,10 +1,10 @@
--- `copy::note` meets its contract: past the end a list with another element is the list.
+-- `copy_parts::note` meets its contract: past the end a list with another element is the list.
 -- Assumes nothing.
 use mathlib.Core.Path.{sym}
 use lib.Seq.{set-out}
 use borrow.Author.Needs.{needs}
-use Rattle.copy.proofs.note.Statement.{statement}
-use Rattle.copy.proofs.note.Tie as tie
+use Rattle.copy_parts.proofs.note.Statement.{statement}
+use Rattle.copy_parts.proofs.note.Tie as tie
 
 cast-at : tie.Need-cast-at
 cast-at c = search needs

@@ -1,12 +1,12 @@
--- `copy::kind_place` meets its contract, one law for each way out: no list, no Param, no entry, an entry.
+-- `copy_parts::kind_place` meets its contract, one law for each way out: no list, no Param, no entry, an entry.
 -- Assumes nothing.
 use mathlib.Core.Path.{_∙_}
 use borrow.Author.Tests.{not-true, not-false}
 use Rattle.scope.specs.Types.{flip}
-use Rattle.copy.proofs.PlaceLaws.{place-unlisted, place-other, place-missing, place-entry}
+use Rattle.copy_parts.proofs.PlaceLaws.{place-unlisted, place-other, place-missing, place-entry}
 use borrow.Author.Needs.{needs}
-use Rattle.copy.proofs.kind_place.Statement.{statement}
-use Rattle.copy.proofs.kind_place.Tie as tie
+use Rattle.copy_parts.proofs.kind_place.Statement.{statement}
+use Rattle.copy_parts.proofs.kind_place.Tie as tie
 
 returns : tie.Need-returns
 returns c = place-unlisted (not-true _ (c .if1 .taken))

@@ -1,11 +1,11 @@
--- `copy::root_place` meets its contract: it goes by the cases of the state that is read.
+-- `copy_parts::state_place` meets its contract: it goes by the cases of the state that is read.
 -- Assumes nothing.
 use mathlib.Core.Path.{refl, sym, _∙_}
 use Rattle.layout.specs.declared.TypeState.the-variants.{Known, Unknown, InferenceFailed}
-use Rattle.copy.proofs.PlaceLaws.{place-read, become-unknown, become-failed}
+use Rattle.copy_parts.proofs.PlaceLaws.{place-read, become-unknown, become-failed}
 use borrow.Author.Needs.{needs}
-use Rattle.copy.proofs.root_place.Statement.{statement}
-use Rattle.copy.proofs.root_place.Tie as tie
+use Rattle.copy_parts.proofs.state_place.Statement.{statement}
+use Rattle.copy_parts.proofs.state_place.Tie as tie
 
 idx-requires : tie.Need-idx-requires
 idx-requires c κs = search needs
@@ -56,8 +56,8 @@ returns-3 c =
     place-read InferenceFailed _ (i .idx .ensures) (n .node-at .ensures) (sym (c .enum-told .given .1) ∙ s .state-of .ensures)
     (λ ks. become-failed (a .args .with) (a .args .params .now) ks (a .args .root)) (refl, refl)
 
-pub root-place-spec : {M : Type 1} → statement M
-root-place-spec =
+pub state-place-spec : {M : Type 1} → statement M
+state-place-spec =
     tie.close
     (tie.spec
     idx-requires

@@ -1,10 +1,10 @@
--- `copy::begin` meets its contract: the blank's number, and 1, is what the table gets.
+-- `copy_parts::begin` meets its contract: the blank's number, and 1, is what the table gets.
 -- Assumes nothing.
 use native.Mathlib.Omega.{arith}
-use Rattle.copy.proofs.StepLaws.{begin-fits, begin-is}
+use Rattle.copy_parts.proofs.StepLaws.{begin-fits, begin-is}
 use borrow.Author.Needs.{needs}
-use Rattle.copy.proofs.begin.Statement.{statement}
-use Rattle.copy.proofs.begin.Tie as tie
+use Rattle.copy_parts.proofs.begin.Statement.{statement}
+use Rattle.copy_parts.proofs.begin.Tie as tie
 
 new-blank-requires : tie.Need-new-blank-requires
 new-blank-requires c κs = search needs

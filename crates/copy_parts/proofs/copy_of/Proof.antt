@@ -1,10 +1,10 @@
--- `copy::copy_of` meets its contract: past the end getD gives 0.
+-- `copy_parts::copy_of` meets its contract: past the end getD gives 0.
 -- Assumes nothing.
 use mathlib.Core.Path.{sym}
 use lib.ListN.{List·getD-eq-default}
 use borrow.Author.Needs.{needs}
-use Rattle.copy.proofs.copy_of.Statement.{statement}
-use Rattle.copy.proofs.copy_of.Tie as tie
+use Rattle.copy_parts.proofs.copy_of.Statement.{statement}
+use Rattle.copy_parts.proofs.copy_of.Tie as tie
 
 cast-at : tie.Need-cast-at
 cast-at c = search needs

@@ -1,14 +1,15 @@
-// Types copied out of one store into another, by a table with a number for each node of the source: 0 where a root has no copy, else its copy's number
-// and 1. "Each source root becomes a new Unknown before its children are walked, then takes its kind." Nothing here can fail: what is asked for is room.
+// The steps of copying types out of one store into another, by a table with a number for each node of the source: 0 where a root has no copy, else its
+// copy's number and 1. What a root becomes; its blank, a child moved, the kind taken. Nothing here can fail: what is asked for is room.
 ghost use mathlib.Core.Path.{_≡_};
 ghost use Prim.Native.Nat.{_+_, _*_, _≤_};
 ghost use lib.ListN.{length, getD, set};
+ghost use Rattle.scope.specs.Limits.{MAX-NODES};
 ghost use Rattle.scope.specs.Types.{tyOf};
 ghost use Rattle.layout.specs.Words.{CHILD-WORDS, nodeWords, nodesMade};
 ghost use Rattle.layout.specs.Meaning.{heldIn, readAt};
 ghost use Rattle.store.specs.Holds.{Ready};
-ghost use Rattle.copy.specs.Places.{KindPlace, PlaceIs};
-ghost use Rattle.copy.specs.Steps.{Begun, ChildMoved, ended};
+ghost use Rattle.copy_parts.specs.Places.{KindPlace, StatePlace, RootPlace};
+ghost use Rattle.copy_parts.specs.Steps.{Begun, ChildMoved, ended};
 use layout::Held;
 use layout::Kind;
 use layout::Slot;
@@ -19,10 +20,10 @@ use types::Inverted;
 use types::Type;
 use types::TypeIdx;
 
-// What a source root that has no copy becomes.
+// What a source root becomes.
 pub enum Place {
-    // "a Param is replaced by that entry and no node is made"
-    Entry(Type),
+    // Its copy, or its entry: "a Param is replaced by that entry and no node is made".
+    Is(Type),
     // A new node: its span until it takes its kind, and the children that lie from a place on, so many.
     Node(u32, u32, u32),
 }
@@ -39,15 +40,15 @@ fn kind_place(with: bool, params: &[u32], root: Type, inv: Inverted, kind: Kind)
     }
     let at = kind.number as usize;
     if params.len() <= at {
-        return Place::Entry(root);
+        return Place::Is(root);
     }
-    Place::Entry(Type(params[at]).invert_if(inv).invert_if(root.inv()))
+    Place::Is(Type(params[at]).invert_if(inv).invert_if(root.inv()))
 }
 
 // "InferenceFailed becomes Unknown with `Span::NONE`."
-fn root_place(sw: &[u32], n: u32, with: bool, params: &[u32], root: Type) -> Place
+fn state_place(sw: &[u32], n: u32, with: bool, params: &[u32], root: Type) -> Place
     requires { ⌜ nodeWords n ≤ length (now sw) ⌝ }
-    ensures { λ r. ⌜ PlaceIs (now (sw .entry)) n with (now (params .entry)) root r ⌝ }
+    ensures { λ r. ⌜ StatePlace (now (sw .entry)) n with (now (params .entry)) root r ⌝ }
 {
     match layout::state_of(layout::node_at(sw, n, root.idx())) {
         TypeState::Known(inv, kind) => kind_place(with, params, root, inv, kind),
@@ -64,6 +65,25 @@ fn copy_of(table: &[u32], i: TypeIdx) -> u32
     if at < table.len() { table[at] } else { 0 }
 }
 
+// Of a root that has a copy, its copy.
+pub fn root_place(
+    sw: &[u32],
+    n: u32,
+    with: bool,
+    params: &[u32],
+    table: &[u32],
+    root: Type,
+) -> Place
+    requires { ⌜ (nodeWords n ≤ length (now sw)) × (getD (now table) (tyOf (root .0) .idx) 0 ≤ MAX-NODES) ⌝ }
+    ensures { λ r. ⌜ RootPlace (now (sw .entry)) n with (now (params .entry)) (now (table .entry)) root r ⌝ }
+{
+    let was = copy_of(table, root.idx());
+    if was != 0 {
+        return Place::Is(Type::new(root.inv(), TypeIdx(was - 1)));
+    }
+    state_place(sw, n, with, params, root)
+}
+
 fn note(table: &mut [u32], i: TypeIdx, number: u32)
     ensures { λ _. ⌜ now (table .exit) ≡ set (now (table .entry)) (i .0) number ⌝ }
 {
@@ -74,7 +94,7 @@ fn note(table: &mut [u32], i: TypeIdx, number: u32)
 }
 
 // A new Unknown for the source root i, with `count` children reserved, and the table says so.
-fn begin(
+pub fn begin(
     table: &mut [u32],
     h: &mut [u32],
     ws: &mut [u32],
@@ -93,7 +113,7 @@ fn begin(
 }
 
 // The type t stands in the reserved slot j, with the name of the source's child j.
-fn move_child(sk: &[u32], from: u32, ks: &mut [u32], first: u32, j: u32, t: Type)
+pub fn move_child(sk: &[u32], from: u32, ks: &mut [u32], first: u32, j: u32, t: Type)
     requires { ⌜ (first + j) * CHILD-WORDS + CHILD-WORDS ≤ length (now ks) ⌝ }
     ensures { λ _. ⌜ ChildMoved (now (sk .entry)) from (now (ks .entry)) first j (t .0) (now (ks .exit)) ⌝ }
 {
@@ -102,7 +122,7 @@ fn move_child(sk: &[u32], from: u32, ks: &mut [u32], first: u32, j: u32, t: Type
 }
 
 // "Then takes its kind": the copy of the source root i, with its children from `first` on. What has no kind stays an Unknown.
-fn end(sw: &[u32], n: u32, i: TypeIdx, h: &[u32], ws: &mut [u32], new: TypeIdx, first: u32)
+pub fn end(sw: &[u32], n: u32, i: TypeIdx, h: &[u32], ws: &mut [u32], new: TypeIdx, first: u32)
     requires { ⌜ (nodeWords n ≤ length (now sw)) × (nodeWords (nodesMade (now h)) ≤ length (now ws)) ⌝ }
     ensures { λ _. ⌜ now (ws .exit) ≡ ended (now (ws .entry)) (nodesMade (now (h .entry))) (new .0) first (heldIn (readAt (now (sw .entry)) n (i .0))) ⌝ }
 {

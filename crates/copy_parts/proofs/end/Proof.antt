@@ -1,12 +1,12 @@
--- `copy::end` meets its contract: it goes by the cases of what the source holds.
+-- `copy_parts::end` meets its contract: it goes by the cases of what the source holds.
 -- Assumes nothing.
 use mathlib.Core.Path.{ap, sym, _∙_}
 use Rattle.layout.specs.Words.{nodesMade}
-use Rattle.copy.specs.Steps.{ended}
-use Rattle.copy.proofs.StepLaws.{end-room, end-known}
+use Rattle.copy_parts.specs.Steps.{ended}
+use Rattle.copy_parts.proofs.StepLaws.{end-room, end-known}
 use borrow.Author.Needs.{needs}
-use Rattle.copy.proofs.end.Statement.{statement}
-use Rattle.copy.proofs.end.Tie as tie
+use Rattle.copy_parts.proofs.end.Statement.{statement}
+use Rattle.copy_parts.proofs.end.Tie as tie
 
 read-header-requires : tie.Need-read-header-requires
 read-header-requires c κs = search needs

@@ -19,7 +19,7 @@ use Rattle.layout.proofs.KindLaws.{movedTo}
 use Rattle.store.specs.Holds.{Ready}
 use Rattle.make.specs.Made.{BlankMade}
 use Rattle.make.proofs.MakeLaws.{RoomIn, ready-room}
-use Rattle.copy.specs.Steps.{Begun, ended}
+use Rattle.copy_parts.specs.Steps.{Begun, ended}
 
 -- the copy's number and 1 fits
 pub begin-fits : {h ws ks h′ ws′ : List ℕ} {span count : ℕ} {t : «Type»} → Ready h ws ks 1 count → BlankMade h ws ks h′ ws′ span count t → t .0 < MAX-NODES

@@ -1,4 +1,0 @@
-pub mod PlaceLaws
-pub mod StepLaws
-pub mod ApartLaws
-pub mod MovedLaws
