@@ -34,7 +34,7 @@ use Rattle.needs.specs.Roots.{paramsFor}
 use Rattle.needs.specs.Sources.{ImportNeeds}
 use Rattle.promise.proofs.Laws.{lent-chart, lent-refused, lent-next, lent-passed}
 use Rattle.lent_tests.proofs.Laws.{Row, row-first, row-second, row-many, row-many-too, row-made}
-use Rattle.copy.specs.Places.{listOf}
+use Rattle.copy_parts.specs.Places.{listOf}
 use Rattle.call_import.specs.Tests.{storesTests, listsTests, needsTests, StoresTested, ListsTested, NeedsTested}
 
 -- both stores

@@ -15,7 +15,7 @@ ghost use Rattle.sound.specs.Tests.{envIn};
 ghost use Rattle.needs.specs.Roots.{paramsFor};
 ghost use Rattle.needs.specs.Sources.{Importable};
 ghost use Rattle.promise.specs.Lists.{ListPromised};
-ghost use Rattle.copy.specs.Places.{listOf};
+ghost use Rattle.copy_parts.specs.Places.{listOf};
 ghost use Rattle.call_import.specs.Tests.{StoresTested, ListsTested, NeedsTested, ImportTested};
 use chart::Beside;
 use needs::Params;

@@ -34,8 +34,8 @@ returns-2 c = export-short _ (c .before .before .refusal .ensures) (c .before .i
 
 export-requires : tie.Need-export-requires
 export-requires c κs =
-    let t = c .before .before .before .before in
-    (export-ready _ (t .before .before .refusal .ensures) (t .before .if1 .left) (t .if2 .left), ?)
+    export-ready _ (c .before .before .before .before .before .before .refusal .ensures) (c .before .before .before .before .before .if1 .left)
+    (c .before .before .before .before .if2 .left)
 
 same-length-7 : tie.Need-same-length-7
 same-length-7 c = search needs
@@ -51,9 +51,10 @@ same-length-10 c = search needs
 
 returns-3 : tie.Need-returns-3
 returns-3 c =
-    let done = c .before .before .before .before .before .before .before .before in
-    let t = done .before .before .before .before .before in
-    export-done _ (t .before .before .refusal .ensures) (t .before .if1 .left) (t .if2 .left) (done .export .ensures)
+    export-done _ (c .before .before .before .before .before .before .before .before .before .before .before .before .before .before .before .refusal .ensures)
+    (c .before .before .before .before .before .before .before .before .before .before .before .before .before .before .if1 .left)
+    (c .before .before .before .before .before .before .before .before .before .before .before .before .before .if2 .left)
+    (c .before .before .before .before .before .before .before .before .export .ensures)
 
 pub export-spec : {M : Type 1} → statement M
 export-spec =

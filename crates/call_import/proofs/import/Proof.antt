@@ -37,8 +37,8 @@ read-header-requires c κs = search needs
 
 import-requires : tie.Need-import-requires
 import-requires c κs =
-    let x = c .before .before .before .before in
-    (import-ready _ (x .before .before .before .refusal .ensures) (x .before .before .if1 .left) (x .before .if2 .left) (x .read-header .ensures), ?)
+    import-ready _ (c .before .before .before .before .before .before .before .refusal .ensures) (c .before .before .before .before .before .before .if1 .left)
+    (c .before .before .before .before .before .if2 .left) (c .before .before .before .before .read-header .ensures)
 
 same-length-7 : tie.Need-same-length-7
 same-length-7 c = search needs
@@ -54,9 +54,11 @@ same-length-10 c = search needs
 
 returns-3 : tie.Need-returns-3
 returns-3 c =
-    let done = c .before .before .before .before .before .before .before .before in
-    let x = done .before .before .before .before .before in
-    import-done _ (x .before .before .before .refusal .ensures) (x .before .before .if1 .left) (x .before .if2 .left) (x .read-header .ensures) (done .import .ensures)
+    import-done _ (c .before .before .before .before .before .before .before .before .before .before .before .before .before .before .before .before .refusal .ensures)
+    (c .before .before .before .before .before .before .before .before .before .before .before .before .before .before .before .if1 .left)
+    (c .before .before .before .before .before .before .before .before .before .before .before .before .before .before .if2 .left)
+    (c .before .before .before .before .before .before .before .before .before .before .before .before .before .read-header .ensures)
+    (c .before .before .before .before .before .before .before .before .import .ensures)
 
 pub import-spec : {M : Type 1} → statement M
 import-spec =
