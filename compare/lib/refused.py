@@ -4,7 +4,7 @@ The chart is chart.json's: record 0 is a trait, 1 a struct without the flag, 4 a
 
 from lib.script import INVERSE, line
 
-TUPLE, OBJECT, STRUCT, CLOSURE, REF, IF_CONST, NEVER = 1, 2, 4, 8, 9, 11, 12
+PARAM, TUPLE, OBJECT, STRUCT, CLOSURE, REF, IF_CONST, NEVER = 0, 1, 2, 4, 8, 9, 11, 12
 A, AB, B = (0, 0, 1), (0, 2, 2), (0, 5, 1)  # names in the rule text: a, ab, b
 NONE = 2 ** 32 - 1
 NODES, CHILDREN = 6, 6
@@ -149,13 +149,94 @@ def broken(chart):
     ]
 
 
+def source():
+    """A failed variable, a Param 2, a variable that is its inverse, a tuple over all three, an error."""
+    return [
+        ("swap", [], None),
+        ("lend", [8, NODES * 12, CHILDREN * 4], None),
+        ("open", [NODES, CHILDREN], "done"),
+        ("new_var", [5], "=0"),
+        ("new", kind(PARAM, number=2, name=A), "=1"),
+        ("new_var", [6], "=2"),
+        ("unify", [2, INVERSE + 1], "Success"),
+        ("new", kind(TUPLE, 2, 1, 0), "=3"),
+        ("error", [], "=4"),
+        ("force_kind", [0], "known 14 0 0 0 reported 5"),
+        ("swap", [], None),
+    ]
+
+
+def importing():
+    """A destination with two of four nodes made, and room for three children."""
+    enough = [1, 1, INVERSE]
+    many = [3] * 256
+    return [
+        ("lend", [8, NODES * 12, CHILDREN * 4], None),
+        ("open", [4, 3], "done"),
+        ("import", [1, 1, 1, 3, 0], "refused 3"),
+        ("new_vars", [7, 2, 2], "types 0 1"),
+        ("import", [1, 0, 1, 5], "refused 3"),
+        ("import", [1, 1, 1, 3, 1, 1, 2], "refused 3"),
+        ("import", [256, 0, 256, *many], "refused 4"),
+        ("import", [256, 0, 256, *many[1:], 5], "refused 3"),
+        ("import", [1, 1, 1, 3, *[0] * 256], "refused 4"),
+        ("import", [1, 1, 1, 3], "refused 6"),           # an empty list
+        ("import", [1, 1, 1, 3, *enough[1:]], "refused 6"),
+        ("import", [1, 1, 1, 4, *enough], "types 2"),
+        ("import", [0, 1, 1, 3, *enough], "refused 10"),
+        ("reset", [], "done"), ("new_vars", [7, 2, 2], "types 0 1"),
+        ("import", [0, 0, 1, 3, *enough], "refused 10"),  # no list: its words are not read
+        ("poke", [0, 3, 2], None), ("import", [0, 1, 1, 3, *enough], "refused 11"),
+        ("import", [0, 1, 1, 3], "refused 6"),
+        ("poke", [0, 3, 3], None), ("import", [0, 1, 1, 3, *enough], "refused 7"),
+        ("swap", [], None), ("lend", [8, NODES * 12 - 1, CHILDREN * 4], None), ("swap", [], None),
+        ("import", [0, 0, 1, 5], "refused 9"),
+        ("lend", [7, NODES * 12, CHILDREN * 4], None), ("import", [0, 0, 1, 5], "refused 8"),
+        ("lend", [8, NODES * 12, CHILDREN * 4], None),
+        ("swap", [], None), ("lend", [8, NODES * 12, CHILDREN * 4], None), ("swap", [], None),
+        ("import", [2, 1, 2, 3, INVERSE + 3, *enough], "types 2 ~2"),
+        ("import", [0, 0, 0], "types"),
+        ("import", [0, 0, 1, 0], "refused 10"),
+    ]
+
+
+def exporting():
+    """The tuple and what it leads to: three nodes and three children."""
+    words = [8, 48, 12]
+    fresh = "nodes 3 of {}, children 3 of {}, error none, nil none, reports 0\n  root 1 known 1 0 0 0 1 ~1 2\n  root 1 unknown 7\n  root 1 unknown " + str(NONE)
+    return [
+        ("export", [4097, 3, 0, *words, 9], "refused 1"),
+        ("export", [4, 4, 0, *words, 9], "refused 1"),
+        ("export", [4, 3, 0, 7, 48, 12, 9], "refused 1"),
+        ("export", [4, 3, 0, *words, 9], "refused 3"),
+        ("export", [4, 3, 0, *words, *[2] * 256], "refused 4"),
+        ("export", [2, 2, 0, *words, 2], "refused 10"),
+        ("export", [3, 2, 0, *words, 2], "refused 11"),
+        ("export", [3, 3, 0, *words, 2], "refused 7"),
+        ("export", [3, 3, 1, *words, 2], "types 0\n" + fresh.format(3, 3)),
+        ("export", [4, 3, 2, *words, INVERSE + 2, 2], "types ~0 0\n" + fresh.format(4, 3)),
+        ("export", [0, 0, 0, 8, 0, 0], "types\nnodes 0 of 0, children 0 of 0, error none, nil none, reports 0"),
+        ("poke", [1, 2, 2], None), ("export", [4, 3, 0, *words, 9], "refused 8"),
+        ("poke", [1, 2, 1], None), ("export", [2, 3, 0, *words, 2], "refused 10"),
+    ]
+
+
 def place(n):
     return [n["text"], n["start"], n["len"]]
 
 
-def refused(chart):
-    said, wrote = line("case", 9999), "case 9999\n"
-    for op, numbers, expected in opening() + making() + asking() + joining() + broken(chart):
+def said_and_wrote(number, rows, last):
+    said, wrote = line("case", number), f"case {number}\n"
+    for op, numbers, expected in rows:
         said += line(op, *numbers)
         wrote += "" if expected is None else expected + "\n"
-    return said + line("store"), wrote + "nodes 1 of 6, children 0 of 6, error none, nil 0, reports 0\n  root 1 known 1 0 0 0\n"
+    return said + line("store"), wrote + last
+
+
+def refused(chart):
+    one = said_and_wrote(9999, opening() + making() + asking() + joining() + broken(chart),
+                         "nodes 1 of 6, children 0 of 6, error none, nil 0, reports 0\n  root 1 known 1 0 0 0\n")
+    two = said_and_wrote(9998, source() + importing() + exporting(),
+                         "nodes 4 of 4, children 3 of 3, error none, nil none, reports 0\n  root 1 unknown 7\n  root 1 unknown 7\n"
+                         f"  root 1 known 1 0 0 0 0 ~0 3\n  root 1 unknown {NONE}\n")
+    return one[0] + two[0], one[1] + two[1]

@@ -1,5 +1,7 @@
 """Cases as a list of calls for crates/run_calls, and the lines that the Rust's answers make it write."""
 
+from lib.transfers import exports, imports, needs
+
 KINDS = ["Param", "Tuple", "Object", "Opaque", "Struct", "Enum", "Union", "Fn", "Closure", "Ref", "Key",
          "IfConst", "Never", "Default", "Error"]
 NODES, CHILDREN = 200, 800  # room of every store here
@@ -8,13 +10,15 @@ LIST = 255                  # room for an answer's list
 
 # The calls' numbers in crates/run_calls.
 OPS = {"rule": 0, "text": 1, "chart": 2, "beside": 3, "lend": 4, "poke": 5,
-       "flip": 6, "case": 7, "words": 8, "open": 10, "reset": 11, "new": 12,
+       "flip": 6, "case": 7, "words": 8, "swap": 9, "open": 10, "reset": 11, "new": 12,
        "new_struct": 13, "new_union": 14, "new_var": 15, "new_vars": 16, "error": 17, "nil": 18, "force_kind": 19,
        "finish_inference": 20, "finish_inference_where": 21, "find": 30, "find_mut": 31, "node": 32, "child": 33,
        "child_name": 34, "figures": 35, "is_nil": 36, "self_inverse_plain": 37, "self_inverse": 38, "get_mod": 39, "find_related": 40, "store": 41, "unify": 50, "unify_types": 51,
-       "unify_objects": 52, "unify_fn_sig": 53, "unify_impl_type": 54, "approx_eq": 55}
+       "unify_objects": 52, "unify_fn_sig": 53, "unify_impl_type": 54, "approx_eq": 55, "import": 60, "export": 61, "flip_source": 62}
 # No part of the program, and they change no store.
-SKIPPED = ("show", "show_impl_type", "export")
+SKIPPED = ("show", "show_impl_type")
+HEAD_WORDS = 8
+NODE_ROOM, CHILD_ROOM = 2, 3  # the header's words for the capacities
 ERROR_KIND = "14 0 0 0"
 
 
@@ -109,8 +113,8 @@ def node(n):
     return f"child {typ(n['type'])}" if n["is"] == "child" else f"root {n['size']} {state(n['state'])}"
 
 
-def store(s, children):
-    head = (f"nodes {len(s['nodes'])} of {NODES}, children {children} of {CHILDREN}, error {typ(s['error'])}, "
+def store(s, children, room=(NODES, CHILDREN)):
+    head = (f"nodes {len(s['nodes'])} of {room[0]}, children {children} of {room[1]}, error {typ(s['error'])}, "
             f"nil {typ(s['nil'])}, reports {s['reports']}\n")
     return head + "".join(f"  {node(n)}\n" for n in s["nodes"])
 
@@ -136,10 +140,52 @@ def answer(a):
     return ANSWERS[a["is"]](a) + "\n"
 
 
-def made(call):
-    """How many children the call makes."""
-    args = call["args"]
-    return len(args["kind"]["kids"]) if call["call"] == "new" else len(args.get("kids", []))
+class Made:
+    """How many nodes and children a store has made, and which types it remembers."""
+
+    def __init__(self):
+        self.nodes, self.children, self.remembered = 0, 0, set()
+
+    def add(self, call, source):
+        name, args = call["call"], call["args"]
+        if name == "reset":
+            self.__init__()
+        elif name in ("error", "nil"):
+            self.nodes += name not in self.remembered
+            self.remembered.add(name)
+        elif name == "import":
+            more, kids = needs(source, args["types"], args["params"] is not None)
+            self.nodes, self.children = self.nodes + more, self.children + kids
+        elif name == "new_vars":
+            self.nodes += args["count"]
+        elif name.startswith("new"):
+            self.nodes += 1
+            self.children += len(args["kind"]["kids"] if name == "new" else args.get("kids", []))
+
+
+def rooms(nodes, children):
+    """Other capacities, by the header's words."""
+    return line("poke", 0, NODE_ROOM, nodes) + line("poke", 0, CHILD_ROOM, children)
+
+
+def importing(call, source, made):
+    """The import with exactly enough of all, and before it with one less of each."""
+    types, answered = call["args"]["types"], answer(call["answer"])
+    said, wrote = "", ""
+    for room, entries, out, code in imports(source, types, call["args"]["params"], made.nodes, made.children):
+        said += rooms(*room) + line("import", out, int(entries is not None), len(types), *words(types), *words(entries or []))
+        wrote += answered if code is None else f"refused {code}\n"
+    return said + rooms(NODES, CHILDREN), wrote
+
+
+def exporting(call):
+    """The same for an export, and every node of the fresh store."""
+    types, fresh = call["args"]["types"], call["answer"]["store"]
+    said, wrote = "", ""
+    for room, out, lent, code in exports(fresh, types):
+        said += line("export", *room, out, HEAD_WORDS, *lent, *words(types))
+        wrote += f"refused {code}\n" if code else ANSWERS["types"](call["answer"]) + "\n" + store(fresh, room[1], room)
+    return said, wrote
 
 
 def chart(c):
@@ -147,27 +193,37 @@ def chart(c):
                [r["sort"], *place(r["name"]), *place(r["path"]), r["def"], r["flag"], r["trait"]]]
     sigils = [n for s in c["sigils"] for n in place(s)]
     return (line("rule", *c["texts"][0]) + line("text", *c["texts"][1]) + line("chart", *records)
-            + line("beside", c["fn_trait"], *sigils) + line("lend", 8, NODES * 12, CHILDREN * 4))
+            + line("beside", c["fn_trait"], *sigils) + (line("lend", HEAD_WORDS, NODES * 12, CHILDREN * 4) + line("swap")) * 2)
 
 
-def run(number, part):
-    """One store's calls, and what they write; nothing if they import."""
-    if not part["calls"] or any(c["call"] == "import" for c in part["calls"]):
-        return "", ""
-    said, wrote, children = line("case", number) + line("open", NODES, CHILDREN), f"case {number}\ndone\n", 0
+def run(number, part, source):
+    """One store's calls, and what they write; `source` is what imports read, as it is in the end."""
+    said, wrote, made = line("case", number) + line("open", NODES, CHILDREN), f"case {number}\ndone\n", Made()
     for call in part["calls"]:
         if call["call"] in SKIPPED:
             continue
-        children = 0 if call["call"] == "reset" else children + made(call)
-        said += line(call["call"], *ARGS.get(call["call"], TYPE)(call["args"]))
-        wrote += answer(call["answer"])
-    return said + line("store"), wrote + store(part["store"], children)
+        if call["call"] == "import":
+            more = importing(call, source, made)
+        elif call["call"] == "export":
+            more = exporting(call)
+        else:
+            more = line(call["call"], *ARGS.get(call["call"], TYPE)(call["args"])), answer(call["answer"])
+        said, wrote = said + more[0], wrote + more[1]
+        made.add(call, source)
+    return said + line("store"), wrote + store(part["store"], made.children)
 
 
 def script(data):
+    """The source's store stays at hand as the other one while the main store's calls run."""
     said, wrote = chart(data["chart"]), ""
     for i, case in enumerate(data["cases"]):
-        for part in ("source", "main"):
-            more = run(i, case[part])
+        source, main = case["source"], case["main"]
+        moved = any(c["call"] == "import" for c in main["calls"])
+        if source["calls"] or moved:
+            more = run(i, source, None)
             said, wrote = said + more[0], wrote + more[1]
+        if main["calls"]:
+            more = run(i, main, source["store"])
+            turned = line("swap") if moved else ""
+            said, wrote = said + turned + more[0] + turned, wrote + more[1]
     return said, wrote

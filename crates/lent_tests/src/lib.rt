@@ -39,7 +39,7 @@ pub fn pair(a: Type, b: Type, n: u32) -> u32
 }
 
 // "over 255 listed types or parameters"
-fn too_many(xs: &[u32]) -> bool
+pub fn too_many(xs: &[u32]) -> bool
     ensures { λ r. ⌜ r ≡ tooMany (typesIn (now (xs .entry))) ⌝ }
 {
     xs.len() > MAX_LIST

@@ -18,8 +18,8 @@ use Rattle.scope.specs.Make.{Made, nextType, pushed, bare, new, newVar, again, 
 use Rattle.scope.specs.Calls.{nodesFor}
 use Rattle.types.specs.declared.«Type».{«Type»}
 use Rattle.types.proofs.Laws.{ty-plain}
-use Rattle.layout.specs.Words.{childWords, nodesMade, childrenMade, nodeRoom, childRoom, storeIn, clean}
-use Rattle.layout.specs.Meaning.{typeOf, headerIn, stateMeans, stateFits, rememberedMeans, rememberedFits, Kept, Lies}
+use Rattle.layout.specs.Words.{HEAD-WORDS, childWords, nodesMade, childrenMade, nodeRoom, childRoom, storeIn, clean}
+use Rattle.layout.specs.Meaning.{typeOf, headerIn, putHeader, stateMeans, stateFits, rememberedMeans, rememberedFits, Kept, Lies}
 use Rattle.layout.specs.declared.Header.{Header}
 use Rattle.layout.specs.declared.Kind.{Kind}
 use Rattle.layout.specs.declared.Remembered.{Remembered}
@@ -27,11 +27,11 @@ use Rattle.layout.specs.declared.Remembered.the-variants.{Is, Nothing}
 use Rattle.layout.specs.declared.TypeState.{TypeState}
 use Rattle.layout.specs.declared.TypeState.the-variants.{Known, Unknown}
 use Rattle.layout.proofs.ChildLaws.{kept-refl}
-use Rattle.layout.proofs.StoreLaws.{clean-lies}
+use Rattle.layout.proofs.StoreLaws.{length-put-header, tail-put-header, store-put, clean-lies, clean-unused, clean-nodes, clean-of, unused-grown}
 use Rattle.store.specs.Holds.{Became, Ready}
 use Rattle.store.specs.Bare.{bareKind}
 use Rattle.store.proofs.Laws.{store-count, beyond-refl, remembered-fits, error-is, nil-is, bare-means, bare-fits}
-use Rattle.make.specs.Made.{MadeIs}
+use Rattle.make.specs.Made.{MadeIs, BlankMade, Rememberable}
 use Rattle.make.specs.Header.{Pushable, Pushed, OnceReady, OnceMade}
 use Rattle.make.proofs.Laws.{push-holds, push-beyond}
 
@@ -97,14 +97,66 @@ module _ {h ws ks h′ ws′ : List ℕ} {c : ℕ} {st : TypeState} {t : «Type�
         (pushed-became r p ks′ len kept after fits (remembered-fits (getD h 4 0)) (remembered-fits (getD h 5 0)));
   }
 
-var-in : {h ws ks h′ ws′ : List ℕ} {p : ℕ} {t : «Type»} → Ready h ws ks 1 0
-    → Pushed h ws h′ ws′ (headerIn h) 0 (headerIn h .error) (headerIn h .nil) (Unknown p) t → MadeIs h ws ks h′ ws′ ks t (newVar (storeIn h ws ks) p)
-unfolding newVar
-var-in {h} {ws} {ks} r o = pushed-made r o ks refl (kept-refl (childrenMade h) ks) refl refl
+blank-in : {h ws ks h′ ws′ : List ℕ} {p c : ℕ} {t : «Type»} → Ready h ws ks 1 c
+    → Pushed h ws h′ ws′ (headerIn h) c (headerIn h .error) (headerIn h .nil) (Unknown p) t → BlankMade h ws ks h′ ws′ p c t
+blank-in {h} {ws} {ks} r o = record {
+  made = pushed-made r o ks refl (kept-refl (childrenMade h) ks) refl refl;
+  node = o .type;
+  nodes = o .nodes;
+}
 
-pub var-made : {h ws ks h′ ws′ : List ℕ} {x : Header} {p : ℕ} {t : «Type»} → Ready h ws ks 1 0 → x ≡ headerIn h
-    → Pushed h ws h′ ws′ x 0 (x .error) (x .nil) (Unknown p) t → MadeIs h ws ks h′ ws′ ks t (newVar (storeIn h ws ks) p)
-var-made r q o = var-in r (rw q at o)
+pub blank-made : {h ws ks h′ ws′ : List ℕ} {x : Header} {p c : ℕ} {t : «Type»} → Ready h ws ks 1 c → x ≡ headerIn h
+    → Pushed h ws h′ ws′ x c (x .error) (x .nil) (Unknown p) t → BlankMade h ws ks h′ ws′ p c t
+blank-made r q o = blank-in r (rw q at o)
+
+pub var-made : {h ws ks h′ ws′ : List ℕ} {p : ℕ} {t : «Type»} → BlankMade h ws ks h′ ws′ p 0 t → MadeIs h ws ks h′ ws′ ks t (newVar (storeIn h ws ks) p)
+unfolding newVar
+var-made o = o .made
+
+-- the header with other types remembered
+
+abbrev pub rememberingHeader : Header → Remembered → Remembered → Header
+rememberingHeader x e z = record {
+  nodes = x .nodes;
+  children = x .children;
+  «node_room» = x .«node_room»;
+  «child_room» = x .«child_room»;
+  error = e;
+  nil = z;
+  reports = x .reports;
+}
+
+module _ {h ws ks : List ℕ} {e z : Remembered} (r : Rememberable h ws ks e z) where
+  pub header-long : HEAD-WORDS ≤ length h
+  header-long = clean-lies h ws ks (r .clean) .head
+
+  remembered-lies : Lies (putHeader h (rememberingHeader (headerIn h) e z)) ws ks
+  unfolding putHeader
+  remembered-lies =
+      let l : Lies h ws ks = clean-lies h ws ks (r .clean) in
+      record {
+        head = omega (arith, length-put-header h (rememberingHeader (headerIn h) e z) (l .head), l .head);
+        nodes = l .nodes;
+        children = l .children;
+        nodeSlots = l .nodeSlots;
+        childSlots = l .childSlots;
+      }
+
+  remembered-clean : clean (putHeader h (rememberingHeader (headerIn h) e z)) ws ks ≡ true
+  unfolding putHeader
+  remembered-clean =
+      clean-of (putHeader h (rememberingHeader (headerIn h) e z)) ws ks remembered-lies
+      (unused-grown h ws ks (putHeader h (rememberingHeader (headerIn h) e z)) ws ks
+      (record { nodeRooms = refl; childRooms = refl; nodes = omega arith; children = omega arith; nodeTail = refl; childTail = refl })
+      (clean-unused h ws ks (r .clean))) (clean-nodes h ws ks (r .clean))
+
+  pub remembered-became : {x : Header} {h′ : List ℕ} → x ≡ headerIn h → h′ ≡ putHeader h (rememberingHeader x e z)
+      → Became h ws ks h′ ws ks (remembering (storeIn h ws ks) (rememberedMeans e) (rememberedMeans z))
+  unfolding storeIn
+  remembered-became q w = rw (w, q) (record {
+    holds = record { clean = remembered-clean; is = store-put h (rememberingHeader (headerIn h) e z) (r .error) (r .nil) ws ks };
+    beyond = record { head = tail-put-header h (rememberingHeader (headerIn h) e z); nodes = refl; kids = refl };
+  })
 
 -- error and nil: a kind without children, and what is remembered then
 

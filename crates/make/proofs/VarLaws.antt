@@ -61,10 +61,10 @@ vars-types s p (suc n) = ap suc (vars-types (newVar s p .store) p n)
 
 -- the front of a list of words
 
-written-length : (ts : List Ty) (out : List ℕ) → length ts ≤ length out → length (written ts out) ≡ length out
+pub written-length : (ts : List Ty) (out : List ℕ) → length ts ≤ length out → length (written ts out) ≡ length out
 written-length ts out h = simp (length-append, length-map) (omega (arith, length-drop (length ts) out))
 
-written-more : (ts : List Ty) (t : Ty) (out : List ℕ) (i : ℕ) → length ts ≡ i → i < length out → set (written ts out) i (wordOf t) ≡ written (ts ++ (t ∷ [])) out
+pub written-more : (ts : List Ty) (t : Ty) (out : List ℕ) (i : ℕ) → length ts ≡ i → i < length out → set (written ts out) i (wordOf t) ≡ written (ts ++ (t ∷ [])) out
 written-more ts t out i z h =
     let e : length (ts ++ (t ∷ [])) ≡ suc i = length-append ts (t ∷ []) ∙ omega arith in
     rw (z, drop-cons out i 0 h, set-at (map wordOf ts) (getD out i 0) (drop (suc i) out) (wordOf t) i (length-map ts wordOf ∙ z))

@@ -4,14 +4,15 @@ ghost use mathlib.Core.Path.{_≡_};
 ghost use mathlib.Core.Bool.{true};
 ghost use Prim.Native.Nat.{_+_, _≤_, _<_};
 ghost use lib.ListN.{length};
-ghost use Rattle.scope.specs.Nodes.{opened};
+ghost use Rattle.scope.specs.Nodes.{opened, remembering};
 ghost use Rattle.scope.specs.Make.{new, newVar, newVars, makeError, makeNil};
 ghost use Rattle.scope.specs.Force.{reset};
 ghost use Rattle.scope.specs.Calls.{nodesFor};
 ghost use Rattle.layout.specs.Words.{childWords, storeIn};
 ghost use Rattle.layout.specs.Words as words;
+ghost use Rattle.layout.specs.Meaning.{rememberedMeans};
 ghost use Rattle.store.specs.Holds.{Became, Openable, Ready};
-ghost use Rattle.make.specs.Made.{MadeIs, MadeAllIs};
+ghost use Rattle.make.specs.Made.{MadeIs, MadeAllIs, BlankMade, Rememberable};
 ghost use Rattle.make.specs.Header.{Pushable, Pushed, OnceReady, OnceMade, cleared, fresh};
 ghost use Rattle.make.specs.Given.{KindReady, Put, kindAt, kindGiven};
 use kinds::ERROR;
@@ -114,15 +115,42 @@ fn push(
     Type(n)
 }
 
+// An Unknown, with `added` children counted whose words are not written yet: what a copy is until it takes its kind.
+pub fn new_blank(h: &mut [u32], ws: &mut [u32], ks: &[u32], span: u32, added: u32) -> Type
+    requires { ⌜ Ready (now h) (now ws) (now ks) 1 added ⌝ }
+    ensures { λ r. ⌜ BlankMade (now (h .entry)) (now (ws .entry)) (now (ks .entry)) (now (h .exit)) (now (ws .exit)) span added r ⌝ }
+{
+    let x = layout::read_header(h);
+    let error = x.error;
+    let nil = x.nil;
+    push(h, ws, x, added, error, nil, TypeState::Unknown(span))
+}
+
 pub fn new_var(h: &mut [u32], ws: &mut [u32], ks: &[u32], span: u32) -> Type
     requires { ⌜ Ready (now h) (now ws) (now ks) 1 0 ⌝ }
     ensures { λ r. ⌜ MadeIs (now (h .entry)) (now (ws .entry)) (now (ks .entry)) (now (h .exit)) (now (ws .exit)) (now (ks .entry)) r
         (newVar (storeIn (now (h .entry)) (now (ws .entry)) (now (ks .entry))) span) ⌝ }
 {
+    new_blank(h, ws, ks, span, 0)
+}
+
+// Other remembered types, and nothing else changed.
+pub fn remember(h: &mut [u32], ws: &[u32], ks: &[u32], error: Remembered, nil: Remembered)
+    requires { ⌜ Rememberable (now h) (now ws) (now ks) error nil ⌝ }
+    ensures { λ _. ⌜ Became (now (h .entry)) (now (ws .entry)) (now (ks .entry)) (now (h .exit)) (now (ws .entry)) (now (ks .entry))
+        (remembering (storeIn (now (h .entry)) (now (ws .entry)) (now (ks .entry))) (rememberedMeans error) (rememberedMeans nil)) ⌝ }
+{
     let x = layout::read_header(h);
-    let error = x.error;
-    let nil = x.nil;
-    push(h, ws, x, 0, error, nil, TypeState::Unknown(span))
+    let y = Header {
+        nodes: x.nodes,
+        children: x.children,
+        node_room: x.node_room,
+        child_room: x.child_room,
+        error,
+        nil,
+        reports: x.reports,
+    };
+    layout::write_header(h, y);
 }
 
 // A type that is made once: the one remembered, or that of one node more, whose kind has no children.

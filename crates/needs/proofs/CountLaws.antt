@@ -12,11 +12,13 @@ use borrow.Author.Tests.{eqb-true, eqb-false, not-true, not-false}
 use Rattle.scope.specs.Limits.{MAX-NODES, MAX-CHILDREN}
 use Rattle.scope.specs.Types.{Ty, ty, tyOf}
 use Rattle.scope.specs.Nodes.{Node, at, stateOf, stateAt, find, kidsOf}
+use Rattle.scope.specs.Sound as sound
 use Rattle.scope.specs.Needs.{countAll, countF}
 use Rattle.scope.proofs.NeedsWalk.{count-end, count-old, count-entry, count-missing, count-keep, Small, small-room, small-counted, small-all, small-count}
 use Rattle.types.specs.declared.«Type».{«Type»}
 use Rattle.layout.specs.Words.{slotAt, decode}
-use Rattle.layout.specs.Meaning.{readAt, heldIn}
+use Rattle.layout.specs.Meaning.{readAt, heldIn, slotMeans}
+use Rattle.layout.specs.declared.Slot.{Slot}
 use Rattle.roots.specs.Found.{Found}
 use Rattle.needs.specs.declared.Needs.{Needs}
 use Rattle.needs.specs.declared.Params.{Params}
@@ -91,9 +93,9 @@ module _ {ws ks ms₀ ms : List ℕ} {n depth j : ℕ} {p : Params} {us : List T
   turn-end h ps o = sym (ap (countAll (countF depth (decode ws ks n) ps) (walkAt ms sum)) (drop-of-length-le us {i = j} h)) ∙ c .left ps o
 
 -- child j of a run, and those after it
-pub kid-next : (ks : List ℕ) (first m j : ℕ) {t : «Type»} → j < m → t .0 ≡ slotAt ks (first + j) .type
-    → drop j (kidsIn ks first m) ≡ tyOf (t .0) ∷ drop (j + 1) (kidsIn ks first m)
-kid-next ks first m j h e = rw e (run-next ks first m j h)
+pub kid-next : (ks : List ℕ) (first m j : ℕ) (s : Slot) → j < m → slotMeans s ≡ slotAt ks (first + j)
+    → drop j (kidsIn ks first m) ≡ tyOf (s .ty .0) ∷ drop (j + 1) (kidsIn ks first m)
+kid-next ks first m j s h e = run-next ks first m j h ∙ ap (λ (x : sound.Slot). tyOf (x .type) ∷ drop (j + 1) (kidsIn ks first m)) (sym e)
 
 -- no depth is left, or the root is counted
 

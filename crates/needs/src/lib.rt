@@ -7,7 +7,7 @@ ghost use lib.Dec.{eqb};
 ghost use lib.ListN.{getD, set, length};
 ghost use Rattle.scope.specs.Needs.{listed, exported};
 ghost use Rattle.layout.specs.Words.{nodeWords, slotAt, nodesMade, storeIn};
-ghost use Rattle.layout.specs.Meaning.{heldIn, readAt, rememberedMeans};
+ghost use Rattle.layout.specs.Meaning.{heldIn, readAt, slotMeans, rememberedMeans};
 ghost use Rattle.store.specs.Entries.{typesIn};
 ghost use Rattle.needs.specs.declared.Params.the-variants as params;
 ghost use Rattle.needs.specs.Roots.{kindAsks, asksOf};
@@ -16,6 +16,7 @@ ghost use Rattle.needs.specs.Sources.{Importable, ImportNeeds, ExportNee
 use layout::Held;
 use layout::Kind;
 use layout::Remembered;
+use layout::Slot;
 use scope::MAX_NODES;
 use types::Type;
 use types::TypeIdx;
@@ -89,10 +90,11 @@ fn mark(marks: &mut [u8], i: TypeIdx)
     }
 }
 
-fn child(ks: &[u32], first: u32, j: u32) -> Type
-    ensures { λ r. ⌜ r .0 ≡ slotAt (now (ks .entry)) (first + j) .type ⌝ }
+// Child j of those that lie from `first` on.
+pub fn child(ks: &[u32], first: u32, j: u32) -> Slot
+    ensures { λ r. ⌜ slotMeans r ≡ slotAt (now (ks .entry)) (first + j) ⌝ }
 {
-    layout::child_at(ks, first as usize + j as usize).ty
+    layout::child_at(ks, first as usize + j as usize)
 }
 
 // The walk from t: a root that is not counted is counted, then its children are walked from, one level less deep.
@@ -132,7 +134,7 @@ fn count(
             };
             let mut j: u32 = 0;
             while j < kids {
-                let kid = child(ks, first, j);
+                let kid = child(ks, first, j).ty;
                 all = count(ws, ks, n, params, marks, all, kid, depth - 1);
                 j += 1;
             }

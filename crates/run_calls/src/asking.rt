@@ -76,7 +76,7 @@ fn find_related<'a>(
 }
 
 // Every node, after the figures.
-fn store<'a>(
+pub(crate) fn store<'a>(
     chart: &[u32],
     beside: Beside,
     rule: &'a [u8],

@@ -1,10 +1,13 @@
 // Runs a list of calls through the public calls and writes what each answers. The list is text on standard input: a call's number, how many numbers
-// follow, and these. What each number means stands in `making`, `asking` and `joining`; the ones here set what is lent and write words into it.
+// follow, and these. What each number means stands in `making`, `asking`, `joining`, `moving` and `flipping`; the ones here set what is lent and write words
+// into it. There are two stores, one in hand and the other, which an import reads.
 ghost use Prim.Native.Nat.{_<_};
 
 mod asking; // calls that change no store
+mod flipping; // words changed in turn
 mod joining; // unify and its family
 mod making; // open, reset, the makers, forcing and finishing
+mod moving; // import and export
 mod numbers; // text to numbers
 mod writing; // answers to text
 
@@ -29,15 +32,17 @@ const CHART: u32 = 2;
 
 const BESIDE: u32 = 3;
 
+// Words of each slice of the store in hand.
 const LEND: u32 = 4;
 
 const POKE: u32 = 5;
 
-const FLIP: u32 = 6;
-
 const CASE: u32 = 7;
 
 const WORDS: u32 = 8;
+
+// The other store in hand.
+const SWAP: u32 = 9;
 
 // More words than the largest store needs, so that some are left over.
 const HEAD: usize = HEAD_WORDS + 2;
@@ -46,21 +51,39 @@ const NODES: usize = (MAX_NODES + 1) * NODE_WORDS;
 
 const KIDS: usize = (MAX_CHILDREN + 2) * CHILD_WORDS;
 
-// Room for a text, and for the list.
+// Room for a text, and for the list as text and as numbers.
 const BYTES: usize = 4096;
+
+const INPUT: usize = 131_072;
 
 const NUMBERS: usize = 32_768;
 
-// What is lent: where the chart's records stand among the numbers, what stands beside them, and how many bytes and words of each buffer.
+// How many words of each slice of a store.
+struct Sizes {
+    head: usize,
+    nodes: usize,
+    kids: usize,
+}
+
+// What is lent: where the chart's records stand among the numbers, what stands beside them, how many bytes of the texts and words of the store in hand and
+// of the other, and whether the second store is in hand.
 struct Lent {
     chart_at: usize,
     chart_len: usize,
     beside: Beside,
     rule: usize,
     text: usize,
-    head: usize,
-    nodes: usize,
-    kids: usize,
+    here: Sizes,
+    there: Sizes,
+    swapped: bool,
+}
+
+fn no_words() -> Sizes {
+    Sizes {
+        head: 0,
+        nodes: 0,
+        kids: 0,
+    }
 }
 
 fn nothing_lent() -> Lent {
@@ -74,9 +97,9 @@ fn nothing_lent() -> Lent {
         },
         rule: 0,
         text: 0,
-        head: 0,
-        nodes: 0,
-        kids: 0,
+        here: no_words(),
+        there: no_words(),
+        swapped: false,
     }
 }
 
@@ -121,100 +144,21 @@ fn lend(op: u32, l: Lent, at: usize, a: &[u32], rule: &mut [u8], text: &mut [u8]
         m.beside = beside;
         return m;
     }
-    m.head = word(a, 0) as usize;
-    m.nodes = word(a, 1) as usize;
-    m.kids = word(a, 2) as usize;
-    m
-}
-
-fn set(s: &mut [u32], i: usize, v: u32) {
-    if i < s.len() {
-        s[i] = v;
+    if op == SWAP {
+        let here = m.here;
+        let there = m.there;
+        m.here = there;
+        m.there = here;
+        m.swapped = !l.swapped;
+        return m;
     }
-}
-
-// Word i of a slice, 0 to 2, becomes v.
-fn poke(h: &mut [u32], ws: &mut [u32], ks: &mut [u32], a: &[u32]) {
-    let i = word(a, 1) as usize;
-    let v = word(a, 2);
-    let which = word(a, 0);
-    if which == 0 {
-        set(h, i, v);
-        return;
-    }
-    if which == 1 {
-        set(ws, i, v);
-        return;
-    }
-    set(ks, i, v);
-}
-
-// The low bit the other way.
-fn flipped(v: u32) -> u32 {
-    if v % 2 == 0 { v + 1 } else { v - 1 }
-}
-
-// A word as it is written in its place: its low bit the other way, or a number of the list's.
-fn other(v: u32, a: &[u32]) -> u32 {
-    if a.len() < 2 { flipped(v) } else { word(a, 1) }
-}
-
-// Word i of the slice another, and what `find` then answers; then as it was.
-fn flip<'a>(
-    chart: &[u32],
-    beside: Beside,
-    rule: &'a [u8],
-    text: &'a [u8],
-    h: &mut [u32],
-    ws: &mut [u32],
-    ks: &mut [u32],
-    a: &[u32],
-    i: u32,
-) {
-    let which = word(a, 0);
-    let s = if which == 0 {
-        word(h, i as usize)
-    } else if which == 1 {
-        word(ws, i as usize)
-    } else {
-        word(ks, i as usize)
+    let here = Sizes {
+        head: word(a, 0) as usize,
+        nodes: word(a, 1) as usize,
+        kids: word(a, 2) as usize,
     };
-    poke(h, ws, ks, &[which, i, other(s, a)]);
-    match call_find::find(chart, beside, rule, text, h, ws, ks, types::Type(0)) {
-        promise::TypeAnswer::Is(_) => writing::number(0),
-        promise::TypeAnswer::Refused(n) => writing::number(n),
-    }
-    poke(h, ws, ks, &[which, i, s]);
-}
-
-fn narrow(n: usize) -> u32 {
-    if n < 4_294_967_295 { n as u32 } else { 0 }
-}
-
-// Every word of the slice in turn.
-fn flips<'a>(
-    chart: &[u32],
-    beside: Beside,
-    rule: &'a [u8],
-    text: &'a [u8],
-    h: &mut [u32],
-    ws: &mut [u32],
-    ks: &mut [u32],
-    a: &[u32],
-) {
-    let which = word(a, 0);
-    let n = narrow(if which == 0 {
-        h.len()
-    } else if which == 1 {
-        ws.len()
-    } else {
-        ks.len()
-    });
-    let mut i: u32 = 0;
-    while i < n {
-        flip(chart, beside, rule, text, h, ws, ks, a, i);
-        i += 1;
-    }
+    m.here = here;
+    m
 }
 
 // A call by its number.
@@ -230,12 +174,7 @@ fn call<'a>(
     a: &[u32],
 ) {
     if op == POKE {
-        poke(h, ws, ks, a);
-        return;
-    }
-    if op == FLIP {
-        flips(chart, beside, rule, text, h, ws, ks, a);
-        writing::line();
+        flipping::poke(h, ws, ks, a);
         return;
     }
     if op == WORDS {
@@ -283,6 +222,91 @@ fn next(at: usize, n: usize, len: usize) -> usize
     at + 2 + n
 }
 
+// A call on one store or on both: oh, ow, ok are the other's words, eh, ew, ek those that exports go to.
+fn either<'a>(
+    op: u32,
+    chart: &[u32],
+    beside: Beside,
+    rule: &'a [u8],
+    text: &'a [u8],
+    h: &mut [u32],
+    ws: &mut [u32],
+    ks: &mut [u32],
+    oh: &mut [u32],
+    ow: &mut [u32],
+    ok: &mut [u32],
+    eh: &mut [u32],
+    ew: &mut [u32],
+    ek: &mut [u32],
+    a: &[u32],
+) {
+    if op == flipping::FLIP {
+        flipping::flips(op, chart, beside, rule, text, h, ws, ks, oh, ow, ok, a);
+        return;
+    }
+    if op == flipping::FLIP_SOURCE {
+        flipping::flips(op, chart, beside, rule, text, oh, ow, ok, h, ws, ks, a);
+        return;
+    }
+    if op == moving::IMPORT {
+        moving::import(chart, beside, rule, text, h, ws, ks, oh, ow, ok, a);
+        return;
+    }
+    if op == moving::EXPORT {
+        moving::export(chart, beside, rule, text, h, ws, ks, eh, ew, ek, a);
+        return;
+    }
+    call(op, chart, beside, rule, text, h, ws, ks, a);
+}
+
+// A call on what is lent of these buffers.
+fn on(
+    s: &[u32],
+    op: u32,
+    a: &[u32],
+    l: Lent,
+    rule: &[u8],
+    text: &[u8],
+    h: &mut [u32],
+    ws: &mut [u32],
+    ks: &mut [u32],
+    oh: &mut [u32],
+    ow: &mut [u32],
+    ok: &mut [u32],
+    eh: &mut [u32],
+    ew: &mut [u32],
+    ek: &mut [u32],
+) {
+    let chart = first(after(s, l.chart_at), l.chart_len);
+    let r = bytes_upto(rule, l.rule);
+    let t = bytes_upto(text, l.text);
+    let here = l.here;
+    let x = upto(h, here.head);
+    let y = upto(ws, here.nodes);
+    let z = upto(ks, here.kids);
+    let there = l.there;
+    let u = upto(oh, there.head);
+    let v = upto(ow, there.nodes);
+    let w = upto(ok, there.kids);
+    either(
+        op,
+        chart,
+        l.beside,
+        &rule[..r],
+        &text[..t],
+        &mut h[..x],
+        &mut ws[..y],
+        &mut ks[..z],
+        &mut oh[..u],
+        &mut ow[..v],
+        &mut ok[..w],
+        eh,
+        ew,
+        ek,
+        a,
+    );
+}
+
 // A call, whose numbers a stand at `at`, on what is lent.
 fn turn(
     s: &[u32],
@@ -295,27 +319,21 @@ fn turn(
     h: &mut [u32],
     ws: &mut [u32],
     ks: &mut [u32],
+    oh: &mut [u32],
+    ow: &mut [u32],
+    ok: &mut [u32],
+    eh: &mut [u32],
+    ew: &mut [u32],
+    ek: &mut [u32],
 ) -> Lent {
-    if op <= LEND {
+    if op <= LEND || op == SWAP {
         return lend(op, l, at, a, rule, text);
     }
-    let chart = first(after(s, l.chart_at), l.chart_len);
-    let r = bytes_upto(rule, l.rule);
-    let t = bytes_upto(text, l.text);
-    let x = upto(h, l.head);
-    let y = upto(ws, l.nodes);
-    let z = upto(ks, l.kids);
-    call(
-        op,
-        chart,
-        l.beside,
-        &rule[..r],
-        &text[..t],
-        &mut h[..x],
-        &mut ws[..y],
-        &mut ks[..z],
-        a,
-    );
+    if l.swapped {
+        on(s, op, a, l, rule, text, oh, ow, ok, h, ws, ks, eh, ew, ek);
+    } else {
+        on(s, op, a, l, rule, text, h, ws, ks, oh, ow, ok, eh, ew, ek);
+    }
     l
 }
 
@@ -327,6 +345,12 @@ fn turns(
     h: &mut [u32],
     ws: &mut [u32],
     ks: &mut [u32],
+    oh: &mut [u32],
+    ow: &mut [u32],
+    ok: &mut [u32],
+    eh: &mut [u32],
+    ew: &mut [u32],
+    ek: &mut [u32],
 ) {
     let mut l = nothing_lent();
     let mut at = 0;
@@ -335,7 +359,24 @@ fn turns(
         let a = first(after(rest, 2), word(rest, 1) as usize);
         let here = place(at);
         at = next(at, a.len(), s.len());
-        l = turn(s, word(rest, 0), here, a, l, rule, text, h, ws, ks);
+        l = turn(
+            s,
+            word(rest, 0),
+            here,
+            a,
+            l,
+            rule,
+            text,
+            h,
+            ws,
+            ks,
+            oh,
+            ow,
+            ok,
+            eh,
+            ew,
+            ek,
+        );
     }
 }
 
@@ -345,11 +386,30 @@ fn run(s: &[u32]) {
     let mut h = [0u32; HEAD];
     let mut ws = [0u32; NODES];
     let mut ks = [0u32; KIDS];
-    turns(s, &mut rule, &mut text, &mut h, &mut ws, &mut ks);
+    let mut oh = [0u32; HEAD];
+    let mut ow = [0u32; NODES];
+    let mut ok = [0u32; KIDS];
+    let mut eh = [0u32; HEAD];
+    let mut ew = [0u32; NODES];
+    let mut ek = [0u32; KIDS];
+    turns(
+        s,
+        &mut rule,
+        &mut text,
+        &mut h,
+        &mut ws,
+        &mut ks,
+        &mut oh,
+        &mut ow,
+        &mut ok,
+        &mut eh,
+        &mut ew,
+        &mut ek,
+    );
 }
 
 fn main() {
-    let mut input = io::large_buffer();
+    let mut input = [0u8; INPUT];
     let got = io::read_full(0, &mut input);
     let mut s = [0u32; NUMBERS];
     let n = numbers::numbers(&input[..got], &mut s);

@@ -50,9 +50,9 @@ fn kind_args(a: &[u32]) -> KindArgs {
 }
 
 // The types that stand at the front of `out`, if the call was done.
-fn listed(a: DoneAnswer, out: &[u32], count: u32) {
+pub(crate) fn listed(a: DoneAnswer, out: &[u32], count: usize) {
     match a {
-        DoneAnswer::Done => writing::types(first(out, count as usize)),
+        DoneAnswer::Done => writing::types(first(out, count)),
         DoneAnswer::Refused(n) => writing::refused(n),
     }
 }
@@ -80,7 +80,7 @@ fn new_vars_into<'a>(
         word(a, 1),
         out,
     );
-    listed(r, out, word(a, 1));
+    listed(r, out, word(a, 1) as usize);
 }
 
 fn new_vars<'a>(

@@ -7,7 +7,7 @@ use Rattle.promise.specs.Promise.{doneReply}
 use Rattle.promise.specs.declared.DoneAnswer.{DoneAnswer}
 use Rattle.theorem.specs.Memory.{memoryOf, roomy, Did}
 use Rattle.theorem.specs.Steps as ran
-use Rattle.theorem.specs.Contracts.{Contracts, arg1, arg2, arg3, arg4}
+use Rattle.theorem.specs.Contracts.{Contracts, arg1, arg2, arg3, arg4, arg5, arg6, arg7, otherWords}
 
 pub contracts : Contracts
 contracts = record {
@@ -29,12 +29,20 @@ contracts = record {
   nil = record { free = λ κs a. tt; is = λ κs a r x p. ran.nil r p };
   force-kind = record { free = λ κs a. tt; is = λ κs a r x p. ran.force-kind (arg1 a) r p };
   unify = record { free = λ κs a. tt; is = λ κs a r x p. ran.unify (arg1 a) (arg2 a) r p };
+  import = record {
+    free = λ κs a. tt;
+    is = λ κs a r x p. ran.import (otherWords a) (arg4 a .now) (arg5 a) (arg6 a .now) (arg7 a .now) (arg7 x .now) r p;
+  };
   find = record { free = λ κs a. tt; is = λ κs a r x p. ran.find (arg1 a) r p };
   find-mut = record { free = λ κs a. tt; is = λ κs a r x p. ran.find-mut (arg1 a) r p };
   node = record { free = λ κs a. tt; is = λ κs a r x p. ran.node (arg1 a) r p };
   child = record { free = λ κs a. tt; is = λ κs a r x p. ran.child (arg1 a) (arg2 a) r p };
   child-name = record { free = λ κs a. tt; is = λ κs a r x p. ran.child-name (arg1 a) (arg2 a) r p };
   figures = record { free = λ κs a. tt; is = λ κs a r x p. ran.figures r p };
+  export = record {
+    free = λ κs a. tt;
+    is = λ κs a r x p. ran.export (arg4 a) (arg5 a) (otherWords a) (otherWords x) (arg6 a .now) (arg7 a .now) (arg7 x .now) r p;
+  };
   unify-types = record { free = λ κs a. tt; is = λ κs a r x p. ran.unify-types (arg1 a .now) (arg2 a .now) (arg3 a) r p };
   unify-objects = record { free = λ κs a. tt; is = λ κs a r x p. ran.unify-objects (arg1 a .now) (arg2 a .now) (arg3 a) r p };
   unify-impl-type = record { free = λ κs a. tt; is = λ κs a r x p. ran.unify-impl-type (arg1 a) (arg2 a .now) (arg3 a) (arg4 a .now) r p };

@@ -22,6 +22,7 @@ use Rattle.lent_tests.specs.Given.{entriesIn}
 use Rattle.promise.specs.Promise.{typeReply, boolReply, doneReply}
 use Rattle.promise.specs.Lists.{listReply}
 use Rattle.promise.specs.Prints.{countReply, partReply}
+use Rattle.promise.specs.Exports.{exportReply}
 use Rattle.promise.specs.declared.DoneAnswer.the-variants.{Done}
 use Rattle.call_open.proofs as opening
 use Rattle.call_make.proofs as call_make
@@ -38,9 +39,12 @@ use Rattle.call_unify.proofs as call_unify
 use Rattle.call_unify.specs.Answers.{unifyReply}
 use Rattle.call_unify_lists.proofs as call_unify_lists
 use Rattle.call_impl.proofs as call_impl
+use Rattle.call_import.proofs as call_import
+use Rattle.call_export.proofs as call_export
 use Rattle.call_show.proofs as call_show
 use Rattle.call_show_part.proofs as call_show_part
-use Rattle.theorem.specs.Memory.{Memory, memoryOf, Fixed, Opened}
+use Rattle.theorem.specs.Memory.{Memory, memoryOf, Fixed, lent, held, roomy, Opened}
+use Rattle.copy_parts.specs.Places.{listOf}
 use Rattle.theorem.specs.Steps.{replied, Ran}
 
 -- of a function that asks A of its arguments and whose callers learn L: it asks nothing, so any numbers at all may be lent, and whatever is learnt is S
@@ -74,6 +78,19 @@ arg3 a = a .1 .1 .1 .1 .1 .1 .1 .1 .1 .0
 
 abbrev pub arg4 : {A B C D R : Type 0} → Args (A × (B × (C × (D × R)))) → D
 arg4 a = a .1 .1 .1 .1 .1 .1 .1 .1 .1 .1 .0
+
+abbrev pub arg5 : {A B C D E R : Type 0} → Args (A × (B × (C × (D × (E × R))))) → E
+arg5 a = a .1 .1 .1 .1 .1 .1 .1 .1 .1 .1 .1 .0
+
+abbrev pub arg6 : {A B C D E F R : Type 0} → Args (A × (B × (C × (D × (E × (F × R)))))) → F
+arg6 a = a .1 .1 .1 .1 .1 .1 .1 .1 .1 .1 .1 .1 .0
+
+abbrev pub arg7 : {A B C D E F G R : Type 0} → Args (A × (B × (C × (D × (E × (F × (G × R))))))) → G
+arg7 a = a .1 .1 .1 .1 .1 .1 .1 .1 .1 .1 .1 .1 .1 .0
+
+-- a second store's words, which stand first behind these: an import's source, an export's destination
+abbrev pub otherWords : {R : Type 0} → Args (Slice × (Slice × (Slice × R))) → Memory
+otherWords a = memoryOf (arg1 a .now) (arg2 a .now) (arg3 a .now)
 
 -- a step on what was lent: the call c answers r and leaves the words m
 abbrev pub RanOn : {R : Type 0} → Args R → Call → Reply → Memory → Type 0
@@ -110,6 +127,10 @@ pub record Contracts : Type 0 where
       (λ κs a r x. RanOn a (call.forceKind (tyOf (arg1 a .0))) (replied says.forced (forcedReply (wordsIn a .kids) r)) (headLeft a x))
   pub unify : Allows call_unify.unify.Kinds.ps call_unify.unify.Kinds.r call_unify.unify.Reads.Asked call_unify.unify.Reads.Learnt
       (λ κs a r x. RanOn a (call.unify (tyOf (arg1 a .0)) (tyOf (arg2 a .0))) (replied says.answer (unifyReply r)) (nodesLeft a x))
+  -- `import`, whose source is any numbers
+  pub import : Allows call_import.import.Kinds.ps call_import.import.Kinds.r call_import.import.Reads.Asked call_import.import.Reads.Learnt
+      (λ κs a r x. RanOn a (call.import (lent (otherWords a)) (typesIn (arg4 a .now)) (listOf (arg5 a) (arg6 a .now)) (length (arg7 a .now)))
+      (replied says.types (listReply r (take (length (arg4 a .now)) (arg7 x .now)))) (wordsIn x))
   -- the reads
   pub find : Allows call_find.find.Kinds.ps call_find.find.Kinds.r call_find.find.Reads.Asked call_find.find.Reads.Learnt
       (λ κs a r x. RanOn a (call.read (call.find (tyOf (arg1 a .0)))) (replied says.type (typeReply r)) (wordsIn a))
@@ -123,6 +144,9 @@ pub record Contracts : Type 0 where
       (λ κs a r x. RanOn a (call.read (call.name (tyOf (arg1 a .0)) (arg2 a))) (replied says.a-name (nameReply r)) (wordsIn a))
   pub figures : Allows call_read.figures.Kinds.ps call_read.figures.Kinds.r call_read.figures.Reads.Asked call_read.figures.Reads.Learnt
       (λ κs a r x. RanOn a (call.read call.figures) (replied says.a-store (figuresReply (wordsIn a .nodes) (wordsIn a .kids) r)) (wordsIn a))
+  pub export : Allows call_export.export.Kinds.ps call_export.export.Kinds.r call_export.export.Reads.Asked call_export.export.Reads.Learnt
+      (λ κs a r x. RanOn a (call.read (call.export (arg4 a) (arg5 a) (roomy (arg4 a) (arg5 a) (otherWords a)) (typesIn (arg6 a .now)) (length (arg7 a .now))))
+      (replied says.exported (exportReply r (take (length (arg6 a .now)) (arg7 x .now)) (held (otherWords x)))) (wordsIn a))
   -- the calls "Outside the theorem's first half"
   pub unify-types : Allows call_unify_lists.unify_types.Kinds.ps call_unify_lists.unify_types.Kinds.r call_unify_lists.unify_types.Reads.Asked call_unify_lists.unify_types.Reads.Learnt
       (λ κs a r x. RanOn a (call.later (call.unifyTypes (typesIn (arg1 a .now)) (typesIn (arg2 a .now)) (arg3 a .0))) (replied says.answer (unifyReply r)) (nodesLeft a x))

@@ -3,11 +3,9 @@
 -- contract says beside (a list's rest, marks, a buffer, an exported store) stands in the same record.
 use mathlib.Core.List.{List}
 use mathlib.Core.Bool.{Bool, false}
-use mathlib.Core.Option.{Option, none, some}
 use Prim.Native.Nat.{ℕ}
 use lib.ListN.{length, take}
-use Rattle.scope.specs.Base.{pick}
-use Rattle.scope.specs.Types.{Ty, tyOf}
+use Rattle.scope.specs.Types.{tyOf}
 use Rattle.scope.specs.Calls.{findCall, findMutCall, nodeCall, childCall, nameCall, figuresCall, newCall, newStructCall, newUnionCall, newVarCall, newVarsCall, errorCall, nilCall}
 use Rattle.scope.specs.Calls.{unifyCall, unifyTypesCall, unifyObjectsCall, unifyImplTypeCall, approxEqCall, unifyFnSigCall, forceKindCall, finishInferenceCall, finishWhereCall}
 use Rattle.scope.specs.Calls.{findRelatedCall, selfInverseCall, isNilCall, getModCall, resetCall, importCall, exportCall, showCall, showImplTypeCall}
@@ -43,16 +41,13 @@ use Rattle.call_force.specs.Replies.{forcedReply, ForcePromised}
 use Rattle.call_force.specs.declared.ForcedAnswer.{ForcedAnswer}
 use Rattle.call_unify.specs.Answers.{unifyReply}
 use Rattle.call_unify.specs.declared.UnifyAnswer.{UnifyAnswer}
+use Rattle.copy_parts.specs.Places.{listOf}
 use Rattle.theorem.specs.Memory.{Memory, memoryOf, Fixed, env, lent, held, roomy, Did, DidList, Told}
 
 -- the code's answer among every call's; "A refusal returns only its number"
 abbrev pub replied : {A : Type 0} → (A → Reply) → promise.Reply A → Reply
 replied f (value a) = f a
 replied f (refusal n) = number n
-
--- a parameter list is listed or not
-abbrev pub listOf : Bool → List ℕ → Option (List Ty)
-listOf b ps = pick b (some (typesIn ps)) none
 
 pub data Ran (f : Fixed) : Memory → Call → Reply → Memory → Type 0 where
   -- the makers

@@ -1,17 +1,12 @@
--- `make::new_var` meets its contract. The header read is the store's, and the push of an Unknown is what newVar does.
+-- `make::new_var` meets its contract: an Unknown with no children counted is newVar's.
 -- Assumes nothing.
+use Rattle.make.proofs.MakeLaws.{var-made}
 use borrow.Author.Needs.{needs}
-use Rattle.make.proofs.MakeLaws.{pushable, var-made}
 use Rattle.make.proofs.new_var.Statement.{statement}
 use Rattle.make.proofs.new_var.Tie as tie
 
-read-header-requires : tie.Need-read-header-requires
-read-header-requires c κs = search needs
-
-push-requires : tie.Need-push-requires
-push-requires c κs =
-    let x = c .before .before .read-header in
-    pushable (x .result) (c .before .before .before .before .before .before .before .pre) (x .ensures)
+new-blank-requires : tie.Need-new-blank-requires
+new-blank-requires c κs = search needs
 
 same-length : tie.Need-same-length
 same-length c = search needs
@@ -20,11 +15,7 @@ same-length-2 : tie.Need-same-length-2
 same-length-2 c = search needs
 
 returns : tie.Need-returns
-returns c =
-    let p = c .before .before .before .before in
-    let x = p .before .before .before in
-    var-made (x .before .before .before .before .before .pre) (x .read-header .ensures) (p .push .ensures)
+returns c = var-made (c .before .before .before .before .new-blank .ensures)
 
 pub new-var-spec : {M : Type 1} → statement M
-new-var-spec =
-    tie.close (tie.spec read-header-requires push-requires same-length same-length-2 returns)
+new-var-spec = tie.close (tie.spec new-blank-requires same-length same-length-2 returns)

@@ -136,12 +136,12 @@ count-child-requires t c κs = search needs
 
 count-sub-count : (t : ℕ) → count-lts.Need-sub-count (count-claims t) (count-at t) count.Post count-Inv-loop count-μ-loop
 count-sub-count t c =
-    let i = c .before .before .before .before .before .before .before .before .before .before .before .before .before .before .before .before .before .before .before in
+    let i = c .before .before .before .before .before .before .before .before .before .before .before .before .before .before .before .before .before .before .before .before in
     omega (arith, i .if1 .left)
 
 count-count-requires : (t : ℕ) → count-lts.Need-count-requires (count-claims t) (count-at t) count.Post count-Inv-loop count-μ-loop
 count-count-requires t c κs =
-    let l = c .before .before .before in
+    let l = c .before .before .before .before in
     let m = l .before .before .before .before .before in
     let i = m .before .before .before .before .before .before .before .before .before .before .before in
     let s = i .before .before .before .before in (
@@ -150,19 +150,19 @@ count-count-requires t c κs =
     )
 
 count-add-j : (t : ℕ) → count-lts.Need-add-j (count-claims t) (count-at t) count.Post count-Inv-loop count-μ-loop
-count-add-j t c = omega (arith, c .before .before .before .before .before .loop-test .taken)
+count-add-j t c = omega (arith, c .before .before .before .before .before .before .loop-test .taken)
 
 count-loop-less : (t : ℕ) → count-lts.Need-loop-less (count-claims t) (count-at t) count.Post count-Inv-loop count-μ-loop
-count-loop-less t c = omega (arith, c .before .before .before .before .before .loop-test .taken)
+count-loop-less t c = omega (arith, c .before .before .before .before .before .before .loop-test .taken)
 
 count-loop-again : (t : ℕ) → count-lts.Need-loop-again (count-claims t) (count-at t) count.Post count-Inv-loop count-μ-loop
 count-loop-again t c =
     let o = c .before .before in
-    let h = o .before .before in
+    let h = o .before .before .before in
     let l = h .before in
     let p = l .before in
     let s = p .before .before .before .before .before .before .before .before .before .before .before .before .before .before .before .before .before .before .before .before in
-    turn-next (p .loop .inv) (s .pre .1 .source) (kid-next (s .args .ks .now) _ _ _ (l .loop-test .taken) (h .child .ensures)) (o .count .ensures)
+    turn-next (p .loop .inv) (s .pre .1 .source) (kid-next (s .args .ks .now) _ _ _ (h .child .result) (l .loop-test .taken) (h .child .ensures)) (o .count .ensures)
     (o .count .kept .1 .1 .1 .1 .0)
 
 count-same-length-2 : (t : ℕ) → count-lts.Need-same-length-2 (count-claims t) (count-at t) count.Post count-Inv-loop count-μ-loop

@@ -1,0 +1,5 @@
+pub mod ApartLaws
+pub mod MovedLaws
+pub mod SparedLaws
+pub mod FillLaws
+pub mod NodeLaws
