@@ -22,7 +22,8 @@ use Rattle.call_ask.specs.Replies.{modReply, marksReply}
 use Rattle.call_force.specs.Replies.{forcedReply}
 use Rattle.call_unify.specs.Answers.{unifyReply}
 use Rattle.theorem.specs.Memory.{Memory, Fixed, env, lent, held, roomy}
-use Rattle.theorem.specs.Steps.{Ran, listOf}
+use Rattle.copy_parts.specs.Places.{listOf}
+use Rattle.theorem.specs.Steps.{Ran}
 use Rattle.theorem.specs.Steps as ran
 use Rattle.theorem.proofs.StepLaws.{CleanWords, Stepped, did, told}
 use Rattle.theorem.proofs.PrintLaws.{show-tells, impl-tells, parted, shown}
