@@ -119,11 +119,11 @@ opened = record { found = found; left = met .0 }
 
 pub run : Runs fixed m₀ m₅
 run =
-    ran.new-var {m = m₀} {m′ = m₁} 5 (type.Is (t 0)) (met .1)
-    then ran.new-var {m = m₁} {m′ = m₂} 6 (type.Is (t 1)) (met .2)
-    then ran.new-var {m = m₂} {m′ = m₃} 7 (type.Is (t 2)) (met .3)
-    then ran.unify {m = m₃} {m′ = m₄} (t 0) (t 1) (unified.Is result.Success) (met .4)
-    then ran.unify {m = m₄} {m′ = m₅} (t 1) (t 2) (unified.Is result.Success) (met .5)
+    ran.new-var {m = m₀} {h = m₁ .head} {ws = m₁ .nodes} 5 (type.Is (t 0)) (met .1)
+    then ran.new-var {m = m₁} {h = m₂ .head} {ws = m₂ .nodes} 6 (type.Is (t 1)) (met .2)
+    then ran.new-var {m = m₂} {h = m₃ .head} {ws = m₃ .nodes} 7 (type.Is (t 2)) (met .3)
+    then ran.unify {m = m₃} {ws = m₄ .nodes} (t 0) (t 1) (unified.Is result.Success) (met .4)
+    then ran.unify {m = m₄} {ws = m₅ .nodes} (t 1) (t 2) (unified.Is result.Success) (met .5)
     then stop
 
 pub nodes-left : held m₅ .nodes ≡ Child (ty false 1) ∷ Root (Unknown 6) 3 ∷ Child (ty false 1) ∷ []

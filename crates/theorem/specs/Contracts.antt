@@ -43,8 +43,8 @@ use Rattle.call_import.proofs as call_import
 use Rattle.call_export.proofs as call_export
 use Rattle.call_show.proofs as call_show
 use Rattle.call_show_part.proofs as call_show_part
-use Rattle.theorem.specs.Memory.{Memory, memoryOf, Fixed, lent, held, roomy, Opened}
 use Rattle.copy_parts.specs.Places.{listOf}
+use Rattle.theorem.specs.Memory.{Memory, memoryOf, nodesNow, headNow, Fixed, lent, held, roomy, Opened}
 use Rattle.theorem.specs.Steps.{replied, Ran}
 
 -- of a function that asks A of its arguments and whose callers learn L: it asks nothing, so any numbers at all may be lent, and whatever is learnt is S
@@ -96,12 +96,12 @@ otherWords a = memoryOf (arg1 a .now) (arg2 a .now) (arg3 a .now)
 abbrev pub RanOn : {R : Type 0} → Args R → Call → Reply → Memory → Type 0
 RanOn a c r m = Ran (fixedIn a) (wordsIn a) c r m
 
--- what a call leaves that writes the header and the nodes, and one that writes the nodes alone
+-- the words at exit, of a call that writes the header and the nodes, and of one that writes the nodes alone
 abbrev pub headLeft : {R Q : Type 0} → Args R → Args Q → Memory
-headLeft a x = memoryOf (wordsIn x .head) (wordsIn x .nodes) (wordsIn a .kids)
+headLeft a x = headNow (wordsIn a) (wordsIn x .head) (wordsIn x .nodes)
 
 abbrev pub nodesLeft : {R Q : Type 0} → Args R → Args Q → Memory
-nodesLeft a x = memoryOf (wordsIn a .head) (wordsIn x .nodes) (wordsIn a .kids)
+nodesLeft a x = nodesNow (wordsIn a) (wordsIn x .nodes)
 
 pub record Contracts : Type 0 where
   -- the slices that `open` was lent, when it answered Done

@@ -27,6 +27,13 @@ pub record Memory : Type 0 where
 abbrev pub memoryOf : List ℕ → List ℕ → List ℕ → Memory
 memoryOf h ws ks = record { head = h; nodes = ws; kids = ks }
 
+-- the words after a call that writes the nodes alone, and after one that writes the header too
+abbrev pub nodesNow : Memory → List ℕ → Memory
+nodesNow m ws = memoryOf (m .head) ws (m .kids)
+
+abbrev pub headNow : Memory → List ℕ → List ℕ → Memory
+headNow m h ws = memoryOf h ws (m .kids)
+
 -- "chart and texts stay as they are": what every call of a list reads beside the words
 pub record Fixed : Type 0 where
   pub chart : List ℕ

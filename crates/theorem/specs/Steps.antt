@@ -42,7 +42,7 @@ use Rattle.call_force.specs.declared.ForcedAnswer.{ForcedAnswer}
 use Rattle.call_unify.specs.Answers.{unifyReply}
 use Rattle.call_unify.specs.declared.UnifyAnswer.{UnifyAnswer}
 use Rattle.copy_parts.specs.Places.{listOf}
-use Rattle.theorem.specs.Memory.{Memory, memoryOf, Fixed, env, lent, held, roomy, Did, DidList, Told}
+use Rattle.theorem.specs.Memory.{Memory, nodesNow, headNow, Fixed, env, lent, held, roomy, Did, DidList, Told}
 
 -- the code's answer among every call's; "A refusal returns only its number"
 abbrev pub replied : {A : Type 0} → (A → Reply) → promise.Reply A → Reply
@@ -53,25 +53,25 @@ pub data Ran (f : Fixed) : Memory → Call → Reply → Memory → Type 0 where
   -- the makers
   new : {m m′ : Memory} (k : KindArgs) (entries : List ℕ) (r : TypeAnswer) → Did (newCall (env f) (lent m) (given k entries)) (typeReply r) m m′
       → Ran f m (call.make (call.new (given k entries))) (replied says.type (typeReply r)) m′
-  new-var : {m m′ : Memory} (span : ℕ) (r : TypeAnswer) → Did (newVarCall (env f) (lent m) span) (typeReply r) m m′
-      → Ran f m (call.make (call.newVar span)) (replied says.type (typeReply r)) m′
+  new-var : {m : Memory} {h ws : List ℕ} (span : ℕ) (r : TypeAnswer) → Did (newVarCall (env f) (lent m) span) (typeReply r) m (headNow m h ws)
+      → Ran f m (call.make (call.newVar span)) (replied says.type (typeReply r)) (headNow m h ws)
   new-struct : {m m′ : Memory} (number : ℕ) (ts : List ℕ) (r : TypeAnswer) → Did (newStructCall (env f) (lent m) number (typesIn ts)) (typeReply r) m m′
       → Ran f m (call.make (call.newStruct number (typesIn ts))) (replied says.type (typeReply r)) m′
   new-union : {m m′ : Memory} (number : ℕ) (ts : List ℕ) (r : TypeAnswer) → Did (newUnionCall (env f) (lent m) number (typesIn ts)) (typeReply r) m m′
       → Ran f m (call.make (call.newUnion number (typesIn ts))) (replied says.type (typeReply r)) m′
-  new-vars : {m m′ : Memory} (span count : ℕ) (out out′ : List ℕ) (r : DoneAnswer)
-      → DidList (newVarsCall (env f) (lent m) span count (length out)) r count m m′ out out′
-      → Ran f m (call.make (call.newVars span count (length out))) (replied says.types (listReply r (take count out′))) m′
-  error : {m m′ : Memory} (r : TypeAnswer) → Did (errorCall (env f) (lent m)) (typeReply r) m m′
-      → Ran f m (call.make call.error) (replied says.type (typeReply r)) m′
-  nil : {m m′ : Memory} (r : TypeAnswer) → Did (nilCall (env f) (lent m)) (typeReply r) m m′
-      → Ran f m (call.make call.nil) (replied says.type (typeReply r)) m′
+  new-vars : {m : Memory} {h ws : List ℕ} (span count : ℕ) (out out′ : List ℕ) (r : DoneAnswer)
+      → DidList (newVarsCall (env f) (lent m) span count (length out)) r count m (headNow m h ws) out out′
+      → Ran f m (call.make (call.newVars span count (length out))) (replied says.types (listReply r (take count out′))) (headNow m h ws)
+  error : {m : Memory} {h ws : List ℕ} (r : TypeAnswer) → Did (errorCall (env f) (lent m)) (typeReply r) m (headNow m h ws)
+      → Ran f m (call.make call.error) (replied says.type (typeReply r)) (headNow m h ws)
+  nil : {m : Memory} {h ws : List ℕ} (r : TypeAnswer) → Did (nilCall (env f) (lent m)) (typeReply r) m (headNow m h ws)
+      → Ran f m (call.make call.nil) (replied says.type (typeReply r)) (headNow m h ws)
   -- `force_kind`, `unify`
   force-kind : {m : Memory} {h ws : List ℕ} (t : «Type») (r : ForcedAnswer)
       → ForcePromised (forceKindCall (env f) (lent m) (tyOf (t .0))) r (m .head) (m .nodes) (m .kids) h ws
-      → Ran f m (call.forceKind (tyOf (t .0))) (replied says.forced (forcedReply (m .kids) r)) (memoryOf h ws (m .kids))
-  unify : {m m′ : Memory} (a b : «Type») (r : UnifyAnswer) → Did (unifyCall (env f) (lent m) (tyOf (a .0)) (tyOf (b .0))) (unifyReply r) m m′
-      → Ran f m (call.unify (tyOf (a .0)) (tyOf (b .0))) (replied says.answer (unifyReply r)) m′
+      → Ran f m (call.forceKind (tyOf (t .0))) (replied says.forced (forcedReply (m .kids) r)) (headNow m h ws)
+  unify : {m : Memory} {ws : List ℕ} (a b : «Type») (r : UnifyAnswer) → Did (unifyCall (env f) (lent m) (tyOf (a .0)) (tyOf (b .0))) (unifyReply r) m (nodesNow m ws)
+      → Ran f m (call.unify (tyOf (a .0)) (tyOf (b .0))) (replied says.answer (unifyReply r)) (nodesNow m ws)
   -- `import`, whose source is any numbers
   import : {m m′ : Memory} (from : Memory) (ts : List ℕ) (listed : Bool) (params out out′ : List ℕ) (r : DoneAnswer)
       → DidList (importCall (env f) (lent m) (lent from) (typesIn ts) (listOf listed params) (length out)) r (length ts) m m′ out out′
@@ -79,8 +79,8 @@ pub data Ran (f : Fixed) : Memory → Call → Reply → Memory → Type 0 where
   -- the reads
   find : {m : Memory} (t : «Type») (r : TypeAnswer) → Told (findCall (env f) (lent m) (tyOf (t .0))) (typeReply r) m
       → Ran f m (call.read (call.find (tyOf (t .0)))) (replied says.type (typeReply r)) m
-  find-mut : {m m′ : Memory} (t : «Type») (r : TypeAnswer) → Did (findMutCall (env f) (lent m) (tyOf (t .0))) (typeReply r) m m′
-      → Ran f m (call.read (call.findMut (tyOf (t .0)))) (replied says.type (typeReply r)) m′
+  find-mut : {m : Memory} {ws : List ℕ} (t : «Type») (r : TypeAnswer) → Did (findMutCall (env f) (lent m) (tyOf (t .0))) (typeReply r) m (nodesNow m ws)
+      → Ran f m (call.read (call.findMut (tyOf (t .0)))) (replied says.type (typeReply r)) (nodesNow m ws)
   node : {m : Memory} (t : «Type») (r : NodeAnswer) → NodePromised (nodeCall (env f) (lent m) (tyOf (t .0))) r (m .head) (m .nodes) (m .kids)
       → Ran f m (call.read (call.node (tyOf (t .0)))) (replied says.a-node (nodeReply (m .kids) r)) m
   child : {m : Memory} (t : «Type») (j : ℕ) (r : ChildAnswer) → Told (childCall (env f) (lent m) (tyOf (t .0)) j) (childReply r) m
@@ -96,22 +96,22 @@ pub data Ran (f : Fixed) : Memory → Call → Reply → Memory → Type 0 where
       → Ran f m (call.read (call.export nodes children (roomy nodes children to) (typesIn ts) (length out)))
       (replied says.exported (exportReply r (take (length ts) out′) (held to′))) m
   -- the calls "Outside the theorem's first half"
-  unify-types : {m m′ : Memory} (xs ys : List ℕ) (inv : Inverted) (r : UnifyAnswer)
-      → Did (unifyTypesCall (env f) (lent m) (typesIn xs) (typesIn ys) (inv .0)) (unifyReply r) m m′
-      → Ran f m (call.later (call.unifyTypes (typesIn xs) (typesIn ys) (inv .0))) (replied says.answer (unifyReply r)) m′
-  unify-objects : {m m′ : Memory} (xs ys : List ℕ) (inv : Inverted) (r : UnifyAnswer)
-      → Did (unifyObjectsCall (env f) (lent m) (entriesIn xs) (entriesIn ys) (inv .0)) (unifyReply r) m m′
-      → Ran f m (call.later (call.unifyObjects (entriesIn xs) (entriesIn ys) (inv .0))) (replied says.answer (unifyReply r)) m′
-  unify-impl-type : {m m′ : Memory} (a : Impl) (xs : List ℕ) (b : Impl) (ys : List ℕ) (r : UnifyAnswer)
-      → Did (unifyImplTypeCall (env f) (lent m) (implMeans a xs) (implMeans b ys)) (unifyReply r) m m′
-      → Ran f m (call.later (call.unifyImplType (implMeans a xs) (implMeans b ys))) (replied says.answer (unifyReply r)) m′
-  unify-fn-sig : {m m′ : Memory} (xs : List ℕ) (p : «Type») (ys : List ℕ) (q : «Type») (r : UnifyAnswer)
-      → Did (unifyFnSigCall (env f) (lent m) (typesIn xs) (tyOf (p .0)) (typesIn ys) (tyOf (q .0))) (unifyReply r) m m′
-      → Ran f m (call.later (call.unifyFnSig (typesIn xs) (tyOf (p .0)) (typesIn ys) (tyOf (q .0)))) (replied says.answer (unifyReply r)) m′
-  finish-inference : {m m′ : Memory} (r : DoneAnswer) → Did (finishInferenceCall (env f) (lent m)) (doneReply r) m m′
-      → Ran f m (call.later call.finishInference) (replied (λ u. says.nothing) (doneReply r)) m′
-  finish-inference-where : {m m′ : Memory} (bytes : List ℕ) (r : DoneAnswer) → Did (finishWhereCall (env f) (lent m) bytes) (doneReply r) m m′
-      → Ran f m (call.later (call.finishWhere bytes)) (replied (λ u. says.nothing) (doneReply r)) m′
+  unify-types : {m : Memory} {ws : List ℕ} (xs ys : List ℕ) (inv : Inverted) (r : UnifyAnswer)
+      → Did (unifyTypesCall (env f) (lent m) (typesIn xs) (typesIn ys) (inv .0)) (unifyReply r) m (nodesNow m ws)
+      → Ran f m (call.later (call.unifyTypes (typesIn xs) (typesIn ys) (inv .0))) (replied says.answer (unifyReply r)) (nodesNow m ws)
+  unify-objects : {m : Memory} {ws : List ℕ} (xs ys : List ℕ) (inv : Inverted) (r : UnifyAnswer)
+      → Did (unifyObjectsCall (env f) (lent m) (entriesIn xs) (entriesIn ys) (inv .0)) (unifyReply r) m (nodesNow m ws)
+      → Ran f m (call.later (call.unifyObjects (entriesIn xs) (entriesIn ys) (inv .0))) (replied says.answer (unifyReply r)) (nodesNow m ws)
+  unify-impl-type : {m : Memory} {ws : List ℕ} (a : Impl) (xs : List ℕ) (b : Impl) (ys : List ℕ) (r : UnifyAnswer)
+      → Did (unifyImplTypeCall (env f) (lent m) (implMeans a xs) (implMeans b ys)) (unifyReply r) m (nodesNow m ws)
+      → Ran f m (call.later (call.unifyImplType (implMeans a xs) (implMeans b ys))) (replied says.answer (unifyReply r)) (nodesNow m ws)
+  unify-fn-sig : {m : Memory} {ws : List ℕ} (xs : List ℕ) (p : «Type») (ys : List ℕ) (q : «Type») (r : UnifyAnswer)
+      → Did (unifyFnSigCall (env f) (lent m) (typesIn xs) (tyOf (p .0)) (typesIn ys) (tyOf (q .0))) (unifyReply r) m (nodesNow m ws)
+      → Ran f m (call.later (call.unifyFnSig (typesIn xs) (tyOf (p .0)) (typesIn ys) (tyOf (q .0)))) (replied says.answer (unifyReply r)) (nodesNow m ws)
+  finish-inference : {m : Memory} {ws : List ℕ} (r : DoneAnswer) → Did (finishInferenceCall (env f) (lent m)) (doneReply r) m (nodesNow m ws)
+      → Ran f m (call.later call.finishInference) (replied (λ u. says.nothing) (doneReply r)) (nodesNow m ws)
+  finish-inference-where : {m : Memory} {ws : List ℕ} (bytes : List ℕ) (r : DoneAnswer) → Did (finishWhereCall (env f) (lent m) bytes) (doneReply r) m (nodesNow m ws)
+      → Ran f m (call.later (call.finishWhere bytes)) (replied (λ u. says.nothing) (doneReply r)) (nodesNow m ws)
   find-related : {m : Memory} (t : «Type») (marks marks′ : List ℕ) (r : DoneAnswer)
       → MarksPromised (findRelatedCall (env f) (lent m) (tyOf (t .0)) marks) r (held m) marks marks′
       → Ran f m (call.later (call.findRelated (tyOf (t .0)) marks)) (replied says.marks (marksReply marks′ r)) m
