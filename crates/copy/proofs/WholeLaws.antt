@@ -1,16 +1,16 @@
 -- From the table's run to scope's: an import is one list from an empty table on, an export three, one after another, into a store just opened. What is
 -- needed, and no more, is what the copies make. Assumes nothing.
-use mathlib.Core.Path.{_≡_, refl, ap, sym, _∙_, subst}
+use mathlib.Core.Path.{_≡_, ap, sym, _∙_, subst}
 use mathlib.Core.Bool.{true}
 use mathlib.Core.Option.{Option, none}
 use mathlib.Core.List.{List, List·Memᴰ, Memᴰ·append-left, Memᴰ·append-right}
-use Prim.Native.Nat.{ℕ, _+_, _≤_, _<_}
+use Prim.Native.Nat.{ℕ, _≤_, _<_}
 use native.Mathlib.Omega.{arith}
 use lib.ListN.{length, replicate}
 use Rattle.scope.specs.Types.{Ty}
 use Rattle.scope.specs.Nodes.{Node, Store, opened, remembering}
-use Rattle.scope.specs.Import.{MovedAll, import, export, firstOf}
-use Rattle.scope.specs.Needs.{needs, listed, exported}
+use Rattle.scope.specs.Import.{import, export, firstOf}
+use Rattle.scope.specs.Needs.{listed, exported}
 use Rattle.scope.proofs.Mapping.{Source}
 use Rattle.scope.proofs.CopyTable.{Copying, Copied, CopiedAll, copyAll, copyF, uncopied, copy-types, copy-dest, copy-nodes, copy-children}
 use Rattle.scope.proofs.CopyTable.{copyExport, copy-export-types, copy-export-dest, copy-export-nodes, copy-export-children}

@@ -1,6 +1,6 @@
 -- `copy::export` meets its contract: three lists, one after another over one table, are what the export makes, and what the source remembers is
 -- remembered as its copy. Assumes nothing.
-use mathlib.Core.Path.{_∙_}
+use native.Mathlib.Omega.{arith}
 use Rattle.scope.specs.Limits.{MAX-NODES}
 use Rattle.copy.proofs.WholeLaws.{error-copyable, nil-copyable, list-copyable, rememberable, export-is}
 use borrow.Author.Needs.{needs}
@@ -71,7 +71,7 @@ same-length c =
     let z = a .before .before .before .before .before .before .before .before .before .before .before .before .before in
     let e = z .before .before .before .before .before .before .before .before .before .before .before .before in
     let o = e .before .before .before .before .before .before .before .before .before .before .before in
-    r .remember .kept .0 ∙ (a .copy-all .kept .1 .1 .1 .1 .1 .1 .0 ∙ (z .copy-remembered2 .kept .1 .1 .1 .1 .0 ∙ (e .copy-remembered .kept .1 .1 .1 .1 .0 ∙ o .«open» .kept .0)))
+    omega (arith, r .remember .kept .0, a .copy-all .kept .1 .1 .1 .1 .1 .1 .0, z .copy-remembered2 .kept .1 .1 .1 .1 .0, e .copy-remembered .kept .1 .1 .1 .1 .0, o .«open» .kept .0)
 
 same-length-2 : tie.Need-same-length-2
 same-length-2 c =
@@ -79,7 +79,7 @@ same-length-2 c =
     let z = a .before .before .before .before .before .before .before .before .before .before .before .before .before in
     let e = z .before .before .before .before .before .before .before .before .before .before .before .before in
     let o = e .before .before .before .before .before .before .before .before .before .before .before in
-    a .copy-all .kept .1 .1 .1 .1 .1 .1 .1 .0 ∙ (z .copy-remembered2 .kept .1 .1 .1 .1 .1 .0 ∙ (e .copy-remembered .kept .1 .1 .1 .1 .1 .0 ∙ o .«open» .kept .1 .0))
+    omega (arith, a .copy-all .kept .1 .1 .1 .1 .1 .1 .1 .0, z .copy-remembered2 .kept .1 .1 .1 .1 .1 .0, e .copy-remembered .kept .1 .1 .1 .1 .1 .0, o .«open» .kept .1 .0)
 
 same-length-3 : tie.Need-same-length-3
 same-length-3 c =
@@ -87,10 +87,12 @@ same-length-3 c =
     let z = a .before .before .before .before .before .before .before .before .before .before .before .before .before in
     let e = z .before .before .before .before .before .before .before .before .before .before .before .before in
     let o = e .before .before .before .before .before .before .before .before .before .before .before in
-    a .copy-all .kept .1 .1 .1 .1 .1 .1 .1 .1 .0 ∙ (z .copy-remembered2 .kept .1 .1 .1 .1 .1 .1 .0 ∙ (e .copy-remembered .kept .1 .1 .1 .1 .1 .1 .0 ∙ o .«open» .kept .1 .1 .0))
+    omega (arith, a .copy-all .kept .1 .1 .1 .1 .1 .1 .1 .1 .0, z .copy-remembered2 .kept .1 .1 .1 .1 .1 .1 .0, e .copy-remembered .kept .1 .1 .1 .1 .1 .1 .0, o .«open» .kept .1 .1 .0)
 
 same-length-4 : tie.Need-same-length-4
-same-length-4 c = search needs
+same-length-4 c =
+    let a = c .before .before .before .before .before .before .before .before .before .before .before .before .before .before .before in
+    a .copy-all .kept .1 .1 .1 .1 .1 .1 .1 .1 .1 .1 .0
 
 returns : tie.Need-returns
 returns c =
