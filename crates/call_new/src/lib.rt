@@ -170,7 +170,7 @@ fn bare_slot(w: u32) -> Slot
 }
 
 // The listed types as entries without names.
-fn put_types(es: &mut [u32], types: &[u32])
+pub fn put_types(es: &mut [u32], types: &[u32])
     requires { ⌜ childWords (length (now types)) ≤ length (now es) ⌝ }
     ensures { λ _. ⌜ Listed (now (types .entry)) (length (now (types .entry))) (now (es .exit)) ⌝ }
 {
