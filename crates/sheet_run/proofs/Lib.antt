@@ -1,5 +1,2 @@
 -- The laws that belong to no one function
-pub mod SoundLines
-pub mod Laws
-pub mod ShowLaws
 pub mod RunLaws

@@ -24,8 +24,9 @@ use Rattle.promise.specs.Promise.{value, refusal}
 use Rattle.promise.specs.Prints.{PrintPromised}
 use Rattle.sheet_calls.specs.Sheet.{SheetStore}
 use Rattle.sheet_say.specs.Front.{Front}
-use Rattle.sheet_run.specs.Ran.{nextStart, lineLeaves, Ran}
-use Rattle.sheet_run.proofs.Laws.{held-sound}
+use Rattle.sheet_line.specs.Ran.{lineLeaves, Ran}
+use Rattle.sheet_line.proofs.Laws.{held-sound}
+use Rattle.sheet_run.specs.Starts.{nextStart}
 
 -- the store before the first line
 pub start-sound : {h₀ ws₀ ks₀ h ws ks : List ℕ} → Became h₀ ws₀ ks₀ h ws ks sheetStore → (storeIn h ws ks ≡ sheetStore) × SheetStore h ws ks

@@ -1,1 +1,1 @@
-pub mod Ran
+pub mod Starts

@@ -33,8 +33,8 @@ use Rattle.sheet_calls.specs.Sheet.{SheetStore}
 use Rattle.sheet_calls.proofs.Laws.{sheet-clean, sheet-reads}
 use Rattle.sheet_say.specs.Front.{Front}
 use Rattle.sheet_say.specs.Texts.{typeText, unifyText, doneText}
-use Rattle.sheet_run.specs.Ran.{lineLeaves, Ran}
-use Rattle.sheet_run.proofs.SoundLines.{line-sound}
+use Rattle.sheet_line.specs.Ran.{lineLeaves, Ran}
+use Rattle.sheet_line.proofs.SoundLines.{line-sound}
 
 -- slices that hold a sound store
 pub held-sound : {h ws ks : List ℕ} {s : Store} → Holds h ws ks s → SoundFacts sheetEnv s → SheetStore h ws ks

@@ -1,10 +1,8 @@
 -- What a line of `sheet` prints and leaves: scope's `sheetLine` of the store that the slices hold, and every byte of the lent buffer.
 use mathlib.Core.Path.{_≡_}
 use mathlib.Core.List.{List, _++_}
-use Prim.Native.Nat.{ℕ, _+_}
-use lib.Dec.{ltb}
-use lib.ListN.{length, take, drop}
-use Rattle.scope.specs.Base.{pick}
+use Prim.Native.Nat.{ℕ}
+use lib.ListN.{take, drop}
 use Rattle.scope.specs.Limits.{SHEET-TEXT}
 use Rattle.scope.specs.Types.{Ty}
 use Rattle.scope.specs.Nodes.{Store}
@@ -14,10 +12,6 @@ use Rattle.scope.specs.Sheet.{Line, sheetEnv, sheetLine}
 use Rattle.store.specs.Holds.{Became}
 use Rattle.sheet_calls.specs.Sheet.{SheetStore}
 use Rattle.sheet_say.specs.Front.{Front}
-
--- where the line after the one that ends at e starts: past its newline, which a last line may lack
-abbrev pub nextStart : List ℕ → ℕ → ℕ
-nextStart s e = pick (ltb e (length s)) (e + 1) e
 
 -- what `show` leaves in the buffer before anything else is printed: it writes into the first 4,096 bytes, and where the text does not fit these are its first
 abbrev pub showLeaves : Store → Ty → List ℕ → List ℕ

@@ -22,7 +22,7 @@ use Rattle.promise.specs.Promise.{value, refusal}
 use Rattle.promise.specs.Prints.{PrintPromised}
 use Rattle.sheet_say.specs.Front.{Front}
 use Rattle.sheet_say.specs.Texts.{refusedText}
-use Rattle.sheet_run.specs.Ran.{showLeaves, Shown}
+use Rattle.sheet_line.specs.Ran.{showLeaves, Shown}
 
 -- what an outcome counts
 abbrev counted : Outcome ℕ → ℕ

@@ -1,4 +1,4 @@
--- `sheet_run::do_line` meets its contract: each line is one call on the store, and what is printed is its answer.
+-- `sheet_line::do_line` meets its contract: each line is one call on the store, and what is printed is its answer.
 -- Assumes nothing.
 use mathlib.Core.Path.{refl, sym}
 use mathlib.Core.List.{[], _∷_}
@@ -8,10 +8,10 @@ use Rattle.scope.specs.Types.{tyOf}
 use Rattle.scope.specs.Sheet.{Line, sheetLine}
 use Rattle.layout.specs.Words.{storeIn}
 use Rattle.sheet_calls.proofs.PlainLaws.{tuple-plain, ref-plain, never-plain, default-plain}
-use Rattle.sheet_run.proofs.Laws.{ran, same-store, show-store, ran-type, ran-unify, ran-done}
+use Rattle.sheet_line.proofs.Laws.{ran, same-store, show-store, ran-type, ran-unify, ran-done}
 use borrow.Author.Needs.{needs}
-use Rattle.sheet_run.proofs.do_line.Statement.{statement}
-use Rattle.sheet_run.proofs.do_line.Tie as tie
+use Rattle.sheet_line.proofs.do_line.Statement.{statement}
+use Rattle.sheet_line.proofs.do_line.Tie as tie
 
 enum-told : tie.Need-enum-told
 enum-told c = search needs

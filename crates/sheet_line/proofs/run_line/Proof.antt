@@ -1,9 +1,9 @@
--- `sheet_run::run_line` meets its contract: the line is read, and then run.
+-- `sheet_line::run_line` meets its contract: the line is read, and then run.
 -- Assumes nothing.
 use native.Mathlib.Omega.{arith}
 use borrow.Author.Needs.{needs}
-use Rattle.sheet_run.proofs.run_line.Statement.{statement}
-use Rattle.sheet_run.proofs.run_line.Tie as tie
+use Rattle.sheet_line.proofs.run_line.Statement.{statement}
+use Rattle.sheet_line.proofs.run_line.Tie as tie
 
 slice-aggregate-parse : tie.Need-slice-aggregate-parse
 slice-aggregate-parse c = search needs

@@ -1,14 +1,14 @@
--- `sheet_run::show_line` meets its contract: the text, or the refusal over what `show` left.
+-- `sheet_line::show_line` meets its contract: the text, or the refusal over what `show` left.
 -- Assumes nothing.
 use mathlib.Core.Path.{sym}
 use lib.Seq.{length-take-le}
 use Rattle.scope.specs.Limits.{SHEET-TEXT}
 use Rattle.scope.specs.Types.{tyOf}
 use Rattle.layout.specs.Words.{storeIn}
-use Rattle.sheet_run.proofs.ShowLaws.{shown-fits, shown-back}
+use Rattle.sheet_line.proofs.ShowLaws.{shown-fits, shown-back}
 use borrow.Author.Needs.{needs}
-use Rattle.sheet_run.proofs.show_line.Statement.{statement}
-use Rattle.sheet_run.proofs.show_line.Tie as tie
+use Rattle.sheet_line.proofs.show_line.Statement.{statement}
+use Rattle.sheet_line.proofs.show_line.Tie as tie
 
 slice-relend-prefix-show : tie.Need-slice-relend-prefix-show
 slice-relend-prefix-show c = search needs
