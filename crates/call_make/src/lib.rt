@@ -90,7 +90,7 @@ pub fn new_vars<'a>(
 }
 
 // `error` and `nil` "make one node each and return it until `reset`".
-fn nodes_for(was: Remembered) -> u32
+pub fn nodes_for(was: Remembered) -> u32
     ensures { λ r. ⌜ r ≡ nodesFor (rememberedMeans was) ⌝ }
 {
     match was {

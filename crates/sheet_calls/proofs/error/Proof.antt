@@ -1,0 +1,61 @@
+-- `sheet_calls::error` meets its contract: one that is remembered needs no node, and the header says whether one is.
+-- Assumes nothing.
+use Rattle.scope.specs.Make.{makeError}
+use Rattle.scope.specs.Calls.{errorCall}
+use Rattle.call_make.proofs.MakerLaws.{maker-back, maker-ready, maker-done, error-tested}
+use Rattle.sheet_calls.proofs.Laws.{as-sheet, sheet-room}
+use borrow.Author.Needs.{needs}
+use Rattle.sheet_calls.proofs.error.Statement.{statement}
+use Rattle.sheet_calls.proofs.error.Tie as tie
+
+read-header-requires : tie.Need-read-header-requires
+read-header-requires c κs = search needs
+
+nodes-for-requires : tie.Need-nodes-for-requires
+nodes-for-requires c κs = search needs
+
+room-requires : tie.Need-room-requires
+room-requires c κs = search needs
+
+same-length : tie.Need-same-length
+same-length c = search needs
+
+returns : tie.Need-returns
+unfolding errorCall
+returns c =
+    let a = c .before .before .before .before .before .before .before .before .before .args in
+    let t = error-tested (c .before .before .before .before .read-header .ensures) (c .before .before .nodes-for .ensures) (sheet-room (c .before .before .before .before .before .before .before .before .before .pre) (c .before .before .nodes-for .result) (c .before .room .ensures (a .ws .now) (a .ks .now))) in
+    as-sheet (c .before .before .before .before .before .before .before .before .before .pre) errorCall (maker-back t makeError (c .if1 .taken))
+
+error-requires : tie.Need-error-requires
+error-requires c κs =
+    let a = c .before .before .before .before .before .before .before .before .before .before .before .args in
+    let t = sheet-room (c .before .before .before .before .before .before .before .before .before .before .before .pre) (c .before .before .before .before .nodes-for .result) (c .before .before .before .room .ensures (a .ws .now) (a .ks .now)) in
+    maker-ready (error-tested (c .before .before .before .before .before .before .read-header .ensures) (c .before .before .before .before .nodes-for .ensures) t) (c .before .before .if1 .left)
+
+same-length-2 : tie.Need-same-length-2
+same-length-2 c = search needs
+
+same-length-3 : tie.Need-same-length-3
+same-length-3 c = search needs
+
+returns-2 : tie.Need-returns-2
+unfolding errorCall
+returns-2 c =
+    let a = c .before .before .before .before .before .before .before .before .before .before .before .before .before .before .before .before .args in
+    let t = error-tested (c .before .before .before .before .before .before .before .before .before .before .before .read-header .ensures) (c .before .before .before .before .before .before .before .before .before .nodes-for .ensures) (sheet-room (c .before .before .before .before .before .before .before .before .before .before .before .before .before .before .before .before .pre) (c .before .before .before .before .before .before .before .before .before .nodes-for .result) (c .before .before .before .before .before .before .before .before .room .ensures (a .ws .now) (a .ks .now))) in
+    as-sheet (c .before .before .before .before .before .before .before .before .before .before .before .before .before .before .before .before .pre) errorCall (maker-done t makeError (c .before .before .before .before .before .before .before .if1 .left) (c .before .before .before .before .error .ensures))
+
+pub error-spec : {M : Type 1} → statement M
+error-spec =
+    tie.close
+    (tie.spec
+    read-header-requires
+    nodes-for-requires
+    room-requires
+    same-length
+    returns
+    error-requires
+    same-length-2
+    same-length-3
+    returns-2)
