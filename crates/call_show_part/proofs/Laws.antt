@@ -25,7 +25,7 @@ use Rattle.promise.specs.Promise.{refusal, outcomeBy}
 use Rattle.promise.specs.Prints.{countReply, PrintPromised, partReply, PartPromised}
 use Rattle.promise.specs.declared.CountAnswer.{CountAnswer}
 use Rattle.promise.specs.declared.CountAnswer.the-variants.{Is, Refused}
-use Rattle.call_show_part.specs.Parts.{codeIn, partIn}
+use Rattle.call_show_part.specs.Parts.{codeIn, partIn, Back}
 
 -- a refusal that is told as itself: not 0, and not 7
 
@@ -102,7 +102,8 @@ handed-full bs (Refused n) s buf q =
     }
 
 handed-text : (b : Bool) (s : Store) (bs buf : List ℕ)
-    → Hands (pick b (record { answer = done (length bs) s; buffer = bs ++ drop (length bs) buf; part = bs }) (record { answer = refused SHORT; buffer = take (length buf) bs; part = take (length buf) bs }))
+    → Hands (pick b (record { answer = done (length bs) s; buffer = bs ++ drop (length bs) buf; part = bs })
+    (record { answer = refused SHORT; buffer = take (length buf) bs; part = take (length buf) bs }))
 handed-text true s bs buf = handed-fit s bs (drop (length bs) buf)
 handed-text false s bs buf = handed-full (take (length buf) bs)
 
@@ -123,3 +124,7 @@ show-hands e l t buf = handed (lentTests e l ++ (outside (storeOf l) (t ∷ []) 
 pub impl-hands : (e : Env) (l : Lent) (a : ImplType) (buf : List ℕ) → Hands (showImplTypeCall e l a buf)
 unfolding showImplTypeCall
 impl-hands e l a buf = handed (lentTests e l ++ implTests e (storeOf l) (a ∷ [])) refl (storeOf l) (showImplType e (storeOf l .nodes) a) buf
+
+-- what was handed back is what the second form promises
+pub hand-promised : {p : Printed} {r : CountAnswer} {s : Store} {buf : List ℕ} {n : ℕ} {part : List ℕ} → Handed p r s buf → Back r buf n part → PartPromised p n part s
+hand-promised h b = rw (b .told, b .front) (h .promised)

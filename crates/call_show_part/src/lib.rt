@@ -2,13 +2,15 @@
 // part." The refusal's number, 0 where none stands, is told through a lent number beside the part. A slice that goes into the answer has no value of its own
 // at the end, so a contract cannot say what lies past the part; the first forms, which these call, say it of the whole buffer.
 ghost use mathlib.Core.Path.{_≡_};
+ghost use Prim.Native.Nat.{_≤_};
+ghost use lib.ListN.{length};
 ghost use Rattle.scope.specs.Types.{tyOf};
 ghost use Rattle.scope.specs.Calls.{showCall, showImplTypeCall};
 ghost use Rattle.types.specs.Impls.{implMeans};
 ghost use Rattle.layout.specs.Words.{lentOf, storeIn};
 ghost use Rattle.sound.specs.Tests.{envIn};
 ghost use Rattle.promise.specs.Prints.{PartPromised};
-ghost use Rattle.call_show_part.specs.Parts.{codeIn, partIn};
+ghost use Rattle.call_show_part.specs.Parts.{codeIn, partIn, Back};
 use chart::Beside;
 use promise::CountAnswer;
 use refusals::NO_REFUSAL;
@@ -41,6 +43,16 @@ fn part_in(r: CountAnswer, room: usize) -> usize
     }
 }
 
+// The part, and the number beside it.
+fn hand_back<'b>(buf: &'b mut [u8], r: CountAnswer, code: &mut u32) -> &'b mut [u8]
+    requires { ⌜ partIn r (length (now buf)) ≤ length (now buf) ⌝ }
+    ensures { λ p. ⌜ Back r (now (buf .entry)) (now (code .exit)) (now p) ⌝ }
+{
+    *code = code_in(r);
+    let n = part_in(r, buf.len());
+    &mut buf[..n]
+}
+
 // A type's text.
 pub fn show_part<'a, 'b>(
     chart: &[u32],
@@ -60,9 +72,7 @@ pub fn show_part<'a, 'b>(
         (now (code .exit)) (now r) (storeIn (now (h .entry)) (now (ws .entry)) (now (ks .entry))) ⌝ }
 {
     let r = call_show::show(chart, beside, rule, text, h, ws, ks, t, buf);
-    *code = code_in(r);
-    let n = part_in(r, buf.len());
-    &mut buf[..n]
+    hand_back(buf, r, code)
 }
 
 // An impl type's text, its types lent beside it.
@@ -85,7 +95,5 @@ pub fn show_impl_type_part<'a, 'b>(
         (now (code .exit)) (now r) (storeIn (now (h .entry)) (now (ws .entry)) (now (ks .entry))) ⌝ }
 {
     let r = call_show::show_impl_type(chart, beside, rule, text, h, ws, ks, a, xs, buf);
-    *code = code_in(r);
-    let n = part_in(r, buf.len());
-    &mut buf[..n]
+    hand_back(buf, r, code)
 }

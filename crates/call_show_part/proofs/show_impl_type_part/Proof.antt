@@ -1,39 +1,29 @@
--- `call_show_part::show_impl_type_part` meets its contract: the part is as long as the first form's answer says, and is the buffer's front.
+-- `call_show_part::show_impl_type_part` meets its contract: what the first form promises of the buffer, its part promises.
 -- Assumes nothing.
-use mathlib.Core.Path.{sym}
 use Rattle.types.specs.Impls.{implMeans}
-use borrow.Table.Elements.{length-take-le}
 use borrow.Author.Needs.{needs}
-use Rattle.layout.specs.Words.{lentOf, storeIn}
+use Rattle.layout.specs.Words.{lentOf}
 use Rattle.sound.specs.Tests.{envIn}
-use Rattle.call_show_part.proofs.Laws.{impl-hands}
+use Rattle.call_show_part.proofs.Laws.{impl-hands, hand-promised}
 use Rattle.call_show_part.proofs.show_impl_type_part.Statement.{statement}
 use Rattle.call_show_part.proofs.show_impl_type_part.Tie as tie
 
 show-impl-type-requires : tie.Need-show-impl-type-requires
 show-impl-type-requires c κs = search needs
 
-code-in-requires : tie.Need-code-in-requires
-code-in-requires c κs = search needs
-
-part-in-requires : tie.Need-part-in-requires
-part-in-requires c κs = search needs
-
-slice-aggregate-result : tie.Need-slice-aggregate-result
-slice-aggregate-result c =
-    let a = c .before .before .before .before .before .before .before .before .before .before .before .before .before .before .before .args in
+hand-back-requires : tie.Need-hand-back-requires
+hand-back-requires c κs =
+    let a = c .before .before .before .before .before .before .before .before .before .before .before .before .before .args in
     let e = envIn (a .chart .now) (a .beside) (a .rule .now) (a .text .now) in
-    let l = lentOf (a .h .now) (a .ws .now) (a .ks .now) in
-    let h = impl-hands e l (implMeans (a .a) (a .xs .now)) (a .buf .now) (c .before .before .before .before .before .show-impl-type .result) _ _ (c .before .before .before .before .before .show-impl-type .ensures) in
-    sym (length-take-le _ _ (rw (c .before .part-in .ensures) (h .room)))
+    let first = c .before .before .before .show-impl-type in
+    impl-hands e (lentOf (a .h .now) (a .ws .now) (a .ks .now)) (implMeans (a .a) (a .xs .now)) (a .buf .now) (first .result) _ _ (first .ensures) .room
 
 returns : tie.Need-returns
 returns c =
-    let a = c .before .before .before .before .before .before .before .before .before .before .before .before .before .before .before .args in
+    let a = c .before .before .before .before .before .before .before .before .before .before .before .before .before .before .args in
     let e = envIn (a .chart .now) (a .beside) (a .rule .now) (a .text .now) in
-    let l = lentOf (a .h .now) (a .ws .now) (a .ks .now) in
-    let h = impl-hands e l (implMeans (a .a) (a .xs .now)) (a .buf .now) (c .before .before .before .before .before .show-impl-type .result) _ _ (c .before .before .before .before .before .show-impl-type .ensures) in
-    rw (c .before .part-in .ensures, c .before .before .code-in .ensures) (h .promised)
+    let first = c .before .before .before .before .show-impl-type in
+    hand-promised (impl-hands e (lentOf (a .h .now) (a .ws .now) (a .ks .now)) (implMeans (a .a) (a .xs .now)) (a .buf .now) (first .result) _ _ (first .ensures)) (c .hand-back .ensures)
 
 pub show-impl-type-part-spec : {M : Type 1} → statement M
-show-impl-type-part-spec = tie.close (tie.spec show-impl-type-requires code-in-requires part-in-requires slice-aggregate-result returns)
+show-impl-type-part-spec = tie.close (tie.spec show-impl-type-requires hand-back-requires returns)
