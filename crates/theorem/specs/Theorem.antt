@@ -1,5 +1,6 @@
--- Demand 3 about the compiled calls on lent memory. The slices are what `open` left (Memory's `Opened`); each step of the list is a public call's own
--- contract (Steps' `Ran`), and starts from the words that the last one left (Runs' `Runs`). Nothing is asked of the words but that.
+-- Demand 3 about the compiled calls on lent memory. A list starts from the slices that `open` left (`Opened`); each step is a public call's own contract
+-- (`Ran`), and starts from the words that the last one left (`Runs`). `held m` is the store that the words m hold, `lent m` what they are to a call, `env f`
+-- what every call reads of chart and texts. Answers are the code's. Demand 3's own sentences stand without quotation marks; what these mark is 01's.
 use mathlib.Core.Path.{_≡_}
 use mathlib.Core.Bool.{true}
 use mathlib.Core.Logic.{_↔_}
@@ -17,7 +18,7 @@ use Rattle.theorem.specs.Steps.{Ran}
 use Rattle.theorem.specs.Runs.{Runs, _then_, callsOf, repliesOf, joined, EachStep, summed, asks, unifyAnswers, noDefault, nodesBy}
 use Rattle.theorem.specs.Contracts.{Contracts}
 
--- the first half
+-- the first half: "the makers, `import`, `force_kind`, `unify`", and the reads
 pub record FirstHalf (f : Fixed) {m m′ : Memory} (run : Runs f m m′) : Type 0 where
   -- if every unify answered Success, finite trees fit the store that the words hold exactly when they fit every node as made and every pair unified
   pub success : EachStep (unifyAnswers (λ x. x ≡ Success)) run
@@ -31,7 +32,7 @@ pub record FirstHalf (f : Fixed) {m m′ : Memory} (run : Runs f m m′) : Type 
       → (v : Val) → Proper (env f) v → EachStep (asks (env f) v) before → PairFits (env f) v a b
       → SelfInverseNode (env f) v (held m₁ .nodes)
 
--- the second half
+-- the second half: "these and the next section's calls without `reset`"
 pub record SecondHalf (f : Fixed) {m m′ : Memory} (run : Runs f m m′) : Type 0 where
   -- a pair that once got Success gets it again: "if `unify` of them, as the next call, answers so"; the code has no other answer
   pub again : {m₁ m₂ m₃ : Memory} {a b : Ty} {r : Reply} (before : Runs f m m₁) (call : Ran f m₁ (unify a b) (answer Success) m₂) (later : Runs f m₂ m′)
@@ -45,7 +46,7 @@ pub record SecondHalf (f : Fixed) {m m′ : Memory} (run : Runs f m m′) : Type
   -- no node is over twelve parent steps from its root
   pub twelve : (i : ℕ) → i < length (held m′ .nodes) → rooted 12 (held m′ .nodes) i ≡ true
 
--- of one list, from the slices that `open` left with room for n nodes and c children
+-- of one list: "Each half is a single claim about the whole list, and not one for each call"
 pub record ListHolds (f : Fixed) (n c : ℕ) {m m′ : Memory} (run : Runs f m m′) : Type 0 where
   -- the words read as the store that the definitions' list leaves
   pub words : lent m′ ≡ reads (after (env f) (opened n c) (callsOf run))
@@ -55,7 +56,7 @@ pub record ListHolds (f : Fixed) (n c : ℕ) {m m′ : Memory} (run : Runs f m m
   pub second : Each inSecondHalf (callsOf run) → SecondHalf f run
 
 pub record Theorem : Type 0 where
-  -- every public function's own contract is a step
+  -- what each public function was proved to do, on any numbers at all, is a step
   pub contracts : Contracts
-  -- and of every list of steps all this holds: "Each half is a single claim about the whole list"
+  -- all that holds of every list of steps, with slices opened for n nodes and c children: "Each list starts from a store just opened, with no node"
   pub lists : (f : Fixed) (n c : ℕ) (m m′ : Memory) → Opened n c m → (run : Runs f m m′) → ListHolds f n c run
