@@ -1,11 +1,12 @@
 // Runs a list of calls through the public calls and writes what each answers. The list is text on standard input: a call's number, how many numbers
-// follow, and these. What each number means stands in `making`, `asking` and `joining`; the ones here set what is lent and write words into it.
+// follow, and these. What each number means stands in `making`, `asking`, `joining` and `printing`; the ones here set what is lent and write words into it.
 ghost use Prim.Native.Nat.{_<_};
 
 mod asking; // calls that change no store
 mod joining; // unify and its family
 mod making; // open, reset, the makers, forcing and finishing
 mod numbers; // text to numbers
+mod printing; // show and show_impl_type
 mod writing; // answers to text
 
 use crate::numbers::after;
@@ -258,7 +259,11 @@ fn call<'a>(
         asking::call(op, chart, beside, rule, text, h, ws, ks, a);
         return;
     }
-    joining::call(op, chart, beside, rule, text, h, ws, ks, a);
+    if op < printing::SHOW {
+        joining::call(op, chart, beside, rule, text, h, ws, ks, a);
+        return;
+    }
+    printing::call(op, chart, beside, rule, text, h, ws, ks, a);
 }
 
 // Where a call's numbers stand: behind its own and their count.
