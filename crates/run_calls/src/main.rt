@@ -1,6 +1,6 @@
 // Runs a list of calls through the public calls and writes what each answers. The list is text on standard input: a call's number, how many numbers
-// follow, and these. What each number means stands in `making`, `asking`, `joining`, `moving` and `flipping`; the ones here set what is lent and write words
-// into it. There are two stores, one in hand and the other, which an import reads.
+// follow, and these. What each number means stands in `making`, `asking`, `joining`, `moving`, `printing` and `flipping`; the ones here set what is lent and
+// write words into it. There are two stores, one in hand and the other, which an import reads.
 ghost use Prim.Native.Nat.{_<_};
 
 mod asking; // calls that change no store
@@ -9,6 +9,7 @@ mod joining; // unify and its family
 mod making; // open, reset, the makers, forcing and finishing
 mod moving; // import and export
 mod numbers; // text to numbers
+mod printing; // show and show_impl_type
 mod writing; // answers to text
 
 use crate::numbers::after;
@@ -197,7 +198,11 @@ fn call<'a>(
         asking::call(op, chart, beside, rule, text, h, ws, ks, a);
         return;
     }
-    joining::call(op, chart, beside, rule, text, h, ws, ks, a);
+    if op < printing::SHOW {
+        joining::call(op, chart, beside, rule, text, h, ws, ks, a);
+        return;
+    }
+    printing::call(op, chart, beside, rule, text, h, ws, ks, a);
 }
 
 // Where a call's numbers stand: behind its own and their count.
