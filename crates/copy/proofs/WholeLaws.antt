@@ -24,7 +24,6 @@ use Rattle.layout.proofs.Laws.{length-decode}
 use Rattle.store.specs.Holds.{Became, Beyond, Room}
 use Rattle.store.specs.Entries.{typesIn}
 use Rattle.store.proofs.Laws.{store-nodes, store-count, beyond-trans}
-use Rattle.make.specs.Made.{Rememberable}
 use Rattle.make.proofs.MakeLaws.{head-error, head-nil}
 use Rattle.copy_type.specs.Words.{copyingAt, Spared}
 use Rattle.copy_type.proofs.SparedLaws.{spared-trans}
@@ -242,9 +241,6 @@ module _ (sh sw sk ts : List ℕ) {nodes children : ℕ} {h ws ks out : List ℕ
 
           spared : Spared 0 h₁ ws₁ ks₁ h₄ ws₄ ks₄
           spared = spared-trans (a .spared) (spared-trans (b .spared) (c .spared))
-
-          pub rememberable : Rememberable h₄ ws₄ ks₄ r₁ r₂
-          rememberable = record { clean = c .spared .clean; error = a .fits; nil = b .fits }
 
           module _ {h₅ : List ℕ} (d : Became h₄ ws₄ ks₄ h₅ ws₄ ks₄ (remembering (storeIn h₄ ws₄ ks₄) (rememberedMeans r₁) (rememberedMeans r₂))) where
             -- all that is remembered is what was copied

@@ -2,7 +2,7 @@
 -- remembered as its copy. Assumes nothing.
 use native.Mathlib.Omega.{arith}
 use Rattle.scope.specs.Limits.{MAX-NODES}
-use Rattle.copy.proofs.WholeLaws.{error-copyable, nil-copyable, list-copyable, rememberable, export-is}
+use Rattle.copy.proofs.WholeLaws.{error-copyable, nil-copyable, list-copyable, export-is}
 use borrow.Author.Needs.{needs}
 use Rattle.copy.proofs.export.Statement.{statement}
 use Rattle.copy.proofs.export.Tie as tie
@@ -58,11 +58,11 @@ remember-requires c κs =
     let a = c .before .before .before .before .before .before .before .before .before .before .before .before in
     let z = a .before .before .before .before .before .before .before .before .before .before .before .before .before in
     let e = z .before .before .before .before .before .before .before .before .before .before .before .before in
-    let o = e .before .before .before .before .before .before .before .before .before .before .before in
-    let x = o .before .before .before .before in
-    let s = x .before .before .before .before .before .before .before .before .before in
-    rememberable (s .args .sh .now) (s .args .sw .now) (s .args .sk .now) (s .args .ts .now) MAX-NODES (s .pre) (x .read-header .ensures)
-    (s .pre .source .few) (o .«open» .ensures) (e .copy-remembered .ensures) (z .copy-remembered2 .ensures) (a .copy-all .ensures)
+    record {
+      clean = a .copy-all .ensures .spared .clean;
+      error = e .copy-remembered .ensures .fits;
+      nil = search (e .copy-remembered .ensures .fits, z .copy-remembered2 .ensures .fits);
+    }
 
 same-length : tie.Need-same-length
 same-length c =
