@@ -3,6 +3,7 @@
 mod ours;
 mod shapes;
 mod stack;
+mod texts;
 mod vine;
 
 /// The stand-ins of compare/, and `types.rs` unchanged.
@@ -150,6 +151,9 @@ fn unify() {
 
 fn main() {
   let words: Vec<String> = std::env::args().collect();
+  if words.get(1).is_some_and(|word| word == "texts") {
+    return texts::report();
+  }
   if let [_, chain, bytes] = &words[..] {
     return stack::descend(chain, bytes.parse().expect("not a number"));
   }
@@ -159,5 +163,6 @@ fn main() {
   opening();
   // Deep recursion wants more than a main thread may have.
   std::thread::Builder::new().stack_size(256 << 20).spawn(unify).unwrap().join().unwrap();
+  texts::report();
   stack::report();
 }

@@ -22,12 +22,14 @@ unsafe extern "C" {
   fn faroalder_error(_: P, _: N, _: B, _: N, _: B, _: N, h: M, _: N, ws: M, _: N, ks: P, _: N) -> u64;
   fn faroalder_nil(_: P, _: N, _: B, _: N, _: B, _: N, h: M, _: N, ws: M, _: N, ks: P, _: N) -> u64;
   fn faroalder_unify(_: P, _: N, _: B, _: N, _: B, _: N, h: P, _: N, ws: M, _: N, ks: P, _: N, a: u32, b: u32) -> u64;
+  fn faroalder_show(_: P, _: N, _: B, _: N, _: B, _: N, h: P, _: N, ws: P, _: N, ks: P, _: N, t: u32, buf: *mut u8, _: N, n: *mut u64) -> bool;
   fn faroalder_direct_open(h: M, _: N, ws: M, _: N, ks: M, _: N, nodes: u32, children: u32);
   fn faroalder_direct_new_var(h: M, _: N, ws: M, _: N, ks: P, _: N, span: u32) -> u32;
   fn faroalder_direct_new_vars(h: M, _: N, ws: M, _: N, ks: P, _: N, span: u32, count: u32, out: M, _: N);
   fn faroalder_direct_new(h: M, _: N, ws: M, _: N, ks: M, _: N, code: u32, number: u32, entries: P, _: N) -> u32;
   fn faroalder_direct_error(h: M, _: N, ws: M, _: N, ks: P, _: N) -> u32;
   fn faroalder_direct_nil(h: M, _: N, ws: M, _: N, ks: P, _: N) -> u32;
+  fn faroalder_direct_show(_: P, _: N, _: B, _: N, _: B, _: N, ws: P, _: N, ks: P, _: N, n: u32, t: u32, buf: *mut u8, _: N) -> usize;
   fn faroalder_direct_unify(ws: M, _: N, ks: P, _: N, n: u32, rule: B, _: N, text: B, _: N, a: u32, b: u32) -> u32;
 }
 
@@ -35,7 +37,7 @@ unsafe extern "C" {
 const REFUSED: u64 = 1 << 32;
 
 const TUPLE: u32 = 1;
-const OBJECT: u32 = 2;
+pub const OBJECT: u32 = 2;
 const STRUCT: u32 = 4;
 pub const CLOSURE: u32 = 8;
 pub const REF: u32 = 9;
@@ -136,6 +138,41 @@ impl<const PUBLIC: bool> Ours<PUBLIC> {
         b,
       )
     }
+  }
+
+  /// A store whose names lie in another rule text.
+  pub fn with_rule(rule: Vec<u8>, nodes: usize) -> Self {
+    Ours { rule, ..Self::opened(nodes) }
+  }
+
+  /// A text's length, or none where the buffer is full.
+  pub fn show(&mut self, t: u32, buf: &mut [u8]) -> Option<usize> {
+    if PUBLIC {
+      let mut n = 0;
+      let fits = public!(self, faroalder_show, t, buf.as_mut_ptr(), buf.len(), &mut n);
+      assert!(fits || n == 7);
+      return fits.then_some(n as usize);
+    }
+    let Ours { rule, h, ws, ks } = self;
+    let end = unsafe {
+      faroalder_direct_show(
+        CHART.as_ptr(),
+        CHART.len(),
+        rule.as_ptr(),
+        rule.len(),
+        CHART_TEXT.as_ptr(),
+        CHART_TEXT.len(),
+        ws.as_ptr(),
+        ws.len(),
+        ks.as_ptr(),
+        ks.len(),
+        h[0],
+        t,
+        buf.as_mut_ptr(),
+        buf.len(),
+      )
+    };
+    (end <= buf.len()).then_some(end)
   }
 
   fn makes_public(&mut self, maker: Maker) {

@@ -38,6 +38,17 @@ fn chart() -> Chart {
 }
 
 impl Vine {
+  /// An object with these names over one type.
+  pub fn named(&mut self, names: &[String], kid: u32) -> u32 {
+    let fields = names.iter().map(|name| (Ident(name.clone()), ty(kid)));
+    let kind = TypeKind::Object(fields.collect());
+    self.new(kind)
+  }
+
+  pub fn show(&self, node: u32) -> String {
+    self.types.show(&self.chart, ty(node))
+  }
+
   fn new(&mut self, kind: TypeKind) -> u32 {
     view::node(self.types.new(kind)) as u32
   }

@@ -125,6 +125,29 @@ def joining():
     ]
 
 
+def printing():
+    """After `joining`: 0 is a child of 5, which is Never; record 8 is the fn trait, whose name is Fn."""
+    many = [0] * 256
+    return [
+        ("show", [4, 4], "refused 7 |{ a:|"),
+        ("show", [16, 4], "length 16 |{ a: !, ab: ~! }|"),
+        ("show", [3, 6], "refused 3 |...|"),
+        ("show_part", [0, 5], "code 7 ||"),
+        ("show_part", [1, 5], "code 0 |!|"),
+        ("show_part", [3, INVERSE + 6], "code 3 ||"),
+        ("show_impl_type", [2, 0, 1, 6], "refused 3 |..|"),
+        ("show_impl_type", [2, 0, 1, *many], "refused 4 |..|"),
+        ("show_impl_type", [2, 0, 1, 0], "refused 5 |..|"),
+        ("show_impl_type", [2, 1, 1, 6], "length 2 |??|"),
+        ("show_impl_type", [12, 0, 8, 0, 2, 2], "length 6 |fn !()......|"),
+        ("show_impl_type", [12, 0, 8, 0, INVERSE + 2, 0], "length 11 |fn !() -> !.|"),
+        ("show_impl_type", [12, 0, 8, 0, 5, 2], "length 12 |Fn[!, !, ()]|"),
+        ("show_impl_type", [2, 0, 8], "length 2 |Fn|"),
+        ("show_impl_type_part", [1, 1, 0], "code 7 |?|"),
+        ("show_impl_type_part", [1, 0, NONE], "code 5 ||"),
+    ]
+
+
 def broken(chart):
     records = [n for r in chart["records"] for n in
                [r["sort"], *place(r["name"]), *place(r["path"]), r["def"], r["flag"], r["trait"]]]
@@ -234,7 +257,7 @@ def said_and_wrote(number, rows, last):
 
 
 def refused(chart):
-    one = said_and_wrote(9999, opening() + making() + asking() + joining() + broken(chart),
+    one = said_and_wrote(9999, opening() + making() + asking() + joining() + printing() + broken(chart),
                          "nodes 1 of 6, children 0 of 6, error none, nil 0, reports 0\n  root 1 known 1 0 0 0\n")
     two = said_and_wrote(9998, source() + importing() + exporting(),
                          "nodes 4 of 4, children 3 of 3, error none, nil none, reports 0\n  root 1 unknown 7\n  root 1 unknown 7\n"

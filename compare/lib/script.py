@@ -14,9 +14,8 @@ OPS = {"rule": 0, "text": 1, "chart": 2, "beside": 3, "lend": 4, "poke": 5,
        "new_struct": 13, "new_union": 14, "new_var": 15, "new_vars": 16, "error": 17, "nil": 18, "force_kind": 19,
        "finish_inference": 20, "finish_inference_where": 21, "find": 30, "find_mut": 31, "node": 32, "child": 33,
        "child_name": 34, "figures": 35, "is_nil": 36, "self_inverse_plain": 37, "self_inverse": 38, "get_mod": 39, "find_related": 40, "store": 41, "unify": 50, "unify_types": 51,
-       "unify_objects": 52, "unify_fn_sig": 53, "unify_impl_type": 54, "approx_eq": 55, "import": 60, "export": 61, "flip_source": 62}
-# No part of the program, and they change no store.
-SKIPPED = ("show", "show_impl_type")
+       "unify_objects": 52, "unify_fn_sig": 53, "unify_impl_type": 54, "approx_eq": 55, "import": 60, "export": 61, "flip_source": 62,
+       "show": 70, "show_impl_type": 71, "show_part": 72, "show_impl_type_part": 73}
 HEAD_WORDS = 8
 NODE_ROOM, CHILD_ROOM = 2, 3  # the header's words for the capacities
 ERROR_KIND = "14 0 0 0"
@@ -136,6 +135,23 @@ ANSWERS = {
 }
 
 
+def bars(text):
+    """Bytes between bars; a cut may part a character's bytes."""
+    return "|" + text.decode("utf-8", "surrogateescape") + "|"
+
+
+def printed(call):
+    """A printer and its second form, each into a buffer that is longer than the text, and into one that is a byte too short."""
+    op, text, said, wrote = call["call"], bytes(call["answer"]["bytes"]), "", ""
+    args = [word(call["args"]["type"])] if op == "show" else [n for part in impl(call["args"]["impl"]) for n in part]
+    long, short = len(text) + 3, len(text) - 1
+    for room, whole, part in ((long, f"length {len(text)} {bars(text + b'...')}", f"code 0 {bars(text)}"),
+                              (short, f"refused 7 {bars(text[:-1])}", f"code 7 {bars(text[:-1])}")):
+        said += line(op, room, *args) + line(op + "_part", room, *args)
+        wrote += f"{whole}\n{part}\n"
+    return said, wrote
+
+
 def answer(a):
     return ANSWERS[a["is"]](a) + "\n"
 
@@ -200,7 +216,9 @@ def run(number, part, source):
     """One store's calls, and what they write; `source` is what imports read, as it is in the end."""
     said, wrote, made = line("case", number) + line("open", NODES, CHILDREN), f"case {number}\ndone\n", Made()
     for call in part["calls"]:
-        if call["call"] in SKIPPED:
+        if call["call"] in ("show", "show_impl_type"):
+            more = printed(call)
+            said, wrote = said + more[0], wrote + more[1]
             continue
         if call["call"] == "import":
             more = importing(call, source, made)

@@ -1,5 +1,6 @@
 -- The numbers that a caller in another language gets. A type is its word, and an answer of `unify` its place in the Rust's enum. A public call answers a
 -- value's number, which is below 4,294,967,296, or the sum of 4,294,967,296 and a refusal's number.
+use mathlib.Core.Bool.{Bool, true, false}
 use mathlib.Core.List.{List}
 use Prim.Native.Nat.{ℕ, _-_}
 use lib.Dec.{eqb, ltb}
@@ -16,6 +17,8 @@ use Rattle.promise.specs.declared.TypeAnswer.{TypeAnswer}
 use Rattle.promise.specs.declared.TypeAnswer.the-variants as type
 use Rattle.promise.specs.declared.DoneAnswer.{DoneAnswer}
 use Rattle.promise.specs.declared.DoneAnswer.the-variants as end
+use Rattle.promise.specs.declared.CountAnswer.{CountAnswer}
+use Rattle.promise.specs.declared.CountAnswer.the-variants as count
 use Rattle.call_unify.specs.declared.UnifyAnswer.{UnifyAnswer}
 use Rattle.call_unify.specs.declared.UnifyAnswer.the-variants as unify
 
@@ -45,6 +48,11 @@ resultIn r = pick (eqb r 0) Success (pick (eqb r 1) Failure Indeterminate)
 
 abbrev pub unifyIn : ℕ → UnifyAnswer
 unifyIn r = answerIn RESULTS (λ w. unify.Is (resultIn w)) unify.Refused r
+
+-- a length or a refusal's number, and beside it which of the two it is
+abbrev pub countIn : Bool → ℕ → CountAnswer
+countIn true n = count.Is n
+countIn false n = count.Refused n
 
 -- no fn trait, and four empty sigils
 abbrev pub bare : Beside

@@ -7,8 +7,10 @@ ghost use Rattle.scope.specs.Types.{tyOf};
 ghost use Rattle.scope.specs.Nodes.{opened};
 ghost use Rattle.scope.specs.Make.{new, newVar, newVars, makeError, makeNil};
 ghost use Rattle.scope.specs.Unify.{unify};
+ghost use Rattle.scope.specs.Show.{show};
 ghost use Rattle.scope.specs.Calls.{nodesFor};
 ghost use Rattle.names.specs.Place.{texts};
+ghost use Rattle.chart.specs.Env.{envOf};
 ghost use Rattle.layout.specs.Words.{storeIn, decode};
 ghost use Rattle.store.specs.Holds.{Became, Openable, Ready};
 ghost use Rattle.make.specs.Made.{MadeIs, MadeAllIs};
@@ -16,7 +18,9 @@ ghost use Rattle.make.specs.Given.{KindReady, kindGiven};
 ghost use Rattle.lent_kind.specs.Lent.{plainArgs, withFlag};
 ghost use Rattle.meeting.specs.Asks.{Pair};
 ghost use Rattle.unify.specs.Leaves.{Leaves};
-ghost use Rattle.bench.specs.Numbers.{typeWord, RESULTS, resultIn};
+ghost use Rattle.walk.specs.Asks.{Stands};
+ghost use Rattle.append.specs.Appended.{Appended};
+ghost use Rattle.bench.specs.Numbers.{typeWord, RESULTS, resultIn, bare};
 use make::Head;
 use names::NO_NAME;
 use types::Type;
@@ -125,4 +129,23 @@ pub extern "C" fn faroalder_direct_unify<'a>(
         (unify (texts (now (rule .entry)) (now (text .entry))) (decode (now (ws .entry)) (now (ks .entry)) n) (tyOf a) (tyOf b)) (resultIn r) ⌝ }
 {
     unify_lists::unify_all(ws, ks, n, rule, text, Type(a), Type(b)).number()
+}
+
+// The place where the text ends; one past the buffer where it does not fit.
+#[no_mangle]
+pub extern "C" fn faroalder_direct_show<'a>(
+    chart: &[u32],
+    rule: &'a [u8],
+    text: &'a [u8],
+    ws: &[u32],
+    ks: &[u32],
+    n: u32,
+    t: u32,
+    buf: &mut [u8],
+) -> usize
+    requires { ⌜ Stands (now ws) (now ks) n ⌝ }
+    ensures { λ r. ⌜ Appended (now (buf .entry)) 0 (now (buf .exit)) r
+        (show (envOf (now (chart .entry)) bare (now (rule .entry)) (now (text .entry))) (decode (now (ws .entry)) (now (ks .entry)) n) (tyOf t)) ⌝ }
+{
+    show::show_all(chart, crate::bare(), rule, text, ws, ks, n, buf, 0, Type(t))
 }

@@ -5,20 +5,22 @@ pub mod direct;
 ghost use mathlib.Core.Path.{_≡_};
 ghost use lib.ListN.{length};
 ghost use Rattle.scope.specs.Types.{tyOf};
-ghost use Rattle.scope.specs.Calls.{firstBroken, lentTests, openCall, newVarCall, newVarsCall, errorCall, nilCall, newCall, newStructCall, newUnionCall, unifyCall};
-ghost use Rattle.layout.specs.Words.{lentOf};
+ghost use Rattle.scope.specs.Calls.{firstBroken, lentTests, openCall, newVarCall, newVarsCall, errorCall, nilCall, newCall, newStructCall, newUnionCall, unifyCall, showCall};
+ghost use Rattle.layout.specs.Words.{lentOf, storeIn};
 ghost use Rattle.refusals.specs.Codes.{codeOf};
 ghost use Rattle.promise.specs.Promise.{Promised, doneReply, typeReply};
 ghost use Rattle.store.specs.Entries.{typesIn};
 ghost use Rattle.refusals.specs.Opening.{enough};
 ghost use Rattle.promise.specs.Lists.{ListPromised};
+ghost use Rattle.promise.specs.Prints.{PrintPromised, countReply};
 ghost use Rattle.lent_kind.specs.Lent.{plainArgs, given};
 ghost use Rattle.call_unify.specs.Answers.{unifyReply};
-ghost use Rattle.bench.specs.Numbers.{typeIn, doneIn, unifyIn, bare, lentEnv};
+ghost use Rattle.bench.specs.Numbers.{typeIn, doneIn, unifyIn, countIn, bare, lentEnv};
 use call_unify::UnifyAnswer;
 use chart::Beside;
 use lent_kind::KindArgs;
 use names::NO_NAME;
+use promise::CountAnswer;
 use promise::DoneAnswer;
 use promise::TypeAnswer;
 use scope::NONE;
@@ -254,4 +256,34 @@ pub extern "C" fn faroalder_unify<'a>(
         (unifyReply (unifyIn r)) (now (h .entry)) (now (ws .entry)) (now (ks .entry)) (now (h .entry)) (now (ws .exit)) (now (ks .entry)) ⌝ }
 {
     unify_number(call_unify::unify(chart, bare(), rule, text, h, ws, ks, Type(a), Type(b)))
+}
+
+// A printer's answer: yes with the text's length, or no with a refusal's number, beside it.
+#[no_mangle]
+pub extern "C" fn faroalder_show<'a>(
+    chart: &[u32],
+    rule: &'a [u8],
+    text: &'a [u8],
+    h: &[u32],
+    ws: &[u32],
+    ks: &[u32],
+    t: u32,
+    buf: &mut [u8],
+    n: &mut u64,
+) -> bool
+    ensures { λ r. ⌜ PrintPromised
+        (showCall (lentEnv (now (chart .entry)) (now (rule .entry)) (now (text .entry))) (lentOf (now (h .entry)) (now (ws .entry)) (now (ks .entry)))
+        (tyOf t) (now (buf .entry)))
+        (countReply (countIn r (now (n .exit)))) (storeIn (now (h .entry)) (now (ws .entry)) (now (ks .entry))) (now (buf .exit)) ⌝ }
+{
+    match call_show::show(chart, bare(), rule, text, h, ws, ks, Type(t), buf) {
+        CountAnswer::Is(m) => {
+            *n = m as u64;
+            true
+        }
+        CountAnswer::Refused(m) => {
+            *n = m as u64;
+            false
+        }
+    }
 }
