@@ -95,6 +95,27 @@ fn import_nothing<'a>(
     }
 }
 
+// What is answered of these words.
+fn asked<'a>(
+    op: u32,
+    chart: &[u32],
+    beside: Beside,
+    rule: &'a [u8],
+    text: &'a [u8],
+    h: &[u32],
+    ws: &[u32],
+    ks: &[u32],
+    dh: &mut [u32],
+    dw: &mut [u32],
+    dk: &mut [u32],
+) {
+    if op == FLIP {
+        find(chart, beside, rule, text, h, ws, ks);
+        return;
+    }
+    import_nothing(chart, beside, rule, text, h, ws, ks, dh, dw, dk);
+}
+
 // Word i of the slice another, and what is then answered; then as it was.
 fn flip<'a>(
     op: u32,
@@ -120,11 +141,7 @@ fn flip<'a>(
         word(ks, i as usize)
     };
     poke(h, ws, ks, &[which, i, other(s, a)]);
-    if op == FLIP {
-        find(chart, beside, rule, text, h, ws, ks);
-    } else {
-        import_nothing(chart, beside, rule, text, h, ws, ks, dh, dw, dk);
-    }
+    asked(op, chart, beside, rule, text, h, ws, ks, dh, dw, dk);
     poke(h, ws, ks, &[which, i, s]);
 }
 

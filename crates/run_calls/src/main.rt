@@ -264,14 +264,55 @@ fn either<'a>(
     call(op, chart, beside, rule, text, h, ws, ks, a);
 }
 
+// The same, with all of the other's words.
+fn with_other<'a>(
+    op: u32,
+    chart: &[u32],
+    beside: Beside,
+    rule: &'a [u8],
+    text: &'a [u8],
+    h: &mut [u32],
+    ws: &mut [u32],
+    ks: &mut [u32],
+    there: Sizes,
+    oh: &mut [u32],
+    ow: &mut [u32],
+    ok: &mut [u32],
+    eh: &mut [u32],
+    ew: &mut [u32],
+    ek: &mut [u32],
+    a: &[u32],
+) {
+    let x = upto(oh, there.head);
+    let y = upto(ow, there.nodes);
+    let z = upto(ok, there.kids);
+    either(
+        op,
+        chart,
+        beside,
+        rule,
+        text,
+        h,
+        ws,
+        ks,
+        &mut oh[..x],
+        &mut ow[..y],
+        &mut ok[..z],
+        eh,
+        ew,
+        ek,
+        a,
+    );
+}
+
 // A call on what is lent of these buffers.
 fn on(
     s: &[u32],
     op: u32,
     a: &[u32],
     l: Lent,
-    rule: &[u8],
-    text: &[u8],
+    rule: &mut [u8],
+    text: &mut [u8],
     h: &mut [u32],
     ws: &mut [u32],
     ks: &mut [u32],
@@ -289,11 +330,7 @@ fn on(
     let x = upto(h, here.head);
     let y = upto(ws, here.nodes);
     let z = upto(ks, here.kids);
-    let there = l.there;
-    let u = upto(oh, there.head);
-    let v = upto(ow, there.nodes);
-    let w = upto(ok, there.kids);
-    either(
+    with_other(
         op,
         chart,
         l.beside,
@@ -302,9 +339,10 @@ fn on(
         &mut h[..x],
         &mut ws[..y],
         &mut ks[..z],
-        &mut oh[..u],
-        &mut ow[..v],
-        &mut ok[..w],
+        l.there,
+        oh,
+        ow,
+        ok,
         eh,
         ew,
         ek,

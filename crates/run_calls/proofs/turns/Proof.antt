@@ -9,11 +9,12 @@ use Rattle.run_calls.proofs.turns.Statement.{statement}
 use Rattle.run_calls.proofs.turns.Tie as tie
 
 abbrev Inv-loop : tie.InvT-loop
-Inv-loop s rule₀ text₀ h₀ ws₀ ks₀ l₀ at₀ rule text h ws ks l at =
+Inv-loop s rule₀ text₀ h₀ ws₀ ks₀ oh₀ ow₀ ok₀ eh₀ ew₀ ek₀ l₀ at₀ rule text h ws ks oh ow ok eh ew ek l at =
     (length rule ≡ length rule₀) × (length text ≡ length text₀) × (length h ≡ length h₀) × (length ws ≡ length ws₀) × (length ks ≡ length ks₀)
+    × (length oh ≡ length oh₀) × (length ow ≡ length ow₀) × (length ok ≡ length ok₀) × (length eh ≡ length eh₀) × (length ew ≡ length ew₀) × (length ek ≡ length ek₀)
 
 abbrev μ-loop : tie.MeasureT-loop
-μ-loop s rule₀ text₀ h₀ ws₀ ks₀ l₀ at₀ rule text h ws ks l at = length s - at
+μ-loop s rule₀ text₀ h₀ ws₀ ks₀ oh₀ ow₀ ok₀ eh₀ ew₀ ek₀ l₀ at₀ rule text h ws ks oh ow ok eh ew ek l at = length s - at
 
 nothing-lent-requires : tie.Need-nothing-lent-requires Inv-loop μ-loop
 nothing-lent-requires c κs = search needs
@@ -50,16 +51,26 @@ turn-requires c κs = search needs
 
 loop-less : tie.Need-loop-less Inv-loop μ-loop
 loop-less c =
-    let next = c .before .before .before .before .before .before .before .before .before .before .before .before .before .before .before .before .before in
-    let more = next .before .before .before .before .before .before .loop-test .taken in
-    omega (arith, more, next .next .ensures more)
+    let next = c .before .before .before .before .before .before .before .before .before .before .before .before .before .before .before .before .before .before .before .before .before .before .before .before .before .before .before .before .before .before .before .before .before .before .before .next in
+    let more = c .before .before .before .before .before .before .before .before .before .before .before .before .before .before .before .before .before .before .before .before .before .before .before .before .before .before .before .before .before .before .before .before .before .before .before .before .before .before .before .before .before .loop-test .taken in
+    omega (arith, more, next .ensures more)
 
 loop-again : tie.Need-loop-again Inv-loop μ-loop
 loop-again c =
-    let turn = c .before .before .before .before .before .before .before .before .before .before in
-    let k = turn .turn .kept .1 .1 .1 .1 .1 in
-    let v = turn .before .before .before .before .before .before .before .before .before .before .before .before .before .before .loop .inv in
-    (k .0 ∙ v .0, k .1 .0 ∙ v .1, k .1 .1 .0 ∙ v .2, k .1 .1 .1 .0 ∙ v .3, k .1 .1 .1 .1 .0 ∙ v .4)
+    let k = c .before .before .before .before .before .before .before .before .before .before .before .before .before .before .before .before .before .before .before .before .before .before .turn .kept .1 .1 .1 .1 .1 in
+    let v = c .before .before .before .before .before .before .before .before .before .before .before .before .before .before .before .before .before .before .before .before .before .before .before .before .before .before .before .before .before .before .before .before .before .before .before .before .before .before .before .before .before .before .loop .inv in (
+      k .0 ∙ v .0,
+      k .1 .0 ∙ v .1,
+      k .1 .1 .0 ∙ v .2,
+      k .1 .1 .1 .0 ∙ v .3,
+      k .1 .1 .1 .1 .0 ∙ v .4,
+      k .1 .1 .1 .1 .1 .0 ∙ v .5,
+      k .1 .1 .1 .1 .1 .1 .0 ∙ v .6,
+      k .1 .1 .1 .1 .1 .1 .1 .0 ∙ v .7,
+      k .1 .1 .1 .1 .1 .1 .1 .1 .0 ∙ v .8,
+      k .1 .1 .1 .1 .1 .1 .1 .1 .1 .0 ∙ v .9,
+      k .1 .1 .1 .1 .1 .1 .1 .1 .1 .1 .0 ∙ v .10,
+    )
 
 same-length : tie.Need-same-length Inv-loop μ-loop
 same-length c = search needs
@@ -75,6 +86,24 @@ same-length-4 c = search needs
 
 same-length-5 : tie.Need-same-length-5 Inv-loop μ-loop
 same-length-5 c = search needs
+
+same-length-6 : tie.Need-same-length-6 Inv-loop μ-loop
+same-length-6 c = search needs
+
+same-length-7 : tie.Need-same-length-7 Inv-loop μ-loop
+same-length-7 c = search needs
+
+same-length-8 : tie.Need-same-length-8 Inv-loop μ-loop
+same-length-8 c = search needs
+
+same-length-9 : tie.Need-same-length-9 Inv-loop μ-loop
+same-length-9 c = search needs
+
+same-length-10 : tie.Need-same-length-10 Inv-loop μ-loop
+same-length-10 c = search needs
+
+same-length-11 : tie.Need-same-length-11 Inv-loop μ-loop
+same-length-11 c = search needs
 
 returns : tie.Need-returns Inv-loop μ-loop
 returns c = search needs
@@ -103,4 +132,10 @@ turns-spec =
     same-length-3
     same-length-4
     same-length-5
+    same-length-6
+    same-length-7
+    same-length-8
+    same-length-9
+    same-length-10
+    same-length-11
     returns)

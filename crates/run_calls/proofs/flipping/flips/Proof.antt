@@ -1,18 +1,19 @@
--- `run_calls::flips` is safe and ends: the measure is what is left of the slice, and lengths stay.
+-- `run_calls::flipping::flips` is safe and ends: the measure is what is left of the slice, and lengths stay.
 -- Assumes nothing.
 use mathlib.Core.Path.{_≡_}
 use Prim.Native.Nat.{_-_}
 use lib.ListN.{length}
 use native.Mathlib.Omega.{arith}
 use borrow.Author.Needs.{needs}
-use Rattle.run_calls.proofs.flips.Statement.{statement}
-use Rattle.run_calls.proofs.flips.Tie as tie
+use Rattle.run_calls.proofs.flipping.flips.Statement.{statement}
+use Rattle.run_calls.proofs.flipping.flips.Tie as tie
 
 abbrev Inv-loop : tie.InvT-loop
-Inv-loop chart beside rule text h₀ ws₀ ks₀ a which n i₀ h ws ks i = (length h ≡ length h₀) × (length ws ≡ length ws₀) × (length ks ≡ length ks₀)
+Inv-loop op chart beside rule text h₀ ws₀ ks₀ dh₀ dw₀ dk₀ a which n i₀ h ws ks dh dw dk i =
+    (length h ≡ length h₀) × (length ws ≡ length ws₀) × (length ks ≡ length ks₀) × (length dh ≡ length dh₀) × (length dw ≡ length dw₀) × (length dk ≡ length dk₀)
 
 abbrev μ-loop : tie.MeasureT-loop
-μ-loop chart beside rule text h₀ ws₀ ks₀ a which n i₀ h ws ks i = n - i
+μ-loop op chart beside rule text h₀ ws₀ ks₀ dh₀ dw₀ dk₀ a which n i₀ h ws ks dh dw dk i = n - i
 
 word-requires : tie.Need-word-requires Inv-loop μ-loop
 word-requires c κs = search needs
@@ -35,6 +36,9 @@ loop-less c = omega arith
 loop-again : tie.Need-loop-again Inv-loop μ-loop
 loop-again c = search needs
 
+line-requires : tie.Need-line-requires Inv-loop μ-loop
+line-requires c κs = search needs
+
 same-length : tie.Need-same-length Inv-loop μ-loop
 same-length c = search needs
 
@@ -43,6 +47,15 @@ same-length-2 c = search needs
 
 same-length-3 : tie.Need-same-length-3 Inv-loop μ-loop
 same-length-3 c = search needs
+
+same-length-4 : tie.Need-same-length-4 Inv-loop μ-loop
+same-length-4 c = search needs
+
+same-length-5 : tie.Need-same-length-5 Inv-loop μ-loop
+same-length-5 c = search needs
+
+same-length-6 : tie.Need-same-length-6 Inv-loop μ-loop
+same-length-6 c = search needs
 
 returns : tie.Need-returns Inv-loop μ-loop
 returns c = search needs
@@ -60,7 +73,11 @@ flips-spec =
     add-i
     loop-less
     loop-again
+    line-requires
     same-length
     same-length-2
     same-length-3
+    same-length-4
+    same-length-5
+    same-length-6
     returns)
