@@ -1,3 +1,3 @@
 -- The laws that belong to no one function
 mod Laws
-mod Lists
+mod Pieces

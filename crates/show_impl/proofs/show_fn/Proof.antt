@@ -10,7 +10,7 @@ use Rattle.layout.specs.Words.{decode}
 use Rattle.layout.specs.Meaning.{kindMeans}
 use Rattle.layout.proofs.LinkLaws.{clean-linked}
 use Rattle.append.proofs.Laws.{append-then}
-use Rattle.show_impl.proofs.Lists.{fn-nil, fn-returns}
+use Rattle.show_impl.proofs.Pieces.{fn-nil, fn-returns}
 use Rattle.show_impl.proofs.show_fn.Statement.{statement}
 use Rattle.show_impl.proofs.show_fn.Tie as tie
 

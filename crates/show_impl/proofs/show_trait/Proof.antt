@@ -5,7 +5,7 @@ use Rattle.scope.specs.Show.{show}
 use Rattle.chart.specs.Env.{envOf}
 use Rattle.layout.specs.Words.{decode}
 use Rattle.append.proofs.Laws.{append-then}
-use Rattle.show_impl.proofs.Lists.{trait-bare, trait-listed}
+use Rattle.show_impl.proofs.Pieces.{trait-bare, trait-listed}
 use Rattle.show_impl.proofs.show_trait.Statement.{statement}
 use Rattle.show_impl.proofs.show_trait.Tie as tie
 

@@ -1,4 +1,4 @@
--- `show_impl::show_list` meets its contract. The loop's invariant: what is left to write gives, appended, what the whole gives.
+-- `show_lists::show_list` meets its contract. The loop's invariant: what is left to write gives, appended, what the whole gives.
 -- Assumes nothing.
 use mathlib.Core.Path.{_∙_}
 use mathlib.Core.List.{[]}
@@ -11,9 +11,9 @@ use Rattle.chart.specs.Env.{envOf}
 use Rattle.layout.specs.Words.{decode}
 use Rattle.show.proofs.Turns.{Turn, turn-start, turn-next}
 use Rattle.show_names.specs.Names.{comma}
-use Rattle.show_impl.proofs.Lists.{item, list-end}
-use Rattle.show_impl.proofs.show_list.Statement.{statement}
-use Rattle.show_impl.proofs.show_list.Tie as tie
+use Rattle.show_lists.proofs.Lists.{item, list-end}
+use Rattle.show_lists.proofs.show_list.Statement.{statement}
+use Rattle.show_lists.proofs.show_list.Tie as tie
 
 abbrev Inv-loop : tie.InvT-loop
 Inv-loop chart beside rule text ws ks n buf₀ at xs p₀ j₀ buf p j =

@@ -1,19 +1,16 @@
--- A lent list of types and a kind's children are written one after another, with commas between them; a trait's name and list, and the fn form, piece after
--- piece.
+-- A lent list of types and a kind's children are written one after another, with commas between them.
 -- Assumes nothing.
 use mathlib.Core.Path.{_≡_, refl, ap, sym, _∙_, subst}
-use mathlib.Core.Bool.{Bool, true, false}
+use mathlib.Core.Bool.{Bool, false}
 use mathlib.Core.List.{List, [], _∷_, _++_, map, append-nil}
 use Prim.Native.Nat.{ℕ, zero, suc, _+_, _≤_, _<_}
 use native.Mathlib.Nat.{zero-add}
 use native.Mathlib.Omega.{arith}
 use lib.ListN.{length, getD}
 use Rattle.scope.specs.Base.{from}
-use Rattle.scope.specs.Text.{text}
-use Rattle.scope.specs.Names.{Texts, bytes}
-use Rattle.scope.specs.Chart.{Env, recordAt}
+use Rattle.scope.specs.Names.{Texts}
 use Rattle.scope.specs.Types.{Ty, flip, tyOf}
-use Rattle.scope.specs.Show.{Piece, fixed, sub, render, commas, params, traitPieces, fnPieces, arrow}
+use Rattle.scope.specs.Show.{Piece, sub, render, commas}
 use Rattle.layout.specs.Words.{slotAt}
 use Rattle.layout.specs.Meaning.{slotMeans, kindMeans}
 use Rattle.layout.specs.declared.Slot.{Slot}
@@ -21,7 +18,7 @@ use Rattle.layout.specs.declared.Kind.{Kind}
 use Rattle.append.specs.Appended.{Appended}
 use Rattle.append.proofs.Laws.{append-none, append-then}
 use Rattle.show.specs.Level.{children, kidOf}
-use Rattle.show.proofs.Runs.{render-append, map-map, comma-suc, joined-run, commas-run}
+use Rattle.show.proofs.Runs.{map-map, comma-suc, joined-run, commas-run}
 use Rattle.show.proofs.Turns.{Turn, turn-end}
 use Rattle.show_names.specs.Names.{comma}
 
@@ -69,26 +66,3 @@ module _ (g : Ty → List ℕ) where
   params-end x ks k i {buf₀} {buf} {p₀} {p} {j} t h =
       rw (sym (append-nil (render g (commas i (kindMeans ks k .kids)))) ∙ commas-run g x i ks (k .first) comma (λ m. refl) [] (k .count))
       (turn-end comma (child ks k i) [] (k .count) t h (append-none buf p))
-
-  -- a trait's name alone, and with its list
-  pub trait-bare : (e : Env) (i : ℕ) (xs : List ℕ) → length xs ≡ 0 → render g (traitPieces e i (map tyOf xs)) ≡ bytes (e .texts) (recordAt e i .name)
-  unfolding render
-  trait-bare e i [] h = append-nil (bytes (e .texts) (recordAt e i .name))
-  trait-bare e i (x ∷ xs) h = absurd (omega arith)
-
-  pub trait-listed : (e : Env) (i : ℕ) (xs : List ℕ) → (length xs ≡ 0 → ⊥)
-      → render g (traitPieces e i (map tyOf xs)) ≡ bytes (e .texts) (recordAt e i .name) ++ (text "[" ++ (render g (commas false (map tyOf xs)) ++ text "]"))
-  unfolding render
-  trait-listed e i [] h = absurd (h refl)
-  trait-listed e i (x ∷ xs) h = rw (render-append g (commas false (map tyOf (x ∷ xs))) (fixed (text "]") ∷ []))
-
-  -- the fn form without a return, and with one
-  module _ (nil : Ty → Bool) (receiver : Ty) (i : Bool) (ps : List Ty) (ret : Ty) where
-    pub fn-nil : nil ret ≡ true → render g (fnPieces nil receiver i ps ret) ≡ text "fn " ++ (g receiver ++ (text "(" ++ (render g (commas i ps) ++ text ")")))
-    unfolding render
-    fn-nil h = rw (h, render-append g (commas i ps) (fixed (text ")") ∷ []))
-
-    pub fn-returns : nil ret ≡ false
-        → render g (fnPieces nil receiver i ps ret) ≡ text "fn " ++ (g receiver ++ (text "(" ++ (render g (commas i ps) ++ (text ")" ++ (text " -> " ++ g ret)))))
-    unfolding render
-    fn-returns h = rw (h, render-append g (commas i ps) (fixed (text ")") ∷ fixed (text " -> ") ∷ sub ret ∷ []), append-nil (g ret))

@@ -1,10 +1,10 @@
--- `show_impl::put_between` meets its contract: before the first nothing, before another a comma.
+-- `show_lists::put_between` meets its contract: before the first nothing, before another a comma.
 -- Assumes nothing.
 use borrow.Author.Tests.{eq-eqb, ne-eqb}
 use borrow.Author.Needs.{needs}
 use Rattle.append.proofs.Laws.{append-none}
-use Rattle.show_impl.proofs.put_between.Statement.{statement}
-use Rattle.show_impl.proofs.put_between.Tie as tie
+use Rattle.show_lists.proofs.put_between.Statement.{statement}
+use Rattle.show_lists.proofs.put_between.Tie as tie
 
 returns : tie.Need-returns
 returns c = rw (eq-eqb _ _ (c .if1 .taken)) (append-none _ _)
