@@ -1,0 +1,20 @@
+-- What the program keeps, from one step to the next.
+-- Assumes nothing.
+use mathlib.Core.List.{List, [], _++_}
+use Prim.Native.Nat.{ℕ}
+use Rattle.append.proofs.Laws.{so-far-start}
+use Rattle.sheet_calls.specs.Sheet.{SheetStore}
+use Rattle.sheet_feed.specs.Fed.{GoesOn}
+use Rattle.sheet.specs.Holding.{Holding, Goes}
+
+-- a line that begins
+pub begins : (line : List ℕ) → Holding line 0
+begins line = record { line₀ = line; bs = []; so-far = so-far-start line }
+
+-- a line that goes on with all of a piece
+pub goes-more : {h ws ks h′ ws′ ks′ line line′ piece : List ℕ} {at q : ℕ} → GoesOn h ws ks h′ ws′ ks′ line at line′ piece q → SheetStore h ws ks → Holding line at
+    → Goes h′ ws′ ks′ line′ q
+goes-more {piece = piece} g s w = record {
+  store = rw (g .head, g .nodes, g .kids) s;
+  holds = record { line₀ = w .line₀; bs = w .bs ++ piece; so-far = g .so-far (w .line₀) (w .bs) (w .so-far) };
+}

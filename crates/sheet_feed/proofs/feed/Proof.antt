@@ -1,0 +1,77 @@
+-- `sheet_feed::feed` meets its contract: the piece up to its newline goes on with the line, and is all of the piece or ends the line.
+-- Assumes nothing.
+use mathlib.Core.Path.{sym}
+use native.Mathlib.Omega.{arith}
+use lib.Seq.{length-take-le}
+use Rattle.sheet_lines.proofs.Laws.{place-within}
+use Rattle.sheet_feed.proofs.Laws.{goes-on, line-ended}
+use borrow.Author.Needs.{needs}
+use Rattle.sheet_feed.proofs.feed.Statement.{statement}
+use Rattle.sheet_feed.proofs.feed.Tie as tie
+
+line-end-requires : tie.Need-line-end-requires
+line-end-requires c κs = search needs
+
+slice-aggregate-put : tie.Need-slice-aggregate-put
+slice-aggregate-put c =
+    sym (length-take-le (c .before .before .line-end .result) (c .before .before .before .before .before .before .before .before .before .args .piece .now) (place-within 10 (c .before .before .before .before .before .before .before .before .before .args .piece .now) 0 (c .before .before .line-end .result) (omega arith) (c .before .before .line-end .ensures) .1))
+
+put-requires : tie.Need-put-requires
+put-requires c κs = search needs
+
+same-length : tie.Need-same-length
+same-length c = search needs
+
+returns : tie.Need-returns
+returns c = goes-on (c .before .before .before .before .before .before .before .before .before .before .before .before .before .args .piece .now) (c .before .before .before .before .before .before .line-end .result) (c .before .before .before .before .before .before .line-end .ensures) (c .if1 .taken) (c .before .before .before .put .ensures)
+
+end-line-requires : tie.Need-end-line-requires
+end-line-requires c κs = (c .before .before .before .before .before .before .before .before .before .before .before .before .before .before .before .before .before .before .pre .0, (omega (arith, c .before .before .before .before .before .before .before .before .before .before .before .before .before .before .before .before .before .before .pre .1 .0), omega (arith, c .before .before .before .before .before .before .before .before .put .kept .0, c .before .before .before .before .before .before .before .before .before .before .before .before .before .before .before .before .before .before .pre .1 .1)))
+
+slice-write-text : tie.Need-slice-write-text
+slice-write-text c = search needs
+
+add-t15 : tie.Need-add-t15
+add-t15 c = search needs
+
+add-t28 : tie.Need-add-t28
+add-t28 c = search needs
+
+same-length-2 : tie.Need-same-length-2
+same-length-2 c = search needs
+
+same-length-3 : tie.Need-same-length-3
+same-length-3 c = search needs
+
+same-length-4 : tie.Need-same-length-4
+same-length-4 c = search needs
+
+same-length-5 : tie.Need-same-length-5
+same-length-5 c = search needs
+
+same-length-6 : tie.Need-same-length-6
+same-length-6 c = search needs
+
+returns-2 : tie.Need-returns-2
+returns-2 c =
+    line-ended (c .before .before .before .before .before .before .before .before .before .before .before .before .before .before .before .before .before .before .before .before .before .before .before .before .before .before .before .args .piece .now) (c .before .before .before .before .before .before .before .before .before .before .before .before .before .before .before .before .before .before .before .before .line-end .result) (c .before .before .before .before .before .before .before .before .before .before .before .before .before .before .before .before .before .before .before .before .line-end .ensures) (c .before .before .before .before .before .before .before .before .before .before .before .before .before .before .if1 .left) (c .before .before .before .before .before .before .before .before .before .before .before .before .before .before .before .before .before .put .ensures) (omega (arith, c .before .before .before .before .before .before .before .before .end-line .kept .1 .1 .1 .1 .1 .0, c .before .before .before .before .before .before .before .before .before .before .before .before .before .before .before .before .before .before .before .before .before .before .before .before .before .before .before .pre .1 .0)) (c .before .before .before .before .before .before .before .before .end-line .ensures)
+
+pub feed-spec : {M : Type 1} → statement M
+feed-spec =
+    tie.close
+    (tie.spec
+    line-end-requires
+    slice-aggregate-put
+    put-requires
+    same-length
+    returns
+    end-line-requires
+    slice-write-text
+    add-t15
+    add-t28
+    same-length-2
+    same-length-3
+    same-length-4
+    same-length-5
+    same-length-6
+    returns-2)

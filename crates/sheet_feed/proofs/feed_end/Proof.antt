@@ -1,0 +1,49 @@
+-- `sheet_feed::feed_end` meets its contract: no byte is no line, and any other is run.
+-- Assumes nothing.
+use native.Mathlib.Omega.{arith}
+use borrow.Author.Needs.{needs}
+use Rattle.sheet_feed.proofs.Laws.{last-none, last-ran}
+use Rattle.sheet_feed.proofs.feed_end.Statement.{statement}
+use Rattle.sheet_feed.proofs.feed_end.Tie as tie
+
+returns : tie.Need-returns
+returns c = last-none (c .before .before .before .before .before .before .args .h .now) (c .before .before .before .before .before .before .args .ws .now) (c .before .before .before .before .before .before .args .ks .now) (c .if1 .taken)
+
+end-line-requires : tie.Need-end-line-requires
+end-line-requires c κs = (c .before .before .before .before .before .before .before .before .before .before .pre .0, (omega (arith, c .before .before .before .before .before .before .before .before .before .before .pre .1 .0), c .before .before .before .before .before .before .before .before .before .before .pre .1 .1))
+
+slice-write-text : tie.Need-slice-write-text
+slice-write-text c = search needs
+
+add-result : tie.Need-add-result
+add-result c = search needs
+
+same-length : tie.Need-same-length
+same-length c = search needs
+
+same-length-2 : tie.Need-same-length-2
+same-length-2 c = search needs
+
+same-length-3 : tie.Need-same-length-3
+same-length-3 c = search needs
+
+same-length-4 : tie.Need-same-length-4
+same-length-4 c = search needs
+
+returns-2 : tie.Need-returns-2
+returns-2 c =
+    last-ran (c .before .before .before .before .before .before .before .before .before .before .before .before .before .if1 .left) (omega (arith, c .before .before .before .before .before .before .before .before .end-line .kept .1 .1 .1 .1 .1 .0, c .before .before .before .before .before .before .before .before .before .before .before .before .before .before .before .before .before .before .before .pre .1 .0)) (c .before .before .before .before .before .before .before .before .end-line .ensures)
+
+pub feed-end-spec : {M : Type 1} → statement M
+feed-end-spec =
+    tie.close
+    (tie.spec
+    returns
+    end-line-requires
+    slice-write-text
+    add-result
+    same-length
+    same-length-2
+    same-length-3
+    same-length-4
+    returns-2)
