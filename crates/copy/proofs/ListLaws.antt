@@ -1,14 +1,13 @@
 -- A list of types copied one after the other: what is left of it gives what the whole list gives, and the copies so far stand at the front of the answer's
 -- list. A remembered type is a list of one or none, and its copy is a node of the destination. Assumes nothing.
 use mathlib.Core.Path.{_≡_, refl, ap, sym, _∙_, subst}
-use mathlib.Core.Bool.{Bool, true, false}
+use mathlib.Core.Bool.{true}
 use mathlib.Core.Option.{Option, none, some}
-use mathlib.Core.List.{List, [], _∷_, _++_, map, map-append, List·Memᴰ, List·Memᴰ·head}
+use mathlib.Core.List.{List, [], _∷_, _++_, map, map-append, List·Memᴰ·head}
 use Prim.Native.Nat.{ℕ, zero, suc, _+_, _-_, _≤_, _<_}
 use native.Mathlib.Omega.{arith}
 use native.Mathlib.Numerals.{add-one}
-use lib.Dec.{eqb}
-use lib.ListN.{length, getD, set, take, drop, drop-of-length-le, length-set, length-append, length-map}
+use lib.ListN.{length, getD, set, take, drop, drop-of-length-le, length-set, length-append}
 use lib.Seq.{take-suc-set, drop-set-lt, drop-drop}
 use borrow.Author.Tests.{ne-eqb}
 use Rattle.scope.specs.Limits.{MAX-NODES, NONE}
@@ -18,7 +17,7 @@ use Rattle.scope.specs.Import.{Replaced, keep, missing-entry, entry, replaced, 
 use Rattle.scope.specs.Needs.{listed}
 use Rattle.scope.proofs.ReplacedLaws.{replaced-none}
 use Rattle.scope.proofs.CopyTable.{Copying, Copied, CopiedAll, noted, copyAll, copyNew, copyAt, copyF}
-use Rattle.scope.proofs.CopyTableLaws.{Left, left-start, left-next, left-end, left-grows, Grows, grows-all, copy-grows, Placed, copy-placed}
+use Rattle.scope.proofs.CopyTableLaws.{Left, left-start, left-next, left-end, left-grows, grows-all, copy-grows, Placed, copy-placed}
 use Rattle.types.specs.declared.«Type».{«Type»}
 use Rattle.layout.specs.Words.{decode}
 use Rattle.layout.specs.Meaning.{rememberedMeans, rememberedFits, Clean}

@@ -1,16 +1,16 @@
 -- From the table's run to scope's: an import is one list from an empty table on, an export three, one after another, into a store just opened. What is
 -- needed, and no more, is what the copies make. Assumes nothing.
-use mathlib.Core.Path.{_≡_, refl, ap, sym, _∙_, subst}
+use mathlib.Core.Path.{_≡_, ap, sym, _∙_, subst}
 use mathlib.Core.Bool.{true}
 use mathlib.Core.Option.{Option, none}
 use mathlib.Core.List.{List, List·Memᴰ, Memᴰ·append-left, Memᴰ·append-right}
-use Prim.Native.Nat.{ℕ, _+_, _≤_, _<_}
+use Prim.Native.Nat.{ℕ, _≤_, _<_}
 use native.Mathlib.Omega.{arith}
 use lib.ListN.{length, replicate}
 use Rattle.scope.specs.Types.{Ty}
 use Rattle.scope.specs.Nodes.{Node, Store, opened, remembering}
-use Rattle.scope.specs.Import.{MovedAll, import, export, firstOf}
-use Rattle.scope.specs.Needs.{needs, listed, exported}
+use Rattle.scope.specs.Import.{import, export, firstOf}
+use Rattle.scope.specs.Needs.{listed, exported}
 use Rattle.scope.proofs.Mapping.{Source}
 use Rattle.scope.proofs.CopyTable.{Copying, Copied, CopiedAll, copyAll, copyF, uncopied, copy-types, copy-dest, copy-nodes, copy-children}
 use Rattle.scope.proofs.CopyTable.{copyExport, copy-export-types, copy-export-dest, copy-export-nodes, copy-export-children}
@@ -24,7 +24,6 @@ use Rattle.layout.proofs.Laws.{length-decode}
 use Rattle.store.specs.Holds.{Became, Beyond, Room}
 use Rattle.store.specs.Entries.{typesIn}
 use Rattle.store.proofs.Laws.{store-nodes, store-count, beyond-trans}
-use Rattle.make.specs.Made.{Rememberable}
 use Rattle.make.proofs.MakeLaws.{head-error, head-nil}
 use Rattle.copy_type.specs.Words.{copyingAt, Spared}
 use Rattle.copy_type.proofs.SparedLaws.{spared-trans}
@@ -242,9 +241,6 @@ module _ (sh sw sk ts : List ℕ) {nodes children : ℕ} {h ws ks out : List ℕ
 
           spared : Spared 0 h₁ ws₁ ks₁ h₄ ws₄ ks₄
           spared = spared-trans (a .spared) (spared-trans (b .spared) (c .spared))
-
-          pub rememberable : Rememberable h₄ ws₄ ks₄ r₁ r₂
-          rememberable = record { clean = c .spared .clean; error = a .fits; nil = b .fits }
 
           module _ {h₅ : List ℕ} (d : Became h₄ ws₄ ks₄ h₅ ws₄ ks₄ (remembering (storeIn h₄ ws₄ ks₄) (rememberedMeans r₁) (rememberedMeans r₂))) where
             -- all that is remembered is what was copied

@@ -4,7 +4,7 @@ use mathlib.Core.Bool.{true}
 use mathlib.Core.Option.{Option}
 use mathlib.Core.List.{List, map, List·Memᴰ}
 use Prim.Native.Nat.{ℕ, _<_}
-use lib.ListN.{length, take, drop}
+use lib.ListN.{take, drop}
 use Rattle.scope.specs.Types.{Ty, tyOf}
 use Rattle.scope.specs.Import.{firstOf}
 use Rattle.scope.proofs.CopyTable.{CopiedAll, copyAll, copyF}

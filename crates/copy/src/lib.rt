@@ -1,6 +1,5 @@
 // `import` and `export`: "a list of at most 255 types, one shared mapping". The mapping is a table with a number for each node of the source, which one
 // list after another goes through. Callers have tested the source and the room, so nothing here can fail.
-ghost use mathlib.Core.Path.{_≡_};
 ghost use mathlib.Core.Option.{none};
 ghost use Prim.Native.Nat.{_≤_};
 ghost use lib.ListN.{length};

@@ -2,7 +2,6 @@
 -- Assumes nothing.
 use mathlib.Core.Path.{_≡_, refl, ap, sym, _∙_}
 use mathlib.Core.Bool.{Bool, true, false}
-use mathlib.Core.Option.{some}
 use mathlib.Core.List.{List}
 use Prim.Native.Nat.{ℕ, suc, _-_, _≤_, _<_}
 use native.Mathlib.Omega.{arith}
@@ -17,10 +16,10 @@ use Rattle.types.specs.declared.«Type».{«Type»}
 use Rattle.types.specs.declared.Inverted.{Inverted}
 use Rattle.types.proofs.Laws.{ty-new}
 use Rattle.layout.specs.Words.{decode}
-use Rattle.layout.specs.Meaning.{readAt, nodeState, heldBy, kindMeans, stateMeans, Clean}
+use Rattle.layout.specs.Meaning.{readAt, nodeState, heldBy, kindMeans, stateMeans}
 use Rattle.layout.specs.declared.Kind.{Kind}
 use Rattle.layout.specs.declared.TypeState.{TypeState}
-use Rattle.layout.specs.declared.TypeState.the-variants.{Known, Unknown, InferenceFailed}
+use Rattle.layout.specs.declared.TypeState.the-variants.{Unknown, InferenceFailed}
 use Rattle.layout.specs.declared.TypeNode.{TypeNode}
 use Rattle.layout.proofs.KindLaws.{kind-code, kind-number}
 use Rattle.layout.proofs.HeldLaws.{state-read}

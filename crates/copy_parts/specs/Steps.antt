@@ -8,7 +8,6 @@ use Rattle.types.specs.declared.«Type».{«Type»}
 use Rattle.layout.specs.Words.{nodesMade, slotAt}
 use Rattle.layout.specs.Meaning.{putAt, putSlot, slotMeans}
 use Rattle.layout.specs.declared.Slot.{Slot}
-use Rattle.layout.specs.declared.Kind.{Kind}
 use Rattle.layout.specs.declared.Held.{Held}
 use Rattle.layout.specs.declared.Held.the-variants.{Is, Nothing}
 use Rattle.layout.specs.declared.TypeState.the-variants.{Known}

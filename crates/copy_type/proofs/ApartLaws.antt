@@ -1,6 +1,6 @@
 -- A run of children that no node has: it stays so when a node is put elsewhere, the children made stand apart from those after them, and its words may
 -- be written without a change to any node. Assumes nothing.
-use mathlib.Core.Path.{_≡_, refl, ap, sym, _∙_}
+use mathlib.Core.Path.{_≡_, refl, ap, sym}
 use mathlib.Core.Bool.{true}
 use mathlib.Core.Logic.{_⊎_, inl, inr}
 use mathlib.Core.List.{List}
@@ -12,9 +12,8 @@ use lib.ListN.{length, drop}
 use borrow.Author.Tests.{leb-true}
 use Rattle.scope.specs.Base.{isSome}
 use Rattle.scope.specs.Sound.{nodeIn}
-use Rattle.scope.specs.Nodes.{Store}
 use Rattle.layout.specs.Words.{nodeWords, childWords, nodesMade, childrenMade, slotAt, slots, firstAt, countAt, cellAt, nodeAt, nodeClean, decode, storeIn, clean}
-use Rattle.layout.specs.Meaning.{cellIn, cellOf, cellWords, putAt, Clean, Lies, Grown}
+use Rattle.layout.specs.Meaning.{cellIn, cellOf, cellWords, putAt, Clean, Lies}
 use Rattle.layout.specs.declared.Cell.{Cell}
 use Rattle.layout.specs.declared.TypeNode.{TypeNode}
 use Rattle.layout.proofs.Lists.{and-left, same-from}

@@ -1,6 +1,6 @@
 -- A root's children, copied one by one into the run that is reserved for them: what is left of them gives what all of them give, and those done stand in
 -- the run with their names. Assumes nothing.
-use mathlib.Core.Path.{_≡_, refl, ap, sym, _∙_, subst}
+use mathlib.Core.Path.{_≡_, ap, sym, _∙_, subst}
 use mathlib.Core.Option.{Option}
 use mathlib.Core.List.{List, [], _∷_, _++_, map, map-append}
 use Prim.Native.Nat.{ℕ, _+_, _*_, _≤_, _<_}
@@ -12,11 +12,10 @@ use Rattle.scope.specs.Types.{Ty, tyOf}
 use Rattle.scope.specs.Nodes.{Store}
 use Rattle.scope.specs.Sound as sound
 use Rattle.scope.proofs.CopyTable.{Copying, Copied, copyAll, copyF}
-use Rattle.scope.proofs.CopyTableLaws.{Left, left-start, left-next, left-end, left-grows, Grows, Placed, copy-placed}
+use Rattle.scope.proofs.CopyTableLaws.{Left, left-next, left-end, left-grows, Grows, Placed, copy-placed}
 use Rattle.types.specs.declared.«Type».{«Type»}
-use Rattle.layout.specs.Words.{nodesMade, childrenMade, slotAt, slots, decode, storeIn}
-use Rattle.layout.specs.Words as words
-use Rattle.layout.specs.Meaning.{putSlot, Clean}
+use Rattle.layout.specs.Words.{nodesMade, childrenMade, slotAt, slots, decode}
+use Rattle.layout.specs.Meaning.{Clean}
 use Rattle.layout.proofs.Lists.{same-from}
 use Rattle.layout.proofs.ChildLaws.{slots-push, slot-here, slot-there}
 use Rattle.store.specs.Holds.{Room}
@@ -25,7 +24,7 @@ use Rattle.needs.proofs.RootLaws.{kidsIn, length-run}
 use Rattle.copy_parts.specs.Steps.{retyped, ChildMoved}
 use Rattle.copy_type.specs.Words.{copyingAt, Apart, Spared, Copyable, CopiedIs}
 use Rattle.copy_type.proofs.MovedLaws.{untyped}
-use Rattle.copy_type.proofs.SparedLaws.{spared-refl, spared-trans, spared-less, child-room, child-store, child-spared}
+use Rattle.copy_type.proofs.SparedLaws.{spared-trans, spared-less, child-room, child-store, child-spared}
 
 -- less than what has room has room
 pub room-less : {c d : Copying} → Grows c d → Room (d .dest) 0 0 → Room (c .dest) 0 0

@@ -5,7 +5,6 @@ use mathlib.Core.Bool.{Bool, true}
 use mathlib.Core.List.{List, [], _∷_, map, map-map}
 use Prim.Native.Nat.{ℕ, _+_, _≤_, _<_}
 use Rattle.scope.specs.Base.{all, from}
-use Rattle.scope.specs.Nodes as nodes
 use Rattle.scope.specs.Sound.{Slot, slotName, slotClean, slotBare, front, last}
 use Rattle.layout.specs.Words.{slotAt, slots}
 use Rattle.layout.specs.Meaning.{kindMeans, kindFits}

@@ -12,14 +12,14 @@ use Rattle.scope.specs.Types.{Ty, ty, flip, INV-BIT, tyOf}
 use Rattle.scope.specs.Nodes as nodes
 use Rattle.scope.specs.Nodes.{Node, Store, at, stateOf, stateAt, find, kidsOf, isKnown}
 use Rattle.scope.specs.Make.{pushed}
-use Rattle.scope.specs.Import.{Replaced, keep, replaced, spanOf}
+use Rattle.scope.specs.Import.{keep, replaced, spanOf}
 use Rattle.scope.proofs.CopyTable.{Copying, Copied, CopiedAll, noted, filled, copyAll, copyNew, copyAt, copyF}
-use Rattle.scope.proofs.CopyTableLaws.{copy-end, copy-new, left-start, grows-all, copy-grows, Placed, placed-noted}
+use Rattle.scope.proofs.CopyTableLaws.{copy-end, left-start, grows-all, copy-grows, Placed, placed-noted}
 use Rattle.types.specs.declared.«Type».{«Type»}
 use Rattle.types.specs.declared.Inverted.{Inverted}
 use Rattle.types.proofs.Laws.{ty-plain, ty-new}
 use Rattle.layout.specs.Words as words
-use Rattle.layout.specs.Words.{nodeWords, nodesMade, childrenMade, slotAt, decode, storeIn}
+use Rattle.layout.specs.Words.{nodesMade, childrenMade, slotAt, decode, storeIn}
 use Rattle.layout.specs.Meaning.{readAt, heldIn, heldKids, kindMeans, kindFits, putAt}
 use Rattle.layout.specs.declared.Kind.{Kind}
 use Rattle.layout.specs.declared.Held.{Held}
@@ -28,9 +28,8 @@ use Rattle.layout.specs.declared.TypeState.the-variants.{Known}
 use Rattle.layout.specs.declared.TypeNode.the-variants.{Root}
 use Rattle.layout.proofs.KindLaws.{kind-kids, movedTo}
 use Rattle.layout.proofs.HeldLaws.{held-by, held-kids, held-known, held-fits}
-use Rattle.layout.proofs.StoreLaws.{clean-nodes}
 use Rattle.store.specs.Holds.{Room, Ready}
-use Rattle.store.proofs.Laws.{store-count, store-children}
+use Rattle.store.proofs.Laws.{store-count}
 use Rattle.roots.specs.Found.{Found}
 use Rattle.make.proofs.MakeLaws.{RoomIn, ready-room}
 use Rattle.needs.proofs.RootLaws.{kidsIn, length-run}
@@ -40,8 +39,8 @@ use Rattle.copy_parts.specs.Places.{listOf, heldFirst, heldCount, Runs, Goes, R
 use Rattle.copy_parts.specs.Steps.{Begun, ended}
 use Rattle.copy_type.specs.Words.{copyingAt, Spared, Copyable, CopiedIs}
 use Rattle.copy_type.proofs.MovedLaws.{untyped, moved-kind, moved-fits}
-use Rattle.copy_type.proofs.SparedLaws.{spared-refl, spared-trans, spared-less, blank-nodes, blank-children, blank-spared, blank-reserves, kind-store, kind-spared}
-use Rattle.copy_type.proofs.FillLaws.{room-less, Long, Filling, filled-to, filled-types, filled-names}
+use Rattle.copy_type.proofs.SparedLaws.{spared-refl, spared-trans, spared-less, blank-children, blank-spared, blank-reserves, kind-store, kind-spared}
+use Rattle.copy_type.proofs.FillLaws.{room-less, Filling, filled-to, filled-types, filled-names}
 
 -- the store as it was
 pub copied-same : {m : Copied} {h ws ks table : List ℕ} {r : «Type»} → words.clean h ws ks ≡ true → m ≡ record { to = copyingAt h ws ks table; type = tyOf (r .0) }

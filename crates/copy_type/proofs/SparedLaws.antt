@@ -1,6 +1,6 @@
 -- What each step of the copying spares: the blank, a child moved into a run that no node has, and the kind taken. Steps follow one another.
 -- Assumes nothing.
-use mathlib.Core.Path.{_≡_, refl, ap, sym, _∙_, subst}
+use mathlib.Core.Path.{_≡_, refl, ap, sym, _∙_}
 use mathlib.Core.Bool.{true}
 use mathlib.Core.Logic.{_⊎_, inl, inr}
 use mathlib.Core.List.{List, [], _∷_}
@@ -10,20 +10,20 @@ use lib.ListN.{length, set, length-append}
 use Rattle.scope.specs.Nodes as nodes
 use Rattle.types.specs.declared.«Type».{«Type»}
 use Rattle.types.specs.declared.Inverted.{Inverted}
-use Rattle.layout.specs.Words.{nodeWords, childWords, nodesMade, childrenMade, nodeRoom, childRoom, slotAt, storeIn, clean}
-use Rattle.layout.specs.Meaning.{putAt, putSlot, kindMeans, kindFits, Clean, Lies}
+use Rattle.layout.specs.Words.{nodesMade, childrenMade, nodeRoom, childRoom, slotAt, storeIn, clean}
+use Rattle.layout.specs.Meaning.{putAt, putSlot, kindMeans, kindFits, Lies}
 use Rattle.layout.specs.declared.Kind.{Kind}
 use Rattle.layout.specs.declared.Slot.{Slot}
 use Rattle.layout.specs.declared.TypeState.the-variants.{Known, Unknown}
 use Rattle.layout.specs.declared.TypeNode.the-variants.{Root}
 use Rattle.layout.proofs.ChildLaws.{slot-there, length-put-child, tail-put-child, kept-put, kept-refl, kept-trans, kept-less}
 use Rattle.layout.proofs.StoreLaws.{clean-lies, clean-nodes}
-use Rattle.store.specs.Holds.{Holds, Beyond, Became, Ready}
+use Rattle.store.specs.Holds.{Holds, Ready}
 use Rattle.store.proofs.Laws.{store-count, beyond-refl, beyond-trans, holds-put, beyond-put}
 use Rattle.make.specs.Made.{BlankMade}
 use Rattle.make.proofs.MakeLaws.{RoomIn, ready-room}
 use Rattle.copy_type.specs.Words.{Apart, Spared}
-use Rattle.copy_type.proofs.ApartLaws.{CellApart, apart-put, apart-made, store-apart, words-apart}
+use Rattle.copy_type.proofs.ApartLaws.{apart-put, apart-made, store-apart, words-apart}
 
 pub spared-refl : {b : ℕ} (h ws ks : List ℕ) → clean h ws ks ≡ true → Spared b h ws ks h ws ks
 spared-refl {b} h ws ks ok = record {

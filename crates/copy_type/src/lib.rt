@@ -1,6 +1,5 @@
 // A type copied out of one store into another, with all below it: "Each source root becomes a new Unknown before its children are walked, then takes
 // its kind." A table with a number for each node of the source says which roots have a copy. Nothing here can fail: what is asked for is room.
-ghost use mathlib.Core.Path.{_≡_};
 ghost use Rattle.scope.specs.Types.{tyOf};
 ghost use Rattle.scope.proofs.CopyTable.{copyF};
 ghost use Rattle.layout.specs.Words.{decode};

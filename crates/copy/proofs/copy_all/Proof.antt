@@ -31,13 +31,6 @@ mul-t15 c = omega arith
 shared-slice-read-t18 : tie.Need-shared-slice-read-t18 Inv-loop μ-loop
 shared-slice-read-t18 c = omega arith
 
-copy-requires : tie.Need-copy-requires Inv-loop μ-loop
-copy-requires c κs =
-    let w = c .before .before .before .before .before in
-    let l = w .before in
-    let s = l .before .before .before .before .before .before .before .before .before .before in
-    listing-copyable (l .loop .inv) _ (listed-next (s .args .ts .now) (l .loop .i) (w .loop-test .taken)) (s .pre .0 .source)
-
 mul-out : tie.Need-mul-out Inv-loop μ-loop
 mul-out c =
     let w = c .before .before .before .before .before .before .before .before .before .before .before .before .before .before in
@@ -74,6 +67,13 @@ loop-again c =
       nodes = o .copy .kept .1 .1 .1 .1 .1 .1 .1 .0;
       kids = o .copy .kept .1 .1 .1 .1 .1 .1 .1 .1 .0;
     })
+
+copy-requires : tie.Need-copy-requires Inv-loop μ-loop
+copy-requires c κs =
+    let w = c .before .before .before .before .before in
+    let l = w .before in
+    let s = l .before .before .before .before .before .before .before .before .before .before in
+    listing-copyable (l .loop .inv) _ (listed-next (s .args .ts .now) (l .loop .i) (w .loop-test .taken)) (s .pre .0 .source)
 
 same-length : tie.Need-same-length Inv-loop μ-loop
 same-length c =

@@ -1,8 +1,8 @@
 -- `copy::export` meets its contract: three lists, one after another over one table, are what the export makes, and what the source remembers is
 -- remembered as its copy. Assumes nothing.
-use mathlib.Core.Path.{_∙_}
+use native.Mathlib.Omega.{arith}
 use Rattle.scope.specs.Limits.{MAX-NODES}
-use Rattle.copy.proofs.WholeLaws.{error-copyable, nil-copyable, list-copyable, rememberable, export-is}
+use Rattle.copy.proofs.WholeLaws.{error-copyable, nil-copyable, list-copyable, export-is}
 use borrow.Author.Needs.{needs}
 use Rattle.copy.proofs.export.Statement.{statement}
 use Rattle.copy.proofs.export.Tie as tie
@@ -58,11 +58,11 @@ remember-requires c κs =
     let a = c .before .before .before .before .before .before .before .before .before .before .before .before in
     let z = a .before .before .before .before .before .before .before .before .before .before .before .before .before in
     let e = z .before .before .before .before .before .before .before .before .before .before .before .before in
-    let o = e .before .before .before .before .before .before .before .before .before .before .before in
-    let x = o .before .before .before .before in
-    let s = x .before .before .before .before .before .before .before .before .before in
-    rememberable (s .args .sh .now) (s .args .sw .now) (s .args .sk .now) (s .args .ts .now) MAX-NODES (s .pre) (x .read-header .ensures)
-    (s .pre .source .few) (o .«open» .ensures) (e .copy-remembered .ensures) (z .copy-remembered2 .ensures) (a .copy-all .ensures)
+    record {
+      clean = a .copy-all .ensures .spared .clean;
+      error = e .copy-remembered .ensures .fits;
+      nil = search (e .copy-remembered .ensures .fits, z .copy-remembered2 .ensures .fits);
+    }
 
 same-length : tie.Need-same-length
 same-length c =
@@ -71,7 +71,7 @@ same-length c =
     let z = a .before .before .before .before .before .before .before .before .before .before .before .before .before in
     let e = z .before .before .before .before .before .before .before .before .before .before .before .before in
     let o = e .before .before .before .before .before .before .before .before .before .before .before in
-    r .remember .kept .0 ∙ (a .copy-all .kept .1 .1 .1 .1 .1 .1 .0 ∙ (z .copy-remembered2 .kept .1 .1 .1 .1 .0 ∙ (e .copy-remembered .kept .1 .1 .1 .1 .0 ∙ o .«open» .kept .0)))
+    omega (arith, r .remember .kept .0, a .copy-all .kept .1 .1 .1 .1 .1 .1 .0, z .copy-remembered2 .kept .1 .1 .1 .1 .0, e .copy-remembered .kept .1 .1 .1 .1 .0, o .«open» .kept .0)
 
 same-length-2 : tie.Need-same-length-2
 same-length-2 c =
@@ -79,7 +79,7 @@ same-length-2 c =
     let z = a .before .before .before .before .before .before .before .before .before .before .before .before .before in
     let e = z .before .before .before .before .before .before .before .before .before .before .before .before in
     let o = e .before .before .before .before .before .before .before .before .before .before .before in
-    a .copy-all .kept .1 .1 .1 .1 .1 .1 .1 .0 ∙ (z .copy-remembered2 .kept .1 .1 .1 .1 .1 .0 ∙ (e .copy-remembered .kept .1 .1 .1 .1 .1 .0 ∙ o .«open» .kept .1 .0))
+    omega (arith, a .copy-all .kept .1 .1 .1 .1 .1 .1 .1 .0, z .copy-remembered2 .kept .1 .1 .1 .1 .1 .0, e .copy-remembered .kept .1 .1 .1 .1 .1 .0, o .«open» .kept .1 .0)
 
 same-length-3 : tie.Need-same-length-3
 same-length-3 c =
@@ -87,10 +87,12 @@ same-length-3 c =
     let z = a .before .before .before .before .before .before .before .before .before .before .before .before .before in
     let e = z .before .before .before .before .before .before .before .before .before .before .before .before in
     let o = e .before .before .before .before .before .before .before .before .before .before .before in
-    a .copy-all .kept .1 .1 .1 .1 .1 .1 .1 .1 .0 ∙ (z .copy-remembered2 .kept .1 .1 .1 .1 .1 .1 .0 ∙ (e .copy-remembered .kept .1 .1 .1 .1 .1 .1 .0 ∙ o .«open» .kept .1 .1 .0))
+    omega (arith, a .copy-all .kept .1 .1 .1 .1 .1 .1 .1 .1 .0, z .copy-remembered2 .kept .1 .1 .1 .1 .1 .1 .0, e .copy-remembered .kept .1 .1 .1 .1 .1 .1 .0, o .«open» .kept .1 .1 .0)
 
 same-length-4 : tie.Need-same-length-4
-same-length-4 c = search needs
+same-length-4 c =
+    let a = c .before .before .before .before .before .before .before .before .before .before .before .before .before .before .before in
+    a .copy-all .kept .1 .1 .1 .1 .1 .1 .1 .1 .1 .1 .0
 
 returns : tie.Need-returns
 returns c =
