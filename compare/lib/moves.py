@@ -14,7 +14,7 @@ WEIGHTS = {
     "force": 5, "finish": 0.8, "finish_where": 1.5, "reset": 0.4,
     "find": 2, "find_mut": 2, "self_inverse": 4, "is_nil": 3, "get_mod": 5, "approx_eq": 2,
     "find_related": 4, "show": 10, "show_impl_type": 5,
-    "import": 4, "export": 4,
+    "import": 4, "export": 4, "bind_param": 0.5,
 }
 # Not on a source store.
 MAIN_ONLY = ["reset", "import"]
@@ -56,6 +56,11 @@ class Moves(Pairs):
         for _ in range(self.rng.randrange(1, 3)):
             tree = self.trees.at_random(tree, lambda _: self.trees.leaf_kind("Param"))
         self.plant(tree)
+
+    def bind_param(self):
+        """A variable that is a Param, or its inverse: imports replace it too."""
+        param = self.mostly(self.of_kinds("Param"), 0.8)
+        self.unify(self.without_kind() or self.new_var(), self.turned(param))
 
     def remember(self):
         self.do(self.rng.choice(["error", "nil"]))
@@ -159,8 +164,8 @@ class Moves(Pairs):
         nodes = fit if fit and self.rng.random() < 0.6 else nodes
         count = self.rng.choice([0, 1, 1, 2, 3, 4])
         types = [self.among(nodes) for _ in range(count)]
-        if types and self.rng.random() < 0.3:
-            types.append(self.turned(types[0]))
+        while types and self.rng.random() < 0.3:
+            types.append(self.turned(self.rng.choice(types)))
         return types
 
     def import_(self):

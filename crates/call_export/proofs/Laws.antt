@@ -19,10 +19,10 @@ use Rattle.scope.specs.Import.{MovedAll, export}
 use Rattle.scope.specs.Needs.{Needs, needs, exported}
 use Rattle.scope.specs.Sound.{Lent, inStore}
 use Rattle.scope.specs.Refusals.{OUTSIDE, UNMAKEABLE, NODES-FULL, CHILDREN-FULL, SHORT}
-use Rattle.scope.specs.Calls.{Outcome, done, judged, firstBroken, storeOf, openTest, lentTests, tooMany, roomTests, shortFor, Exported, exportCall}
+use Rattle.scope.specs.Calls.{Outcome, done, judged, firstBroken, storeOf, openTest, lentTests, tooMany, shortFor, Exported, exportCall}
 use Rattle.scope.proofs.NeedsTests.{export-tests}
 use Rattle.chart.specs.declared.Beside.{Beside}
-use Rattle.layout.specs.Words.{nodesMade, decode, storeIn, lentOf}
+use Rattle.layout.specs.Words.{nodesMade, storeIn, lentOf}
 use Rattle.layout.specs.Meaning.{headerIn}
 use Rattle.layout.specs.declared.Header.{Header}
 use Rattle.store.specs.Holds.{Openable, Room}
@@ -37,14 +37,13 @@ use Rattle.needs.specs.declared.Needs as counted
 use Rattle.needs.specs.Sums.{sumOf}
 use Rattle.needs.specs.Sources.{Importable, ExportNeeds}
 use Rattle.needs.proofs.SourceLaws.{sound-export}
-use Rattle.promise.specs.Promise.{AsFound}
 use Rattle.promise.specs.Exports.{ExportPromised}
 use Rattle.promise.specs.declared.DoneAnswer.the-variants.{Done, Refused}
 use Rattle.promise.proofs.Laws.{lent-clean-words, lent-store, lent-facts}
 use Rattle.copy.specs.Whole.{ExportReady, ImportedIs}
 use Rattle.lent_tests.specs.Given.{FirstOf}
 use Rattle.lent_tests.proofs.Laws.{Row, row-first, row-many, row-made}
-use Rattle.call_export.specs.Tests.{listTests, freshTests, sourceTests, exportTests, ExportTested}
+use Rattle.call_export.specs.Tests.{listTests, freshTests, exportTests, ExportTested}
 
 -- one list
 

@@ -1,21 +1,27 @@
 // Runs a list of calls through the public calls and writes what each answers. The list is text on standard input: a call's number, how many numbers
-// follow, and these. What each number means stands in `making`, `asking`, `joining`, `moving`, `printing` and `flipping`; the ones here set what is lent and
-// write words into it. There are two stores, one in hand and the other, which an import reads.
+// follow, and these. What each number means stands in `lending`, `making`, `asking`, `joining`, `moving`, `printing` and `flipping`; the ones here write words
+// into what is lent, or write a line. There are two stores, one in hand and the other, which an import reads.
 ghost use Prim.Native.Nat.{_<_};
 
 mod asking; // calls that change no store
 mod flipping; // words changed in turn
 mod joining; // unify and its family
+mod lending; // what is lent
 mod making; // open, reset, the makers, forcing and finishing
 mod moving; // import and export
 mod numbers; // text to numbers
 mod printing; // show and show_impl_type
 mod writing; // answers to text
 
+use crate::lending::LEND;
+use crate::lending::Lent;
+use crate::lending::SWAP;
+use crate::lending::Sizes;
+use crate::lending::lend;
+use crate::lending::nothing_lent;
 use crate::numbers::after;
 use crate::numbers::bytes_upto;
 use crate::numbers::first;
-use crate::numbers::to_bytes;
 use crate::numbers::upto;
 use crate::numbers::word;
 use chart::Beside;
@@ -25,25 +31,11 @@ use layout::NODE_WORDS;
 use scope::MAX_CHILDREN;
 use scope::MAX_NODES;
 
-const RULE: u32 = 0;
-
-const TEXT: u32 = 1;
-
-const CHART: u32 = 2;
-
-const BESIDE: u32 = 3;
-
-// Words of each slice of the store in hand.
-const LEND: u32 = 4;
-
 const POKE: u32 = 5;
 
 const CASE: u32 = 7;
 
 const WORDS: u32 = 8;
-
-// The other store in hand.
-const SWAP: u32 = 9;
 
 // More words than the largest store needs, so that some are left over.
 const HEAD: usize = HEAD_WORDS + 2;
@@ -58,109 +50,6 @@ const BYTES: usize = 4096;
 const INPUT: usize = 131_072;
 
 const NUMBERS: usize = 32_768;
-
-// How many words of each slice of a store.
-struct Sizes {
-    head: usize,
-    nodes: usize,
-    kids: usize,
-}
-
-// What is lent: where the chart's records stand among the numbers, what stands beside them, how many bytes of the texts and words of the store in hand and
-// of the other, and whether the second store is in hand.
-struct Lent {
-    chart_at: usize,
-    chart_len: usize,
-    beside: Beside,
-    rule: usize,
-    text: usize,
-    here: Sizes,
-    there: Sizes,
-    swapped: bool,
-}
-
-fn no_words() -> Sizes {
-    Sizes {
-        head: 0,
-        nodes: 0,
-        kids: 0,
-    }
-}
-
-fn nothing_lent() -> Lent {
-    let sigils = [0u32; 12];
-    Lent {
-        chart_at: 0,
-        chart_len: 0,
-        beside: Beside {
-            fn_trait: scope::NONE,
-            sigils,
-        },
-        rule: 0,
-        text: 0,
-        here: no_words(),
-        there: no_words(),
-        swapped: false,
-    }
-}
-
-fn sigils_of(a: &[u32]) -> [u32; 12] {
-    let mut s = [0u32; 12];
-    let mut i = 0;
-    while i < 12 {
-        s[i] = word(a, i);
-        i += 1;
-    }
-    s
-}
-
-fn beside_of(a: &[u32]) -> Beside {
-    let sigils = sigils_of(after(a, 1));
-    Beside {
-        fn_trait: word(a, 0),
-        sigils,
-    }
-}
-
-// What is lent from now on; `at` is where the call's numbers stand.
-fn lend(op: u32, l: Lent, at: usize, a: &[u32], rule: &mut [u8], text: &mut [u8]) -> Lent {
-    let mut m = l;
-    if op == RULE {
-        let n = to_bytes(a, rule);
-        m.rule = n;
-        return m;
-    }
-    if op == TEXT {
-        let n = to_bytes(a, text);
-        m.text = n;
-        return m;
-    }
-    if op == CHART {
-        m.chart_at = at;
-        m.chart_len = a.len();
-        return m;
-    }
-    if op == BESIDE {
-        let beside = beside_of(a);
-        m.beside = beside;
-        return m;
-    }
-    if op == SWAP {
-        let here = m.here;
-        let there = m.there;
-        m.here = there;
-        m.there = here;
-        m.swapped = !l.swapped;
-        return m;
-    }
-    let here = Sizes {
-        head: word(a, 0) as usize,
-        nodes: word(a, 1) as usize,
-        kids: word(a, 2) as usize,
-    };
-    m.here = here;
-    m
-}
 
 // A call by its number.
 fn call<'a>(

@@ -2,7 +2,6 @@
 -- Assumes nothing.
 use mathlib.Core.Path.{refl}
 use native.Mathlib.Omega.{arith}
-use borrow.Author.Needs.{needs}
 use Rattle.call_import.proofs.TestLaws.{params-few, params-listed}
 use Rattle.call_import.proofs.params_of.Statement.{statement}
 use Rattle.call_import.proofs.params_of.Tie as tie

@@ -1,10 +1,10 @@
--- `run_calls::sigils_of` is safe and ends: the measure is what is left of the twelve.
+-- `run_calls::lending::sigils_of` is safe and ends: the measure is what is left of the twelve.
 -- Assumes nothing.
 use Prim.Native.Nat.{_-_}
 use native.Mathlib.Omega.{arith}
 use borrow.Author.Needs.{needs}
-use Rattle.run_calls.proofs.sigils_of.Statement.{statement}
-use Rattle.run_calls.proofs.sigils_of.Tie as tie
+use Rattle.run_calls.proofs.lending.sigils_of.Statement.{statement}
+use Rattle.run_calls.proofs.lending.sigils_of.Tie as tie
 
 abbrev Inv-loop : tie.InvT-loop
 Inv-loop a s₀ i₀ s i = Unit {0}
