@@ -1,6 +1,6 @@
 // The printers' second forms: "A second form of each hands back the written front part of that buffer: on 7 the whole buffer, on any other refusal an empty
-// part." The refusal's number, 0 where none stands, is told through a lent number beside the part. A slice that goes into the answer has no value of its own
-// at the end, so a contract cannot say what lies past the part; the first forms, which these call, say it of the whole buffer.
+// part." The refusal's number, 0 where none stands, is told through a lent number beside the part. The part begins where the buffer does. A slice that goes
+// into the answer has no value of its own at the end, so a contract cannot say what lies past the part; the first forms, which these call, say it.
 ghost use mathlib.Core.Path.{_≡_};
 ghost use Prim.Native.Nat.{_≤_};
 ghost use lib.ListN.{length};
@@ -46,7 +46,7 @@ fn part_in(r: CountAnswer, room: usize) -> usize
 // The part, and the number beside it.
 fn hand_back<'b>(buf: &'b mut [u8], r: CountAnswer, code: &mut u32) -> &'b mut [u8]
     requires { ⌜ partIn r (length (now buf)) ≤ length (now buf) ⌝ }
-    ensures { λ p. ⌜ Back r (now (buf .entry)) (now (code .exit)) (now p) ⌝ }
+    ensures { λ p. ⌜ Back r (now (buf .entry)) (now (code .exit)) (now p) × (p .ptr ≡ buf .entry .ptr) ⌝ }
 {
     *code = code_in(r);
     let n = part_in(r, buf.len());
@@ -69,7 +69,8 @@ pub fn show_part<'a, 'b>(
     ensures { λ r. ⌜ PartPromised
         (showCall (envIn (now (chart .entry)) beside (now (rule .entry)) (now (text .entry))) (lentOf (now (h .entry)) (now (ws .entry)) (now (ks .entry)))
         (tyOf (t .0)) (now (buf .entry)))
-        (now (code .exit)) (now r) (storeIn (now (h .entry)) (now (ws .entry)) (now (ks .entry))) ⌝ }
+        (now (code .exit)) (now r) (storeIn (now (h .entry)) (now (ws .entry)) (now (ks .entry)))
+        × (r .ptr ≡ buf .entry .ptr) ⌝ }
 {
     let r = call_show::show(chart, beside, rule, text, h, ws, ks, t, buf);
     hand_back(buf, r, code)
@@ -92,7 +93,8 @@ pub fn show_impl_type_part<'a, 'b>(
     ensures { λ r. ⌜ PartPromised
         (showImplTypeCall (envIn (now (chart .entry)) beside (now (rule .entry)) (now (text .entry))) (lentOf (now (h .entry)) (now (ws .entry)) (now (ks .entry)))
         (implMeans a (now (xs .entry))) (now (buf .entry)))
-        (now (code .exit)) (now r) (storeIn (now (h .entry)) (now (ws .entry)) (now (ks .entry))) ⌝ }
+        (now (code .exit)) (now r) (storeIn (now (h .entry)) (now (ws .entry)) (now (ks .entry)))
+        × (r .ptr ≡ buf .entry .ptr) ⌝ }
 {
     let r = call_show::show_impl_type(chart, beside, rule, text, h, ws, ks, a, xs, buf);
     hand_back(buf, r, code)

@@ -16,7 +16,7 @@ slice-aggregate-result : tie.Need-slice-aggregate-result
 slice-aggregate-result c = sym (length-take-le _ _ (rw (c .before .part-in .ensures) (c .before .before .before .before .pre)))
 
 returns : tie.Need-returns
-returns c = record { told = c .before .before .code-in .ensures; front = rw (c .before .part-in .ensures) refl }
+returns c = (record { told = c .before .before .code-in .ensures; front = rw (c .before .part-in .ensures) refl }, refl)
 
 pub hand-back-spec : {M : Type 1} → statement M
 hand-back-spec = tie.close (tie.spec code-in-requires part-in-requires slice-aggregate-result returns)
