@@ -19,8 +19,11 @@ same-length c = search needs
 returns : tie.Need-returns
 unfolding finishInferenceCall
 returns c =
-    let a = c .before .before .before .before .before .before .before .args in
-    as-sheet (c .before .before .before .before .before .before .before .pre) finishInferenceCall (call-done lentEnv (a .h .now) (a .ws .now) (a .ks .now) (λ s. []) finishing 0 (lent-code (c .before .before .before .before .before .before .before .pre)) refl refl (c .before .before .finish-inference .ensures))
+    let at2 = c .before .before in
+    let at7 = at2 .before .before .before .before .before in
+    let a = at7 .args in
+    as-sheet (at7 .pre) finishInferenceCall (call-done lentEnv (a .h .now) (a .ws .now) (a .ks .now) (λ s. []) finishing 0 (lent-code (at7 .pre)) refl refl
+    (at2 .finish-inference .ensures))
 
 pub finish-spec : {M : Type 1} → statement M
 finish-spec = tie.close (tie.spec finish-inference-requires same-length returns)

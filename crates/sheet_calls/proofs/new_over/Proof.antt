@@ -19,8 +19,11 @@ same-length c = search needs
 
 returns : tie.Need-returns
 returns c =
-    let a = c .before .before .before .before .before .before .before .before .args in
-    over-outside (c .before .before .before .before .before .before .before .before .pre .0) (a .types .now) (c .before .before .before .before .before .before .before .before .pre .1) (c .before .before .read-header .ensures) (c .before .types-inside .ensures) (c .if1 .taken)
+    let at1 = c .before in
+    let at2 = at1 .before in
+    let at8 = at2 .before .before .before .before .before .before in
+    let a = at8 .args in
+    over-outside (at8 .pre .0) (a .types .now) (at8 .pre .1) (at2 .read-header .ensures) (at1 .types-inside .ensures) (c .if1 .taken)
 
 cast-room : tie.Need-cast-room
 cast-room c = search needs
@@ -33,8 +36,13 @@ same-length-2 c = search needs
 
 returns-2 : tie.Need-returns-2
 returns-2 c =
-    let a = c .before .before .before .before .before .before .before .before .before .before .before .args in
-    over-full (c .before .before .before .before .before .before .before .before .before .before .before .pre .0) (a .types .now) (c .before .before .before .before .before .before .before .before .before .before .before .pre .1) (c .before .before .before .before .before .read-header .ensures) (c .before .before .before .before .types-inside .ensures) (c .before .before .before .if1 .left) (c .before .room .ensures) (c .if2 .taken)
+    let at1 = c .before in
+    let at3 = at1 .before .before in
+    let at4 = at3 .before in
+    let at5 = at4 .before in
+    let at11 = at5 .before .before .before .before .before .before in
+    let a = at11 .args in
+    over-full (at11 .pre .0) (a .types .now) (at11 .pre .1) (at5 .read-header .ensures) (at4 .types-inside .ensures) (at3 .if1 .left) (at1 .room .ensures) (c .if2 .taken)
 
 slice-aggregate-put-types : tie.Need-slice-aggregate-put-types
 slice-aggregate-put-types c = search needs
@@ -53,14 +61,25 @@ array-share-prefix-es c = search needs
 
 slice-aggregate-new-kind : tie.Need-slice-aggregate-new-kind
 slice-aggregate-new-kind c =
-    let a = c .before .before .before .before .before .before .before .before .before .before .before .before .before .before .before .before .before .before .before .args in
-    sym (part-long (a .types .now) (c .before .before .before .before .before .before .put-types .last .0) (c .before .before .before .before .before .before .put-types .ensures) (omega (arith, c .before .before .before .before .before .before .put-types .kept .0, (c .before .before .before .before .before .before .before .before .before .before .before .before .before .before .before .before .before .before .before .pre) .1 .few)))
+    let at6 = c .before .before .before .before .before .before in
+    let at19 = at6 .before .before .before .before .before .before .before .before .before .before .before .before .before in
+    let a = at19 .args in
+    sym (part-long (a .types .now) (at6 .put-types .last .0) (at6 .put-types .ensures) (omega (arith, at6 .put-types .kept .0, (at19 .pre) .1 .few)))
 
 new-kind-requires : tie.Need-new-kind-requires
 new-kind-requires c κs =
-    let a = c .before .before .before .before .before .before .before .before .before .before .before .before .before .before .before .before .before .before .before .args in
-    over-ready (c .before .before .before .before .before .before .before .before .before .before .before .before .before .before .before .before .before .before .before .pre .0) (a .types .now) (c .before .before .before .before .before .before .before .before .before .before .before .before .before .before .before .before .before .before .before .pre .1) (c .before .before .before .before .before .before .before .before .before .before .before .before .before .read-header .ensures) (c .before .before .before .before .before .before .before .before .before .before .before .before .types-inside .ensures) (c .before .before .before .before .before .before .before .before .before .before .before .if1 .left) (c .before .before .before .before .before .before .before .before .before .room .ensures) (c .before .before .before .before .before .before .before .before .if2 .left) (c .before .before .before .before .before .before .put-types .ensures)
-    (omega (arith, c .before .before .before .before .before .before .put-types .kept .0, (c .before .before .before .before .before .before .before .before .before .before .before .before .before .before .before .before .before .before .before .pre) .1 .few)) (c .before .plain-head .ensures)
+    let at1 = c .before in
+    let at6 = at1 .before .before .before .before .before in
+    let at8 = at6 .before .before in
+    let at9 = at8 .before in
+    let at11 = at9 .before .before in
+    let at12 = at11 .before in
+    let at13 = at12 .before in
+    let at19 = at13 .before .before .before .before .before .before in
+    let a = at19 .args in
+    over-ready (at19 .pre .0) (a .types .now) (at19 .pre .1) (at13 .read-header .ensures) (at12 .types-inside .ensures) (at11 .if1 .left) (at9 .room .ensures) (at8 .if2 .left)
+    (at6 .put-types .ensures)
+    (omega (arith, at6 .put-types .kept .0, (at19 .pre) .1 .few)) (at1 .plain-head .ensures)
 
 same-length-3 : tie.Need-same-length-3
 same-length-3 c = search needs
@@ -73,9 +92,19 @@ same-length-5 c = search needs
 
 returns-3 : tie.Need-returns-3
 returns-3 c =
-    let a = c .before .before .before .before .before .before .before .before .before .before .before .before .before .before .before .before .before .before .before .before .before .before .before .before .before .before .args in
-    over-made (c .before .before .before .before .before .before .before .before .before .before .before .before .before .before .before .before .before .before .before .before .before .before .before .before .before .before .pre .0) (a .types .now) (c .before .before .before .before .before .before .before .before .before .before .before .before .before .before .before .before .before .before .before .before .before .before .before .before .before .before .pre .1) (c .before .before .before .before .before .before .before .before .before .before .before .before .before .before .before .before .before .before .before .before .read-header .ensures) (c .before .before .before .before .before .before .before .before .before .before .before .before .before .before .before .before .before .before .before .types-inside .ensures) (c .before .before .before .before .before .before .before .before .before .before .before .before .before .before .before .before .before .before .if1 .left) (c .before .before .before .before .before .before .before .before .before .before .before .before .before .before .before .before .room .ensures) (c .before .before .before .before .before .before .before .before .before .before .before .before .before .before .before .if2 .left) (c .before .before .before .before .before .before .before .before .before .before .before .before .before .put-types .ensures)
-    (omega (arith, c .before .before .before .before .before .before .before .before .before .before .before .before .before .put-types .kept .0, (c .before .before .before .before .before .before .before .before .before .before .before .before .before .before .before .before .before .before .before .before .before .before .before .before .before .before .pre) .1 .few)) (c .before .before .before .before .before .before .before .before .plain-head .ensures) (c .before .before .before .before .before .before .new-kind .ensures)
+    let at6 = c .before .before .before .before .before .before in
+    let at8 = at6 .before .before in
+    let at13 = at8 .before .before .before .before .before in
+    let at15 = at13 .before .before in
+    let at16 = at15 .before in
+    let at18 = at16 .before .before in
+    let at19 = at18 .before in
+    let at20 = at19 .before in
+    let at26 = at20 .before .before .before .before .before .before in
+    let a = at26 .args in
+    over-made (at26 .pre .0) (a .types .now) (at26 .pre .1) (at20 .read-header .ensures) (at19 .types-inside .ensures) (at18 .if1 .left) (at16 .room .ensures) (at15 .if2 .left)
+    (at13 .put-types .ensures)
+    (omega (arith, at13 .put-types .kept .0, (at26 .pre) .1 .few)) (at8 .plain-head .ensures) (at6 .new-kind .ensures)
 
 pub new-over-spec : {M : Type 1} → statement M
 new-over-spec =

@@ -24,8 +24,11 @@ returns c =
 
 new-var-requires : tie.Need-new-var-requires
 new-var-requires c κs =
-    let a = c .before .before .before .before .before .before .before .before .args in
-    maker-ready (sheet-room (c .before .before .before .before .before .before .before .before .pre) 1 (c .before .before .before .room .ensures (a .ws .now) (a .ks .now))) (c .before .before .if1 .left)
+    let at2 = c .before .before in
+    let at3 = at2 .before in
+    let at8 = at3 .before .before .before .before .before in
+    let a = at8 .args in
+    maker-ready (sheet-room (at8 .pre) 1 (at3 .room .ensures (a .ws .now) (a .ks .now))) (at2 .if1 .left)
 
 same-length-2 : tie.Need-same-length-2
 same-length-2 c = search needs
@@ -36,9 +39,13 @@ same-length-3 c = search needs
 returns-2 : tie.Need-returns-2
 unfolding newVarCall
 returns-2 c =
-    let a = c .before .before .before .before .before .before .before .before .before .before .before .before .before .args in
-    let t = sheet-room (c .before .before .before .before .before .before .before .before .before .before .before .before .before .pre) 1 (c .before .before .before .before .before .before .before .before .room .ensures (a .ws .now) (a .ks .now)) in
-    as-sheet (c .before .before .before .before .before .before .before .before .before .before .before .before .before .pre) (λ e l. newVarCall e l NONE) (maker-done t (λ s. newVar s NONE) (c .before .before .before .before .before .before .before .if1 .left) (c .before .before .before .before .new-var .ensures))
+    let at4 = c .before .before .before .before in
+    let at7 = at4 .before .before .before in
+    let at8 = at7 .before in
+    let at13 = at8 .before .before .before .before .before in
+    let a = at13 .args in
+    let t = sheet-room (at13 .pre) 1 (at8 .room .ensures (a .ws .now) (a .ks .now)) in
+    as-sheet (at13 .pre) (λ e l. newVarCall e l NONE) (maker-done t (λ s. newVar s NONE) (at7 .if1 .left) (at4 .new-var .ensures))
 
 pub new-var-spec : {M : Type 1} → statement M
 new-var-spec =

@@ -23,15 +23,24 @@ same-length c = search needs
 returns : tie.Need-returns
 unfolding nilCall
 returns c =
-    let a = c .before .before .before .before .before .before .before .before .before .args in
-    let t = nil-tested (c .before .before .before .before .read-header .ensures) (c .before .before .nodes-for .ensures) (sheet-room (c .before .before .before .before .before .before .before .before .before .pre) (c .before .before .nodes-for .result) (c .before .room .ensures (a .ws .now) (a .ks .now))) in
-    as-sheet (c .before .before .before .before .before .before .before .before .before .pre) nilCall (maker-back t makeNil (c .if1 .taken))
+    let at1 = c .before in
+    let at2 = at1 .before in
+    let at4 = at2 .before .before in
+    let at9 = at4 .before .before .before .before .before in
+    let a = at9 .args in
+    let t = nil-tested (at4 .read-header .ensures) (at2 .nodes-for .ensures) (sheet-room (at9 .pre) (at2 .nodes-for .result) (at1 .room .ensures (a .ws .now) (a .ks .now))) in
+    as-sheet (at9 .pre) nilCall (maker-back t makeNil (c .if1 .taken))
 
 nil-requires : tie.Need-nil-requires
 nil-requires c κs =
-    let a = c .before .before .before .before .before .before .before .before .before .before .before .args in
-    let t = sheet-room (c .before .before .before .before .before .before .before .before .before .before .before .pre) (c .before .before .before .before .nodes-for .result) (c .before .before .before .room .ensures (a .ws .now) (a .ks .now)) in
-    maker-ready (nil-tested (c .before .before .before .before .before .before .read-header .ensures) (c .before .before .before .before .nodes-for .ensures) t) (c .before .before .if1 .left)
+    let at2 = c .before .before in
+    let at3 = at2 .before in
+    let at4 = at3 .before in
+    let at6 = at4 .before .before in
+    let at11 = at6 .before .before .before .before .before in
+    let a = at11 .args in
+    let t = sheet-room (at11 .pre) (at4 .nodes-for .result) (at3 .room .ensures (a .ws .now) (a .ks .now)) in
+    maker-ready (nil-tested (at6 .read-header .ensures) (at4 .nodes-for .ensures) t) (at2 .if1 .left)
 
 same-length-2 : tie.Need-same-length-2
 same-length-2 c = search needs
@@ -42,9 +51,15 @@ same-length-3 c = search needs
 returns-2 : tie.Need-returns-2
 unfolding nilCall
 returns-2 c =
-    let a = c .before .before .before .before .before .before .before .before .before .before .before .before .before .before .before .before .args in
-    let t = nil-tested (c .before .before .before .before .before .before .before .before .before .before .before .read-header .ensures) (c .before .before .before .before .before .before .before .before .before .nodes-for .ensures) (sheet-room (c .before .before .before .before .before .before .before .before .before .before .before .before .before .before .before .before .pre) (c .before .before .before .before .before .before .before .before .before .nodes-for .result) (c .before .before .before .before .before .before .before .before .room .ensures (a .ws .now) (a .ks .now))) in
-    as-sheet (c .before .before .before .before .before .before .before .before .before .before .before .before .before .before .before .before .pre) nilCall (maker-done t makeNil (c .before .before .before .before .before .before .before .if1 .left) (c .before .before .before .before .nil .ensures))
+    let at4 = c .before .before .before .before in
+    let at7 = at4 .before .before .before in
+    let at8 = at7 .before in
+    let at9 = at8 .before in
+    let at11 = at9 .before .before in
+    let at16 = at11 .before .before .before .before .before in
+    let a = at16 .args in
+    let t = nil-tested (at11 .read-header .ensures) (at9 .nodes-for .ensures) (sheet-room (at16 .pre) (at9 .nodes-for .result) (at8 .room .ensures (a .ws .now) (a .ks .now))) in
+    as-sheet (at16 .pre) nilCall (maker-done t makeNil (at7 .if1 .left) (at4 .nil .ensures))
 
 pub nil-spec : {M : Type 1} → statement M
 nil-spec =

@@ -15,8 +15,11 @@ type-inside-requires c κs = search needs
 
 returns : tie.Need-returns
 returns c =
-    let a = c .before .before .before .before .before .before .before .args in
-    show-outside (c .before .before .before .before .before .before .before .pre) (c .before .before .read-header .ensures) (tyOf (a .t .0)) (c .before .type-inside .ensures) (a .buf .now) (c .if1 .taken)
+    let at1 = c .before in
+    let at2 = at1 .before in
+    let at7 = at2 .before .before .before .before .before in
+    let a = at7 .args in
+    show-outside (at7 .pre) (at2 .read-header .ensures) (tyOf (a .t .0)) (at1 .type-inside .ensures) (a .buf .now) (c .if1 .taken)
 
 slice-aggregate-show-type : tie.Need-slice-aggregate-show-type
 slice-aggregate-show-type c = search needs
@@ -32,8 +35,12 @@ slice-aggregate-show-type-3 c = search needs
 
 show-type-requires : tie.Need-show-type-requires
 show-type-requires c κs =
-    let a = c .before .before .before .before .before .before .before .before .before .before .before .before .args in
-    show-stands (c .before .before .before .before .before .before .before .before .before .before .before .before .pre) (c .before .before .before .before .before .before .before .read-header .ensures) (tyOf (a .t .0)) (c .before .before .before .before .before .before .type-inside .ensures) (a .buf .now) (c .before .before .before .before .before .if1 .left)
+    let at5 = c .before .before .before .before .before in
+    let at6 = at5 .before in
+    let at7 = at6 .before in
+    let at12 = at7 .before .before .before .before .before in
+    let a = at12 .args in
+    show-stands (at12 .pre) (at7 .read-header .ensures) (tyOf (a .t .0)) (at6 .type-inside .ensures) (a .buf .now) (at5 .if1 .left)
 
 is-full-requires : tie.Need-is-full-requires
 is-full-requires c κs = search needs
@@ -43,18 +50,34 @@ same-length c = search needs
 
 returns-2 : tie.Need-returns-2
 returns-2 c =
-    let a = c .before .before .before .before .before .before .before .before .before .before .before .before .before .before .before .before .before .before .args in
-    show-full (c .before .before .before .before .before .before .before .before .before .before .before .before .before .before .before .before .before .before .pre) (c .before .before .before .before .before .before .before .before .before .before .before .before .before .read-header .ensures) (tyOf (a .t .0)) (c .before .before .before .before .before .before .before .before .before .before .before .before .type-inside .ensures) (a .buf .now) (c .before .before .before .before .before .before .before .before .before .before .before .if1 .left) (c .before .before .before .before .before .before .before .before .before .beside .ensures) (c .before .before .before .before .before .show-type .ensures)
-    (is-over (c .before .is-full .ensures) (c .if2 .taken))
+    let at1 = c .before in
+    let at5 = at1 .before .before .before .before in
+    let at9 = at5 .before .before .before .before in
+    let at11 = at9 .before .before in
+    let at12 = at11 .before in
+    let at13 = at12 .before in
+    let at18 = at13 .before .before .before .before .before in
+    let a = at18 .args in
+    show-full (at18 .pre) (at13 .read-header .ensures) (tyOf (a .t .0)) (at12 .type-inside .ensures) (a .buf .now) (at11 .if1 .left) (at9 .beside .ensures)
+    (at5 .show-type .ensures)
+    (is-over (at1 .is-full .ensures) (c .if2 .taken))
 
 same-length-2 : tie.Need-same-length-2
 same-length-2 c = search needs
 
 returns-3 : tie.Need-returns-3
 returns-3 c =
-    let a = c .before .before .before .before .before .before .before .before .before .before .before .before .before .before .before .before .before .before .args in
-    show-fits (c .before .before .before .before .before .before .before .before .before .before .before .before .before .before .before .before .before .before .pre) (c .before .before .before .before .before .before .before .before .before .before .before .before .before .read-header .ensures) (tyOf (a .t .0)) (c .before .before .before .before .before .before .before .before .before .before .before .before .type-inside .ensures) (a .buf .now) (c .before .before .before .before .before .before .before .before .before .before .before .if1 .left) (c .before .before .before .before .before .before .before .before .before .beside .ensures) (c .before .before .before .before .before .show-type .ensures)
-    (has-room (c .before .is-full .ensures) (c .if2 .left))
+    let at1 = c .before in
+    let at5 = at1 .before .before .before .before in
+    let at9 = at5 .before .before .before .before in
+    let at11 = at9 .before .before in
+    let at12 = at11 .before in
+    let at13 = at12 .before in
+    let at18 = at13 .before .before .before .before .before in
+    let a = at18 .args in
+    show-fits (at18 .pre) (at13 .read-header .ensures) (tyOf (a .t .0)) (at12 .type-inside .ensures) (a .buf .now) (at11 .if1 .left) (at9 .beside .ensures)
+    (at5 .show-type .ensures)
+    (has-room (at1 .is-full .ensures) (c .if2 .left))
 
 pub show-spec : {M : Type 1} → statement M
 show-spec =

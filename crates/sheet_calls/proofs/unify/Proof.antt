@@ -16,9 +16,12 @@ pair-requires c κs = search needs
 
 returns : tie.Need-returns
 returns c =
-    let a = c .before .before .before .before .before .before .args in
-    as-sheet (c .before .before .before .before .before .before .pre) (λ e l. unifyCall e l (tyOf (a .a .0)) (tyOf (a .b .0)))
-    (back-own (sheet-passed (c .before .before .before .before .before .before .pre) (c .before .before .read-header .ensures)) (unify-form _ _ .form) (c .before .pair .ensures) (c .if1 .taken))
+    let at1 = c .before in
+    let at2 = at1 .before in
+    let at6 = at2 .before .before .before .before in
+    let a = at6 .args in
+    as-sheet (at6 .pre) (λ e l. unifyCall e l (tyOf (a .a .0)) (tyOf (a .b .0)))
+    (back-own (sheet-passed (at6 .pre) (at2 .read-header .ensures)) (unify-form _ _ .form) (at1 .pair .ensures) (c .if1 .taken))
 
 slice-aggregate-unify-all : tie.Need-slice-aggregate-unify-all
 slice-aggregate-unify-all c = search needs
@@ -27,17 +30,27 @@ slice-aggregate-unify-all-2 : tie.Need-slice-aggregate-unify-all-2
 slice-aggregate-unify-all-2 c = search needs
 
 unify-all-requires : tie.Need-unify-all-requires
-unify-all-requires c κs = pair-asks (lent-words (sheet-passed (c .before .before .before .before .before .before .before .before .before .pre) (c .before .before .before .before .before .read-header .ensures))) _ _ (c .before .before .before .before .pair .ensures) (c .before .before .before .if1 .left)
+unify-all-requires c κs =
+    let at3 = c .before .before .before in
+    let at4 = at3 .before in
+    let at5 = at4 .before in
+    let at9 = at5 .before .before .before .before in
+    pair-asks (lent-words (sheet-passed (at9 .pre) (at5 .read-header .ensures))) _ _ (at4 .pair .ensures) (at3 .if1 .left)
 
 same-length : tie.Need-same-length
 same-length c = search needs
 
 returns-2 : tie.Need-returns-2
 returns-2 c =
-    let a = c .before .before .before .before .before .before .before .before .before .before .before .before .args in
-    let u = c .before .before .unify-all in
-    as-sheet (c .before .before .before .before .before .before .before .before .before .before .before .before .pre) (λ e l. unifyCall e l (tyOf (a .a .0)) (tyOf (a .b .0)))
-    (unify-done (sheet-passed (c .before .before .before .before .before .before .before .before .before .before .before .before .pre) (c .before .before .before .before .before .before .before .before .read-header .ensures)) (unify-form _ _) (c .before .before .before .before .before .before .before .pair .ensures) (c .before .before .before .before .before .before .if1 .left) (u .kept .0) (u .ensures))
+    let at2 = c .before .before in
+    let at6 = at2 .before .before .before .before in
+    let at7 = at6 .before in
+    let at8 = at7 .before in
+    let at12 = at8 .before .before .before .before in
+    let a = at12 .args in
+    let u = at2 .unify-all in
+    as-sheet (at12 .pre) (λ e l. unifyCall e l (tyOf (a .a .0)) (tyOf (a .b .0)))
+    (unify-done (sheet-passed (at12 .pre) (at8 .read-header .ensures)) (unify-form _ _) (at7 .pair .ensures) (at6 .if1 .left) (u .kept .0) (u .ensures))
 
 pub unify-spec : {M : Type 1} → statement M
 unify-spec =

@@ -81,16 +81,20 @@ cast-e c = search needs
 
 slice-aggregate-new-over-3 : tie.Need-slice-aggregate-new-over-3
 slice-aggregate-new-over-3 c =
-    let n = c .before .before .before .before .before .before .line .given .0 .0 in
-    let f = c .before .before .before .before .before .before .before .before .before .before .before .before .before .pre .1 .1 .0 in
-    sym (length-take-le n (c .before .before .before .before .before .before .before .before .before .before .before .before .before .args .types .now) (omega (arith, rw (c .before .before .before .before .before .before .line .given .1) at f, c .before .before .before .before .before .before .before .before .before .before .before .before .before .pre .1 .1 .1)))
+    let at6 = c .before .before .before .before .before .before in
+    let at13 = at6 .before .before .before .before .before .before .before in
+    let n = at6 .line .given .0 .0 in
+    let f = at13 .pre .1 .1 .0 in
+    sym (length-take-le n (at13 .args .types .now) (omega (arith, rw (at6 .line .given .1) at f, at13 .pre .1 .1 .1)))
 
 new-over-requires-3 : tie.Need-new-over-requires-3
 new-over-requires-3 c κs =
-    let n = c .before .before .before .before .before .before .line .given .0 .0 in
-    let f = c .before .before .before .before .before .before .before .before .before .before .before .before .before .pre .1 .1 .0 in
-    let few = rw (c .before .before .before .before .before .before .line .given .1) at f in
-    (c .before .before .before .before .before .before .before .before .before .before .before .before .before .pre .0, rw (length-take-le n (c .before .before .before .before .before .before .before .before .before .before .before .before .before .args .types .now) (omega (arith, few, c .before .before .before .before .before .before .before .before .before .before .before .before .before .pre .1 .1 .1))) (tuple-plain n few))
+    let at6 = c .before .before .before .before .before .before in
+    let at13 = at6 .before .before .before .before .before .before .before in
+    let n = at6 .line .given .0 .0 in
+    let f = at13 .pre .1 .1 .0 in
+    let few = rw (at6 .line .given .1) at f in
+    (at13 .pre .0, rw (length-take-le n (at13 .args .types .now) (omega (arith, few, at13 .pre .1 .1 .1))) (tuple-plain n few))
 
 put-type-requires-6 : tie.Need-put-type-requires-6
 put-type-requires-6 c κs = search needs
@@ -143,7 +147,11 @@ same-length-4 c = search needs
 returns : tie.Need-returns
 unfolding sheetLine
 returns c =
-    rw (c .before .before .before .before .before .before .before .before .before .before .before .before .enum-told .given .1) (ran-type (c .before .before .before .before .before .before .before .before .before .before .before .before .before .before .before .before .before .before .before .pre .0) Line.var refl _ (c .before .before .before .before .before .before .before .new-var .result) refl (c .before .before .before .before .before .before .before .new-var .ensures) (c .before .before .put-type .ensures))
+    let at2 = c .before .before in
+    let at7 = at2 .before .before .before .before .before in
+    let at12 = at7 .before .before .before .before .before in
+    let at19 = at12 .before .before .before .before .before .before .before in
+    rw (at12 .enum-told .given .1) (ran-type (at19 .pre .0) Line.var refl _ (at7 .new-var .result) refl (at7 .new-var .ensures) (at2 .put-type .ensures))
 
 same-length-5 : tie.Need-same-length-5
 same-length-5 c = search needs
@@ -160,7 +168,11 @@ same-length-8 c = search needs
 returns-2 : tie.Need-returns-2
 unfolding sheetLine
 returns-2 c =
-    rw (c .before .before .before .before .before .before .before .before .before .before .before .before .enum-told2 .given .1) (ran-type (c .before .before .before .before .before .before .before .before .before .before .before .before .before .before .before .before .before .before .before .pre .0) Line.nil refl _ (c .before .before .before .before .before .before .before .nil .result) refl (c .before .before .before .before .before .before .before .nil .ensures) (c .before .before .put-type2 .ensures))
+    let at2 = c .before .before in
+    let at7 = at2 .before .before .before .before .before in
+    let at12 = at7 .before .before .before .before .before in
+    let at19 = at12 .before .before .before .before .before .before .before in
+    rw (at12 .enum-told2 .given .1) (ran-type (at19 .pre .0) Line.nil refl _ (at7 .nil .result) refl (at7 .nil .ensures) (at2 .put-type2 .ensures))
 
 same-length-9 : tie.Need-same-length-9
 same-length-9 c = search needs
@@ -177,7 +189,11 @@ same-length-12 c = search needs
 returns-3 : tie.Need-returns-3
 unfolding sheetLine
 returns-3 c =
-    rw (c .before .before .before .before .before .before .before .before .before .before .before .before .before .before .before .enum-told3 .given .1) (ran-type (c .before .before .before .before .before .before .before .before .before .before .before .before .before .before .before .before .before .before .before .before .before .before .pre .0) Line.never refl _ (c .before .before .before .before .before .before .before .before .before .new-over .result) refl (c .before .before .before .before .before .before .before .before .before .new-over .ensures) (c .before .before .put-type3 .ensures))
+    let at2 = c .before .before in
+    let at9 = at2 .before .before .before .before .before .before .before in
+    let at15 = at9 .before .before .before .before .before .before in
+    let at22 = at15 .before .before .before .before .before .before .before in
+    rw (at15 .enum-told3 .given .1) (ran-type (at22 .pre .0) Line.never refl _ (at9 .new-over .result) refl (at9 .new-over .ensures) (at2 .put-type3 .ensures))
 
 same-length-13 : tie.Need-same-length-13
 same-length-13 c = search needs
@@ -194,7 +210,11 @@ same-length-16 c = search needs
 returns-4 : tie.Need-returns-4
 unfolding sheetLine
 returns-4 c =
-    rw (c .before .before .before .before .before .before .before .before .before .before .before .before .before .before .before .enum-told4 .given .1) (ran-type (c .before .before .before .before .before .before .before .before .before .before .before .before .before .before .before .before .before .before .before .before .before .before .pre .0) Line.default refl _ (c .before .before .before .before .before .before .before .before .before .new-over2 .result) refl (c .before .before .before .before .before .before .before .before .before .new-over2 .ensures) (c .before .before .put-type4 .ensures))
+    let at2 = c .before .before in
+    let at9 = at2 .before .before .before .before .before .before .before in
+    let at15 = at9 .before .before .before .before .before .before in
+    let at22 = at15 .before .before .before .before .before .before .before in
+    rw (at15 .enum-told4 .given .1) (ran-type (at22 .pre .0) Line.default refl _ (at9 .new-over2 .result) refl (at9 .new-over2 .ensures) (at2 .put-type4 .ensures))
 
 same-length-17 : tie.Need-same-length-17
 same-length-17 c = search needs
@@ -211,7 +231,11 @@ same-length-20 c = search needs
 returns-5 : tie.Need-returns-5
 unfolding sheetLine
 returns-5 c =
-    rw (c .before .before .before .before .before .before .before .before .before .before .before .before .enum-told5 .given .1) (ran-type (c .before .before .before .before .before .before .before .before .before .before .before .before .before .before .before .before .before .before .before .pre .0) Line.error refl _ (c .before .before .before .before .before .before .before .error .result) refl (c .before .before .before .before .before .before .before .error .ensures) (c .before .before .put-type5 .ensures))
+    let at2 = c .before .before in
+    let at7 = at2 .before .before .before .before .before in
+    let at12 = at7 .before .before .before .before .before in
+    let at19 = at12 .before .before .before .before .before .before .before in
+    rw (at12 .enum-told5 .given .1) (ran-type (at19 .pre .0) Line.error refl _ (at7 .error .result) refl (at7 .error .ensures) (at2 .put-type5 .ensures))
 
 same-length-21 : tie.Need-same-length-21
 same-length-21 c = search needs
@@ -228,7 +252,11 @@ same-length-24 c = search needs
 returns-6 : tie.Need-returns-6
 unfolding sheetLine
 returns-6 c =
-    rw (c .before .before .before .before .before .before .before .before .before .before .enum-told6 .given .1) (ran-done (c .before .before .before .before .before .before .before .before .before .before .before .before .before .before .before .before .before .pre .0) Line.finish refl _ (c .before .before .before .before .before .finish .result) refl (c .before .before .before .before .before .finish .ensures) (c .before .before .put-done .ensures))
+    let at2 = c .before .before in
+    let at5 = at2 .before .before .before in
+    let at10 = at5 .before .before .before .before .before in
+    let at17 = at10 .before .before .before .before .before .before .before in
+    rw (at10 .enum-told6 .given .1) (ran-done (at17 .pre .0) Line.finish refl _ (at5 .finish .result) refl (at5 .finish .ensures) (at2 .put-done .ensures))
 
 same-length-25 : tie.Need-same-length-25
 same-length-25 c = search needs
@@ -245,7 +273,11 @@ same-length-28 c = search needs
 returns-7 : tie.Need-returns-7
 unfolding sheetLine
 returns-7 c =
-    rw (c .before .before .before .before .before .before .before .before .before .before .before .before .before .before .before .before .line .given .1) (ran-type (c .before .before .before .before .before .before .before .before .before .before .before .before .before .before .before .before .before .before .before .before .before .before .before .pre .0) (Line.tuple _) refl _ (c .before .before .before .before .before .before .before .before .before .new-over3 .result) refl (c .before .before .before .before .before .before .before .before .before .new-over3 .ensures) (c .before .before .put-type6 .ensures))
+    let at2 = c .before .before in
+    let at9 = at2 .before .before .before .before .before .before .before in
+    let at16 = at9 .before .before .before .before .before .before .before in
+    let at23 = at16 .before .before .before .before .before .before .before in
+    rw (at16 .line .given .1) (ran-type (at23 .pre .0) (Line.tuple _) refl _ (at9 .new-over3 .result) refl (at9 .new-over3 .ensures) (at2 .put-type6 .ensures))
 
 same-length-29 : tie.Need-same-length-29
 same-length-29 c = search needs
@@ -262,7 +294,11 @@ same-length-32 c = search needs
 returns-8 : tie.Need-returns-8
 unfolding sheetLine
 returns-8 c =
-    rw (c .before .before .before .before .before .before .before .before .before .before .before .before .before .before .before .before .line2 .given .1) (ran-type (c .before .before .before .before .before .before .before .before .before .before .before .before .before .before .before .before .before .before .before .before .before .before .before .pre .0) (Line.ref _) refl _ (c .before .before .before .before .before .before .before .before .before .new-over4 .result) refl (c .before .before .before .before .before .before .before .before .before .new-over4 .ensures) (c .before .before .put-type7 .ensures))
+    let at2 = c .before .before in
+    let at9 = at2 .before .before .before .before .before .before .before in
+    let at16 = at9 .before .before .before .before .before .before .before in
+    let at23 = at16 .before .before .before .before .before .before .before in
+    rw (at16 .line2 .given .1) (ran-type (at23 .pre .0) (Line.ref _) refl _ (at9 .new-over4 .result) refl (at9 .new-over4 .ensures) (at2 .put-type7 .ensures))
 
 same-length-33 : tie.Need-same-length-33
 same-length-33 c = search needs
@@ -279,7 +315,11 @@ same-length-36 c = search needs
 returns-9 : tie.Need-returns-9
 unfolding sheetLine
 returns-9 c =
-    rw (c .before .before .before .before .before .before .before .before .before .before .before .line3 .given .1) (ran-unify (c .before .before .before .before .before .before .before .before .before .before .before .before .before .before .before .before .before .before .pre .0) (Line.unify _ _) refl _ (c .before .before .before .before .before .unify .result) refl (c .before .before .before .before .before .unify .ensures) (c .before .before .put-unify .ensures))
+    let at2 = c .before .before in
+    let at5 = at2 .before .before .before in
+    let at11 = at5 .before .before .before .before .before .before in
+    let at18 = at11 .before .before .before .before .before .before .before in
+    rw (at11 .line3 .given .1) (ran-unify (at18 .pre .0) (Line.unify _ _) refl _ (at5 .unify .result) refl (at5 .unify .ensures) (at2 .put-unify .ensures))
 
 same-length-37 : tie.Need-same-length-37
 same-length-37 c = search needs
@@ -296,14 +336,22 @@ same-length-40 c = search needs
 returns-10 : tie.Need-returns-10
 unfolding sheetLine
 returns-10 c =
-    rw (c .before .before .before .before .before .before .before .before .line4 .given .1) (ran (c .before .before .before .before .before .before .before .before .before .before .before .before .before .before .before .pre .0) (Line.show _) (c .before .before .show-line .ensures) (rw (show-store (storeIn (c .before .before .before .before .before .before .before .before .before .before .before .before .before .before .before .args .h .now) (c .before .before .before .before .before .before .before .before .before .before .before .before .before .before .before .args .ws .now) (c .before .before .before .before .before .before .before .before .before .before .before .before .before .before .before .args .ks .now)) _) (same-store (c .before .before .before .before .before .before .before .before .before .before .before .before .before .before .before .pre .0))))
+    let at2 = c .before .before in
+    let at8 = at2 .before .before .before .before .before .before in
+    let at15 = at8 .before .before .before .before .before .before .before in
+    rw (at8 .line4 .given .1) (ran (at15 .pre .0) (Line.show _) (at2 .show-line .ensures) (rw (show-store (storeIn (at15 .args .h .now) (at15 .args .ws .now)
+    (at15 .args .ks .now)) _) (same-store (at15 .pre .0))))
 
 same-length-41 : tie.Need-same-length-41
 same-length-41 c = search needs
 
 returns-11 : tie.Need-returns-11
 unfolding sheetLine
-returns-11 c = rw (c .before .before .before .before .enum-told7 .given .1) (ran (c .before .before .before .before .before .before .before .before .before .before .before .pre .0) Line.bad (c .before .before .put-bad .ensures) (same-store (c .before .before .before .before .before .before .before .before .before .before .before .pre .0)))
+returns-11 c =
+    let at2 = c .before .before in
+    let at4 = at2 .before .before in
+    let at11 = at4 .before .before .before .before .before .before .before in
+    rw (at4 .enum-told7 .given .1) (ran (at11 .pre .0) Line.bad (at2 .put-bad .ensures) (same-store (at11 .pre .0)))
 
 pub do-line-spec : {M : Type 1} → statement M
 do-line-spec =

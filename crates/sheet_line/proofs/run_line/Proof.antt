@@ -15,7 +15,10 @@ slice-aggregate-do-line : tie.Need-slice-aggregate-do-line
 slice-aggregate-do-line c = search needs
 
 do-line-requires : tie.Need-do-line-requires
-do-line-requires c κs = let f = c .before .before .before .before .before .before .parse .ensures .fits in (c .before .before .before .before .before .before .before .before .before .before .before .before .before .pre .0, (c .before .before .before .before .before .before .before .before .before .before .before .before .before .pre .1, (f, omega (arith, c .before .before .before .before .before .before .parse .kept))))
+do-line-requires c κs =
+    let at6 = c .before .before .before .before .before .before in
+    let at13 = at6 .before .before .before .before .before .before .before in
+    let f = at6 .parse .ensures .fits in (at13 .pre .0, (at13 .pre .1, (f, omega (arith, at6 .parse .kept))))
 
 same-length : tie.Need-same-length
 same-length c = search needs
@@ -30,7 +33,10 @@ same-length-4 : tie.Need-same-length-4
 same-length-4 c = search needs
 
 returns : tie.Need-returns
-returns c = rw (c .before .before .before .before .before .before .before .before .before .before .before .before .before .before .before .parse .ensures .means) at (c .before .before .before .before .before .before .before .before .do-line .ensures)
+returns c =
+    let at8 = c .before .before .before .before .before .before .before .before in
+    let at15 = at8 .before .before .before .before .before .before .before in
+    rw (at15 .parse .ensures .means) at (at8 .do-line .ensures)
 
 pub run-line-spec : {M : Type 1} → statement M
 run-line-spec =

@@ -33,18 +33,25 @@ same-length c = search needs
 
 returns : tie.Need-returns
 returns c =
-    let a = c .before .before .before .before .before .before .before .before .before .before .before .args in
-    let p = c .before .before .before .before .before .show .ensures in
-    shown-fits (storeIn (a .h .now) (a .ws .now) (a .ks .now)) (tyOf (a .t .0)) (a .out .now) (c .before .before .before .before .before .before .before .before .before .before .before .pre .1) (rw (c .before .shown .given .1) at p)
+    let at1 = c .before in
+    let at5 = at1 .before .before .before .before in
+    let at11 = at5 .before .before .before .before .before .before in
+    let a = at11 .args in
+    let p = at5 .show .ensures in
+    shown-fits (storeIn (a .h .now) (a .ws .now) (a .ks .now)) (tyOf (a .t .0)) (a .out .now) (at11 .pre .1) (rw (at1 .shown .given .1) at p)
 
 same-length-2 : tie.Need-same-length-2
 same-length-2 c = search needs
 
 returns-2 : tie.Need-returns-2
 returns-2 c =
-    let a = c .before .before .before .before .before .before .before .before .before .before .before .before .before .before .before .args in
-    let p = c .before .before .before .before .before .before .before .before .before .show .ensures in
-    shown-back (storeIn (a .h .now) (a .ws .now) (a .ks .now)) (tyOf (a .t .0)) (a .out .now) (c .before .before .before .before .before .before .before .before .before .before .before .before .before .before .before .pre .1) (rw (c .before .before .before .before .before .shown2 .given .1) at p) (c .before .before .put-refused .ensures)
+    let at2 = c .before .before in
+    let at5 = at2 .before .before .before in
+    let at9 = at5 .before .before .before .before in
+    let at15 = at9 .before .before .before .before .before .before in
+    let a = at15 .args in
+    let p = at9 .show .ensures in
+    shown-back (storeIn (a .h .now) (a .ws .now) (a .ks .now)) (tyOf (a .t .0)) (a .out .now) (at15 .pre .1) (rw (at5 .shown2 .given .1) at p) (at2 .put-refused .ensures)
 
 pub show-line-spec : {M : Type 1} → statement M
 show-line-spec =

@@ -34,7 +34,9 @@ start-requires : tie.Need-start-requires Inv-loop μ-loop
 start-requires c κs = search needs
 
 loop-holds : tie.Need-loop-holds Inv-loop μ-loop
-loop-holds c = (turn-first (c .before .before .before .start .ensures), (omega (arith, c .before .before .before .start .kept .0), (omega (arith, c .before .before .before .start .kept .1 .0), (omega (arith, c .before .before .before .start .kept .1 .1 .0), search needs))))
+loop-holds c =
+    let at3 = c .before .before .before in
+    (turn-first (at3 .start .ensures), (omega (arith, at3 .start .kept .0), (omega (arith, at3 .start .kept .1 .0), (omega (arith, at3 .start .kept .1 .1 .0), search needs))))
 
 line-end-requires : tie.Need-line-end-requires Inv-loop μ-loop
 line-end-requires c κs = search needs
@@ -49,27 +51,42 @@ slice-aggregate-run-line-3 : tie.Need-slice-aggregate-run-line-3 Inv-loop μ-loo
 slice-aggregate-run-line-3 c = omega (arith, c .before .before .before .before .before .loop .inv .1 .1 .1 .0)
 
 sub-run-line : tie.Need-sub-run-line Inv-loop μ-loop
-sub-run-line c = place-within 10 (c .before .before .before .before .before .before .before .before .before .before .before .before .before .before .before .args .input .now) (c .before .before .before .before .before .loop .i) (c .before .before .before .line-end .result) (omega arith) (c .before .before .before .line-end .ensures) .0
+sub-run-line c =
+    let at3 = c .before .before .before in
+    let at5 = at3 .before .before in
+    let at15 = at5 .before .before .before .before .before .before .before .before .before .before in
+    place-within 10 (at15 .args .input .now) (at5 .loop .i) (at3 .line-end .result) (omega arith) (at3 .line-end .ensures) .0
 
 part-run-line-start : tie.Need-part-run-line-start Inv-loop μ-loop
 part-run-line-start c = omega arith
 
 part-run-line-end : tie.Need-part-run-line-end Inv-loop μ-loop
-part-run-line-end c = place-within 10 (c .before .before .before .before .before .before .before .before .before .before .before .before .before .before .before .args .input .now) (c .before .before .before .before .before .loop .i) (c .before .before .before .line-end .result) (omega arith) (c .before .before .before .line-end .ensures) .1
+part-run-line-end c =
+    let at3 = c .before .before .before in
+    let at5 = at3 .before .before in
+    let at15 = at5 .before .before .before .before .before .before .before .before .before .before in
+    place-within 10 (at15 .args .input .now) (at5 .loop .i) (at3 .line-end .result) (omega arith) (at3 .line-end .ensures) .1
 
 slice-aggregate-run-line-4 : tie.Need-slice-aggregate-run-line-4 Inv-loop μ-loop
 slice-aggregate-run-line-4 c = omega (arith, c .before .before .before .before .before .before .before .loop .inv .1 .1 .1 .1)
 
 run-line-requires : tie.Need-run-line-requires Inv-loop μ-loop
-run-line-requires c κs = (c .before .before .before .before .before .before .before .loop .inv .0 .store, omega (arith, c .before .before .before .before .before .before .before .loop .inv .1 .1 .1 .1))
+run-line-requires c κs =
+    let at7 = c .before .before .before .before .before .before .before in
+    (at7 .loop .inv .0 .store, omega (arith, at7 .loop .inv .1 .1 .1 .1))
 
 array-share-prefix-text : tie.Need-array-share-prefix-text Inv-loop μ-loop
-array-share-prefix-text c = omega (arith, c .before .before .before .before .before .run-line .ensures .printed .short, c .before .before .before .before .before .run-line .kept .1 .1 .1 .1 .0, c .before .before .before .before .before .before .before .before .before .before .before .before .before .loop .inv .1 .1 .1 .1)
+array-share-prefix-text c =
+    let at5 = c .before .before .before .before .before in
+    let at13 = at5 .before .before .before .before .before .before .before .before in
+    omega (arith, at5 .run-line .ensures .printed .short, at5 .run-line .kept .1 .1 .1 .1 .0, at13 .loop .inv .1 .1 .1 .1)
 
 slice-aggregate-put : tie.Need-slice-aggregate-put Inv-loop μ-loop
 slice-aggregate-put c =
-    let l = c .before .before .before .before .before .before .run-line .last .1 .1 .1 .1 .0 in
-    sym (length-take-le (c .before .before .before .before .before .before .run-line .result) l (omega (arith, c .before .before .before .before .before .before .run-line .ensures .printed .short, c .before .before .before .before .before .before .run-line .kept .1 .1 .1 .1 .0, c .before .before .before .before .before .before .before .before .before .before .before .before .before .before .loop .inv .1 .1 .1 .1)))
+    let at6 = c .before .before .before .before .before .before in
+    let at14 = at6 .before .before .before .before .before .before .before .before in
+    let l = at6 .run-line .last .1 .1 .1 .1 .0 in
+    sym (length-take-le (at6 .run-line .result) l (omega (arith, at6 .run-line .ensures .printed .short, at6 .run-line .kept .1 .1 .1 .1 .0, at14 .loop .inv .1 .1 .1 .1)))
 
 put-requires : tie.Need-put-requires Inv-loop μ-loop
 put-requires c κs = search needs
@@ -82,15 +99,27 @@ next-start-requires c κs = search needs
 
 loop-less : tie.Need-loop-less Inv-loop μ-loop
 loop-less c =
-    let w = place-within 10 (c .before .before .before .before .before .before .before .before .before .before .before .before .before .before .before .before .before .before .before .before .before .before .before .before .before .before .before .before .before .before .before .before .args .input .now) (c .before .before .before .before .before .before .before .before .before .before .before .before .before .before .before .before .before .before .before .before .before .before .loop .i) (c .before .before .before .before .before .before .before .before .before .before .before .before .before .before .before .before .before .before .before .before .line-end .result) (omega arith) (c .before .before .before .before .before .before .before .before .before .before .before .before .before .before .before .before .before .before .before .before .line-end .ensures) .0 in
-    omega (arith, start-on (c .before .before .before .before .before .before .before .before .before .before .before .before .before .before .before .before .before .before .before .before .before .before .before .before .before .before .before .before .before .before .before .before .args .input .now) (c .before .before .before .before .before .before .before .before .before .before .before .before .before .before .before .before .before .before .before .before .before .before .loop .i) (c .before .before .before .before .before .before .before .before .before .before .before .before .before .before .before .before .before .before .before .before .line-end .result) (c .next-start .result) (c .before .before .before .before .before .before .before .before .before .before .before .before .before .before .before .before .before .before .before .before .before .loop-test .taken) w (c .next-start .ensures))
+    let at18 = c .before .before .before .before .before .before .before .before .before .before .before .before .before .before .before .before .before .before in
+    let at20 = at18 .before .before in
+    let at21 = at20 .before in
+    let at22 = at21 .before in
+    let at32 = at22 .before .before .before .before .before .before .before .before .before .before in
+    let w = place-within 10 (at32 .args .input .now) (at22 .loop .i) (at20 .line-end .result) (omega arith) (at20 .line-end .ensures) .0 in
+    omega (arith, start-on (at32 .args .input .now) (at22 .loop .i) (at20 .line-end .result) (c .next-start .result) (at21 .loop-test .taken) w (c .next-start .ensures))
 
 loop-again : tie.Need-loop-again Inv-loop μ-loop
 loop-again c =
-    let k = c .before .before .before .before .before .before .before .before .before .before .before .before .before .before .run-line .kept in
-    let l = c .before .before .before .before .before .before .before .before .before .before .before .before .before .before .before .before .before .before .before .before .before .before .loop .inv .1 in
-    let a = c .before .before .before .before .before .before .before .put .ensures in
-    let t = turn-next (c .before .before .before .before .before .before .before .before .before .before .before .before .before .before .before .before .before .before .before .before .before .before .loop .inv .0) (c .before .before .before .before .before .before .before .before .before .before .before .before .before .before .before .before .before .before .before .before .line-end .result) (c .before .before .before .before .before .before .before .before .before .before .before .before .before .before .before .before .before .before .before .before .before .loop-test .taken) (c .before .before .before .before .before .before .before .before .before .before .before .before .before .before .before .before .before .before .before .before .line-end .ensures) (c .before .before .before .before .before .before .before .before .before .before .before .before .before .before .run-line .ensures) (c .next-start .ensures) a (c .before .before .before .put-byte .ensures) in
+    let at3 = c .before .before .before in
+    let at7 = at3 .before .before .before .before in
+    let at14 = at7 .before .before .before .before .before .before .before in
+    let at20 = at14 .before .before .before .before .before .before in
+    let at21 = at20 .before in
+    let at22 = at21 .before in
+    let k = at14 .run-line .kept in
+    let l = at22 .loop .inv .1 in
+    let a = at7 .put .ensures in
+    let t = turn-next (at22 .loop .inv .0) (at20 .line-end .result) (at21 .loop-test .taken) (at20 .line-end .ensures) (at14 .run-line .ensures) (c .next-start .ensures) a
+    (at3 .put-byte .ensures) in
     (t, (omega (arith, k .0, l .0), (omega (arith, k .1 .0, l .1 .0), (omega (arith, k .1 .1 .0, l .1 .1 .0), omega (arith, k .1 .1 .1 .1 .0, l .1 .1 .1)))))
 
 is-full-requires : tie.Need-is-full-requires Inv-loop μ-loop

@@ -26,7 +26,11 @@ same-length : tie.Need-same-length
 same-length c = search needs
 
 returns : tie.Need-returns
-returns c = rw (c .before .before .before .before .before .enum-told .given .1) (front (c .before .before .before .before .before .before .before .before .pre) (text "done") (omega arith) (c .before .before .put .ensures))
+returns c =
+    let at2 = c .before .before in
+    let at5 = at2 .before .before .before in
+    let at8 = at5 .before .before .before in
+    rw (at5 .enum-told .given .1) (front (at8 .pre) (text "done") (omega arith) (at2 .put .ensures))
 
 same-length-2 : tie.Need-same-length-2
 same-length-2 c = search needs

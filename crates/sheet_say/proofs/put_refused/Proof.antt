@@ -21,7 +21,10 @@ same-length c = search needs
 
 returns : tie.Need-returns
 returns c =
-    front-number (c .before .before .before .before .before .before .before .before .before .before .pre) (text "refused ") (c .before .before .before .before .before .before .before .before .before .before .args .n) (omega arith) (c .before .before .before .before .before .before .put .ensures) (c .before .before .put-decimal .ensures)
+    let at2 = c .before .before in
+    let at6 = at2 .before .before .before .before in
+    let at10 = at6 .before .before .before .before in
+    front-number (at10 .pre) (text "refused ") (at10 .args .n) (omega arith) (at6 .put .ensures) (at2 .put-decimal .ensures)
 
 pub put-refused-spec : {M : Type 1} → statement M
 put-refused-spec =

@@ -33,7 +33,12 @@ same-length c = search needs
 
 returns : tie.Need-returns
 returns c =
-    rw (c .before .before .before .before .before .before .before .before .before .before .before .a .given .1, ← c .before .before .before .idx .ensures) (front-number (c .before .before .before .before .before .before .before .before .before .before .before .before .before .before .pre) (text "=") (c .before .before .before .idx .result .0) (omega arith) (c .before .before .before .before .before .before .before .put .ensures) (c .before .before .put-decimal .ensures))
+    let at2 = c .before .before in
+    let at3 = at2 .before in
+    let at7 = at3 .before .before .before .before in
+    let at11 = at7 .before .before .before .before in
+    let at14 = at11 .before .before .before in
+    rw (at11 .a .given .1, ← at3 .idx .ensures) (front-number (at14 .pre) (text "=") (at3 .idx .result .0) (omega arith) (at7 .put .ensures) (at2 .put-decimal .ensures))
 
 same-length-2 : tie.Need-same-length-2
 same-length-2 c = search needs

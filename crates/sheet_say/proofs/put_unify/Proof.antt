@@ -48,21 +48,33 @@ same-length c = search needs
 
 returns : tie.Need-returns
 returns c =
-    rw (c .before .before .before .before .before .before .before .before .a .given .1, c .before .before .before .before .before .enum-told .given .1) (front (c .before .before .before .before .before .before .before .before .before .before .before .pre) (text "Success") (omega arith) (c .before .before .put .ensures))
+    let at2 = c .before .before in
+    let at5 = at2 .before .before .before in
+    let at8 = at5 .before .before .before in
+    let at11 = at8 .before .before .before in
+    rw (at8 .a .given .1, at5 .enum-told .given .1) (front (at11 .pre) (text "Success") (omega arith) (at2 .put .ensures))
 
 same-length-2 : tie.Need-same-length-2
 same-length-2 c = search needs
 
 returns-2 : tie.Need-returns-2
 returns-2 c =
-    rw (c .before .before .before .before .before .before .before .before .a .given .1, c .before .before .before .before .before .enum-told2 .given .1) (front (c .before .before .before .before .before .before .before .before .before .before .before .pre) (text "Failure") (omega arith) (c .before .before .put2 .ensures))
+    let at2 = c .before .before in
+    let at5 = at2 .before .before .before in
+    let at8 = at5 .before .before .before in
+    let at11 = at8 .before .before .before in
+    rw (at8 .a .given .1, at5 .enum-told2 .given .1) (front (at11 .pre) (text "Failure") (omega arith) (at2 .put2 .ensures))
 
 same-length-3 : tie.Need-same-length-3
 same-length-3 c = search needs
 
 returns-3 : tie.Need-returns-3
 returns-3 c =
-    rw (c .before .before .before .before .before .before .before .before .a .given .1, c .before .before .before .before .before .enum-told3 .given .1) (front (c .before .before .before .before .before .before .before .before .before .before .before .pre) (text "Indeterminate") (omega arith) (c .before .before .put3 .ensures))
+    let at2 = c .before .before in
+    let at5 = at2 .before .before .before in
+    let at8 = at5 .before .before .before in
+    let at11 = at8 .before .before .before in
+    rw (at8 .a .given .1, at5 .enum-told3 .given .1) (front (at11 .pre) (text "Indeterminate") (omega arith) (at2 .put3 .ensures))
 
 same-length-4 : tie.Need-same-length-4
 same-length-4 c = search needs
