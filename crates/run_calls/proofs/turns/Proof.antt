@@ -51,14 +51,21 @@ turn-requires c κs = search needs
 
 loop-less : tie.Need-loop-less Inv-loop μ-loop
 loop-less c =
-    let next = c .before .before .before .before .before .before .before .before .before .before .before .before .before .before .before .before .before .before .before .before .before .before .before .before .before .before .before .before .before .before .before .before .before .before .before .next in
-    let more = c .before .before .before .before .before .before .before .before .before .before .before .before .before .before .before .before .before .before .before .before .before .before .before .before .before .before .before .before .before .before .before .before .before .before .before .before .before .before .before .before .before .loop-test .taken in
+    let b18 = c .before .before .before .before .before .before .before .before .before .before .before .before .before .before .before .before .before .before in
+    let b35 = b18 .before .before .before .before .before .before .before .before .before .before .before .before .before .before .before .before .before in
+    let b41 = b35 .before .before .before .before .before .before in
+    let next = b35 .next in
+    let more = b41 .loop-test .taken in
     omega (arith, more, next .ensures more)
 
 loop-again : tie.Need-loop-again Inv-loop μ-loop
 loop-again c =
-    let k = c .before .before .before .before .before .before .before .before .before .before .before .before .before .before .before .before .before .before .before .before .before .before .turn .kept .1 .1 .1 .1 .1 in
-    let v = c .before .before .before .before .before .before .before .before .before .before .before .before .before .before .before .before .before .before .before .before .before .before .before .before .before .before .before .before .before .before .before .before .before .before .before .before .before .before .before .before .before .before .loop .inv in (
+    let b18 = c .before .before .before .before .before .before .before .before .before .before .before .before .before .before .before .before .before .before in
+    let b22 = b18 .before .before .before .before in
+    let b40 = b22 .before .before .before .before .before .before .before .before .before .before .before .before .before .before .before .before .before .before in
+    let b42 = b40 .before .before in
+    let k = b22 .turn .kept .1 .1 .1 .1 .1 in
+    let v = b42 .loop .inv in (
       k .0 ∙ v .0,
       k .1 .0 ∙ v .1,
       k .1 .1 .0 ∙ v .2,

@@ -21,13 +21,18 @@ abbrev μ-loop : tie.MeasureT-loop
 μ-loop h₀ ws₀ ks₀ line₀ piece₀ text₀ at₀ turns₀ h ws ks line piece text at turns = turns
 
 loop-holds : tie.Need-loop-holds Inv-loop μ-loop
-loop-holds c = (record { store = c .before .before .before .before .before .before .pre .0; holds = begins (c .before .before .before .before .before .before .args .line .now) }, (refl, (refl, (refl, (refl, (refl, refl))))))
+loop-holds c =
+    let b6 = c .before .before .before .before .before .before in
+    (record { store = b6 .pre .0; holds = begins (b6 .args .line .now) }, (refl, (refl, (refl, (refl, (refl, refl))))))
 
 sub-turns : tie.Need-sub-turns Inv-loop μ-loop
 sub-turns c = omega arith
 
 turn-requires : tie.Need-turn-requires Inv-loop μ-loop
-turn-requires c κs = (c .before .before .before .before .before .before .before .loop .inv .0 .store, (omega (arith, c .before .before .before .before .before .before .before .loop .inv .1 .1 .1 .1 .1 .1, c .before .before .before .before .before .before .before .before .before .before .before .before .before .before .pre .1 .0), (omega (arith, c .before .before .before .before .before .before .before .loop .inv .1 .1 .1 .1 .0, c .before .before .before .before .before .before .before .before .before .before .before .before .before .before .pre .1 .1), c .before .before .before .before .before .before .before .loop .inv .0 .holds)))
+turn-requires c κs =
+    let b7 = c .before .before .before .before .before .before .before in
+    let b14 = b7 .before .before .before .before .before .before .before in
+    (b7 .loop .inv .0 .store, (omega (arith, b7 .loop .inv .1 .1 .1 .1 .1 .1, b14 .pre .1 .0), (omega (arith, b7 .loop .inv .1 .1 .1 .1 .0, b14 .pre .1 .1), b7 .loop .inv .0 .holds)))
 
 enum-known-w : tie.Need-enum-known-w Inv-loop μ-loop
 enum-known-w c = search needs
@@ -36,22 +41,40 @@ enum-told : tie.Need-enum-told Inv-loop μ-loop
 enum-told c = search needs
 
 same-length : tie.Need-same-length Inv-loop μ-loop
-same-length c = omega (arith, c .before .before .before .before .before .before .before .before .before .before .before .before .before .before .turn .kept .0, c .before .before .before .before .before .before .before .before .before .before .before .before .before .before .before .before .before .before .before .before .before .before .loop .inv .1 .0)
+same-length c =
+    let b14 = c .before .before .before .before .before .before .before .before .before .before .before .before .before .before in
+    let b22 = b14 .before .before .before .before .before .before .before .before in
+    omega (arith, b14 .turn .kept .0, b22 .loop .inv .1 .0)
 
 same-length-2 : tie.Need-same-length-2 Inv-loop μ-loop
-same-length-2 c = omega (arith, c .before .before .before .before .before .before .before .before .before .before .before .before .before .before .turn .kept .1 .0, c .before .before .before .before .before .before .before .before .before .before .before .before .before .before .before .before .before .before .before .before .before .before .loop .inv .1 .1 .0)
+same-length-2 c =
+    let b14 = c .before .before .before .before .before .before .before .before .before .before .before .before .before .before in
+    let b22 = b14 .before .before .before .before .before .before .before .before in
+    omega (arith, b14 .turn .kept .1 .0, b22 .loop .inv .1 .1 .0)
 
 same-length-3 : tie.Need-same-length-3 Inv-loop μ-loop
-same-length-3 c = omega (arith, c .before .before .before .before .before .before .before .before .before .before .before .before .before .before .turn .kept .1 .1 .0, c .before .before .before .before .before .before .before .before .before .before .before .before .before .before .before .before .before .before .before .before .before .before .loop .inv .1 .1 .1 .0)
+same-length-3 c =
+    let b14 = c .before .before .before .before .before .before .before .before .before .before .before .before .before .before in
+    let b22 = b14 .before .before .before .before .before .before .before .before in
+    omega (arith, b14 .turn .kept .1 .1 .0, b22 .loop .inv .1 .1 .1 .0)
 
 same-length-4 : tie.Need-same-length-4 Inv-loop μ-loop
-same-length-4 c = omega (arith, c .before .before .before .before .before .before .before .before .before .before .before .before .before .before .turn .kept .1 .1 .1 .0, c .before .before .before .before .before .before .before .before .before .before .before .before .before .before .before .before .before .before .before .before .before .before .loop .inv .1 .1 .1 .1 .0)
+same-length-4 c =
+    let b14 = c .before .before .before .before .before .before .before .before .before .before .before .before .before .before in
+    let b22 = b14 .before .before .before .before .before .before .before .before in
+    omega (arith, b14 .turn .kept .1 .1 .1 .0, b22 .loop .inv .1 .1 .1 .1 .0)
 
 same-length-5 : tie.Need-same-length-5 Inv-loop μ-loop
-same-length-5 c = omega (arith, c .before .before .before .before .before .before .before .before .before .before .before .before .before .before .turn .kept .1 .1 .1 .1 .1 .0, c .before .before .before .before .before .before .before .before .before .before .before .before .before .before .before .before .before .before .before .before .before .before .loop .inv .1 .1 .1 .1 .1 .0)
+same-length-5 c =
+    let b14 = c .before .before .before .before .before .before .before .before .before .before .before .before .before .before in
+    let b22 = b14 .before .before .before .before .before .before .before .before in
+    omega (arith, b14 .turn .kept .1 .1 .1 .1 .1 .0, b22 .loop .inv .1 .1 .1 .1 .1 .0)
 
 same-length-6 : tie.Need-same-length-6 Inv-loop μ-loop
-same-length-6 c = omega (arith, c .before .before .before .before .before .before .before .before .before .before .before .before .before .before .turn .kept .1 .1 .1 .1 .1 .1 .0, c .before .before .before .before .before .before .before .before .before .before .before .before .before .before .before .before .before .before .before .before .before .before .loop .inv .1 .1 .1 .1 .1 .1)
+same-length-6 c =
+    let b14 = c .before .before .before .before .before .before .before .before .before .before .before .before .before .before in
+    let b22 = b14 .before .before .before .before .before .before .before .before in
+    omega (arith, b14 .turn .kept .1 .1 .1 .1 .1 .1 .0, b22 .loop .inv .1 .1 .1 .1 .1 .1)
 
 returns : tie.Need-returns Inv-loop μ-loop
 returns c = tt
@@ -61,9 +84,26 @@ loop-less c = omega arith
 
 loop-again : tie.Need-loop-again Inv-loop μ-loop
 loop-again c =
-    let g = c .before .before .before .before .before .before .before .before .before .before .before .before .before .before .before .turn .ensures in
-    let x = rw (c .before .w .given .1) at g in
-    (x, (omega (arith, c .before .before .before .before .before .before .before .before .before .before .before .before .before .before .before .turn .kept .0, c .before .before .before .before .before .before .before .before .before .before .before .before .before .before .before .before .before .before .before .before .before .before .before .loop .inv .1 .0), (omega (arith, c .before .before .before .before .before .before .before .before .before .before .before .before .before .before .before .turn .kept .1 .0, c .before .before .before .before .before .before .before .before .before .before .before .before .before .before .before .before .before .before .before .before .before .before .before .loop .inv .1 .1 .0), (omega (arith, c .before .before .before .before .before .before .before .before .before .before .before .before .before .before .before .turn .kept .1 .1 .0, c .before .before .before .before .before .before .before .before .before .before .before .before .before .before .before .before .before .before .before .before .before .before .before .loop .inv .1 .1 .1 .0), (omega (arith, c .before .before .before .before .before .before .before .before .before .before .before .before .before .before .before .turn .kept .1 .1 .1 .0, c .before .before .before .before .before .before .before .before .before .before .before .before .before .before .before .before .before .before .before .before .before .before .before .loop .inv .1 .1 .1 .1 .0), (omega (arith, c .before .before .before .before .before .before .before .before .before .before .before .before .before .before .before .turn .kept .1 .1 .1 .1 .1 .0, c .before .before .before .before .before .before .before .before .before .before .before .before .before .before .before .before .before .before .before .before .before .before .before .loop .inv .1 .1 .1 .1 .1 .0), (omega (arith, c .before .before .before .before .before .before .before .before .before .before .before .before .before .before .before .turn .kept .1 .1 .1 .1 .1 .1 .0, c .before .before .before .before .before .before .before .before .before .before .before .before .before .before .before .before .before .before .before .before .before .before .before .loop .inv .1 .1 .1 .1 .1 .1))))))))
+    let b1 = c .before in
+    let b15 = b1 .before .before .before .before .before .before .before .before .before .before .before .before .before .before in
+    let b23 = b15 .before .before .before .before .before .before .before .before in
+    let g = b15 .turn .ensures in
+    let x = rw (b1 .w .given .1) at g in (
+      x,
+      (
+        omega (arith, b15 .turn .kept .0, b23 .loop .inv .1 .0),
+        (
+          omega (arith, b15 .turn .kept .1 .0, b23 .loop .inv .1 .1 .0),
+          (
+            omega (arith, b15 .turn .kept .1 .1 .0, b23 .loop .inv .1 .1 .1 .0),
+            (
+              omega (arith, b15 .turn .kept .1 .1 .1 .0, b23 .loop .inv .1 .1 .1 .1 .0),
+              (omega (arith, b15 .turn .kept .1 .1 .1 .1 .1 .0, b23 .loop .inv .1 .1 .1 .1 .1 .0), (omega (arith, b15 .turn .kept .1 .1 .1 .1 .1 .1 .0, b23 .loop .inv .1 .1 .1 .1 .1 .1))),
+            ),
+          ),
+        ),
+      ),
+    )
 
 same-length-7 : tie.Need-same-length-7 Inv-loop μ-loop
 same-length-7 c = c .before .loop .inv .1 .0

@@ -27,10 +27,19 @@ same-length-4 : tie.Need-same-length-4
 same-length-4 c = search needs
 
 returns : tie.Need-returns
-returns c = ran-long (is-over (c .before .before .before .before .before .before .before .before .before .before .before .before .before .before .is-full .ensures) (c .before .before .before .before .before .before .before .before .before .before .before .before .before .if1 .taken)) (c .before .before .before .before .before .before .before .before .before .before .before .before .before .before .before .before .before .before .before .before .pre .1 .1) (c .before .before .before .before .before .before .before .before .run-line .ensures)
+returns c =
+    let b8 = c .before .before .before .before .before .before .before .before in
+    let b13 = b8 .before .before .before .before .before in
+    let b14 = b13 .before in
+    let b20 = b14 .before .before .before .before .before .before in
+    ran-long (is-over (b14 .is-full .ensures) (b13 .if1 .taken)) (b20 .pre .1 .1) (b8 .run-line .ensures)
 
 slice-aggregate-run-line : tie.Need-slice-aggregate-run-line
-slice-aggregate-run-line c = sym (length-take-le (c .before .before .before .before .before .before .before .before .before .before .before .args .at) (c .before .before .before .before .before .before .before .before .before .before .before .args .line .now) (has-room (c .before .before .before .before .before .is-full .ensures) (c .before .before .before .before .if1 .left)))
+slice-aggregate-run-line c =
+    let b4 = c .before .before .before .before in
+    let b5 = b4 .before in
+    let b11 = b5 .before .before .before .before .before .before in
+    sym (length-take-le (b11 .args .at) (b11 .args .line .now) (has-room (b5 .is-full .ensures) (b4 .if1 .left)))
 
 run-line-requires-2 : tie.Need-run-line-requires-2
 run-line-requires-2 c κs = search needs
@@ -48,7 +57,11 @@ same-length-8 : tie.Need-same-length-8
 same-length-8 c = search needs
 
 returns-2 : tie.Need-returns-2
-returns-2 c = ran-whole (has-room (c .before .before .before .before .before .before .before .before .before .before .before .before .before .before .before .is-full .ensures) (c .before .before .before .before .before .before .before .before .before .before .before .before .before .before .if1 .left)) (c .before .before .before .before .before .before .before .before .run-line2 .ensures)
+returns-2 c =
+    let b8 = c .before .before .before .before .before .before .before .before in
+    let b14 = b8 .before .before .before .before .before .before in
+    let b15 = b14 .before in
+    ran-whole (has-room (b15 .is-full .ensures) (b14 .if1 .left)) (b8 .run-line2 .ensures)
 
 pub end-line-spec : {M : Type 1} → statement M
 end-line-spec =

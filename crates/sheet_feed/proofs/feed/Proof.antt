@@ -14,7 +14,9 @@ line-end-requires c κs = search needs
 
 slice-aggregate-put : tie.Need-slice-aggregate-put
 slice-aggregate-put c =
-    sym (length-take-le (c .before .before .line-end .result) (c .before .before .before .before .before .before .before .before .before .args .piece .now) (place-within 10 (c .before .before .before .before .before .before .before .before .before .args .piece .now) 0 (c .before .before .line-end .result) (omega arith) (c .before .before .line-end .ensures) .1))
+    let b2 = c .before .before in
+    let b9 = b2 .before .before .before .before .before .before .before in
+    sym (length-take-le (b2 .line-end .result) (b9 .args .piece .now) (place-within 10 (b9 .args .piece .now) 0 (b2 .line-end .result) (omega arith) (b2 .line-end .ensures) .1))
 
 put-requires : tie.Need-put-requires
 put-requires c κs = search needs
@@ -23,10 +25,17 @@ same-length : tie.Need-same-length
 same-length c = search needs
 
 returns : tie.Need-returns
-returns c = goes-on (c .before .before .before .before .before .before .before .before .before .before .before .before .before .args .piece .now) (c .before .before .before .before .before .before .line-end .result) (c .before .before .before .before .before .before .line-end .ensures) (c .if1 .taken) (c .before .before .before .put .ensures)
+returns c =
+    let b3 = c .before .before .before in
+    let b6 = b3 .before .before .before in
+    let b13 = b6 .before .before .before .before .before .before .before in
+    goes-on (b13 .args .piece .now) (b6 .line-end .result) (b6 .line-end .ensures) (c .if1 .taken) (b3 .put .ensures)
 
 end-line-requires : tie.Need-end-line-requires
-end-line-requires c κs = (c .before .before .before .before .before .before .before .before .before .before .before .before .before .before .before .before .before .before .pre .0, (omega (arith, c .before .before .before .before .before .before .before .before .before .before .before .before .before .before .before .before .before .before .pre .1 .0), omega (arith, c .before .before .before .before .before .before .before .before .put .kept .0, c .before .before .before .before .before .before .before .before .before .before .before .before .before .before .before .before .before .before .pre .1 .1)))
+end-line-requires c κs =
+    let b8 = c .before .before .before .before .before .before .before .before in
+    let b18 = b8 .before .before .before .before .before .before .before .before .before .before in
+    (b18 .pre .0, (omega (arith, b18 .pre .1 .0), omega (arith, b8 .put .kept .0, b18 .pre .1 .1)))
 
 slice-write-text : tie.Need-slice-write-text
 slice-write-text c = search needs
@@ -54,7 +63,13 @@ same-length-6 c = search needs
 
 returns-2 : tie.Need-returns-2
 returns-2 c =
-    line-ended (c .before .before .before .before .before .before .before .before .before .before .before .before .before .before .before .before .before .before .before .before .before .before .before .before .before .before .before .args .piece .now) (c .before .before .before .before .before .before .before .before .before .before .before .before .before .before .before .before .before .before .before .before .line-end .result) (c .before .before .before .before .before .before .before .before .before .before .before .before .before .before .before .before .before .before .before .before .line-end .ensures) (c .before .before .before .before .before .before .before .before .before .before .before .before .before .before .if1 .left) (c .before .before .before .before .before .before .before .before .before .before .before .before .before .before .before .before .before .put .ensures) (omega (arith, c .before .before .before .before .before .before .before .before .end-line .kept .1 .1 .1 .1 .1 .0, c .before .before .before .before .before .before .before .before .before .before .before .before .before .before .before .before .before .before .before .before .before .before .before .before .before .before .before .pre .1 .0)) (c .before .before .before .before .before .before .before .before .end-line .ensures)
+    let b8 = c .before .before .before .before .before .before .before .before in
+    let b14 = b8 .before .before .before .before .before .before in
+    let b17 = b14 .before .before .before in
+    let b20 = b17 .before .before .before in
+    let b27 = b20 .before .before .before .before .before .before .before in
+    line-ended (b27 .args .piece .now) (b20 .line-end .result) (b20 .line-end .ensures) (b14 .if1 .left) (b17 .put .ensures)
+    (omega (arith, b8 .end-line .kept .1 .1 .1 .1 .1 .0, b27 .pre .1 .0)) (b8 .end-line .ensures)
 
 pub feed-spec : {M : Type 1} → statement M
 feed-spec =
