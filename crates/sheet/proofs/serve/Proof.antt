@@ -21,13 +21,27 @@ abbrev μ-loop : tie.MeasureT-loop
 μ-loop h₀ ws₀ ks₀ line₀ piece₀ text₀ at₀ turns₀ h ws ks line piece text at turns = turns
 
 loop-holds : tie.Need-loop-holds Inv-loop μ-loop
-loop-holds c = (record { store = c .before .before .before .before .before .before .pre .0; holds = begins (c .before .before .before .before .before .before .args .line .now) }, (refl, (refl, (refl, (refl, (refl, refl))))))
+loop-holds c =
+    let at6 = c .before .before .before .before .before .before in
+    (record { store = at6 .pre .0; holds = begins (at6 .args .line .now) }, (refl, (refl, (refl, (refl, (refl, refl))))))
 
 sub-turns : tie.Need-sub-turns Inv-loop μ-loop
 sub-turns c = omega arith
 
 turn-requires : tie.Need-turn-requires Inv-loop μ-loop
-turn-requires c κs = (c .before .before .before .before .before .before .before .loop .inv .0 .store, (omega (arith, c .before .before .before .before .before .before .before .loop .inv .1 .1 .1 .1 .1 .1, c .before .before .before .before .before .before .before .before .before .before .before .before .before .before .pre .1 .0), (omega (arith, c .before .before .before .before .before .before .before .loop .inv .1 .1 .1 .1 .0, c .before .before .before .before .before .before .before .before .before .before .before .before .before .before .pre .1 .1), c .before .before .before .before .before .before .before .loop .inv .0 .holds)))
+turn-requires c κs =
+    let at7 = c .before .before .before .before .before .before .before in
+    let at14 = at7 .before .before .before .before .before .before .before in (
+      at7 .loop .inv .0 .store,
+      (
+        omega (arith, at7 .loop .inv .1 .1 .1 .1 .1 .1, at14 .pre .1 .0),
+        (
+          omega
+              (arith, at7 .loop .inv .1 .1 .1 .1 .0, at14 .pre .1 .1),
+          at7 .loop .inv .0 .holds,
+        ),
+      ),
+    )
 
 enum-known-w : tie.Need-enum-known-w Inv-loop μ-loop
 enum-known-w c = search needs
@@ -36,22 +50,40 @@ enum-told : tie.Need-enum-told Inv-loop μ-loop
 enum-told c = search needs
 
 same-length : tie.Need-same-length Inv-loop μ-loop
-same-length c = omega (arith, c .before .before .before .before .before .before .before .before .before .before .before .before .before .before .turn .kept .0, c .before .before .before .before .before .before .before .before .before .before .before .before .before .before .before .before .before .before .before .before .before .before .loop .inv .1 .0)
+same-length c =
+    let at14 = c .before .before .before .before .before .before .before .before .before .before .before .before .before .before in
+    let at22 = at14 .before .before .before .before .before .before .before .before in
+    omega (arith, at14 .turn .kept .0, at22 .loop .inv .1 .0)
 
 same-length-2 : tie.Need-same-length-2 Inv-loop μ-loop
-same-length-2 c = omega (arith, c .before .before .before .before .before .before .before .before .before .before .before .before .before .before .turn .kept .1 .0, c .before .before .before .before .before .before .before .before .before .before .before .before .before .before .before .before .before .before .before .before .before .before .loop .inv .1 .1 .0)
+same-length-2 c =
+    let at14 = c .before .before .before .before .before .before .before .before .before .before .before .before .before .before in
+    let at22 = at14 .before .before .before .before .before .before .before .before in
+    omega (arith, at14 .turn .kept .1 .0, at22 .loop .inv .1 .1 .0)
 
 same-length-3 : tie.Need-same-length-3 Inv-loop μ-loop
-same-length-3 c = omega (arith, c .before .before .before .before .before .before .before .before .before .before .before .before .before .before .turn .kept .1 .1 .0, c .before .before .before .before .before .before .before .before .before .before .before .before .before .before .before .before .before .before .before .before .before .before .loop .inv .1 .1 .1 .0)
+same-length-3 c =
+    let at14 = c .before .before .before .before .before .before .before .before .before .before .before .before .before .before in
+    let at22 = at14 .before .before .before .before .before .before .before .before in
+    omega (arith, at14 .turn .kept .1 .1 .0, at22 .loop .inv .1 .1 .1 .0)
 
 same-length-4 : tie.Need-same-length-4 Inv-loop μ-loop
-same-length-4 c = omega (arith, c .before .before .before .before .before .before .before .before .before .before .before .before .before .before .turn .kept .1 .1 .1 .0, c .before .before .before .before .before .before .before .before .before .before .before .before .before .before .before .before .before .before .before .before .before .before .loop .inv .1 .1 .1 .1 .0)
+same-length-4 c =
+    let at14 = c .before .before .before .before .before .before .before .before .before .before .before .before .before .before in
+    let at22 = at14 .before .before .before .before .before .before .before .before in
+    omega (arith, at14 .turn .kept .1 .1 .1 .0, at22 .loop .inv .1 .1 .1 .1 .0)
 
 same-length-5 : tie.Need-same-length-5 Inv-loop μ-loop
-same-length-5 c = omega (arith, c .before .before .before .before .before .before .before .before .before .before .before .before .before .before .turn .kept .1 .1 .1 .1 .1 .0, c .before .before .before .before .before .before .before .before .before .before .before .before .before .before .before .before .before .before .before .before .before .before .loop .inv .1 .1 .1 .1 .1 .0)
+same-length-5 c =
+    let at14 = c .before .before .before .before .before .before .before .before .before .before .before .before .before .before in
+    let at22 = at14 .before .before .before .before .before .before .before .before in
+    omega (arith, at14 .turn .kept .1 .1 .1 .1 .1 .0, at22 .loop .inv .1 .1 .1 .1 .1 .0)
 
 same-length-6 : tie.Need-same-length-6 Inv-loop μ-loop
-same-length-6 c = omega (arith, c .before .before .before .before .before .before .before .before .before .before .before .before .before .before .turn .kept .1 .1 .1 .1 .1 .1 .0, c .before .before .before .before .before .before .before .before .before .before .before .before .before .before .before .before .before .before .before .before .before .before .loop .inv .1 .1 .1 .1 .1 .1)
+same-length-6 c =
+    let at14 = c .before .before .before .before .before .before .before .before .before .before .before .before .before .before in
+    let at22 = at14 .before .before .before .before .before .before .before .before in
+    omega (arith, at14 .turn .kept .1 .1 .1 .1 .1 .1 .0, at22 .loop .inv .1 .1 .1 .1 .1 .1)
 
 returns : tie.Need-returns Inv-loop μ-loop
 returns c = tt
@@ -61,9 +93,31 @@ loop-less c = omega arith
 
 loop-again : tie.Need-loop-again Inv-loop μ-loop
 loop-again c =
-    let g = c .before .before .before .before .before .before .before .before .before .before .before .before .before .before .before .turn .ensures in
-    let x = rw (c .before .w .given .1) at g in
-    (x, (omega (arith, c .before .before .before .before .before .before .before .before .before .before .before .before .before .before .before .turn .kept .0, c .before .before .before .before .before .before .before .before .before .before .before .before .before .before .before .before .before .before .before .before .before .before .before .loop .inv .1 .0), (omega (arith, c .before .before .before .before .before .before .before .before .before .before .before .before .before .before .before .turn .kept .1 .0, c .before .before .before .before .before .before .before .before .before .before .before .before .before .before .before .before .before .before .before .before .before .before .before .loop .inv .1 .1 .0), (omega (arith, c .before .before .before .before .before .before .before .before .before .before .before .before .before .before .before .turn .kept .1 .1 .0, c .before .before .before .before .before .before .before .before .before .before .before .before .before .before .before .before .before .before .before .before .before .before .before .loop .inv .1 .1 .1 .0), (omega (arith, c .before .before .before .before .before .before .before .before .before .before .before .before .before .before .before .turn .kept .1 .1 .1 .0, c .before .before .before .before .before .before .before .before .before .before .before .before .before .before .before .before .before .before .before .before .before .before .before .loop .inv .1 .1 .1 .1 .0), (omega (arith, c .before .before .before .before .before .before .before .before .before .before .before .before .before .before .before .turn .kept .1 .1 .1 .1 .1 .0, c .before .before .before .before .before .before .before .before .before .before .before .before .before .before .before .before .before .before .before .before .before .before .before .loop .inv .1 .1 .1 .1 .1 .0), (omega (arith, c .before .before .before .before .before .before .before .before .before .before .before .before .before .before .before .turn .kept .1 .1 .1 .1 .1 .1 .0, c .before .before .before .before .before .before .before .before .before .before .before .before .before .before .before .before .before .before .before .before .before .before .before .loop .inv .1 .1 .1 .1 .1 .1))))))))
+    let at1 = c .before in
+    let at15 = at1 .before .before .before .before .before .before .before .before .before .before .before .before .before .before in
+    let at23 = at15 .before .before .before .before .before .before .before .before in
+    let g = at15 .turn .ensures in
+    let x = rw (at1 .w .given .1) at g in (
+      x,
+      (
+        omega (arith, at15 .turn .kept .0, at23 .loop .inv .1 .0),
+        (
+          omega (arith, at15 .turn .kept .1 .0, at23 .loop .inv .1 .1 .0),
+          (
+            omega
+                (arith, at15 .turn .kept .1 .1 .0, at23 .loop .inv .1 .1 .1 .0),
+            (
+              omega (arith, at15 .turn .kept .1 .1 .1 .0, at23 .loop .inv .1 .1 .1 .1 .0),
+              (
+                omega
+                    (arith, at15 .turn .kept .1 .1 .1 .1 .1 .0, at23 .loop .inv .1 .1 .1 .1 .1 .0),
+                (omega (arith, at15 .turn .kept .1 .1 .1 .1 .1 .1 .0, at23 .loop .inv .1 .1 .1 .1 .1 .1)),
+              ),
+            ),
+          ),
+        ),
+      ),
+    )
 
 same-length-7 : tie.Need-same-length-7 Inv-loop μ-loop
 same-length-7 c = c .before .loop .inv .1 .0

@@ -29,7 +29,8 @@ slice-reshare-prefix-write-all c = search needs
 
 slice-aggregate-write-all : tie.Need-slice-aggregate-write-all
 slice-aggregate-write-all c =
-    sym (length-take-le (c .before .before .before .before .before .before .before .before .before .feed-end .result) (c .before .before .before .before .before .before .before .before .before .feed-end .last .1 .1 .1 .1 .1 .0) (c .before .before .before .before .before .before .before .before .before .feed-end .ensures .fits))
+    let at9 = c .before .before .before .before .before .before .before .before .before in
+    sym (length-take-le (at9 .feed-end .result) (at9 .feed-end .last .1 .1 .1 .1 .1 .0) (at9 .feed-end .ensures .fits))
 
 write-all-requires : tie.Need-write-all-requires
 write-all-requires c κs = search needs

@@ -27,10 +27,19 @@ same-length-4 : tie.Need-same-length-4
 same-length-4 c = search needs
 
 returns : tie.Need-returns
-returns c = ran-long (is-over (c .before .before .before .before .before .before .before .before .before .before .before .before .before .before .is-full .ensures) (c .before .before .before .before .before .before .before .before .before .before .before .before .before .if1 .taken)) (c .before .before .before .before .before .before .before .before .before .before .before .before .before .before .before .before .before .before .before .before .pre .1 .1) (c .before .before .before .before .before .before .before .before .run-line .ensures)
+returns c =
+    let at8 = c .before .before .before .before .before .before .before .before in
+    let at13 = at8 .before .before .before .before .before in
+    let at14 = at13 .before in
+    let at20 = at14 .before .before .before .before .before .before in
+    ran-long (is-over (at14 .is-full .ensures) (at13 .if1 .taken)) (at20 .pre .1 .1) (at8 .run-line .ensures)
 
 slice-aggregate-run-line : tie.Need-slice-aggregate-run-line
-slice-aggregate-run-line c = sym (length-take-le (c .before .before .before .before .before .before .before .before .before .before .before .args .at) (c .before .before .before .before .before .before .before .before .before .before .before .args .line .now) (has-room (c .before .before .before .before .before .is-full .ensures) (c .before .before .before .before .if1 .left)))
+slice-aggregate-run-line c =
+    let at4 = c .before .before .before .before in
+    let at5 = at4 .before in
+    let at11 = at5 .before .before .before .before .before .before in
+    sym (length-take-le (at11 .args .at) (at11 .args .line .now) (has-room (at5 .is-full .ensures) (at4 .if1 .left)))
 
 run-line-requires-2 : tie.Need-run-line-requires-2
 run-line-requires-2 c κs = search needs
@@ -48,7 +57,11 @@ same-length-8 : tie.Need-same-length-8
 same-length-8 c = search needs
 
 returns-2 : tie.Need-returns-2
-returns-2 c = ran-whole (has-room (c .before .before .before .before .before .before .before .before .before .before .before .before .before .before .before .is-full .ensures) (c .before .before .before .before .before .before .before .before .before .before .before .before .before .before .if1 .left)) (c .before .before .before .before .before .before .before .before .run-line2 .ensures)
+returns-2 c =
+    let at8 = c .before .before .before .before .before .before .before .before in
+    let at14 = at8 .before .before .before .before .before .before in
+    let at15 = at14 .before in
+    ran-whole (has-room (at15 .is-full .ensures) (at14 .if1 .left)) (at8 .run-line2 .ensures)
 
 pub end-line-spec : {M : Type 1} → statement M
 end-line-spec =

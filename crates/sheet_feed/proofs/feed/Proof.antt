@@ -14,7 +14,10 @@ line-end-requires c κs = search needs
 
 slice-aggregate-put : tie.Need-slice-aggregate-put
 slice-aggregate-put c =
-    sym (length-take-le (c .before .before .line-end .result) (c .before .before .before .before .before .before .before .before .before .args .piece .now) (place-within 10 (c .before .before .before .before .before .before .before .before .before .args .piece .now) 0 (c .before .before .line-end .result) (omega arith) (c .before .before .line-end .ensures) .1))
+    let at2 = c .before .before in
+    let at9 = at2 .before .before .before .before .before .before .before in
+    sym (length-take-le (at2 .line-end .result) (at9 .args .piece .now) (place-within 10 (at9 .args .piece .now) 0 (at2 .line-end .result) (omega arith)
+    (at2 .line-end .ensures) .1))
 
 put-requires : tie.Need-put-requires
 put-requires c κs = search needs
@@ -23,10 +26,17 @@ same-length : tie.Need-same-length
 same-length c = search needs
 
 returns : tie.Need-returns
-returns c = goes-on (c .before .before .before .before .before .before .before .before .before .before .before .before .before .args .piece .now) (c .before .before .before .before .before .before .line-end .result) (c .before .before .before .before .before .before .line-end .ensures) (c .if1 .taken) (c .before .before .before .put .ensures)
+returns c =
+    let at3 = c .before .before .before in
+    let at6 = at3 .before .before .before in
+    let at13 = at6 .before .before .before .before .before .before .before in
+    goes-on (at13 .args .piece .now) (at6 .line-end .result) (at6 .line-end .ensures) (c .if1 .taken) (at3 .put .ensures)
 
 end-line-requires : tie.Need-end-line-requires
-end-line-requires c κs = (c .before .before .before .before .before .before .before .before .before .before .before .before .before .before .before .before .before .before .pre .0, (omega (arith, c .before .before .before .before .before .before .before .before .before .before .before .before .before .before .before .before .before .before .pre .1 .0), omega (arith, c .before .before .before .before .before .before .before .before .put .kept .0, c .before .before .before .before .before .before .before .before .before .before .before .before .before .before .before .before .before .before .pre .1 .1)))
+end-line-requires c κs =
+    let at8 = c .before .before .before .before .before .before .before .before in
+    let at18 = at8 .before .before .before .before .before .before .before .before .before .before in
+    (at18 .pre .0, (omega (arith, at18 .pre .1 .0), omega (arith, at8 .put .kept .0, at18 .pre .1 .1)))
 
 slice-write-text : tie.Need-slice-write-text
 slice-write-text c = search needs
@@ -54,7 +64,13 @@ same-length-6 c = search needs
 
 returns-2 : tie.Need-returns-2
 returns-2 c =
-    line-ended (c .before .before .before .before .before .before .before .before .before .before .before .before .before .before .before .before .before .before .before .before .before .before .before .before .before .before .before .args .piece .now) (c .before .before .before .before .before .before .before .before .before .before .before .before .before .before .before .before .before .before .before .before .line-end .result) (c .before .before .before .before .before .before .before .before .before .before .before .before .before .before .before .before .before .before .before .before .line-end .ensures) (c .before .before .before .before .before .before .before .before .before .before .before .before .before .before .if1 .left) (c .before .before .before .before .before .before .before .before .before .before .before .before .before .before .before .before .before .put .ensures) (omega (arith, c .before .before .before .before .before .before .before .before .end-line .kept .1 .1 .1 .1 .1 .0, c .before .before .before .before .before .before .before .before .before .before .before .before .before .before .before .before .before .before .before .before .before .before .before .before .before .before .before .pre .1 .0)) (c .before .before .before .before .before .before .before .before .end-line .ensures)
+    let at8 = c .before .before .before .before .before .before .before .before in
+    let at14 = at8 .before .before .before .before .before .before in
+    let at17 = at14 .before .before .before in
+    let at20 = at17 .before .before .before in
+    let at27 = at20 .before .before .before .before .before .before .before in
+    line-ended (at27 .args .piece .now) (at20 .line-end .result) (at20 .line-end .ensures) (at14 .if1 .left) (at17 .put .ensures) (omega
+    (arith, at8 .end-line .kept .1 .1 .1 .1 .1 .0, at27 .pre .1 .0)) (at8 .end-line .ensures)
 
 pub feed-spec : {M : Type 1} → statement M
 feed-spec =

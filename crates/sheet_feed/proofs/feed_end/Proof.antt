@@ -7,10 +7,14 @@ use Rattle.sheet_feed.proofs.feed_end.Statement.{statement}
 use Rattle.sheet_feed.proofs.feed_end.Tie as tie
 
 returns : tie.Need-returns
-returns c = last-none (c .before .before .before .before .before .before .args .h .now) (c .before .before .before .before .before .before .args .ws .now) (c .before .before .before .before .before .before .args .ks .now) (c .if1 .taken)
+returns c =
+    let at6 = c .before .before .before .before .before .before in
+    last-none (at6 .args .h .now) (at6 .args .ws .now) (at6 .args .ks .now) (c .if1 .taken)
 
 end-line-requires : tie.Need-end-line-requires
-end-line-requires c κs = (c .before .before .before .before .before .before .before .before .before .before .pre .0, (omega (arith, c .before .before .before .before .before .before .before .before .before .before .pre .1 .0), c .before .before .before .before .before .before .before .before .before .before .pre .1 .1))
+end-line-requires c κs =
+    let at10 = c .before .before .before .before .before .before .before .before .before .before in
+    (at10 .pre .0, (omega (arith, at10 .pre .1 .0), at10 .pre .1 .1))
 
 slice-write-text : tie.Need-slice-write-text
 slice-write-text c = search needs
@@ -32,7 +36,10 @@ same-length-4 c = search needs
 
 returns-2 : tie.Need-returns-2
 returns-2 c =
-    last-ran (c .before .before .before .before .before .before .before .before .before .before .before .before .before .if1 .left) (omega (arith, c .before .before .before .before .before .before .before .before .end-line .kept .1 .1 .1 .1 .1 .0, c .before .before .before .before .before .before .before .before .before .before .before .before .before .before .before .before .before .before .before .pre .1 .0)) (c .before .before .before .before .before .before .before .before .end-line .ensures)
+    let at8 = c .before .before .before .before .before .before .before .before in
+    let at13 = at8 .before .before .before .before .before in
+    let at19 = at13 .before .before .before .before .before .before in
+    last-ran (at13 .if1 .left) (omega (arith, at8 .end-line .kept .1 .1 .1 .1 .1 .0, at19 .pre .1 .0)) (at8 .end-line .ensures)
 
 pub feed-end-spec : {M : Type 1} → statement M
 feed-end-spec =
