@@ -57,7 +57,7 @@ contracts = record {
   approx-eq = record { free = λ κs a. tt; is = λ κs a r x p. ran.approx-eq (arg1 a) (arg2 a .now) (arg3 a) (arg4 a .now) r p };
   show = record { free = λ κs a. tt; is = λ κs a r x p. ran.show (arg1 a) (arg2 a .now) (arg2 x .now) r p };
   show-impl-type = record { free = λ κs a. tt; is = λ κs a r x p. ran.show-impl-type (arg1 a) (arg2 a .now) (arg3 a .now) (arg3 x .now) r p };
-  show-part = record { free = λ κs a. tt; is = λ κs a r x p. ran.show-part (arg1 a) (arg2 a .now) (r .now) (arg3 x .now) p };
-  show-impl-type-part = record { free = λ κs a. tt; is = λ κs a r x p. ran.show-impl-type-part (arg1 a) (arg2 a .now) (arg3 a .now) (r .now) (arg4 x .now) p };
+  show-part = record { free = λ κs a. tt; is = λ κs a r x p. ran.show-part (arg1 a) (arg2 a .now) (r .now) (arg3 x .now) (p .0) };
+  show-impl-type-part = record { free = λ κs a. tt; is = λ κs a r x p. ran.show-impl-type-part (arg1 a) (arg2 a .now) (arg3 a .now) (r .now) (arg4 x .now) (p .0) };
   reset = record { free = λ κs a. tt; is = λ κs a r x p. ran.reset r p };
 }
