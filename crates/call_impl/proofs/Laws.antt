@@ -16,6 +16,7 @@ use Rattle.types.specs.declared.Impl.{Impl}
 use Rattle.chart.specs.Env.{envOf, chartAlone}
 use Rattle.chart.specs.declared.Beside.{Beside}
 use Rattle.layout.specs.declared.Header.{Header}
+use Rattle.recall.specs.Memory.{Begun}
 use Rattle.meeting.specs.Asks.{SoundWords}
 use Rattle.unify_lists.specs.Lent.{Impls}
 use Rattle.unify_lists.proofs.CallerLaws.{given-impls}
@@ -25,13 +26,13 @@ use Rattle.call_unify.proofs.Laws.{inside, Form, Unifies, Passed}
 
 -- what the core asks, of arguments that no test turned back
 
-module _ {x : Texts} {ws ks : List ℕ} {n r : ℕ} (w : SoundWords x ws ks n) where
+module _ {x : Texts} {ws ks m : List ℕ} {n r : ℕ} (w : SoundWords x ws ks n) (g : Begun m) where
   pub impls-ask : (e : Env) (a : Impl) (xs : List ℕ) (b : Impl) (ys : List ℕ) → FirstOf n (implsTests e (implMeans a xs) (implMeans b ys)) r → r ≡ 0
-      → Impls x ws ks n a xs b ys
+      → Impls x ws ks m n a xs b ys
   unfolding implsTests
   impls-ask e a xs b ys t z =
       let both : List ImplType = implMeans a xs ∷ implMeans b ys ∷ [] in
-      given-impls w a xs b ys (inside w (λ ns. all (λ i. all (inStore ns) (implTypes i)) both)
+      given-impls w g a xs b ys (inside w (λ ns. all (λ i. all (inStore ns) (implTypes i)) both)
       (λ s. (any (λ i. tooMany (implTypes i)) both, 4) ∷ (not (all (implDefined e) both), 5) ∷ []) t z)
 
 -- a trait is asked of the chart's records alone

@@ -1,5 +1,5 @@
 // The calls on impl types, each a trait over a lent list of types or an error, on any numbers at all: `unify_impl_type` and `approx_eq`. Refusals come in
-// the order 2, 8, 3, 4, 5.
+// the order 2, 8, 3, 4, 5. The first has a form with a lent memory, any slice whatever it holds, and the same answer and nodes.
 ghost use mathlib.Core.Path.{_≡_};
 ghost use mathlib.Core.List.{List};
 ghost use Prim.Native.Nat.{ℕ};
@@ -17,7 +17,7 @@ use refusals::NO_REFUSAL;
 use types::Impl;
 
 // Two traits, each over a list of types, or errors.
-pub fn unify_impl_type<'a>(
+pub fn unify_impl_type_recalling<'a>(
     chart: &[u32],
     beside: Beside,
     rule: &'a [u8],
@@ -25,6 +25,7 @@ pub fn unify_impl_type<'a>(
     h: &[u32],
     ws: &mut [u32],
     ks: &[u32],
+    memory: &mut [u32],
     a: Impl,
     xs: &[u32],
     b: Impl,
@@ -44,7 +45,44 @@ pub fn unify_impl_type<'a>(
     if refused != NO_REFUSAL {
         return UnifyAnswer::Refused(refused);
     }
-    UnifyAnswer::Is(unify_lists::unify_impl_type(ws, ks, x.nodes, rule, text, a, xs, b, ys))
+    recall::begin(memory);
+    UnifyAnswer::Is(unify_lists::unify_impl_type(ws, ks, x.nodes, rule, text, memory, a, xs, b, ys))
+}
+
+// The same without a memory.
+pub fn unify_impl_type<'a>(
+    chart: &[u32],
+    beside: Beside,
+    rule: &'a [u8],
+    text: &'a [u8],
+    h: &[u32],
+    ws: &mut [u32],
+    ks: &[u32],
+    a: Impl,
+    xs: &[u32],
+    b: Impl,
+    ys: &[u32],
+) -> UnifyAnswer
+    ensures { λ r. ⌜ Promised
+        (unifyImplTypeCall (envIn (now (chart .entry)) beside (now (rule .entry)) (now (text .entry))) (lentOf (now (h .entry)) (now (ws .entry)) (now (ks .entry)))
+        (implMeans a (now (xs .entry))) (implMeans b (now (ys .entry))))
+        (unifyReply r) (now (h .entry)) (now (ws .entry)) (now (ks .entry)) (now (h .entry)) (now (ws .exit)) (now (ks .entry)) ⌝ }
+{
+    let mut memory = [0u32; 0];
+    unify_impl_type_recalling(
+        chart,
+        beside,
+        rule,
+        text,
+        h,
+        ws,
+        ks,
+        &mut memory,
+        a,
+        xs,
+        b,
+        ys,
+    )
 }
 
 // Are two impl types of one trait? An error is of none.

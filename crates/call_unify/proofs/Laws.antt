@@ -37,7 +37,9 @@ use Rattle.promise.specs.Promise.{value, refusal, Promised}
 use Rattle.refusals.proofs.Laws.{code-none, test-passed, tests-passed}
 use Rattle.promise.proofs.Laws.{lent-env, lent-facts, lent-clean-words, lent-store, lent-refused, lent-next, lent-passed}
 use Rattle.promise.proofs.CallLaws.{call-back, call-done}
-use Rattle.meeting.specs.Asks.{SoundWords, Pair}
+use Rattle.recall.specs.Memory.{Begun}
+use Rattle.meeting.specs.Asks.{SoundWords}
+use Rattle.unify.specs.Asked.{Asked}
 use Rattle.unify.specs.Leaves.{Leaves}
 use Rattle.unify_lists.proofs.CallerLaws.{given-pair}
 use Rattle.lent_tests.specs.Given.{pairTests, FirstOf}
@@ -64,9 +66,9 @@ module _ {x : Texts} {ws ks : List ℕ} {n r : ℕ} (w : SoundWords x ws ks n) w
   pub inside : (A : List Node → Bool) (us : Store → List (Bool × ℕ)) → FirstOf n (λ s. (not (A (s .nodes)), 3) ∷ us s) r → r ≡ 0 → A (decode ws ks n) ≡ true
   inside A us t z = first-passed A us t z (decode ws ks n) (length-decode ws ks n)
 
-  pub pair-asks : (a b : Ty) → FirstOf n (pairTests a b) r → r ≡ 0 → Pair x ws ks n a b
+  pub pair-asks : {m : List ℕ} → Begun m → (a b : Ty) → FirstOf n (pairTests a b) r → r ≡ 0 → Asked x ws ks m n n ((a, b) ∷ [])
   unfolding pairTests
-  pair-asks a b t z = given-pair w a b (inside (λ ns. all (inStore ns) (a ∷ b ∷ [])) (λ s. []) t z)
+  pair-asks g a b t z = given-pair w g a b (inside (λ ns. all (inStore ns) (a ∷ b ∷ [])) (λ s. []) t z)
 
 -- a call, by its tests and by what it does to the store that is lent
 

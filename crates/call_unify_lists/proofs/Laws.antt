@@ -22,6 +22,7 @@ use Rattle.layout.specs.Words.{decode}
 use Rattle.layout.specs.declared.Header.{Header}
 use Rattle.layout.proofs.Laws.{length-decode}
 use Rattle.refusals.proofs.Laws.{test-passed}
+use Rattle.recall.specs.Memory.{Begun}
 use Rattle.meeting.specs.Asks.{SoundWords}
 use Rattle.unify.specs.Leaves.{Leaves}
 use Rattle.unify_lists.specs.Lent.{Lists, Objects, Signatures}
@@ -33,21 +34,21 @@ use Rattle.call_unify.proofs.Laws.{second-passed, inside, Unifies, Passed}
 
 -- what each core asks, of arguments that no test turned back
 
-module _ {x : Texts} {ws ks : List ℕ} {n r : ℕ} (w : SoundWords x ws ks n) where
-  pub lists-ask : (xs ys : List ℕ) (inv : Inverted) → FirstOf n (listTests (map tyOf xs) (map tyOf ys)) r → r ≡ 0 → Lists x ws ks n xs ys inv
+module _ {x : Texts} {ws ks m : List ℕ} {n r : ℕ} (w : SoundWords x ws ks n) (g : Begun m) where
+  pub lists-ask : (xs ys : List ℕ) (inv : Inverted) → FirstOf n (listTests (map tyOf xs) (map tyOf ys)) r → r ≡ 0 → Lists x ws ks m n xs ys inv
   unfolding listTests
   lists-ask xs ys inv t z =
       let ps : List Ty = map tyOf xs in
       let qs : List Ty = map tyOf ys in
-      given-lists w xs ys inv (inside w (λ ns. all (inStore ns) (ps ++ qs)) (λ s. (tooMany ps || tooMany qs, 4) ∷ []) t z)
+      given-lists w g xs ys inv (inside w (λ ns. all (inStore ns) (ps ++ qs)) (λ s. (tooMany ps || tooMany qs, 4) ∷ []) t z)
 
   pub signatures-ask : (xs : List ℕ) (a : Ty) (ys : List ℕ) (b : Ty) → FirstOf n (sigTests (map tyOf xs) a (map tyOf ys) b) r → r ≡ 0
-      → Signatures x ws ks n xs a ys b
+      → Signatures x ws ks m n xs a ys b
   unfolding sigTests
   signatures-ask xs a ys b t z =
       let ps : List Ty = map tyOf xs in
       let qs : List Ty = map tyOf ys in
-      given-signatures w xs a ys b (inside w (λ ns. all (inStore ns) (ps ++ (a ∷ qs ++ (b ∷ [])))) (λ s. (tooMany ps || tooMany qs, 4) ∷ []) t z)
+      given-signatures w g xs a ys b (inside w (λ ns. all (inStore ns) (ps ++ (a ∷ qs ++ (b ∷ [])))) (λ s. (tooMany ps || tooMany qs, 4) ∷ []) t z)
 
   -- entries that 4 does not turn back are whole
   module _ (e : Env) (xs ys : List ℕ) (t : FirstOf n (objectTests e (entriesIn xs) (entriesIn ys)) r) (z : r ≡ 0) where
@@ -64,9 +65,9 @@ module _ {x : Texts} {ws ks : List ℕ} {n r : ℕ} (w : SoundWords x ws ks n) w
         or-no (badEntries e (entriesIn xs)) (badEntries e (entriesIn ys))
         (test-passed v 4 [] (second-passed A us t z (decode ws ks n) (length-decode ws ks n)))
 
-    pub objects-ask : (inv : Inverted) → Objects x ws ks n xs ys inv
+    pub objects-ask : (inv : Inverted) → Objects x ws ks m n xs ys inv
     unfolding objectTests
-    objects-ask inv = given-objects w xs ys inv (inside w A us t z) (fine-count xs e (fine .0)) (fine-count ys e (fine .1))
+    objects-ask inv = given-objects w g xs ys inv (inside w A us t z) (fine-count xs e (fine .0)) (fine-count ys e (fine .1))
 
     pub objects-leave : (v : Bool) {ws′ : List ℕ} {q : UnifyResult}
         → Leaves ws ks ws′ n (unifyObjects x (decode ws ks n) (entryNames xs) (entryTypes xs) (entryNames ys) (entryTypes ys) v) q

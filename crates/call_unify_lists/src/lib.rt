@@ -1,5 +1,5 @@
 // The calls that unify lent lists of types, entries and signatures, on any numbers at all: each tests and refuses, or does and answers what document 01
-// says. Refusals come in the order 2, 8, 3, 4.
+// says. Refusals come in the order 2, 8, 3, 4. Each has a form with a lent memory, any slice whatever it holds, and the same answer and nodes.
 ghost use Rattle.scope.specs.Types.{tyOf};
 ghost use Rattle.scope.specs.Calls.{unifyTypesCall, unifyObjectsCall, unifyFnSigCall};
 ghost use Rattle.layout.specs.Words.{lentOf};
@@ -17,7 +17,7 @@ use types::Inverted;
 use types::Type;
 
 // Two lists of types, a word a type, the second's inverted if inv says so.
-pub fn unify_types<'a>(
+pub fn unify_types_recalling<'a>(
     chart: &[u32],
     beside: Beside,
     rule: &'a [u8],
@@ -25,6 +25,7 @@ pub fn unify_types<'a>(
     h: &[u32],
     ws: &mut [u32],
     ks: &[u32],
+    memory: &mut [u32],
     xs: &[u32],
     ys: &[u32],
     inv: Inverted,
@@ -43,11 +44,12 @@ pub fn unify_types<'a>(
     if refused != NO_REFUSAL {
         return UnifyAnswer::Refused(refused);
     }
-    UnifyAnswer::Is(unify_lists::unify_lists(ws, ks, x.nodes, rule, text, xs, ys, inv))
+    recall::begin(memory);
+    UnifyAnswer::Is(unify_lists::unify_lists(ws, ks, x.nodes, rule, text, memory, xs, ys, inv))
 }
 
-// Two objects, four words an entry, as children lie in a store.
-pub fn unify_objects<'a>(
+// The same without a memory.
+pub fn unify_types<'a>(
     chart: &[u32],
     beside: Beside,
     rule: &'a [u8],
@@ -55,6 +57,41 @@ pub fn unify_objects<'a>(
     h: &[u32],
     ws: &mut [u32],
     ks: &[u32],
+    xs: &[u32],
+    ys: &[u32],
+    inv: Inverted,
+) -> UnifyAnswer
+    ensures { λ r. ⌜ Promised
+        (unifyTypesCall (envIn (now (chart .entry)) beside (now (rule .entry)) (now (text .entry))) (lentOf (now (h .entry)) (now (ws .entry)) (now (ks .entry)))
+        (typesIn (now (xs .entry))) (typesIn (now (ys .entry))) (inv .0))
+        (unifyReply r) (now (h .entry)) (now (ws .entry)) (now (ks .entry)) (now (h .entry)) (now (ws .exit)) (now (ks .entry)) ⌝ }
+{
+    let mut memory = [0u32; 0];
+    unify_types_recalling(
+        chart,
+        beside,
+        rule,
+        text,
+        h,
+        ws,
+        ks,
+        &mut memory,
+        xs,
+        ys,
+        inv,
+    )
+}
+
+// Two objects, four words an entry, as children lie in a store.
+pub fn unify_objects_recalling<'a>(
+    chart: &[u32],
+    beside: Beside,
+    rule: &'a [u8],
+    text: &'a [u8],
+    h: &[u32],
+    ws: &mut [u32],
+    ks: &[u32],
+    memory: &mut [u32],
     xs: &[u32],
     ys: &[u32],
     inv: Inverted,
@@ -73,11 +110,12 @@ pub fn unify_objects<'a>(
     if refused != NO_REFUSAL {
         return UnifyAnswer::Refused(refused);
     }
-    UnifyAnswer::Is(unify_lists::unify_entries(ws, ks, x.nodes, rule, text, xs, ys, inv))
+    recall::begin(memory);
+    UnifyAnswer::Is(unify_lists::unify_entries(ws, ks, x.nodes, rule, text, memory, xs, ys, inv))
 }
 
-// Two signatures: a list of parameters, and a return.
-pub fn unify_fn_sig<'a>(
+// The same without a memory.
+pub fn unify_objects<'a>(
     chart: &[u32],
     beside: Beside,
     rule: &'a [u8],
@@ -85,6 +123,41 @@ pub fn unify_fn_sig<'a>(
     h: &[u32],
     ws: &mut [u32],
     ks: &[u32],
+    xs: &[u32],
+    ys: &[u32],
+    inv: Inverted,
+) -> UnifyAnswer
+    ensures { λ r. ⌜ Promised
+        (unifyObjectsCall (envIn (now (chart .entry)) beside (now (rule .entry)) (now (text .entry))) (lentOf (now (h .entry)) (now (ws .entry)) (now (ks .entry)))
+        (entriesIn (now (xs .entry))) (entriesIn (now (ys .entry))) (inv .0))
+        (unifyReply r) (now (h .entry)) (now (ws .entry)) (now (ks .entry)) (now (h .entry)) (now (ws .exit)) (now (ks .entry)) ⌝ }
+{
+    let mut memory = [0u32; 0];
+    unify_objects_recalling(
+        chart,
+        beside,
+        rule,
+        text,
+        h,
+        ws,
+        ks,
+        &mut memory,
+        xs,
+        ys,
+        inv,
+    )
+}
+
+// Two signatures: a list of parameters, and a return.
+pub fn unify_fn_sig_recalling<'a>(
+    chart: &[u32],
+    beside: Beside,
+    rule: &'a [u8],
+    text: &'a [u8],
+    h: &[u32],
+    ws: &mut [u32],
+    ks: &[u32],
+    memory: &mut [u32],
     xs: &[u32],
     r: Type,
     ys: &[u32],
@@ -104,5 +177,42 @@ pub fn unify_fn_sig<'a>(
     if refused != NO_REFUSAL {
         return UnifyAnswer::Refused(refused);
     }
-    UnifyAnswer::Is(unify_lists::unify_fn_sig(ws, ks, x.nodes, rule, text, xs, r, ys, q))
+    recall::begin(memory);
+    UnifyAnswer::Is(unify_lists::unify_fn_sig(ws, ks, x.nodes, rule, text, memory, xs, r, ys, q))
+}
+
+// The same without a memory.
+pub fn unify_fn_sig<'a>(
+    chart: &[u32],
+    beside: Beside,
+    rule: &'a [u8],
+    text: &'a [u8],
+    h: &[u32],
+    ws: &mut [u32],
+    ks: &[u32],
+    xs: &[u32],
+    r: Type,
+    ys: &[u32],
+    q: Type,
+) -> UnifyAnswer
+    ensures { λ t. ⌜ Promised
+        (unifyFnSigCall (envIn (now (chart .entry)) beside (now (rule .entry)) (now (text .entry))) (lentOf (now (h .entry)) (now (ws .entry)) (now (ks .entry)))
+        (typesIn (now (xs .entry))) (tyOf (r .0)) (typesIn (now (ys .entry))) (tyOf (q .0)))
+        (unifyReply t) (now (h .entry)) (now (ws .entry)) (now (ks .entry)) (now (h .entry)) (now (ws .exit)) (now (ks .entry)) ⌝ }
+{
+    let mut memory = [0u32; 0];
+    unify_fn_sig_recalling(
+        chart,
+        beside,
+        rule,
+        text,
+        h,
+        ws,
+        ks,
+        &mut memory,
+        xs,
+        r,
+        ys,
+        q,
+    )
 }

@@ -126,16 +126,18 @@ module _ {x : Texts} {ws ks : List ℕ} {n : ℕ} {a b : Ty} (pre : Tops x ws ks
     kind-read : kindIn ns t ≡ seen ks t q
     kind-read = held-by ws ks (r .children) n (r .clean) (t .idx) there eq (kindOf t) (seen ks t) (λ j k. refl) (λ p. refl) refl
 
+    kids-there : {j : Inverted} {k : Kind} → q ≡ Is j k → (y : Ty) → List·Memᴰ y (kindMeans ks k .kids) → List·Memᴰ y (kidsOf (stateIn ns t))
+    kids-there e y w = rw (held-kids ws ks (r .children) n (r .clean) (t .idx) there (eq ∙ e)) w
+
     kids-inside : {j : Inverted} {k : Kind} → q ≡ Is j k → (y : Ty) → List·Memᴰ y (kindMeans ks k .kids) → y .idx < n
-    kids-inside e y w =
-        let m : List·Memᴰ y (kidsOf (stateIn ns t)) = rw (held-kids ws ks (r .children) n (r .clean) (t .idx) there (eq ∙ e)) w in
-        omega (arith, length-decode ws ks n, sound-kids (r .env) (r .sound) (t .idx) y m)
+    kids-inside e y w = omega (arith, length-decode ws ks n, sound-kids (r .env) (r .sound) (t .idx) y (kids-there e y w))
 
   pub met-same : {i j : ℕ} {q : UnifyResult} → i ≡ a .idx → j ≡ b .idx → i ≡ j → OneNode ws ks n a b q → Met x ws ks n a b (Done q)
   unfolding meet
   met-same e f g s = record {
     same = λ u. rw (eq-eqb (a .idx) (b .idx) (sym e ∙ (g ∙ f))) (ap (out ns) (s .is));
     inside = λ p m. elim m [ ];
+    left = λ p m. elim m [ ];
   }
 
   module _ {i j : ℕ} (e : i ≡ a .idx) (f : j ≡ b .idx) (g : i ≡ j → ⊥) where
@@ -151,6 +153,7 @@ module _ {x : Texts} {ws ks : List ℕ} {n : ℕ} {a b : Ty} (pre : Tops x ws ks
     bare-met {m} h o = record {
       same = λ u. apart u ∙ (h u ∙ o .same u x);
       inside = subst (Inside n) (sym (o .none x)) (λ p w. elim w [ ]);
+      left = λ p w. let v : List·Memᴰ p [] = subst (List·Memᴰ p) (o .none x) w in elim v [ ];
     }
 
     pub met-bare-first : {h : Held} {m : Meeting} → h ≡ heldIn (readAt ws n i) → h ≡ Nothing → Bare ws ks n a b m → Met x ws ks n a b m
@@ -177,4 +180,7 @@ module _ {x : Texts} {ws ks : List ℕ} {n : ℕ} {a b : Ty} (pre : Tops x ws ks
             let l = subst (λ (l : scope.Plan). List·Memᴰ q (l .pairs)) (pl .means ks) w in
             let y = plan-right x (kindMeans ks k) (kindMeans ks m) v q l in
             (kids-inside a e eh ek refl (q .0) (plan-left x (kindMeans ks k) (kindMeans ks m) v q l), rw (y .2) (kids-inside b f eg em refl (y .0) (y .1)));
+        left = λ q w.
+            let l = subst (λ (l : scope.Plan). List·Memᴰ q (l .pairs)) (pl .means ks) w in
+            kids-there a e eh ek refl (q .0) (plan-left x (kindMeans ks k) (kindMeans ks m) v q l);
       }

@@ -1,12 +1,12 @@
 -- What two roots ask for, as scope's `meet` has it: an answer, a merge, or their children first.
 use mathlib.Core.Path.{_≡_}
-use mathlib.Core.List.{List, []}
+use mathlib.Core.List.{List, [], List·Memᴰ}
 use Prim.Native.Nat.{ℕ}
 use Rattle.scope.specs.Names.{Texts}
 use Rattle.scope.specs.Types.{Ty}
-use Rattle.scope.specs.Nodes.{Node}
+use Rattle.scope.specs.Nodes.{Node, kidsOf}
 use Rattle.scope.specs.Answers.{Success}
-use Rattle.scope.specs.Unify.{Out, out, run, bound, bind, settle, sameNode, meet}
+use Rattle.scope.specs.Unify.{Out, out, run, bound, bind, settle, sameNode, stateIn, meet}
 use Rattle.scope.specs.Unify as scope
 use Rattle.types.specs.Answers.{answerOf}
 use Rattle.types.specs.declared.UnifyResult.{UnifyResult}
@@ -34,6 +34,8 @@ pairsOf x ks (Kids p) = planMeans ks x p .pairs
 pub record Met (x : Texts) (ws ks : List ℕ) (n : ℕ) (a b : Ty) (m : Meeting) : Type 0 where
   pub same : (u : List Node → Ty → Ty → Out) → meet u x n (decode ws ks n) a b ≡ metBy u x ks (decode ws ks n) a b m
   pub inside : Inside n (pairsOf x ks m)
+  -- each pair's first type is a child of the first root's kind
+  pub left : (p : Ty × Ty) → List·Memᴰ p (pairsOf x ks m) → List·Memᴰ (p .0) (kidsOf (stateIn (decode ws ks n) a))
 
 -- one node
 pub record OneNode (ws ks : List ℕ) (n : ℕ) (a b : Ty) (r : UnifyResult) : Type 0 where

@@ -1,7 +1,7 @@
 // "`find` follows parents, combining inversions by exclusive or. `find_mut` also points every node on the path straight at the root, keeping each
 // node's meaning." Both look at node words alone, and take as many steps at most as there are nodes.
 ghost use Rattle.layout.specs.Meaning.{Linked};
-ghost use Rattle.roots.specs.Found.{Found, FoundMut};
+ghost use Rattle.roots.specs.Found.{Found, FoundMut, Near};
 use layout::TypeNode;
 use types::Type;
 
@@ -43,4 +43,18 @@ pub fn find_mut(ws: &mut [u32], n: u32, t: Type) -> Type
         rest -= 1;
     }
     root
+}
+
+// A type is near if its node is a root or a root's child: `find_mut` then leaves every node as it is.
+pub fn is_near(ws: &[u32], n: u32, t: Type) -> bool
+    requires { ⌜ Linked (now ws) n ⌝ }
+    ensures { λ r. ⌜ Near (now (ws .entry)) n (t .0) r ⌝ }
+{
+    let TypeNode::Child(parent) = layout::node_at(ws, n, t.idx()) else {
+        return true;
+    };
+    let TypeNode::Child(_) = layout::node_at(ws, n, parent.idx()) else {
+        return true;
+    };
+    false
 }

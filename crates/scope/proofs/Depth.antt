@@ -28,16 +28,16 @@ use Rattle.scope.proofs.UnifyKept.{Stable, stable-kinds, keeps, nodes-s
 
 module _ (e : Env) (n : ℕ) where
   -- n nodes that `unify` may be called on
-  record Whole (ns : List Node) : Type 0 where
-    forest : Forest ns
-    len : length ns ≡ n
-    stable : Stable e n (view ns)
+  pub record Whole (ns : List Node) : Type 0 where
+    pub forest : Forest ns
+    pub len : length ns ≡ n
+    pub stable : Stable e n (view ns)
 
   module _ (ns : List Node) (p q : Ty) (ok : Whole ns) (hp : p .idx < n) (hq : q .idx < n) (f : ℕ) where
     seen-call : Sim ns (unifyF (e .texts) n f ns p q) (Seen.unify (e .texts) n f (view ns) p q)
     seen-call = unify-sim (e .texts) n (Stable e n) (keeps e n) f ns p q (ok .forest) (ok .len) (ok .stable) hp hq
 
-    whole-after : Whole (unifyF (e .texts) n f ns p q .nodes)
+    pub whole-after : Whole (unifyF (e .texts) n f ns p q .nodes)
     whole-after = record {
       forest = seen-call .forest;
       len = seen-call .len ∙ ok .len;
@@ -45,7 +45,7 @@ module _ (e : Env) (n : ℕ) where
     }
 
     -- the chain above another type stays
-    chain-on : {ls : List ℕ} (x : Ty) → Chain (view ns) (ri (view ns) p) ls → Chain (view ns) (ri (view ns) x) ls
+    pub chain-on : {ls : List ℕ} (x : Ty) → Chain (view ns) (ri (view ns) p) ls → Chain (view ns) (ri (view ns) x) ls
         → let g : View = view (unifyF (e .texts) n f ns p q .nodes) in Chain g (ri g x) ls
     chain-on {ls} x c d = subst (λ (g : View). Chain g (ri g x) ls) (sym (seen-call .views))
         (chain-after (unify-spec e n f (view ns) p q (ok .stable .good) (stable-kinds (ok .stable))) x c d)
@@ -74,7 +74,7 @@ module _ (e : Env) (n : ℕ) where
         (λ q m. chain-on ns (p .0) (p .1) ok (i₀ .0) (i₀ .1) f (q .0) c₀ (c q (List·Memᴰ·tail m))) h h′
         ∙ ap (λ (o : Out). run (unifyF (e .texts) n f′) (o .nodes) (both r (o .answer)) ps) (ih ns (p .0) (p .1) ls ok (i₀ .0) (i₀ .1) c₀ h h′)
 
-    meet-depth : (ns : List Node) (a b : Ty) (ls : List ℕ) → Whole ns → a .idx < n → view ns .rep (a .idx) ≡ ty false (a .idx) → Chain (view ns) (a .idx) ls
+    pub meet-depth : (ns : List Node) (a b : Ty) (ls : List ℕ) → Whole ns → a .idx < n → view ns .rep (a .idx) ≡ ty false (a .idx) → Chain (view ns) (a .idx) ls
         → free n ls ≤ suc f → free n ls ≤ suc f′ → meet (unifyF (e .texts) n f) (e .texts) n ns a b ≡ meet (unifyF (e .texts) n f′) (e .texts) n ns a b
     unfolding meet view
     meet-depth ns a b ls ok ha top ch h h′ =
@@ -96,7 +96,7 @@ module _ (e : Env) (n : ℕ) where
             (plan-chains (e .texts) (view ns) (a .idx) ls top ch i k m c (ap seen p))
             (fuel-step (ok .stable .good) ch ha h) (fuel-step (ok .stable .good) ch ha h′))
 
-  unify-depth : (f f′ : ℕ) → SameDepths f f′
+  pub unify-depth : (f f′ : ℕ) → SameDepths f f′
   unfolding unifyF
   unify-depth zero f′ ns p q ls ok hp hq c h h′ = absurd (fuel-out (ok .stable .good) c (ok .stable .inside .inside (p .idx) hp) h)
   unify-depth (suc f) zero ns p q ls ok hp hq c h h′ = absurd (fuel-out (ok .stable .good) c (ok .stable .inside .inside (p .idx) hp) h′)

@@ -48,6 +48,10 @@ unfolding free
 free-le y zero l = omega arith
 free-le y (suc n) l = omega (arith, weigh-more y n l, free-le y n l)
 
+pub free-most : (n : ℕ) (l : List ℕ) → free n l ≤ n
+free-most n [] = free-nil n
+free-most n (y ∷ l) = omega (arith, free-le y n l, free-most n l)
+
 weigh-new : (n : ℕ) (l : List ℕ) → memb n l ≡ false → weigh (memb n (n ∷ l)) < weigh (memb n l)
 unfolding memb weigh
 weigh-new n l e = rw (sel-yes (ℕ-discrete n n) true (memb n l) refl, e) (omega arith)

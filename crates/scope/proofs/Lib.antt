@@ -10,6 +10,7 @@ pub mod CopyTable
 pub mod CopyTableLaws
 pub mod CopyTrees
 pub mod Depth
+pub mod Enough
 pub mod ExportKept
 pub mod Extend
 pub mod Fail

@@ -3,7 +3,8 @@
 -- Assumes nothing.
 use mathlib.Core.Path.{_≡_, refl, ap, sym, subst, _∙_}
 use mathlib.Core.Bool.{true}
-use mathlib.Core.List.{List}
+use mathlib.Core.List.{List, [], _∷_, _++_, List·Memᴰ, List·Memᴰ·head}
+use mathlib.Core.Logic.{_⊎_, inl, inr}
 use Prim.Native.Nat.{ℕ, zero, suc, _-_, _<_, _≤_}
 use native.Mathlib.Omega.{arith}
 use lib.ListN.{length, drop}
@@ -11,14 +12,16 @@ use Rattle.scope.specs.Limits.{MAX-NODES}
 use Rattle.scope.specs.Names.{Texts}
 use Rattle.scope.specs.Chart.{Env}
 use Rattle.scope.specs.Types.{Ty, tyOf}
-use Rattle.scope.specs.Nodes.{Node, at, isRoot, sizeOf, find, findMut}
+use Rattle.scope.specs.Nodes.{Node, at, isRoot, sizeOf, kidsOf, find, findMut}
 use Rattle.scope.specs.Answers as answers
-use Rattle.scope.specs.Unify.{Out, out, run, settle, meet, unifyF}
+use Rattle.scope.specs.Unify.{Out, out, run, stateIn, settle, meet, unifyF}
 use Rattle.scope.proofs.View.{View, view}
 use Rattle.scope.proofs.Paths.{Forest, Tidied, find-idx, find-inside, rep-root, find-mut-tidied, tidied-forest, tidied-trans, tidied-view}
 use Rattle.scope.proofs.Sizes.{size-le}
 use Rattle.scope.proofs.SoundLaws.{SoundNodes}
 use Rattle.scope.proofs.SoundKept.{tidied-nodes}
+use Rattle.scope.proofs.Enough.{Enough, enough-root, enough-tidied, enough-meet, enough-kids, enough-run}
+use Rattle.types.specs.Answers.{answerOf}
 use Rattle.types.specs.declared.UnifyResult.{UnifyResult}
 use Rattle.types.specs.declared.UnifyResult.the-variants.{Success, Failure}
 use Rattle.layout.specs.Words.{nodeWords, decode}
@@ -30,12 +33,20 @@ use Rattle.roots.specs.Found.{FoundMut}
 use Rattle.plan.specs.Meaning.{planMeans}
 use Rattle.plan.specs.declared.Plan.{Plan}
 use Rattle.plan.specs.declared.Plan.the-variants.{Answer}
-use Rattle.merge.specs.Meaning.{Adds, Bound, Settled}
-use Rattle.meeting.specs.Asks.{SoundWords, Pair, Tops, Inside, Pairs}
+use Rattle.recall.specs.Memory.{clockOf, Believed, Fewer, Forgot, New}
+use Rattle.recall.specs.Places.{Told}
+use Rattle.recall.specs.declared.Recalled.{Recalled}
+use Rattle.recall.specs.declared.Recalled.the-variants.{Is}
+use Rattle.heed.specs.Recalls.{Meets, Recalls, Since}
+use Rattle.heed.specs.Told.{Moved, FoundTold, Settles, SettledTold}
+use Rattle.heed.proofs.Laws.{since-same, since-then, recalls-moved, moved-fewer, moved-forgot}
+use Rattle.merge.specs.Meaning.{Adds, Bound}
+use Rattle.meeting.specs.Asks.{SoundWords, Pair, Tops, Inside}
 use Rattle.meeting.specs.Meets.{does, metBy, pairsOf, Met}
 use Rattle.meeting.specs.declared.Meeting.{Meeting}
 use Rattle.meeting.specs.declared.Meeting.the-variants.{Done, Bind, Kids}
 use Rattle.unify.specs.Leaves.{Leaves}
+use Rattle.unify.specs.Asked.{Asked, Unified}
 use Rattle.unify.proofs.Kept.{pair-sound, run-sound}
 
 -- what is asked
@@ -68,11 +79,13 @@ module _ {x : Texts} {ws ks : List ℕ} {n : ℕ} (w : SoundWords x ws ks n) whe
         (omega (arith, sizes-small (a .idx) ha, sizes-small (b .idx) hb));
   }
 
+  -- what holds of the chart's texts and of the nodes' number
+  by-words : (P : Texts → ℕ → Type 0) → P (w .env .texts) (length (decode ws ks n)) → P x n
+  by-words P s = subst (λ (y : Texts). P y n) (w .lent) (subst (λ (m : ℕ). P (w .env .texts) m) (length-decode ws ks n) s)
+
   -- a pair and a run, at any depth
   sound-at : (o : Texts → ℕ → Out) → SoundNodes (w .env) (o (w .env .texts) (length (decode ws ks n)) .nodes) → SoundNodes (w .env) (o x n .nodes)
-  sound-at o s =
-      subst (λ (y : Texts). SoundNodes (w .env) (o y n .nodes)) (w .lent)
-      (subst (λ (m : ℕ). SoundNodes (w .env) (o (w .env .texts) m .nodes)) (length-decode ws ks n) s)
+  sound-at o s = by-words (λ y m. SoundNodes (w .env) (o y m .nodes)) s
 
   leaves-words : {ws′ : List ℕ} {o : Out} {q : UnifyResult} → Leaves ws ks ws′ n o q → SoundNodes (w .env) (o .nodes) → SoundWords x ws′ ks n
   leaves-words l s = words-with (l .clean) (subst (λ (o : Out). SoundNodes (w .env) (o .nodes)) (l .same) s)
@@ -91,6 +104,30 @@ module _ {x : Texts} {ws ks : List ℕ} {n : ℕ} (w : SoundWords x ws ks n) whe
       leaves-words l (sound-at (λ y m. run (unifyF y m d) (decode ws ks n) b ps)
       (run-sound (w .env) (w .sound) d b ps (λ p m. (below (h p m .0), below (h p m .1)))))
 
+  -- pairs that are left once others are unified
+  pub words-enough : (d : ℕ) (b : answers.Answer) (ps qs : List (Ty × Ty)) {ws′ : List ℕ} {s : UnifyResult} → Inside n (ps ++ qs) → Enough n (decode ws ks n) d (ps ++ qs)
+      → Leaves ws ks ws′ n (run (unifyF x n d) (decode ws ks n) b ps) s → Enough n (decode ws′ ks n) d qs
+  words-enough d b ps qs i e l =
+      let ns : List Node = decode ws ks n in
+      subst (λ (o : Out). Enough n (o .nodes) d qs) (l .same)
+      (by-words (λ y m. Inside m (ps ++ qs) → Enough m ns d (ps ++ qs) → Enough m (run (unifyF y m d) ns b ps .nodes) d qs) (enough-run (w .env) (w .sound) d b ps qs) i e)
+
+  -- two roots
+  module _ (a b : Ty) (h : a .idx < n) (top : isRoot (at (decode ws ks n) (a .idx)) ≡ true) {d : ℕ} (e : Enough n (decode ws ks n) d ((a, b) ∷ [])) (deep : d ≡ 0 → ⊥) where
+    pub words-meet : meet (unifyF x n (d - 1)) x n (decode ws ks n) a b ≡ meet (unifyF x n n) x n (decode ws ks n) a b
+    words-meet =
+        let ns : List Node = decode ws ks n in
+        by-words (λ y m. a .idx < m → Enough m ns d ((a, b) ∷ []) → meet (unifyF y m (d - 1)) y m ns a b ≡ meet (unifyF y m m) y m ns a b)
+        (λ g f. enough-meet (w .env) (w .sound) a b g top f deep) h e
+
+    pub words-kids : (ps : List (Ty × Ty)) → ((p : Ty × Ty) → List·Memᴰ p ps → List·Memᴰ (p .0) (kidsOf (stateIn (decode ws ks n) a))) → Enough n (decode ws ks n) (d - 1) ps
+    words-kids ps f =
+        let ns : List Node = decode ws ks n in
+        by-words (λ y m. a .idx < m → Enough m ns d ((a, b) ∷ []) → Enough m ns (d - 1) ps) (λ g u. enough-kids (w .env) (w .sound) a b g top u deep ps f) h e
+
+pub asked-pair : {x : Texts} {ws ks m : List ℕ} {n d : ℕ} {p q : Ty} → Asked x ws ks m n d ((p, q) ∷ []) → Pair x ws ks n p q
+asked-pair {p = p} {q = q} w = let h = w .pairs .inside (p, q) (List·Memᴰ·head refl) in record { words = w .pairs .words; first = h .0; second = h .1 }
+
 -- both finds
 
 root-stays : {ns ms : List Node} → Tidied ns ms → Forest ns → (t : Ty) → isRoot (at ms (find ns t .idx)) ≡ true
@@ -98,12 +135,16 @@ root-stays {ns} {ms} d ok t =
     ap (λ (i : ℕ). isRoot (at ms i)) (find-idx ns t ∙ ap (λ (g : View). g .rep (t .idx) .idx) (sym (tidied-view d ok)))
     ∙ ap isRoot (rep-root (tidied-forest d ok) (t .idx) .2)
 
--- ws₂ after the finds of p and q in ws: their roots' types are a and b, and `unify` goes on there
-pub record Climbed (x : Texts) (ws ks ws₂ : List ℕ) (n d : ℕ) (p q a b : Ty) : Type 0 where
-  pub same : unifyF x n d (decode ws ks n) p q ≡ meet (unifyF x n (d - 1)) x n (decode ws₂ ks n) a b
+-- ws₂ and the memory m₂ after the finds of p and q in ws: their roots' types are in the words a and b, and `unify` goes on there
+pub record Climbed (x : Texts) (ws ks m ws₂ m₂ : List ℕ) (n d : ℕ) (p q : Ty) (a b : ℕ) : Type 0 where
+  pub same : unifyF x n d (decode ws ks n) p q ≡ meet (unifyF x n (d - 1)) x n (decode ws₂ ks n) (tyOf a) (tyOf b)
   pub clean : (c : ℕ) → Clean ws ks c n → Clean ws₂ ks c n
   pub tail : drop (nodeWords n) ws₂ ≡ drop (nodeWords n) ws
-  pub tops : Tops x ws₂ ks n a b
+  pub tops : Tops x ws₂ ks n (tyOf a) (tyOf b)
+  pub deep : d ≡ 0 → ⊥
+  pub enough : Enough n (decode ws₂ ks n) d ((tyOf a, tyOf b) ∷ [])
+  pub recalls : Recalls x n (decode ws₂ ks n) m₂
+  pub since : Since (clockOf m) (clockOf m₂) (decode ws ks n) (decode ws₂ ks n)
 
 unify-deep : (x : Texts) (n d : ℕ) (ns : List Node) (p q : Ty) → (d ≡ 0 → ⊥)
     → unifyF x n d ns p q ≡ meet (unifyF x n (d - 1)) x n (findMut (findMut ns p) q) (find ns p) (find (findMut ns p) q)
@@ -111,9 +152,9 @@ unfolding unifyF
 unify-deep x n zero ns p q h = absurd (h refl)
 unify-deep x n (suc d) ns p q h = let e : suc d - 1 ≡ d = omega arith in rw e refl
 
-pub climbed : {x : Texts} {ws ks ws₁ ws₂ : List ℕ} {n d p q a b : ℕ} → Pair x ws ks n (tyOf p) (tyOf q) → (d ≡ 0 → ⊥)
-    → FoundMut ws n ws₁ p a → FoundMut ws₁ n ws₂ q b → Climbed x ws ks ws₂ n d (tyOf p) (tyOf q) (tyOf a) (tyOf b)
-climbed {x} {ws} {ks} {ws₁} {ws₂} {n} {d} {p} {q} {a} {b} pre h f g = record {
+pub climbed : {x : Texts} {ws ks ws₁ ws₂ m m₀ m₁ m₂ : List ℕ} {n d p q a b : ℕ} → Asked x ws ks m n d ((tyOf p, tyOf q) ∷ []) → (d ≡ 0 → ⊥) → Fewer m m₀
+    → FoundTold ws n ws₁ m₀ m₁ p a → FoundTold ws₁ n ws₂ m₁ m₂ q b → Climbed x ws ks m ws₂ m₂ n d (tyOf p) (tyOf q) a b
+climbed {x} {ws} {ks} {ws₁} {ws₂} {m} {m₀} {m₁} {m₂} {n} {d} {p} {q} {a} {b} w h v f′ g′ = record {
   same = unify-deep x n d ns (tyOf p) (tyOf q) h ∙ rw (← e₁, ← e₂, ← f .root ks, ← g .root ks) refl;
   clean = λ c cl. g .words .clean ks c (f .words .clean ks c cl);
   tail = g .words .tail ∙ f .words .tail;
@@ -126,8 +167,21 @@ climbed {x} {ws} {ks} {ws₁} {ws₂} {n} {d} {p} {q} {a} {b} pre h f g = record
     first = rw (f .root ks, e₂) (root-stays (tidied-trans t₁ t₂) (ok .forest) (tyOf p));
     second = rw (g .root ks, e₂) (root-stays t₂ (ok₁ .forest) (tyOf q));
   };
+  deep = h;
+  enough = rw (f .root ks, e₂) (enough-tidied (ok₁ .forest) t₂ (enough-tidied (ok .forest) t₁ (enough-root (ok .forest) (tyOf p) (tyOf q) (tyOf b) (w .enough))));
+  recalls = recalls-moved (recalls-moved (recalls-moved (w .recalls) (moved-fewer v)) (f′ .told ks)) (g′ .told ks);
+  since = since-then (since-then (moved-fewer {ns = ns} v .since) (f′ .told ks .since)) (g′ .told ks .since);
 }
   where
+    pre : Pair x ws ks n (tyOf p) (tyOf q)
+    pre = asked-pair w
+
+    f : FoundMut ws n ws₁ p a
+    f = f′ .found
+
+    g : FoundMut ws₁ n ws₂ q b
+    g = g′ .found
+
     ns : List Node
     ns = decode ws ks n
 
@@ -157,60 +211,120 @@ climbed {x} {ws} {ks} {ws₁} {ws₂} {n} {d} {p} {q} {a} {b} pre h f g = record
 
 -- the ways out
 
-pub no-depth : {x : Texts} {ws ks : List ℕ} {n d : ℕ} {p q : Ty} → Pair x ws ks n p q → d ≡ 0 → Leaves ws ks ws n (unifyF x n d (decode ws ks n) p q) Failure
+pub no-depth : {x : Texts} {ws ks m : List ℕ} {n d : ℕ} {p q : Ty} → Asked x ws ks m n d ((p, q) ∷ []) → d ≡ 0
+    → Unified x ws ks m ws m n (unifyF x n d (decode ws ks n) p q) Failure
 unfolding unifyF
-no-depth pre e = record { same = rw e refl; clean = λ c cl. cl; tail = refl }
+no-depth w e = record { leaves = record { same = rw e refl; clean = λ c cl. cl; tail = refl }; recalls = w .recalls; since = since-same }
 
-pub tops-add : {x : Texts} {ws ks ws₂ : List ℕ} {n d : ℕ} {p q a b : Ty} → Climbed x ws ks ws₂ n d p q a b → Adds ws₂ n a b
-tops-add {a = a} {b = b} c = words-add (c .tops .pair .words) a b (c .tops .pair .first) (c .tops .pair .second)
+pub tops-add : {x : Texts} {ws ks m ws₂ m₂ : List ℕ} {n d : ℕ} {p q : Ty} {a b : ℕ} → Climbed x ws ks m ws₂ m₂ n d p q a b → Adds ws₂ n (tyOf a) (tyOf b)
+tops-add {a = a} {b = b} c = words-add (c .tops .pair .words) (tyOf a) (tyOf b) (c .tops .pair .first) (c .tops .pair .second)
 
--- the same, and the roots ask for m
-pub record AtRoots (x : Texts) (ws ks ws₂ : List ℕ) (n d : ℕ) (p q a b : Ty) (m : Meeting) : Type 0 where
-  pub up : Climbed x ws ks ws₂ n d p q a b
-  pub met : Met x ws₂ ks n a b m
+-- the same, and the roots ask for k
+pub record AtRoots (x : Texts) (ws ks m ws₂ m₂ : List ℕ) (n d : ℕ) (p q : Ty) (a b : ℕ) (k : Meeting) : Type 0 where
+  pub up : Climbed x ws ks m ws₂ m₂ n d p q a b
+  pub met : Met x ws₂ ks n (tyOf a) (tyOf b) k
 
-module _ {x : Texts} {ws ks ws₂ : List ℕ} {n d : ℕ} {p q a b : Ty} {m : Meeting} (c : AtRoots x ws ks ws₂ n d p q a b m) where
+module _ {x : Texts} {ws ks m ws₂ m₂ : List ℕ} {n d : ℕ} {p q : Ty} {a b : ℕ} {k : Meeting} (c : AtRoots x ws ks m ws₂ m₂ n d p q a b k) where
   abbrev words : SoundWords x ws₂ ks n
   words = c .up .tops .pair .words
 
-  went : {k : Meeting} → m ≡ k → unifyF x n d (decode ws ks n) p q ≡ metBy (unifyF x n (d - 1)) x ks (decode ws₂ ks n) a b k
-  went e = c .up .same ∙ (c .met .same (unifyF x n (d - 1)) ∙ ap (metBy (unifyF x n (d - 1)) x ks (decode ws₂ ks n) a b) e)
+  abbrev whole : Out
+  whole = unifyF x n d (decode ws ks n) p q
 
-  pub way-done : {r : UnifyResult} → m ≡ Done r → Leaves ws ks ws₂ n (unifyF x n d (decode ws ks n) p q) r
-  way-done e = record { same = went e; clean = c .up .clean; tail = c .up .tail }
+  went : {l : Meeting} → k ≡ l → whole ≡ metBy (unifyF x n (d - 1)) x ks (decode ws₂ ks n) (tyOf a) (tyOf b) l
+  went e = c .up .same ∙ (c .met .same (unifyF x n (d - 1)) ∙ ap (metBy (unifyF x n (d - 1)) x ks (decode ws₂ ks n) (tyOf a) (tyOf b)) e)
 
-  pub way-bind : {ws₃ : List ℕ} → m ≡ Bind → Bound ws₂ ws₃ n a b → Leaves ws ks ws₃ n (unifyF x n d (decode ws ks n) p q) Success
-  way-bind e o = record {
-    same = went e ∙ ap (λ (ns : List Node). out ns answers.Success) (sym (o .nodes ks (words .children) (words .clean)));
-    clean = λ h cl. o .clean ks h (c .up .clean h cl);
-    tail = o .tail ∙ c .up .tail;
+  -- the depth here changes nothing
+  deep-enough : meet (unifyF x n (d - 1)) x n (decode ws₂ ks n) (tyOf a) (tyOf b) ≡ meet (unifyF x n n) x n (decode ws₂ ks n) (tyOf a) (tyOf b)
+  deep-enough = words-meet words (tyOf a) (tyOf b) (c .up .tops .pair .first) (c .up .tops .first) (c .up .enough) (c .up .deep)
+
+  -- nothing after the finds
+  at-once : {r : UnifyResult} → whole ≡ out (decode ws₂ ks n) (answerOf r) → Unified x ws ks m ws₂ m₂ n whole r
+  at-once e = record { leaves = record { same = e; clean = c .up .clean; tail = c .up .tail }; recalls = c .up .recalls; since = c .up .since }
+
+  pub way-done : {r : UnifyResult} → k ≡ Done r → Unified x ws ks m ws₂ m₂ n whole r
+  way-done e = at-once (went e)
+
+  pub way-bind : {ws₃ m₃ : List ℕ} → k ≡ Bind → Bound ws₂ ws₃ n (tyOf a) (tyOf b) → Forgot m₂ m₃ → Unified x ws ks m ws₃ m₃ n whole Success
+  way-bind {ws₃} {m₃} e o f = record {
+    leaves = record {
+      same = went e ∙ ap (λ (ns : List Node). out ns answers.Success) (sym (o .nodes ks (words .children) (words .clean)));
+      clean = λ h cl. o .clean ks h (c .up .clean h cl);
+      tail = o .tail ∙ c .up .tail;
+    };
+    recalls = recalls-moved (c .up .recalls) gone;
+    since = since-then (c .up .since) (gone .since);
   }
+    where
+      gone : Moved m₂ m₃ (decode ws₂ ks n) (decode ws₃ ks n)
+      gone = moved-forgot f
 
-  pub way-answer : {k : Plan} {ws₃ : List ℕ} {r s : UnifyResult} → m ≡ Kids k → k ≡ Answer r → Settled ws₂ ws₃ n a b r s
-      → Leaves ws ks ws₃ n (unifyF x n d (decode ws ks n) p q) s
-  unfolding planMeans run
-  way-answer e f o = record {
-    same = went (e ∙ ap Kids f) ∙ o .nodes ks (words .children) (words .clean);
-    clean = λ h cl. o .clean ks h (c .up .clean h cl);
-    tail = o .tail ∙ c .up .tail;
-  }
+  -- what the memory tells is what the roots would give
+  pub way-known : {t : Recalled} {r : UnifyResult} → Told m₂ a b t → t ≡ Is r → Unified x ws ks m ws₂ m₂ n whole r
+  way-known {r = r} f e = at-once (c .up .same ∙ (deep-enough ∙ c .up .recalls .true a b r (f .believed r e) .same))
 
   -- the children are asked for: what they ask, what settling asks after them, and the way out
-  module _ {k l : Plan} (e : m ≡ Kids k) (f : k ≡ l) where
-    pub kids-pairs : Pairs x ws₂ ks n (planMeans ks x l .pairs)
-    kids-pairs = record { words = words; inside = subst (λ (v : Meeting). Inside n (pairsOf x ks v)) (e ∙ ap Kids f) (c .met .inside) }
+  module _ {l : Plan} (e : k ≡ Kids l) where
+    kids-inside : Inside n (planMeans ks x l .pairs)
+    kids-inside = subst (λ (v : Meeting). Inside n (pairsOf x ks v)) e (c .met .inside)
 
-    module _ {ws₃ : List ℕ} {r : UnifyResult} (v : Leaves ws₂ ks ws₃ n (does (unifyF x n (d - 1)) (decode ws₂ ks n) (planMeans ks x l)) r) where
-      pub kids-add : Adds ws₃ n a b
-      kids-add =
+    pub kids-asks : Asked x ws₂ ks m₂ n (d - 1) (planMeans ks x l .pairs)
+    kids-asks = record {
+      pairs = record { words = words; inside = kids-inside };
+      enough = words-kids words (tyOf a) (tyOf b) (c .up .tops .pair .first) (c .up .tops .first) (c .up .enough) (c .up .deep) (planMeans ks x l .pairs)
+          (subst (λ (v : Meeting). (p : Ty × Ty) → List·Memᴰ p (pairsOf x ks v) → List·Memᴰ (p .0) (kidsOf (stateIn (decode ws₂ ks n) (tyOf a)))) e (c .met .left));
+      recalls = c .up .recalls;
+    }
+
+    module _ {ws₃ m₃ : List ℕ} {r : UnifyResult} (v : Unified x ws₂ ks m₂ ws₃ m₃ n (does (unifyF x n (d - 1)) (decode ws₂ ks n) (planMeans ks x l)) r) where
+      pub kids-settles : Settles ws₃ n m₃ (tyOf a) (tyOf b)
+      kids-settles =
           let o = planMeans ks x l in
           let t = c .up .tops .pair in
-          words-add (words-run words (d - 1) (o .base) (o .pairs) (kids-pairs .inside) v) a b (t .first) (t .second)
+          record {
+            adds = words-add (words-run words (d - 1) (o .base) (o .pairs) kids-inside (v .leaves)) (tyOf a) (tyOf b) (t .first) (t .second);
+            small = words .small;
+            tidy = v .recalls .tidy;
+          }
 
-      pub way-kids : {ws₄ : List ℕ} {s : UnifyResult} → Settled ws₃ ws₄ n a b r s → Leaves ws ks ws₄ n (unifyF x n d (decode ws ks n) p q) s
-      way-kids o = record {
-        same = went (e ∙ ap Kids f)
-            ∙ (ap (λ (t : Out). settle (t .nodes) a b (t .answer)) (v .same) ∙ o .nodes ks (words .children) (v .clean (words .children) (words .clean)));
-        clean = λ h cl. o .clean ks h (v .clean h (c .up .clean h cl));
-        tail = o .tail ∙ (v .tail ∙ c .up .tail);
-      }
+      module _ {ws₄ m₄ : List ℕ} {s : UnifyResult} {began : ℕ} (eb : began ≡ clockOf m₂) (o : SettledTold ws₃ ws₄ n m₃ m₄ began a b r s) where
+        ends : whole ≡ out (decode ws₄ ks n) (answerOf s)
+        ends = went e
+            ∙ (ap (λ (t : Out). settle (t .nodes) (tyOf a) (tyOf b) (t .answer)) (v .leaves .same)
+            ∙ o .settled .nodes ks (words .children) (v .leaves .clean (words .children) (words .clean)))
+
+        -- what is believed now was believed after the children, or it is this visit's answer and no node changed in it
+        believed-now : (a′ b′ : ℕ) (q′ : UnifyResult) → (Believed m₃ a′ b′ q′ ⊎ New m₃ began a b s a′ b′ q′) × (decode ws₄ ks n ≡ decode ws₃ ks n)
+            → Meets x n (decode ws₄ ks n) a′ b′ q′
+        believed-now a′ b′ q′ (inl w, f) = subst (λ (l : List Node). Meets x n l a′ b′ q′) (sym f) (v .recalls .true a′ b′ q′ w)
+        believed-now a′ b′ q′ (inr w, f) =
+            let g : decode ws₄ ks n ≡ decode ws₂ ks n = f ∙ v .since .still (w .running) (w .now ∙ eb) in
+            let y : meet (unifyF x n n) x n (decode ws₂ ks n) (tyOf a) (tyOf b) ≡ out (decode ws₂ ks n) (answerOf s) =
+            sym deep-enough ∙ (sym (c .up .same) ∙ (ends ∙ ap (λ (l : List Node). out l (answerOf s)) g)) in
+            rw (w .first, w .second, w .answer) (subst (λ (l : List Node). Meets x n l a b s) (sym g) (record { same = y }))
+
+        pub way-kids : Unified x ws ks m ws₄ m₄ n whole s
+        way-kids = record {
+          leaves = record {
+            same = ends;
+            clean = λ h cl. o .settled .clean ks h (v .leaves .clean h (c .up .clean h cl));
+            tail = o .settled .tail ∙ (v .leaves .tail ∙ c .up .tail);
+          };
+          recalls = record { tidy = o .told ks .tidy; true = λ a′ b′ q′ w. believed-now a′ b′ q′ (o .told ks .believed a′ b′ q′ w) };
+          since = since-then (c .up .since) (since-then (v .since) (o .told ks .since));
+        }
+
+-- the children of two kinds, by what their plan is
+
+module _ {x : Texts} {ws ks m : List ℕ} {n : ℕ} (d : ℕ) {k l : Plan} (e : k ≡ l) where
+  pub plan-asks : Asked x ws ks m n d (planMeans ks x k .pairs) → Asked x ws ks m n d (planMeans ks x l .pairs)
+  plan-asks w = subst (λ (v : Plan). Asked x ws ks m n d (planMeans ks x v .pairs)) e w
+
+  pub plan-unified : {ws′ m′ : List ℕ} {r : UnifyResult} → Unified x ws ks m ws′ m′ n (does (unifyF x n d) (decode ws ks n) (planMeans ks x l)) r
+      → Unified x ws ks m ws′ m′ n (does (unifyF x n d) (decode ws ks n) (planMeans ks x k)) r
+  plan-unified {ws′} {m′} {r} v = subst (λ (z : Plan). Unified x ws ks m ws′ m′ n (does (unifyF x n d) (decode ws ks n) (planMeans ks x z)) r) (sym e) v
+
+pub plan-answers : {x : Texts} {ws ks m : List ℕ} {n d : ℕ} {k : Plan} {r : UnifyResult} → Asked x ws ks m n d (planMeans ks x k .pairs) → k ≡ Answer r
+    → Unified x ws ks m ws m n (does (unifyF x n d) (decode ws ks n) (planMeans ks x k)) r
+unfolding planMeans run
+plan-answers w e = record { leaves = record { same = rw e refl; clean = λ c cl. cl; tail = refl }; recalls = w .recalls; since = since-same }

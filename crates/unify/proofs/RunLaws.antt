@@ -23,10 +23,14 @@ use Rattle.types.specs.declared.UnifyResult.{UnifyResult}
 use Rattle.types.specs.declared.UnifyResult.the-variants as code
 use Rattle.layout.specs.Words.{nodeWords, slotAt, decode}
 use Rattle.layout.specs.Meaning.{Clean}
+use Rattle.scope.proofs.Enough.{enough-part}
+use Rattle.recall.specs.Memory.{clockOf}
+use Rattle.heed.specs.Recalls.{Since}
+use Rattle.heed.proofs.Laws.{since-same, since-then}
 use Rattle.plan.specs.Meaning.{kidsFrom, namesFrom, planMeans}
 use Rattle.plan.specs.declared.Runs.{Runs}
 use Rattle.plan.specs.declared.Plan.the-variants as plans
-use Rattle.meeting.specs.Asks.{Pair, Inside, Pairs}
+use Rattle.meeting.specs.Asks.{Pair}
 use Rattle.meeting.specs.Meets.{does}
 use Rattle.meeting.specs.Kids.{objectsOf, slotPlace, soughtMeans, soughtIn, Parameters, returnsMean, returnsPlan}
 use Rattle.meeting.specs.declared.Returned.{Returned}
@@ -34,8 +38,8 @@ use Rattle.meeting.specs.declared.Returned.the-variants as back
 use Rattle.meeting.specs.declared.Sought.{Sought}
 use Rattle.meeting.specs.declared.Sought.the-variants as found
 use Rattle.meeting.proofs.KidLaws.{one-more, none-left, kid-length, kidTy, slot-bytes, front-kids}
-use Rattle.unify.specs.Leaves.{Leaves}
-use Rattle.unify.proofs.Laws.{words-pair, words-run}
+use Rattle.unify.specs.Asked.{Asked, Unified}
+use Rattle.unify.proofs.Laws.{words-pair, words-run, words-enough}
 
 -- answers
 
@@ -85,51 +89,68 @@ module _ (u : List Node → Ty → Ty → Out) where
   run-none ns r = refl
 
 -- pairs that are left give the whole o
-pub record Going (x : Texts) (ws₀ ks : List ℕ) (n d : ℕ) (o : Out) (ws : List ℕ) (base : Answer) (ps : List (Ty × Ty)) : Type 0 where
-  pub pairs : Pairs x ws ks n ps
+pub record Going (x : Texts) (ws₀ ks m₀ : List ℕ) (n d : ℕ) (o : Out) (ws m : List ℕ) (base : Answer) (ps : List (Ty × Ty)) : Type 0 where
+  pub asked : Asked x ws ks m n d ps
   pub clean : (c : ℕ) → Clean ws₀ ks c n → Clean ws ks c n
   pub tail : drop (nodeWords n) ws ≡ drop (nodeWords n) ws₀
   pub rest : run (unifyF x n d) (decode ws ks n) base ps ≡ o
+  pub since : Since (clockOf m₀) (clockOf m) (decode ws₀ ks n) (decode ws ks n)
 
-pub going-start : {x : Texts} {ws ks : List ℕ} {n d : ℕ} {o : Out} (l m : Plan) → o ≡ does (unifyF x n d) (decode ws ks n) l → l ≡ m
-    → Pairs x ws ks n (l .pairs) → Going x ws ks n d o ws (m .base) (m .pairs)
-going-start {x} {ws} {ks} {n} {d} l m f e p = record {
-  pairs = subst (λ (t : Plan). Pairs x ws ks n (t .pairs)) e p;
+pub going-start : {x : Texts} {ws ks m : List ℕ} {n d : ℕ} {o : Out} (l k : Plan) → o ≡ does (unifyF x n d) (decode ws ks n) l → l ≡ k
+    → Asked x ws ks m n d (l .pairs) → Going x ws ks m n d o ws m (k .base) (k .pairs)
+going-start {x} {ws} {ks} {m} {n} {d} l k f e p = record {
+  asked = subst (λ (t : Plan). Asked x ws ks m n d (t .pairs)) e p;
   clean = λ c cl. cl;
   tail = refl;
   rest = ap (does (unifyF x n d) (decode ws ks n)) (sym e) ∙ sym f;
+  since = since-same;
 }
 
-module _ {x : Texts} {ws₀ ks : List ℕ} {n d : ℕ} {o : Out} {ws : List ℕ} {base : Answer} where
+module _ {x : Texts} {ws₀ ks m₀ : List ℕ} {n d : ℕ} {o : Out} {ws m : List ℕ} {base : Answer} where
   -- the same pairs, said otherwise
-  pub going-to : {base′ : Answer} {ps qs : List (Ty × Ty)} → base ≡ base′ → ps ≡ qs → Going x ws₀ ks n d o ws base ps → Going x ws₀ ks n d o ws base′ qs
+  pub going-to : {base′ : Answer} {ps qs : List (Ty × Ty)} → base ≡ base′ → ps ≡ qs → Going x ws₀ ks m₀ n d o ws m base ps → Going x ws₀ ks m₀ n d o ws m base′ qs
   going-to e f g = rw (← e, ← f) g
 
-  pub going-pair : {p : Ty × Ty} {ps : List (Ty × Ty)} → Going x ws₀ ks n d o ws base (p ∷ ps) → Pair x ws ks n (p .0) (p .1)
-  going-pair {p} g = let h = g .pairs .inside p (List·Memᴰ·head refl) in record { words = g .pairs .words; first = h .0; second = h .1 }
-
-  pub going-on : {p : Ty × Ty} {ps : List (Ty × Ty)} {ws′ : List ℕ} {r : UnifyResult} → Going x ws₀ ks n d o ws base (p ∷ ps)
-      → Leaves ws ks ws′ n (unifyF x n d (decode ws ks n) (p .0) (p .1)) r → Going x ws₀ ks n d o ws′ (both base (answerOf r)) ps
-  going-on {p} {ps} {ws′} {r} g l = record {
-    pairs = record {
-      words = words-pair (g .pairs .words) d (p .0) (p .1) (going-pair g .first) (going-pair g .second) l;
-      inside = λ q m. g .pairs .inside q (List·Memᴰ·tail m);
-    };
-    clean = λ c cl. l .clean c (g .clean c cl);
-    tail = l .tail ∙ g .tail;
-    rest = sym (run-one (unifyF x n d) (decode ws ks n) base p ps ∙ ap (λ (t : Out). run (unifyF x n d) (t .nodes) (both base (t .answer)) ps) (l .same)) ∙ g .rest;
+  pub going-pair : {p : Ty × Ty} {ps : List (Ty × Ty)} → Going x ws₀ ks m₀ n d o ws m base (p ∷ ps) → Asked x ws ks m n d (p ∷ [])
+  going-pair {p} {ps} g = record {
+    pairs = record { words = g .asked .pairs .words; inside = λ q w. g .asked .pairs .inside q (Memᴰ·append-left ps w) };
+    enough = enough-part (λ q w. Memᴰ·append-left ps w) (g .asked .enough);
+    recalls = g .asked .recalls;
   }
 
-  pub going-end : {r : UnifyResult} → base ≡ answerOf r → Going x ws₀ ks n d o ws base [] → Leaves ws₀ ks ws n o r
+  pub going-on : {p : Ty × Ty} {ps : List (Ty × Ty)} {ws′ m′ : List ℕ} {r : UnifyResult} → Going x ws₀ ks m₀ n d o ws m base (p ∷ ps)
+      → Unified x ws ks m ws′ m′ n (unifyF x n d (decode ws ks n) (p .0) (p .1)) r → Going x ws₀ ks m₀ n d o ws′ m′ (both base (answerOf r)) ps
+  unfolding run
+  going-on {p} {ps} {ws′} {m′} {r} g u =
+      let l = u .leaves in
+      let w = g .asked .pairs .words in
+      let h = g .asked .pairs .inside p (List·Memᴰ·head refl) in
+      record {
+        asked = record {
+          pairs = record { words = words-pair w d (p .0) (p .1) (h .0) (h .1) l; inside = λ q w. g .asked .pairs .inside q (List·Memᴰ·tail w) };
+          enough = words-enough w d Success (p ∷ []) ps (g .asked .pairs .inside) (g .asked .enough) l;
+          recalls = u .recalls;
+        };
+        clean = λ c cl. l .clean c (g .clean c cl);
+        tail = l .tail ∙ g .tail;
+        rest = sym (run-one (unifyF x n d) (decode ws ks n) base p ps ∙ ap (λ (t : Out). run (unifyF x n d) (t .nodes) (both base (t .answer)) ps) (l .same)) ∙ g .rest;
+        since = since-then (g .since) (u .since);
+      }
+
+  pub going-end : {r : UnifyResult} → base ≡ answerOf r → Going x ws₀ ks m₀ n d o ws m base [] → Unified x ws₀ ks m₀ ws m n o r
   going-end {r} e g = record {
-    same = sym (g .rest) ∙ (run-none (unifyF x n d) (decode ws ks n) base ∙ ap (out (decode ws ks n)) e);
-    clean = g .clean;
-    tail = g .tail;
+    leaves = record {
+      same = sym (g .rest) ∙ (run-none (unifyF x n d) (decode ws ks n) base ∙ ap (out (decode ws ks n)) e);
+      clean = g .clean;
+      tail = g .tail;
+    };
+    recalls = g .asked .recalls;
+    since = g .since;
   }
 
 -- the next pair's first type is in the word a, and its second, in the word b, is the one in the word t inverted if v
-next-pair : {x : Texts} {ws₀ ks : List ℕ} {n d : ℕ} {o : Out} {ws : List ℕ} {base : Answer} {a w : ℕ} {ps : List (Ty × Ty)} (v : Bool) (b t : ℕ)
-    → Going x ws₀ ks n d o ws base ((tyOf w, flip v (tyOf t)) ∷ ps) → a ≡ w → tyOf b ≡ flip v (tyOf t) → Going x ws₀ ks n d o ws base ((tyOf a, tyOf b) ∷ ps)
+next-pair : {x : Texts} {ws₀ ks m₀ : List ℕ} {n d : ℕ} {o : Out} {ws m : List ℕ} {base : Answer} {a w : ℕ} {ps : List (Ty × Ty)} (v : Bool) (b t : ℕ)
+    → Going x ws₀ ks m₀ n d o ws m base ((tyOf w, flip v (tyOf t)) ∷ ps) → a ≡ w → tyOf b ≡ flip v (tyOf t) → Going x ws₀ ks m₀ n d o ws m base ((tyOf a, tyOf b) ∷ ps)
 next-pair {a = a} {ps = ps} v b t g ea eb =
     going-to refl (ap (λ (y : Ty). (y, flip v (tyOf t)) ∷ ps) (ap tyOf (sym ea)) ∙ ap (λ (y : Ty). (tyOf a, y) ∷ ps) (sym eb)) g
 
@@ -140,12 +161,12 @@ abbrev runRest : List ℕ → Runs → ℕ → List (Ty × Ty)
 runRest ks s i = zipped (s .inv .0) (kidsFrom ks (s .a + i) (s .na - i)) (kidsFrom ks (s .b + i) (s .na - i))
 
 -- what a run asks of ws₀ is left to be done from ws, once its first i pairs answered r
-pub record RunLeft (x : Texts) (ws₀ ks : List ℕ) (n d : ℕ) (s : Runs) (ws : List ℕ) (r : UnifyResult) (i : ℕ) : Type 0 where
-  pub going : Going x ws₀ ks n d (does (unifyF x n d) (decode ws₀ ks n) (planMeans ks x (plans.Run s))) ws (answerOf r) (runRest ks s i)
+pub record RunLeft (x : Texts) (ws₀ ks m₀ : List ℕ) (n d : ℕ) (s : Runs) (ws m : List ℕ) (r : UnifyResult) (i : ℕ) : Type 0 where
+  pub going : Going x ws₀ ks m₀ n d (does (unifyF x n d) (decode ws₀ ks n) (planMeans ks x (plans.Run s))) ws m (answerOf r) (runRest ks s i)
 
 -- the same, and the next pair's types are in the words a and b
-pub record RunNext (x : Texts) (ws₀ ks : List ℕ) (n d : ℕ) (s : Runs) (ws : List ℕ) (r : UnifyResult) (i a b : ℕ) : Type 0 where
-  pub going : Going x ws₀ ks n d (does (unifyF x n d) (decode ws₀ ks n) (planMeans ks x (plans.Run s))) ws (answerOf r)
+pub record RunNext (x : Texts) (ws₀ ks m₀ : List ℕ) (n d : ℕ) (s : Runs) (ws m : List ℕ) (r : UnifyResult) (i a b : ℕ) : Type 0 where
+  pub going : Going x ws₀ ks m₀ n d (does (unifyF x n d) (decode ws₀ ks n) (planMeans ks x (plans.Run s))) ws m (answerOf r)
       ((tyOf a, tyOf b) ∷ runRest ks s (i + 1))
 
 module _ (x : Texts) (ks : List ℕ) (s : Runs) where
@@ -172,33 +193,36 @@ module _ (x : Texts) (ks : List ℕ) (s : Runs) where
   unfolding zipped
   run-over i h = rw (none-left (s .na) i h) refl
 
-pub run-fails : {x : Texts} {ws ks : List ℕ} {n : ℕ} (d : ℕ) (s : Runs) → Pairs x ws ks n (planMeans ks x (plans.Run s) .pairs) → (s .na ≡ s .nb → ⊥)
-    → Leaves ws ks ws n (does (unifyF x n d) (decode ws ks n) (planMeans ks x (plans.Run s))) code.Failure
+pub run-fails : {x : Texts} {ws ks m : List ℕ} {n d : ℕ} (s : Runs) → Asked x ws ks m n d (planMeans ks x (plans.Run s) .pairs) → (s .na ≡ s .nb → ⊥)
+    → Unified x ws ks m ws m n (does (unifyF x n d) (decode ws ks n) (planMeans ks x (plans.Run s))) code.Failure
 unfolding run
-run-fails {x} {ws} {ks} {n} d s p h =
-    record { same = ap (does (unifyF x n d) (decode ws ks n)) (run-differ x ks s h); clean = λ c cl. cl; tail = refl }
+run-fails {x} {ws} {ks} {n = n} {d = d} s p h = record {
+  leaves = record { same = ap (does (unifyF x n d) (decode ws ks n)) (run-differ x ks s h); clean = λ c cl. cl; tail = refl };
+  recalls = p .recalls;
+  since = since-same;
+}
 
-pub run-start : {x : Texts} {ws ks : List ℕ} {n d : ℕ} {s : Runs} → Pairs x ws ks n (planMeans ks x (plans.Run s) .pairs) → s .na ≡ s .nb
-    → RunLeft x ws ks n d s ws code.Success 0
-run-start {x} {ws} {ks} {n} {d} {s} p e = record {
+pub run-start : {x : Texts} {ws ks m : List ℕ} {n d : ℕ} {s : Runs} → Asked x ws ks m n d (planMeans ks x (plans.Run s) .pairs) → s .na ≡ s .nb
+    → RunLeft x ws ks m n d s ws m code.Success 0
+run-start {x} {ws} {ks} {m} {n} {d} {s} p e = record {
   going = going-start (planMeans ks x (plans.Run s)) (record { base = Success; pairs = runRest ks s 0 }) refl (run-whole x ks s e) p;
 }
 
-module _ {x : Texts} {ws₀ ks : List ℕ} {n d : ℕ} {s : Runs} {ws : List ℕ} {r : UnifyResult} {i : ℕ} where
-  pub run-pair : {a b t : ℕ} → RunLeft x ws₀ ks n d s ws r i → i < s .na → a ≡ slotAt ks (s .a + i) .type → t ≡ slotAt ks (s .b + i) .type
-      → tyOf b ≡ flip (s .inv .0) (tyOf t) → RunNext x ws₀ ks n d s ws r i a b
+module _ {x : Texts} {ws₀ ks m₀ : List ℕ} {n d : ℕ} {s : Runs} {ws m : List ℕ} {r : UnifyResult} {i : ℕ} where
+  pub run-pair : {a b t : ℕ} → RunLeft x ws₀ ks m₀ n d s ws m r i → i < s .na → a ≡ slotAt ks (s .a + i) .type → t ≡ slotAt ks (s .b + i) .type
+      → tyOf b ≡ flip (s .inv .0) (tyOf t) → RunNext x ws₀ ks m₀ n d s ws m r i a b
   run-pair {b = b} g h ea et eb = record {
     going = next-pair (s .inv .0) b (slotAt ks (s .b + i) .type) (going-to refl (run-more x ks s i h) (g .going)) ea (rw (← et) eb);
   }
 
-  pub run-asks : {a b : ℕ} → RunNext x ws₀ ks n d s ws r i a b → Pair x ws ks n (tyOf a) (tyOf b)
+  pub run-asks : {a b : ℕ} → RunNext x ws₀ ks m₀ n d s ws m r i a b → Asked x ws ks m n d ((tyOf a, tyOf b) ∷ [])
   run-asks p = going-pair (p .going)
 
-  pub run-next : {a b : ℕ} {ws′ : List ℕ} {q r′ : UnifyResult} → RunNext x ws₀ ks n d s ws r i a b
-      → Leaves ws ks ws′ n (unifyF x n d (decode ws ks n) (tyOf a) (tyOf b)) q → answerOf r′ ≡ both (answerOf r) (answerOf q) → RunLeft x ws₀ ks n d s ws′ r′ (i + 1)
+  pub run-next : {a b : ℕ} {ws′ m′ : List ℕ} {q r′ : UnifyResult} → RunNext x ws₀ ks m₀ n d s ws m r i a b
+      → Unified x ws ks m ws′ m′ n (unifyF x n d (decode ws ks n) (tyOf a) (tyOf b)) q → answerOf r′ ≡ both (answerOf r) (answerOf q) → RunLeft x ws₀ ks m₀ n d s ws′ m′ r′ (i + 1)
   run-next p l e = record { going = going-to (sym e) refl (going-on (p .going) l) }
 
-  pub run-ends : RunLeft x ws₀ ks n d s ws r i → s .na ≤ i → Leaves ws₀ ks ws n (does (unifyF x n d) (decode ws₀ ks n) (planMeans ks x (plans.Run s))) r
+  pub run-ends : RunLeft x ws₀ ks m₀ n d s ws m r i → s .na ≤ i → Unified x ws₀ ks m₀ ws m n (does (unifyF x n d) (decode ws₀ ks n) (planMeans ks x (plans.Run s))) r
   run-ends g h = going-end refl (going-to refl (run-over x ks s i h) (g .going))
 
 -- `unify_objects`, and lent entries: the first object's children lie in xs, the second's in ys
@@ -209,13 +233,13 @@ objectRest x xs ys s i =
     sharedNames x (s .inv .0) (namesFrom xs (s .a + i) (s .na - i)) (kidsFrom xs (s .a + i) (s .na - i)) (namesFrom ys (s .b) (s .nb)) (kidsFrom ys (s .b) (s .nb))
 
 -- what two objects ask of ws₀ is left to be done from ws, once the first i names answered r
-pub record ObjectLeft (x : Texts) (xs ys ws₀ ks : List ℕ) (n d : ℕ) (s : Runs) (ws : List ℕ) (r : UnifyResult) (i : ℕ) : Type 0 where
-  pub going : Going x ws₀ ks n d (does (unifyF x n d) (decode ws₀ ks n) (objectsOf x xs ys s)) ws
+pub record ObjectLeft (x : Texts) (xs ys ws₀ ks m₀ : List ℕ) (n d : ℕ) (s : Runs) (ws m : List ℕ) (r : UnifyResult) (i : ℕ) : Type 0 where
+  pub going : Going x ws₀ ks m₀ n d (does (unifyF x n d) (decode ws₀ ks n) (objectsOf x xs ys s)) ws m
       (both (answerOf r) (objectRest x xs ys s i .base)) (objectRest x xs ys s i .pairs)
 
 -- the same, and the next name's types are in the words a and b
-pub record ObjectNext (x : Texts) (xs ys ws₀ ks : List ℕ) (n d : ℕ) (s : Runs) (ws : List ℕ) (r : UnifyResult) (i a b : ℕ) : Type 0 where
-  pub going : Going x ws₀ ks n d (does (unifyF x n d) (decode ws₀ ks n) (objectsOf x xs ys s)) ws
+pub record ObjectNext (x : Texts) (xs ys ws₀ ks m₀ : List ℕ) (n d : ℕ) (s : Runs) (ws m : List ℕ) (r : UnifyResult) (i a b : ℕ) : Type 0 where
+  pub going : Going x ws₀ ks m₀ n d (does (unifyF x n d) (decode ws₀ ks n) (objectsOf x xs ys s)) ws m
       (both (answerOf r) (objectRest x xs ys s (i + 1) .base)) ((tyOf a, tyOf b) ∷ objectRest x xs ys s (i + 1) .pairs)
 
 module _ (x : Texts) (xs ys : List ℕ) (s : Runs) where
@@ -238,21 +262,21 @@ module _ (x : Texts) (xs ys : List ℕ) (s : Runs) where
   unfolding sharedNames
   object-over i h = rw (none-left (s .na) i h) refl
 
-pub object-start : {x : Texts} {xs ys ws ks : List ℕ} {n d : ℕ} {s : Runs} {r : UnifyResult} → Pairs x ws ks n (objectsOf x xs ys s .pairs)
-    → answerOf r ≡ ofBool (eqb (s .na) (s .nb)) → ObjectLeft x xs ys ws ks n d s ws r 0
+pub object-start : {x : Texts} {xs ys ws ks m : List ℕ} {n d : ℕ} {s : Runs} {r : UnifyResult} → Asked x ws ks m n d (objectsOf x xs ys s .pairs)
+    → answerOf r ≡ ofBool (eqb (s .na) (s .nb)) → ObjectLeft x xs ys ws ks m n d s ws m r 0
 object-start {x} {xs} {ys} {s = s} {r = r} p e = record { going = going-start (objectsOf x xs ys s) _ refl (object-whole x xs ys s r e) p }
 
-module _ {x : Texts} {xs ys ws₀ ks : List ℕ} {n d : ℕ} {s : Runs} {ws : List ℕ} {r : UnifyResult} {i : ℕ} (g : ObjectLeft x xs ys ws₀ ks n d s ws r i) where
+module _ {x : Texts} {xs ys ws₀ ks m₀ : List ℕ} {n d : ℕ} {s : Runs} {ws m : List ℕ} {r : UnifyResult} {i : ℕ} (g : ObjectLeft x xs ys ws₀ ks m₀ n d s ws m r i) where
   abbrev rest : Plan
   rest = objectRest x xs ys s (i + 1)
 
-  -- the i-th name's place m, and what was found beside it in the second object
-  module _ (h : i < s .na) {m : Name} {f : Sought} (em : m ≡ slotPlace (slotAt xs (s .a + i))) (ef : soughtMeans f ≡ soughtIn x ys m (s .b) (s .nb)) where
+  -- the i-th name's place v, and what was found beside it in the second object
+  module _ (h : i < s .na) {v : Name} {f : Sought} (em : v ≡ slotPlace (slotAt xs (s .a + i))) (ef : soughtMeans f ≡ soughtIn x ys v (s .b) (s .nb)) where
     object-to : (k : Sought) → f ≡ k → objectRest x xs ys s i ≡ after (shared (s .inv .0) (kidTy xs (s .a + i)) (soughtMeans k)) rest
     object-to k e = object-step x xs ys s i h ∙ ap (λ (v : Option Ty). after (shared (s .inv .0) (kidTy xs (s .a + i)) v) rest)
-        (ap (λ (v : Name). soughtIn x ys v (s .b) (s .nb)) (sym em) ∙ (sym ef ∙ ap soughtMeans e))
+        (ap (λ (w : Name). soughtIn x ys w (s .b) (s .nb)) (sym em) ∙ (sym ef ∙ ap soughtMeans e))
 
-    pub object-none : {r′ : UnifyResult} → f ≡ found.Nothing → answerOf r′ ≡ both (answerOf r) Failure → ObjectLeft x xs ys ws₀ ks n d s ws r′ (i + 1)
+    pub object-none : {r′ : UnifyResult} → f ≡ found.Nothing → answerOf r′ ≡ both (answerOf r) Failure → ObjectLeft x xs ys ws₀ ks m₀ n d s ws m r′ (i + 1)
     object-none e q =
         let l = object-to found.Nothing e in
         record {
@@ -263,22 +287,22 @@ module _ {x : Texts} {xs ys ws₀ ks : List ℕ} {n d : ℕ} {s : Runs} {ws : Li
 
     -- the name is there: one pair, and the rest
     pub object-pair : {a b : ℕ} {t : «Type»} → f ≡ found.Is t → a ≡ slotAt xs (s .a + i) .type → tyOf b ≡ flip (s .inv .0) (tyOf (t .0))
-        → ObjectNext x xs ys ws₀ ks n d s ws r i a b
+        → ObjectNext x xs ys ws₀ ks m₀ n d s ws m r i a b
     object-pair {b = b} {t = t} e ea eb =
         let l = object-to (found.Is t) e in
         record { going = next-pair (s .inv .0) b (t .0) (going-to (ap (λ (p : Plan). both (answerOf r) (p .base)) l) (ap (λ (p : Plan). p .pairs) l) (g .going)) ea eb }
 
-  pub object-ends : s .na ≤ i → Leaves ws₀ ks ws n (does (unifyF x n d) (decode ws₀ ks n) (objectsOf x xs ys s)) r
+  pub object-ends : s .na ≤ i → Unified x ws₀ ks m₀ ws m n (does (unifyF x n d) (decode ws₀ ks n) (objectsOf x xs ys s)) r
   object-ends h =
       let e = object-over x xs ys s i h in
       going-end (both-comm (answerOf r) Success) (going-to (ap (λ (l : Plan). both (answerOf r) (l .base)) e) (ap (λ (l : Plan). l .pairs) e) (g .going))
 
-module _ {x : Texts} {xs ys ws₀ ks : List ℕ} {n d : ℕ} {s : Runs} {ws : List ℕ} {r : UnifyResult} {i a b : ℕ} (p : ObjectNext x xs ys ws₀ ks n d s ws r i a b) where
-  pub object-asks : Pair x ws ks n (tyOf a) (tyOf b)
+module _ {x : Texts} {xs ys ws₀ ks m₀ : List ℕ} {n d : ℕ} {s : Runs} {ws m : List ℕ} {r : UnifyResult} {i a b : ℕ} (p : ObjectNext x xs ys ws₀ ks m₀ n d s ws m r i a b) where
+  pub object-asks : Asked x ws ks m n d ((tyOf a, tyOf b) ∷ [])
   object-asks = going-pair (p .going)
 
-  pub object-next : {ws′ : List ℕ} {q r′ : UnifyResult} → Leaves ws ks ws′ n (unifyF x n d (decode ws ks n) (tyOf a) (tyOf b)) q
-      → answerOf r′ ≡ both (answerOf r) (answerOf q) → ObjectLeft x xs ys ws₀ ks n d s ws′ r′ (i + 1)
+  pub object-next : {ws′ m′ : List ℕ} {q r′ : UnifyResult} → Unified x ws ks m ws′ m′ n (unifyF x n d (decode ws ks n) (tyOf a) (tyOf b)) q
+      → answerOf r′ ≡ both (answerOf r) (answerOf q) → ObjectLeft x xs ys ws₀ ks m₀ n d s ws′ m′ r′ (i + 1)
   object-next {q = q} l e =
       let rest : Plan = objectRest x xs ys s (i + 1) in
       record {
@@ -287,13 +311,13 @@ module _ {x : Texts} {xs ys ws₀ ks : List ℕ} {n d : ℕ} {s : Runs} {ws : Li
 
 -- two objects of one store
 
-pub stored-start : {x : Texts} {ws ks : List ℕ} {n d : ℕ} {s : Runs} {r : UnifyResult} → Pairs x ws ks n (planMeans ks x (plans.Object s) .pairs)
-    → answerOf r ≡ ofBool (eqb (s .na) (s .nb)) → ObjectLeft x ks ks ws ks n d s ws r 0
+pub stored-start : {x : Texts} {ws ks m : List ℕ} {n d : ℕ} {s : Runs} {r : UnifyResult} → Asked x ws ks m n d (planMeans ks x (plans.Object s) .pairs)
+    → answerOf r ≡ ofBool (eqb (s .na) (s .nb)) → ObjectLeft x ks ks ws ks m n d s ws m r 0
 unfolding planMeans
 stored-start p e = object-start p e
 
-pub stored-ends : {x : Texts} {ws₀ ks : List ℕ} {n d : ℕ} {s : Runs} {ws : List ℕ} {r : UnifyResult} {i : ℕ} → ObjectLeft x ks ks ws₀ ks n d s ws r i
-    → s .na ≤ i → Leaves ws₀ ks ws n (does (unifyF x n d) (decode ws₀ ks n) (planMeans ks x (plans.Object s))) r
+pub stored-ends : {x : Texts} {ws₀ ks m₀ : List ℕ} {n d : ℕ} {s : Runs} {ws m : List ℕ} {r : UnifyResult} {i : ℕ} → ObjectLeft x ks ks ws₀ ks m₀ n d s ws m r i
+    → s .na ≤ i → Unified x ws₀ ks m₀ ws m n (does (unifyF x n d) (decode ws₀ ks n) (planMeans ks x (plans.Object s))) r
 unfolding planMeans
 stored-ends g h = object-ends g h
 
@@ -308,55 +332,74 @@ module _ (x : Texts) (ks : List ℕ) {s p : Runs} (ep : Parameters s p) where
   unfolding planMeans signaturePlan
   signature-split t et = rw (parameters-plan, et) refl
 
-pub parameters-pairs : {x : Texts} {ws ks : List ℕ} {n : ℕ} {s p : Runs} → Pairs x ws ks n (planMeans ks x (plans.Signature s) .pairs) → Parameters s p
-    → Pairs x ws ks n (planMeans ks x (plans.Run p) .pairs)
+pub parameters-asks : {x : Texts} {ws ks m : List ℕ} {n d : ℕ} {s p : Runs} → Asked x ws ks m n d (planMeans ks x (plans.Signature s) .pairs) → Parameters s p
+    → Asked x ws ks m n d (planMeans ks x (plans.Run p) .pairs)
 unfolding planMeans signaturePlan
-parameters-pairs {x} {ws} {ks} {n} {s} g ep = record {
-  words = g .words;
-  inside = subst (λ (l : Plan). Inside n (l .pairs)) (sym (parameters-plan x ks ep)) (λ q m. g .inside q (Memᴰ·append-left (returnsPlan ks s .pairs) m));
-}
+parameters-asks {x} {ws} {ks} {m} {n} {d} {s} g ep = subst (λ (l : Plan). Asked x ws ks m n d (l .pairs)) (sym (parameters-plan x ks ep)) (record {
+  pairs = record { words = g .pairs .words; inside = λ q w. g .pairs .inside q (Memᴰ·append-left (returnsPlan ks s .pairs) w) };
+  enough = enough-part (λ q w. Memᴰ·append-left (returnsPlan ks s .pairs) w) (g .enough);
+  recalls = g .recalls;
+})
 
--- a signature's parameters are unified, from ws to ws₁, and answered q; its returns are t
-pub record Halfway (x : Texts) (ws ks ws₁ : List ℕ) (n d : ℕ) (s : Runs) (q : UnifyResult) (t : Returned) : Type 0 where
-  pub pairs : Pairs x ws ks n (planMeans ks x (plans.Signature s) .pairs)
+-- a signature's parameters are unified, from ws to ws₁ and from m to m₁, and answered q; its returns are t
+pub record Halfway (x : Texts) (ws ks m ws₁ m₁ : List ℕ) (n d : ℕ) (s : Runs) (q : UnifyResult) (t : Returned) : Type 0 where
+  pub asked : Asked x ws ks m n d (planMeans ks x (plans.Signature s) .pairs)
   pub front : Runs
   pub parameters : Parameters s front
-  pub left : Leaves ws ks ws₁ n (does (unifyF x n d) (decode ws ks n) (planMeans ks x (plans.Run front))) q
+  pub left : Unified x ws ks m ws₁ m₁ n (does (unifyF x n d) (decode ws ks n) (planMeans ks x (plans.Run front))) q
   pub returns : returnsMean t ≡ returnsPlan ks s
 
-module _ {x : Texts} {ws ks ws₁ : List ℕ} {n d : ℕ} {s : Runs} {q : UnifyResult} {t : Returned} (h : Halfway x ws ks ws₁ n d s q t) where
+module _ {x : Texts} {ws ks m ws₁ m₁ : List ℕ} {n d : ℕ} {s : Runs} {q : UnifyResult} {t : Returned} (h : Halfway x ws ks m ws₁ m₁ n d s q t) where
   abbrev first : Plan
   first = planMeans ks x (plans.Run (h .front))
 
   split : planMeans ks x (plans.Signature s) ≡ after first (returnsMean t)
   split = signature-split x ks (h .parameters) t (h .returns)
 
-  pub returns-in : {y z : «Type»} → t ≡ back.Pair y z → Pair x ws₁ ks n (tyOf (y .0)) (tyOf (z .0))
-  returns-in {y} {z} e =
-      let i = h .pairs .inside (tyOf (y .0), tyOf (z .0)) (rw (split, e) (Memᴰ·append-right (first .pairs) (List·Memᴰ·head refl))) in
+  all-asked : Asked x ws ks m n d (first .pairs ++ returnsMean t .pairs)
+  all-asked = subst (λ (l : Plan). Asked x ws ks m n d (l .pairs)) split (h .asked)
+
+  returns-asked : Asked x ws₁ ks m₁ n d (returnsMean t .pairs)
+  returns-asked =
+      let w = all-asked .pairs .words in
+      let i = all-asked .pairs .inside in
       record {
-        words = words-run (h .pairs .words) d (first .base) (first .pairs) (parameters-pairs (h .pairs) (h .parameters) .inside) (h .left);
-        first = i .0;
-        second = i .1;
+        pairs = record {
+          words = words-run w d (first .base) (first .pairs) (λ p v. i p (Memᴰ·append-left (returnsMean t .pairs) v)) (h .left .leaves);
+          inside = λ p v. i p (Memᴰ·append-right (first .pairs) v);
+        };
+        enough = words-enough w d (first .base) (first .pairs) (returnsMean t .pairs) i (all-asked .enough) (h .left .leaves);
+        recalls = h .left .recalls;
       }
+
+  pub returns-in : {y z : «Type»} → t ≡ back.Pair y z → Asked x ws₁ ks m₁ n d ((tyOf (y .0), tyOf (z .0)) ∷ [])
+  returns-in e = subst (λ (v : Returned). Asked x ws₁ ks m₁ n d (returnsMean v .pairs)) e returns-asked
 
   abbrev signature : Out
   signature = does (unifyF x n d) (decode ws ks n) (planMeans ks x (plans.Signature s))
 
   -- the whole from its two parts
   whole-by : signature ≡ next (unifyF x n d) (out (decode ws₁ ks n) (answerOf q)) (returnsMean t)
-  whole-by = ap (does (unifyF x n d) (decode ws ks n)) split ∙ does-after (unifyF x n d) (decode ws ks n) first (returnsMean t) (h .left .same)
+  whole-by = ap (does (unifyF x n d) (decode ws ks n)) split ∙ does-after (unifyF x n d) (decode ws ks n) first (returnsMean t) (h .left .leaves .same)
 
-  pub signature-lacking : {r : UnifyResult} (v : UnifyResult) → t ≡ back.Lacking r → answerOf v ≡ both (answerOf q) (answerOf r) → Leaves ws ks ws₁ n signature v
+  pub signature-lacking : {r : UnifyResult} (v : UnifyResult) → t ≡ back.Lacking r → answerOf v ≡ both (answerOf q) (answerOf r) → Unified x ws ks m ws₁ m₁ n signature v
   unfolding run
-  signature-lacking v e f = record { same = whole-by ∙ rw (e, f) refl; clean = h .left .clean; tail = h .left .tail }
+  signature-lacking v e f = record {
+    leaves = record { same = whole-by ∙ rw (e, f) refl; clean = h .left .leaves .clean; tail = h .left .leaves .tail };
+    recalls = h .left .recalls;
+    since = h .left .since;
+  }
 
-  pub signature-pair : {y z : «Type»} {ws₂ : List ℕ} {r : UnifyResult} (v : UnifyResult) → t ≡ back.Pair y z
-      → Leaves ws₁ ks ws₂ n (unifyF x n d (decode ws₁ ks n) (tyOf (y .0)) (tyOf (z .0))) r → answerOf v ≡ both (answerOf q) (answerOf r)
-      → Leaves ws ks ws₂ n signature v
+  pub signature-pair : {y z : «Type»} {ws₂ m₂ : List ℕ} {r : UnifyResult} (v : UnifyResult) → t ≡ back.Pair y z
+      → Unified x ws₁ ks m₁ ws₂ m₂ n (unifyF x n d (decode ws₁ ks n) (tyOf (y .0)) (tyOf (z .0))) r → answerOf v ≡ both (answerOf q) (answerOf r)
+      → Unified x ws ks m ws₂ m₂ n signature v
   unfolding run
-  signature-pair v e m f = record {
-    same = whole-by ∙ rw (e, m .same, f) refl;
-    clean = λ c cl. m .clean c (h .left .clean c cl);
-    tail = m .tail ∙ h .left .tail;
+  signature-pair v e u f = record {
+    leaves = record {
+      same = whole-by ∙ rw (e, u .leaves .same, f) refl;
+      clean = λ c cl. u .leaves .clean c (h .left .leaves .clean c cl);
+      tail = u .leaves .tail ∙ h .left .leaves .tail;
+    };
+    recalls = u .recalls;
+    since = since-then (h .left .since) (u .since);
   }

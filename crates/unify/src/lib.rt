@@ -1,19 +1,21 @@
 // "The functions that unify a pair, a run and an object call each other in turn", depth falling from the node count. What is to be done with two roots is
-// read first, then their children are unified, then the answer is settled. The words of the nodes change as scope's `unify` says of the nodes.
+// read first, then their children are unified, then the answer is settled. The words of the nodes change as scope's `unify` says of the nodes. Beside them goes a
+// memory: a pair that did not succeed is looked up there before its children are unified. Whatever is believed there is what unifying would give.
 ghost use Rattle.scope.specs.Types.{tyOf};
 ghost use Rattle.scope.specs.Unify.{unifyF};
 ghost use Rattle.names.specs.Place.{texts};
 ghost use Rattle.layout.specs.Words.{decode};
 ghost use Rattle.plan.specs.Meaning.{planMeans};
 ghost use Rattle.plan.specs.declared.Plan.the-variants as plans;
-ghost use Rattle.meeting.specs.Asks.{Pair, Pairs};
 ghost use Rattle.meeting.specs.Meets.{does};
-ghost use Rattle.unify.specs.Leaves.{Leaves};
+ghost use mathlib.Core.List.{[], _∷_};
+ghost use Rattle.unify.specs.Asked.{Asked, Unified};
 use meeting::Meeting;
 use meeting::Returned;
 use meeting::Sought;
 use plan::Plan;
 use plan::Runs;
+use recall::Recalled;
 use types::Type;
 use types::UnifyResult;
 
@@ -24,48 +26,71 @@ pub fn unify<'a>(
     n: u32,
     rule: &'a [u8],
     text: &'a [u8],
+    memory: &mut [u32],
     a: Type,
     b: Type,
     depth: u32,
 ) -> UnifyResult
-    requires { ⌜ Pair (texts (now rule) (now text)) (now ws) (now ks) n (tyOf (a .0)) (tyOf (b .0)) ⌝ }
-    ensures { λ r. ⌜ Leaves (now (ws .entry)) (now (ks .entry)) (now (ws .exit)) n
+    requires { ⌜ Asked (texts (now rule) (now text)) (now ws) (now ks) (now memory) n depth ((tyOf (a .0), tyOf (b .0)) ∷ []) ⌝ }
+    ensures { λ r. ⌜ Unified (texts (now (rule .entry)) (now (text .entry))) (now (ws .entry)) (now (ks .entry)) (now (memory .entry)) (now (ws .exit)) (now (memory .exit)) n
         (unifyF (texts (now (rule .entry)) (now (text .entry))) n depth (decode (now (ws .entry)) (now (ks .entry)) n) (tyOf (a .0)) (tyOf (b .0))) r ⌝ }
 {
     if depth == 0 {
         return UnifyResult::Failure;
     }
-    let ra = roots::find_mut(ws, n, a);
-    let rb = roots::find_mut(ws, n, b);
+    recall::visited(memory);
+    let ra = heed::find(ws, n, memory, a);
+    let rb = heed::find(ws, n, memory, b);
     let m = meeting::meet(ws, ks, n, rule, text, ra, rb);
     match m {
         Meeting::Done(r) => r,
         Meeting::Bind => {
             merge::bind(ws, n, ra, rb);
+            recall::changed(memory);
             UnifyResult::Success
         }
-        Meeting::Kids(p) => match p {
-            Plan::Answer(r) => merge::settle(ws, n, ra, rb, r),
-            Plan::Run(s) => {
-                let r = unify_types(ws, ks, n, rule, text, s, depth - 1);
-                merge::settle(ws, n, ra, rb, r)
-            }
-            Plan::Object(s) => {
-                let r = unify_objects(ws, ks, n, rule, text, s, depth - 1);
-                merge::settle(ws, n, ra, rb, r)
-            }
-            Plan::Signature(s) => {
-                let q = unify_types(ws, ks, n, rule, text, meeting::parameters(s), depth - 1);
-                let t = meeting::returns(ks, s);
-                match t {
-                    Returned::Lacking(r) => merge::settle(ws, n, ra, rb, q.and(r)),
-                    Returned::Pair(x, y) => {
-                        let r = unify(ws, ks, n, rule, text, x, y, depth - 1);
-                        merge::settle(ws, n, ra, rb, q.and(r))
-                    }
+        Meeting::Kids(p) => {
+            let known = recall::look(memory, n, ra, rb);
+            match known {
+                Recalled::Is(r) => r,
+                Recalled::Nothing => {
+                    let began = recall::clock(memory);
+                    let r = unify_kids(ws, ks, n, rule, text, memory, p, depth - 1);
+                    heed::settle(ws, n, memory, began, ra, rb, r)
                 }
             }
-        },
+        }
+    }
+}
+
+// The children of two kinds, as their plan says.
+pub fn unify_kids<'a>(
+    ws: &mut [u32],
+    ks: &[u32],
+    n: u32,
+    rule: &'a [u8],
+    text: &'a [u8],
+    memory: &mut [u32],
+    p: Plan,
+    depth: u32,
+) -> UnifyResult
+    requires { ⌜ Asked (texts (now rule) (now text)) (now ws) (now ks) (now memory) n depth (planMeans (now ks) (texts (now rule) (now text)) p .pairs) ⌝ }
+    ensures { λ r. ⌜ Unified (texts (now (rule .entry)) (now (text .entry))) (now (ws .entry)) (now (ks .entry)) (now (memory .entry)) (now (ws .exit)) (now (memory .exit)) n
+        (does (unifyF (texts (now (rule .entry)) (now (text .entry))) n depth) (decode (now (ws .entry)) (now (ks .entry)) n)
+        (planMeans (now (ks .entry)) (texts (now (rule .entry)) (now (text .entry))) p)) r ⌝ }
+{
+    match p {
+        Plan::Answer(r) => r,
+        Plan::Run(s) => unify_types(ws, ks, n, rule, text, memory, s, depth),
+        Plan::Object(s) => unify_objects(ws, ks, n, rule, text, memory, s, depth),
+        Plan::Signature(s) => {
+            let q = unify_types(ws, ks, n, rule, text, memory, meeting::parameters(s), depth);
+            let t = meeting::returns(ks, s);
+            match t {
+                Returned::Lacking(r) => q.and(r),
+                Returned::Pair(x, y) => q.and(unify(ws, ks, n, rule, text, memory, x, y, depth)),
+            }
+        }
     }
 }
 
@@ -76,11 +101,12 @@ pub fn unify_types<'a>(
     n: u32,
     rule: &'a [u8],
     text: &'a [u8],
+    memory: &mut [u32],
     s: Runs,
     depth: u32,
 ) -> UnifyResult
-    requires { ⌜ Pairs (texts (now rule) (now text)) (now ws) (now ks) n (planMeans (now ks) (texts (now rule) (now text)) (plans.Run s) .pairs) ⌝ }
-    ensures { λ r. ⌜ Leaves (now (ws .entry)) (now (ks .entry)) (now (ws .exit)) n
+    requires { ⌜ Asked (texts (now rule) (now text)) (now ws) (now ks) (now memory) n depth (planMeans (now ks) (texts (now rule) (now text)) (plans.Run s) .pairs) ⌝ }
+    ensures { λ r. ⌜ Unified (texts (now (rule .entry)) (now (text .entry))) (now (ws .entry)) (now (ks .entry)) (now (memory .entry)) (now (ws .exit)) (now (memory .exit)) n
         (does (unifyF (texts (now (rule .entry)) (now (text .entry))) n depth) (decode (now (ws .entry)) (now (ks .entry)) n)
         (planMeans (now (ks .entry)) (texts (now (rule .entry)) (now (text .entry))) (plans.Run s))) r ⌝ }
 {
@@ -94,7 +120,7 @@ pub fn unify_types<'a>(
         let x = meeting::kid(ks, s.a, i);
         let y = meeting::kid(ks, s.b, i).invert_if(inv);
         i += 1;
-        r = r.and(unify(ws, ks, n, rule, text, x, y, depth));
+        r = r.and(unify(ws, ks, n, rule, text, memory, x, y, depth));
     }
     r
 }
@@ -106,11 +132,12 @@ pub fn unify_objects<'a>(
     n: u32,
     rule: &'a [u8],
     text: &'a [u8],
+    memory: &mut [u32],
     s: Runs,
     depth: u32,
 ) -> UnifyResult
-    requires { ⌜ Pairs (texts (now rule) (now text)) (now ws) (now ks) n (planMeans (now ks) (texts (now rule) (now text)) (plans.Object s) .pairs) ⌝ }
-    ensures { λ r. ⌜ Leaves (now (ws .entry)) (now (ks .entry)) (now (ws .exit)) n
+    requires { ⌜ Asked (texts (now rule) (now text)) (now ws) (now ks) (now memory) n depth (planMeans (now ks) (texts (now rule) (now text)) (plans.Object s) .pairs) ⌝ }
+    ensures { λ r. ⌜ Unified (texts (now (rule .entry)) (now (text .entry))) (now (ws .entry)) (now (ks .entry)) (now (memory .entry)) (now (ws .exit)) (now (memory .exit)) n
         (does (unifyF (texts (now (rule .entry)) (now (text .entry))) n depth) (decode (now (ws .entry)) (now (ks .entry)) n)
         (planMeans (now (ks .entry)) (texts (now (rule .entry)) (now (text .entry))) (plans.Object s))) r ⌝ }
 {
@@ -123,7 +150,7 @@ pub fn unify_objects<'a>(
         j += 1;
         match f {
             Sought::Is(t) => {
-                r = r.and(unify(ws, ks, n, rule, text, x, t.invert_if(inv), depth));
+                r = r.and(unify(ws, ks, n, rule, text, memory, x, t.invert_if(inv), depth));
             }
             Sought::Nothing => {
                 r = r.and(UnifyResult::Failure);

@@ -1,4 +1,5 @@
-// What other callers unify: a pair as deep as there are nodes, and lent lists of types and of entries. Each is what scope's definition says.
+// What other callers unify: a pair as deep as there are nodes, and lent lists of types and of entries. Each is what scope's definition says, whatever a memory
+// recalls of it.
 ghost use mathlib.Core.Path.{_≡_};
 ghost use Prim.Native.Nat.{_≤_};
 ghost use Rattle.scope.specs.Limits.{«MAX-LIST»};
@@ -9,8 +10,8 @@ ghost use Rattle.names.specs.Place.{texts};
 ghost use Rattle.layout.specs.Words.{decode};
 ghost use Rattle.types.specs.Impls.{implMeans};
 ghost use Rattle.store.specs.Entries.{entryCount, entryNames, entryTypes, typesIn};
-ghost use Rattle.meeting.specs.Asks.{Pair};
-ghost use Rattle.unify.specs.Leaves.{Leaves};
+ghost use mathlib.Core.List.{[], _∷_};
+ghost use Rattle.unify.specs.Asked.{Asked, Unified};
 ghost use Rattle.unify_lists.specs.Lent.{Lists, Objects, Signatures, Impls};
 use meeting::Sought;
 use types::Impl;
@@ -25,14 +26,15 @@ pub fn unify_all<'a>(
     n: u32,
     rule: &'a [u8],
     text: &'a [u8],
+    memory: &mut [u32],
     a: Type,
     b: Type,
 ) -> UnifyResult
-    requires { ⌜ Pair (texts (now rule) (now text)) (now ws) (now ks) n (tyOf (a .0)) (tyOf (b .0)) ⌝ }
-    ensures { λ r. ⌜ Leaves (now (ws .entry)) (now (ks .entry)) (now (ws .exit)) n
+    requires { ⌜ Asked (texts (now rule) (now text)) (now ws) (now ks) (now memory) n n ((tyOf (a .0), tyOf (b .0)) ∷ []) ⌝ }
+    ensures { λ r. ⌜ Unified (texts (now (rule .entry)) (now (text .entry))) (now (ws .entry)) (now (ks .entry)) (now (memory .entry)) (now (ws .exit)) (now (memory .exit)) n
         (scope.unify (texts (now (rule .entry)) (now (text .entry))) (decode (now (ws .entry)) (now (ks .entry)) n) (tyOf (a .0)) (tyOf (b .0))) r ⌝ }
 {
-    unify::unify(ws, ks, n, rule, text, a, b, n)
+    unify::unify(ws, ks, n, rule, text, memory, a, b, n)
 }
 
 // Two lent lists of types, the second's inverted if inv says so.
@@ -42,12 +44,13 @@ pub fn unify_lists<'a>(
     n: u32,
     rule: &'a [u8],
     text: &'a [u8],
+    memory: &mut [u32],
     xs: &[u32],
     ys: &[u32],
     inv: Inverted,
 ) -> UnifyResult
-    requires { ⌜ Lists (texts (now rule) (now text)) (now ws) (now ks) n (now xs) (now ys) inv ⌝ }
-    ensures { λ r. ⌜ Leaves (now (ws .entry)) (now (ks .entry)) (now (ws .exit)) n
+    requires { ⌜ Lists (texts (now rule) (now text)) (now ws) (now ks) (now memory) n (now xs) (now ys) inv ⌝ }
+    ensures { λ r. ⌜ Unified (texts (now (rule .entry)) (now (text .entry))) (now (ws .entry)) (now (ks .entry)) (now (memory .entry)) (now (ws .exit)) (now (memory .exit)) n
         (unifyTypes (texts (now (rule .entry)) (now (text .entry))) (decode (now (ws .entry)) (now (ks .entry)) n)
         (typesIn (now (xs .entry))) (typesIn (now (ys .entry))) (inv .0)) r ⌝ }
 {
@@ -60,7 +63,7 @@ pub fn unify_lists<'a>(
         let x = Type(xs[i]);
         let y = Type(ys[i]).invert_if(inv);
         i += 1;
-        r = r.and(unify::unify(ws, ks, n, rule, text, x, y, n));
+        r = r.and(unify::unify(ws, ks, n, rule, text, memory, x, y, n));
     }
     r
 }
@@ -80,12 +83,13 @@ pub fn unify_entries<'a>(
     n: u32,
     rule: &'a [u8],
     text: &'a [u8],
+    memory: &mut [u32],
     xs: &[u32],
     ys: &[u32],
     inv: Inverted,
 ) -> UnifyResult
-    requires { ⌜ Objects (texts (now rule) (now text)) (now ws) (now ks) n (now xs) (now ys) inv ⌝ }
-    ensures { λ r. ⌜ Leaves (now (ws .entry)) (now (ks .entry)) (now (ws .exit)) n
+    requires { ⌜ Objects (texts (now rule) (now text)) (now ws) (now ks) (now memory) n (now xs) (now ys) inv ⌝ }
+    ensures { λ r. ⌜ Unified (texts (now (rule .entry)) (now (text .entry))) (now (ws .entry)) (now (ks .entry)) (now (memory .entry)) (now (ws .exit)) (now (memory .exit)) n
         (unifyObjects (texts (now (rule .entry)) (now (text .entry))) (decode (now (ws .entry)) (now (ks .entry)) n)
         (entryNames (now (xs .entry))) (entryTypes (now (xs .entry))) (entryNames (now (ys .entry))) (entryTypes (now (ys .entry))) (inv .0)) r ⌝ }
 {
@@ -99,7 +103,7 @@ pub fn unify_entries<'a>(
         j += 1;
         match f {
             Sought::Is(t) => {
-                r = r.and(unify::unify(ws, ks, n, rule, text, x, t.invert_if(inv), n));
+                r = r.and(unify::unify(ws, ks, n, rule, text, memory, x, t.invert_if(inv), n));
             }
             Sought::Nothing => {
                 r = r.and(UnifyResult::Failure);
@@ -116,18 +120,19 @@ pub fn unify_fn_sig<'a>(
     n: u32,
     rule: &'a [u8],
     text: &'a [u8],
+    memory: &mut [u32],
     xs: &[u32],
     a: Type,
     ys: &[u32],
     b: Type,
 ) -> UnifyResult
-    requires { ⌜ Signatures (texts (now rule) (now text)) (now ws) (now ks) n (now xs) (tyOf (a .0)) (now ys) (tyOf (b .0)) ⌝ }
-    ensures { λ r. ⌜ Leaves (now (ws .entry)) (now (ks .entry)) (now (ws .exit)) n
+    requires { ⌜ Signatures (texts (now rule) (now text)) (now ws) (now ks) (now memory) n (now xs) (tyOf (a .0)) (now ys) (tyOf (b .0)) ⌝ }
+    ensures { λ r. ⌜ Unified (texts (now (rule .entry)) (now (text .entry))) (now (ws .entry)) (now (ks .entry)) (now (memory .entry)) (now (ws .exit)) (now (memory .exit)) n
         (unifyFnSig (texts (now (rule .entry)) (now (text .entry))) (decode (now (ws .entry)) (now (ks .entry)) n)
         (typesIn (now (xs .entry))) (tyOf (a .0)) (typesIn (now (ys .entry))) (tyOf (b .0))) r ⌝ }
 {
-    let q = unify_lists(ws, ks, n, rule, text, xs, ys, Inverted(false));
-    let r = unify::unify(ws, ks, n, rule, text, a, b, n);
+    let q = unify_lists(ws, ks, n, rule, text, memory, xs, ys, Inverted(false));
+    let r = unify::unify(ws, ks, n, rule, text, memory, a, b, n);
     q.and(r)
 }
 
@@ -138,13 +143,14 @@ pub fn unify_impl_type<'a>(
     n: u32,
     rule: &'a [u8],
     text: &'a [u8],
+    memory: &mut [u32],
     a: Impl,
     xs: &[u32],
     b: Impl,
     ys: &[u32],
 ) -> UnifyResult
-    requires { ⌜ Impls (texts (now rule) (now text)) (now ws) (now ks) n a (now xs) b (now ys) ⌝ }
-    ensures { λ r. ⌜ Leaves (now (ws .entry)) (now (ks .entry)) (now (ws .exit)) n
+    requires { ⌜ Impls (texts (now rule) (now text)) (now ws) (now ks) (now memory) n a (now xs) b (now ys) ⌝ }
+    ensures { λ r. ⌜ Unified (texts (now (rule .entry)) (now (text .entry))) (now (ws .entry)) (now (ks .entry)) (now (memory .entry)) (now (ws .exit)) (now (memory .exit)) n
         (unifyImplType (texts (now (rule .entry)) (now (text .entry))) (decode (now (ws .entry)) (now (ks .entry)) n)
         (implMeans a (now (xs .entry))) (implMeans b (now (ys .entry)))) r ⌝ }
 {
@@ -157,5 +163,5 @@ pub fn unify_impl_type<'a>(
     if i != j {
         return UnifyResult::Failure;
     }
-    unify_lists(ws, ks, n, rule, text, xs, ys, Inverted(false))
+    unify_lists(ws, ks, n, rule, text, memory, xs, ys, Inverted(false))
 }

@@ -11,8 +11,11 @@ unify-requires c κs = search needs
 same-length : tie.Need-same-length
 same-length c = search needs
 
+same-length-2 : tie.Need-same-length-2
+same-length-2 c = search needs
+
 returns : tie.Need-returns
-returns c = whole-depth (c .before .before .before .before .before .before .before .before .pre) (c .before .before .unify .ensures)
+returns c = whole-depth (c .before .before .before .before .before .before .before .before .before .before .before .before .pre) (c .before .before .before .before .unify .ensures)
 
 pub unify-all-spec : {M : Type 1} → statement M
-unify-all-spec = tie.close (tie.spec unify-requires same-length returns)
+unify-all-spec = tie.close (tie.spec unify-requires same-length same-length-2 returns)

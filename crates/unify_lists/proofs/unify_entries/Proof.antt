@@ -13,31 +13,31 @@ use Rattle.unify_lists.proofs.unify_entries.Statement.{statement}
 use Rattle.unify_lists.proofs.unify_entries.Tie as tie
 
 abbrev Inv-loop : tie.InvT-loop
-Inv-loop ws₀ ks n rule text xs ys inv na nb r₀ j₀ ws r j =
-    (length ws ≡ length ws₀)
-    × ObjectLeft (texts rule text) xs ys ws₀ ks n n (fromFirst na nb inv) ws r j
+Inv-loop ws₀ ks n rule text memory₀ xs ys inv na nb r₀ j₀ ws memory r j =
+    (length ws ≡ length ws₀) × (length memory ≡ length memory₀)
+    × ObjectLeft (texts rule text) xs ys ws₀ ks memory₀ n n (fromFirst na nb inv) ws memory r j
 
 abbrev μ-loop : tie.MeasureT-loop
-μ-loop ws₀ ks n rule text xs ys inv na nb r₀ j₀ ws r j = na - j
+μ-loop ws₀ ks n rule text memory₀ xs ys inv na nb r₀ j₀ ws memory r j = na - j
 
 -- a name that both objects have
 name-there : (c : tie.After-invert-if Inv-loop μ-loop)
-    → let l = c .before .before .before .before .before .before .before .before .before in
-    let a = l .before .before .before .before .before .before .before .before .before .before .args in
-    ObjectNext (texts (a .rule .now) (a .text .now)) (a .xs .now) (a .ys .now) (a .ws .now) (a .ks .now) (a .n) (a .n)
-    (fromFirst (l .before .before .before .entries .result) (l .before .before .entries2 .result) (a .inv)) (l .loop .ws) (l .loop .r) (l .loop .j)
-    (c .before .before .before .before .before .before .before .kid .result .0) (c .invert-if .result .0)
+    → let l = c .before .before .before .before .before .before .before .before .before .before in
+    let a = l .before .before .before .before .before .before .before .before .before .before .before .args in
+    ObjectNext (texts (a .rule .now) (a .text .now)) (a .xs .now) (a .ys .now) (a .ws .now) (a .ks .now) (a .memory .now) (a .n) (a .n)
+    (fromFirst (l .before .before .before .entries .result) (l .before .before .entries2 .result) (a .inv)) (l .loop .ws) (l .loop .memory) (l .loop .r) (l .loop .j)
+    (c .before .before .before .before .before .before .before .before .kid .result .0) (c .invert-if .result .0)
 name-there c =
-    let k = c .before .before .before .before .before in
+    let k = c .before .before .before .before .before .before in
     let l = k .before .before .before .before in
-    object-pair (l .loop .inv .1) (k .before .before .before .loop-test .taken) (k .before .kid-name .ensures) (k .seek .ensures)
-    (c .before .before .before .f .given .1) (k .before .before .kid .ensures) (c .invert-if .ensures)
+    object-pair (l .loop .inv .2) (k .before .before .before .loop-test .taken) (k .before .kid-name .ensures) (k .seek .ensures)
+    (c .before .before .before .before .f .given .1) (k .before .before .kid .ensures) (c .invert-if .ensures)
 
 entries-requires : tie.Need-entries-requires Inv-loop μ-loop
-entries-requires c κs = c .before .before .before .before .before .before .pre .first
+entries-requires c κs = c .before .before .before .before .before .before .before .pre .first
 
 entries-requires-2 : tie.Need-entries-requires-2 Inv-loop μ-loop
-entries-requires-2 c κs = c .before .before .before .before .before .before .before .pre .second
+entries-requires-2 c κs = c .before .before .before .before .before .before .before .before .pre .second
 
 from-bool-requires : tie.Need-from-bool-requires Inv-loop μ-loop
 from-bool-requires c κs = search needs
@@ -45,7 +45,7 @@ from-bool-requires c κs = search needs
 loop-holds : tie.Need-loop-holds Inv-loop μ-loop
 loop-holds c =
     let e = c .before .before in
-    (refl, entries-start (e .before .before .before .before .before .before .before .pre) (e .entries .ensures) (c .before .entries2 .ensures) (c .from-bool .ensures))
+    (refl, refl, entries-start (e .before .before .before .before .before .before .before .before .pre) (e .entries .ensures) (c .before .entries2 .ensures) (c .from-bool .ensures))
 
 kid-requires : tie.Need-kid-requires Inv-loop μ-loop
 kid-requires c κs = search needs
@@ -76,9 +76,9 @@ loop-less c = search needs
 
 loop-again : tie.Need-loop-again Inv-loop μ-loop
 loop-again c =
-    let u = c .before .before .before in
-    let l = u .before .before .before .before .before .before .before .before .before .before in
-    (u .unify .kept .0 ∙ l .loop .inv .0, object-next (name-there (u .before)) (u .unify .ensures) (c .and .ensures))
+    let u = c .before .before .before .before .before in
+    let l = u .before .before .before .before .before .before .before .before .before .before .before in
+    (u .unify .kept .0 ∙ l .loop .inv .0, u .unify .kept .1 .1 .1 .1 .1 .0 ∙ l .loop .inv .1, object-next (name-there (u .before)) (u .unify .ensures) (c .and .ensures))
 
 enum-told : tie.Need-enum-told Inv-loop μ-loop
 enum-told c = search needs
@@ -94,17 +94,23 @@ loop-again-2 c =
     let k = c .before .before .before in
     let l = k .before .before .before .before in (
       l .loop .inv .0,
-      object-none (l .loop .inv .1) (k .before .before .before .loop-test .taken) (k .before .kid-name .ensures) (k .seek .ensures) (c .before .enum-told .given .1) (c .and2 .ensures),
+      l .loop .inv .1,
+      object-none (l .loop .inv .2) (k .before .before .before .loop-test .taken) (k .before .kid-name .ensures) (k .seek .ensures) (c .before .enum-told .given .1)
+          (c .and2 .ensures),
     )
 
 same-length : tie.Need-same-length Inv-loop μ-loop
 same-length c = c .before .loop .inv .0
 
+same-length-2 : tie.Need-same-length-2 Inv-loop μ-loop
+same-length-2 c = c .before .loop .inv .1
+
 returns : tie.Need-returns Inv-loop μ-loop
 returns c =
     let l = c .before in
     let e = l .before .before .before in
-    entries-end (e .before .before .before .before .before .before .before .pre) (e .entries .ensures) (l .before .before .entries2 .ensures) (l .loop .inv .1) (c .loop-test .left)
+    entries-end (e .before .before .before .before .before .before .before .before .pre) (e .entries .ensures) (l .before .before .entries2 .ensures) (l .loop .inv .2)
+    (c .loop-test .left)
 
 pub unify-entries-spec : {M : Type 1} → statement M
 unify-entries-spec =
@@ -131,4 +137,5 @@ unify-entries-spec =
     loop-less-2
     loop-again-2
     same-length
+    same-length-2
     returns)

@@ -6,10 +6,13 @@ use Rattle.unify_lists.proofs.unify_fn_sig.Statement.{statement}
 use Rattle.unify_lists.proofs.unify_fn_sig.Tie as tie
 
 unify-lists-requires : tie.Need-unify-lists-requires
-unify-lists-requires c κs = sig-parameters (c .before .before .before .before .before .before .before .pre)
+unify-lists-requires c κs = sig-parameters (c .before .before .before .before .before .before .before .before .before .pre)
 
 unify-requires : tie.Need-unify-requires
-unify-requires c κs = sig-returns (c .before .before .before .before .before .before .before .before .before .before .before .pre) (c .before .before .before .unify-lists .ensures)
+unify-requires c κs =
+    let at-unify-lists = c .before .before .before .before .before .before in
+    let at-pre = at-unify-lists .before .before .before .before .before .before .before .before .before .before in
+    sig-returns (at-pre .pre) (at-unify-lists .unify-lists .ensures)
 
 and-requires : tie.Need-and-requires
 and-requires c κs = search needs
@@ -17,11 +20,17 @@ and-requires c κs = search needs
 same-length : tie.Need-same-length
 same-length c = search needs
 
+same-length-2 : tie.Need-same-length-2
+same-length-2 c = search needs
+
 returns : tie.Need-returns
 returns c =
-    let q = c .before .before .before .before .before .before .before in
-    sig-law (q .before .before .before .before .before .before .before .before .pre) (q .unify-lists .ensures) (c .before .before .before .unify .ensures) (c .and .ensures)
+    let at-unify = c .before .before .before .before .before in
+    let at-unify-lists = at-unify .before .before .before .before .before .before .before in
+    let at-pre = at-unify-lists .before .before .before .before .before .before .before .before .before .before in
+    sig-law (at-pre .pre) (at-unify-lists .unify-lists .ensures) (at-unify .unify .ensures) (c .and .ensures)
 
 pub unify-fn-sig-spec : {M : Type 1} → statement M
 unify-fn-sig-spec =
-    tie.close (tie.spec unify-lists-requires unify-requires and-requires same-length returns)
+    tie.close
+    (tie.spec unify-lists-requires unify-requires and-requires same-length same-length-2 returns)

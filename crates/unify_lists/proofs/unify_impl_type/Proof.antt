@@ -12,7 +12,7 @@ enum-told : tie.Need-enum-told
 enum-told c = search needs
 
 returns : tie.Need-returns
-returns c = impl-error (c .before .before .before .before .before .before .before .before .pre) (c .enum-told .given .1)
+returns c = impl-error (c .before .before .before .before .before .before .before .before .before .pre) (c .enum-told .given .1)
 
 enum-known-b : tie.Need-enum-known-b
 enum-known-b c = search needs
@@ -22,30 +22,37 @@ enum-told-2 c = search needs
 
 returns-2 : tie.Need-returns-2
 returns-2 c =
-    let i = c .before .before .before in
-    impl-against (i .before .before .before .before .before .before .before .before .pre) (i .a .given .1) (c .enum-told2 .given .1)
+    let at-a = c .before .before .before in
+    let at-pre = at-a .before .before .before .before .before .before .before .before .before in
+    impl-against (at-pre .pre) (at-a .a .given .1) (c .enum-told2 .given .1)
 
 returns-3 : tie.Need-returns-3
 returns-3 c =
-    let j = c .before .before in
-    let i = j .before .before .before in
-    impl-other (i .before .before .before .before .before .before .before .before .pre) (i .a .given .1) (j .b .given .1) (c .if1 .taken)
+    let at-a = c .before .before .before .before .before in
+    let at-pre = at-a .before .before .before .before .before .before .before .before .before in
+    impl-other (at-pre .pre) (at-a .a .given .1) (c .before .before .b .given .1) (c .if1 .taken)
 
 unify-lists-requires : tie.Need-unify-lists-requires
 unify-lists-requires c κs =
-    let j = c .before .before .before in
-    let i = j .before .before .before in
-    impl-pairs (i .before .before .before .before .before .before .before .before .pre) (i .a .given .1) (j .b .given .1) (c .before .if1 .left)
+    let at-b = c .before .before .before .before in
+    let at-a = at-b .before .before .before in
+    let at-pre = at-a .before .before .before .before .before .before .before .before .before in
+    impl-pairs (at-pre .pre) (at-a .a .given .1) (at-b .b .given .1) (c .before .before .if1 .left)
 
 same-length : tie.Need-same-length
 same-length c = search needs
 
+same-length-2 : tie.Need-same-length-2
+same-length-2 c = search needs
+
 returns-4 : tie.Need-returns-4
 returns-4 c =
-    let j = c .before .before .before .before .before .before in
-    let i = j .before .before .before in
-    impl-lists (i .before .before .before .before .before .before .before .before .pre) (i .a .given .1) (j .b .given .1) (c .before .before .before .before .if1 .left)
-    (c .before .before .unify-lists .ensures)
+    let at-unify-lists = c .before .before .before .before in
+    let at-if1 = at-unify-lists .before .before .before in
+    let at-b = at-if1 .before .before in
+    let at-a = at-b .before .before .before in
+    let at-pre = at-a .before .before .before .before .before .before .before .before .before in
+    impl-lists (at-pre .pre) (at-a .a .given .1) (at-b .b .given .1) (at-if1 .if1 .left) (at-unify-lists .unify-lists .ensures)
 
 pub unify-impl-type-spec : {M : Type 1} → statement M
 unify-impl-type-spec =
@@ -60,4 +67,5 @@ unify-impl-type-spec =
     returns-3
     unify-lists-requires
     same-length
+    same-length-2
     returns-4)

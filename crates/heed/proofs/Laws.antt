@@ -1,0 +1,106 @@
+-- What a memory is told step by step, and that what it holds stays true: nothing is believed of other nodes than those it was noted of. One law for each way out of
+-- `find` and `settle`.
+-- Assumes nothing.
+use mathlib.Core.Path.{_≡_, refl, sym, subst, _∙_}
+use mathlib.Core.Bool.{Bool, true}
+use mathlib.Core.List.{List}
+use mathlib.Core.Logic.{inl}
+use Prim.Native.Nat.{ℕ}
+use native.Mathlib.Omega.{arith}
+use Rattle.scope.specs.Names.{Texts}
+use Rattle.scope.specs.Types.{Ty, tyOf}
+use Rattle.scope.specs.Nodes.{Node}
+use Rattle.scope.specs.Unify.{settle}
+use Rattle.types.specs.declared.UnifyResult.{UnifyResult}
+use Rattle.types.specs.declared.UnifyResult.the-variants.{Success, Failure, Indeterminate}
+use Rattle.layout.specs.Meaning.{Linked}
+use Rattle.roots.specs.Found.{Found, FoundMut, Near}
+use Rattle.roots.proofs.Laws.{relinked-refl}
+use Rattle.merge.specs.Meaning.{Settled}
+use Rattle.recall.specs.Memory.{Running, Tidy, Begun, Fewer, Forgot, Noted}
+use Rattle.heed.specs.Recalls.{Meets, Recalls, Since}
+use Rattle.heed.specs.Told.{Moved, Closed, FoundTold, SettledTold}
+
+-- clocks
+
+pub since-same : {c : ℕ} {ns : List Node} → Since c c ns ns
+since-same = record { on = omega arith; still = λ r e. refl }
+
+pub since-then : {a b c : ℕ} {ns ns₁ ns₂ : List Node} → Since a b ns ns₁ → Since b c ns₁ ns₂ → Since a c ns ns₂
+since-then {a} {b} {c} s t = record {
+  on = omega (arith, s .on, t .on);
+  still = λ r e.
+      let f : c ≡ b = omega (arith, s .on, t .on) in
+      let g : b ≡ a = omega (arith, s .on, t .on) in
+      t .still r f ∙ s .still (subst Running f r) g;
+}
+
+-- what a memory holds
+
+pub recalls-begun : {x : Texts} {n : ℕ} {ns : List Node} {m : List ℕ} → Begun m → Recalls x n ns m
+recalls-begun b = record { tidy = b .tidy; true = λ p q r v. absurd (b .none p q r v) }
+
+pub recalls-moved : {x : Texts} {n : ℕ} {ns ns′ : List Node} {m m′ : List ℕ} → Recalls x n ns m → Moved m m′ ns ns′ → Recalls x n ns′ m′
+recalls-moved {x} {n} w d = record {
+  tidy = d .tidy;
+  true = λ a b q v. let o = d .believed a b q v in subst (λ (l : List Node). Meets x n l a b q) (sym (o .1)) (w .true a b q (o .0));
+}
+
+-- what it is told
+
+pub moved-fewer : {m m′ : List ℕ} {ns : List Node} → Fewer m m′ → Moved m m′ ns ns
+moved-fewer f = record { tidy = f .tidy; since = record { on = f .on; still = λ r e. refl }; believed = λ a b q v. (f .still a b q v, refl) }
+
+pub moved-forgot : {m m′ : List ℕ} {ns ns′ : List Node} → Forgot m m′ → Moved m m′ ns ns′
+moved-forgot f = record {
+  tidy = f .tidy;
+  since = record { on = f .on; still = λ r e. absurd (f .moved r e) };
+  believed = λ a b q v. absurd (f .none a b q v);
+}
+
+moved-same : {m : List ℕ} {ns : List Node} → Tidy m → Moved m m ns ns
+moved-same t = record { tidy = t; since = since-same; believed = λ a b q v. (v, refl) }
+
+-- `find`
+
+pub found-near : {ws : List ℕ} {n : ℕ} {m : List ℕ} {t r : ℕ} {near : Bool} → Linked ws n → Tidy m → Near ws n t near → near ≡ true → Found ws n t r → FoundTold ws n ws m m t r
+found-near l d h e f = record {
+  found = record { root = f .root; nodes = λ ks. sym (h .stays e ks); words = relinked-refl l };
+  told = λ ks. moved-same d;
+}
+
+pub found-far : {ws : List ℕ} {n : ℕ} {ws′ m m′ : List ℕ} {t r : ℕ} → Forgot m m′ → FoundMut ws n ws′ t r → FoundTold ws n ws′ m m′ t r
+found-far d f = record { found = f; told = λ ks. moved-forgot d }
+
+-- `settle`
+
+closed-moved : {m m′ : List ℕ} {ns ns′ : List Node} {began a b : ℕ} {q : UnifyResult} → Moved m m′ ns ns′ → Closed m m′ ns ns′ began a b q
+closed-moved d = record { tidy = d .tidy; since = d .since; believed = λ a b q v. let o = d .believed a b q v in (inl (o .0), o .1) }
+
+closed-noted : {m m′ : List ℕ} {ns : List Node} {began a b : ℕ} {q : UnifyResult} → Noted m m′ began a b q → Closed m m′ ns ns began a b q
+closed-noted d = record {
+  tidy = d .tidy;
+  since = record { on = omega (arith, d .on); still = λ r e. refl };
+  believed = λ a b q v. (d .only a b q v, refl);
+}
+
+pub settled-merges : {ws ws′ : List ℕ} {n : ℕ} {m m′ : List ℕ} {began a b : ℕ} {r q : UnifyResult} → Settled ws ws′ n (tyOf a) (tyOf b) r q → Forgot m m′
+    → SettledTold ws ws′ n m m′ began a b r q
+settled-merges s f = record { settled = s; told = λ ks. closed-moved (moved-forgot f) }
+
+-- an answer that merges nothing
+stays : {ws : List ℕ} {n : ℕ} {a b : Ty} (r : UnifyResult) → (r ≡ Success → ⊥) → Settled ws ws n a b r r
+unfolding settle
+stays Success h = absurd (h refl)
+stays Failure h = record { tail = refl; clean = λ ks c cl. cl; nodes = λ ks c cl. refl }
+stays Indeterminate h = record { tail = refl; clean = λ ks c cl. cl; nodes = λ ks c cl. refl }
+
+pub settled-notes : {ws : List ℕ} {n : ℕ} {m m′ : List ℕ} {began a b : ℕ} {r k : UnifyResult} → r ≡ k → (k ≡ Success → ⊥) → Noted m m′ began a b r
+    → SettledTold ws ws n m m′ began a b r r
+settled-notes {r = r} e h d = record { settled = stays r (λ f. h (sym e ∙ f)); told = λ ks. closed-noted d }
+
+pub failure-apart : Failure ≡ Success → ⊥
+failure-apart e = let z : _≡_ {A = ℕ} 0 1 = cc in omega arith
+
+pub indeterminate-apart : Indeterminate ≡ Success → ⊥
+indeterminate-apart e = let z : _≡_ {A = ℕ} 0 1 = cc in omega arith
