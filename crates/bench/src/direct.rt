@@ -112,7 +112,28 @@ pub extern "C" fn faroalder_direct_new(
     make::new_kind(h, ws, ks, k, entries).0
 }
 
-// A pair of types, as deep as there are nodes.
+// A pair of types, as deep as there are nodes, with a lent memory, whatever it holds.
+#[no_mangle]
+pub extern "C" fn faroalder_direct_unify_recalling<'a>(
+    ws: &mut [u32],
+    ks: &[u32],
+    n: u32,
+    rule: &'a [u8],
+    text: &'a [u8],
+    memory: &mut [u32],
+    a: u32,
+    b: u32,
+) -> u32
+    requires { ⌜ Pair (texts (now rule) (now text)) (now ws) (now ks) n (tyOf a) (tyOf b) ⌝ }
+    ensures { λ r. ⌜ r < RESULTS ⌝ }
+    ensures { λ r. ⌜ Leaves (now (ws .entry)) (now (ks .entry)) (now (ws .exit)) n
+        (unify (texts (now (rule .entry)) (now (text .entry))) (decode (now (ws .entry)) (now (ks .entry)) n) (tyOf a) (tyOf b)) (resultIn r) ⌝ }
+{
+    recall::begin(memory);
+    unify_lists::unify_all(ws, ks, n, rule, text, memory, Type(a), Type(b)).number()
+}
+
+// The same without a memory.
 #[no_mangle]
 pub extern "C" fn faroalder_direct_unify<'a>(
     ws: &mut [u32],
@@ -128,7 +149,8 @@ pub extern "C" fn faroalder_direct_unify<'a>(
     ensures { λ r. ⌜ Leaves (now (ws .entry)) (now (ks .entry)) (now (ws .exit)) n
         (unify (texts (now (rule .entry)) (now (text .entry))) (decode (now (ws .entry)) (now (ks .entry)) n) (tyOf a) (tyOf b)) (resultIn r) ⌝ }
 {
-    unify_lists::unify_all(ws, ks, n, rule, text, Type(a), Type(b)).number()
+    let mut memory = [0u32; 0];
+    faroalder_direct_unify_recalling(ws, ks, n, rule, text, &mut memory, a, b)
 }
 
 // The place where the text ends; one past the buffer where it does not fit.

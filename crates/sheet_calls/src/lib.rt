@@ -21,6 +21,8 @@ use names::NO_NAME;
 use promise::CountAnswer;
 use promise::DoneAnswer;
 use promise::TypeAnswer;
+use recall::ENTRY;
+use recall::HEAD;
 use refusals::NO_REFUSAL;
 use refusals::OUTSIDE;
 use refusals::SHORT;
@@ -30,6 +32,11 @@ use types::Type;
 
 // The words of the entries of a line's types.
 const LIST_WORDS: usize = LINE_TYPES * CHILD_WORDS;
+
+// The words of a memory of so many pairs: a type that is shared and fails deep down is not visited again and again.
+const PAIRS: usize = 2047;
+
+const MEMORY_WORDS: usize = HEAD + ENTRY * PAIRS;
 
 // No fn trait, and four empty sigils.
 fn beside() -> Beside
@@ -137,7 +144,9 @@ pub fn unify(h: &[u32], ws: &mut [u32], ks: &[u32], a: Type, b: Type) -> UnifyAn
     if refused != NO_REFUSAL {
         return UnifyAnswer::Refused(refused);
     }
-    UnifyAnswer::Is(unify_lists::unify_all(ws, ks, x.nodes, b"", b"", a, b))
+    let mut memory = [0u32; MEMORY_WORDS];
+    recall::begin(&mut memory);
+    UnifyAnswer::Is(unify_lists::unify_all(ws, ks, x.nodes, b"", b"", &mut memory, a, b))
 }
 
 // `finish`

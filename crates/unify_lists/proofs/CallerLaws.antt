@@ -51,9 +51,12 @@ module _ {x : Texts} {ws ks m : List ℕ} {n : ℕ} (r : SoundWords x ws ks n) (
       → Betweens v xs ys ps → Asked x ws ks m n n ps
   between-pairs f g b = begins _ (λ p w. let z = b p w in (f (p .0) (z .left), rw (z .turned) (g (z .other) (z .right))))
 
+  pub inside-pair : (a b : Ty) → a .idx < n → b .idx < n → Asked x ws ks m n n ((a, b) ∷ [])
+  inside-pair a b i j = begins ((a, b) ∷ [])
+      (λ p w. subst (λ (v : Ty × Ty). (v .0 .idx < n) × (v .1 .idx < n)) (sym (List·Memᴰ·eq-of-singleton w)) (i, j))
+
   pub given-pair : (a b : Ty) → Given (a ∷ b ∷ []) → Asked x ws ks m n n ((a, b) ∷ [])
-  given-pair a b h = begins ((a, b) ∷ []) (λ p w. subst (λ (v : Ty × Ty). (v .0 .idx < n) × (v .1 .idx < n)) (sym (List·Memᴰ·eq-of-singleton w))
-      (below (a ∷ b ∷ []) h a (List·Memᴰ·head refl), below (a ∷ b ∷ []) h b (List·Memᴰ·tail (List·Memᴰ·head refl))))
+  given-pair a b h = inside-pair a b (below (a ∷ b ∷ []) h a (List·Memᴰ·head refl)) (below (a ∷ b ∷ []) h b (List·Memᴰ·tail (List·Memᴰ·head refl)))
 
   -- two lists that were given one after the other
   between-lists : {v : Bool} (xs ys : List Ty) {ps : List (Ty × Ty)} → Given (xs ++ ys) → Betweens v xs ys ps → Asked x ws ks m n n ps
