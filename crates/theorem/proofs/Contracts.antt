@@ -29,6 +29,7 @@ contracts = record {
   nil = record { free = λ κs a. tt; is = λ κs a r x p. ran.nil r p };
   force-kind = record { free = λ κs a. tt; is = λ κs a r x p. ran.force-kind (arg1 a) r p };
   unify = record { free = λ κs a. tt; is = λ κs a r x p. ran.unify (arg1 a) (arg2 a) r p };
+  unify-recalling = record { free = λ κs a. tt; is = λ κs a r x p. ran.unify (arg2 a) (arg3 a) r p };
   import = record {
     free = λ κs a. tt;
     is = λ κs a r x p. ran.import (otherWords a) (arg4 a .now) (arg5 a) (arg6 a .now) (arg7 a .now) (arg7 x .now) r p;
@@ -44,9 +45,13 @@ contracts = record {
     is = λ κs a r x p. ran.export (arg4 a) (arg5 a) (otherWords a) (otherWords x) (arg6 a .now) (arg7 a .now) (arg7 x .now) r p;
   };
   unify-types = record { free = λ κs a. tt; is = λ κs a r x p. ran.unify-types (arg1 a .now) (arg2 a .now) (arg3 a) r p };
+  unify-types-recalling = record { free = λ κs a. tt; is = λ κs a r x p. ran.unify-types (arg2 a .now) (arg3 a .now) (arg4 a) r p };
   unify-objects = record { free = λ κs a. tt; is = λ κs a r x p. ran.unify-objects (arg1 a .now) (arg2 a .now) (arg3 a) r p };
+  unify-objects-recalling = record { free = λ κs a. tt; is = λ κs a r x p. ran.unify-objects (arg2 a .now) (arg3 a .now) (arg4 a) r p };
   unify-impl-type = record { free = λ κs a. tt; is = λ κs a r x p. ran.unify-impl-type (arg1 a) (arg2 a .now) (arg3 a) (arg4 a .now) r p };
+  unify-impl-type-recalling = record { free = λ κs a. tt; is = λ κs a r x p. ran.unify-impl-type (arg2 a) (arg3 a .now) (arg4 a) (arg5 a .now) r p };
   unify-fn-sig = record { free = λ κs a. tt; is = λ κs a r x p. ran.unify-fn-sig (arg1 a .now) (arg2 a) (arg3 a .now) (arg4 a) r p };
+  unify-fn-sig-recalling = record { free = λ κs a. tt; is = λ κs a r x p. ran.unify-fn-sig (arg2 a .now) (arg3 a) (arg4 a .now) (arg5 a) r p };
   finish-inference = record { free = λ κs a. tt; is = λ κs a r x p. ran.finish-inference r p };
   finish-inference-where = record { free = λ κs a. tt; is = λ κs a r x p. ran.finish-inference-where (arg1 a .now) r p };
   find-related = record { free = λ κs a. tt; is = λ κs a r x p. ran.find-related (arg2 a) (arg1 a .now) (arg1 x .now) r p };

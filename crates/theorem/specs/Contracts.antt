@@ -127,6 +127,8 @@ pub record Contracts : Type 0 where
       (λ κs a r x. RanOn a (call.forceKind (tyOf (arg1 a .0))) (replied says.forced (forcedReply (wordsIn a .kids) r)) (headLeft a x))
   pub unify : Allows call_unify.unify.Kinds.ps call_unify.unify.Kinds.r call_unify.unify.Reads.Asked call_unify.unify.Reads.Learnt
       (λ κs a r x. RanOn a (call.unify (tyOf (arg1 a .0)) (tyOf (arg2 a .0))) (replied says.answer (unifyReply r)) (nodesLeft a x))
+  pub unify-recalling : Allows call_unify.unify_recalling.Kinds.ps call_unify.unify_recalling.Kinds.r call_unify.unify_recalling.Reads.Asked call_unify.unify_recalling.Reads.Learnt
+      (λ κs a r x. RanOn a (call.unify (tyOf (arg2 a .0)) (tyOf (arg3 a .0))) (replied says.answer (unifyReply r)) (nodesLeft a x))
   -- `import`, whose source is any numbers
   pub import : Allows call_import.import.Kinds.ps call_import.import.Kinds.r call_import.import.Reads.Asked call_import.import.Reads.Learnt
       (λ κs a r x. RanOn a (call.import (lent (otherWords a)) (typesIn (arg4 a .now)) (listOf (arg5 a) (arg6 a .now)) (length (arg7 a .now)))
@@ -150,13 +152,26 @@ pub record Contracts : Type 0 where
   -- the calls "Outside the theorem's first half"
   pub unify-types : Allows call_unify_lists.unify_types.Kinds.ps call_unify_lists.unify_types.Kinds.r call_unify_lists.unify_types.Reads.Asked call_unify_lists.unify_types.Reads.Learnt
       (λ κs a r x. RanOn a (call.later (call.unifyTypes (typesIn (arg1 a .now)) (typesIn (arg2 a .now)) (arg3 a .0))) (replied says.answer (unifyReply r)) (nodesLeft a x))
+  pub unify-types-recalling : Allows call_unify_lists.unify_types_recalling.Kinds.ps call_unify_lists.unify_types_recalling.Kinds.r
+      call_unify_lists.unify_types_recalling.Reads.Asked call_unify_lists.unify_types_recalling.Reads.Learnt
+      (λ κs a r x. RanOn a (call.later (call.unifyTypes (typesIn (arg2 a .now)) (typesIn (arg3 a .now)) (arg4 a .0))) (replied says.answer (unifyReply r)) (nodesLeft a x))
   pub unify-objects : Allows call_unify_lists.unify_objects.Kinds.ps call_unify_lists.unify_objects.Kinds.r call_unify_lists.unify_objects.Reads.Asked call_unify_lists.unify_objects.Reads.Learnt
       (λ κs a r x. RanOn a (call.later (call.unifyObjects (entriesIn (arg1 a .now)) (entriesIn (arg2 a .now)) (arg3 a .0))) (replied says.answer (unifyReply r)) (nodesLeft a x))
+  pub unify-objects-recalling : Allows call_unify_lists.unify_objects_recalling.Kinds.ps call_unify_lists.unify_objects_recalling.Kinds.r
+      call_unify_lists.unify_objects_recalling.Reads.Asked call_unify_lists.unify_objects_recalling.Reads.Learnt
+      (λ κs a r x. RanOn a (call.later (call.unifyObjects (entriesIn (arg2 a .now)) (entriesIn (arg3 a .now)) (arg4 a .0))) (replied says.answer (unifyReply r)) (nodesLeft a x))
   pub unify-impl-type : Allows call_impl.unify_impl_type.Kinds.ps call_impl.unify_impl_type.Kinds.r
       call_impl.unify_impl_type.Reads.Asked call_impl.unify_impl_type.Reads.Learnt
       (λ κs a r x. RanOn a (call.later (call.unifyImplType (implMeans (arg1 a) (arg2 a .now)) (implMeans (arg3 a) (arg4 a .now)))) (replied says.answer (unifyReply r)) (nodesLeft a x))
+  pub unify-impl-type-recalling : Allows call_impl.unify_impl_type_recalling.Kinds.ps call_impl.unify_impl_type_recalling.Kinds.r
+      call_impl.unify_impl_type_recalling.Reads.Asked call_impl.unify_impl_type_recalling.Reads.Learnt
+      (λ κs a r x. RanOn a (call.later (call.unifyImplType (implMeans (arg2 a) (arg3 a .now)) (implMeans (arg4 a) (arg5 a .now)))) (replied says.answer (unifyReply r)) (nodesLeft a x))
   pub unify-fn-sig : Allows call_unify_lists.unify_fn_sig.Kinds.ps call_unify_lists.unify_fn_sig.Kinds.r call_unify_lists.unify_fn_sig.Reads.Asked call_unify_lists.unify_fn_sig.Reads.Learnt
       (λ κs a r x. RanOn a (call.later (call.unifyFnSig (typesIn (arg1 a .now)) (tyOf (arg2 a .0)) (typesIn (arg3 a .now)) (tyOf (arg4 a .0))))
+      (replied says.answer (unifyReply r)) (nodesLeft a x))
+  pub unify-fn-sig-recalling : Allows call_unify_lists.unify_fn_sig_recalling.Kinds.ps call_unify_lists.unify_fn_sig_recalling.Kinds.r
+      call_unify_lists.unify_fn_sig_recalling.Reads.Asked call_unify_lists.unify_fn_sig_recalling.Reads.Learnt
+      (λ κs a r x. RanOn a (call.later (call.unifyFnSig (typesIn (arg2 a .now)) (tyOf (arg3 a .0)) (typesIn (arg4 a .now)) (tyOf (arg5 a .0))))
       (replied says.answer (unifyReply r)) (nodesLeft a x))
   pub finish-inference : Allows call_force.finish_inference.Kinds.ps call_force.finish_inference.Kinds.r call_force.finish_inference.Reads.Asked call_force.finish_inference.Reads.Learnt
       (λ κs a r x. RanOn a (call.later call.finishInference) (replied (λ u. says.nothing) (doneReply r)) (nodesLeft a x))
