@@ -10,16 +10,17 @@ use native.Mathlib.Omega.{arith}
 use native.Mathlib.Nat.{mod-lt, mul-le-mul-right}
 use native.Mathlib.Decide.{ℕ-discrete, decLt}
 use lib.Dec.{eqb}
-use borrow.Author.Tests.{eqb-true, not-false}
+use borrow.Author.Tests.{eqb-true, eq-eqb, ne-eqb, not-false}
 use lib.ListN.{length, getD, set, length-set}
 use lib.Seq.{getD-set-same, getD-set-other}
-use Rattle.scope.specs.Base.{pick}
+use Rattle.scope.specs.Base.{pick, xor}
 use Rattle.scope.specs.Limits.{MAX-NODES}
-use Rattle.scope.specs.Types.{Ty, tyOf}
+use Rattle.scope.specs.Types.{Ty, ty, tyOf}
+use Rattle.scope.proofs.TestLaws.{tf}
 use Rattle.types.specs.Answers.{numberOf}
 use Rattle.types.specs.declared.UnifyResult.{UnifyResult}
 use Rattle.types.specs.declared.UnifyResult.the-variants.{Success, Failure, Indeterminate}
-use Rattle.types.proofs.Laws.{idx-below}
+use Rattle.types.proofs.Laws.{idx-below, word-is}
 use Rattle.recall.specs.Memory.{HEAD, ENTRY, LAST, clockOf, Running, entryAt, Believed, Tidy, Cleared, Begun, Fewer, Forgot, New, Noted}
 use Rattle.recall.specs.Places.{codeOf, slotOf, Entry, Placed, Answered, Told}
 use Rattle.recall.specs.declared.Place.the-variants as places
@@ -185,6 +186,39 @@ told-none = record { believed = λ q e. let z : _≡_ {A = ℕ} 0 1 = cc in absu
 
 pub word-holds : (x a : ℕ) {r : Bool} → r ≡ eqb x a → not r ≡ false → x ≡ a
 word-holds x a {r} e h = eqb-true x a (sym e ∙ not-false r h)
+
+-- a word holds a type, whose inversion counts
+crossed-none : (b : Bool) → xor b b ≡ false
+crossed-none true = refl
+crossed-none false = refl
+
+pub holds-crossed : (x y : ℕ) {i j v : Bool} → i ≡ tyOf x .inv → j ≡ tyOf y .inv → v ≡ xor i j → v ≡ true → false ≡ eqb x y
+holds-crossed x y {i} {j} {v} ei ej ev h = sym (ne-eqb x y other)
+  where
+    other : x ≡ y → ⊥
+    other e =
+        let one : xor i j ≡ false = ap (λ (b : Bool). xor b j) (ei ∙ (ap (λ (w : ℕ). tyOf w .inv) e ∙ sym ej)) ∙ crossed-none j in
+        tf (sym h ∙ (ev ∙ one))
+
+same-inv : (i j : Bool) → xor i j ≡ false → i ≡ j
+same-inv false false e = refl
+same-inv true true e = refl
+same-inv false true e = sym e
+same-inv true false e = e
+
+pub holds-same : (x y : ℕ) {i j v r : Bool} {k l : ℕ} → x < 4294967296 → y < 4294967296 → i ≡ tyOf x .inv → j ≡ tyOf y .inv → v ≡ xor i j → v ≡ false
+    → k ≡ tyOf x .idx → l ≡ tyOf y .idx → r ≡ eqb k l → r ≡ eqb x y
+holds-same x y {i} {j} {v} {r} {k} {l} lx ly ei ej ev h ek el er = go (ℕ-discrete k l)
+  where
+    alike : k ≡ l → tyOf x ≡ tyOf y
+    alike e =
+        let one : tyOf x .inv ≡ tyOf y .inv = sym ei ∙ (same-inv i j (sym ev ∙ h) ∙ ej) in
+        let two : tyOf x .idx ≡ tyOf y .idx = sym ek ∙ (e ∙ el) in
+        ap (λ (b : Bool). ty b (tyOf x .idx)) one ∙ ap (ty (tyOf y .inv)) two
+
+    go : Dec (k ≡ l) → r ≡ eqb x y
+    go (yes e) = er ∙ (eq-eqb k l e ∙ sym (eq-eqb x y (word-is x lx (alike e) ∙ sym (word-is y ly refl))))
+    go (no e) = er ∙ (ne-eqb k l e ∙ sym (ne-eqb x y (λ f. e (ek ∙ (ap (λ (w : ℕ). tyOf w .idx) f ∙ sym el)))))
 
 pub told-entry : {m : List ℕ} {k p a b x y w t v : ℕ} {r : Recalled} → Entry m k p → x ≡ getD m p 0 → x ≡ a → y ≡ getD m (p + 1) 0 → y ≡ b
     → w ≡ getD m (p + 2) 0 → t ≡ getD m 0 0 → w ≡ t → v ≡ getD m (p + 3) 0 → Answered v r → Told m a b r

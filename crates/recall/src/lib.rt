@@ -161,11 +161,15 @@ fn answer_in(x: u32) -> Recalled
     Recalled::Nothing
 }
 
-// Does a word hold a type? All of it counts, its inversion too.
+// Does a word hold a type? Its inversion counts too.
 fn holds(x: u32, t: Type) -> bool
     ensures { λ r. ⌜ r ≡ eqb x (t .0) ⌝ }
 {
-    x == t.0
+    let u = Type(x);
+    if u.inv().xor(t.inv()).0 {
+        return false;
+    }
+    u.idx().0 == t.idx().0
 }
 
 // What is believed of a pair.
