@@ -8,6 +8,7 @@ pub mod Kinds
 pub mod Answers
 pub mod Nodes
 pub mod Unify
+pub mod Recall
 pub mod Make
 pub mod Force
 pub mod Import
