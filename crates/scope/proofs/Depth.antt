@@ -50,7 +50,7 @@ module _ (e : Env) (n : ℕ) where
     chain-on {ls} x c d = subst (λ (g : View). Chain g (ri g x) ls) (sym (seen-call .views))
         (chain-after (unify-spec e n f (view ns) p q (ok .stable .good) (stable-kinds (ok .stable))) x c d)
 
-  whole-tidied : {ns ns′ : List Node} → Tidied ns ns′ → Whole ns → Whole ns′
+  pub whole-tidied : {ns ns′ : List Node} → Tidied ns ns′ → Whole ns → Whole ns′
   whole-tidied t ok = record {
     forest = tidied-forest t (ok .forest);
     len = t .len ∙ ok .len;

@@ -47,6 +47,8 @@ pub mod PlanLaws
 pub mod Push
 pub mod Reached
 pub mod ReadDepth
+pub mod RecallSame
+pub mod Recalls
 pub mod Refusals
 pub mod ReplacedLaws
 pub mod Restate

@@ -30,16 +30,16 @@ pub record Makeable (e : Env) (k : Kind) : Type 0 where
   pub def : defined e (k .head) ≡ true
   pub flag : flagIs e (k .head) ≡ true
 
+pub eq-bool : (a b : Bool) → eqBool a b ≡ true → a ≡ b
+eq-bool true true h = refl
+eq-bool true false h = sym h
+eq-bool false true h = h
+eq-bool false false h = refl
+
 -- the flag is the chart's, so the tree's self-duality is the kind's
 pub dual-tree : (e : Env) (k : Kind) → Makeable e k → treeDual e (treeHead (e .texts) (k .head)) ≡ selfDual (k .head)
 unfolding treeDual treeHead selfDual flagIs
-dual-tree e k o = rw (same (k .head .dual) (flagOf e (k .head .code) (k .head .number)) (o .flag))
-  where
-    same : (a b : Bool) → eqBool a b ≡ true → a ≡ b
-    same true true h = refl
-    same true false h = sym h
-    same false true h = h
-    same false false h = refl
+dual-tree e k o = rw (eq-bool (k .head .dual) (flagOf e (k .head .code) (k .head .number)) (o .flag))
 
 plan-between : (x : Texts) (k m : Kind) (i : Bool) → Betweens i (k .kids) (m .kids) (plan x k m i .pairs)
 unfolding plan kidsPlan objectPlan
