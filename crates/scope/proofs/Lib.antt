@@ -2,6 +2,7 @@ pub mod Acyclic
 pub mod Added
 pub mod Again
 pub mod Chain
+pub mod Changes
 pub mod Copies
 pub mod Copy
 pub mod CopyCount
@@ -70,3 +71,4 @@ pub mod View
 pub mod ViewFits
 pub mod ViewLaws
 pub mod Walks
+pub mod Width
