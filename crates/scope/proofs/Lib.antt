@@ -67,8 +67,10 @@ pub mod Table
 pub mod TestLaws
 pub mod TreeLaws
 pub mod UnifyKept
+pub mod Untold
 pub mod View
 pub mod ViewFits
 pub mod ViewLaws
+pub mod Visits
 pub mod Walks
 pub mod Width

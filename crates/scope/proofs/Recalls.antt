@@ -9,7 +9,7 @@ use native.Mathlib.Omega.{arith}
 use lib.Dec.{eqb}
 use lib.ListN.{length, set}
 use lib.Seq.{set-getD}
-use borrow.Author.Tests.{eqb-true, ne-eqb, eq-eqb}
+use borrow.Author.Tests.{eqb-true, eq-eqb}
 use Rattle.scope.specs.Base.{pick}
 use Rattle.scope.specs.Names.{Texts}
 use Rattle.scope.specs.Types.{Ty, flip}
@@ -19,8 +19,7 @@ use Rattle.scope.specs.Answers.{Answer}
 use Rattle.scope.specs.Unify.{out, meet, unifyF}
 use Rattle.scope.specs.Recall.{Note, Memory, begun, visitedAt, visited, moved, changed, near, nearNode, found, sameType, speaks, told, look, noted, note}
 use Rattle.scope.proofs.Laws.{climb-root, climb-child, compress-root, compress-child}
-use Rattle.scope.proofs.TestLaws.{tf, and-left, and-right}
-use Rattle.scope.proofs.PlanLaws.{eq-bool}
+use Rattle.scope.proofs.TestLaws.{tf, and-left, and-right, both-true, eq-bool, eq-bool-same}
 use Rattle.scope.proofs.Paths.{flip-twice}
 
 -- the two roots at a depth that is enough wherever they are met
@@ -184,6 +183,24 @@ told-found c (t ∷ ts) a b r e = go (speaks c a b t) refl e (told-found c ts a 
     go false h q ih =
         let w = ih q in
         record { note = w .note; among = List·Memᴰ·tail (w .among); now = w .now; first = w .first; second = w .second; answer = w .answer }
+
+-- what is noted of the present clock is told
+pub found-told : (c : ℕ) (ts : List Note) (a b : Ty) (t : Note) → List·Memᴰ t ts → t .when ≡ c → t .first ≡ a → t .second ≡ b → told c ts a b ≡ none → ⊥
+found-told c (u ∷ ts) a b t (List·Memᴰ·head q) w p r e = let z : _≡_ {A = ℕ} 0 1 = cc (spoken ∙ e) in omega arith
+  where
+    type-same : (v : Ty) → sameType v v ≡ true
+    type-same v = both-true _ _ (eq-bool-same (v .inv)) (eq-eqb (v .idx) (v .idx) refl)
+
+    says : speaks c a b u ≡ true
+    says = subst (λ (v : Note). speaks c a b v ≡ true) q (rw (p, r) (both-true _ _ (eq-eqb (t .when) c w) (both-true _ _ (type-same a) (type-same b))))
+
+    spoken : some (u .answer) ≡ told c (u ∷ ts) a b
+    spoken = rw says refl
+found-told c (u ∷ ts) a b t (List·Memᴰ·tail m) w p r e = go (speaks c a b u) e (found-told c ts a b t m w p r)
+  where
+    go : (v : Bool) → pick v (some (u .answer)) (told c ts a b) ≡ none → (told c ts a b ≡ none → ⊥) → ⊥
+    go true q ih = let z : _≡_ {A = ℕ} 0 1 = cc in omega arith
+    go false q ih = ih q
 
 pub recalls-told : {x : Texts} {n : ℕ} {ns : List Node} (m : Memory) (a b : Ty) (r : Answer) → Recalls x n ns m → look m a b ≡ some r
     → meet (unifyF x n n) x n ns a b ≡ out ns r

@@ -6,6 +6,7 @@ use Prim.Native.Nat.{ℕ, _+_, _≤_, _<_}
 use native.Mathlib.Omega.{arith}
 use lib.ListN.{length}
 use Rattle.scope.specs.Base.{pick, all, any, count}
+use Rattle.scope.specs.Kinds.{eqBool}
 
 pub tf : {A : Type 0} → true ≡ false → A
 tf e = let z : _≡_ {A = ℕ} 0 1 = cc in absurd (omega arith)
@@ -28,6 +29,16 @@ or-no false b e = (refl, e)
 pub or-true : (a b : Bool) → b ≡ true → (a || b) ≡ true
 or-true true b e = refl
 or-true false b e = e
+
+pub eq-bool : (a b : Bool) → eqBool a b ≡ true → a ≡ b
+eq-bool true true h = refl
+eq-bool true false h = sym h
+eq-bool false true h = h
+eq-bool false false h = refl
+
+pub eq-bool-same : (a : Bool) → eqBool a a ≡ true
+eq-bool-same true = refl
+eq-bool-same false = refl
 
 -- each element
 pub all-of {ℓ} : {A : Type ℓ} (p : A → Bool) (xs : List A) → ((x : A) → List·Memᴰ x xs → p x ≡ true) → all p xs ≡ true

@@ -14,6 +14,7 @@ pub mod Force
 pub mod Import
 pub mod Needs
 pub mod Sound
+pub mod Visits
 pub mod Show
 pub mod Refusals
 pub mod Calls
