@@ -1,6 +1,6 @@
 -- How often nodes can change: a merge leaves one root less, and a path that is shortened leaves one node less whose parent is no root. What is left of both is
 -- `changesLeft`, at most n (n + 1) of n nodes. Assumes nothing.
-use mathlib.Core.Path.{_≡_, refl, sym, ap, subst, _∙_}
+use mathlib.Core.Path.{_≡_, refl, sym, ap, _∙_}
 use mathlib.Core.List.{List, [], _∷_}
 use mathlib.Core.Bool.{Bool, true, false, not}
 use mathlib.Core.Logic.{_≢_, _⊎_, inl, inr}

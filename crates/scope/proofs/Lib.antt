@@ -20,6 +20,7 @@ pub mod Falls
 pub mod FirstHalf
 pub mod Free
 pub mod Fuel
+pub mod Goes
 pub mod Grow
 pub mod GrowCalls
 pub mod ImportKept

@@ -18,7 +18,7 @@ use Rattle.scope.specs.Force.{relatedKids, relatedRoot, relatedF, findRe
 use Rattle.scope.proofs.Laws.{climb-root, climb-child}
 use Rattle.scope.proofs.View.{known, Kid, Good, seen, view}
 use Rattle.scope.proofs.ViewLaws.{same?, not-known}
-use Rattle.scope.proofs.TestLaws.{tf, count-le, count-lt}
+use Rattle.scope.proofs.TestLaws.{count-le, count-lt}
 
 -- what the walk uses of a sound store's nodes
 pub record Walkable (ns : List Node) : Type 0 where

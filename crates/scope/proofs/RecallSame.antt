@@ -13,19 +13,18 @@ use Rattle.scope.specs.Types.{Ty, ty}
 use Rattle.scope.specs.Nodes.{Kind, State, Known, Unknown, InferenceFailed, Node, find, findMut, kindOf}
 use Rattle.scope.specs.Answers.{Answer, Success, Failure, Indeterminate, both}
 use Rattle.scope.specs.Unify.{Plan, plan, Out, out, run, occurs, stateIn, kindIn, bound, bind, settle, meetKinds, sameNode, meet, unifyF, unify}
-use Rattle.scope.specs.Recall.{Memory, begun, visited, changed, merged, found, look, settled, Result, result, recallRun, recallKids, recallKnown, recallBind, recallKinds, recallMeet, recallF, recall}
+use Rattle.scope.specs.Recall.{Memory, visited, merged, found, look, note, settled, Result, result, recallRun, recallKnown, recallBind, recallKinds, recallMeet, recallF}
 use Rattle.scope.proofs.View.{View, seen, view}
 use Rattle.scope.proofs.Free.{free, free-nil, free-most}
-use Rattle.scope.proofs.Chain.{Chain, cnil, fuel-out, fuel-step}
+use Rattle.scope.proofs.Chain.{Chain, cnil, fuel-step}
 use Rattle.scope.proofs.Paths.{Tidied, find-idx, find-inside, rep-idem, find-mut-tidied, tidied-view}
 use Rattle.scope.proofs.Grow.{ri}
 use Rattle.scope.proofs.Fuel.{Chains, plan-chains}
 use Rattle.scope.proofs.Inside.{plan-within}
 use Rattle.scope.proofs.Sim.{Inside}
 use Rattle.scope.proofs.SoundLaws.{SoundNodes}
-use Rattle.scope.proofs.UnifyKept.{nodes-stable}
-use Rattle.scope.proofs.Depth.{Whole, whole-after, whole-tidied, chain-on, meet-depth, unify-depth}
-use Rattle.scope.proofs.Recalls.{Recalls, Since, since-same, since-then, recalls-begun, since-visited, recalls-visited, since-changed, recalls-changed, since-found, recalls-found, recalls-told}
+use Rattle.scope.proofs.Depth.{Whole, whole-after, whole-tidied, sound-whole, chain-on, meet-depth, unify-depth, carry-depth}
+use Rattle.scope.proofs.Recalls.{Recalls, Since, since-same, since-then, since-visited, recalls-visited, since-changed, recalls-changed, since-found, recalls-found, recalls-told}
 use Rattle.scope.proofs.Recalls.{since-note, recalls-note}
 
 -- two roots that are met: each pair one level down is inside the store, and the depth left is enough for it
@@ -112,7 +111,8 @@ module _ (e : Env) (n : ℕ) where
         let c₀ = c p (List·Memᴰ·head refl) in
         let s : Same m ns o v = ih m ns (p .0) (p .1) ls ok (i₀ .0) (i₀ .1) c₀ h w in
         same-then (s .since)
-        (subst (λ (y : Out). Same (v .memory) (o .nodes) (run (unifyF (e .texts) n f) (o .nodes) (both r (o .answer)) ps) (recallRun (recallF (e .texts) n f) (v .memory) (y .nodes) (both r (y .answer)) ps))
+        (subst (λ (y : Out). Same (v .memory) (o .nodes) (run (unifyF (e .texts) n f) (o .nodes) (both r (o .answer)) ps)
+        (recallRun (recallF (e .texts) n f) (v .memory) (y .nodes) (both r (y .answer)) ps))
         (sym (s .same))
         (run-same (v .memory) (o .nodes) (both r (o .answer)) ps ls (whole-after e n ns (p .0) (p .1) ok (i₀ .0) (i₀ .1) f) (λ q z. i q (List·Memᴰ·tail z))
         (λ q z. chain-on e n ns (p .0) (p .1) ok (i₀ .0) (i₀ .1) f (q .0) c₀ (c q (List·Memᴰ·tail z))) h (s .recalls)))
@@ -130,26 +130,22 @@ module _ (e : Env) (n : ℕ) where
           go true = record { same = refl; recalls = w; since = since-same }
           go false = record { same = refl; recalls = recalls-changed m w; since = since-changed m }
 
-      -- what the children answered is settled, and noted unless it merges
-      settle-same : (o : Out) (m₁ : Memory) → meet (unifyF (e .texts) n f) (e .texts) n ns a b ≡ settle (o .nodes) a b (o .answer) → Recalls (e .texts) n (o .nodes) m₁
-          → Since m m₁ ns (o .nodes) → (r : Answer) → o .answer ≡ r → Same m₁ (o .nodes) (settle (o .nodes) a b r) (result (settle (o .nodes) a b r) (settled m₁ (m .clock) a b r))
-      unfolding settle
-      settle-same o m₁ here w₁ s Success q = record { same = refl; recalls = recalls-changed m₁ w₁; since = since-changed m₁ }
-      settle-same o m₁ here w₁ s Failure q = record { same = refl; recalls = recalls-note m₁ (m .clock) a b Failure w₁ (λ c z. quiet c z); since = since-note m₁ (m .clock) a b Failure }
-        where
-          quiet : m₁ .clock ≡ m .clock → 0 < m .clock → meet (unifyF (e .texts) n n) (e .texts) n (o .nodes) a b ≡ out (o .nodes) Failure
-          quiet c z =
-              let k : o .nodes ≡ ns = s .still c (λ y. absurd (omega arith)) in
-              subst (λ (ms : List Node). meet (unifyF (e .texts) n n) (e .texts) n ms a b ≡ out (o .nodes) Failure) (sym k)
-              (sym deep ∙ (here ∙ ap (settle (o .nodes) a b) q))
-      settle-same o m₁ here w₁ s Indeterminate q =
-          record { same = refl; recalls = recalls-note m₁ (m .clock) a b Indeterminate w₁ (λ c z. quiet c z); since = since-note m₁ (m .clock) a b Indeterminate }
-        where
-          quiet : m₁ .clock ≡ m .clock → 0 < m .clock → meet (unifyF (e .texts) n n) (e .texts) n (o .nodes) a b ≡ out (o .nodes) Indeterminate
-          quiet c z =
-              let k : o .nodes ≡ ns = s .still c (λ y. absurd (omega arith)) in
-              subst (λ (ms : List Node). meet (unifyF (e .texts) n n) (e .texts) n ms a b ≡ out (o .nodes) Indeterminate) (sym k)
-              (sym deep ∙ (here ∙ ap (settle (o .nodes) a b) q))
+      -- what the children answered: it merges, or it is noted where no node changed
+      module _ (o : Out) (m₁ : Memory) (here : meet (unifyF (e .texts) n f) (e .texts) n ns a b ≡ settle (o .nodes) a b (o .answer)) (w₁ : Recalls (e .texts) n (o .nodes) m₁)
+          (s : Since m m₁ ns (o .nodes)) where
+        note-same : (r : Answer) → settle (o .nodes) a b (o .answer) ≡ out (o .nodes) r → Same m₁ (o .nodes) (out (o .nodes) r) (result (out (o .nodes) r) (note m₁ (m .clock) a b r))
+        note-same r q = record { same = refl; recalls = recalls-note m₁ (m .clock) a b r w₁ (λ c z. quiet c z); since = since-note m₁ (m .clock) a b r }
+          where
+            quiet : m₁ .clock ≡ m .clock → 0 < m .clock → meet (unifyF (e .texts) n n) (e .texts) n (o .nodes) a b ≡ out (o .nodes) r
+            quiet c z =
+                subst (λ (ms : List Node). meet (unifyF (e .texts) n n) (e .texts) n ms a b ≡ out (o .nodes) r) (sym (s .still c (λ y. absurd (omega arith))))
+                (sym deep ∙ (here ∙ q))
+
+        settle-same : (r : Answer) → o .answer ≡ r → Same m₁ (o .nodes) (settle (o .nodes) a b r) (result (settle (o .nodes) a b r) (settled m₁ (m .clock) a b r))
+        unfolding settle
+        settle-same Success q = record { same = refl; recalls = recalls-changed m₁ w₁; since = since-changed m₁ }
+        settle-same Failure q = note-same Failure (ap (settle (o .nodes) a b) q)
+        settle-same Indeterminate q = note-same Indeterminate (ap (settle (o .nodes) a b) q)
 
       -- two kinds
       module _ (i j : Bool) (k l : Kind) (sa : stateIn ns a ≡ Known i k) (sb : stateIn ns b ≡ Known j l) where
@@ -210,15 +206,14 @@ module _ (e : Env) (n : ℕ) where
       same-then (found-since p q) (meet-same f (step-same f) (found (found (visited m) ns p) (findMut ns p) q) (findMut (findMut ns p) q) (find ns p) (find (findMut ns p) q) ls
       (tops p q ok hp hq c) h (found-recalls p q w))
 
--- on a sound store, whatever true notes the memory holds
-pub recall-same : (e : Env) {ns : List Node} → SoundNodes e ns → (m : Memory) → Recalls (e .texts) (length ns) ns m → (p q : Ty) → p .idx < length ns → q .idx < length ns
-    → recallF (e .texts) (length ns) (length ns) m ns p q .out ≡ unify (e .texts) ns p q
-unfolding unify
-recall-same e {ns} ok m w p q hp hq =
-    step-same e (length ns) (length ns) m ns p q [] (record { forest = ok .forest; len = refl; stable = nodes-stable e ok }) hp hq cnil (free-nil (length ns)) w .same
+-- on a sound store, whatever true notes the memory holds: two types, and whatever a plan asks
+module _ (e : Env) {ns : List Node} (ok : SoundNodes e ns) (m : Memory) (w : Recalls (e .texts) (length ns) ns m) where
+  pub recall-same : (p q : Ty) → p .idx < length ns → q .idx < length ns → recallF (e .texts) (length ns) (length ns) m ns p q .out ≡ unify (e .texts) ns p q
+  unfolding unify
+  recall-same p q hp hq = step-same e (length ns) (length ns) m ns p q [] (sound-whole e ok) hp hq cnil (free-nil (length ns)) w .same
 
--- and so from a memory just begun
-pub begun-same : (e : Env) {ns : List Node} → SoundNodes e ns → (w : ℕ) (p q : Ty) → p .idx < length ns → q .idx < length ns
-    → recall w (e .texts) ns p q .out ≡ unify (e .texts) ns p q
-unfolding recall
-begun-same e ok w p q hp hq = recall-same e ok (begun w) (recalls-begun w) p q hp hq
+  pub recalls-same : (r : Answer) (ps : List (Ty × Ty)) → Inside (length ns) ps
+      → recallRun (recallF (e .texts) (length ns) (length ns)) m ns r ps .out ≡ run (unify (e .texts)) ns r ps
+  recalls-same r ps i =
+      run-same e (length ns) (length ns) (step-same e (length ns) (length ns)) m ns r ps [] (sound-whole e ok) i (λ p z. cnil) (free-nil (length ns)) w .same
+      ∙ sym (carry-depth e ok (length ns) refl r ps i)

@@ -2,8 +2,8 @@
 -- moves, and then no note is of the present clock. Assumes nothing.
 use mathlib.Core.Path.{_≡_, refl, sym, ap, subst, _∙_}
 use mathlib.Core.List.{List, [], _∷_, List·Memᴰ, List·Memᴰ·head, List·Memᴰ·tail}
-use mathlib.Core.Bool.{Bool, true, false, not, _&&_}
-use mathlib.Core.Option.{Option, none, some}
+use mathlib.Core.Bool.{Bool, true, false, _&&_}
+use mathlib.Core.Option.{none, some}
 use Prim.Native.Nat.{ℕ, zero, suc, _≤_, _<_}
 use native.Mathlib.Omega.{arith}
 use lib.Dec.{eqb}
@@ -17,7 +17,7 @@ use Rattle.scope.specs.Kinds.{eqBool}
 use Rattle.scope.specs.Nodes.{Node, Root, Child, at, isRoot, climb, find, compress, findMut}
 use Rattle.scope.specs.Answers.{Answer}
 use Rattle.scope.specs.Unify.{out, meet, unifyF}
-use Rattle.scope.specs.Recall.{Note, Memory, begun, visitedAt, visited, moved, changed, near, nearNode, found, sameType, speaks, told, look, noted, note}
+use Rattle.scope.specs.Recall.{Note, Memory, begun, visitedAt, visited, moved, changed, near, nearNode, found, sameType, speaks, told, look, started, noting, noted, note}
 use Rattle.scope.proofs.Laws.{climb-root, climb-child, compress-root, compress-child}
 use Rattle.scope.proofs.TestLaws.{tf, and-left, and-right, both-true, eq-bool, eq-bool-same}
 use Rattle.scope.proofs.Paths.{flip-twice}
@@ -212,33 +212,32 @@ recalls-told {x} {n} {ns} m a b r w e =
 -- what two roots answered is noted, where the clock is as it was and has started
 
 pub since-note : (m : Memory) (c : ℕ) (a b : Ty) (r : Answer) {ns : List Node} → Since m (note m c a b r) ns ns
-since-note m c a b r {ns} = go (eqb (m .clock) c && not (eqb c 0))
+since-note m c a b r {ns} = go (noting (m .clock) c)
   where
     go : (v : Bool) → Since m (pick v (noted m a b r) m) ns ns
     go true = record { on = omega arith; still = λ e h. refl }
     go false = since-same
 
--- a test that says when
-pub note-now : (c d : ℕ) → (eqb c d && not (eqb d 0)) ≡ true → (c ≡ d) × (0 < d)
-note-now c d e = (eqb-true c d (and-left (eqb c d) (not (eqb d 0)) e), go d (and-right (eqb c d) (not (eqb d 0)) e))
-  where
-    go : (d : ℕ) → not (eqb d 0) ≡ true → 0 < d
-    go zero h = tf (sym h)
-    go (suc d) h = omega arith
+started-above : (c : ℕ) → started c ≡ true → 0 < c
+started-above zero h = tf (sym h)
+started-above (suc c) h = omega arith
+
+noting-now : (c d : ℕ) → noting c d ≡ true → (c ≡ d) × (0 < d)
+noting-now c d e = (eqb-true c d (and-left (eqb c d) (started d) e), started-above d (and-right (eqb c d) (started d) e))
 
 pub recalls-note : {x : Texts} {n : ℕ} {ns : List Node} (m : Memory) (c : ℕ) (a b : Ty) (r : Answer) → Recalls x n ns m
     → (m .clock ≡ c → 0 < c → meet (unifyF x n n) x n ns a b ≡ out ns r) → Recalls x n ns (note m c a b r)
-recalls-note {x} {n} {ns} m c a b r w h = go (eqb (m .clock) c && not (eqb c 0)) refl
+recalls-note {x} {n} {ns} m c a b r w h = go (noting (m .clock) c) refl
   where
     new : Note
     new = record { first = a; second = b; when = m .clock; answer = r }
 
-    go : (v : Bool) → (eqb (m .clock) c && not (eqb c 0)) ≡ v → Recalls x n ns (pick v (noted m a b r) m)
+    go : (v : Bool) → noting (m .clock) c ≡ v → Recalls x n ns (pick v (noted m a b r) m)
     go false e = w
     go true e = record { past = λ t i. past t i; true = λ t i q. is t i q }
       where
         now : (m .clock ≡ c) × (0 < c)
-        now = note-now (m .clock) c e
+        now = noting-now (m .clock) c e
 
         past : (t : Note) → List·Memᴰ t (new ∷ m .notes) → (0 < t .when) × (t .when ≤ m .clock)
         past t (List·Memᴰ·head q) = let z : t .when ≡ m .clock = ap (λ (v : Note). v .when) q in (omega (arith, z, now .0, now .1), omega (arith, z))

@@ -1,5 +1,4 @@
 -- A plan asks for at most as many pairs as the first kind has children, and a kind of a sound store has at most 255. Assumes nothing.
-use mathlib.Core.Path.{_≡_}
 use mathlib.Core.List.{List, [], _∷_}
 use mathlib.Core.Bool.{Bool, true, false, not, _&&_, _||_}
 use mathlib.Core.Option.{Option, none, some}
@@ -16,7 +15,7 @@ use Rattle.scope.specs.Types.{Ty}
 use Rattle.scope.specs.Kinds.{makeable, OBJECT, CLOSURE}
 use Rattle.scope.specs.Nodes.{Kind}
 use Rattle.scope.specs.Answers.{Failure, Indeterminate}
-use Rattle.scope.specs.Unify.{Plan, answers, after, zipped, runPlan, signaturePlan, seek, shared, sharedNames, objectPlan, kidsPlan, isError, sameHead, crosses, plan}
+use Rattle.scope.specs.Unify.{Plan, answers, zipped, runPlan, signaturePlan, seek, shared, sharedNames, objectPlan, kidsPlan, isError, sameHead, crosses, plan}
 use Rattle.scope.proofs.TestLaws.{and-left, and-right}
 use Rattle.scope.proofs.PlanLaws.{Makeable}
 

@@ -2,7 +2,7 @@
 -- only until one changes". Beside the nodes goes a memory, whose clock moves where a node may change: at a merge, and where `find_mut` shortens a path. No note is ever
 -- overwritten, as where each pair of types has its own place (crate recall). The rest is `Unify`'s, in its order.
 use mathlib.Core.List.{List, [], _∷_}
-use mathlib.Core.Bool.{Bool, true, not, _&&_}
+use mathlib.Core.Bool.{Bool, true, false, _&&_}
 use mathlib.Core.Option.{Option, none, some}
 use Prim.Native.Nat.{ℕ, zero, suc}
 use lib.Dec.{eqb}
@@ -84,7 +84,14 @@ told c (n ∷ ns) a b = pick (speaks c a b n) (some (n .answer)) (told c ns a b)
 abbrev pub look : Memory → Ty → Ty → Option Answer
 look m a b = told (m .clock) (m .notes) a b
 
--- what two roots answered whose visit began at that clock
+-- what two roots answered whose visit began at a clock: it is noted if that has started and is so still
+abbrev pub started : ℕ → Bool
+started zero = false
+started (suc c) = true
+
+abbrev pub noting : ℕ → ℕ → Bool
+noting c began = eqb c began && started began
+
 abbrev pub noted : Memory → Ty → Ty → Answer → Memory
 noted m a b r = record {
   clock = m .clock;
@@ -94,7 +101,7 @@ noted m a b r = record {
 }
 
 abbrev pub note : Memory → ℕ → Ty → Ty → Answer → Memory
-note m began a b r = pick (eqb (m .clock) began && not (eqb began 0)) (noted m a b r) m
+note m began a b r = pick (noting (m .clock) began) (noted m a b r) m
 
 -- a Success changes nodes, and anything else is noted
 abbrev pub settled : Memory → ℕ → Ty → Ty → Answer → Memory
@@ -153,3 +160,7 @@ recallF x n (suc f) m ns p q =
 -- from a memory of which w visits are only counted
 unfoldable pub recall : ℕ → Texts → List Node → Ty → Ty → Result
 recall w x ns p q = recallF x (length ns) (length ns) (begun w) ns p q
+
+-- what a plan asks, one memory for all its pairs
+unfoldable pub recallCarry : ℕ → Texts → List Node → Plan → Result
+recallCarry w x ns l = recallRun (recallF x (length ns) (length ns)) (begun w) ns (l .base) (l .pairs)

@@ -1,16 +1,18 @@
--- How many visits a unify makes that remembers, as a bound that can be read off and as types, to be inhabited. Between two changes of the nodes each pair of types is
+-- How many visits a unify makes that remembers, as a bound that can be read off and as a type, to be inhabited. Between two changes of the nodes each pair of types is
 -- worked through at most once, and a change costs again what is open then; a pair that is worked through visits one pair for each child.
 use mathlib.Core.Path.{_≡_}
-use mathlib.Core.Bool.{true}
+use mathlib.Core.List.{List}
+use mathlib.Core.Bool.{Bool, true, _&&_}
 use Prim.Native.Nat.{ℕ, _+_, _*_, _≤_}
 use lib.ListN.{length}
+use Rattle.scope.specs.Base.{all}
 use Rattle.scope.specs.Limits.{MAX-WIDTH}
 use Rattle.scope.specs.Chart.{Env}
 use Rattle.scope.specs.Types.{Ty}
-use Rattle.scope.specs.Nodes.{Store}
-use Rattle.scope.specs.Unify.{unify}
+use Rattle.scope.specs.Nodes.{Node, Store}
+use Rattle.scope.specs.Unify.{Out, Plan, unify, carry}
 use Rattle.scope.specs.Sound.{inStore, soundStore}
-use Rattle.scope.specs.Recall.{recall}
+use Rattle.scope.specs.Recall.{Result, recall, recallCarry}
 
 -- the pairs of types of n nodes: a type is a node with an inversion or without
 abbrev pub pairsOf : ℕ → ℕ
@@ -20,22 +22,23 @@ pairsOf n = 2 * n * (2 * n)
 abbrev pub changesOf : ℕ → ℕ
 changesOf n = n * (n + 1)
 
--- the first w visits are only counted; n more for each change are those that it happens in
-abbrev pub mostVisits : ℕ → ℕ → ℕ
-mostVisits w n = w + 1 + MAX-WIDTH * ((pairsOf n + n) * (changesOf n + 2))
+-- k pairs are asked for, of n nodes, and the first w visits are only counted. For each change: every pair anew, and the n at most that are open in one another
+abbrev pub mostVisits : ℕ → ℕ → ℕ → ℕ
+mostVisits w k n = w + k + MAX-WIDTH * ((pairsOf n + n) * (changesOf n + 2))
 
--- P holds of what is left where two types of a sound store are unified with a memory of which w visits are only counted
-abbrev pub Unifying : ((e : Env) (s : Store) (p q : Ty) (w : ℕ) → Type 0) → Type 0
-Unifying P = (e : Env) (s : Store) → soundStore e s ≡ true → (p q : Ty) → inStore (s .nodes) p ≡ true → inStore (s .nodes) q ≡ true → (w : ℕ) → P e s p q w
+-- r remembers, where o does not: the same nodes and the same answer, so many visits at most, and a clock that moves no further than nodes change, which is never the
+-- end of a clock of 32 bits
+pub record Remembers (w k n : ℕ) (o : Out) (r : Result) : Type 0 where
+  pub same : r .out ≡ o
+  pub visits : r .memory .visits ≤ mostVisits w k n
+  pub clock : r .memory .clock ≤ changesOf n + 1
 
--- remembering changes no answer and no node
-abbrev pub SameUnify : Type 0
-SameUnify = Unifying (λ e s p q w. recall w (e .texts) (s .nodes) p q .out ≡ unify (e .texts) (s .nodes) p q)
+abbrev pub pairIn : List Node → Ty × Ty → Bool
+pairIn ns p = inStore ns (p .0) && inStore ns (p .1)
 
--- the visits are polynomially many in the number of nodes
+-- on every sound store: two types of it, and whatever a plan asks of its types
 abbrev pub FewVisits : Type 0
-FewVisits = Unifying (λ e s p q w. recall w (e .texts) (s .nodes) p q .memory .visits ≤ mostVisits w (length (s .nodes)))
-
--- the clock moves only so often: a clock of 32 bits never reaches its end
-abbrev pub FewChanges : Type 0
-FewChanges = Unifying (λ e s p q w. recall w (e .texts) (s .nodes) p q .memory .clock ≤ changesOf (length (s .nodes)) + 1)
+FewVisits = (e : Env) (s : Store) → soundStore e s ≡ true → (w : ℕ)
+    → ((p q : Ty) → pairIn (s .nodes) (p, q) ≡ true → Remembers w 1 (length (s .nodes)) (unify (e .texts) (s .nodes) p q) (recall w (e .texts) (s .nodes) p q))
+    × ((l : Plan) → all (pairIn (s .nodes)) (l .pairs) ≡ true
+    → Remembers w (length (l .pairs)) (length (s .nodes)) (carry (e .texts) (s .nodes) l) (recallCarry w (e .texts) (s .nodes) l))
