@@ -19,10 +19,10 @@ use Rattle.scope.specs.Recall.{Note, Memory, visitedAt, moved, changed, 
 use Rattle.scope.specs.Visits.{pairsOf}
 use Rattle.scope.proofs.TestLaws.{tf, both-true}
 use Rattle.scope.proofs.Free.{memb, memb-rest}
-use Rattle.scope.proofs.Paths.{Forest}
+use Rattle.scope.proofs.Paths.{Forest, near-stays}
 use Rattle.scope.proofs.Changes.{changesLeft, find-mut-fewer}
 use Rattle.scope.proofs.Untold.{silent, untold, untold-most, untold-le, untold-lt}
-use Rattle.scope.proofs.Recalls.{moved-away, near-stays, told-found, found-told}
+use Rattle.scope.proofs.Recalls.{moved-away, told-found, found-told}
 
 -- a clock that has not started has one move more
 unfoldable pub waits : ℕ → ℕ

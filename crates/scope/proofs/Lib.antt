@@ -72,6 +72,7 @@ pub mod Untold
 pub mod View
 pub mod ViewFits
 pub mod ViewLaws
+pub mod VisitTable
 pub mod Visits
 pub mod Walks
 pub mod Width

@@ -7,20 +7,17 @@ use mathlib.Core.Option.{none, some}
 use Prim.Native.Nat.{ℕ, zero, suc, _≤_, _<_}
 use native.Mathlib.Omega.{arith}
 use lib.Dec.{eqb}
-use lib.ListN.{length, set}
-use lib.Seq.{set-getD}
 use borrow.Author.Tests.{eqb-true, eq-eqb}
 use Rattle.scope.specs.Base.{pick}
 use Rattle.scope.specs.Names.{Texts}
-use Rattle.scope.specs.Types.{Ty, flip}
+use Rattle.scope.specs.Types.{Ty}
 use Rattle.scope.specs.Kinds.{eqBool}
-use Rattle.scope.specs.Nodes.{Node, Root, Child, at, isRoot, climb, find, compress, findMut}
+use Rattle.scope.specs.Nodes.{Node, findMut}
 use Rattle.scope.specs.Answers.{Answer}
 use Rattle.scope.specs.Unify.{out, meet, unifyF}
-use Rattle.scope.specs.Recall.{Note, Memory, begun, visitedAt, visited, moved, changed, near, nearNode, found, sameType, speaks, told, look, started, noting, noted, note}
-use Rattle.scope.proofs.Laws.{climb-root, climb-child, compress-root, compress-child}
+use Rattle.scope.specs.Recall.{Note, Memory, begun, visitedAt, visited, moved, changed, near, found, sameType, speaks, told, look, started, noting, noted, note}
 use Rattle.scope.proofs.TestLaws.{tf, and-left, and-right, both-true, eq-bool, eq-bool-same}
-use Rattle.scope.proofs.Paths.{flip-twice}
+use Rattle.scope.proofs.Paths.{near-stays}
 
 -- the two roots at a depth that is enough wherever they are met
 pub record Recalls (x : Texts) (n : ℕ) (ns : List Node) (m : Memory) : Type 0 where
@@ -103,31 +100,6 @@ recalls-changed m w = record {
   past = λ t i. let h = w .past t i in (h .0, omega (arith, h .1, moved-on (m .clock)));
   true = λ t i e. let h = w .past t i in absurd (moved-past (m .clock) (t .when) (h .0) (h .1) e);
 }
-
--- a type that is near
-
-near-by : (f : ℕ) (ns : List Node) (t : Ty) → near ns t ≡ true → compress f ns (climb f ns t) t ≡ ns
-unfolding compress
-near-by zero ns t h = refl
-near-by (suc f) ns t h = go (at ns (t .idx)) refl h
-  where
-    under : (u : Ty) (v : Node) → at ns (t .idx) ≡ Child u → at ns (u .idx) ≡ v → isRoot v ≡ true → compress (suc f) ns (climb (suc f) ns t) t ≡ ns
-    under u (Root st z) e q r =
-        let c : climb (suc f) ns t ≡ flip (t .inv) u = climb-child f ns t u e ∙ climb-root f ns (flip (t .inv) u) q in
-        let s : set ns (t .idx) (Child (flip (t .inv) (flip (t .inv) u))) ≡ ns =
-        ap (λ (v : Ty). set ns (t .idx) (Child v)) (flip-twice (t .inv) u) ∙ (ap (set ns (t .idx)) (sym e) ∙ set-getD ns (t .idx) _) in
-        ap (λ (r : Ty). compress (suc f) ns r t) c
-        ∙ (compress-child f ns (flip (t .inv) u) t u e
-        ∙ (ap (λ (ms : List Node). compress f ms (flip (t .inv) u) (flip (t .inv) u)) s ∙ compress-root f ns (flip (t .inv) u) (flip (t .inv) u) q))
-    under u (Child v) e q r = tf (sym r)
-
-    go : (v : Node) → at ns (t .idx) ≡ v → nearNode ns v ≡ true → compress (suc f) ns (climb (suc f) ns t) t ≡ ns
-    go (Root st z) e r = compress-root (suc f) ns (climb (suc f) ns t) t e
-    go (Child u) e r = under u (at ns (u .idx)) e refl r
-
-pub near-stays : (ns : List Node) (t : Ty) → near ns t ≡ true → findMut ns t ≡ ns
-unfolding findMut find
-near-stays ns t h = near-by (length ns) ns t h
 
 -- `find_mut` beside a memory
 module _ (m : Memory) (ns : List Node) (t : Ty) where
