@@ -6,13 +6,13 @@ use mathlib.Core.Bool.{Bool, true, false}
 use mathlib.Core.List.{List}
 use Prim.Native.Nat.{ℕ, zero, suc, _+_, _-_, _*_, _<_, _≤_}
 use native.Mathlib.Omega.{arith}
-use lib.ListN.{length, set}
-use lib.Seq.{getD-set-other, set-getD}
+use lib.ListN.{set}
+use lib.Seq.{getD-set-other}
 use Rattle.scope.specs.Base.{xor}
 use Rattle.scope.specs.Types.{Ty, ty, flip, INV-BIT, tyOf}
 use Rattle.scope.specs.Nodes.{Node, Root, Child, at, isRoot, climb, find, compress, findMut}
 use Rattle.scope.proofs.Laws as scope
-use Rattle.scope.proofs.Paths.{flip-twice, child-inside}
+use Rattle.scope.proofs.Paths.{near-root, near-child}
 use Rattle.types.specs.declared.«Type».{«Type»}
 use Rattle.types.proofs.Laws.{idx-below, ty-new}
 use Rattle.layout.specs.Words.{NODE-WORDS, nodeField, decode}
@@ -178,21 +178,6 @@ module _ {ws : List ℕ} {n r : ℕ} {b₀ : Bool} {i₀ : ℕ} {ws′ : List �
   points-out h = points-end (λ ks. compress-out f (decode ws′ ks n) (tyOf r) (ty b i) h)
 
 -- is_near
-
-near-root : (ns : List Node) (t : Ty) → isRoot (at ns (t .idx)) ≡ true → findMut ns t ≡ ns
-unfolding findMut
-near-root ns t e = compress-root (length ns) ns (find ns t) t e
-
--- a root's child is pointed at its parent again
-near-child : (ns : List Node) (t u : Ty) → at ns (t .idx) ≡ Child u → isRoot (at ns (u .idx)) ≡ true → findMut ns t ≡ ns
-unfolding findMut find
-near-child ns t u e r =
-    let h : 0 < length ns = omega (arith, child-inside ns (t .idx) e) in
-    let f : find ns t ≡ flip (t .inv) u = climb-up (length ns) ns t u h e ∙ climb-root (length ns - 1) ns (flip (t .inv) u) r in
-    let s : set ns (t .idx) (Child (flip (t .inv) (find ns t))) ≡ ns =
-    ap (λ (v : Node). set ns (t .idx) v) (ap (λ (v : Ty). Child (flip (t .inv) v)) f ∙ (ap Child (flip-twice (t .inv) u) ∙ sym e)) ∙ set-getD ns (t .idx) _ in
-    compress-up (length ns) ns (find ns t) t u h e
-    ∙ (ap (λ (ms : List Node). compress (length ns - 1) ms (find ns t) (flip (t .inv) u)) s ∙ compress-root (length ns - 1) ns (find ns t) (flip (t .inv) u) r)
 
 pub is-root : {ws : List ℕ} {n t i : ℕ} {v : TypeNode} {st : TypeState} {z : ℕ} → i ≡ tyOf t .idx → v ≡ readAt ws n i → v ≡ code.Root st z → Near ws n t true
 is-root {ws} {n} {t} {st = st} {z = z} ei ev e = record {

@@ -50,7 +50,7 @@ module _ (e : Env) (n : ℕ) where
     chain-on {ls} x c d = subst (λ (g : View). Chain g (ri g x) ls) (sym (seen-call .views))
         (chain-after (unify-spec e n f (view ns) p q (ok .stable .good) (stable-kinds (ok .stable))) x c d)
 
-  whole-tidied : {ns ns′ : List Node} → Tidied ns ns′ → Whole ns → Whole ns′
+  pub whole-tidied : {ns ns′ : List Node} → Tidied ns ns′ → Whole ns → Whole ns′
   whole-tidied t ok = record {
     forest = tidied-forest t (ok .forest);
     len = t .len ∙ ok .len;
@@ -126,12 +126,32 @@ module _ (e : Env) (n : ℕ) where
       top : view ns₂ .rep (find ns p .idx) ≡ ty false (find ns p .idx)
       top = rw (same, find-idx ns p) (rep-idem (ok .forest) (p .idx))
 
+module _ (e : Env) {ns : List Node} (ok : SoundNodes e ns) where
+  pub sound-whole : Whole e (length ns) ns
+  sound-whole = record { forest = ok .forest; len = refl; stable = nodes-stable e ok }
+
+-- a run of pairs takes its depth from the nodes, whose number stays
+whole-carry : (e : Env) (n : ℕ) (ns : List Node) → Whole e n ns → (r : Answer) (ps : List (Ty × Ty)) → Inside n ps
+    → run (unify (e .texts)) ns r ps ≡ run (unifyF (e .texts) n n) ns r ps
+unfolding run unify
+whole-carry e n ns ok r [] h = refl
+whole-carry e n ns ok r (p ∷ ps) h =
+    let i = h p (List·Memᴰ·head refl) in
+    let o : Out = unifyF (e .texts) n n ns (p .0) (p .1) in
+    ap (λ (m : ℕ). let v : Out = unifyF (e .texts) m m ns (p .0) (p .1) in run (unify (e .texts)) (v .nodes) (both r (v .answer)) ps) (ok .len)
+    ∙ whole-carry e n (o .nodes) (whole-after e n ns (p .0) (p .1) ok (i .0) (i .1) n) (both r (o .answer)) ps (λ q m. h q (List·Memᴰ·tail m))
+
+pub carry-depth : (e : Env) {ns : List Node} → SoundNodes e ns → (n : ℕ) → length ns ≡ n → (r : Answer) (ps : List (Ty × Ty)) → Inside n ps
+    → run (unify (e .texts)) ns r ps ≡ run (unifyF (e .texts) n n) ns r ps
+carry-depth e {ns} ok n le =
+    whole-carry e n ns (record { forest = ok .forest; len = le; stable = subst (λ (m : ℕ). Stable e m (view ns)) le (nodes-stable e ok) })
+
 -- any depth from the node count on
 pub depth-enough : (e : Env) {ns : List Node} → SoundNodes e ns → (p q : Ty) → p .idx < length ns → q .idx < length ns → (f : ℕ) → length ns ≤ f
     → unifyF (e .texts) (length ns) f ns p q ≡ unify (e .texts) ns p q
 unfolding unify
 depth-enough e {ns} ok p q hp hq f h =
-    unify-depth e (length ns) f (length ns) ns p q [] (record { forest = ok .forest; len = refl; stable = nodes-stable e ok }) hp hq cnil
+    unify-depth e (length ns) f (length ns) ns p q [] (sound-whole e ok) hp hq cnil
     (omega (arith, free-nil (length ns))) (free-nil (length ns))
 
 -- the rule without its depth: `unify` is `meet` of the two roots, with itself for the pairs one level down

@@ -20,8 +20,7 @@ use Rattle.scope.proofs.Grow.{ri}
 use Rattle.scope.proofs.Fuel.{Chains}
 use Rattle.scope.proofs.Sim.{Inside}
 use Rattle.scope.proofs.SoundLaws.{SoundNodes}
-use Rattle.scope.proofs.UnifyKept.{nodes-stable}
-use Rattle.scope.proofs.Depth.{Whole, whole-after, chain-on, meet-depth, unify-depth}
+use Rattle.scope.proofs.Depth.{Whole, sound-whole, whole-after, chain-on, meet-depth, unify-depth}
 
 pub record Enough (n : ℕ) (ns : List Node) (depth : ℕ) (ps : List (Ty × Ty)) : Type 0 where
   pub above : List ℕ
@@ -60,9 +59,6 @@ root-top {ns} ok i e = go (at ns i) refl e
     go (Child u) q r = cc
 
 module _ (e : Env) {ns : List Node} (ok : SoundNodes e ns) where
-  whole : Whole e (length ns) ns
-  whole = record { forest = ok .forest; len = refl; stable = nodes-stable e ok }
-
   -- two roots
   module _ (a b : Ty) (h : a .idx < length ns) (top : isRoot (at ns (a .idx)) ≡ true) {d : ℕ} (w : Enough (length ns) ns d ((a, b) ∷ [])) (deep : d ≡ 0 → ⊥) where
     rep-top : view ns .rep (a .idx) ≡ ty false (a .idx)
@@ -75,7 +71,7 @@ module _ (e : Env) {ns : List Node} (ok : SoundNodes e ns) where
     pub enough-meet : meet (unifyF (e .texts) (length ns) (d - 1)) (e .texts) (length ns) ns a b
         ≡ meet (unifyF (e .texts) (length ns) (length ns)) (e .texts) (length ns) ns a b
     enough-meet =
-        meet-depth e (length ns) (d - 1) (length ns) (unify-depth e (length ns) (d - 1) (length ns)) ns a b (w .above) whole h rep-top chain
+        meet-depth e (length ns) (d - 1) (length ns) (unify-depth e (length ns) (d - 1) (length ns)) ns a b (w .above) (sound-whole e ok) h rep-top chain
         (omega (arith, w .room, deep)) (omega (arith, free-most (length ns) (w .above)))
 
     -- one level down: pairs whose first types are children of the first root
@@ -110,4 +106,4 @@ module _ (e : Env) (n : ℕ) where
 
 pub enough-run : (e : Env) {ns : List Node} → SoundNodes e ns → (d : ℕ) (r : Answer) (ps qs : List (Ty × Ty)) → Inside (length ns) (ps ++ qs)
     → Enough (length ns) ns d (ps ++ qs) → Enough (length ns) (run (unifyF (e .texts) (length ns) d) ns r ps .nodes) d qs
-enough-run e {ns} ok d r ps qs i w = record { above = w .above; chains = steps e (length ns) ns d (w .above) r ps qs (whole e ok) i (w .chains); room = w .room }
+enough-run e {ns} ok d r ps qs i w = record { above = w .above; chains = steps e (length ns) ns d (w .above) r ps qs (sound-whole e ok) i (w .chains); room = w .room }

@@ -9,6 +9,7 @@ use native.Mathlib.Omega.{arith}
 use native.Mathlib.Decide.{ℕ-discrete}
 use Rattle.scope.proofs.View.{sel}
 use Rattle.scope.proofs.ViewLaws.{same?, sel-yes, sel-no}
+use Rattle.scope.proofs.TestLaws.{tf}
 
 pub memb : ℕ → List ℕ → Bool
 memb x [] = false
@@ -21,6 +22,18 @@ memb-none x = refl
 pub memb-more : (x y : ℕ) (ys : List ℕ) → x ≢ y → memb x ys ≡ false → memb x (y ∷ ys) ≡ false
 unfolding memb
 memb-more x y ys h e = rw (sel-no (ℕ-discrete x y) true (memb x ys) h) e
+
+pub memb-first : (x : ℕ) (ys : List ℕ) → memb x (x ∷ ys) ≡ true
+unfolding memb
+memb-first x ys = sel-yes (ℕ-discrete x x) true (memb x ys) refl
+
+pub memb-rest : (x y : ℕ) (ys : List ℕ) → memb x (y ∷ ys) ≡ false → memb x ys ≡ false
+unfolding memb
+memb-rest x y ys = go (ℕ-discrete x y)
+  where
+    go : (d : Dec (x ≡ y)) → sel d true (memb x ys) ≡ false → memb x ys ≡ false
+    go (yes e) h = tf h
+    go (no e) h = h
 
 weigh : Bool → ℕ
 weigh true = 0

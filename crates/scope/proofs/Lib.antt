@@ -2,6 +2,7 @@ pub mod Acyclic
 pub mod Added
 pub mod Again
 pub mod Chain
+pub mod Changes
 pub mod Copies
 pub mod Copy
 pub mod CopyCount
@@ -19,6 +20,7 @@ pub mod Falls
 pub mod FirstHalf
 pub mod Free
 pub mod Fuel
+pub mod Goes
 pub mod Grow
 pub mod GrowCalls
 pub mod ImportKept
@@ -47,6 +49,8 @@ pub mod PlanLaws
 pub mod Push
 pub mod Reached
 pub mod ReadDepth
+pub mod RecallSame
+pub mod Recalls
 pub mod Refusals
 pub mod ReplacedLaws
 pub mod Restate
@@ -64,7 +68,11 @@ pub mod Table
 pub mod TestLaws
 pub mod TreeLaws
 pub mod UnifyKept
+pub mod Untold
 pub mod View
 pub mod ViewFits
 pub mod ViewLaws
+pub mod VisitTable
+pub mod Visits
 pub mod Walks
+pub mod Width

@@ -18,7 +18,7 @@ use Rattle.scope.specs.Force.{relatedKids, relatedRoot, relatedF, findRe
 use Rattle.scope.proofs.Laws.{climb-root, climb-child}
 use Rattle.scope.proofs.View.{known, Kid, Good, seen, view}
 use Rattle.scope.proofs.ViewLaws.{same?, not-known}
-use Rattle.scope.proofs.TestLaws.{tf}
+use Rattle.scope.proofs.TestLaws.{count-le, count-lt}
 
 -- what the walk uses of a sound store's nodes
 pub record Walkable (ns : List Node) : Type 0 where
@@ -82,23 +82,6 @@ kid-in ns {a} {x} k = (k .kid, go (stateOf (at ns a)) (k .state), sym (rep-idx n
     go InferenceFailed e = absurd (not-known e)
 
 -- counting
-module _ (p q : ℕ → Bool) (less : (x : ℕ) → p x ≡ true → q x ≡ true) where
-  pick-le : (x : ℕ) → pick (p x) 1 0 ≤ pick (q x) 1 0
-  pick-le x = go (p x) (q x) (less x)
-    where
-      go : (a b : Bool) → (a ≡ true → b ≡ true) → pick a 1 0 ≤ pick b 1 0
-      go false b h = omega arith
-      go true true h = omega arith
-      go true false h = tf (sym (h refl))
-
-  count-le : (xs : List ℕ) → count p xs ≤ count q xs
-  count-le [] = omega arith
-  count-le (x ∷ xs) = omega (arith, pick-le x, count-le xs)
-
-  count-lt : (xs : List ℕ) {x : ℕ} → List·Memᴰ x xs → p x ≡ false → q x ≡ true → count p xs < count q xs
-  count-lt (y ∷ xs) {x} (List·Memᴰ·head e) f t = rw (ap p (sym e) ∙ f, ap q (sym e) ∙ t) (omega (arith, count-le xs))
-  count-lt (y ∷ xs) (List·Memᴰ·tail m) f t = omega (arith, pick-le y, count-lt xs m f t)
-
 count-top : (p : ℕ → Bool) (i n : ℕ) → count p (from i n) ≤ n
 count-top p i zero = omega arith
 count-top p i (suc n) = go (p i) (count-top p (suc i) n)

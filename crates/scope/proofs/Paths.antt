@@ -2,17 +2,19 @@
 -- root, state or size. Assumes nothing.
 use mathlib.Core.Path.{_≡_, refl, sym, ap, subst, _∙_}
 use mathlib.Core.List.{List, [], _∷_}
-use mathlib.Core.Bool.{Bool, false}
+use mathlib.Core.Bool.{Bool, true, false}
 use mathlib.Core.Logic.{_≢_, _⊎_, inl, inr}
 use Prim.Native.Nat.{ℕ, zero, suc, _+_, _≤_, _<_}
 use native.Mathlib.Nat.{not-suc-le-zero}
 use native.Mathlib.Omega.{arith}
 use native.Mathlib.Decide.{decLt}
 use lib.ListN.{length, set, length-set, List·getD-eq-default}
-use lib.Seq.{getD-set-same, getD-set-other}
+use lib.Seq.{getD-set-same, getD-set-other, set-getD}
 use Rattle.scope.specs.Limits.{NONE}
 use Rattle.scope.specs.Types.{Ty, ty, flip}
-use Rattle.scope.specs.Nodes.{State, Unknown, Node, Root, Child, at, stateOf, sizeOf, climb, find, compress, findMut}
+use Rattle.scope.specs.Nodes.{State, Unknown, Node, Root, Child, at, isRoot, stateOf, sizeOf, climb, find, compress, findMut}
+use Rattle.scope.specs.Recall.{nearNode, near}
+use Rattle.scope.proofs.TestLaws.{tf}
 use Rattle.scope.proofs.Laws.{climb-root, climb-child, compress-root, compress-child}
 use Rattle.scope.proofs.View.{rootOf, Kid, seen, view}
 use Rattle.scope.proofs.ViewLaws.{same?, xor-false, xor-twice, xor-comm, flip-flip, Held}
@@ -299,3 +301,39 @@ tidied-view {ns} {ns′} t ok = λ i. record { rep = λ n. reps n i; st = λ n. 
   where
     reps : (n : ℕ) → find ns′ (ty false n) ≡ find ns (ty false n)
     reps n = let l = lead-all ok n in rep-leads (t .par (ok .par)) (t .paths (l .path) .2) ∙ sym (rep-leads (ok .par) (l .path))
+
+-- a type that is near: `find_mut` changes no node
+
+near-by : (f : ℕ) (ns : List Node) (t : Ty) → near ns t ≡ true → compress f ns (climb f ns t) t ≡ ns
+unfolding compress
+near-by zero ns t h = refl
+near-by (suc f) ns t h = go (at ns (t .idx)) refl h
+  where
+    under : (u : Ty) (v : Node) → at ns (t .idx) ≡ Child u → at ns (u .idx) ≡ v → isRoot v ≡ true → compress (suc f) ns (climb (suc f) ns t) t ≡ ns
+    under u (Root st z) e q r =
+        let c : climb (suc f) ns t ≡ flip (t .inv) u = climb-child f ns t u e ∙ climb-root f ns (flip (t .inv) u) q in
+        let s : set ns (t .idx) (Child (flip (t .inv) (flip (t .inv) u))) ≡ ns =
+        ap (λ (v : Ty). set ns (t .idx) (Child v)) (flip-twice (t .inv) u) ∙ (ap (set ns (t .idx)) (sym e) ∙ set-getD ns (t .idx) _) in
+        ap (λ (r : Ty). compress (suc f) ns r t) c
+        ∙ (compress-child f ns (flip (t .inv) u) t u e
+        ∙ (ap (λ (ms : List Node). compress f ms (flip (t .inv) u) (flip (t .inv) u)) s ∙ compress-root f ns (flip (t .inv) u) (flip (t .inv) u) q))
+    under u (Child v) e q r = tf (sym r)
+
+    go : (v : Node) → at ns (t .idx) ≡ v → nearNode ns v ≡ true → compress (suc f) ns (climb (suc f) ns t) t ≡ ns
+    go (Root st z) e r = compress-root (suc f) ns (climb (suc f) ns t) t e
+    go (Child u) e r = under u (at ns (u .idx)) e refl r
+
+pub near-stays : (ns : List Node) (t : Ty) → near ns t ≡ true → findMut ns t ≡ ns
+unfolding findMut find
+near-stays ns t h = near-by (length ns) ns t h
+
+pub near-root : (ns : List Node) (t : Ty) → isRoot (at ns (t .idx)) ≡ true → findMut ns t ≡ ns
+near-root ns t h = near-stays ns t (go (at ns (t .idx)) h)
+  where
+    go : (v : Node) → isRoot v ≡ true → nearNode ns v ≡ true
+    go (Root st z) e = refl
+    go (Child u) e = tf (sym e)
+
+-- a root's child is pointed at its parent again
+pub near-child : (ns : List Node) (t u : Ty) → at ns (t .idx) ≡ Child u → isRoot (at ns (u .idx)) ≡ true → findMut ns t ≡ ns
+near-child ns t u e r = near-stays ns t (rw e r)

@@ -14,11 +14,12 @@ use Rattle.scope.specs.Limits.{MAX-WIDTH, KINDS}
 use Rattle.scope.specs.Names.{Texts, Name, bytesOr, named, eqBytes, ascending}
 use Rattle.scope.specs.Chart.{Env}
 use Rattle.scope.specs.Types.{Ty, flip}
-use Rattle.scope.specs.Kinds.{Head, Row, rowOf, shapeFits, flexOk, numberOk, eqBool, flagOf, selfDual, objectNamesOk, namesOk, makeable, defined, flagIs, OBJECT, CLOSURE, KEY, DEFAULT}
+use Rattle.scope.specs.Kinds.{Head, Row, rowOf, shapeFits, flexOk, numberOk, flagOf, selfDual, objectNamesOk, namesOk, makeable, defined, flagIs, OBJECT, CLOSURE, KEY, DEFAULT}
 use Rattle.scope.specs.Nodes.{Kind}
 use Rattle.scope.specs.Answers.{Success, Failure, Indeterminate}
 use Rattle.scope.specs.Unify.{Plan, answers, zipped, runPlan, objectPlan, signaturePlan, kidsPlan, firstName, sameHead, crosses, isError, plan}
 use Rattle.scope.specs.Trees.{TreeHead, hasNames, treeHead, treeDual, trees, Val, val, vals, build, invertIf}
+use Rattle.scope.proofs.TestLaws.{eq-bool}
 use Rattle.scope.proofs.NameLaws.{eq-bytes, bytes-eq}
 use Rattle.scope.proofs.PairLaws.{Betweens, between-nil, between-pick, run-between, signature-between, shared-between, whole}
 use Rattle.scope.proofs.PairLaws.{run-whole, run-lengths, signature-whole, signature-lengths, shared-whole, object-names}
@@ -33,13 +34,7 @@ pub record Makeable (e : Env) (k : Kind) : Type 0 where
 -- the flag is the chart's, so the tree's self-duality is the kind's
 pub dual-tree : (e : Env) (k : Kind) → Makeable e k → treeDual e (treeHead (e .texts) (k .head)) ≡ selfDual (k .head)
 unfolding treeDual treeHead selfDual flagIs
-dual-tree e k o = rw (same (k .head .dual) (flagOf e (k .head .code) (k .head .number)) (o .flag))
-  where
-    same : (a b : Bool) → eqBool a b ≡ true → a ≡ b
-    same true true h = refl
-    same true false h = sym h
-    same false true h = h
-    same false false h = refl
+dual-tree e k o = rw (eq-bool (k .head .dual) (flagOf e (k .head .code) (k .head .number)) (o .flag))
 
 plan-between : (x : Texts) (k m : Kind) (i : Bool) → Betweens i (k .kids) (m .kids) (plan x k m i .pairs)
 unfolding plan kidsPlan objectPlan

@@ -11,7 +11,7 @@ use borrow.Author.Tests.{ltb-true, ltb-false, not-false}
 use Rattle.scope.specs.Base.{pick, all}
 use Rattle.scope.specs.Chart.{Env}
 use Rattle.scope.specs.Types.{Ty}
-use Rattle.scope.specs.Kinds.{makeable, defined, eqBool, flagOf, flagIs, STRUCT, UNION, TUPLE, ERROR}
+use Rattle.scope.specs.Kinds.{makeable, defined, flagOf, flagIs, STRUCT, UNION, TUPLE, ERROR}
 use Rattle.scope.specs.Nodes.{State, Known, Unknown, Node, Store, opened, withNodes, at, find, findMut}
 use Rattle.scope.specs.Answers.{Answer}
 use Rattle.scope.specs.Make.{push, new, newVar, newVars, bare, makeError, makeNil, again, rememberError, rememberNil}
@@ -25,7 +25,7 @@ use Rattle.scope.specs.Calls.{over, newCall, newStructCall, newUnionCall
 use Rattle.scope.specs.Calls.{importCall, findCall, findMutCall, nodeCall, childAt, childCall, childNameAt, nameCall, figuresCall, openTest, exportCall}
 use Rattle.scope.specs.Demand.{Maker, newStruct, newUnion, Read, Step, step, stepMaker, stepRead, unlessThere, statesMade}
 use Rattle.scope.specs.Demand as Demand
-use Rattle.scope.proofs.TestLaws.{and-left, and-right, of-all}
+use Rattle.scope.proofs.TestLaws.{and-left, and-right, of-all, eq-bool-same}
 use Rattle.scope.proofs.SoundLaws.{SoundNodes, SoundFacts, sound-facts}
 use Rattle.scope.proofs.SoundKept.{Kept}
 use Rattle.scope.proofs.MakeKept.{new-kept, new-var-kept, new-vars-kept, error-kept, nil-kept}
@@ -56,10 +56,6 @@ went s = record { taken = true; store = s }
 
 pub all-inside : (ns : List Node) (ts : List Ty) → not (all (inStore ns) ts) ≡ false → (t : Ty) → List·Memᴰ t ts → t .idx < length ns
 all-inside ns ts q t m = ltb-true (t .idx) (length ns) (of-all (inStore ns) ts (not-false (all (inStore ns) ts) q) m)
-
-eq-bool-same : (a : Bool) → eqBool a a ≡ true
-eq-bool-same true = refl
-eq-bool-same false = refl
 
 -- the chart's flag is the chart's
 flag-made : (e : Env) (a : NewKind) → flagIs e (kindMade e a .head) ≡ true

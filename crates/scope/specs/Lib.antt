@@ -8,11 +8,13 @@ pub mod Kinds
 pub mod Answers
 pub mod Nodes
 pub mod Unify
+pub mod Recall
 pub mod Make
 pub mod Force
 pub mod Import
 pub mod Needs
 pub mod Sound
+pub mod Visits
 pub mod Show
 pub mod Refusals
 pub mod Calls

@@ -15,6 +15,7 @@ use Rattle.scope.specs.Names.{Texts}
 use Rattle.scope.specs.Types.{Ty, tyOf, flip}
 use Rattle.scope.specs.Answers.{Success, Failure, both, ofBool}
 use Rattle.scope.specs.Unify.{Plan, Out, run, answers, zipped, runPlan, unifyF, unify, carry, unifyTypes, unifyObjects, unifyFnSig, implPlan, unifyImplType}
+use Rattle.scope.proofs.Depth.{carry-depth}
 use Rattle.scope.proofs.Enough.{enough-part}
 use Rattle.types.specs.Answers.{answerOf}
 use Rattle.types.specs.Impls.{implMeans}
@@ -32,7 +33,6 @@ use Rattle.meeting.specs.Meets.{does}
 use Rattle.meeting.specs.Kids.{objectsOf}
 use Rattle.unify.specs.Leaves.{Leaves}
 use Rattle.unify.specs.Asked.{Asked, Unified}
-use Rattle.unify.proofs.Kept.{carry-depth}
 use Rattle.unify.proofs.Laws.{words-run, words-enough}
 use Rattle.unify.proofs.RunLaws.{Going, going-start, going-to, going-pair, going-on, going-end, does-after, ObjectLeft, object-start, object-ends}
 use Rattle.unify_lists.specs.Lent.{fromFirst, sigPlan, Lists, Objects, Signatures, Impls}
