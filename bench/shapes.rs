@@ -122,6 +122,21 @@ pub fn crowd<S: Side>(side: &mut S, nodes: usize) {
   }
 }
 
+/// A variable, then tuples of four nodes made before, and at the end one of eight.
+pub fn fours<S: Side>(side: &mut S, nodes: usize) {
+  let mut seed: u32 = 1;
+  side.var();
+  for at in 1..nodes as u32 {
+    let any = |_| {
+      seed = seed.wrapping_mul(1664525).wrapping_add(1013904223);
+      (seed >> 8) % at
+    };
+    let count = if at as usize == nodes - 1 { 8 } else { 4 };
+    let kids: Vec<u32> = (0..count).map(any).collect();
+    side.tuple(&kids);
+  }
+}
+
 pub const VARIABLES: usize = 2048;
 
 /// Each variable of the first half with one of the second.

@@ -1,6 +1,6 @@
 //! The soundness test, beside one read of the same words, a word a step; and the worst that lent words can make it do.
 
-use std::hint::black_box;
+use std::ptr::read_volatile;
 
 use crate::{
   SIZES, filled, least, line,
@@ -17,23 +17,21 @@ fn testing(store: &mut Core, refusal: u32) -> f64 {
 
 /// One read of all words of a store, a word a step.
 fn reading(store: &Core) -> f64 {
-  let all = store.words();
-  let read = || all.iter().flat_map(|words| words.iter()).for_each(|word| _ = black_box(*word));
-  let each = || {
-    for words in all {
-      for word in words {
-        black_box(*word);
-      }
-    }
-  };
-  _ = read;
-  least(|| (), |()| (0..CALLS).for_each(|_| each())) / CALLS as f64
+  let read = |words: &[u32]| words.iter().for_each(|word| _ = unsafe { read_volatile(word) });
+  least(|| (), |()| (0..CALLS).for_each(|_| store.words().map(read).into_iter().collect())) / CALLS as f64
 }
 
 /// `nodes` nodes with four times as many children.
 fn crowded(nodes: usize) -> Core {
   let mut side = Core::opened(nodes);
   shapes::crowd(&mut side, nodes);
+  side
+}
+
+/// Tuples of four.
+fn fours(nodes: usize) -> Core {
+  let mut side = Core::opened(nodes);
+  shapes::fours(&mut side, nodes);
   side
 }
 
@@ -95,6 +93,7 @@ fn worst(what: &str, mut store: Core) {
 pub fn report() {
   growth("as the makers' stores", |size| filled(size, size));
   growth("four children a node", crowded);
+  growth("tuples of four", fours);
   worst("tuples of 255 over one run", overlapping(TUPLE, 0));
   worst("objects of 255 names of one byte over one run", overlapping(OBJECT, 1));
   worst("objects of 255 names of 255 bytes over one run", overlapping(OBJECT, 255));
