@@ -2,6 +2,7 @@
 
 mod ours;
 mod shapes;
+mod sound;
 mod stack;
 mod texts;
 mod vine;
@@ -56,26 +57,6 @@ fn filled<S: Side>(size: usize, nodes: usize) -> S {
   let mut side = S::opened(size);
   shapes::fill(&mut side, nodes);
   side
-}
-
-/// The soundness test; whether eight times the store takes at most ten times the time.
-fn soundness() {
-  const CALLS: usize = 20;
-  let mut before = None;
-  for size in SIZES {
-    let mut full: Core = filled(size, size);
-    let time =
-      least(|| (), |()| (0..CALLS).for_each(|_| assert_eq!(full.refusal(), 0))) / CALLS as f64;
-    line("soundness test", size, time, None);
-    if let Some(before) = before {
-      let grew: f64 = time / before;
-      println!(
-        "  {grew:.1} times the time for eight times the store: {}",
-        if grew <= 10.0 { "linear" } else { "NOT linear" }
-      );
-    }
-    before = Some(time);
-  }
 }
 
 /// A maker's time a call, where the store ends with `size` nodes.
@@ -154,11 +135,14 @@ fn main() {
   if words.get(1).is_some_and(|word| word == "texts") {
     return texts::report();
   }
+  if words.get(1).is_some_and(|word| word == "sound") {
+    return sound::report();
+  }
   if let [_, chain, bytes] = &words[..] {
     return stack::descend(chain, bytes.parse().expect("not a number"));
   }
   println!("what, nodes of store, nanoseconds a call (unify: a pair), ratio to the Rust");
-  soundness();
+  sound::report();
   makers();
   opening();
   // Deep recursion wants more than a main thread may have.

@@ -36,7 +36,7 @@ unsafe extern "C" {
 /// A public call's answer from here on is a refusal.
 const REFUSED: u64 = 1 << 32;
 
-const TUPLE: u32 = 1;
+pub const TUPLE: u32 = 1;
 pub const OBJECT: u32 = 2;
 const STRUCT: u32 = 4;
 pub const CLOSURE: u32 = 8;
@@ -101,6 +101,16 @@ fn fields(kids: &[u32]) -> Vec<u32> {
 }
 
 impl<const PUBLIC: bool> Ours<PUBLIC> {
+  /// A store of these words, whatever they are.
+  pub fn lent(rule: Vec<u8>, h: Vec<u32>, ws: Vec<u32>, ks: Vec<u32>) -> Self {
+    Ours { rule, h, ws, ks }
+  }
+
+  /// Its words: the header's, the nodes', the children's.
+  pub fn words(&self) -> [&[u32]; 3] {
+    [&self.h, &self.ws, &self.ks]
+  }
+
   /// 0 for a store that passes the soundness test.
   pub fn refusal(&mut self) -> u32 {
     public!(self, faroalder_refusal)

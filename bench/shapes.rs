@@ -96,6 +96,47 @@ pub fn fill<S: Side>(side: &mut S, nodes: usize) {
   }
 }
 
+/// `nodes` nodes with four times as many children, over nodes made before.
+pub fn crowd<S: Side>(side: &mut S, nodes: usize) {
+  let mut seed: u32 = 1;
+  for at in 0..nodes as u32 {
+    let mut kids = |count: usize| -> Vec<u32> {
+      let any = |_| {
+        seed = seed.wrapping_mul(1664525).wrapping_add(1013904223);
+        (seed >> 8) % at
+      };
+      (0..count).map(any).collect()
+    };
+    let made = match at % 8 {
+      2 => side.tuple(&kids(8)),
+      3 => side.object(&kids(8)),
+      4 => side.reference(kids(1)[0]),
+      5 => side.structure(&kids(7)),
+      6 => side.tuple(&kids(8)),
+      _ => side.var(),
+    };
+    assert_eq!(made, at);
+    if at % 8 == 1 {
+      side.merge(at - 1, at);
+    }
+  }
+}
+
+/// A variable, then tuples of four nodes made before, and at the end one of eight.
+pub fn fours<S: Side>(side: &mut S, nodes: usize) {
+  let mut seed: u32 = 1;
+  side.var();
+  for at in 1..nodes as u32 {
+    let any = |_| {
+      seed = seed.wrapping_mul(1664525).wrapping_add(1013904223);
+      (seed >> 8) % at
+    };
+    let count = if at as usize == nodes - 1 { 8 } else { 4 };
+    let kids: Vec<u32> = (0..count).map(any).collect();
+    side.tuple(&kids);
+  }
+}
+
 pub const VARIABLES: usize = 2048;
 
 /// Each variable of the first half with one of the second.

@@ -41,6 +41,16 @@ module _ (p : ℕ → Bool) (a e : ℕ) where
   pub run-end : e ≤ a → all p (from a (e - a)) ≡ true
   run-end h = let z : e - a ≡ 0 = omega arith in rw z
 
+  -- the same beside a flag that says of what was tested before
+  pub flag-step : (ok : Bool) → a < e → p a ≡ true → (ok && all p (from a (e - a))) ≡ (ok && all p (from (a + 1) (e - (a + 1))))
+  flag-step ok h q = rw (run-step h q)
+
+  pub flag-stop : (ok : Bool) → a < e → p a ≡ false → (ok && all p (from a (e - a))) ≡ false
+  flag-stop ok h q = rw (run-stop h q, and-false)
+
+  pub flag-end : (ok : Bool) → e ≤ a → (ok && all p (from a (e - a))) ≡ ok
+  flag-end ok h = rw (run-end h, and-true)
+
 pub run-whole : (p : ℕ → Bool) (n : ℕ) → all p (from 0 n) ≡ all p (from 0 (n - 0))
 run-whole p n = let z : n - 0 ≡ n = omega arith in rw z
 

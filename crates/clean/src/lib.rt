@@ -48,19 +48,21 @@ fn long_enough(h: &[u32], ws: &[u32], ks: &[u32]) -> bool
     node_words(x.node_room) <= ws.len() && child_words(x.child_room) <= ks.len()
 }
 
-// The words from a to e are zero.
+// The words from a to e are zero. Each is looked at, whatever the others are, so that several can be at once.
 fn zero_between(s: &[u32], a: usize, e: usize) -> bool
     requires { ⌜ e ≤ length (now s) ⌝ }
     ensures { λ r. ⌜ r ≡ zeros (between (now (s .entry)) a e) ⌝ }
 {
+    let mut zero = true;
     let mut i = a;
     while i < e {
-        if s[i] != 0 {
-            return false;
-        }
+        let word = s[i];
         i += 1;
+        if word != 0 {
+            zero = false;
+        }
     }
-    true
+    zero
 }
 
 // The slots from the counts to the capacities.

@@ -1,43 +1,39 @@
--- The table's rule is one test that antt computes: scope's rows, each taken as the code's, are the table of the code, row by row. `row-read` says
--- what an entry of that table is, so the proof of `row_of` holds the two lists against one another; past the table scope has noRow.
+-- The table's rule is one test that antt computes: scope's rows, each as a number, are the table of the code, and read back they are scope's. `row-read`
+-- says what an entry of that table is, so the proof of `row_of` holds the two lists against one another; past the table scope has noRow.
 -- Assumes nothing.
-use mathlib.Core.Path.{_≡_, refl}
+use mathlib.Core.Path.{_≡_, refl, ap, _∙_}
 use mathlib.Core.List.{List, [], _∷_, map}
-use Prim.Native.Nat.{ℕ, zero, suc, _≤_, _<_}
+use Prim.Native.Nat.{ℕ, zero, suc, _+_, _*_, _≤_, _<_}
 use native.Mathlib.Omega.{arith}
 use lib.ListN.{length, getD}
 use Rattle.scope.specs.Chart.{Env, sortAt}
 use Rattle.scope.specs.Kinds.{Head, rows, noRow, rowOf, selfDual, dualBy, defined}
 use Rattle.scope.specs.Kinds as scope
-use Rattle.kinds.specs.Rows.{asRow, sortFits}
-use Rattle.kinds.specs.declared.Row.{Row}
+use Rattle.kinds.specs.Rows.{rowIn, asRow, sortFits}
 
--- scope's row as the code's, and scope's table as the code's
-abbrev codeRow : scope.Row → Row
-codeRow r = record {
-  shape = r .shape;
-  dual = r .dual;
-  number = r .number;
-  names = r .names;
-  sort = r .sort;
-  other = r .other;
-}
+-- scope's row as the number that says it, and scope's table as the code's
+abbrev codeRow : scope.Row → ℕ
+codeRow r = r .shape + 16 * r .dual + 256 * r .number + 4096 * r .names + 65536 * r .sort + 1048576 * r .other
 
-abbrev pub table : List Row
+abbrev pub table : List ℕ
 table = map codeRow rows
 
--- what an array of rows has past its end
-abbrev pub blank : Row
-blank = record { shape = 0; dual = 0; number = 0; names = 0; sort = 0; other = 0 }
+-- which is read back
+abbrev readRow : ℕ → scope.Row
+readRow w = asRow (rowIn w)
 
-entry : (l : List scope.Row) (i : ℕ) → i < length l → asRow (getD (map codeRow l) i blank) ≡ getD l i noRow
+back : map readRow table ≡ rows
+unfolding rows
+back = refl
+
+entry : (l : List ℕ) (i : ℕ) → i < length l → readRow (getD l i 0) ≡ getD (map readRow l) i noRow
 entry [] i h = absurd (omega arith)
-entry (r ∷ l) zero h = refl
-entry (r ∷ l) (suc i) h = entry l i (omega arith)
+entry (w ∷ l) zero h = refl
+entry (w ∷ l) (suc i) h = entry l i (omega arith)
 
-pub row-read : (i : ℕ) → i < 15 → asRow (getD table i blank) ≡ rowOf i
+pub row-read : (i : ℕ) → i < 15 → readRow (getD table i 0) ≡ rowOf i
 unfolding rowOf rows
-row-read i h = entry rows i h
+row-read i h = entry table i h ∙ ap (λ (l : List scope.Row). getD l i noRow) back
 
 past : (l : List scope.Row) (i : ℕ) → length l ≤ i → getD l i noRow ≡ noRow
 past [] i h = refl

@@ -2,7 +2,7 @@
 // The table is scope's `rows`, and each test says of a code what scope's definition says of its row.
 ghost use mathlib.Core.Path.{_≡_};
 ghost use Rattle.scope.specs.Kinds.{rowOf, dualBy, shapeFits, flexOk, numberOk};
-ghost use Rattle.kinds.specs.Rows.{asRow, isDefinition, sortFits};
+ghost use Rattle.kinds.specs.Rows.{rowIn, asRow, isDefinition, sortFits};
 
 // "Codes are 0 to 14 in `TypeKind`'s order in 000."
 pub const PARAM: u32 = 0;
@@ -102,160 +102,154 @@ pub struct Row {
     pub other: u32,
 }
 
-// One row for each code, in the codes' order.
-pub const ROWS: [Row; 15] = [
+// Where a row's parts stand in its number: each is a hexadecimal digit, the shape the lowest.
+pub const DUAL_PLACE: u32 = 0x10;
+
+pub const NUMBER_PLACE: u32 = 0x100;
+
+pub const NAMES_PLACE: u32 = 0x1000;
+
+pub const SORT_PLACE: u32 = 0x1_0000;
+
+pub const OTHER_PLACE: u32 = 0x10_0000;
+
+// What a digit is less than.
+pub const DIGITS: u32 = 0x10;
+
+// One row for each code, in the codes' order. A row is one number, so that the table is small.
+pub const ROWS: [u32; 15] = [
     // Param
-    Row {
-        shape: NO_CHILDREN,
-        dual: NOT_DUAL,
-        number: ANY_NUMBER,
-        names: OWN_NAME,
-        sort: NO_SORT,
-        other: NO_SORT,
-    },
+    NO_CHILDREN as u32
+        + DUAL_PLACE * NOT_DUAL as u32
+        + NUMBER_PLACE * ANY_NUMBER as u32
+        + NAMES_PLACE * OWN_NAME as u32
+        + SORT_PLACE * NO_SORT
+        + OTHER_PLACE * NO_SORT,
     // Tuple
-    Row {
-        shape: RUN,
-        dual: DUAL,
-        number: NO_NUMBER,
-        names: NO_NAMES,
-        sort: NO_SORT,
-        other: NO_SORT,
-    },
+    RUN as u32
+        + DUAL_PLACE * DUAL as u32
+        + NUMBER_PLACE * NO_NUMBER as u32
+        + NAMES_PLACE * NO_NAMES as u32
+        + SORT_PLACE * NO_SORT
+        + OTHER_PLACE * NO_SORT,
     // Object
-    Row {
-        shape: RUN,
-        dual: DUAL,
-        number: NO_NUMBER,
-        names: CHILD_NAMES,
-        sort: NO_SORT,
-        other: NO_SORT,
-    },
+    RUN as u32
+        + DUAL_PLACE * DUAL as u32
+        + NUMBER_PLACE * NO_NUMBER as u32
+        + NAMES_PLACE * CHILD_NAMES as u32
+        + SORT_PLACE * NO_SORT
+        + OTHER_PLACE * NO_SORT,
     // Opaque
-    Row {
-        shape: RUN,
-        dual: NOT_DUAL,
-        number: DEFINITION,
-        names: NO_NAMES,
-        sort: OPAQUE_SORT,
-        other: OPAQUE_SORT,
-    },
+    RUN as u32
+        + DUAL_PLACE * NOT_DUAL as u32
+        + NUMBER_PLACE * DEFINITION as u32
+        + NAMES_PLACE * NO_NAMES as u32
+        + SORT_PLACE * OPAQUE_SORT
+        + OTHER_PLACE * OPAQUE_SORT,
     // Struct
-    Row {
-        shape: RUN,
-        dual: AS_CHART,
-        number: DEFINITION,
-        names: NO_NAMES,
-        sort: STRUCT_SORT,
-        other: STRUCT_SORT,
-    },
+    RUN as u32
+        + DUAL_PLACE * AS_CHART as u32
+        + NUMBER_PLACE * DEFINITION as u32
+        + NAMES_PLACE * NO_NAMES as u32
+        + SORT_PLACE * STRUCT_SORT
+        + OTHER_PLACE * STRUCT_SORT,
     // Enum
-    Row {
-        shape: RUN,
-        dual: NOT_DUAL,
-        number: DEFINITION,
-        names: NO_NAMES,
-        sort: ENUM_SORT,
-        other: ENUM_SORT,
-    },
+    RUN as u32
+        + DUAL_PLACE * NOT_DUAL as u32
+        + NUMBER_PLACE * DEFINITION as u32
+        + NAMES_PLACE * NO_NAMES as u32
+        + SORT_PLACE * ENUM_SORT
+        + OTHER_PLACE * ENUM_SORT,
     // Union
-    Row {
-        shape: RUN,
-        dual: AS_CHART,
-        number: DEFINITION,
-        names: NO_NAMES,
-        sort: UNION_SORT,
-        other: UNION_SORT,
-    },
+    RUN as u32
+        + DUAL_PLACE * AS_CHART as u32
+        + NUMBER_PLACE * DEFINITION as u32
+        + NAMES_PLACE * NO_NAMES as u32
+        + SORT_PLACE * UNION_SORT
+        + OTHER_PLACE * UNION_SORT,
     // Fn
-    Row {
-        shape: NO_CHILDREN,
-        dual: NOT_DUAL,
-        number: DEFINITION,
-        names: NO_NAMES,
-        sort: CONCRETE_FN_SORT,
-        other: TRAIT_FN_SORT,
-    },
+    NO_CHILDREN as u32
+        + DUAL_PLACE * NOT_DUAL as u32
+        + NUMBER_PLACE * DEFINITION as u32
+        + NAMES_PLACE * NO_NAMES as u32
+        + SORT_PLACE * CONCRETE_FN_SORT
+        + OTHER_PLACE * TRAIT_FN_SORT,
     // Closure
-    Row {
-        shape: SIGNATURE,
-        dual: NOT_DUAL,
-        number: ANY_NUMBER,
-        names: PARAMETER_NAMES,
-        sort: NO_SORT,
-        other: NO_SORT,
-    },
+    SIGNATURE as u32
+        + DUAL_PLACE * NOT_DUAL as u32
+        + NUMBER_PLACE * ANY_NUMBER as u32
+        + NAMES_PLACE * PARAMETER_NAMES as u32
+        + SORT_PLACE * NO_SORT
+        + OTHER_PLACE * NO_SORT,
     // Ref
-    Row {
-        shape: ONE,
-        dual: NOT_DUAL,
-        number: NO_NUMBER,
-        names: NO_NAMES,
-        sort: NO_SORT,
-        other: NO_SORT,
-    },
+    ONE as u32
+        + DUAL_PLACE * NOT_DUAL as u32
+        + NUMBER_PLACE * NO_NUMBER as u32
+        + NAMES_PLACE * NO_NAMES as u32
+        + SORT_PLACE * NO_SORT
+        + OTHER_PLACE * NO_SORT,
     // Key
-    Row {
-        shape: NO_CHILDREN,
-        dual: NOT_DUAL,
-        number: NO_NUMBER,
-        names: OWN_NAME,
-        sort: NO_SORT,
-        other: NO_SORT,
-    },
+    NO_CHILDREN as u32
+        + DUAL_PLACE * NOT_DUAL as u32
+        + NUMBER_PLACE * NO_NUMBER as u32
+        + NAMES_PLACE * OWN_NAME as u32
+        + SORT_PLACE * NO_SORT
+        + OTHER_PLACE * NO_SORT,
     // IfConst
-    Row {
-        shape: TWO,
-        dual: DUAL,
-        number: DEFINITION,
-        names: NO_NAMES,
-        sort: CONST_SORT,
-        other: CONST_SORT,
-    },
+    TWO as u32
+        + DUAL_PLACE * DUAL as u32
+        + NUMBER_PLACE * DEFINITION as u32
+        + NAMES_PLACE * NO_NAMES as u32
+        + SORT_PLACE * CONST_SORT
+        + OTHER_PLACE * CONST_SORT,
     // Never
-    Row {
-        shape: NO_CHILDREN,
-        dual: NOT_DUAL,
-        number: NO_NUMBER,
-        names: NO_NAMES,
-        sort: NO_SORT,
-        other: NO_SORT,
-    },
+    NO_CHILDREN as u32
+        + DUAL_PLACE * NOT_DUAL as u32
+        + NUMBER_PLACE * NO_NUMBER as u32
+        + NAMES_PLACE * NO_NAMES as u32
+        + SORT_PLACE * NO_SORT
+        + OTHER_PLACE * NO_SORT,
     // Default
-    Row {
-        shape: NO_CHILDREN,
-        dual: DUAL,
-        number: NO_NUMBER,
-        names: NO_NAMES,
-        sort: NO_SORT,
-        other: NO_SORT,
-    },
+    NO_CHILDREN as u32
+        + DUAL_PLACE * DUAL as u32
+        + NUMBER_PLACE * NO_NUMBER as u32
+        + NAMES_PLACE * NO_NAMES as u32
+        + SORT_PLACE * NO_SORT
+        + OTHER_PLACE * NO_SORT,
     // Error
-    Row {
-        shape: NO_CHILDREN,
-        dual: DUAL,
-        number: NO_NUMBER,
-        names: NO_NAMES,
-        sort: NO_SORT,
-        other: NO_SORT,
-    },
+    NO_CHILDREN as u32
+        + DUAL_PLACE * DUAL as u32
+        + NUMBER_PLACE * NO_NUMBER as u32
+        + NAMES_PLACE * NO_NAMES as u32
+        + SORT_PLACE * NO_SORT
+        + OTHER_PLACE * NO_SORT,
 ];
+
+// The row that no kind has.
+pub const NO_ROW: u32 = SORT_PLACE * NO_SORT + OTHER_PLACE * NO_SORT;
+
+// The row that a number says.
+fn row_in(number: u32) -> Row
+    ensures { λ r. ⌜ r ≡ rowIn number ⌝ }
+{
+    Row {
+        shape: (number % DIGITS) as u8,
+        dual: (number / DUAL_PLACE % DIGITS) as u8,
+        number: (number / NUMBER_PLACE % DIGITS) as u8,
+        names: (number / NAMES_PLACE % DIGITS) as u8,
+        sort: number / SORT_PLACE % DIGITS,
+        other: number / OTHER_PLACE,
+    }
+}
 
 // A code above 14 has a row that no kind has.
 pub fn row_of(code: u32) -> Row
     ensures { λ r. ⌜ asRow r ≡ rowOf code ⌝ }
 {
     if code <= ERROR {
-        ROWS[code as usize]
+        row_in(ROWS[code as usize])
     } else {
-        Row {
-            shape: NO_CHILDREN,
-            dual: NOT_DUAL,
-            number: NO_NUMBER,
-            names: NO_NAMES,
-            sort: NO_SORT,
-            other: NO_SORT,
-        }
+        row_in(NO_ROW)
     }
 }
 

@@ -233,7 +233,19 @@ fn write_slot(s: &mut [u32], c: Slot)
 pub fn child_at(ks: &[u32], i: usize) -> Slot
     ensures { λ r. ⌜ slotMeans r ≡ slotAt (now (ks .entry)) i ⌝ }
 {
-    if ks.len() / CHILD_WORDS < i {
+    let whole = ks.len() / CHILD_WORDS;
+    if i < whole {
+        let a = i * CHILD_WORDS;
+        return Slot {
+            ty: Type(ks[a]),
+            name: Name {
+                text: ks[a + 1],
+                start: ks[a + 2],
+                len: ks[a + 3],
+            },
+        };
+    }
+    if whole < i {
         return Slot {
             ty: Type(0),
             name: NO_NAME,

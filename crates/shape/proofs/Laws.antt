@@ -49,14 +49,13 @@ module _ (p : ℕ → Up) where
   pub climb-deep : {roots : List ℕ} {depth v : ℕ} → TrueRoots p roots → depth ≡ 0 → Climbed p depth v roots roots false
   climb-deep {v = v} r z = record { right = r; stay = λ u l. l; known = λ q. absurd (false≢true q); lost = λ _. rw z (ends-none (upward p) v) }
 
-  pub climb-root : {roots roots′ : List ℕ} {depth v m z : ℕ} → v < MAX-NODES → TrueRoots p roots → m ≡ getD roots v 0 → m ≡ 0 → p v ≡ Root z
-      → roots′ ≡ set roots v (v + 1) → Climbed p depth v roots roots′ true
-  climb-root {roots} {v = v} l r e y f s =
+  pub climb-root : {roots roots′ : List ℕ} {depth v z : ℕ} → v < MAX-NODES → TrueRoots p roots → p v ≡ Root z → roots′ ≡ set roots v (v + 1) → Climbed p depth v roots roots′ true
+  climb-root {roots} {v = v} l r f s =
       let q : v + 1 - 1 ≡ v = omega arith in
       let k = getD-set-same roots v (v + 1) 0 (omega (arith, r .long)) in
       rw s record {
         right = right-set v (v + 1) l r (λ _. rw q (here f));
-        stay = stay-set roots roots v (v + 1) l r (omega arith) (λ u k. k);
+        stay = stored-by (λ u x. 0 < getD roots u 0 → 0 < x) roots v (v + 1) (omega (arith, r .long)) (λ _. omega arith) (λ u z k. k);
         known = λ _. omega arith;
         lost = λ z. absurd (false≢true (sym z));
       }

@@ -174,6 +174,36 @@ module _ (g : Graph) (n : ℕ) where
   pub visits-not : {v : ℕ} {marks marks′ : List ℕ} {r : Bool} → Tried v marks → r ≡ false → Visited g n v marks marks′ r → ends g n v ≡ false
   visits-not a t w = w .failed t n (λ u o. absurd (a .shut u o))
 
+  -- kids_done: the walks on from the places a to i end, if ok says so
+  pub record Ended (a i : ℕ) (ok : Bool) : Type 0 where
+    pub low : a ≤ i
+    pub each : ok ≡ true → (j : ℕ) → a ≤ j → j < i → ends g n (g .to j) ≡ true
+
+  pub ended-none : (a : ℕ) (ok : Bool) → Ended a a ok
+  ended-none a ok = record { low = omega arith; each = λ _ j k q. absurd (omega arith) }
+
+  pub ended-more : {a i k m : ℕ} {ok : Bool} {marks : List ℕ} → TrueMarks g n marks → Ended a i ok → k ≡ g .to i → m ≡ getD marks k 0 → m ≡ DONE → Ended a (i + 1) ok
+  ended-more {a} {i} {k} b w e f z = record {
+    low = omega (arith, w .low);
+    each = λ t j l q. below-more (λ x. a ≤ x → ends g n (g .to x) ≡ true) i (λ x y h. w .each t x h y) (λ _. rw (← e) (b .done k (sym f ∙ z))) j q l;
+  }
+
+  pub ended-not : {a i : ℕ} {ok : Bool} → Ended a i ok → Ended a (i + 1) false
+  ended-not w = record { low = omega (arith, w .low); each = λ t. absurd (false≢true t) }
+
+  pub ended-all : {v i : ℕ} {ok : Bool} → Closed g n → v < n → Ended (g .first v) i ok → g .first v + g .deg v ≤ i → ok ≡ true → ends g n v ≡ true
+  ended-all {v} c l w h t = ends-before g n c v l (λ j r. w .each t j (r .from) (omega (arith, r .below)))
+
+  pub visits-own : {v : ℕ} {marks : List ℕ} → Tried v marks → v < MAX-NODES → ends g n v ≡ true → Tried (v + 1) (set marks v DONE)
+  visits-own {v} {marks} a l t =
+      let k : v < length marks = omega (arith, a .marked .long) in
+      record {
+        marked = marked-set v DONE l (a .marked) (λ _. t);
+        ended = below-more _ _ (a .ended) t;
+        shut = λ u o. stored-by (λ y x. 0 < x → (x ≡ DONE → ⊥) → ⊥) marks v DONE k (λ _ q. q refl)
+            (λ y z p q. a .shut y (record { begun = p; unfinished = q })) u (o .begun) (o .unfinished);
+      }
+
 -- the root of a child is a node
 pub kids-closed : {ws ks roots : List ℕ} {n : ℕ} → Falls ws ks n roots → Closed (kids ws ks n roots) n
 kids-closed {ks = ks} a = record { inside = λ v i l r. a .rooted .below (kidAt ks i) (a .below v i l r) }
@@ -195,17 +225,33 @@ module _ {ws ks roots before : List ℕ} {n v : ℕ} (a : Visits ws ks n roots b
     pub run-first : {marks : List ℕ} → marks ≡ set before v OPEN → Passed (kids ws ks n roots) n v (k .first) marks marks
     run-first f = rw f (rw (ap firstOf (sym e ∙ q)) at (passed-none (kids ws ks n roots) n mark-small (a .marked)))
 
-    pub in-run : {i : ℕ} {marks₁ marks : List ℕ} → Passed (kids ws ks n roots) n v i marks₁ marks → i < k .first + k .count
-        → InRun (kids ws ks n roots) v i
-    in-run w l = record { from = w .low; below = rw (sym e ∙ q) l }
+    pub in-run : {i : ℕ} → kids ws ks n roots .first v ≤ i → i < k .first + k .count → InRun (kids ws ks n roots) v i
+    in-run w l = record { from = w; below = rw (sym e ∙ q) l }
 
     pub run-done : {i : ℕ} → k .first + k .count ≤ i → kids ws ks n roots .first v + kids ws ks n roots .deg v ≤ i
     run-done l = rw (sym e ∙ q) l
+
+    pub run-low : {i : ℕ} → k .first ≤ i → kids ws ks n roots .first v ≤ i
+    run-low l = rw (sym e ∙ q) l
+
+    pub run-ended : {i : ℕ} {ok : Bool} → Ended (kids ws ks n roots) n (k .first) i ok → k .first + k .count ≤ i → ok ≡ true → ends (kids ws ks n roots) n v ≡ true
+    run-ended w l = ended-all (kids ws ks n roots) n (kids-closed (a .falls)) (a .node) (rw (sym e ∙ q) w) (run-done l)
+
+  -- v holds no kind: it has no place to go through
+  pub ended-bare : {r : Held} → r ≡ heldIn (readAt ws n v) → r ≡ Nothing → ends (kids ws ks n roots) n v ≡ true
+  ended-bare e q =
+      let g : Graph = kids ws ks n roots in
+      let d : g .deg v ≡ 0 = ap countOf (sym e ∙ q) in
+      ended-all g n (kids-closed (a .falls)) (a .node) (ended-none g n (g .first v) true) (omega arith) refl
 
   pub kid-known : {i k : ℕ} → InRun (kids ws ks n roots) v i → k ≡ kidAt ks i → (k < MAX-NODES) × (0 < getD roots k 0)
   kid-known {i} r e =
       let l = a .falls .below v i (a .node) r in
       rw e (omega (arith, a .falls .rooted .few), a .falls .rooted .known (kidAt ks i) l)
+
+  -- a child's root has a mark
+  pub root-marked : {i k : ℕ} → InRun (kids ws ks n roots) v i → k ≡ rootOf roots (kidAt ks i) → k < MAX-NODES
+  root-marked {i} r e = omega (arith, kids-closed (a .falls) .inside v i (a .node) r, a .falls .rooted .few, e)
 
   pub visits-on : {i k : ℕ} {marks₁ marks : List ℕ} → Passed (kids ws ks n roots) n v i marks₁ marks → InRun (kids ws ks n roots) v i
       → k ≡ rootOf roots (kidAt ks i) → Visits ws ks n roots marks k

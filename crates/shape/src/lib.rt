@@ -1,6 +1,7 @@
 // Whether a store's nodes have the shape of sound ones: no parent cycle, each root's size its tree's node count, no child cycle.
 // Each node is climbed from once and visited once, so the time is linear in the nodes and their children.
 ghost use mathlib.Core.Path.{_≡_};
+ghost use mathlib.Core.Bool.{true};
 ghost use Prim.Native.Nat.{_≤_, _<_};
 ghost use lib.ListN.{length, getD, set};
 ghost use Rattle.scope.specs.Base.{all, from};
@@ -101,12 +102,20 @@ fn find_roots(ws: &[u32], n: u32, roots: &mut Table) -> bool
     requires { ⌜ ClimbsAll (now ws) (now roots) n ⌝ }
     ensures { λ r. ⌜ ClimbedAll (ups (now (ws .entry)) n) n (now (roots .exit)) r ⌝ }
 {
-    let mut v: u32 = 0;
-    while v < n {
-        if !climb(ws, n, roots, TypeIdx(v), n) {
-            return false;
+    let mut next: u32 = 0;
+    while next < n {
+        let v = TypeIdx(next);
+        next += 1;
+        match up_of(ws, n, v) {
+            Up::Root(_) => {
+                put(roots, v, next);
+            }
+            Up::Parent(_) => {
+                if !climb(ws, n, roots, v, n) {
+                    return false;
+                }
+            }
         }
-        v += 1;
     }
     true
 }
@@ -176,18 +185,47 @@ fn visit(ws: &[u32], ks: &[u32], n: u32, roots: &Table, marks: &mut Table, v: Ty
     true
 }
 
+// A quick yes to whether every walk from v ends: the roots of its children are done. Where nodes are made after their children this is always so.
+fn kids_done(ws: &[u32], ks: &[u32], n: u32, roots: &Table, marks: &Table, v: TypeIdx) -> bool
+    requires { ⌜ Visits (now ws) (now ks) n (now roots) (now marks) (v .0) ⌝ }
+    ensures { λ r. ⌜ (r ≡ true → ends (kids (now (ws .entry)) (now (ks .entry)) n (now (roots .entry))) n (v .0) ≡ true) ⌝ }
+{
+    let Held::Is(_, kind) = layout::held_at(ws, n, v) else {
+        return true;
+    };
+    let mut done = true;
+    let mut i = kind.first as usize;
+    let end = i + kind.count as usize;
+    while i < end {
+        let mark = at(marks, root_of(roots, kid_at(ks, i)));
+        i += 1;
+        if mark != DONE {
+            done = false;
+        }
+    }
+    done
+}
+
 // Whether no walk to the roots of children comes back.
 fn falls_ok(ws: &[u32], ks: &[u32], n: u32, roots: &Table) -> bool
     requires { ⌜ Falls (now ws) (now ks) n (now roots) ⌝ }
     ensures { λ r. ⌜ r ≡ all (ends (kids (now (ws .entry)) (now (ks .entry)) n (now (roots .entry))) n) (from 0 n) ⌝ }
 {
     let mut marks: Table = [0u32; MAX_NODES];
-    let mut v: u32 = 0;
-    while v < n {
-        if !visit(ws, ks, n, roots, &mut marks, TypeIdx(v)) {
+    let mut next: u32 = 0;
+    while next < n {
+        let v = TypeIdx(next);
+        next += 1;
+        if at(&marks, v) == DONE {
+            continue;
+        }
+        if kids_done(ws, ks, n, roots, &marks, v) {
+            put(&mut marks, v, DONE);
+            continue;
+        }
+        if !visit(ws, ks, n, roots, &mut marks, v) {
             return false;
         }
-        v += 1;
     }
     true
 }

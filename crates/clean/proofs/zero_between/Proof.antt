@@ -1,37 +1,30 @@
--- `clean::zero_between` meets its contract. The invariant: the words from i to e are zero just where those from a to e are.
--- The measure is what is left.
+-- `clean::zero_between` meets its contract. The invariant: the words before i are zero if `zero` says so, and it says so with those from i to e just where
+-- all words from a to e are. The measure is what is left.
 -- Assumes nothing.
 use mathlib.Core.Path.{_≡_, refl, sym, _∙_}
+use mathlib.Core.Bool.{_&&_}
 use Prim.Native.Nat.{_-_}
 use borrow.Author.Needs.{needs}
 use borrow.Author.Tests.{eq-eqb, ne-eqb}
 use Rattle.scope.specs.Base.{all, from}
-use Rattle.clean.proofs.Laws.{zeroAt, run-step, run-stop, run-end, zeros-run}
+use Rattle.clean.proofs.Laws.{zeroAt, flag-step, flag-stop, flag-end, zeros-run}
 use Rattle.clean.proofs.zero_between.Statement.{statement}
 use Rattle.clean.proofs.zero_between.Tie as tie
 
 abbrev Inv-loop : tie.InvT-loop
-Inv-loop s a e i₀ i = all (zeroAt s) (from a (e - a)) ≡ all (zeroAt s) (from i (e - i))
+Inv-loop s a e zero₀ i₀ zero i = all (zeroAt s) (from a (e - a)) ≡ (zero && all (zeroAt s) (from i (e - i)))
 
 abbrev μ-loop : tie.MeasureT-loop
-μ-loop s a e i₀ i = e - i
+μ-loop s a e zero₀ i₀ zero i = e - i
 
 loop-holds : tie.Need-loop-holds Inv-loop μ-loop
 loop-holds c = refl
 
-mul-if1 : tie.Need-mul-if1 Inv-loop μ-loop
-mul-if1 c = search needs
+mul-word : tie.Need-mul-word Inv-loop μ-loop
+mul-word c = search needs
 
-shared-slice-read-if1 : tie.Need-shared-slice-read-if1 Inv-loop μ-loop
-shared-slice-read-if1 c = search needs
-
-returns : tie.Need-returns Inv-loop μ-loop
-returns c =
-    let b = c .before .before .before .before in
-    let a = c .before .before .before .before .args in
-    let o = c .before .before .before .loop in
-    sym (zeros-run (a .s .now) (a .a) (a .e) (b .pre)
-    ∙ (o .inv ∙ run-stop (zeroAt (a .s .now)) (o .i) (a .e) (c .before .before .loop-test .taken) (ne-eqb _ _ (c .if1 .taken))))
+shared-slice-read-word : tie.Need-shared-slice-read-word Inv-loop μ-loop
+shared-slice-read-word c = search needs
 
 add-i : tie.Need-add-i Inv-loop μ-loop
 add-i c = search needs
@@ -43,14 +36,22 @@ loop-again : tie.Need-loop-again Inv-loop μ-loop
 loop-again c =
     let a = c .before .before .before .before .args in
     let o = c .before .before .before .loop in
-    o .inv ∙ run-step (zeroAt (a .s .now)) (o .i) (a .e) (c .before .before .loop-test .taken) (eq-eqb _ _ (c .if1 .left))
+    o .inv ∙ flag-stop (zeroAt (a .s .now)) (o .i) (a .e) (o .zero) (c .before .before .loop-test .taken) (ne-eqb _ _ (c .if1 .taken))
 
-returns-2 : tie.Need-returns-2 Inv-loop μ-loop
-returns-2 c =
-    let b = c .before .before in
+loop-less-2 : tie.Need-loop-less-2 Inv-loop μ-loop
+loop-less-2 c = search needs
+
+loop-again-2 : tie.Need-loop-again-2 Inv-loop μ-loop
+loop-again-2 c =
+    let a = c .before .before .before .before .args in
+    let o = c .before .before .before .loop in
+    o .inv ∙ flag-step (zeroAt (a .s .now)) (o .i) (a .e) (o .zero) (c .before .before .loop-test .taken) (eq-eqb _ _ (c .if1 .left))
+
+returns : tie.Need-returns Inv-loop μ-loop
+returns c =
     let a = c .before .before .args in
     let o = c .before .loop in
-    sym (zeros-run (a .s .now) (a .a) (a .e) (b .pre) ∙ (o .inv ∙ run-end (zeroAt (a .s .now)) (o .i) (a .e) (c .loop-test .left)))
+    sym (zeros-run (a .s .now) (a .a) (a .e) (c .before .before .pre) ∙ (o .inv ∙ flag-end (zeroAt (a .s .now)) (o .i) (a .e) (o .zero) (c .loop-test .left)))
 
 pub zero-between-spec : {M : Type 1} → statement M
 zero-between-spec =
@@ -59,10 +60,11 @@ zero-between-spec =
     Inv-loop
     μ-loop
     loop-holds
-    mul-if1
-    shared-slice-read-if1
-    returns
+    mul-word
+    shared-slice-read-word
     add-i
     loop-less
     loop-again
-    returns-2)
+    loop-less-2
+    loop-again-2
+    returns)

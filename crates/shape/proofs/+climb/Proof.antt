@@ -85,12 +85,10 @@ climb-put-requires-2 t c κs =
 
 climb-returns-4 : (t : ℕ) → climb-lts.Need-returns-4 (climb-claims t) (climb-at t) climb.Post
 climb-returns-4 t c =
-    let at = c .before .before .before .before .before .before .before .before .at in
-    let if1 = c .before .before .before .before .before .before .before .if1 in
     let up-of = c .before .before .before .before .before .up-of in
     let enum-told = c .before .before .before .enum-told in
     let s = c .before .before .before .before .before .before .before .before .before .before .before .pre .1 in
-    laws.climb-root _ (laws.climbs-small s) (s .right) (at .ensures) (if1 .left) (sym (up-of .ensures) ∙ enum-told .given .1) (c .put .ensures)
+    laws.climb-root _ (laws.climbs-small s) (s .right) (sym (up-of .ensures) ∙ enum-told .given .1) (c .put .ensures)
 
 climb-returns-5 : (t : ℕ) → climb-lts.Need-returns-5 (climb-claims t) (climb-at t) climb.Post
 climb-returns-5 t c =

@@ -107,7 +107,7 @@ visit-root-of-requires t c κs =
     let held-at = c .before .before .before .before .before .before .before .before .held-at in
     let kind = c .before .before .before .before .before .before .kind in
     let s = c .before .before .before .before .before .before .before .before .before .before .before .before .before .before .before .before .before .pre .1 in
-    let run = laws.in-run s (held-at .ensures) (kind .given .1) (c .before .before .loop .inv) (c .before .loop-test .taken) in
+    let run = laws.in-run s (held-at .ensures) (kind .given .1) (c .before .before .loop .inv .low) (c .before .loop-test .taken) in
     laws.kid-known s run (c .kid-at .ensures)
 
 visit-visit-requires : (t : ℕ) → visit-lts.Need-visit-requires (visit-claims t) (visit-at t) visit.Post visit-Inv-loop visit-μ-loop
@@ -121,7 +121,7 @@ visit-visit-requires t c κs =
     let s = c .before .before .before .before .before .before .before .before .before .before .before .before .before .before .before .before .before .before .before in
     let p = s .pre .1 in
     let inv = c .before .before .before .before .loop .inv in
-    let run = laws.in-run p (held-at .ensures) (kind .given .1) inv (loop-test .taken) in
+    let run = laws.in-run p (held-at .ensures) (kind .given .1) (inv .low) (loop-test .taken) in
     let kid = c .before .root-of .ensures ∙ ap (rootOf (s .args .roots .now)) (c .before .before .kid-at .ensures) in
     let new = sym (at .ensures) ∙ if2 .left in
     let less = laws.fresh-less _ _ (p .marked) (laws.mark-small p) (rw (put .ensures) at inv) (p .node) new in
@@ -138,7 +138,7 @@ visit-returns-4 t c =
     let s = c .before .before .before .before .before .before .before .before .before .before .before .before .before .before .before .before .before .before .before .before .before in
     let p = s .pre .1 in
     let inv = c .before .before .before .before .before .before .loop .inv in
-    let run = laws.in-run p (held-at .ensures) (kind .given .1) inv (loop-test .taken) in
+    let run = laws.in-run p (held-at .ensures) (kind .given .1) (inv .low) (loop-test .taken) in
     let kid = root-of .ensures ∙ ap (rootOf (s .args .roots .now)) (kid-at .ensures) in
     laws.visit-failed _ _ (p .marked) (laws.mark-small p) (rw (put .ensures) at inv) run kid (not-true _ (c .if3 .taken)) (c .before .visit .ensures)
 
