@@ -1,5 +1,5 @@
 // The public calls that ask a question of a type through its root, on any numbers at all: `is_nil`, `self_inverse`, `get_mod` and `find_related`. Each tests
-// and refuses, or answers what document 01 says. Refusals come in the order 2, 8, 3, 7.
+// chart and store and refuses with 2 or 8, or is its form for a tested store.
 ghost use mathlib.Core.Path.{_≡_};
 ghost use mathlib.Core.Bool.{false};
 ghost use Rattle.scope.specs.Types.{tyOf};
@@ -7,20 +7,13 @@ ghost use Rattle.scope.specs.Calls.{findRelatedCall, selfInverseCall, isNilCall
 ghost use Rattle.layout.specs.Words.{lentOf, storeIn};
 ghost use Rattle.sound.specs.Tests.{envIn};
 ghost use Rattle.promise.specs.Promise.{boolReply, outcomeBy};
-ghost use Rattle.call_ask.specs.Replies.{modReply, MarksPromised};
+ghost use Rattle.tested_ask.specs.Replies.{modReply, MarksPromised};
 use chart::Beside;
 use promise::BoolAnswer;
 use promise::DoneAnswer;
-use promise::refusal_at;
 use refusals::NO_REFUSAL;
+pub use tested_ask::ModAnswer;
 use types::Type;
-use walk::Mod;
-
-// get_mod's answer, or a refusal's number.
-pub enum ModAnswer {
-    Is(Mod),
-    Refused(u32),
-}
 
 // A Tuple of nothing.
 pub fn is_nil<'a>(
@@ -37,12 +30,11 @@ pub fn is_nil<'a>(
         (envIn (now (chart .entry)) beside (now (rule .entry)) (now (text .entry))) (lentOf (now (h .entry)) (now (ws .entry)) (now (ks .entry))) (tyOf (t .0))
         ≡ outcomeBy (boolReply r) (storeIn (now (h .entry)) (now (ws .entry)) (now (ks .entry))) ⌝ }
 {
-    let code = refusal_at(chart, beside, rule, text, h, ws, ks, t);
+    let code = sound::refusal(chart, beside, rule, text, h, ws, ks);
     if code != NO_REFUSAL {
         return BoolAnswer::Refused(code);
     }
-    let x = layout::read_header(h);
-    BoolAnswer::Is(walk::is_nil(ws, x.nodes, t))
+    tested_ask::is_nil(chart, beside, rule, text, h, ws, ks, t)
 }
 
 // `_self_inverse`: a Param counts as param says.
@@ -61,12 +53,11 @@ pub fn self_inverse_param<'a>(
         (envIn (now (chart .entry)) beside (now (rule .entry)) (now (text .entry))) (lentOf (now (h .entry)) (now (ws .entry)) (now (ks .entry))) (tyOf (t .0)) param
         ≡ outcomeBy (boolReply r) (storeIn (now (h .entry)) (now (ws .entry)) (now (ks .entry))) ⌝ }
 {
-    let code = refusal_at(chart, beside, rule, text, h, ws, ks, t);
-    if code != NO_REFUSAL {
-        return BoolAnswer::Refused(code);
+    let broken = sound::refusal(chart, beside, rule, text, h, ws, ks);
+    if broken != NO_REFUSAL {
+        return BoolAnswer::Refused(broken);
     }
-    let x = layout::read_header(h);
-    BoolAnswer::Is(walk::self_inverse(ws, ks, x.nodes, t, param))
+    tested_ask::self_inverse_param(chart, beside, rule, text, h, ws, ks, t, param)
 }
 
 // "`self_inverse` holds where the root has a self-dual kind and it holds of every child; never where there is no kind."
@@ -102,12 +93,11 @@ pub fn get_mod<'a>(
         (envIn (now (chart .entry)) beside (now (rule .entry)) (now (text .entry))) (lentOf (now (h .entry)) (now (ws .entry)) (now (ks .entry))) (tyOf (t .0))
         ≡ outcomeBy (modReply r) (storeIn (now (h .entry)) (now (ws .entry)) (now (ks .entry))) ⌝ }
 {
-    let code = refusal_at(chart, beside, rule, text, h, ws, ks, t);
-    if code != NO_REFUSAL {
-        return ModAnswer::Refused(code);
+    let lent = sound::refusal(chart, beside, rule, text, h, ws, ks);
+    if lent != NO_REFUSAL {
+        return ModAnswer::Refused(lent);
     }
-    let x = layout::read_header(h);
-    ModAnswer::Is(walk::get_mod(ws, ks, x.nodes, chart, t))
+    tested_ask::get_mod(chart, beside, rule, text, h, ws, ks, t)
 }
 
 // "`find_related` (lent marks, a byte for each node: nonzero means already in the set, and 1 is written for each root added; too few marks: 7)"
@@ -127,14 +117,9 @@ pub fn find_related<'a>(
         (tyOf (t .0)) (now (marks .entry)))
         r (storeIn (now (h .entry)) (now (ws .entry)) (now (ks .entry))) (now (marks .entry)) (now (marks .exit)) ⌝ }
 {
-    let code = refusal_at(chart, beside, rule, text, h, ws, ks, t);
-    if code != NO_REFUSAL {
-        return DoneAnswer::Refused(code);
+    let refused = sound::refusal(chart, beside, rule, text, h, ws, ks);
+    if refused != NO_REFUSAL {
+        return DoneAnswer::Refused(refused);
     }
-    let x = layout::read_header(h);
-    if marks.len() < x.nodes as usize {
-        return DoneAnswer::Refused(refusals::SHORT);
-    }
-    walk::find_related(ws, ks, x.nodes, marks, t);
-    DoneAnswer::Done
+    tested_ask::find_related(chart, beside, rule, text, h, ws, ks, marks, t)
 }

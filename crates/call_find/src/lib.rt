@@ -1,4 +1,4 @@
-// The calls `find` and `find_mut` on any numbers at all: each tests and refuses, or answers what document 01 says. Refusals come in the order 2, 8, 3.
+// The calls `find` and `find_mut` on any numbers at all: each tests chart and store and refuses with 2 or 8, or is its form for a tested store.
 ghost use mathlib.Core.Path.{_≡_};
 ghost use Rattle.scope.specs.Types.{tyOf};
 ghost use Rattle.scope.specs.Calls.{findCall, findMutCall};
@@ -7,7 +7,6 @@ ghost use Rattle.sound.specs.Tests.{envIn};
 ghost use Rattle.promise.specs.Promise.{typeReply, outcomeBy, Promised};
 use chart::Beside;
 use promise::TypeAnswer;
-use promise::refusal_at;
 use refusals::NO_REFUSAL;
 use types::Type;
 
@@ -26,12 +25,11 @@ pub fn find<'a>(
         (envIn (now (chart .entry)) beside (now (rule .entry)) (now (text .entry))) (lentOf (now (h .entry)) (now (ws .entry)) (now (ks .entry))) (tyOf (t .0))
         ≡ outcomeBy (typeReply r) (storeIn (now (h .entry)) (now (ws .entry)) (now (ks .entry))) ⌝ }
 {
-    let code = refusal_at(chart, beside, rule, text, h, ws, ks, t);
+    let code = sound::refusal(chart, beside, rule, text, h, ws, ks);
     if code != NO_REFUSAL {
         return TypeAnswer::Refused(code);
     }
-    let x = layout::read_header(h);
-    TypeAnswer::Is(roots::find(ws, x.nodes, t))
+    tested_find::find(chart, beside, rule, text, h, ws, ks, t)
 }
 
 // "`find_mut` also points every node on the path straight at the root, keeping each node's meaning."
@@ -49,10 +47,9 @@ pub fn find_mut<'a>(
         (findMutCall (envIn (now (chart .entry)) beside (now (rule .entry)) (now (text .entry))) (lentOf (now (h .entry)) (now (ws .entry)) (now (ks .entry))) (tyOf (t .0)))
         (typeReply r) (now (h .entry)) (now (ws .entry)) (now (ks .entry)) (now (h .entry)) (now (ws .exit)) (now (ks .entry)) ⌝ }
 {
-    let refused = refusal_at(chart, beside, rule, text, h, ws, ks, t);
+    let refused = sound::refusal(chart, beside, rule, text, h, ws, ks);
     if refused != NO_REFUSAL {
         return TypeAnswer::Refused(refused);
     }
-    let x = layout::read_header(h);
-    TypeAnswer::Is(roots::find_mut(ws, x.nodes, t))
+    tested_find::find_mut(chart, beside, rule, text, h, ws, ks, t)
 }

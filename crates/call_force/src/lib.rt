@@ -1,37 +1,16 @@
-// The calls `force_kind`, `finish_inference` and `finish_inference_where` on any numbers at all: each tests and refuses, or does what document 01 says.
-// Refusals come in the order 2, 8, 3.
+// The calls `force_kind`, `finish_inference` and `finish_inference_where` on any numbers at all: each tests chart and store and refuses with 2 or 8, or is its
+// form for a tested store.
 ghost use Rattle.scope.specs.Types.{tyOf};
 ghost use Rattle.scope.specs.Calls.{forceKindCall, finishInferenceCall, finishWhereCall};
 ghost use Rattle.layout.specs.Words.{lentOf};
 ghost use Rattle.sound.specs.Tests.{envIn};
 ghost use Rattle.promise.specs.Promise.{doneReply, Promised};
-ghost use Rattle.call_force.specs.Replies.{Answers, ForcePromised};
+ghost use Rattle.tested_force.specs.Replies.{ForcePromised};
 use chart::Beside;
-use force::Forced;
-use layout::Kind;
 use promise::DoneAnswer;
 use refusals::NO_REFUSAL;
-use types::Inverted;
+pub use tested_force::ForcedAnswer;
 use types::Type;
-
-// A forced type's inversion and kind; or none, and then the span of one that had not failed before; or a refusal's number.
-pub enum ForcedAnswer {
-    Known(Inverted, Kind),
-    Reported(u32),
-    Failed,
-    Refused(u32),
-}
-
-// What the core answers, as the call does.
-fn answer(forced: Forced) -> ForcedAnswer
-    ensures { λ r. ⌜ Answers forced r ⌝ }
-{
-    match forced {
-        Forced::Known(i, kind) => ForcedAnswer::Known(i, kind),
-        Forced::Reported(span) => ForcedAnswer::Reported(span),
-        Forced::Failed => ForcedAnswer::Failed,
-    }
-}
 
 // "A Known gives its kind and its inversion combined with the type's. An Unknown becomes InferenceFailed, its span is in the answer and one report count rises."
 pub fn force_kind<'a>(
@@ -48,11 +27,11 @@ pub fn force_kind<'a>(
         (forceKindCall (envIn (now (chart .entry)) beside (now (rule .entry)) (now (text .entry))) (lentOf (now (h .entry)) (now (ws .entry)) (now (ks .entry))) (tyOf (t .0)))
         r (now (h .entry)) (now (ws .entry)) (now (ks .entry)) (now (h .exit)) (now (ws .exit)) ⌝ }
 {
-    let code = promise::refusal_at(chart, beside, rule, text, h, ws, ks, t);
+    let code = sound::refusal(chart, beside, rule, text, h, ws, ks);
     if code != NO_REFUSAL {
         return ForcedAnswer::Refused(code);
     }
-    answer(force::force_kind(h, ws, ks, t))
+    tested_force::force_kind(chart, beside, rule, text, h, ws, ks, t)
 }
 
 // "only roots without a kind change, each to Default uninverted"
@@ -73,8 +52,7 @@ pub fn finish_inference<'a>(
     if broken != NO_REFUSAL {
         return DoneAnswer::Refused(broken);
     }
-    force::finish_inference(h, ws, ks);
-    DoneAnswer::Done
+    tested_force::finish_inference(chart, beside, rule, text, h, ws, ks)
 }
 
 // "a lent byte for each node, nonzero chooses, absent means no"
@@ -97,6 +75,5 @@ pub fn finish_inference_where<'a>(
     if lent != NO_REFUSAL {
         return DoneAnswer::Refused(lent);
     }
-    force::finish_inference_where(h, ws, ks, bytes);
-    DoneAnswer::Done
+    tested_force::finish_inference_where(chart, beside, rule, text, h, ws, ks, bytes)
 }

@@ -1,41 +1,15 @@
-// The calls that fill a store with variables, the error type and nil, on any numbers at all: each tests and refuses, or makes what document 01 says.
-// Refusals come in 01's order: 2 and 8, then 10 and 7.
-ghost use mathlib.Core.Path.{_≡_};
+// The calls that fill a store with variables, the error type and nil, on any numbers at all: each tests chart and store and refuses with 2 or 8, or is its
+// form for a tested store.
 ghost use lib.ListN.{length};
-ghost use Rattle.scope.specs.Calls.{nodesFor, newVarCall, newVarsCall, errorCall, nilCall};
+ghost use Rattle.scope.specs.Calls.{newVarCall, newVarsCall, errorCall, nilCall};
 ghost use Rattle.layout.specs.Words.{lentOf};
-ghost use Rattle.layout.specs.Meaning.{rememberedMeans};
 ghost use Rattle.sound.specs.Tests.{envIn};
 ghost use Rattle.promise.specs.Promise.{typeReply, Promised};
 ghost use Rattle.promise.specs.Lists.{ListPromised};
-ghost use Rattle.call_make.specs.Room.{RoomTested};
 use chart::Beside;
-use layout::Remembered;
 use promise::DoneAnswer;
 use promise::TypeAnswer;
 use refusals::NO_REFUSAL;
-use refusals::SHORT;
-
-// The first of refusals 2, 8 and 10 that stands where so many nodes more are to be made, and 0 where none does.
-fn refusal_for<'a>(
-    chart: &[u32],
-    beside: Beside,
-    rule: &'a [u8],
-    text: &'a [u8],
-    h: &[u32],
-    ws: &[u32],
-    ks: &[u32],
-    nodes: u32,
-) -> u32
-    ensures { λ r. ⌜ RoomTested (now (chart .entry)) beside (now (rule .entry)) (now (text .entry)) (now (h .entry)) (now (ws .entry)) (now (ks .entry))
-        (λ _. nodes) r ⌝ }
-{
-    let lent = sound::refusal(chart, beside, rule, text, h, ws, ks);
-    if lent != NO_REFUSAL {
-        return lent;
-    }
-    refusals::room(h, nodes, 0)
-}
 
 // "`new_var`": a type without a kind, and its span.
 pub fn new_var<'a>(
@@ -52,11 +26,11 @@ pub fn new_var<'a>(
         (newVarCall (envIn (now (chart .entry)) beside (now (rule .entry)) (now (text .entry))) (lentOf (now (h .entry)) (now (ws .entry)) (now (ks .entry))) span)
         (typeReply r) (now (h .entry)) (now (ws .entry)) (now (ks .entry)) (now (h .exit)) (now (ws .exit)) (now (ks .entry)) ⌝ }
 {
-    let code = refusal_for(chart, beside, rule, text, h, ws, ks, 1);
+    let code = sound::refusal(chart, beside, rule, text, h, ws, ks);
     if code != NO_REFUSAL {
         return TypeAnswer::Refused(code);
     }
-    TypeAnswer::Is(make::new_var(h, ws, ks, span))
+    tested_make::new_var(chart, beside, rule, text, h, ws, ks, span)
 }
 
 // `count` types without a kind; they stand at the front of `out`. "The count given to `new_vars` is limited by 10 and 7 only"
@@ -78,25 +52,11 @@ pub fn new_vars<'a>(
         r count (now (h .entry)) (now (ws .entry)) (now (ks .entry)) (now (h .exit)) (now (ws .exit)) (now (ks .entry))
         (now (out .entry)) (now (out .exit)) ⌝ }
 {
-    let code = refusal_for(chart, beside, rule, text, h, ws, ks, count);
-    if code != NO_REFUSAL {
-        return DoneAnswer::Refused(code);
+    let lent = sound::refusal(chart, beside, rule, text, h, ws, ks);
+    if lent != NO_REFUSAL {
+        return DoneAnswer::Refused(lent);
     }
-    if out.len() < count as usize {
-        return DoneAnswer::Refused(SHORT);
-    }
-    make::new_vars(h, ws, ks, span, count, out);
-    DoneAnswer::Done
-}
-
-// `error` and `nil` "make one node each and return it until `reset`".
-pub fn nodes_for(was: Remembered) -> u32
-    ensures { λ r. ⌜ r ≡ nodesFor (rememberedMeans was) ⌝ }
-{
-    match was {
-        Remembered::Is(_) => 0,
-        Remembered::Nothing => 1,
-    }
+    tested_make::new_vars(chart, beside, rule, text, h, ws, ks, span, count, out)
 }
 
 // The error type.
@@ -113,13 +73,11 @@ pub fn error<'a>(
         (errorCall (envIn (now (chart .entry)) beside (now (rule .entry)) (now (text .entry))) (lentOf (now (h .entry)) (now (ws .entry)) (now (ks .entry))))
         (typeReply r) (now (h .entry)) (now (ws .entry)) (now (ks .entry)) (now (h .exit)) (now (ws .exit)) (now (ks .entry)) ⌝ }
 {
-    let x = layout::read_header(h);
-    let was = x.error;
-    let code = refusal_for(chart, beside, rule, text, h, ws, ks, nodes_for(was));
-    if code != NO_REFUSAL {
-        return TypeAnswer::Refused(code);
+    let broken = sound::refusal(chart, beside, rule, text, h, ws, ks);
+    if broken != NO_REFUSAL {
+        return TypeAnswer::Refused(broken);
     }
-    TypeAnswer::Is(make::error(h, ws, ks))
+    tested_make::error(chart, beside, rule, text, h, ws, ks)
 }
 
 // The type of nothing: a Tuple without children.
@@ -136,11 +94,9 @@ pub fn nil<'a>(
         (nilCall (envIn (now (chart .entry)) beside (now (rule .entry)) (now (text .entry))) (lentOf (now (h .entry)) (now (ws .entry)) (now (ks .entry))))
         (typeReply r) (now (h .entry)) (now (ws .entry)) (now (ks .entry)) (now (h .exit)) (now (ws .exit)) (now (ks .entry)) ⌝ }
 {
-    let x = layout::read_header(h);
-    let was = x.nil;
-    let code = refusal_for(chart, beside, rule, text, h, ws, ks, nodes_for(was));
-    if code != NO_REFUSAL {
-        return TypeAnswer::Refused(code);
+    let refused = sound::refusal(chart, beside, rule, text, h, ws, ks);
+    if refused != NO_REFUSAL {
+        return TypeAnswer::Refused(refused);
     }
-    TypeAnswer::Is(make::nil(h, ws, ks))
+    tested_make::nil(chart, beside, rule, text, h, ws, ks)
 }

@@ -1,168 +1,19 @@
-// The public calls that read a store, on any numbers at all: a node as it stands, its children and names by their index, and the figures. Each tests and
-// refuses, or answers what document 01 says. Refusals come in the order 2, 8, 3.
+// The public calls that read a store, on any numbers at all: a node as it stands, its children and names by their index, and the figures. Each tests chart and
+// store and refuses with 2 or 8, or is its form for a tested store.
 ghost use mathlib.Core.Path.{_≡_};
-ghost use mathlib.Core.List.{map};
-ghost use lib.ListN.{getElem?};
 ghost use Rattle.scope.specs.Types.{tyOf};
-ghost use Rattle.scope.specs.Sound.{nameIn, slotName};
-ghost use Rattle.scope.specs.Calls.{childAt, flat, childNameAt, nodeCall, childCall, nameCall, figuresCall};
-ghost use Rattle.layout.specs.Words.{slots, lentOf, storeIn};
-ghost use Rattle.layout.specs.Meaning.{kindMeans, nodeMeans};
+ghost use Rattle.scope.specs.Calls.{nodeCall, childCall, nameCall, figuresCall};
+ghost use Rattle.layout.specs.Words.{lentOf, storeIn};
 ghost use Rattle.sound.specs.Tests.{envIn};
 ghost use Rattle.promise.specs.Promise.{outcomeBy};
-ghost use Rattle.call_read.specs.Replies.{kidMeans, namedMeans, Answers, NodePromised, childReply, nameReply, figuresReply};
+ghost use Rattle.tested_read.specs.Replies.{NodePromised, childReply, nameReply, figuresReply};
 use chart::Beside;
-use kinds::CHILD_NAMES;
-use kinds::OWN_NAME;
-use kinds::PARAMETER_NAMES;
-use layout::Header;
-use layout::Kind;
-use layout::TypeNode;
-use layout::TypeState;
-use names::Name;
-use promise::refusal_at;
 use refusals::NO_REFUSAL;
-use types::Inverted;
+pub use tested_read::ChildAnswer;
+pub use tested_read::FiguresAnswer;
+pub use tested_read::NameAnswer;
+pub use tested_read::NodeAnswer;
 use types::Type;
-
-// A child, if there is one.
-pub enum Kid {
-    Is(Type),
-    Nothing,
-}
-
-// A name, if there is one.
-pub enum Named {
-    Is(Name),
-    Nothing,
-}
-
-// A node as it stands, or a refusal's number. A root's last number is the size of its tree.
-pub enum NodeAnswer {
-    Known(Inverted, Kind, u32),
-    // The span, and the size.
-    Unknown(u32, u32),
-    InferenceFailed(u32),
-    // The parent.
-    Child(Type),
-    Refused(u32),
-}
-
-// A child, none past the end, or a refusal's number.
-pub enum ChildAnswer {
-    Is(Type),
-    Nothing,
-    Refused(u32),
-}
-
-// A name, none, or a refusal's number.
-pub enum NameAnswer {
-    Is(Name),
-    Nothing,
-    Refused(u32),
-}
-
-// What of a store is no node, or a refusal's number.
-pub enum FiguresAnswer {
-    Is(Header),
-    Refused(u32),
-}
-
-// Child j of a kind, none past the end.
-fn child_of_kind(ks: &[u32], kind: Kind, j: u32) -> Kid
-    ensures { λ r. ⌜ getElem? (kindMeans (now (ks .entry)) kind .kids) j ≡ kidMeans r ⌝ }
-{
-    if j < kind.count {
-        let kid = layout::child_of(ks, kind, j).ty;
-        return Kid::Is(kid);
-    }
-    Kid::Nothing
-}
-
-// Child j of a node that was read; a node without a kind has none.
-pub fn child_of_node(ks: &[u32], node: TypeNode, j: u32) -> Kid
-    ensures { λ r. ⌜ childAt (nodeMeans (now (ks .entry)) node) j ≡ kidMeans r ⌝ }
-{
-    match node {
-        TypeNode::Root { state, size: _ } => match state {
-            TypeState::Known(_, kind) => child_of_kind(ks, kind, j),
-            TypeState::Unknown(_) => Kid::Nothing,
-            TypeState::InferenceFailed => Kid::Nothing,
-        },
-        TypeNode::Child(_) => Kid::Nothing,
-    }
-}
-
-// A name as it lies in a store; no name is empty.
-fn name_in(n: Name) -> Named
-    ensures { λ r. ⌜ nameIn (n .text) (n .start) (n .len) ≡ namedMeans r ⌝ }
-{
-    if n.len == 0 {
-        return Named::Nothing;
-    }
-    Named::Is(n)
-}
-
-// Child j's name, among the first n of a kind's children.
-fn child_named(ks: &[u32], kind: Kind, n: u32, j: u32) -> Named
-    ensures { λ r. ⌜ flat (getElem? (map slotName (slots (now (ks .entry)) (kind .first) n)) j) ≡ namedMeans r ⌝ }
-{
-    if n <= j {
-        return Named::Nothing;
-    }
-    let kid = layout::child_of(ks, kind, j);
-    name_in(kid.name)
-}
-
-// Name j of a kind: its own is name 0; a child's has the child's number, and a Closure's return has none.
-fn name_of_kind(ks: &[u32], kind: Kind, j: u32) -> Named
-    ensures { λ r. ⌜ flat (getElem? (kindMeans (now (ks .entry)) kind .head .names) j) ≡ namedMeans r ⌝ }
-{
-    let names = kinds::row_of(kind.code).names;
-    if names == OWN_NAME {
-        if j == 0 {
-            return name_in(kind.name);
-        }
-        return Named::Nothing;
-    }
-    if names == CHILD_NAMES {
-        return child_named(ks, kind, kind.count, j);
-    }
-    if names == PARAMETER_NAMES {
-        if 0 < kind.count {
-            return child_named(ks, kind, kind.count - 1, j);
-        }
-    }
-    Named::Nothing
-}
-
-// Name j of a node that was read; a node without a kind has none.
-pub fn name_of_node(ks: &[u32], node: TypeNode, j: u32) -> Named
-    ensures { λ r. ⌜ childNameAt (nodeMeans (now (ks .entry)) node) j ≡ namedMeans r ⌝ }
-{
-    match node {
-        TypeNode::Root { state, size: _ } => match state {
-            TypeState::Known(_, kind) => name_of_kind(ks, kind, j),
-            TypeState::Unknown(_) => Named::Nothing,
-            TypeState::InferenceFailed => Named::Nothing,
-        },
-        TypeNode::Child(_) => Named::Nothing,
-    }
-}
-
-// A node that was read, as it is answered.
-fn answer(node: TypeNode) -> NodeAnswer
-    ensures { λ r. ⌜ Answers node r ⌝ }
-{
-    match node {
-        TypeNode::Root { state, size } => match state {
-            TypeState::Known(i, kind) => NodeAnswer::Known(i, kind, size),
-            TypeState::Unknown(span) => NodeAnswer::Unknown(span, size),
-            TypeState::InferenceFailed => NodeAnswer::InferenceFailed(size),
-        },
-        TypeNode::Child(parent) => NodeAnswer::Child(parent),
-    }
-}
 
 // A type's node as it stands, be it a root or a child.
 pub fn node<'a>(
@@ -179,12 +30,11 @@ pub fn node<'a>(
         (nodeCall (envIn (now (chart .entry)) beside (now (rule .entry)) (now (text .entry))) (lentOf (now (h .entry)) (now (ws .entry)) (now (ks .entry))) (tyOf (t .0)))
         r (now (h .entry)) (now (ws .entry)) (now (ks .entry)) ⌝ }
 {
-    let code = refusal_at(chart, beside, rule, text, h, ws, ks, t);
+    let code = sound::refusal(chart, beside, rule, text, h, ws, ks);
     if code != NO_REFUSAL {
         return NodeAnswer::Refused(code);
     }
-    let x = layout::read_header(h);
-    answer(layout::node_at(ws, x.nodes, t.idx()))
+    tested_read::node(chart, beside, rule, text, h, ws, ks, t)
 }
 
 // Child j of a type's node, none past the end.
@@ -203,15 +53,11 @@ pub fn child<'a>(
         (envIn (now (chart .entry)) beside (now (rule .entry)) (now (text .entry))) (lentOf (now (h .entry)) (now (ws .entry)) (now (ks .entry))) (tyOf (t .0)) j
         ≡ outcomeBy (childReply r) (storeIn (now (h .entry)) (now (ws .entry)) (now (ks .entry))) ⌝ }
 {
-    let code = refusal_at(chart, beside, rule, text, h, ws, ks, t);
-    if code != NO_REFUSAL {
-        return ChildAnswer::Refused(code);
+    let broken = sound::refusal(chart, beside, rule, text, h, ws, ks);
+    if broken != NO_REFUSAL {
+        return ChildAnswer::Refused(broken);
     }
-    let x = layout::read_header(h);
-    match child_of_node(ks, layout::node_at(ws, x.nodes, t.idx()), j) {
-        Kid::Is(kid) => ChildAnswer::Is(kid),
-        Kid::Nothing => ChildAnswer::Nothing,
-    }
+    tested_read::child(chart, beside, rule, text, h, ws, ks, t, j)
 }
 
 // Name j of a type's node, none past the end and where there is no name.
@@ -230,15 +76,11 @@ pub fn child_name<'a>(
         (envIn (now (chart .entry)) beside (now (rule .entry)) (now (text .entry))) (lentOf (now (h .entry)) (now (ws .entry)) (now (ks .entry))) (tyOf (t .0)) j
         ≡ outcomeBy (nameReply r) (storeIn (now (h .entry)) (now (ws .entry)) (now (ks .entry))) ⌝ }
 {
-    let code = refusal_at(chart, beside, rule, text, h, ws, ks, t);
-    if code != NO_REFUSAL {
-        return NameAnswer::Refused(code);
+    let lent = sound::refusal(chart, beside, rule, text, h, ws, ks);
+    if lent != NO_REFUSAL {
+        return NameAnswer::Refused(lent);
     }
-    let x = layout::read_header(h);
-    match name_of_node(ks, layout::node_at(ws, x.nodes, t.idx()), j) {
-        Named::Is(name) => NameAnswer::Is(name),
-        Named::Nothing => NameAnswer::Nothing,
-    }
+    tested_read::child_name(chart, beside, rule, text, h, ws, ks, t, j)
 }
 
 // Counts, capacities, remembered types and the report count.
@@ -255,9 +97,9 @@ pub fn figures<'a>(
         (envIn (now (chart .entry)) beside (now (rule .entry)) (now (text .entry))) (lentOf (now (h .entry)) (now (ws .entry)) (now (ks .entry)))
         ≡ outcomeBy (figuresReply (now (ws .entry)) (now (ks .entry)) r) (storeIn (now (h .entry)) (now (ws .entry)) (now (ks .entry))) ⌝ }
 {
-    let code = sound::refusal(chart, beside, rule, text, h, ws, ks);
-    if code != NO_REFUSAL {
-        return FiguresAnswer::Refused(code);
+    let refused = sound::refusal(chart, beside, rule, text, h, ws, ks);
+    if refused != NO_REFUSAL {
+        return FiguresAnswer::Refused(refused);
     }
-    FiguresAnswer::Is(layout::read_header(h))
+    tested_read::figures(chart, beside, rule, text, h, ws, ks)
 }

@@ -26,10 +26,10 @@ use Rattle.layout.proofs.StoreLaws.{clean-nodes, lent-clean}
 use Rattle.store.specs.Holds.{Became}
 use Rattle.store.proofs.Laws.{store-count}
 use Rattle.refusals.specs.Codes.{codeOf}
-use Rattle.refusals.proofs.Laws.{code-none, none-some, passed-first, code-first, code-next}
+use Rattle.refusals.proofs.Laws.{code-none, none-some, broken-next, passed-first, code-first, code-next}
 use Rattle.sound.specs.Tests.{envIn}
 use Rattle.sound.proofs.Laws.{sound-clean, env-ok, env-whole}
-use Rattle.promise.specs.Promise.{value, refusal, Promised, typesTests, TypesTested}
+use Rattle.promise.specs.Promise.{value, refusal, Promised, Tested, TypesTested, TypesInside}
 
 -- a store that 2 and 8 do not turn back
 
@@ -93,36 +93,39 @@ module _ (e : Env) (h ws ks : List ℕ) where
     pub lent-passed : firstBroken (lentTests e lent) ≡ none
     lent-passed = q ∙ code-none n z
 
-    pub types-test : (x : Header) → x ≡ headerIn h → (ts : List Ty) (b : Bool)
-        → ((ns : List Node) → length ns ≡ x .nodes → b ≡ all (inStore ns) ts) → firstBroken (typesTests e lent ts) ≡ firstBroken ((not b, OUTSIDE) ∷ [])
-    types-test x g ts b i =
-        code-next (lentTests e lent) (outside (storeOf lent) ts ∷ []) n q z
-        ∙ ap (λ (t : Bool × ℕ). firstBroken (t ∷ [])) (lent-outside lent-passed x g ts b i)
-
 -- numbers that 2 does not turn back are the chart of their records
 pub lent-env : (chart : List ℕ) (b : Beside) (rule text h ws ks : List ℕ) → firstBroken (lentTests (envIn chart b rule text) (lentOf h ws ks)) ≡ none
     → envIn chart b rule text ≡ envOf chart b rule text
 lent-env chart b rule text h ws ks q =
     env-whole chart b rule text (sym (env-ok chart b rule text) ∙ lent-chart (envIn chart b rule text) h ws ks q)
 
--- one type
+-- a tested store: once 2 and 8 are passed a call's tests are those of its arguments, asked of the store that the slices hold
 
-module _ (chart : List ℕ) (c : Beside) (rule text h ws ks : List ℕ) (t : Ty) (n : ℕ) (q : firstBroken (lentTests (envIn chart c rule text) (lentOf h ws ks)) ≡ codeOf n) where
+module _ {chart : List ℕ} {b : Beside} {rule text h ws ks : List ℕ} (q : Tested chart b rule text h ws ks) where
   abbrev env : Env
-  env = envIn chart c rule text
+  env = envIn chart b rule text
 
-  pub one-lent : (n ≡ 0 → ⊥) → TypesTested chart c rule text h ws ks (t ∷ []) n
-  one-lent z = record { first = lent-refused env h ws ks (outside (storeOf (lentOf h ws ks)) (t ∷ []) ∷ []) n q z }
+  pub tested-next : (us : Store → List (Bool × ℕ)) → firstBroken (lentTests env (lentOf h ws ks) ++ us (storeOf (lentOf h ws ks))) ≡ firstBroken (us (storeIn h ws ks))
+  tested-next us =
+      broken-next (lentTests env (lentOf h ws ks)) (us (storeOf (lentOf h ws ks))) (q .passed)
+      ∙ ap (λ (s : Store). firstBroken (us s)) (lent-store env h ws ks (q .passed))
 
-  module _ (z : n ≡ 0) {x : Header} (g : x ≡ headerIn h) {b : Bool} (i : (ns : List Node) → length ns ≡ x .nodes → b ≡ inStore ns t) where
-    one-test : firstBroken (typesTests env (lentOf h ws ks) (t ∷ [])) ≡ firstBroken ((not b, OUTSIDE) ∷ [])
-    one-test = types-test env h ws ks n q z x g (t ∷ []) b (λ ns m. i ns m ∙ sym (and-true (inStore ns t)))
+  pub inside-tested : {ts : List Ty} {n : ℕ} → TypesInside h ts n → TypesTested chart b rule text h ws ks ts n
+  inside-tested {ts} p = record { first = tested-next (λ s. outside s ts ∷ []) ∙ p .code ws ks }
 
-    pub one-outside : b ≡ false → TypesTested chart c rule text h ws ks (t ∷ []) OUTSIDE
-    one-outside f = record { first = one-test ∙ rw f }
+-- one type, by the header alone
 
-    pub one-inside : b ≡ true → TypesTested chart c rule text h ws ks (t ∷ []) 0
-    one-inside f = record { first = one-test ∙ rw f }
+module _ (h : List ℕ) {x : Header} (g : x ≡ headerIn h) (t : Ty) {b : Bool} (i : (ns : List Node) → length ns ≡ x .nodes → b ≡ inStore ns t) where
+  one-test : (ws ks : List ℕ) → firstBroken (outside (storeIn h ws ks) (t ∷ []) ∷ []) ≡ firstBroken ((not b, OUTSIDE) ∷ [])
+  one-test ws ks =
+      ap (λ (y : Bool). firstBroken ((not y, OUTSIDE) ∷ []))
+      (and-true (inStore (storeIn h ws ks .nodes) t) ∙ sym (i (storeIn h ws ks .nodes) (store-count h ws ks ∙ sym (ap (λ (y : Header). y .nodes) g))))
+
+  pub one-outside : b ≡ false → TypesInside h (t ∷ []) OUTSIDE
+  one-outside f = record { code = λ ws ks. one-test ws ks ∙ rw f }
+
+  pub one-inside : b ≡ true → TypesInside h (t ∷ []) 0
+  one-inside f = record { code = λ ws ks. one-test ws ks ∙ rw f }
 
 -- a call that is turned back, and one that is done
 

@@ -1,3 +1,4 @@
 pub mod Laws
 pub mod CallLaws
 pub mod ReadLaws
+pub mod BackLaws

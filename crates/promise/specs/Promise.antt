@@ -3,6 +3,7 @@
 use mathlib.Core.Path.{_≡_}
 use mathlib.Core.List.{List, [], _∷_, _++_}
 use mathlib.Core.Bool.{Bool, true, false}
+use mathlib.Core.Option.{none}
 use Prim.Native.Nat.{ℕ}
 use Rattle.scope.specs.Chart.{Env}
 use Rattle.scope.specs.Types.{Ty, tyOf}
@@ -60,6 +61,10 @@ pub record Promised {A : Type 0} (o : Outcome A) (r : Reply A) (h ws ks h′ ws�
   pub again : answered r ≡ true → Became h ws ks h′ ws′ ks′ (storeIn h′ ws′ ks′)
   pub kept : answered r ≡ false → AsFound h ws ks h′ ws′ ks′
 
+-- chart and store pass the tests of 2 and 8. Opening leaves such a store, and so does every call, so a call on what another left has no need to test it
+pub record Tested (chart : List ℕ) (b : Beside) (rule text h ws ks : List ℕ) : Type 0 where
+  pub passed : firstBroken (lentTests (envIn chart b rule text) (lentOf h ws ks)) ≡ none
+
 -- the tests of a call on listed types
 abbrev pub typesTests : Env → Lent → List Ty → List (Bool × ℕ)
 typesTests e l ts = lentTests e l ++ (outside (storeOf l) ts ∷ [])
@@ -67,3 +72,7 @@ typesTests e l ts = lentTests e l ++ (outside (storeOf l) ts ∷ [])
 -- n is the first of refusals 2, 8 and 3 that stands for a call on listed types, and 0 where none does
 pub record TypesTested (chart : List ℕ) (b : Beside) (rule text h ws ks : List ℕ) (ts : List Ty) (n : ℕ) : Type 0 where
   pub first : firstBroken (typesTests (envIn chart b rule text) (lentOf h ws ks) ts) ≡ codeOf n
+
+-- refusal 3 of listed types by the header alone, whatever nodes and children are
+pub record TypesInside (h : List ℕ) (ts : List Ty) (n : ℕ) : Type 0 where
+  pub code : (ws ks : List ℕ) → firstBroken (outside (storeIn h ws ks) ts ∷ []) ≡ codeOf n

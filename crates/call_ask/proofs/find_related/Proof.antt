@@ -1,56 +1,28 @@
--- `call_ask::find_related` meets its contract: a refusal writes no mark, and where no test breaks the walk's marks are the definition's.
+-- `call_ask::find_related` meets its contract: where 2 and 8 do not stand the store is tested, and the form for such a store answers.
 -- Assumes nothing.
+use mathlib.Core.Path.{refl}
 use borrow.Author.Needs.{needs}
-use Rattle.call_ask.proofs.Laws.{marks-refused, marks-short, marks-done, read-stands}
+use Rattle.scope.specs.Calls.{findRelatedCall}
+use Rattle.promise.proofs.BackLaws.{tested, told-back}
 use Rattle.call_ask.proofs.find_related.Statement.{statement}
 use Rattle.call_ask.proofs.find_related.Tie as tie
 
-refusal-at-requires : tie.Need-refusal-at-requires
-refusal-at-requires c κs = search needs
+refusal-requires : tie.Need-refusal-requires
+refusal-requires c κs = search needs
 
 returns : tie.Need-returns
-returns c =
-    let a = c .before .before .before .before .before .before .before .before .before .args in
-    marks-refused (a .t .0) (c .before .refusal-at .ensures) (c .if1 .taken) (a .marks .now)
-
-read-header-requires : tie.Need-read-header-requires
-read-header-requires c κs = search needs
-
-cast-if2 : tie.Need-cast-if2
-cast-if2 c = search needs
-
-returns-2 : tie.Need-returns-2
-returns-2 c =
-    let a = c .before .before .before .before .before .before .before .before .before .before .before .before .args in
-    marks-short (a .t .0) (c .before .before .before .before .refusal-at .ensures) (c .before .before .before .if1 .left) (c .before .before .read-header .ensures) (a .marks .now) (c .if2 .taken)
+unfolding findRelatedCall
+returns c = record { outcome = told-back _ _ _ _ _ (c .before .refusal .ensures) (c .if1 .taken) _ _; kept = λ y. refl }
 
 find-related-requires : tie.Need-find-related-requires
-find-related-requires c κs =
-    let a = c .before .before .before .before .before .before .before .before .before .before .before .before .before .args in
-    read-stands (a .t .0) (c .before .before .before .before .before .refusal-at .ensures) (c .before .before .before .before .if1 .left) (c .before .before .before .read-header .ensures)
+find-related-requires c κs = tested (c .before .before .refusal .ensures) (c .before .if1 .left)
 
 same-length : tie.Need-same-length
 same-length c = search needs
 
-returns-3 : tie.Need-returns-3
-returns-3 c =
-    let a = c .before .before .before .before .before .before .before .before .before .before .before .before .before .before .before .before .args in
-    let refusalAt = c .before .before .before .before .before .before .before .before .refusal-at in
-    let if1 = c .before .before .before .before .before .before .before .if1 in
-    let readHeader = c .before .before .before .before .before .before .read-header in
-    let if2 = c .before .before .before .before .if2 in
-    let findRelated = c .before .before .find-related in
-    marks-done (a .t .0) (refusalAt .ensures) (if1 .left) (readHeader .ensures) (if2 .left) (findRelated .ensures)
+returns-2 : tie.Need-returns-2
+returns-2 c = search needs
 
 pub find-related-spec : {M : Type 1} → statement M
 find-related-spec =
-    tie.close
-    (tie.spec
-    refusal-at-requires
-    returns
-    read-header-requires
-    cast-if2
-    returns-2
-    find-related-requires
-    same-length
-    returns-3)
+    tie.close (tie.spec refusal-requires returns find-related-requires same-length returns-2)

@@ -1,39 +1,24 @@
--- `call_ask::self_inverse_param` meets its contract: a store that no test turns back can be walked, and the walk's answer is the definition's.
+-- `call_ask::self_inverse_param` meets its contract: where 2 and 8 do not stand the store is tested, and the form for such a store answers.
 -- Assumes nothing.
-use mathlib.Core.List.{List}
 use borrow.Author.Needs.{needs}
-use Rattle.scope.specs.Types.{tyOf}
-use Rattle.scope.specs.Nodes.{Node}
-use Rattle.scope.specs.Unify.{selfInverseOf}
 use Rattle.scope.specs.Calls.{selfInverseCall}
-use Rattle.promise.proofs.ReadLaws.{read-refused, read-nodes}
-use Rattle.call_ask.proofs.Laws.{read-inverses}
+use Rattle.promise.proofs.BackLaws.{tested, told-back}
 use Rattle.call_ask.proofs.self_inverse_param.Statement.{statement}
 use Rattle.call_ask.proofs.self_inverse_param.Tie as tie
 
-refusal-at-requires : tie.Need-refusal-at-requires
-refusal-at-requires c κs = search needs
+refusal-requires : tie.Need-refusal-requires
+refusal-requires c κs = search needs
 
 returns : tie.Need-returns
 unfolding selfInverseCall
-returns c = read-refused (c .before .refusal-at .ensures) (c .if1 .taken) _
+returns c = told-back _ _ _ _ _ (c .before .refusal .ensures) (c .if1 .taken) _ _
 
-read-header-requires : tie.Need-read-header-requires
-read-header-requires c κs = search needs
-
-self-inverse-requires : tie.Need-self-inverse-requires
-self-inverse-requires c κs =
-    let a = c .before .before .before .before .before .before .before .before .before .args in
-    read-inverses (a .t .0) (c .before .before .refusal-at .ensures) (c .before .if1 .left) (c .read-header .ensures)
+self-inverse-param-requires : tie.Need-self-inverse-param-requires
+self-inverse-param-requires c κs = tested (c .before .refusal .ensures) (c .if1 .left)
 
 returns-2 : tie.Need-returns-2
-unfolding selfInverseCall
-returns-2 c =
-    let a = c .before .before .before .before .before .before .before .before .before .before .args in
-    read-nodes (c .before .before .before .refusal-at .ensures) (c .before .before .if1 .left) (c .before .read-header .ensures)
-    (λ (ns : List Node). selfInverseOf ns (tyOf (a .t .0)) (a .param)) (c .self-inverse .ensures)
+returns-2 c = search needs
 
 pub self-inverse-param-spec : {M : Type 1} → statement M
 self-inverse-param-spec =
-    tie.close
-    (tie.spec refusal-at-requires returns read-header-requires self-inverse-requires returns-2)
+    tie.close (tie.spec refusal-requires returns self-inverse-param-requires returns-2)

@@ -1,34 +1,23 @@
--- `call_find::find` meets its contract: a refusal is the first test that breaks, and where none does the root that `roots` finds is the answer.
+-- `call_find::find` meets its contract: where 2 and 8 do not stand the store is tested, and the form for such a store answers.
 -- Assumes nothing.
-use mathlib.Core.List.{List}
 use borrow.Author.Needs.{needs}
-use Rattle.scope.specs.Types.{tyOf}
-use Rattle.scope.specs.Nodes.{Node, find}
 use Rattle.scope.specs.Calls.{findCall}
-use Rattle.promise.proofs.ReadLaws.{read-refused, read-linked, read-nodes}
+use Rattle.promise.proofs.BackLaws.{tested, told-back}
 use Rattle.call_find.proofs.find.Statement.{statement}
 use Rattle.call_find.proofs.find.Tie as tie
 
-refusal-at-requires : tie.Need-refusal-at-requires
-refusal-at-requires c κs = search needs
+refusal-requires : tie.Need-refusal-requires
+refusal-requires c κs = search needs
 
 returns : tie.Need-returns
 unfolding findCall
-returns c = read-refused (c .before .refusal-at .ensures) (c .if1 .taken) _
-
-read-header-requires : tie.Need-read-header-requires
-read-header-requires c κs = search needs
+returns c = told-back _ _ _ _ _ (c .before .refusal .ensures) (c .if1 .taken) _ _
 
 find-requires : tie.Need-find-requires
-find-requires c κs = read-linked (c .before .before .refusal-at .ensures) (c .before .if1 .left) (c .read-header .ensures)
+find-requires c κs = tested (c .before .refusal .ensures) (c .if1 .left)
 
 returns-2 : tie.Need-returns-2
-unfolding findCall
-returns-2 c =
-    let a = c .before .before .before .before .before .before .before .before .before .before .args in
-    read-nodes (c .before .before .before .refusal-at .ensures) (c .before .before .if1 .left) (c .before .read-header .ensures)
-    (λ (ns : List Node). find ns (tyOf (a .t .0))) (c .find .ensures .root (a .ks .now))
+returns-2 c = search needs
 
 pub find-spec : {M : Type 1} → statement M
-find-spec =
-    tie.close (tie.spec refusal-at-requires returns read-header-requires find-requires returns-2)
+find-spec = tie.close (tie.spec refusal-requires returns find-requires returns-2)

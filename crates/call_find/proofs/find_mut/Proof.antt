@@ -1,46 +1,31 @@
--- `call_find::find_mut` meets its contract: a refusal writes nothing, and where no test breaks `roots` changes links alone, so the words say a store again.
+-- `call_find::find_mut` meets its contract: where 2 and 8 do not stand the store is tested, and the form for such a store answers.
 -- Assumes nothing.
 use borrow.Author.Needs.{needs}
-use Rattle.promise.proofs.ReadLaws.{read-linked}
-use Rattle.call_find.proofs.Laws.{mut-refused, mut-answer}
+use Rattle.scope.specs.Calls.{findMutCall}
+use Rattle.promise.proofs.BackLaws.{tested, did-back}
 use Rattle.call_find.proofs.find_mut.Statement.{statement}
 use Rattle.call_find.proofs.find_mut.Tie as tie
 
-refusal-at-requires : tie.Need-refusal-at-requires
-refusal-at-requires c κs = search needs
+refusal-requires : tie.Need-refusal-requires
+refusal-requires c κs = search needs
 
 same-length : tie.Need-same-length
 same-length c = search needs
 
 returns : tie.Need-returns
-returns c =
-    let a = c .before .before .before .before .before .before .before .before .before .args in
-    mut-refused (a .t) (c .before .refusal-at .ensures) (c .if1 .taken)
-
-read-header-requires : tie.Need-read-header-requires
-read-header-requires c κs = search needs
+unfolding findMutCall
+returns c = did-back _ _ _ _ _ (c .before .refusal .ensures) (c .if1 .taken) _ _
 
 find-mut-requires : tie.Need-find-mut-requires
-find-mut-requires c κs =
-    read-linked (c .before .before .before .refusal-at .ensures) (c .before .before .if1 .left) (c .before .read-header .ensures)
+find-mut-requires c κs = tested (c .before .before .refusal .ensures) (c .before .if1 .left)
 
 same-length-2 : tie.Need-same-length-2
 same-length-2 c = search needs
 
 returns-2 : tie.Need-returns-2
-returns-2 c =
-    let a = c .before .before .before .before .before .before .before .before .before .before .before .before .before .before .args in
-    mut-answer (a .t) (c .before .before .before .before .before .before .refusal-at .ensures) (c .before .before .before .before .before .if1 .left)
-    (c .before .before .before .before .read-header .ensures) (c .before .before .find-mut .ensures)
+returns-2 c = search needs
 
 pub find-mut-spec : {M : Type 1} → statement M
 find-mut-spec =
     tie.close
-    (tie.spec
-    refusal-at-requires
-    same-length
-    returns
-    read-header-requires
-    find-mut-requires
-    same-length-2
-    returns-2)
+    (tie.spec refusal-requires same-length returns find-mut-requires same-length-2 returns-2)

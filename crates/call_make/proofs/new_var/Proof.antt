@@ -1,14 +1,13 @@
--- `call_make::new_var` meets its contract: what passes the tests is ready for one node, and the core makes it.
+-- `call_make::new_var` meets its contract: where 2 and 8 do not stand the store is tested, and the form for such a store answers.
 -- Assumes nothing.
 use borrow.Author.Needs.{needs}
-use Rattle.scope.specs.Make.{newVar}
 use Rattle.scope.specs.Calls.{newVarCall}
-use Rattle.call_make.proofs.MakerLaws.{maker-back, maker-ready, maker-done}
+use Rattle.promise.proofs.BackLaws.{tested, did-back}
 use Rattle.call_make.proofs.new_var.Statement.{statement}
 use Rattle.call_make.proofs.new_var.Tie as tie
 
-refusal-for-requires : tie.Need-refusal-for-requires
-refusal-for-requires c κs = search needs
+refusal-requires : tie.Need-refusal-requires
+refusal-requires c κs = search needs
 
 same-length : tie.Need-same-length
 same-length c = search needs
@@ -18,12 +17,10 @@ same-length-2 c = search needs
 
 returns : tie.Need-returns
 unfolding newVarCall
-returns c =
-    let a = c .before .before .before .before .before .before .before .before .before .before .args in
-    maker-back (c .before .refusal-for .ensures) (λ s. newVar s (a .span)) (c .if1 .taken)
+returns c = did-back _ _ _ _ _ (c .before .refusal .ensures) (c .if1 .taken) _ _
 
 new-var-requires : tie.Need-new-var-requires
-new-var-requires c κs = maker-ready (c .before .before .before .refusal-for .ensures) (c .before .before .if1 .left)
+new-var-requires c κs = tested (c .before .before .before .refusal .ensures) (c .before .before .if1 .left)
 
 same-length-3 : tie.Need-same-length-3
 same-length-3 c = search needs
@@ -32,17 +29,13 @@ same-length-4 : tie.Need-same-length-4
 same-length-4 c = search needs
 
 returns-2 : tie.Need-returns-2
-unfolding newVarCall
-returns-2 c =
-    let a = c .before .before .before .before .before .before .before .before .before .before .before .before .before .before .before .before .before .args in
-    let test = c .before .before .before .before .before .before .before .before .refusal-for in
-    maker-done (test .ensures) (λ s. newVar s (a .span)) (c .before .before .before .before .before .before .before .if1 .left) (c .before .before .before .before .new-var .ensures)
+returns-2 c = search needs
 
 pub new-var-spec : {M : Type 1} → statement M
 new-var-spec =
     tie.close
     (tie.spec
-    refusal-for-requires
+    refusal-requires
     same-length
     same-length-2
     returns
