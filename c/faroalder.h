@@ -76,7 +76,7 @@ enum faroalder_sort {
   FAROALDER_SORT_CONST, FAROALDER_SORT_TRAIT, FAROALDER_SORT_TRAIT_FN
 };
 
-/* A kind's code. What it has beside it: a number (a definition's, or any for Param and Closure), children, names. */
+/* A kind's code, and what it has: a number (a definition's, or any), its own name, flex, children. */
 enum faroalder_kind {
   FAROALDER_PARAM,    /* any number; its own name */
   FAROALDER_TUPLE,    /* a run of children */
@@ -88,7 +88,7 @@ enum faroalder_kind {
   FAROALDER_FN,       /* a definition: a concrete fn or a trait fn */
   FAROALDER_CLOSURE,  /* any number; flex; its parameters, each with a name or none, then its return */
   FAROALDER_REF,      /* one child */
-  FAROALDER_KEY,      /* a definition: a const */
+  FAROALDER_KEY,      /* its own name */
   FAROALDER_IF_CONST, /* a definition: a const; two children */
   FAROALDER_NEVER,
   FAROALDER_DEFAULT,
@@ -264,7 +264,7 @@ FAROALDER_CALL(node, FAROALDER_THE_RULES, FAROALDER_READ_STORE, uint32_t type, u
 /* Child i of a type's node: 1 and its type in out[0], or 0 where there is none. */
 FAROALDER_CALL(child, FAROALDER_THE_RULES, FAROALDER_READ_STORE, uint32_t type, uint32_t i, uint32_t out[1]);
 
-/* Name i of a type's node (a Param's own is name 0): 1 and its text, start and length in `out`, or 0 where there is none. */
+/* Name i of a type's node (a Param's or Key's own is name 0): 1 and its text, start and length in `out`, or 0 where there is none. */
 FAROALDER_CALL(child_name, FAROALDER_THE_RULES, FAROALDER_READ_STORE, uint32_t type, uint32_t i, uint32_t out[3]);
 
 /* What of a store is no node: 0, and `out` by enum faroalder_figures_out. Refusals 2, 8. */
