@@ -238,7 +238,7 @@ macro_rules! methods {
     }
 
     /// The kind's code, number, flex and own name, then the words of its children.
-    pub fn new(&mut self, head: [u32; 6], entries: &[u32]) -> u64 {
+    pub fn new_kind(&mut self, head: [u32; 6], entries: &[u32]) -> u64 {
       let [code, number, flex, text, start, len] = head;
       let (es, n) = (entries.as_ptr(), entries.len());
       change!(self, $family::new, code, number, flex, text, start, len, es, n)

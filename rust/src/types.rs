@@ -233,7 +233,7 @@ impl Types {
   #[allow(clippy::new_ret_no_self)]
   pub fn new(&mut self, kind: TypeKind<'_>) -> Result<Type, Refusal> {
     let Head { code, number, flex, name: [text, start, len] } = kind.head(&mut self.entries);
-    ty(self.store.new([code, number, flex, text, start, len], &self.entries))
+    ty(self.store.new_kind([code, number, flex, text, start, len], &self.entries))
   }
 
   /// A new type variable; an inference error would be reported at the span.
