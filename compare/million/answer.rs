@@ -35,7 +35,11 @@ pub enum Answer {
   Nodes(Vec<u32>),
   Text(Vec<u8>),
   Kind(Option<(bool, Seen)>),
-  Forced { inv: bool, kind: Seen, report: Option<u32> },
+  Forced {
+    inv: bool,
+    kind: Seen,
+    report: Option<u32>,
+  },
   Done,
   Refused(u32),
 }

@@ -2,12 +2,15 @@
 
 mod answer;
 mod call;
+mod limits;
 mod make;
 mod ours;
 mod random;
 mod rules;
 mod run;
+mod sound;
 mod vine;
+mod words;
 mod world;
 
 /// The stand-ins of compare/, and `types.rs` unchanged.
@@ -28,24 +31,27 @@ use random::Random;
 use run::Count;
 use world::World;
 
-/// The calls that a run makes if it isn't told.
+/// The calls that a run makes if it isn't told, and the stores whose words it changes.
 const CALLS: u64 = 1_000_000;
+const STORES: u64 = 40;
 
 struct Options {
   seed: u64,
   calls: u64,
+  stores: u64,
   /// One list of the run alone.
   list: Option<u64>,
 }
 
 fn options() -> Options {
-  let mut options = Options { seed: 1, calls: CALLS, list: None };
+  let mut options = Options { seed: 1, calls: CALLS, stores: STORES, list: None };
   let mut words = std::env::args().skip(1);
   while let Some(word) = words.next() {
     let mut number = || words.next().and_then(|word| word.parse().ok()).expect("a number is missing");
     match word.as_str() {
       "--seed" => options.seed = number(),
       "--calls" => options.calls = number(),
+      "--stores" => options.stores = number(),
       "--list" => options.list = Some(number()),
       _ => panic!("not an option: {word}"),
     }
@@ -74,14 +80,22 @@ fn one(seed: u64, list: u64, count: &mut Count) {
 }
 
 fn lists() {
-  let Options { seed, calls, list } = options();
-  std::panic::set_hook(Box::new(|_| {}));
+  let Options { seed, calls, stores, list } = options();
   let begun = Instant::now();
   let mut count = Count::default();
   if let Some(list) = list {
+    std::panic::set_hook(Box::new(|_| {}));
     one(seed, list, &mut count);
     return count.report();
   }
+  limits::run();
+  if let Err(what) = words::run(seed, stores) {
+    println!("{what}");
+    exit(1);
+  }
+  println!("  {:.0} s", begun.elapsed().as_secs_f64());
+  std::panic::set_hook(Box::new(|_| {}));
+  let begun = Instant::now();
   let mut list = 0;
   let mut said = 0;
   while count.calls < calls {

@@ -46,6 +46,11 @@ pub fn list(random: &mut Random, world: &World) -> List {
   List { rooms, ops: (0..count).map(|_| maker.op()).collect() }
 }
 
+/// A call of a short list.
+pub fn one(random: &mut Random, world: &World) -> Op<Arg> {
+  Maker { random, world, size: Size::Small }.op()
+}
+
 impl Maker<'_> {
   fn room(&mut self) -> [u32; 2] {
     let r = &mut *self.random;
@@ -206,7 +211,8 @@ impl Maker<'_> {
       },
       6 => {
         let many = if self.size == Size::Large { 60 } else { 3 };
-        let n = if self.random.once_in(40) { self.random.pick(&[4096, 4097, usize::MAX]) } else { self.random.below(many) };
+        let n =
+          if self.random.once_in(40) { self.random.pick(&[4096, 4097, usize::MAX]) } else { self.random.below(many) };
         Call::NewVars(self.span(), n)
       }
       7..20 => Call::NewVar(self.span()),

@@ -204,8 +204,7 @@ fn impl_type(a: &Impl<Ty>) -> ImplType {
 
 /// `new` of a kind; one whose number of children its shape can't have isn't said in the crate's terms.
 fn made(world: &World, types: &mut Types, k: &call::Kind<Ty>) -> Result<Type, Refusal> {
-  let names: Vec<Option<faroalder::Name>> =
-    k.names.iter().map(|name| name.map(|name| world.pool[name].name)).collect();
+  let names: Vec<Option<faroalder::Name>> = k.names.iter().map(|name| name.map(|name| world.pool[name].name)).collect();
   let kids = tys(&k.kids);
   let own = || names[0].unwrap();
   let entries: Vec<(faroalder::Name, Type)>;

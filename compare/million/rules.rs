@@ -118,9 +118,8 @@ pub fn refusal(world: &World, vine: &Vine<'_>, books: &[Book], op: &Op<Ty>) -> O
     Call::UnifyTypes(a, b, _) => first([(outside(a) || outside(b), 3), (a.len() > MAX || b.len() > MAX, 4)]),
     Call::UnifyObjects(a, b, _) => {
       let types = |es: &[(Name, Ty)]| es.iter().map(|(_, t)| *t).collect::<Vec<_>>();
-      let bad = |es: &[(Name, Ty)]| {
-        es.len() > MAX || !ascending(world, &es.iter().map(|(name, _)| *name).collect::<Vec<_>>())
-      };
+      let bad =
+        |es: &[(Name, Ty)]| es.len() > MAX || !ascending(world, &es.iter().map(|(name, _)| *name).collect::<Vec<_>>());
       first([(outside(&types(a)) || outside(&types(b)), 3), (bad(a) || bad(b), 4)])
     }
     Call::UnifyImplType(a, b) | Call::ApproxEq(a, b) => impls(world, n, &[a, b]),
@@ -141,18 +140,16 @@ pub fn refusal(world: &World, vine: &Vine<'_>, books: &[Book], op: &Op<Ty>) -> O
       let source = &vine.stores[*from].types;
       let there = vine.nodes(*from);
       let listed = params.as_deref().unwrap_or(&[]);
-      if let number @ Some(_) = first([
-        (ts.iter().any(|t| t.node >= there) || outside(listed), 3),
-        (ts.len() > MAX || listed.len() > MAX, 4),
-      ]) {
+      if let number @ Some(_) =
+        first([(ts.iter().any(|t| t.node >= there) || outside(listed), 3), (ts.len() > MAX || listed.len() > MAX, 4)])
+      {
         return number;
       }
       let needs = needs(source, ts.iter().map(|t| t.node as usize), params.as_ref().map(Vec::len));
       first([(needs.missing, 6), (full(needs.nodes as usize), 10), (filled(needs.children as usize), 11)])
     }
     Call::Export(_, ts, [nodes, children]) => {
-      if let number @ Some(_) =
-        first([(*nodes > 4096 || *children > 16384, 1), (outside(ts), 3), (ts.len() > MAX, 4)])
+      if let number @ Some(_) = first([(*nodes > 4096 || *children > 16384, 1), (outside(ts), 3), (ts.len() > MAX, 4)])
       {
         return number;
       }

@@ -226,7 +226,9 @@ impl<'w> Run<'w> {
       let figures = self.ours.stores[at].figures();
       let Book { room: [node_room, child_room], children } = self.books[at];
       if [figures.node_room, figures.child_room, figures.children] != [node_room, child_room, children] {
-        return Err(format!("store {at}: {figures:?}, expected room {node_room}, {child_room} and {children} children"));
+        return Err(format!(
+          "store {at}: {figures:?}, expected room {node_room}, {child_room} and {children} children"
+        ));
       }
     }
     Ok(())

@@ -162,12 +162,7 @@ impl Vine<'_> {
         Node::Known { inv: inv.0, kind: seen_kind(self.world, kind), size: size as u32 }
       }
     });
-    Whole {
-      nodes: nodes.collect(),
-      error: error.map(seen),
-      nil: nil.map(seen),
-      reports: diags.errors.len() as u64,
-    }
+    Whole { nodes: nodes.collect(), error: error.map(seen), nil: nil.map(seen), reports: diags.errors.len() as u64 }
   }
 }
 

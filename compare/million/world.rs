@@ -16,8 +16,22 @@ use crate::{
   },
 };
 
-const WORDS: [&str; 14] =
-  ["a", "ab", "abc", "b", "ba", "x", "y", "fo", "foo", "bar", "é", "aé", "~", "a name with blanks, of forty-one bytes.."];
+const WORDS: [&str; 14] = [
+  "a",
+  "ab",
+  "abc",
+  "b",
+  "ba",
+  "x",
+  "y",
+  "fo",
+  "foo",
+  "bar",
+  "é",
+  "aé",
+  "~",
+  "a name with blanks, of forty-one bytes..",
+];
 
 /// What a new builder's chart text has already.
 const SIGILS: &str = "+?*";
@@ -64,16 +78,8 @@ fn places(text: &str, word: &str) -> Vec<u32> {
   text.match_indices(word).map(|(at, _)| at as u32).collect()
 }
 
-const SORTS: [Sort; 8] = [
-  Sort::Opaque,
-  Sort::Struct,
-  Sort::Enum,
-  Sort::Union,
-  Sort::ConcreteFn,
-  Sort::Const,
-  Sort::Trait,
-  Sort::TraitFn,
-];
+const SORTS: [Sort; 8] =
+  [Sort::Opaque, Sort::Struct, Sort::Enum, Sort::Union, Sort::ConcreteFn, Sort::Const, Sort::Trait, Sort::TraitFn];
 
 impl World {
   pub fn new(random: &mut Random) -> World {

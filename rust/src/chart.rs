@@ -180,21 +180,26 @@ impl Chart {
 
   /// The same records, fn trait, sigils and chart text beside another rule text.
   pub fn with_rule(&self, rule: impl Into<Vec<u8>>) -> Result<Chart, Refusal> {
-    Chart::tested(Rules { rule: rule.into(), ..self.0.rules().clone() })
+    Chart::tested(Rules { rule: rule.into(), ..self.rules().clone() })
   }
 
   fn tested(rules: Rules) -> Result<Chart, Refusal> {
     rules.tested().map(Chart).map_err(refused)
   }
 
+  /// The chart in the words that [`lent`](crate::lent)'s calls take.
+  pub fn rules(&self) -> &Rules {
+    self.0.rules()
+  }
+
   /// The rule text.
   pub fn rule_text(&self) -> &[u8] {
-    &self.0.rules().rule
+    &self.rules().rule
   }
 
   /// The chart text.
   pub fn chart_text(&self) -> &[u8] {
-    &self.0.rules().text
+    &self.rules().text
   }
 
   /// A name's bytes, by which it is compared and printed; none of a part that its text lacks.
@@ -214,12 +219,12 @@ impl Chart {
 
   /// How many records there are.
   pub fn record_count(&self) -> u32 {
-    (self.0.rules().chart.len() / raw::RECORD_WORDS) as u32
+    (self.rules().chart.len() / raw::RECORD_WORDS) as u32
   }
 
   /// The record at a place.
   pub fn record(&self, place: u32) -> Option<Record> {
-    let words = self.0.rules().chart.chunks_exact(raw::RECORD_WORDS).nth(place as usize)?;
+    let words = self.rules().chart.chunks_exact(raw::RECORD_WORDS).nth(place as usize)?;
     let word = |i: usize| words[i];
     let sort = Sort::ALL[word(0) as usize];
     Some(Record {
@@ -234,7 +239,7 @@ impl Chart {
 
   /// The builtin fn trait, if there is one.
   pub fn fn_trait(&self) -> Option<TraitId> {
-    let place = self.0.rules().fn_trait;
+    let place = self.rules().fn_trait;
     (place != raw::NONE).then_some(TraitId(place))
   }
 
@@ -389,8 +394,10 @@ impl ChartBuilder {
   /// [`Refusal::BadChart`].
   pub fn build(&self) -> Result<Chart, Refusal> {
     let records: Vec<raw::Record> = self.records.iter().map(Record::raw).collect();
+    let mut chart = vec![0; records.len() * raw::RECORD_WORDS];
+    assert_eq!(raw::load(&records, &mut chart), 0, "there is room for every record");
     Chart::tested(Rules {
-      chart: raw::load(&records),
+      chart,
       fn_trait: self.fn_trait.map_or(raw::NONE, TraitId::place),
       sigils: self
         .sigils

@@ -71,7 +71,7 @@ pub use types::{MAX_SHOWN, Types};
 /// assert_eq!(lent.find(5), REFUSED + 3);
 /// ```
 pub mod lent {
-  pub use crate::raw::{Lent, OUT, REFUSED, Rules};
+  pub use crate::raw::{Lent, OUT, RECORD_WORDS, REFUSED, Record, Rules, load};
 }
 
 /// How many nodes a store can have.

@@ -50,15 +50,21 @@ pub const OUT: usize = 12;
 const COUNTS: std::ops::Range<usize> = 0..2;
 const ROOM: std::ops::Range<usize> = 2..4;
 
-/// A chart's record as the library reads it.
-#[derive(Debug, Clone, Copy)]
+/// A chart's record in plain numbers, any at all; a name is a text, a start and a length.
+#[derive(Debug, Clone, Copy, PartialEq, Eq)]
 #[repr(C)]
 pub struct Record {
+  /// What it defines, 0 to 7.
   pub sort: u32,
+  /// Its name.
   pub name: [u32; 3],
+  /// Its path.
   pub path: [u32; 3],
+  /// Its module's number.
   pub def: u32,
+  /// 1 if it is self-dual.
   pub dual: u32,
+  /// A trait fn's trait.
   pub trait_: u32,
 }
 
@@ -465,14 +471,10 @@ fn open([h, ws, ks]: [&mut [u32]; 3], nodes: u32, children: u32) -> u64 {
   }
 }
 
-/// The words of a chart with these records.
-pub fn load(records: &[Record]) -> Vec<u32> {
-  let mut words = vec![0; records.len() * RECORD_WORDS];
+/// Writes the words of a chart with these records to the front of `words`: 0, or refusal 7 where there is too little room.
+pub fn load(records: &[Record], words: &mut [u32]) -> u64 {
   // SAFETY: pointers and lengths of two slices, the second borrowed alone; a `Record` is laid out as the header's.
-  let answer =
-    unsafe { faroalder_load(records.as_ptr(), records.len(), words.as_mut_ptr(), words.len()) };
-  assert_eq!(answer, 0, "there is room for every record");
-  words
+  unsafe { faroalder_load(records.as_ptr(), records.len(), words.as_mut_ptr(), words.len()) }
 }
 
 /// Types as the words that they are.
