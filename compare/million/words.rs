@@ -127,7 +127,6 @@ fn check(rules: &Rules, words: &mut Words, which: usize) -> Result<bool, String>
   let says = sound::refusal(rules, &words.h, &words.ws, &words.ks);
   let Words { h, ws, ks } = words;
   let answer = Lent { rules, h, ws, ks }.refusal();
-  let answer = (answer % REFUSED) as u32;
   if answer != says {
     return Err(format!("01 says {says}, the test {answer}"));
   }

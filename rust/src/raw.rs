@@ -73,23 +73,23 @@ type M = *mut u32;
 type N = usize;
 
 unsafe extern "C" {
-  safe fn faroalder_header_words() -> u64;
-  safe fn faroalder_node_words(nodes: u32) -> u64;
-  safe fn faroalder_child_words(children: u32) -> u64;
-  fn faroalder_load(records: *const Record, len: N, words: M, words_len: N) -> u64;
+  safe fn faroalder_header_words() -> N;
+  safe fn faroalder_node_words(nodes: u32) -> N;
+  safe fn faroalder_child_words(children: u32) -> N;
+  fn faroalder_load(records: *const Record, len: N, words: M, words_len: N) -> u32;
   fn faroalder_open(h: M, _: N, ws: M, _: N, ks: M, _: N, nodes: u32, children: u32) -> u64;
 }
 
 /// Declares a family. Every call takes the rules, the store and then what stands here.
 macro_rules! family {
-  ($prefix:literal; $($name:ident($($arg:ident: $ty:ty),*);)*) => {
+  ($prefix:literal, $answer:ty; $($name:ident($($arg:ident: $ty:ty),*);)*) => {
     unsafe extern "C" {$(
       #[link_name = concat!($prefix, stringify!($name))]
       pub fn $name(
         chart: P, chart_len: N, fn_trait: u32, sigils: P,
         rule: *const u8, rule_len: N, text: *const u8, text_len: N,
         h: M, h_len: N, ws: M, ws_len: N, ks: M, ks_len: N $(, $arg: $ty)*
-      ) -> u64;
+      ) -> $answer;
     )*}
   };
 }
@@ -97,7 +97,7 @@ macro_rules! family {
 macro_rules! calls {
   ($prefix:literal) => {
     use super::{M, N, P};
-    family! { $prefix;
+    family! { $prefix, u64;
       new_var(span: u32);
       new_vars(span: u32, count: u32, out: M, out_len: N);
       new(code: u32, number: u32, flex: u32, text: u32, start: u32, len: u32, es: P, es_len: N);
@@ -137,7 +137,7 @@ macro_rules! calls {
 
 mod first {
   calls! { "faroalder_" }
-  family! { "faroalder_"; refusal(); }
+  family! { "faroalder_", u32; refusal(); }
 }
 
 mod second {
@@ -424,8 +424,8 @@ impl Lent<'_> {
     self.rules
   }
 
-  /// The test alone: 0, or 2 or 8.
-  pub fn refusal(&self) -> u64 {
+  /// The test alone: 0, 2 or 8.
+  pub fn refusal(&self) -> u32 {
     read!(self, first::refusal)
   }
 
@@ -471,8 +471,8 @@ fn open([h, ws, ks]: [&mut [u32]; 3], nodes: u32, children: u32) -> u64 {
   }
 }
 
-/// Writes the words of a chart with these records to the front of `words`: 0, or refusal 7 where there is too little room.
-pub fn load(records: &[Record], words: &mut [u32]) -> u64 {
+/// Writes the words of a chart with these records to the front of `words`: 0, or 7 where there is too little room.
+pub fn load(records: &[Record], words: &mut [u32]) -> u32 {
   // SAFETY: pointers and lengths of two slices, the second borrowed alone; a `Record` is laid out as the header's.
   unsafe { faroalder_load(records.as_ptr(), records.len(), words.as_mut_ptr(), words.len()) }
 }
@@ -491,7 +491,7 @@ pub fn words_mut(types: &mut [Type]) -> &mut [u32] {
 
 /// Words for a store of this room. A room above the limits gets no more than these: the opening refuses it.
 fn blank(nodes: u32, children: u32) -> Words {
-  let zeros = |words: u64| vec![0; words as usize];
+  let zeros = |words: N| vec![0; words];
   Words {
     h: zeros(faroalder_header_words()),
     ws: zeros(faroalder_node_words(nodes.min(crate::MAX_NODES))),
@@ -514,8 +514,7 @@ impl Words {
     let [h, ws, ks] = self.parts();
     match (Lent { rules, h, ws, ks }).refusal() {
       0 => Ok(()),
-      // The library says 2 or 8 either way.
-      number => Err((number % REFUSED) as u32),
+      number => Err(number),
     }
   }
 
@@ -583,7 +582,7 @@ impl Store {
     words.h.copy_from_slice(&self.h);
     words.h[ROOM].copy_from_slice(&room);
     let [nodes, children] = [self.h[COUNTS.start], self.h[COUNTS.start + 1]];
-    let (n, c) = (faroalder_node_words(nodes) as usize, faroalder_child_words(children) as usize);
+    let (n, c) = (faroalder_node_words(nodes), faroalder_child_words(children));
     words.ws[..n].copy_from_slice(&self.ws[..n]);
     words.ks[..c].copy_from_slice(&self.ks[..c]);
     words.test(self.rules())?;
