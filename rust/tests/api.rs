@@ -47,7 +47,7 @@ fn a_variable_and_its_inverse() {
 fn defaults_and_errors() {
   let mut types = opened();
   let [a, b] = [(); 2].map(|()| types.new(TypeKind::Default).unwrap());
-  assert_eq!(types.unify(a, !b), Ok(Success));
+  assert_eq!(types.unify(a, !b), Ok(Failure));
   assert_eq!(types.unify(a, !a), Ok(Success));
   let mut types = opened();
   let error = types.error().unwrap();
@@ -126,7 +126,7 @@ fn texts() {
   let text = format!("({})", vec!["(?0,)"; 250].join(", "));
   assert_eq!(types.show(wide).unwrap(), text);
   let deep = tuple(&mut types, &[wide; 5]);
-  assert_eq!(types.show(deep).unwrap(), format!("({})", vec![text.as_str(); 5].join(", ")));
+  assert_eq!(types.show(deep).unwrap(), format!("({})", [text.as_str(); 5].join(", ")));
   let mut buf = [0; 4];
   assert_eq!(types.show_into(wide, &mut buf), Err(Refusal::Short));
   assert_eq!(&buf, b"((?0");
@@ -434,6 +434,6 @@ fn stores_go_to_other_threads() {
   let shared = &types;
   std::thread::scope(|scope| {
     let texts = [(); 2].map(|()| scope.spawn(|| shared.show(v).unwrap()));
-    texts.map(|text| assert_eq!(text.join().unwrap(), "?0"));
+    texts.into_iter().for_each(|text| assert_eq!(text.join().unwrap(), "?0"));
   });
 }

@@ -62,3 +62,8 @@ pub fn param(types: &Types, root: usize) -> Option<usize> {
     _ => None,
   }
 }
+
+/// The nodes of a type's children, added up.
+pub fn sum(types: &Types, ty: Type) -> usize {
+  types.kind(ty).map_or(0, |(_, kind)| kind.children().map(|t| t.idx().0).sum())
+}
