@@ -29,9 +29,10 @@ impl fmt::Debug for Ty {
 impl Arg {
   /// The type among n nodes; none where there is no node.
   pub fn among(self, n: u32) -> Option<Ty> {
+    let last = n.checked_sub(1);
     let (node, inv) = match self {
       Arg::First(i, inv) => (i.checked_rem(n)?, inv),
-      Arg::Last(i, inv) => (n - 1 - i.checked_rem(n)?, inv),
+      Arg::Last(i, inv) => (last? - i % n, inv),
       Arg::Past(i, inv) => (n + i, inv),
     };
     Some(Ty { node, inv })

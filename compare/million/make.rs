@@ -43,7 +43,18 @@ pub fn list(random: &mut Random, world: &World) -> List {
     Size::Medium => maker.random.between(200, 900),
     Size::Large => maker.random.between(2000, 6000),
   };
-  List { rooms, ops: (0..count).map(|_| maker.op()).collect() }
+  let mut ops = Vec::new();
+  if size == Size::Large {
+    let n = maker.random.between(500, 3500);
+    ops.push(Op { store: 0, call: Call::NewVars(5, n) });
+  }
+  while ops.len() < count {
+    let op = maker.op();
+    let twin = maker.twin(&op);
+    ops.push(op);
+    ops.extend(twin);
+  }
+  List { rooms, ops }
 }
 
 /// A call of a short list.
@@ -66,6 +77,18 @@ impl Maker<'_> {
     // Most calls go to one store, so that it fills.
     let store = if self.random.once_in(3) { self.random.below(STORES) } else { 0 };
     Op { store, call: self.call() }
+  }
+
+  /// Behind a kind, sometimes: the same kind over other types, and the two unified.
+  fn twin(&mut self, op: &Op<Arg>) -> Vec<Op<Arg>> {
+    let Call::New(kind) = &op.call else { return Vec::new() };
+    if !self.random.once_in(4) {
+      return Vec::new();
+    }
+    let kids = self.args(kind.kids.len());
+    let inv = self.random.once_in(4);
+    let calls = [Call::New(Kind { kids, ..kind.clone() }), Call::Unify(Arg::Last(0, inv), Arg::Last(1, false))];
+    calls.into_iter().map(|call| Op { store: op.store, call }).collect()
   }
 
   fn arg(&mut self) -> Arg {
@@ -228,7 +251,14 @@ impl Maker<'_> {
         let m = if self.random.once_in(6) { self.width() } else { n };
         Call::UnifyTypes(self.args(n), self.args(m), inv)
       }
-      2 | 3 => Call::UnifyObjects(self.fields(), self.fields(), inv),
+      2 | 3 => {
+        let a = self.fields();
+        let mut b = self.fields();
+        if self.random.once_in(2) {
+          b = a.iter().map(|(name, _)| (*name, self.arg())).collect();
+        }
+        Call::UnifyObjects(a, b, inv)
+      }
       4 => Call::UnifyImplType(self.impl_type(), self.impl_type()),
       5 => {
         let n = self.width();
@@ -260,7 +290,8 @@ impl Maker<'_> {
   }
 
   fn transfers(&mut self) -> Call<Arg> {
-    let other = self.random.below(STORES);
+    // A large store isn't lost to an export.
+    let other = if self.size == Size::Large { self.random.between(1, STORES - 1) } else { self.random.below(STORES) };
     let n = match self.random.below(120) {
       0 => 255,
       1 => 256,
