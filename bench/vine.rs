@@ -16,7 +16,7 @@ const SPAN: Span = Span(7);
 
 #[derive(Clone)]
 pub struct Vine {
-  types: Types,
+  pub types: Types,
   chart: Rc<Chart>,
 }
 

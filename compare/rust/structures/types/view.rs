@@ -43,3 +43,27 @@ pub fn nodes(types: &Types) -> impl Iterator<Item = Seen<'_>> {
     Root { state: Known(inv, kind), size } => Seen::Known(*size, *inv, kind),
   })
 }
+
+pub fn count(types: &Types) -> usize {
+  types.types.len()
+}
+
+/// A type's root, and the nodes of its kind's children.
+pub fn below(types: &Types, node: usize) -> (usize, Vec<usize>) {
+  let root = types.find(make(node, false));
+  let kids = types.kind(root).map_or(Vec::new(), |(_, kind)| kind.children().map(|t| t.idx().0).collect());
+  (root.idx().0, kids)
+}
+
+/// A root's Param number.
+pub fn param(types: &Types, root: usize) -> Option<usize> {
+  match types.kind(make(root, false)) {
+    Some((_, TypeKind::Param(number, _))) => Some(*number),
+    _ => None,
+  }
+}
+
+/// The nodes of a type's children, added up.
+pub fn sum(types: &Types, ty: Type) -> usize {
+  types.kind(ty).map_or(0, |(_, kind)| kind.children().map(|t| t.idx().0).sum())
+}

@@ -1,0 +1,186 @@
+//! Times the crate in rust/ beside Vine's own `types.rs`, in one run: what their users would see. README.md of bench/ says
+//! what each line is.
+
+mod ours;
+#[path = "../shapes.rs"]
+mod shapes;
+#[allow(dead_code)]
+#[path = "../vine.rs"]
+mod vine;
+
+/// The stand-ins of compare/, and `types.rs` unchanged.
+#[allow(dead_code)]
+#[path = "../../compare/rust/structures"]
+mod structures {
+  pub mod ast;
+  pub mod chart;
+  pub mod diag;
+  pub mod signatures;
+  pub mod tir;
+  pub mod types;
+}
+
+use std::{
+  hint::black_box,
+  time::{Duration, Instant},
+};
+
+use ours::Ours;
+use shapes::{MAKES, Maker, Pair, Side};
+use structures::types::{TypeCtx, Types, view};
+use vine::Vine;
+
+const NODES: usize = 4096;
+
+/// The most that ours may take, to the Rust.
+const ALLOWED: f64 = 1.2;
+
+fn line(what: &str, ours: f64, rust: f64) {
+  let ratio = ours / rust;
+  let verdict = if ratio <= ALLOWED { "" } else { ", OVER" };
+  println!("{what}, {ours:.1}, {rust:.1}, {ratio:.2}{verdict}");
+}
+
+/// The least time of `work` over many turns, each on a fresh copy. Whatever else runs on the machine only adds.
+fn least<T>(mut fresh: impl FnMut() -> T, mut work: impl FnMut(&mut T)) -> f64 {
+  let begun = Instant::now();
+  let mut least = Duration::MAX;
+  let mut turns = 0;
+  while turns < 9 || turns < 3000 && begun.elapsed() < Duration::from_millis(400) {
+    let mut copy = fresh();
+    let start = Instant::now();
+    work(&mut copy);
+    least = least.min(start.elapsed());
+    black_box(&copy);
+    turns += 1;
+  }
+  least.as_nanos() as f64
+}
+
+fn filled<S: Side>(nodes: usize) -> S {
+  let mut side = S::opened(NODES);
+  shapes::fill(&mut side, nodes);
+  side
+}
+
+fn makers() {
+  fn making<S: Side>(maker: Maker) -> f64 {
+    let full: S = filled(NODES - MAKES);
+    least(|| full.clone(), |side| side.makes(maker)) / maker.calls() as f64
+  }
+  for maker in Maker::ALL {
+    line(maker.name(), making::<Ours>(maker), making::<Vine>(maker));
+  }
+}
+
+/// A call for each node of a filled store.
+fn finding() {
+  let ours: Ours = filled(NODES);
+  let rust: Vine = filled(NODES);
+  let calls = NODES as f64;
+  let all = 0..NODES as u32;
+  let mine = least(|| (), |()| all.clone().for_each(|node| _ = black_box(ours.find(node)))) / calls;
+  let theirs = least(|| (), |()| all.clone().for_each(|node| _ = black_box(rust.find(node)))) / calls;
+  line("find", mine, theirs);
+  let mine = least(|| ours.clone(), |side| all.clone().for_each(|node| _ = black_box(side.find_mut(node)))) / calls;
+  let theirs = least(|| rust.clone(), |side| all.clone().for_each(|node| _ = black_box(side.find_mut(node)))) / calls;
+  line("find_mut", mine, theirs);
+  let mine = least(|| (), |()| all.clone().for_each(|node| _ = black_box(ours.kids(node)))) / calls;
+  let theirs = least(|| (), |()| all.clone().for_each(|node| _ = black_box(rust.kids(node)))) / calls;
+  line("kind and its children", mine, theirs);
+}
+
+fn unifying() {
+  fn time<S: Side>(shape: fn(&mut S) -> Vec<Pair>, count: usize) -> f64 {
+    let mut full = S::opened(NODES);
+    let pairs = shape(&mut full);
+    let work = |side: &mut S| pairs.iter().for_each(|&(a, b)| assert_eq!(side.unify(a, b), 0));
+    least(|| full.clone(), work) / count as f64
+  }
+  macro_rules! both {
+    ($what:literal, $shape:path, $count:expr) => {
+      line($what, time::<Ours>($shape, $count), time::<Vine>($shape, $count));
+    };
+  }
+  both!("unify variables", shapes::variables, shapes::VARIABLES);
+  both!("unify a chain of Refs", shapes::chains, shapes::CHAIN);
+  both!("unify wide tuples", shapes::tuples, shapes::TUPLES * shapes::WIDTH);
+  both!("unify objects of 64 names", shapes::objects, shapes::OBJECTS * shapes::NAMES);
+}
+
+/// Every fourth node of a filled store of 512, into an empty one: the time a node of the source.
+fn importing() {
+  const SOURCE: usize = 512;
+  let types: Vec<u32> = (0..SOURCE as u32).step_by(4).collect();
+  let mut ours = Ours::opened(SOURCE);
+  let mut rust = Vine::opened(SOURCE);
+  shapes::fill(&mut ours, SOURCE);
+  shapes::fill(&mut rust, SOURCE);
+  let listed = ours::tys(&types);
+  let mine =
+    least(|| Ours::opened(SOURCE), |side| _ = black_box(side.types.import_types(&ours.types, &listed, None).unwrap()));
+  let inner: Vec<_> = types.iter().map(|&node| view::make(node as usize, false)).collect();
+  let source = TypeCtx { types: rust.types, inner };
+  let theirs = least(Types::default, |types| _ = black_box(types.import(&source, None)));
+  line("import, a node of the source", mine / SOURCE as f64, theirs / SOURCE as f64);
+  let mine = least(|| (), |()| _ = black_box(ours.types.export(&listed).unwrap()));
+  let theirs = least(|| (), |()| _ = black_box(source.types.export(|t| t.transfer(&source.inner))));
+  line("export, a node of the source", mine / SOURCE as f64, theirs / SOURCE as f64);
+}
+
+/// The texts of a short type and of one of 16,706 bytes: the whole call.
+fn showing() {
+  const CALLS: usize = 20;
+  const LONG: usize = 255;
+  let names: Vec<String> = (0..shapes::NAMES).map(|i| format!("{i:03}").repeat(LONG / 3)).collect();
+  let mut ours = Ours::with_rule(names.concat(), 64);
+  let mut rust = Vine::opened(64);
+  let (kid, other) = (ours.var(), rust.var());
+  let tops = [
+    ("show of 9 bytes", ours.tuple(&[kid, kid]), rust.tuple(&[other, other])),
+    ("show of 16,706 bytes", ours.named(&names, kid), rust.named(&names, other)),
+  ];
+  for (what, top, theirs) in tops {
+    assert_eq!(ours.show(top), rust.show(theirs));
+    let mine = least(|| (), |()| (0..CALLS).for_each(|_| _ = black_box(ours.show(top))));
+    let theirs = least(|| (), |()| (0..CALLS).for_each(|_| _ = black_box(rust.show(theirs))));
+    line(what, mine / CALLS as f64, theirs / CALLS as f64);
+  }
+}
+
+/// Two towers of so many levels, each level a pair of the one below twice, that differ at the bottom.
+fn towers<S: Side>(side: &mut S, levels: usize) -> Pair {
+  let tower = |side: &mut S, bottom| (0..levels).fold(bottom, |kid, _| side.tuple(&[kid, kid]));
+  let var = side.var();
+  let (one, two) = (side.tuple(&[]), side.reference(var));
+  (tower(side, one), tower(side, two))
+}
+
+/// What is gained on shared types that fail.
+fn failing() {
+  fn time<S: Side>(levels: usize) -> f64 {
+    let mut full = S::opened(NODES);
+    let (a, b) = towers(&mut full, levels);
+    least(|| full.clone(), |side| assert_eq!(side.unify(a, b), 1))
+  }
+  for levels in [4, 10, 16] {
+    let what = format!("towers of {levels} that differ at the bottom, the whole call");
+    line(&what, time::<Ours>(levels), time::<Vine>(levels));
+  }
+  println!("towers of 120 that differ at the bottom, the whole call, {:.1}, -, -", time::<Ours>(120));
+}
+
+fn report() {
+  println!("what, nanoseconds a call (unify: a pair) by the crate, by the Rust, ratio");
+  makers();
+  finding();
+  unifying();
+  importing();
+  showing();
+  failing();
+}
+
+fn main() {
+  // Deep recursion wants more than a main thread may have.
+  std::thread::Builder::new().stack_size(256 << 20).spawn(report).unwrap().join().unwrap();
+}

@@ -1,0 +1,622 @@
+//! The boundary to the library, and all the `unsafe` of this crate.
+//!
+//! The library has two families of calls with the same arguments. The first tests everything, so any numbers at all may
+//! be lent to it: [`Lent`] has it. The second, which [`Store`] has, tests its arguments alone and asks for a chart and a
+//! store that passed the tests and that only the library's calls have written since. `Store` keeps that promise by
+//! keeping its words to itself: they come from an opening or passed the test, and nothing outside this module reaches
+//! them.
+//!
+//! What is asked of every pointer, in both families: it is aligned, points to as many numbers as its length says, and
+//! nothing that is written overlaps anything else that is lent. Each pointer here is a slice's, and what is written is
+//! behind a `&mut`, so all of that holds.
+
+use std::sync::Arc;
+
+use crate::ty::Type;
+
+/// The codes of the kinds.
+#[rustfmt::skip]
+pub mod code {
+  pub const PARAM: u32 = 0;
+  pub const TUPLE: u32 = 1;
+  pub const OBJECT: u32 = 2;
+  pub const OPAQUE: u32 = 3;
+  pub const STRUCT: u32 = 4;
+  pub const ENUM: u32 = 5;
+  pub const UNION: u32 = 6;
+  pub const FN: u32 = 7;
+  pub const CLOSURE: u32 = 8;
+  pub const REF: u32 = 9;
+  pub const KEY: u32 = 10;
+  pub const IF_CONST: u32 = 11;
+  pub const NEVER: u32 = 12;
+  pub const DEFAULT: u32 = 13;
+  pub const ERROR: u32 = 14;
+}
+
+/// An answer from here on is a refusal: this and its number.
+pub const REFUSED: u64 = 1 << 32;
+
+/// No fn trait, no remembered type, an impl type that is an error.
+pub const NONE: u32 = u32::MAX;
+
+/// How many words a record takes.
+pub const RECORD_WORDS: usize = 10;
+
+/// How many words a node, a kind or the figures take where a call writes them out.
+pub const OUT: usize = 12;
+
+/// Where a store's header has the nodes and children that are made, and the room for them.
+const COUNTS: std::ops::Range<usize> = 0..2;
+const ROOM: std::ops::Range<usize> = 2..4;
+
+/// A chart's record in plain numbers, any at all; a name is a text, a start and a length.
+#[derive(Debug, Clone, Copy, PartialEq, Eq)]
+#[repr(C)]
+pub struct Record {
+  /// What it defines, 0 to 7.
+  pub sort: u32,
+  /// Its name.
+  pub name: [u32; 3],
+  /// Its path.
+  pub path: [u32; 3],
+  /// Its module's number.
+  pub def: u32,
+  /// 1 if it is self-dual.
+  pub dual: u32,
+  /// A trait fn's trait.
+  pub trait_: u32,
+}
+
+type P = *const u32;
+type M = *mut u32;
+type N = usize;
+
+unsafe extern "C" {
+  safe fn faroalder_header_words() -> N;
+  safe fn faroalder_node_words(nodes: u32) -> N;
+  safe fn faroalder_child_words(children: u32) -> N;
+  fn faroalder_load(records: *const Record, len: N, words: M, words_len: N) -> u32;
+  fn faroalder_open(h: M, _: N, ws: M, _: N, ks: M, _: N, nodes: u32, children: u32) -> u64;
+}
+
+/// Declares a family. Every call takes the rules, the store and then what stands here.
+macro_rules! family {
+  ($prefix:literal, $answer:ty; $($name:ident($($arg:ident: $ty:ty),*);)*) => {
+    unsafe extern "C" {$(
+      #[link_name = concat!($prefix, stringify!($name))]
+      pub fn $name(
+        chart: P, chart_len: N, fn_trait: u32, sigils: P,
+        rule: *const u8, rule_len: N, text: *const u8, text_len: N,
+        h: M, h_len: N, ws: M, ws_len: N, ks: M, ks_len: N $(, $arg: $ty)*
+      ) -> $answer;
+    )*}
+  };
+}
+
+macro_rules! calls {
+  ($prefix:literal) => {
+    use super::{M, N, P};
+    family! { $prefix, u64;
+      new_var(span: u32);
+      new_vars(span: u32, count: u32, out: M, out_len: N);
+      new(code: u32, number: u32, flex: u32, text: u32, start: u32, len: u32, es: P, es_len: N);
+      new_struct(number: u32, ts: P, ts_len: N);
+      new_union(number: u32, ts: P, ts_len: N);
+      error();
+      nil();
+      find(t: u32);
+      find_mut(t: u32);
+      node(t: u32, out: M);
+      child(t: u32, j: u32, out: M);
+      child_name(t: u32, j: u32, out: M);
+      figures(out: M);
+      is_nil(t: u32);
+      self_inverse_param(t: u32, param: u32);
+      get_mod(t: u32, out: M);
+      find_related(marks: *mut u8, marks_len: N, t: u32);
+      force_kind(t: u32, out: M);
+      finish_inference();
+      finish_inference_where(bytes: *const u8, bytes_len: N);
+      reset();
+      unify(a: u32, b: u32);
+      unify_types(a: P, a_len: N, b: P, b_len: N, inv: u32);
+      unify_objects(a: P, a_len: N, b: P, b_len: N, inv: u32);
+      unify_fn_sig(a: P, a_len: N, a_ret: u32, b: P, b_len: N, b_ret: u32);
+      unify_impl_type(a: u32, x: P, x_len: N, b: u32, y: P, y_len: N);
+      approx_eq(a: u32, x: P, x_len: N, b: u32, y: P, y_len: N);
+      show(t: u32, buf: *mut u8, buf_len: N);
+      show_impl_type(a: u32, x: P, x_len: N, buf: *mut u8, buf_len: N);
+      import(sh: P, sh_len: N, sw: P, sw_len: N, sk: P, sk_len: N, ts: P, ts_len: N, listed: u32,
+        ps: P, ps_len: N, out: M, out_len: N);
+      export(h: M, h_len: N, ws: M, ws_len: N, ks: M, ks_len: N, nodes: u32, children: u32,
+        ts: P, ts_len: N, out: M, out_len: N);
+    }
+  };
+}
+
+mod first {
+  calls! { "faroalder_" }
+  family! { "faroalder_", u32; refusal(); }
+}
+
+mod second {
+  calls! { "faroalder_" }
+}
+
+/// A chart in words, what stands beside it, and the two texts: any at all, tested or not.
+#[derive(Debug, Clone, PartialEq, Eq)]
+pub struct Rules {
+  /// Ten words for each record.
+  pub chart: Vec<u32>,
+  /// The place of the builtin fn trait, or 4,294,967,295.
+  pub fn_trait: u32,
+  /// Three words for each sigil: text, start, length.
+  pub sigils: [u32; 12],
+  /// The rule text.
+  pub rule: Vec<u8>,
+  /// The chart text.
+  pub text: Vec<u8>,
+}
+
+/// Rules that passed the test. Nothing changes them any more.
+#[derive(Debug, Clone)]
+pub struct Tested(Arc<Rules>);
+
+/// Words that are lent as a store, any at all, with rules of any sort: for the calls that test everything.
+#[derive(Debug)]
+pub struct Lent<'a> {
+  /// The rules.
+  pub rules: &'a Rules,
+  /// The header's words.
+  pub h: &'a mut [u32],
+  /// The nodes' words.
+  pub ws: &'a mut [u32],
+  /// The children's words.
+  pub ks: &'a mut [u32],
+}
+
+/// A store's words, when it is taken apart or put together.
+#[derive(Debug, Clone, Default, PartialEq, Eq)]
+pub struct Words {
+  /// The header's words.
+  pub h: Vec<u32>,
+  /// The nodes' words.
+  pub ws: Vec<u32>,
+  /// The children's words.
+  pub ks: Vec<u32>,
+}
+
+/// A store that only the library's calls have written since it was opened or tested, with the rules that it was tested
+/// by.
+#[derive(Debug, Clone)]
+pub struct Store {
+  rules: Tested,
+  h: Vec<u32>,
+  ws: Vec<u32>,
+  ks: Vec<u32>,
+}
+
+/// A call that may write the store.
+macro_rules! change {
+  ($s:expr, $call:path $(, $arg:expr)*) => {{
+    let r: &Rules = $s.rules();
+    // SAFETY: the pointers and lengths are those of slices that are borrowed until the call is over. `$s` is borrowed
+    // alone, so its three slices overlap nothing else that is lent, and the other slices that are written are behind
+    // a `&mut` of the caller's. The first family asks no more; that a `Store` is one for the second is its invariant.
+    unsafe {
+      $call(
+        r.chart.as_ptr(), r.chart.len(), r.fn_trait, r.sigils.as_ptr(),
+        r.rule.as_ptr(), r.rule.len(), r.text.as_ptr(), r.text.len(),
+        $s.h.as_mut_ptr(), $s.h.len(), $s.ws.as_mut_ptr(), $s.ws.len(), $s.ks.as_mut_ptr(), $s.ks.len()
+        $(, $arg)*
+      )
+    }
+  }};
+}
+
+/// A call that only reads the store.
+macro_rules! read {
+  ($s:expr, $call:path $(, $arg:expr)*) => {{
+    let r: &Rules = $s.rules();
+    // SAFETY: as above; the library takes these three slices as ones that it only reads, so a shared borrow is enough.
+    unsafe {
+      $call(
+        r.chart.as_ptr(), r.chart.len(), r.fn_trait, r.sigils.as_ptr(),
+        r.rule.as_ptr(), r.rule.len(), r.text.as_ptr(), r.text.len(),
+        $s.h.as_ptr().cast_mut(), $s.h.len(), $s.ws.as_ptr().cast_mut(), $s.ws.len(),
+        $s.ks.as_ptr().cast_mut(), $s.ks.len()
+        $(, $arg)*
+      )
+    }
+  }};
+}
+
+/// The calls of a family, the same for both.
+macro_rules! methods {
+  ($family:ident) => {
+    pub fn new_var(&mut self, span: u32) -> u64 {
+      change!(self, $family::new_var, span)
+    }
+
+    pub fn new_vars(&mut self, span: u32, count: u32, out: &mut [u32]) -> u64 {
+      change!(self, $family::new_vars, span, count, out.as_mut_ptr(), out.len())
+    }
+
+    /// The kind's code, number, flex and own name, then the words of its children.
+    pub fn new_kind(&mut self, head: [u32; 6], entries: &[u32]) -> u64 {
+      let [code, number, flex, text, start, len] = head;
+      let (es, n) = (entries.as_ptr(), entries.len());
+      change!(self, $family::new, code, number, flex, text, start, len, es, n)
+    }
+
+    pub fn new_struct(&mut self, number: u32, types: &[u32]) -> u64 {
+      change!(self, $family::new_struct, number, types.as_ptr(), types.len())
+    }
+
+    pub fn new_union(&mut self, number: u32, types: &[u32]) -> u64 {
+      change!(self, $family::new_union, number, types.as_ptr(), types.len())
+    }
+
+    pub fn error(&mut self) -> u64 {
+      change!(self, $family::error)
+    }
+
+    pub fn nil(&mut self) -> u64 {
+      change!(self, $family::nil)
+    }
+
+    pub fn find(&self, t: u32) -> u64 {
+      read!(self, $family::find, t)
+    }
+
+    pub fn find_mut(&mut self, t: u32) -> u64 {
+      change!(self, $family::find_mut, t)
+    }
+
+    pub fn node(&self, t: u32, out: &mut [u32; OUT]) -> u64 {
+      read!(self, $family::node, t, out.as_mut_ptr())
+    }
+
+    pub fn child(&self, t: u32, j: u32, out: &mut [u32; 1]) -> u64 {
+      read!(self, $family::child, t, j, out.as_mut_ptr())
+    }
+
+    pub fn child_name(&self, t: u32, j: u32, out: &mut [u32; 3]) -> u64 {
+      read!(self, $family::child_name, t, j, out.as_mut_ptr())
+    }
+
+    pub fn figures(&self, out: &mut [u32; OUT]) -> u64 {
+      read!(self, $family::figures, out.as_mut_ptr())
+    }
+
+    pub fn is_nil(&self, t: u32) -> u64 {
+      read!(self, $family::is_nil, t)
+    }
+
+    pub fn self_inverse_param(&self, t: u32, param: bool) -> u64 {
+      read!(self, $family::self_inverse_param, t, param.into())
+    }
+
+    pub fn get_mod(&self, t: u32, out: &mut [u32; 1]) -> u64 {
+      read!(self, $family::get_mod, t, out.as_mut_ptr())
+    }
+
+    pub fn find_related(&self, marks: &mut [u8], t: u32) -> u64 {
+      read!(self, $family::find_related, marks.as_mut_ptr(), marks.len(), t)
+    }
+
+    pub fn force_kind(&mut self, t: u32, out: &mut [u32; OUT]) -> u64 {
+      change!(self, $family::force_kind, t, out.as_mut_ptr())
+    }
+
+    pub fn finish_inference(&mut self) -> u64 {
+      change!(self, $family::finish_inference)
+    }
+
+    pub fn finish_inference_where(&mut self, bytes: &[u8]) -> u64 {
+      change!(self, $family::finish_inference_where, bytes.as_ptr(), bytes.len())
+    }
+
+    pub fn reset(&mut self) -> u64 {
+      change!(self, $family::reset)
+    }
+
+    pub fn unify(&mut self, a: u32, b: u32) -> u64 {
+      change!(self, $family::unify, a, b)
+    }
+
+    pub fn unify_types(&mut self, a: &[u32], b: &[u32], inv: bool) -> u64 {
+      let inv = inv.into();
+      change!(self, $family::unify_types, a.as_ptr(), a.len(), b.as_ptr(), b.len(), inv)
+    }
+
+    pub fn unify_objects(&mut self, a: &[u32], b: &[u32], inv: bool) -> u64 {
+      let inv = inv.into();
+      change!(self, $family::unify_objects, a.as_ptr(), a.len(), b.as_ptr(), b.len(), inv)
+    }
+
+    pub fn unify_fn_sig(&mut self, a: &[u32], a_ret: u32, b: &[u32], b_ret: u32) -> u64 {
+      let (x, y) = (a.as_ptr(), b.as_ptr());
+      change!(self, $family::unify_fn_sig, x, a.len(), a_ret, y, b.len(), b_ret)
+    }
+
+    pub fn unify_impl_type(&mut self, (a, x): (u32, &[u32]), (b, y): (u32, &[u32])) -> u64 {
+      let (xs, ys) = (x.as_ptr(), y.as_ptr());
+      change!(self, $family::unify_impl_type, a, xs, x.len(), b, ys, y.len())
+    }
+
+    pub fn approx_eq(&self, (a, x): (u32, &[u32]), (b, y): (u32, &[u32])) -> u64 {
+      let (xs, ys) = (x.as_ptr(), y.as_ptr());
+      read!(self, $family::approx_eq, a, xs, x.len(), b, ys, y.len())
+    }
+
+    pub fn show(&self, t: u32, buf: &mut [u8]) -> u64 {
+      read!(self, $family::show, t, buf.as_mut_ptr(), buf.len())
+    }
+
+    pub fn show_impl_type(&self, (a, x): (u32, &[u32]), buf: &mut [u8]) -> u64 {
+      let (out, n) = (buf.as_mut_ptr(), buf.len());
+      read!(self, $family::show_impl_type, a, x.as_ptr(), x.len(), out, n)
+    }
+
+    fn import_from(
+      &mut self,
+      source: [&[u32]; 3],
+      types: &[u32],
+      params: Option<&[u32]>,
+      out: &mut [u32],
+    ) -> u64 {
+      let [sh, sw, sk] = source;
+      let (listed, ps) = (params.is_some().into(), params.unwrap_or(&[]));
+      change!(
+        self,
+        $family::import,
+        sh.as_ptr(),
+        sh.len(),
+        sw.as_ptr(),
+        sw.len(),
+        sk.as_ptr(),
+        sk.len(),
+        types.as_ptr(),
+        types.len(),
+        listed,
+        ps.as_ptr(),
+        ps.len(),
+        out.as_mut_ptr(),
+        out.len()
+      )
+    }
+
+    fn export_into(
+      &self,
+      into: [&mut [u32]; 3],
+      [nodes, children]: [u32; 2],
+      types: &[u32],
+      out: &mut [u32],
+    ) -> u64 {
+      let [h, ws, ks] = into;
+      read!(
+        self,
+        $family::export,
+        h.as_mut_ptr(),
+        h.len(),
+        ws.as_mut_ptr(),
+        ws.len(),
+        ks.as_mut_ptr(),
+        ks.len(),
+        nodes,
+        children,
+        types.as_ptr(),
+        types.len(),
+        out.as_mut_ptr(),
+        out.len()
+      )
+    }
+  };
+}
+
+#[allow(missing_docs)]
+impl Lent<'_> {
+  methods! { first }
+
+  fn rules(&self) -> &Rules {
+    self.rules
+  }
+
+  /// The test alone: 0, 2 or 8.
+  pub fn refusal(&self) -> u32 {
+    read!(self, first::refusal)
+  }
+
+  pub fn open(&mut self, nodes: u32, children: u32) -> u64 {
+    open([self.h, self.ws, self.ks], nodes, children)
+  }
+
+  pub fn import(
+    &mut self,
+    source: [&[u32]; 3],
+    types: &[u32],
+    params: Option<&[u32]>,
+    out: &mut [u32],
+  ) -> u64 {
+    self.import_from(source, types, params, out)
+  }
+
+  pub fn export(
+    &self,
+    into: [&mut [u32]; 3],
+    room: [u32; 2],
+    types: &[u32],
+    out: &mut [u32],
+  ) -> u64 {
+    self.export_into(into, room, types, out)
+  }
+}
+
+/// Opens a store in these words, whatever they held.
+fn open([h, ws, ks]: [&mut [u32]; 3], nodes: u32, children: u32) -> u64 {
+  // SAFETY: pointers and lengths of three slices, each borrowed alone. The call tests what is left.
+  unsafe {
+    faroalder_open(
+      h.as_mut_ptr(),
+      h.len(),
+      ws.as_mut_ptr(),
+      ws.len(),
+      ks.as_mut_ptr(),
+      ks.len(),
+      nodes,
+      children,
+    )
+  }
+}
+
+/// Writes the words of a chart with these records to the front of `words`: 0, or 7 where there is too little room.
+pub fn load(records: &[Record], words: &mut [u32]) -> u32 {
+  // SAFETY: pointers and lengths of two slices, the second borrowed alone; a `Record` is laid out as the header's.
+  unsafe { faroalder_load(records.as_ptr(), records.len(), words.as_mut_ptr(), words.len()) }
+}
+
+/// Types as the words that they are.
+pub fn words(types: &[Type]) -> &[u32] {
+  // SAFETY: a `Type` is a `u32` and nothing else, by `repr(transparent)`.
+  unsafe { std::slice::from_raw_parts(types.as_ptr().cast(), types.len()) }
+}
+
+/// Types as the words that they are, to be written; any word is a type.
+pub fn words_mut(types: &mut [Type]) -> &mut [u32] {
+  // SAFETY: a `Type` is a `u32` and nothing else, by `repr(transparent)`.
+  unsafe { std::slice::from_raw_parts_mut(types.as_mut_ptr().cast(), types.len()) }
+}
+
+/// Words for a store of this room. A room above the limits gets no more than these: the opening refuses it.
+fn blank(nodes: u32, children: u32) -> Words {
+  let zeros = |words: N| vec![0; words];
+  Words {
+    h: zeros(faroalder_header_words()),
+    ws: zeros(faroalder_node_words(nodes.min(crate::MAX_NODES))),
+    ks: zeros(faroalder_child_words(children.min(crate::MAX_CHILDREN))),
+  }
+}
+
+/// The number that an answer refuses with.
+fn refused(answer: u64) -> Result<(), u32> {
+  if answer < REFUSED { Ok(()) } else { Err((answer - REFUSED) as u32) }
+}
+
+impl Words {
+  fn parts(&mut self) -> [&mut [u32]; 3] {
+    [&mut self.h, &mut self.ws, &mut self.ks]
+  }
+
+  /// The test of these words and the rules: 2 or 8 where they break it.
+  fn test(&mut self, rules: &Rules) -> Result<(), u32> {
+    let [h, ws, ks] = self.parts();
+    match (Lent { rules, h, ws, ks }).refusal() {
+      0 => Ok(()),
+      number => Err(number),
+    }
+  }
+
+  fn opened(nodes: u32, children: u32) -> Result<Words, u32> {
+    let mut words = blank(nodes, children);
+    refused(open(words.parts(), nodes, children))?;
+    Ok(words)
+  }
+}
+
+impl Rules {
+  /// Tests the rules, by the test of a store without a node: 2 where they break it.
+  pub fn tested(self) -> Result<Tested, u32> {
+    Words::opened(0, 0)?.test(&self)?;
+    Ok(Tested(Arc::new(self)))
+  }
+}
+
+impl Tested {
+  /// The rules.
+  pub fn rules(&self) -> &Rules {
+    &self.0
+  }
+}
+
+impl Store {
+  methods! { second }
+
+  fn rules(&self) -> &Rules {
+    &self.rules.0
+  }
+
+  pub fn tested(&self) -> &Tested {
+    &self.rules
+  }
+
+  fn of(rules: &Tested, Words { h, ws, ks }: Words) -> Store {
+    Store { rules: rules.clone(), h, ws, ks }
+  }
+
+  /// A store without a node: opened by the library, hence sound.
+  pub fn open(rules: &Tested, nodes: u32, children: u32) -> Result<Store, u32> {
+    Ok(Store::of(rules, Words::opened(nodes, children)?))
+  }
+
+  /// Words from elsewhere, tested here.
+  pub fn adopt(rules: &Tested, mut words: Words) -> Result<Store, u32> {
+    words.test(rules.rules())?;
+    Ok(Store::of(rules, words))
+  }
+
+  pub fn into_words(self) -> Words {
+    Words { h: self.h, ws: self.ws, ks: self.ks }
+  }
+
+  /// The same nodes and children with another room; 10 or 11 where it is too small for them. The new words are tested.
+  pub fn set_room(&mut self, nodes: u32, children: u32) -> Result<(), u32> {
+    let mut words = Words::opened(nodes, children)?;
+    for (made, room, number) in [(self.h[0], nodes, 10), (self.h[1], children, 11)] {
+      if made > room {
+        return Err(number);
+      }
+    }
+    let room = [words.h[ROOM.start], words.h[ROOM.start + 1]];
+    words.h.copy_from_slice(&self.h);
+    words.h[ROOM].copy_from_slice(&room);
+    let [nodes, children] = [self.h[COUNTS.start], self.h[COUNTS.start + 1]];
+    let (n, c) = (faroalder_node_words(nodes), faroalder_child_words(children));
+    words.ws[..n].copy_from_slice(&self.ws[..n]);
+    words.ks[..c].copy_from_slice(&self.ks[..c]);
+    words.test(self.rules())?;
+    *self = Store::of(&self.rules, words);
+    Ok(())
+  }
+
+  /// An import out of another store. The second family asks for a source that passed the test by the same rules; one
+  /// with other rules goes to the first family, which tests it by these.
+  pub fn import(
+    &mut self,
+    source: &Store,
+    types: &[u32],
+    params: Option<&[u32]>,
+    out: &mut [u32],
+  ) -> u64 {
+    let from: [&[u32]; 3] = [&source.h, &source.ws, &source.ks];
+    if Arc::ptr_eq(&self.rules.0, &source.rules.0) || self.rules() == source.rules() {
+      return self.import_from(from, types, params, out);
+    }
+    let Store { rules, h, ws, ks } = self;
+    Lent { rules: &rules.0, h, ws, ks }.import(from, types, params, out)
+  }
+
+  /// An export into a fresh store of this room.
+  pub fn export(
+    &self,
+    nodes: u32,
+    children: u32,
+    types: &[u32],
+    out: &mut [u32],
+  ) -> Result<Store, u32> {
+    let mut words = blank(nodes, children);
+    refused(self.export_into(words.parts(), [nodes, children], types, out))?;
+    Ok(Store::of(&self.rules, words))
+  }
+}

@@ -1,0 +1,625 @@
+//! The type store.
+
+use std::{collections::HashSet, fmt};
+
+use crate::{
+  answers::{Figures, Forced, Mod, Node, UnifyResult},
+  chart::{Chart, DefId, Name, StructId, UnionId, refused},
+  kind::{self, Head, ImplType, Kind, Parts, TypeKind},
+  raw::{self, OUT, REFUSED, Store, Words},
+  refusal::Refusal,
+  transfer::{TransferTypes, TypeCtx},
+  ty::{Inverted, Span, Type, TypeIdx},
+};
+
+/// A text longer than this isn't made by [`Types::show`]: shared types have texts that never end.
+pub const MAX_SHOWN: usize = 1 << 24;
+
+/// A text up to this length is written without a buffer on the heap.
+const SHORT_TEXT: usize = 512;
+
+/// How many fields of nodes follow one another where the library writes them out.
+const PARENT_OR_SPAN: usize = 0;
+const SIZE: usize = 1;
+const INVERTED: usize = 2;
+
+/// Vine's type store. Its words are its own, so a call tests its arguments and not the whole store.
+///
+/// Room for nodes and children is chosen when it is opened and can be chosen anew by [`set_room`](Types::set_room); a
+/// call that needs more is refused with [`Refusal::NodesFull`] or [`Refusal::ChildrenFull`]. A call that is refused has
+/// changed nothing.
+///
+/// Some calls walk down a type and take stack as they go: up to 640 bytes a level, so 2.6 MB at the very worst, a chain
+/// of 4,096 nodes. A thread with less should keep its stores smaller.
+///
+/// ```
+/// use faroalder::{Chart, Refusal, Span, TypeKind, Types, UnifyResult};
+///
+/// let chart = Chart::empty("")?;
+/// let mut types = Types::open(&chart, 256, 1024)?;
+/// let a = types.new_var(Span(10))?;
+/// let b = types.new_var(Span(20))?;
+/// let x = types.new(TypeKind::Tuple(&[a, !b]))?;
+/// let y = types.new(TypeKind::Tuple(&[!b, a]))?;
+/// assert_eq!(types.unify(x, y)?, UnifyResult::Success);
+/// assert_eq!(types.show(!x)?, "(?1, ?1)");
+/// # Ok::<(), Refusal>(())
+/// ```
+#[derive(Clone)]
+pub struct Types {
+  store: Store,
+  /// Where the children of a kind that is made are laid out; what it holds between calls is of no account.
+  entries: Vec<u32>,
+}
+
+/// The value of an answer.
+fn value(answer: u64) -> Result<u32, Refusal> {
+  if answer < REFUSED { Ok(answer as u32) } else { Err(refused((answer - REFUSED) as u32)) }
+}
+
+fn ty(answer: u64) -> Result<Type, Refusal> {
+  value(answer).map(Type::from_word)
+}
+
+fn flag(answer: u64) -> Result<bool, Refusal> {
+  value(answer).map(|word| word != 0)
+}
+
+fn unified(answer: u64) -> Result<UnifyResult, Refusal> {
+  value(answer).map(|word| match word {
+    0 => UnifyResult::Success,
+    1 => UnifyResult::Failure,
+    _ => UnifyResult::Indeterminate,
+  })
+}
+
+/// Of a call that no store of this crate is refused.
+fn done(answer: u64) {
+  assert!(answer < REFUSED, "a sound store is never turned back here");
+}
+
+fn impl_words(a: &ImplType) -> (u32, &[u32]) {
+  let (number, types) = a.parts();
+  (number, raw::words(types))
+}
+
+/// The kind in a node's or force_kind's words.
+fn parts(out: &[u32; OUT]) -> Parts {
+  let [_, _, _, code, number, dual, flex, text, start, len, _, count] = *out;
+  Parts { code, number, dual: dual != 0, flex, name: [text, start, len], count }
+}
+
+/// A text by a call that writes it into a buffer, into larger ones until one is long enough.
+fn shown(show: impl Fn(&mut [u8]) -> u64) -> Result<Vec<u8>, Refusal> {
+  let mut short = [0; SHORT_TEXT];
+  let mut size = SHORT_TEXT;
+  match value(show(&mut short)) {
+    Err(Refusal::Short) => {}
+    answer => return answer.map(|len| short[..len as usize].to_vec()),
+  }
+  loop {
+    size = (16 * size).min(MAX_SHOWN);
+    let mut buf = vec![0; size];
+    match value(show(&mut buf)) {
+      Err(Refusal::Short) if size < MAX_SHOWN => {}
+      answer => {
+        buf.truncate(answer? as usize);
+        buf.shrink_to_fit();
+        return Ok(buf);
+      }
+    }
+  }
+}
+
+/// Names need not be UTF-8; what isn't is replaced.
+fn string(bytes: Vec<u8>) -> String {
+  String::from_utf8(bytes).unwrap_or_else(|error| String::from_utf8_lossy(error.as_bytes()).into())
+}
+
+/// Opening, rooms, words.
+impl Types {
+  /// A store without a node, with room for so many nodes, at most 4,096, and so many children over all nodes ever made,
+  /// at most 16,384. Else [`Refusal::Unopenable`].
+  pub fn open(chart: &Chart, nodes: u32, children: u32) -> Result<Types, Refusal> {
+    Store::open(&chart.0, nodes, children).map(Types::of).map_err(refused)
+  }
+
+  /// A store with all the room there can be.
+  pub fn open_largest(chart: &Chart) -> Types {
+    Types::open(chart, crate::MAX_NODES, crate::MAX_CHILDREN)
+      .expect("the limits are within the limits")
+  }
+
+  /// Words from elsewhere as a store: they are tested, once, and [`Refusal::Unsound`] if they aren't sound.
+  ///
+  /// ```
+  /// use faroalder::{Chart, Refusal, Span, Types};
+  ///
+  /// let chart = Chart::empty("")?;
+  /// let mut types = Types::open(&chart, 8, 8)?;
+  /// types.new_var(Span(1))?;
+  /// let mut words = types.into_words();
+  /// assert!(Types::adopt(&chart, words.clone()).is_ok());
+  /// words.h[0] += 1;
+  /// assert_eq!(Types::adopt(&chart, words).unwrap_err(), Refusal::Unsound);
+  /// # Ok::<(), Refusal>(())
+  /// ```
+  pub fn adopt(chart: &Chart, words: Words) -> Result<Types, Refusal> {
+    Store::adopt(&chart.0, words).map(Types::of).map_err(refused)
+  }
+
+  /// The store's words, for [`adopt`](Types::adopt) or for a program in another language.
+  pub fn into_words(self) -> Words {
+    self.store.into_words()
+  }
+
+  fn of(store: Store) -> Types {
+    Types { store, entries: Vec::new() }
+  }
+
+  /// Room for more, or for less, with every node as it is: every type stays what it was. [`Refusal::Unopenable`] above
+  /// the limits; [`Refusal::NodesFull`] or [`Refusal::ChildrenFull`] if what is made needs more.
+  ///
+  /// ```
+  /// use faroalder::{Chart, Refusal, Span, TypeKind, Types};
+  ///
+  /// let mut types = Types::open(&Chart::empty("")?, 1, 0)?;
+  /// let a = types.new_var(Span(1))?;
+  /// assert_eq!(types.new(TypeKind::Ref(a)), Err(Refusal::NodesFull));
+  /// types.set_room(2, 1)?;
+  /// let b = types.new(TypeKind::Ref(a))?;
+  /// assert_eq!(types.show(b)?, "&?0");
+  /// # Ok::<(), Refusal>(())
+  /// ```
+  pub fn set_room(&mut self, nodes: u32, children: u32) -> Result<(), Refusal> {
+    self.store.set_room(nodes, children).map_err(refused)
+  }
+
+  /// The chart that the store was opened with.
+  pub fn chart(&self) -> Chart {
+    Chart(self.store.tested().clone())
+  }
+
+  /// Counts, room, the remembered types and the report count.
+  pub fn figures(&self) -> Figures {
+    let mut out = [0; OUT];
+    done(self.store.figures(&mut out));
+    let [nodes, children, node_room, child_room, has_error, error, has_nil, nil, low, high, _, _] =
+      out;
+    let remembered = |has: u32, word| (has != 0).then_some(Type::from_word(word));
+    Figures {
+      nodes,
+      children,
+      node_room,
+      child_room,
+      error: remembered(has_error, error),
+      nil: remembered(has_nil, nil),
+      reports: u64::from(low) | u64::from(high) << 32,
+    }
+  }
+
+  /// How many nodes are made.
+  pub fn len(&self) -> usize {
+    self.figures().nodes as usize
+  }
+
+  /// Whether no node is made.
+  pub fn is_empty(&self) -> bool {
+    self.len() == 0
+  }
+
+  /// Forgets every node and child. The report count stays.
+  pub fn reset(&mut self) {
+    done(self.store.reset());
+  }
+}
+
+/// The makers.
+impl Types {
+  /// A new node of this kind.
+  ///
+  /// ```
+  /// use faroalder::{Chart, Refusal, TypeKind, Types};
+  ///
+  /// let chart = Chart::empty("ab")?;
+  /// let (a, b) = (chart.name("a").unwrap(), chart.name("b").unwrap());
+  /// let mut types = Types::open(&chart, 8, 8)?;
+  /// let never = types.new(TypeKind::Never)?;
+  /// let object = types.new(TypeKind::Object(&[(a, never), (b, !never)]))?;
+  /// assert_eq!(types.show(object)?, "{ a: !, b: ~! }");
+  /// assert_eq!(types.new(TypeKind::Object(&[(b, never), (a, never)])), Err(Refusal::Unmakeable));
+  /// # Ok::<(), Refusal>(())
+  /// ```
+  #[allow(clippy::new_ret_no_self)]
+  pub fn new(&mut self, kind: TypeKind<'_>) -> Result<Type, Refusal> {
+    let Head { code, number, flex, name: [text, start, len] } = kind.head(&mut self.entries);
+    ty(self.store.new_kind([code, number, flex, text, start, len], &self.entries))
+  }
+
+  /// A new type variable; an inference error would be reported at the span.
+  pub fn new_var(&mut self, span: Span) -> Result<Type, Refusal> {
+    ty(self.store.new_var(span.0))
+  }
+
+  /// So many new type variables.
+  pub fn new_vars(&mut self, span: Span, len: usize) -> Result<Vec<Type>, Refusal> {
+    // More than there can ever be room for are refused like the first that is too many.
+    let count = len.min(crate::MAX_NODES as usize + 1);
+    let mut out = vec![Type::from_word(0); count];
+    value(self.store.new_vars(span.0, count as u32, raw::words_mut(&mut out)))?;
+    Ok(out)
+  }
+
+  /// A new struct type over parameters; it is self-dual as the chart says.
+  pub fn new_struct(&mut self, id: StructId, type_params: &[Type]) -> Result<Type, Refusal> {
+    ty(self.store.new_struct(id.place(), raw::words(type_params)))
+  }
+
+  /// A new union type over parameters; it is self-dual as the chart says.
+  pub fn new_union(&mut self, id: UnionId, type_params: &[Type]) -> Result<Type, Refusal> {
+    ty(self.store.new_union(id.place(), raw::words(type_params)))
+  }
+
+  /// The error type: made by the first call, returned by every later one until [`reset`](Types::reset).
+  pub fn error(&mut self) -> Result<Type, Refusal> {
+    ty(self.store.error())
+  }
+
+  /// The empty tuple: made by the first call, returned by every later one until [`reset`](Types::reset).
+  pub fn nil(&mut self) -> Result<Type, Refusal> {
+    ty(self.store.nil())
+  }
+}
+
+/// Unifying.
+impl Types {
+  /// Makes two types one, as far as that goes. What was bound before a Failure stays bound.
+  ///
+  /// ```
+  /// use faroalder::{Chart, Refusal, Span, TypeKind, Types, UnifyResult};
+  ///
+  /// let mut types = Types::open(&Chart::empty("")?, 8, 8)?;
+  /// let a = types.new_var(Span(1))?;
+  /// let inside = types.new(TypeKind::Tuple(&[a]))?;
+  /// assert_eq!(types.unify(a, inside)?, UnifyResult::Failure);
+  /// assert_eq!(types.unify(a, !a)?, UnifyResult::Failure);
+  /// let never = types.new(TypeKind::Never)?;
+  /// assert_eq!(types.unify(a, never)?, UnifyResult::Success);
+  /// # Ok::<(), Refusal>(())
+  /// ```
+  pub fn unify(&mut self, a: Type, b: Type) -> Result<UnifyResult, Refusal> {
+    unified(self.store.unify(a.word(), b.word()))
+  }
+
+  /// Unifies pair by pair, the second of each inverted if `inv` says so. Lists of different lengths: Failure, and
+  /// nothing is unified.
+  pub fn unify_types(
+    &mut self,
+    a: &[Type],
+    b: &[Type],
+    inv: Inverted,
+  ) -> Result<UnifyResult, Refusal> {
+    unified(self.store.unify_types(raw::words(a), raw::words(b), inv.0))
+  }
+
+  /// Unifies field by field. Fields whose name is on one side alone: Failure, and the others are unified. Both lists are
+  /// ascending by their names' bytes.
+  pub fn unify_objects(
+    &mut self,
+    a: &[(Name, Type)],
+    b: &[(Name, Type)],
+    inv: Inverted,
+  ) -> Result<UnifyResult, Refusal> {
+    self.entries.clear();
+    kind::fields(&mut self.entries, a);
+    let first = self.entries.len();
+    kind::fields(&mut self.entries, b);
+    let (x, y) = self.entries.split_at(first);
+    unified(self.store.unify_objects(x, y, inv.0))
+  }
+
+  /// Unifies two signatures, each its parameters and its return.
+  pub fn unify_fn_sig(
+    &mut self,
+    (a, a_ret): (&[Type], Type),
+    (b, b_ret): (&[Type], Type),
+  ) -> Result<UnifyResult, Refusal> {
+    unified(self.store.unify_fn_sig(raw::words(a), a_ret.word(), raw::words(b), b_ret.word()))
+  }
+
+  /// Unifies two impl types: those of one trait type by type.
+  pub fn unify_impl_type(&mut self, a: &ImplType, b: &ImplType) -> Result<UnifyResult, Refusal> {
+    unified(self.store.unify_impl_type(impl_words(a), impl_words(b)))
+  }
+}
+
+/// Inference: forcing and finishing.
+impl Types {
+  /// The type's kind. Where there is none, that is reported once: the span is in the answer and the report count rises.
+  ///
+  /// ```
+  /// use faroalder::{Chart, Forced, Kind, Refusal, Span, Types};
+  ///
+  /// let mut types = Types::open(&Chart::empty("")?, 8, 8)?;
+  /// let a = types.new_var(Span(7))?;
+  /// assert!(matches!(types.force_kind(a)?, Forced::Reported(Span(7))));
+  /// assert!(matches!(types.force_kind(a)?, Forced::Failed));
+  /// assert!(matches!(types.force_kind(a)?.kind(), (_, Kind::Error)));
+  /// assert_eq!(types.figures().reports, 1);
+  /// # Ok::<(), Refusal>(())
+  /// ```
+  pub fn force_kind(&mut self, t: Type) -> Result<Forced<'_>, Refusal> {
+    let mut out = [0; OUT];
+    Ok(match value(self.store.force_kind(t.word(), &mut out))? {
+      1 => Forced::Reported(Span(out[PARENT_OR_SPAN])),
+      2 => Forced::Failed,
+      _ => {
+        let root = self.find(t)?.idx();
+        Forced::Known(Inverted(out[INVERTED] != 0), Kind::of(self, root, parts(&out)))
+      }
+    })
+  }
+
+  /// Every root without a kind becomes Default, uninverted.
+  pub fn finish_inference(&mut self) {
+    done(self.store.finish_inference());
+  }
+
+  /// Every root without a kind that the filter chooses becomes Default, uninverted.
+  ///
+  /// ```
+  /// use faroalder::{Chart, Refusal, Span, Types};
+  ///
+  /// let mut types = Types::open(&Chart::empty("")?, 8, 8)?;
+  /// let (a, b) = (types.new_var(Span(1))?, types.new_var(Span(2))?);
+  /// types.finish_inference_where(|node| node == b.idx());
+  /// assert_eq!((types.show(a)?, types.show(b)?), ("?0".into(), "_".into()));
+  /// # Ok::<(), Refusal>(())
+  /// ```
+  pub fn finish_inference_where(&mut self, filter: impl Fn(TypeIdx) -> bool) {
+    let chosen: Vec<u8> =
+      (0..self.len()).map(|node| filter(TypeIdx::new(node as u16)).into()).collect();
+    done(self.store.finish_inference_where(&chosen));
+  }
+}
+
+/// Reading.
+impl Types {
+  /// The root of a type, with the inversions on the way.
+  pub fn find(&self, t: Type) -> Result<Type, Refusal> {
+    ty(self.store.find(t.word()))
+  }
+
+  /// The same; and every node on the way is pointed straight at the root.
+  pub fn find_mut(&mut self, t: Type) -> Result<Type, Refusal> {
+    ty(self.store.find_mut(t.word()))
+  }
+
+  /// The kind of a type, if it is known, and whether the type is the kind's inverse.
+  ///
+  /// ```
+  /// use faroalder::{Chart, Inverted, Kind, Refusal, Span, TypeKind, Types};
+  ///
+  /// let mut types = Types::open(&Chart::empty("")?, 8, 8)?;
+  /// let a = types.new_var(Span(1))?;
+  /// let pair = types.new(TypeKind::Tuple(&[a, !a]))?;
+  /// assert!(types.kind(a)?.is_none());
+  /// let Some((Inverted(true), Kind::Tuple(children))) = types.kind(!pair)? else { panic!() };
+  /// assert_eq!(children.collect::<Vec<_>>(), [a, !a]);
+  /// # Ok::<(), Refusal>(())
+  /// ```
+  pub fn kind(&self, t: Type) -> Result<Option<(Inverted, Kind<'_>)>, Refusal> {
+    let root = self.find(t)?;
+    Ok(match self.node(root.idx())? {
+      Node::Known { inverted, kind, .. } => Some((inverted ^ root.inv(), kind)),
+      _ => None,
+    })
+  }
+
+  /// The children of a type's kind, as the kind has them; none where there is no kind.
+  pub fn children(&self, t: Type) -> Result<impl Iterator<Item = Type> + '_, Refusal> {
+    Ok(self.kind(t)?.into_iter().flat_map(|(_, kind)| kind.children()))
+  }
+
+  /// A node as it stands.
+  pub fn node(&self, node: TypeIdx) -> Result<Node<'_>, Refusal> {
+    let mut out = [0; OUT];
+    let tag = value(self.store.node(Type::from(node).word(), &mut out))?;
+    let size = out[SIZE];
+    Ok(match tag {
+      0 => Node::Child(Type::from_word(out[PARENT_OR_SPAN])),
+      1 => Node::Unknown { span: Span(out[PARENT_OR_SPAN]), size },
+      2 => Node::InferenceFailed { size },
+      _ => {
+        let inverted = Inverted(out[INVERTED] != 0);
+        Node::Known { inverted, kind: Kind::of(self, node, parts(&out)), size }
+      }
+    })
+  }
+
+  /// Every node as it stands, in order.
+  pub fn nodes(&self) -> impl ExactSizeIterator<Item = Node<'_>> {
+    (0..self.len() as u16).map(|node| self.node(TypeIdx::new(node)).expect("the node is made"))
+  }
+
+  pub(crate) fn child(&self, node: TypeIdx, j: u32) -> Option<Type> {
+    let mut out = [0];
+    let there = value(self.store.child(Type::from(node).word(), j, &mut out));
+    (there == Ok(1)).then_some(Type::from_word(out[0]))
+  }
+
+  pub(crate) fn child_name(&self, node: TypeIdx, j: u32) -> Option<Name> {
+    let mut out = [0; 3];
+    let there = value(self.store.child_name(Type::from(node).word(), j, &mut out));
+    (there == Ok(1)).then_some(Name::from_words(out))
+  }
+
+  /// Whether a type equals its inverse.
+  pub fn self_inverse(&self, t: Type) -> Result<bool, Refusal> {
+    self.self_inverse_param(t, false)
+  }
+
+  /// The same, where `param` says whether type parameters count as equal to their inverses.
+  pub fn self_inverse_param(&self, t: Type, param: bool) -> Result<bool, Refusal> {
+    flag(self.store.self_inverse_param(t.word(), param))
+  }
+
+  /// Whether a type is the empty tuple.
+  pub fn is_nil(&self, t: Type) -> Result<bool, Refusal> {
+    flag(self.store.is_nil(t.word()))
+  }
+
+  /// The module of a type's definition, through references.
+  pub fn get_mod(&self, t: Type) -> Result<Mod, Refusal> {
+    let mut out = [0];
+    Ok(match value(self.store.get_mod(t.word(), &mut out))? {
+      0 => Mod::None,
+      1 => Mod::Def(DefId(out[0])),
+      _ => Mod::Error,
+    })
+  }
+
+  /// Whether two impl types are of one trait; never with an error.
+  pub fn approx_eq(&self, a: &ImplType, b: &ImplType) -> Result<bool, Refusal> {
+    flag(self.store.approx_eq(impl_words(a), impl_words(b)))
+  }
+
+  /// Adds the roots that a type leads to, and stops at each that the set has already.
+  pub fn find_related(&self, t: Type, set: &mut HashSet<TypeIdx>) -> Result<(), Refusal> {
+    let mut marks = vec![0; self.len()];
+    for node in set.iter() {
+      if let Some(mark) = marks.get_mut(node.get()) {
+        *mark = 1;
+      }
+    }
+    self.mark_related(t, &mut marks)?;
+    let marked = |&node: &usize| marks[node] != 0;
+    set.extend((0..marks.len()).filter(marked).map(|node| TypeIdx::new(node as u16)));
+    Ok(())
+  }
+
+  /// The same with a byte for each node: nonzero means already in the set, 1 is written for each root added. Too few:
+  /// [`Refusal::Short`].
+  pub fn mark_related(&self, t: Type, marks: &mut [u8]) -> Result<(), Refusal> {
+    value(self.store.find_related(marks, t.word())).map(|_| ())
+  }
+}
+
+/// Printing.
+impl Types {
+  /// A type's text; [`Refusal::Short`] above [`MAX_SHOWN`] bytes. Bytes of names that aren't UTF-8 are replaced.
+  pub fn show(&self, t: Type) -> Result<String, Refusal> {
+    shown(|buf| self.store.show(t.word(), buf)).map(string)
+  }
+
+  /// Writes a type's text to the front of a buffer and answers that part. Where the text is longer: [`Refusal::Short`],
+  /// and the buffer has its first bytes.
+  ///
+  /// ```
+  /// use faroalder::{Chart, Refusal, TypeKind, Types};
+  ///
+  /// let mut types = Types::open(&Chart::empty("")?, 8, 8)?;
+  /// let nil = types.nil()?;
+  /// let pair = types.new(TypeKind::Tuple(&[nil, nil]))?;
+  /// let mut buf = [b'.'; 10];
+  /// assert_eq!(types.show_into(pair, &mut buf)?, b"((), ())");
+  /// assert_eq!(&buf, b"((), ())..");
+  /// assert_eq!(types.show_into(pair, &mut buf[..5]), Err(Refusal::Short));
+  /// # Ok::<(), Refusal>(())
+  /// ```
+  pub fn show_into<'b>(&self, t: Type, buf: &'b mut [u8]) -> Result<&'b mut [u8], Refusal> {
+    let len = value(self.store.show(t.word(), buf))?;
+    Ok(&mut buf[..len as usize])
+  }
+
+  /// An impl type's text, as [`show`](Types::show).
+  pub fn show_impl_type(&self, a: &ImplType) -> Result<String, Refusal> {
+    shown(|buf| self.store.show_impl_type(impl_words(a), buf)).map(string)
+  }
+
+  /// An impl type's text, as [`show_into`](Types::show_into).
+  pub fn show_impl_type_into<'b>(
+    &self,
+    a: &ImplType,
+    buf: &'b mut [u8],
+  ) -> Result<&'b mut [u8], Refusal> {
+    let len = value(self.store.show_impl_type(impl_words(a), buf))?;
+    Ok(&mut buf[..len as usize])
+  }
+}
+
+/// From store to store.
+impl Types {
+  /// A value of another store in terms of this one: at most 255 types, copied with all that they lead to, whatever they
+  /// share copied once. With a parameter list, a `Param` becomes its entry.
+  ///
+  /// ```
+  /// use faroalder::{Chart, Refusal, Span, TypeKind, Types};
+  ///
+  /// let chart = Chart::empty("T")?;
+  /// let mut one = Types::open(&chart, 8, 8)?;
+  /// let param = one.new(TypeKind::Param(0, chart.name("T").unwrap()))?;
+  /// let both = one.new(TypeKind::Tuple(&[param, !param]))?;
+  /// let kept = one.export(&both)?;
+  ///
+  /// let mut two = Types::open(&chart, 8, 8)?;
+  /// let a = two.new_var(Span(1))?;
+  /// let made = two.import(&kept, Some(&[a]))?;
+  /// assert_eq!(two.show(made)?, "(?0, ~?0)");
+  /// assert_eq!(two.import(&kept, Some(&[])), Err(Refusal::NoEntry));
+  /// # Ok::<(), Refusal>(())
+  /// ```
+  pub fn import<T: TransferTypes>(
+    &mut self,
+    source: &TypeCtx<T>,
+    params: Option<&[Type]>,
+  ) -> Result<T, Refusal> {
+    let mut types = Vec::new();
+    source.inner.list(&mut types);
+    let made = self.import_types(&source.types, &types, params)?;
+    Ok(source.inner.with(&mut made.into_iter()))
+  }
+
+  /// The same for a list of types of a store that is only lent.
+  pub fn import_types(
+    &mut self,
+    source: &Types,
+    types: &[Type],
+    params: Option<&[Type]>,
+  ) -> Result<Vec<Type>, Refusal> {
+    let mut out = vec![Type::from_word(0); types.len()];
+    let params = params.map(raw::words);
+    value(self.store.import(&source.store, raw::words(types), params, raw::words_mut(&mut out)))?;
+    Ok(out)
+  }
+
+  /// A value with a fresh store of its own, of the same room: the remembered error and nil types, then all that the
+  /// value's types lead to.
+  pub fn export<T: TransferTypes>(&self, value: &T) -> Result<TypeCtx<T>, Refusal> {
+    let Figures { node_room, child_room, .. } = self.figures();
+    self.export_with_room(value, node_room, child_room)
+  }
+
+  /// The same into a fresh store with room for so many nodes and children.
+  pub fn export_with_room<T: TransferTypes>(
+    &self,
+    value: &T,
+    nodes: u32,
+    children: u32,
+  ) -> Result<TypeCtx<T>, Refusal> {
+    let mut types = Vec::new();
+    value.list(&mut types);
+    let mut out = vec![Type::from_word(0); types.len()];
+    let fresh = self
+      .store
+      .export(nodes, children, raw::words(&types), raw::words_mut(&mut out))
+      .map_err(refused)?;
+    Ok(TypeCtx { types: Types::of(fresh), inner: value.with(&mut out.into_iter()) })
+  }
+}
+
+impl fmt::Debug for Types {
+  fn fmt(&self, f: &mut fmt::Formatter<'_>) -> fmt::Result {
+    self.figures().fmt(f)
+  }
+}
