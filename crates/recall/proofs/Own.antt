@@ -12,7 +12,7 @@ use Rattle.scope.specs.Base.{pick}
 use Rattle.scope.specs.Types.{Ty}
 use Rattle.recall.specs.Memory.{wordsFor}
 use Rattle.recall.specs.Places.{codeOf, slotOf, entries}
-use Rattle.recall.specs.Own.{Own, EachItsOwn}
+use Rattle.recall.specs.Own.{Own, EachItsOwn, NeverLast}
 
 abbrev code : Bool → ℕ → ℕ
 code v i = pick v (2 * i + 1) (2 * i)
@@ -60,3 +60,6 @@ module _ (m : List ℕ) (n : ℕ) (long : wordsFor n ≤ length m) where
 
 pub each-its-own : EachItsOwn
 each-its-own m n h = own m n h
+
+pub never-last : NeverLast
+never-last n h = omega (arith, mul-le-mul-right (n + 1) h)

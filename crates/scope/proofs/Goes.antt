@@ -135,11 +135,6 @@ new-then {ls} {m} {m₁} {m₂} g h = record { only = λ t i. go t (h .only t i)
 pub new-refl : {ls : List ℕ} {m : Memory} → New ls m m
 new-refl = record { only = λ t i. inl i }
 
-pub visited-notes : (c l : ℕ) (ts : List Note) (v : ℕ) → visitedAt c l ts v .notes ≡ ts
-visited-notes zero zero ts v = refl
-visited-notes zero (suc l) ts v = refl
-visited-notes (suc c) l ts v = refl
-
 pub found-notes : (m : Memory) (ns : List Node) (t : Ty) → found m ns t .notes ≡ m .notes
 found-notes m ns t = go (near ns t)
   where
@@ -226,41 +221,41 @@ settled-told m c a b r le = go r
     go Failure e = by Failure e
     go Indeterminate e = by Indeterminate e
 
--- what is left to do, where a change costs k
+-- from one state to the next the clock can move less often, by one at least where it moved
+module _ {m m′ : Memory} {ns ns′ : List Node} (g : Goes m m′ ns ns′) where
+  pub moves-le : moves m′ ns′ ≤ moves m ns
+  moves-le = omega (arith, g .fewer, g .on)
+
+  pub moves-lt : (m′ .clock ≡ m .clock → ⊥) → moves m′ ns′ < moves m ns
+  moves-lt e = omega (arith, g .fewer, g .on, e)
+
 module _ (n : ℕ) where
+  -- what is left to do, where a change costs k
   abbrev pub room : ℕ → Memory → List Node → ℕ
   room k m ns = untold n m + k * moves m ns
 
-  module _ {m m′ : Memory} {ns ns′ : List Node} (g : Goes m m′ ns ns′) (k : ℕ) (h : pairsOf n ≤ k) where
-    pub room-le : room k m′ ns′ ≤ room k m ns
-    room-le = go (ℕ-discrete (m′ .clock) (m .clock))
+  module _ {m m′ : Memory} {ns ns′ : List Node} (g : Goes m m′ ns ns′) (k : ℕ) where
+    pub room-le : pairsOf n ≤ k → room k m′ ns′ ≤ room k m ns
+    room-le h = go (ℕ-discrete (m′ .clock) (m .clock))
       where
         go : Dec (m′ .clock ≡ m .clock) → room k m′ ns′ ≤ room k m ns
-        go (yes e) = omega (arith, untold-le n m m′ (g .kept e), mul-le-mul-left k (less e))
-          where
-            less : m′ .clock ≡ m .clock → moves m′ ns′ ≤ moves m ns
-            less e = omega (arith, g .fewer, e)
-        go (no e) = omega (arith, untold-most n m′, h, mul-le-mul-left k less)
-          where
-            less : suc (moves m′ ns′) ≤ moves m ns
-            less = omega (arith, g .fewer, g .on, e)
-
-    pub moves-le : moves m′ ns′ ≤ moves m ns
-    moves-le = omega (arith, g .fewer, g .on)
-
-    pub moves-lt : (m′ .clock ≡ m .clock → ⊥) → moves m′ ns′ < moves m ns
-    moves-lt e = omega (arith, g .fewer, g .on, e)
+        go (yes e) = omega (arith, untold-le n m m′ (g .kept e), mul-le-mul-left k (moves-le g))
+        go (no e) = omega (arith, untold-most n m′, h, mul-le-mul-left k (moves-lt g e))
 
     -- a pair is noted
     pub room-lt : m′ .clock ≡ m .clock → (a b : Ty) → a .idx < n → b .idx < n → silent m a b ≡ true → silent m′ a b ≡ false → room k m′ ns′ < room k m ns
-    room-lt e a b ha hb s t = omega (arith, untold-lt n m m′ (g .kept e) a b ha hb t s, mul-le-mul-left k moves-le)
+    room-lt e a b ha hb s t = omega (arith, untold-lt n m m′ (g .kept e) a b ha hb t s, mul-le-mul-left k (moves-le g))
+
+  -- what is spent, and what is left to do at 255 visits each
+  abbrev pub bill : ℕ → Memory → List Node → ℕ
+  bill k m ns = spent m + MAX-WIDTH * room k m ns
 
   -- from m to m′, with c visits asked for, at depth f below roots ls. Before the clock starts every visit is one of those that are only counted
   pub record Cheap (f c : ℕ) (ls : List ℕ) (m m′ : Memory) (ns ns′ : List Node) : Type 0 where
     pub goes : Goes m m′ ns ns′
     pub new : New ls m m′
-    pub waiting : m′ .clock ≡ 0 → spent m′ + MAX-WIDTH * room (pairsOf n + f) m′ ns′ ≤ spent m + MAX-WIDTH * room (pairsOf n + f) m ns
-    pub most : spent m′ + MAX-WIDTH * room (pairsOf n + f) m′ ns′ ≤ spent m + c + MAX-WIDTH * room (pairsOf n + f) m ns
+    pub waiting : m′ .clock ≡ 0 → bill (pairsOf n + f) m′ ns′ ≤ bill (pairsOf n + f) m ns
+    pub most : bill (pairsOf n + f) m′ ns′ ≤ c + bill (pairsOf n + f) m ns
 
   pub cheap-same : {f c : ℕ} {ls : List ℕ} {m : Memory} {ns : List Node} → Cheap f c ls m m ns ns
   cheap-same = record { goes = goes-same; new = new-refl; waiting = λ e. omega arith; most = omega arith }

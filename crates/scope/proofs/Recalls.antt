@@ -51,7 +51,7 @@ visited-clock zero zero ts v = omega arith
 visited-clock zero (suc l) ts v = omega arith
 visited-clock (suc c) l ts v = omega arith
 
-visited-notes : (c l : ℕ) (ts : List Note) (v : ℕ) → visitedAt c l ts v .notes ≡ ts
+pub visited-notes : (c l : ℕ) (ts : List Note) (v : ℕ) → visitedAt c l ts v .notes ≡ ts
 visited-notes zero zero ts v = refl
 visited-notes zero (suc l) ts v = refl
 visited-notes (suc c) l ts v = refl

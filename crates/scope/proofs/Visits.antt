@@ -40,11 +40,11 @@ use Rattle.scope.proofs.Depth.{Whole, sound-whole, whole-after, chain-o
 use Rattle.scope.proofs.Width.{plan-narrow}
 use Rattle.scope.proofs.Changes.{changesLeft, changes-most, merge-fewer}
 use Rattle.scope.proofs.Untold.{silent, untold, untold-most}
-use Rattle.scope.proofs.Recalls.{Recalls, recalls-begun}
+use Rattle.scope.proofs.Recalls.{Recalls, recalls-begun, visited-notes}
 use Rattle.scope.proofs.RecallSame.{Tops, tops, kids-inside, kids-chains, kids-room, Same, step-same, kids-same, found-recalls, recall-same, recalls-same}
 use Rattle.scope.proofs.Goes.{waits, moves, Goes, goes-then, goes-visited, goes-changed, goes-found, goes-note, spent, visited-spent, waiting-spent, found-spent, settled-spent}
-use Rattle.scope.proofs.Goes.{New, new-then, visited-notes, found-notes, new-same, new-settled, new-rest, new-silent, settled-told}
-use Rattle.scope.proofs.Goes.{room, room-le, moves-le, moves-lt, room-lt, Cheap, cheap-same, cheap-then, cheap-goes}
+use Rattle.scope.proofs.Goes.{New, new-then, found-notes, new-same, new-settled, new-rest, new-silent, settled-told}
+use Rattle.scope.proofs.Goes.{room, room-le, moves-le, moves-lt, room-lt, bill, Cheap, cheap-same, cheap-then, cheap-goes}
 
 -- a pair that is worked through, in numbers: what is spent (s), untold (u) and can still move (d) before it, after its children and at its end. A change costs K, and one
 -- more at the next level
@@ -52,10 +52,10 @@ module _ (K s s₁ s₂ u u₁ u₂ d d₁ d₂ : ℕ) where
   abbrev Paid : Type 0
   Paid = s₂ + MAX-WIDTH * (u₂ + suc K * d₂) ≤ s + MAX-WIDTH * (u + suc K * d)
 
-  ticked : (c : ℕ) → s₂ ≡ s₁ → s₁ + MAX-WIDTH * (u₁ + K * d₁) ≤ s + c + MAX-WIDTH * (u + K * d) → c ≤ MAX-WIDTH → u₂ + K * d₂ ≤ u₁ + K * d₁ → d₂ < d → Paid
+  ticked : (c : ℕ) → s₂ ≡ s₁ → s₁ + MAX-WIDTH * (u₁ + K * d₁) ≤ c + (s + MAX-WIDTH * (u + K * d)) → c ≤ MAX-WIDTH → u₂ + K * d₂ ≤ u₁ + K * d₁ → d₂ < d → Paid
   ticked c e h w r l = omega arith
 
-  worked : (c : ℕ) → s₂ ≡ s₁ → s₁ + MAX-WIDTH * (u₁ + K * d₁) ≤ s + c + MAX-WIDTH * (u + K * d) → c ≤ MAX-WIDTH → u₂ + K * d₂ < u₁ + K * d₁ → d₂ ≤ d → Paid
+  worked : (c : ℕ) → s₂ ≡ s₁ → s₁ + MAX-WIDTH * (u₁ + K * d₁) ≤ c + (s + MAX-WIDTH * (u + K * d)) → c ≤ MAX-WIDTH → u₂ + K * d₂ < u₁ + K * d₁ → d₂ ≤ d → Paid
   worked c e h w r l = omega arith
 
   waited : s₂ ≡ s₁ → s₁ + MAX-WIDTH * (u₁ + K * d₁) ≤ s + MAX-WIDTH * (u + K * d) → u₂ + K * d₂ ≤ u₁ + K * d₁ → d₂ ≤ d → Paid
@@ -167,7 +167,7 @@ module _ (e : Env) (n : ℕ) where
         narrow = plan-narrow e k l turned (t .whole .stable .inside .kinds (a .idx) i k (ap seen sa) .made)
 
         -- the clock moved, or has not started, or the pair is told now and was not
-        total : look m a b ≡ none → spent m₂ + MAX-WIDTH * room n (suc (pairsOf n + f)) m₂ ns₂ ≤ spent m + MAX-WIDTH * room n (suc (pairsOf n + f)) m ns
+        total : look m a b ≡ none → bill n (suc (pairsOf n + f)) m₂ ns₂ ≤ bill n (suc (pairsOf n + f)) m ns
         total s = go (ℕ-discrete (m₂ .clock) (m .clock))
           where
             sp : spent m₂ ≡ spent m₁
@@ -179,27 +179,27 @@ module _ (e : Env) (n : ℕ) where
             le : room n (pairsOf n + f) m₂ ns₂ ≤ room n (pairsOf n + f) m₁ ns₁
             le = room-le n ends (pairsOf n + f) (omega arith)
 
-            on : (m .clock ≡ 0) ⊎ (silent m₂ a b ≡ false) → m₂ .clock ≡ m .clock → spent m₂ + MAX-WIDTH * room n (suc (pairsOf n + f)) m₂ ns₂ ≤ spent m + MAX-WIDTH * room n (suc (pairsOf n + f)) m ns
+            on : (m .clock ≡ 0) ⊎ (silent m₂ a b ≡ false) → m₂ .clock ≡ m .clock → bill n (suc (pairsOf n + f)) m₂ ns₂ ≤ bill n (suc (pairsOf n + f)) m ns
             on (inl z) q =
                 waited (pairsOf n + f) (spent m) (spent m₁) (spent m₂) (untold n m) (untold n m₁) (untold n m₂) (moves m ns) (moves m₁ ns₁) (moves m₂ ns₂)
-                sp (runs .waiting (omega (arith, ends .on, q, z))) le (moves-le n all (pairsOf n) (omega arith))
+                sp (runs .waiting (omega (arith, ends .on, q, z))) le (moves-le all)
             on (inr z) q =
                 let c₁ : m₁ .clock ≡ m .clock = omega (arith, runs .goes .on, ends .on, q) in
                 worked (pairsOf n + f) (spent m) (spent m₁) (spent m₂) (untold n m) (untold n m₁) (untold n m₂) (moves m ns) (moves m₁ ns₁) (moves m₂ ns₂) (length (asked .pairs))
                 sp (runs .most) narrow
-                (room-lt n ends (pairsOf n + f) (omega arith) (q ∙ sym c₁) a b (t .first) (t .second) (new-silent m m₁ a b (runs .new) c₁ (memb-first (a .idx) ls) s) z)
-                (moves-le n all (pairsOf n) (omega arith))
+                (room-lt n ends (pairsOf n + f) (q ∙ sym c₁) a b (t .first) (t .second) (new-silent m m₁ a b (runs .new) c₁ (memb-first (a .idx) ls) s) z)
+                (moves-le all)
 
-            go : Dec (m₂ .clock ≡ m .clock) → spent m₂ + MAX-WIDTH * room n (suc (pairsOf n + f)) m₂ ns₂ ≤ spent m + MAX-WIDTH * room n (suc (pairsOf n + f)) m ns
+            go : Dec (m₂ .clock ≡ m .clock) → bill n (suc (pairsOf n + f)) m₂ ns₂ ≤ bill n (suc (pairsOf n + f)) m ns
             go (yes q) = on (settled-told m₁ (m .clock) a b (done .out .answer) (runs .goes .on) q) q
             go (no q) =
                 ticked (pairsOf n + f) (spent m) (spent m₁) (spent m₂) (untold n m) (untold n m₁) (untold n m₂) (moves m ns) (moves m₁ ns₁) (moves m₂ ns₂) (length (asked .pairs))
-                sp (runs .most) narrow le (moves-lt n all (pairsOf n) (omega arith) q)
+                sp (runs .most) narrow le (moves-lt all q)
 
         kids-cheap : look m a b ≡ none → Cheap n (suc f) 0 ls m m₂ ns ns₂
         kids-cheap s =
             let z : suc (pairsOf n + f) ≡ pairsOf n + suc f = omega arith in
-            let all = subst (λ (k : ℕ). spent m₂ + MAX-WIDTH * room n k m₂ ns₂ ≤ spent m + MAX-WIDTH * room n k m ns) z (total s) in
+            let all = subst (λ (k : ℕ). bill n k m₂ ns₂ ≤ bill n k m ns) z (total s) in
             record { goes = goes-then (runs .goes) ends; new = news; waiting = λ q. all; most = omega (arith, all) }
 
       kinds-cheap : a .idx ≢ b .idx → (sa sb : State) → stateIn ns a ≡ sa → stateIn ns b ≡ sb

@@ -1,6 +1,7 @@
 -- A unify that remembers: "a pair that did not succeed is remembered with its answer, if no word of a node changed from the beginning of its visit on, and it counts
--- only until one changes". Beside the nodes goes a memory, whose clock moves where a node may change: at a merge, and where `find_mut` shortens a path. No note is ever
--- overwritten, as where each pair of types has its own place (crate recall). The rest is `Unify`'s, in its order.
+-- only until one changes". Beside the nodes goes a memory, whose clock moves where a node changes: at a merge, and where `find_mut` shortens a path. No note is ever
+-- lost, as in a lent memory where each pair of types has its own place (crate recall); what crates recall, heed and unify do to words is done here to notes. The rest
+-- is `Unify`'s, in its order.
 use mathlib.Core.List.{List, [], _∷_}
 use mathlib.Core.Bool.{Bool, true, false, _&&_}
 use mathlib.Core.Option.{Option, none, some}
@@ -22,7 +23,7 @@ pub record Note : Type 0 where
   pub when : ℕ
   pub answer : Answer
 
--- the clock is 0 until it starts, after the visits that `left` still counts; nothing is noted before. `visits` counts all of them
+-- the clock is 0 until it starts, at the first visit after those that `left` still counts; nothing is noted before. `visits` counts all of them
 pub record Memory : Type 0 where
   pub clock : ℕ
   pub left : ℕ
@@ -84,7 +85,7 @@ told c (n ∷ ns) a b = pick (speaks c a b n) (some (n .answer)) (told c ns a b)
 abbrev pub look : Memory → Ty → Ty → Option Answer
 look m a b = told (m .clock) (m .notes) a b
 
--- what two roots answered whose visit began at a clock: it is noted if that has started and is so still
+-- what two roots answered is noted if the clock is as it was when their visit began, and had started then
 abbrev pub started : ℕ → Bool
 started zero = false
 started (suc c) = true
