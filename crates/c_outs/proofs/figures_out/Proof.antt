@@ -22,7 +22,12 @@ cast-t11 : tie.Need-cast-t11
 cast-t11 c = search needs
 
 returns : tie.Need-returns
-returns c = rw (c .before .before .before .before .before .has-word .ensures, c .before .before .before .before .type-or-zero .ensures, c .before .before .before .has-word2 .ensures, c .before .before .type-or-zero2 .ensures)
+returns c =
+    let b2 = c .before .before in
+    let b3 = b2 .before in
+    let b4 = b3 .before in
+    let b5 = b4 .before in
+    rw (b5 .has-word .ensures, b4 .type-or-zero .ensures, b3 .has-word2 .ensures, b2 .type-or-zero2 .ensures)
 
 pub figures-out-spec : {M : Type 1} → statement M
 figures-out-spec =

@@ -25,7 +25,10 @@ same-length-4 : tie.Need-same-length-4
 same-length-4 c = search needs
 
 returns : tie.Need-returns
-returns c = rw (c .done-number .ensures) (rw (c .before .before .before .before .before .before .before .before .before .before .before .before .before .before .beside-of .ensures) at (c .before .before .before .before .before .before .before .before .before .export .ensures))
+returns c =
+    let b9 = c .before .before .before .before .before .before .before .before .before in
+    let b14 = b9 .before .before .before .before .before in
+    rw (c .done-number .ensures) (rw (b14 .beside-of .ensures) at (b9 .export .ensures))
 
 pub faroalder-export-spec : {M : Type 1} → statement M
 faroalder-export-spec =

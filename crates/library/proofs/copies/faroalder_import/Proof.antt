@@ -28,7 +28,11 @@ same-length-4 : tie.Need-same-length-4
 same-length-4 c = search needs
 
 returns : tie.Need-returns
-returns c = rw (c .done-number .ensures) (rw (c .before .before .before .before .before .before .before .before .before .before .before .before .before .before .before .beside-of .ensures, c .before .before .before .before .before .before .before .before .before .before .before .is-set .ensures) at (c .before .before .before .before .before .before .before .before .before .import .ensures))
+returns c =
+    let b9 = c .before .before .before .before .before .before .before .before .before in
+    let b11 = b9 .before .before in
+    let b15 = b11 .before .before .before .before in
+    rw (c .done-number .ensures) (rw (b15 .beside-of .ensures, b11 .is-set .ensures) at (b9 .import .ensures))
 
 pub faroalder-import-spec : {M : Type 1} → statement M
 faroalder-import-spec =

@@ -25,7 +25,11 @@ same-length-3 : tie.Need-same-length-3
 same-length-3 c = search needs
 
 returns : tie.Need-returns
-returns c = rw (c .type-number .ensures) (rw (c .before .before .before .before .before .before .before .before .before .before .before .before .beside-of .ensures, c .before .before .before .before .before .before .before .before .before .before .before .kind-args .ensures) at (c .before .before .before .before .before .before .before .new .ensures))
+returns c =
+    let b7 = c .before .before .before .before .before .before .before in
+    let b11 = b7 .before .before .before .before in
+    let b12 = b11 .before in
+    rw (c .type-number .ensures) (rw (b12 .beside-of .ensures, b11 .kind-args .ensures) at (b7 .new .ensures))
 
 pub faroalder-new-spec : {M : Type 1} → statement M
 faroalder-new-spec =

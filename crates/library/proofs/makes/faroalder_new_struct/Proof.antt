@@ -22,7 +22,10 @@ same-length-3 : tie.Need-same-length-3
 same-length-3 c = search needs
 
 returns : tie.Need-returns
-returns c = rw (c .type-number .ensures) (rw (c .before .before .before .before .before .before .before .before .before .before .before .beside-of .ensures) at (c .before .before .before .before .before .before .before .new-struct .ensures))
+returns c =
+    let b7 = c .before .before .before .before .before .before .before in
+    let b11 = b7 .before .before .before .before in
+    rw (c .type-number .ensures) (rw (b11 .beside-of .ensures) at (b7 .new-struct .ensures))
 
 pub faroalder-new-struct-spec : {M : Type 1} → statement M
 faroalder-new-struct-spec =

@@ -39,8 +39,12 @@ same-length c = search needs
 
 returns : tie.Need-returns
 returns c =
-    let printed = c .before .before .before .show in
-    rw (c .count-number .ensures) (cut-promised (c .before .before .before .before .before .before .before .before .before .before .before .before .before .before .args .buf .now) _ _ (c .before .before .before .before .before .counted .ensures) (printed .kept .1 .1 .1 .1 .1 .1 .1 .1 .0) (rw (c .before .before .before .before .before .before .beside-of .ensures) at (printed .ensures)))
+    let b3 = c .before .before .before in
+    let b5 = b3 .before .before in
+    let b6 = b5 .before in
+    let b14 = b6 .before .before .before .before .before .before .before .before in
+    let printed = b3 .show in
+    rw (c .count-number .ensures) (cut-promised (b14 .args .buf .now) _ _ (b5 .counted .ensures) (printed .kept .1 .1 .1 .1 .1 .1 .1 .1 .0) (rw (b6 .beside-of .ensures) at (printed .ensures)))
 
 pub faroalder-show-spec : {M : Type 1} → statement M
 faroalder-show-spec =

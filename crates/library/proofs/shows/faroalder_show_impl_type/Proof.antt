@@ -20,7 +20,10 @@ impl-of-requires : tie.Need-impl-of-requires
 impl-of-requires c κs = search needs
 
 slice-relend-prefix-show-impl-type : tie.Need-slice-relend-prefix-show-impl-type
-slice-relend-prefix-show-impl-type c = rw (c .before .counted .ensures) (counted-few (length (c .before .before .before .before .before .before .before .before .before .before .before .args .buf .now)))
+slice-relend-prefix-show-impl-type c =
+    let b1 = c .before in
+    let b11 = b1 .before .before .before .before .before .before .before .before .before .before in
+    rw (b1 .counted .ensures) (counted-few (length (b11 .args .buf .now)))
 
 slice-aggregate-show-impl-type : tie.Need-slice-aggregate-show-impl-type
 slice-aggregate-show-impl-type c =
@@ -32,9 +35,12 @@ show-impl-type-requires c κs = search needs
 
 count-number-requires : tie.Need-count-number-requires
 count-number-requires c κs =
-    let b = c .before .before .before .before .before .before .before .before .before .before .before .before .before .before .before .args .buf .now in
-    let printed = c .before .before .show-impl-type in
-    low-count (printed .result) b (printed .last .1 .1 .1 .1 .1 .1 .1 .1 .1 .0) (c .before .before .before .before .before .counted .result) (c .before .before .before .before .before .counted .ensures)
+    let b2 = c .before .before in
+    let b5 = b2 .before .before .before in
+    let b15 = b5 .before .before .before .before .before .before .before .before .before .before in
+    let b = b15 .args .buf .now in
+    let printed = b2 .show-impl-type in
+    low-count (printed .result) b (printed .last .1 .1 .1 .1 .1 .1 .1 .1 .1 .0) (b5 .counted .result) (b5 .counted .ensures)
     (printed .kept .1 .1 .1 .1 .1 .1 .1 .1 .1 .0) (impl-hands _ _ _ _ (printed .result) _ _ (printed .ensures) .room)
 
 same-length : tie.Need-same-length
@@ -42,8 +48,14 @@ same-length c = search needs
 
 returns : tie.Need-returns
 returns c =
-    let printed = c .before .before .before .show-impl-type in
-    rw (c .count-number .ensures) (cut-promised (c .before .before .before .before .before .before .before .before .before .before .before .before .before .before .before .before .args .buf .now) _ _ (c .before .before .before .before .before .before .counted .ensures) (printed .kept .1 .1 .1 .1 .1 .1 .1 .1 .1 .0) (rw (c .before .before .before .before .before .before .before .beside-of .ensures, c .before .before .before .before .before .impl-of .ensures) at (printed .ensures)))
+    let b3 = c .before .before .before in
+    let b5 = b3 .before .before in
+    let b6 = b5 .before in
+    let b7 = b6 .before in
+    let b16 = b7 .before .before .before .before .before .before .before .before .before in
+    let printed = b3 .show-impl-type in
+    rw (c .count-number .ensures)
+    (cut-promised (b16 .args .buf .now) _ _ (b6 .counted .ensures) (printed .kept .1 .1 .1 .1 .1 .1 .1 .1 .1 .0) (rw (b7 .beside-of .ensures, b5 .impl-of .ensures) at (printed .ensures)))
 
 pub faroalder-show-impl-type-spec : {M : Type 1} → statement M
 faroalder-show-impl-type-spec =

@@ -19,7 +19,12 @@ bool-number-requires : tie.Need-bool-number-requires
 bool-number-requires c κs = search needs
 
 returns : tie.Need-returns
-returns c = rw (c .bool-number .ensures) (rw (c .before .before .before .before .beside-of .ensures, c .before .before .before .impl-of .ensures, c .before .before .impl-of2 .ensures) at (c .before .approx-eq .ensures))
+returns c =
+    let b1 = c .before in
+    let b2 = b1 .before in
+    let b3 = b2 .before in
+    let b4 = b3 .before in
+    rw (c .bool-number .ensures) (rw (b4 .beside-of .ensures, b3 .impl-of .ensures, b2 .impl-of2 .ensures) at (b1 .approx-eq .ensures))
 
 pub faroalder-approx-eq-spec : {M : Type 1} → statement M
 faroalder-approx-eq-spec =

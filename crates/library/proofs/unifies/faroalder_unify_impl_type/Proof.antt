@@ -22,7 +22,12 @@ same-length : tie.Need-same-length
 same-length c = search needs
 
 returns : tie.Need-returns
-returns c = rw (c .unify-number .ensures) (rw (c .before .before .before .before .before .before .before .beside-of .ensures, c .before .before .before .before .before .impl-of .ensures, c .before .before .before .before .impl-of2 .ensures) at (c .before .before .before .unify-impl-type .ensures))
+returns c =
+    let b3 = c .before .before .before in
+    let b4 = b3 .before in
+    let b5 = b4 .before in
+    let b7 = b5 .before .before in
+    rw (c .unify-number .ensures) (rw (b7 .beside-of .ensures, b5 .impl-of .ensures, b4 .impl-of2 .ensures) at (b3 .unify-impl-type .ensures))
 
 pub faroalder-unify-impl-type-spec : {M : Type 1} → statement M
 faroalder-unify-impl-type-spec =

@@ -19,7 +19,11 @@ same-length : tie.Need-same-length
 same-length c = search needs
 
 returns : tie.Need-returns
-returns c = rw (c .unify-number .ensures) (rw (c .before .before .before .before .before .before .beside-of .ensures, c .before .before .before .before .before .inverted-of .ensures) at (c .before .before .before .unify-objects .ensures))
+returns c =
+    let b3 = c .before .before .before in
+    let b5 = b3 .before .before in
+    let b6 = b5 .before in
+    rw (c .unify-number .ensures) (rw (b6 .beside-of .ensures, b5 .inverted-of .ensures) at (b3 .unify-objects .ensures))
 
 pub faroalder-unify-objects-spec : {M : Type 1} → statement M
 faroalder-unify-objects-spec =
