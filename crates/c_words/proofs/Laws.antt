@@ -1,18 +1,25 @@
 -- A number below the count of values is that value, and one over all values is a refusal; a result's number is below three and gives it back.
 -- Assumes nothing.
-use mathlib.Core.Path.{_≡_, refl}
+use mathlib.Core.Path.{_≡_, refl, _∙_}
 use mathlib.Core.Bool.{Bool, true, false}
+use mathlib.Core.List.{List, _++_}
 use Prim.Native.Nat.{ℕ, _+_, _<_, _≤_}
 use native.Mathlib.Decide.{decLe}
 use native.Mathlib.Omega.{arith}
 use native.Mathlib.Nat.{add-sub-cancel-left}
 use borrow.Author.Tests.{lt-ltb, le-ltb, le-leb, lt-leb}
+use lib.ListN.{length, take, drop}
+use lib.Seq.{length-take-le, take-at, drop-at}
 use mir.Val.{boolByte}
+use Rattle.scope.specs.Nodes.{Store}
+use Rattle.scope.specs.Calls.{Printed}
+use Rattle.promise.specs.Promise.{Reply}
+use Rattle.promise.specs.Prints.{PrintPromised}
 use Rattle.promise.specs.declared.BoolAnswer.the-variants.{Is}
 use Rattle.types.specs.Answers.{numberOf}
 use Rattle.types.specs.declared.UnifyResult.{UnifyResult}
 use Rattle.types.specs.declared.UnifyResult.the-variants.{Success, Failure, Indeterminate}
-use Rattle.c_words.specs.Numbers.{REFUSED, answerIn, boolIn, RESULTS, resultIn, LONGEST, counted}
+use Rattle.c_words.specs.Numbers.{REFUSED, answerIn, boolIn, RESULTS, resultIn, LONGEST, counted, CutPromised}
 
 module _ {A : Type 0} (n : ℕ) (is refused : ℕ → A) where
   pub number-value : (r : ℕ) → r < n → answerIn n is refused r ≡ is r
@@ -54,3 +61,19 @@ counted-low n = go (decLe n LONGEST)
     go (no h) =
         let l : LONGEST < n = omega arith in
         rw (lt-leb n LONGEST l) (omega arith)
+
+-- as much of a buffer b as is used, and as much as was lent
+pub counted-long : (b e : List ℕ) (n : ℕ) → n ≡ counted (length b) → length e ≡ length (take n b) → length e ≡ n
+counted-long b e n q l =
+    let few : n ≤ length b = rw q (counted-few (length b)) in
+    l ∙ length-take-le n b few
+
+-- a printer that used the front of b, which it left as e
+pub cut-promised : {p : List ℕ → Printed} {r : Reply ℕ} {s : Store} (b e : List ℕ) (n : ℕ) → n ≡ counted (length b) → length e ≡ length (take n b)
+    → PrintPromised (p (take n b)) r s e → CutPromised p r s b (e ++ drop n b)
+cut-promised b e n q l h =
+    let m : length e ≡ n = counted-long b e n q l in
+    record {
+      printed = rw (← q, take-at e (drop n b) n m) h;
+      rest = rw (← q) (drop-at e (drop n b) n m);
+    }

@@ -2,7 +2,6 @@
 use borrow.Author.Needs.{needs}
 use Rattle.c_words.proofs.inverted_of.Statement.{statement}
 use Rattle.c_words.proofs.inverted_of.Tie as tie
-use Rattle.c_words.proofs.is_set.Reads as is-set-reads
 
 is-set-requires : tie.Need-is-set-requires
 is-set-requires c κs = search needs
