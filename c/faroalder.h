@@ -6,29 +6,32 @@
  *   three buffers of yours. A call takes chart, texts and store, and answers one number.
  *
  *     struct faroalder_rules r = { .. };
- *     struct faroalder_store s = { h, faroalder_header_words(), ws, faroalder_node_words(64), ks, faroalder_child_words(256) };
+ *     struct faroalder_store s = { h, faroalder_header_words(), ws, faroalder_node_words(64), ks,
+ *                                  faroalder_child_words(256) };
  *     faroalder_open(FAROALDER_STORE(&s), 64, 256);
  *     uint64_t a = faroalder_new_var(FAROALDER_RULES(&r), FAROALDER_STORE(&s), span);
  *     if (a >= FAROALDER_REFUSED) return (int)(a - FAROALDER_REFUSED);    (a refusal's number)
  *     uint32_t t = (uint32_t)a;                                           (a type)
  *
+ *   examples.c runs 01's examples this way.
+ *
  * Answers
- *   A number below FAROALDER_REFUSED is the value: a type, a length, 0 for "done", 0 or 1 for no or yes. FAROALDER_REFUSED
- *   and n is refusal n. An answer of more than one number goes to `out`, the last argument, an array of fixed size: all of
- *   it is written, with 0 for what does not apply; on a refusal it is as found. `faroalder_refusal` and `faroalder_load`
- *   answer the refusal's number itself, 0 for none.
+ *   A number below FAROALDER_REFUSED is the value: a type, a length, 0 for "done", 0 or 1 for no or yes.
+ *   FAROALDER_REFUSED + n is refusal n. An answer of more than one number goes to `out`, the last argument, an array of
+ *   fixed size: all of it is written, with 0 for what does not apply; on a refusal it is as found. `faroalder_refusal`
+ *   and `faroalder_load` answer the refusal's number itself, 0 for none.
  *   A refusal leaves every buffer as found, but that 7 from a printer fills its buffer with the text's first bytes.
  *   Whatever numbers are lent, a call of the first family ends, and answers or refuses: it asks nothing of what the
  *   buffers hold.
  *
  * Pointers: what is asked of the caller, and tested by nobody
- *   - Each pointer that has a length points to so many elements; `sigils` to 12 words; `out` to as many as its type says.
+ *   - Each pointer that has a length points to so many elements; `sigils` to 12 words; `out` to as many as it says.
  *   - It is not null and is aligned for its element type, with length 0 too: FAROALDER_EMPTY is such a pointer.
  *   - What a call writes (what is not const) overlaps nothing else that is lent to the same call. What is only read may
  *     overlap. So an import's source is not its destination.
  *   - Nobody else writes what is lent, or reads what is written, until the call returns.
- *   The library keeps nothing between calls and has no memory of its own, so calls on different stores may run at the same
- *   time. A call may need 3 MB of stack, where a store of 4,096 nodes is one chain.
+ *   The library keeps nothing between calls and has no memory of its own, so calls on different stores may run at the
+ *   same time. A call may need 3 MB of stack, where a store of 4,096 nodes is one chain.
  *
  * Limits
  *   4,096 nodes and 16,384 children a store, both chosen when it is opened; 255 children a kind; 255 listed types or
@@ -142,8 +145,8 @@ struct faroalder_record {
 };
 
 /* What every call reads: the chart's words (`faroalder_load` writes them), the number of the builtin fn trait or
- * FAROALDER_NONE, the four sigils of flex 0 to 3 (three words each, as a name; they alone may be empty), the rule text and
- * the chart text. */
+ * FAROALDER_NONE, the four sigils of flex 0 to 3 (three words each, as a name; they alone may be empty), the rule
+ * text and the chart text. */
 struct faroalder_rules {
   const uint32_t *chart;
   size_t chart_len;
@@ -188,18 +191,18 @@ static const uint64_t faroalder_nothing = 0;
 
 /* Two families, with the same arguments and the same answers.
  *
- * faroalder_X tests everything: the chart, the texts and the whole store, each time. On 4,096 nodes that takes about 160
- * microseconds.
+ * faroalder_X tests everything: the chart, the texts and the whole store, each time. On 4,096 nodes that takes about
+ * 160 microseconds.
  *
- * faroalder_tested_X tests its own arguments and nothing else. It is for rules and a store that were tested once, and that
- * only this library has written since:
- *   - `faroalder_refusal` has answered 0 for these rules and this store (a store that was just opened is sound, so there it
- *     is the rules that are tested);
- *   - since then the rules are the same words and bytes, and nothing but calls of this library, all with these rules, has
- *     written the store's buffers.
- * Every call leaves a store of which this is still true, whatever it answers (that is a theorem: crates/theorem). For an
- * import or an export it must be true of both stores, of an export's destination nothing. Where it is not true, nothing is
- * promised: such a call may read or write anywhere. */
+ * faroalder_tested_X tests its own arguments and nothing else. It is for rules and a store that were tested once,
+ * and that only this library has written since:
+ *   - `faroalder_refusal` has answered 0 for these rules and this store (a store that was just opened is sound,
+ *     so there it is the rules that are tested);
+ *   - since then the rules are the same words and bytes, and nothing but calls of this library, all with these
+ *     rules, has written the store's buffers.
+ * Every call leaves a store of which this is still true, whatever it answers (that is a theorem: crates/theorem).
+ * For an import or an export it must be true of both stores, of an export's destination nothing. Where it is not
+ * true, nothing is promised: such a call may read or write anywhere. */
 #define FAROALDER_CALL(name, ...) \
   uint64_t faroalder_##name(__VA_ARGS__); \
   uint64_t faroalder_tested_##name(__VA_ARGS__)
@@ -213,8 +216,8 @@ size_t faroalder_record_words(uint32_t records); /* a chart */
 
 /* ---- The chart ---- */
 
-/* Writes the chart's words, ten a record, at the front of `words`; words past them are as found. Answers 0, or 7 if there
- * is too little room. What the records say is not tested here: the calls refuse a bad chart with 2. */
+/* Writes the chart's words, ten a record, at the front of `words`; words past them are as found. Answers 0, or 7 if
+ * there is too little room. What the records say is not tested here: the calls refuse a bad chart with 2. */
 uint32_t faroalder_load(const struct faroalder_record *records, size_t records_len, uint32_t *words, size_t words_len);
 
 /* ---- Opening, testing, emptying ---- */
@@ -241,8 +244,9 @@ FAROALDER_CALL(new_vars, FAROALDER_THE_RULES, FAROALDER_HEAD_AND_NODES, uint32_t
 FAROALDER_CALL(error, FAROALDER_THE_RULES, FAROALDER_HEAD_AND_NODES);
 FAROALDER_CALL(nil, FAROALDER_THE_RULES, FAROALDER_HEAD_AND_NODES);
 
-/* A kind over children. `entries` has four words for each child: its type, and its name's text, start and length, zeros
- * where it has no name. `entries_len` counts words. number, flex and name are 0 where the kind has none. 3, 4, 5, 10, 11. */
+/* A kind over children. `entries` has four words for each child: its type, and its name's text, start and length,
+ * zeros where it has no name. `entries_len` counts words. number, flex and name are 0 where the kind has none. 3, 4,
+ * 5, 10, 11. */
 FAROALDER_CALL(new, FAROALDER_THE_RULES, FAROALDER_WHOLE_STORE, uint32_t code, uint32_t number, uint32_t flex,
                uint32_t name_text, uint32_t name_start, uint32_t name_len, const uint32_t *entries, size_t entries_len);
 
@@ -264,7 +268,8 @@ FAROALDER_CALL(node, FAROALDER_THE_RULES, FAROALDER_READ_STORE, uint32_t type, u
 /* Child i of a type's node: 1 and its type in out[0], or 0 where there is none. */
 FAROALDER_CALL(child, FAROALDER_THE_RULES, FAROALDER_READ_STORE, uint32_t type, uint32_t i, uint32_t out[1]);
 
-/* Name i of a type's node (a Param's or Key's own is name 0): 1 and its text, start and length in `out`, or 0 where there is none. */
+/* Name i of a type's node (a Param's or Key's own is name 0): 1 and its text, start and length in `out`, or 0 where
+ * there is none. */
 FAROALDER_CALL(child_name, FAROALDER_THE_RULES, FAROALDER_READ_STORE, uint32_t type, uint32_t i, uint32_t out[3]);
 
 /* What of a store is no node: 0, and `out` by enum faroalder_figures_out. Refusals 2, 8. */
@@ -282,9 +287,10 @@ FAROALDER_CALL(self_inverse_param, FAROALDER_THE_RULES, FAROALDER_READ_STORE, ui
 /* Whose module has a type's methods, through Refs: by enum faroalder_mod; a definition's def number in out[0]. */
 FAROALDER_CALL(get_mod, FAROALDER_THE_RULES, FAROALDER_READ_STORE, uint32_t type, uint32_t out[1]);
 
-/* Adds a type's root and those of everything in it to a set: `marks` has a byte for each node, nonzero means that it is in
- * the set already, and 1 is written for each root that is added. Done (0). 3, 7 (fewer marks than nodes). */
-FAROALDER_CALL(find_related, FAROALDER_THE_RULES, FAROALDER_READ_STORE, uint8_t *marks, size_t marks_len, uint32_t type);
+/* Adds a type's root and those of everything in it to a set: `marks` has a byte for each node, nonzero means that it
+ * is in the set already, and 1 is written for each root that is added. Done (0). 3, 7 (fewer marks than nodes). */
+FAROALDER_CALL(find_related, FAROALDER_THE_RULES, FAROALDER_READ_STORE, uint8_t *marks, size_t marks_len,
+               uint32_t type);
 
 /* ---- Unifying: by enum faroalder_result. Refusals 2, 8, 3, then as said ---- */
 
@@ -306,14 +312,14 @@ FAROALDER_CALL(unify_fn_sig, FAROALDER_THE_RULES, FAROALDER_NODES_OF_STORE, cons
  * looked at. 4, 5. `approx_eq` compares the traits alone and answers 0 or 1. */
 FAROALDER_CALL(unify_impl_type, FAROALDER_THE_RULES, FAROALDER_NODES_OF_STORE, uint32_t a_trait, const uint32_t *as,
                size_t as_len, uint32_t b_trait, const uint32_t *bs, size_t bs_len);
-FAROALDER_CALL(approx_eq, FAROALDER_THE_RULES, FAROALDER_READ_STORE, uint32_t a_trait, const uint32_t *as, size_t as_len,
-               uint32_t b_trait, const uint32_t *bs, size_t bs_len);
+FAROALDER_CALL(approx_eq, FAROALDER_THE_RULES, FAROALDER_READ_STORE, uint32_t a_trait, const uint32_t *as,
+               size_t as_len, uint32_t b_trait, const uint32_t *bs, size_t bs_len);
 
 /* ---- Forcing and finishing. Refusals 2, 8 ---- */
 
 /* A type's kind: FAROALDER_KNOWN, with `out` as `node` has it but for the size. Where it has none it is now failed:
- * FAROALDER_UNKNOWN the first time, its span in out[FAROALDER_AT_LINK] and one report more; FAROALDER_FAILED after that.
- * Both count as the error type. 3. */
+ * FAROALDER_UNKNOWN the first time, its span in out[FAROALDER_AT_LINK] and one report more; FAROALDER_FAILED after
+ * that. Both count as the error type. 3. */
 FAROALDER_CALL(force_kind, FAROALDER_THE_RULES, FAROALDER_HEAD_AND_NODES, uint32_t type, uint32_t out[12]);
 
 /* Every root without a kind becomes Default. The second does so where a lent byte says so: one for each node, nonzero
@@ -324,22 +330,23 @@ FAROALDER_CALL(finish_inference_where, FAROALDER_THE_RULES, FAROALDER_NODES_OF_S
 
 /* ---- Between stores, which read the same rules. Done (0), and what the types became at the front of `out` ---- */
 
-/* Types of a source store into this one. With `listed` not 0, `params` is a parameter list: a Param becomes the entry of its
- * number. With 0 `params` is not looked at. Refusals 2, 8, 9, 3, 4, 6, 10, 11, 7. */
+/* Types of a source store into this one. With `listed` not 0, `params` is a parameter list: a Param becomes the
+ * entry of its number. With 0 `params` is not looked at. Refusals 2, 8, 9, 3, 4, 6, 10, 11, 7. */
 FAROALDER_CALL(import, FAROALDER_THE_RULES, FAROALDER_WHOLE_STORE, const uint32_t *source_h, size_t source_h_len,
                const uint32_t *source_ws, size_t source_ws_len, const uint32_t *source_ks, size_t source_ks_len,
                const uint32_t *types, size_t types_len, uint32_t listed, const uint32_t *params, size_t params_len,
                uint32_t *out, size_t out_len);
 
-/* Types of this store into a fresh one, which the call opens in `to_h`, `to_ws`, `to_ks` with room for so many nodes and
- * children, whatever they held. Refusals 1, 2, 8, 3, 4, 10, 11, 7. */
+/* Types of this store into a fresh one, which the call opens in `to_h`, `to_ws`, `to_ks` with room for so many nodes
+ * and children, whatever they held. Refusals 1, 2, 8, 3, 4, 10, 11, 7. */
 FAROALDER_CALL(export, FAROALDER_THE_RULES, FAROALDER_READ_STORE, uint32_t *to_h, size_t to_h_len, uint32_t *to_ws,
                size_t to_ws_len, uint32_t *to_ks, size_t to_ks_len, uint32_t nodes, uint32_t children,
                const uint32_t *types, size_t types_len, uint32_t *out, size_t out_len);
 
 /* ---- Printing: the text goes to the front of `buf`, and its length is the answer. Refusals 2, 8, 3, (4, 5,) 7 ----
- * 01's second forms hand back the written part: that is the front of `buf` of the length answered, all of `buf` on 7, and
- * nothing on another refusal. There is no 0 byte at the end. A buffer counts as at most 4,294,967,295 bytes long. */
+ * 01's second forms hand back the written part: that is the front of `buf` of the length answered, all of `buf` on
+ * 7, and nothing on another refusal. There is no 0 byte at the end. A buffer counts as at most 4,294,967,295 bytes
+ * long. */
 
 FAROALDER_CALL(show, FAROALDER_THE_RULES, FAROALDER_READ_STORE, uint32_t type, uint8_t *buf, size_t buf_len);
 FAROALDER_CALL(show_impl_type, FAROALDER_THE_RULES, FAROALDER_READ_STORE, uint32_t trait, const uint32_t *types,

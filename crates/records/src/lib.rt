@@ -1,6 +1,6 @@
 // The chart as a slice of structs: "The chart is a lent slice of records, one for each definition". `load` writes the words that every call takes, ten a
-// record; two readers copy a record, or its sort, out. Nothing else takes
-// the slice, and everything above works on words.
+// record, over any records at all; two readers copy a record, or its sort, out. Each function here that takes the slice is proved by a walk of its code by
+// hand, so nothing else takes it, and everything above works on words.
 ghost use mathlib.Core.Path.{_≡_};
 ghost use Prim.Native.Nat.{_+_, _*_, _≤_, _<_};
 ghost use lib.ListN.{length, getD};
