@@ -2,6 +2,7 @@
 //! what each line is.
 
 mod ours;
+#[allow(dead_code)]
 #[path = "../shapes.rs"]
 mod shapes;
 #[allow(dead_code)]
@@ -65,8 +66,8 @@ fn filled<S: Side>(nodes: usize) -> S {
 
 fn makers() {
   fn making<S: Side>(maker: Maker) -> f64 {
-    let full: S = filled(NODES - MAKES);
-    least(|| full.clone(), |side| side.makes(maker)) / maker.calls() as f64
+    // Filled anew each time: the Rust's vector has room then, as one that grew has.
+    least(|| filled::<S>(NODES - MAKES), |side| side.makes(maker)) / maker.calls() as f64
   }
   for maker in Maker::ALL {
     line(maker.name(), making::<Ours>(maker), making::<Vine>(maker));

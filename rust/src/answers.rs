@@ -129,3 +129,24 @@ pub struct Figures {
   /// How often [`Types::force_kind`](crate::Types::force_kind) reported; `reset` leaves it.
   pub reports: u64,
 }
+
+#[cfg(test)]
+mod tests {
+  use super::*;
+
+  #[test]
+  fn failure_outranks_indeterminate_outranks_success() {
+    let rank =
+      |result| [Success, Indeterminate, Failure].iter().position(|&other| other == result).unwrap();
+    for a in [Success, Failure, Indeterminate] {
+      for b in [Success, Failure, Indeterminate] {
+        assert_eq!(rank(a.and(b)), rank(a).max(rank(b)));
+      }
+    }
+    assert_eq!(UnifyResult::all([]), Success);
+    assert_eq!(UnifyResult::all([Success, Indeterminate, Failure, Success]), Failure);
+    assert!(
+      UnifyResult::from_bool(true).is_success() && UnifyResult::from_bool(false).is_failure()
+    );
+  }
+}

@@ -410,3 +410,41 @@ impl ChartBuilder {
     })
   }
 }
+
+#[cfg(test)]
+mod tests {
+  use super::*;
+
+  #[test]
+  fn a_builder_says_the_same_bytes_once() {
+    let mut builder = Chart::builder();
+    let long = builder.name("blend");
+    let part = builder.name("len");
+    let chart = builder.build().unwrap();
+    assert_eq!((chart.bytes(long), chart.bytes(part)), (&b"blend"[..], &b"len"[..]));
+    assert_eq!(chart.chart_text(), b"+?*blend");
+    assert_eq!(chart.name("end"), Some(Name::in_chart(5, 3)));
+    assert_eq!((chart.name(""), chart.name("x")), (None, None));
+    assert_eq!(chart.bytes(Name::in_chart(7, 2)), b"");
+    assert_eq!(chart.bytes(Name::in_rule(u32::MAX, u32::MAX)), b"");
+  }
+
+  #[test]
+  fn records_come_back() {
+    let mut builder = Chart::builder();
+    let of = builder.trait_("T", "m::T", DefId(7));
+    let by_hand = Record {
+      sort: Sort::TraitFn,
+      name: Name::in_rule(0, 1),
+      path: Name::in_rule(1, 2),
+      def: DefId(u32::MAX),
+      self_dual: false,
+      trait_: Some(of),
+    };
+    assert_eq!(builder.record(by_hand), 1);
+    let chart = builder.rule("abc").fn_trait(of).build().unwrap();
+    assert_eq!((chart.record(1), chart.record(2), chart.record_count()), (Some(by_hand), None, 2));
+    assert_eq!(chart.fn_trait(), Some(of));
+    assert_eq!(format!("{chart:?}"), "Chart { records: 2, rule_text: 3, chart_text: 8 }");
+  }
+}

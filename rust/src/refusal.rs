@@ -93,3 +93,18 @@ impl fmt::Display for Refusal {
 }
 
 impl Error for Refusal {}
+
+#[cfg(test)]
+mod tests {
+  use super::*;
+
+  #[test]
+  fn numbers_are_one_to_eleven() {
+    assert_eq!(Refusal::ALL.map(Refusal::number), [1, 2, 3, 4, 5, 6, 7, 8, 9, 10, 11]);
+    for refusal in Refusal::ALL {
+      assert_eq!(Refusal::from_number(refusal.number()), Some(refusal));
+      assert!(refusal.to_string().ends_with(refusal.text()));
+    }
+    assert_eq!((Refusal::from_number(0), Refusal::from_number(12)), (None, None));
+  }
+}

@@ -126,3 +126,30 @@ impl Debug for Type {
     write!(f, "{:?}", self.idx())
   }
 }
+
+#[cfg(test)]
+mod tests {
+  use super::*;
+
+  #[test]
+  fn a_type_is_a_node_and_an_inversion() {
+    for node in [0, 1, 4095, u16::MAX] {
+      for inv in [false, true] {
+        let t = Type::new(Inverted(inv), TypeIdx::new(node));
+        assert_eq!((t.idx(), t.inv()), (TypeIdx::new(node), Inverted(inv)));
+        assert_eq!(!t, Type::new(Inverted(!inv), TypeIdx::new(node)));
+        assert_eq!(t.invert_if(Inverted(true)), !t);
+        assert_eq!(Type::from_word(t.word()), t);
+      }
+    }
+  }
+
+  #[test]
+  fn inversions_combine_by_exclusive_or() {
+    for (a, b) in [(false, false), (false, true), (true, false), (true, true)] {
+      let mut both = Inverted(a);
+      both ^= Inverted(b);
+      assert_eq!((both, Inverted(a) ^ Inverted(b)), (Inverted(a != b), Inverted(a != b)));
+    }
+  }
+}

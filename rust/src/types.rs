@@ -30,7 +30,8 @@ const INVERTED: usize = 2;
 /// changed nothing.
 ///
 /// Some calls walk down a type and take stack as they go: up to 640 bytes a level, so 2.6 MB at the very worst, a chain
-/// of 4,096 nodes. A thread with less should keep its stores smaller.
+/// of 4,096 nodes. A thread with less should keep its stores smaller. Where the stack ends the program ends, as
+/// elsewhere in Rust: the library's code touches every page of what it takes.
 ///
 /// ```
 /// use faroalder::{Chart, Refusal, Span, TypeKind, Types, UnifyResult};
