@@ -1,7 +1,9 @@
 //! Times crates/bench beside Vine's own `types.rs`, in one run. README.md says what each line is.
 
 mod ours;
+mod recalled;
 mod shapes;
+mod shared;
 mod sound;
 mod stack;
 mod texts;
@@ -100,11 +102,19 @@ fn opening() {
 
 /// A shape's time a pair, of all `count` pairs that are met on the way down. Each answers Success.
 fn unifying<S: Side>(shape: fn(&mut S) -> Vec<Pair>, count: usize) -> f64 {
+  unifying_by(shape, count, S::unify)
+}
+
+fn unifying_by<S: Side>(
+  shape: fn(&mut S) -> Vec<Pair>,
+  count: usize,
+  mut unify: impl FnMut(&mut S, u32, u32) -> u64,
+) -> f64 {
   let mut full = S::opened(4096);
   let mut pairs = shape(&mut full);
   let each = count / pairs.len();
   pairs.truncate(S::AT_ONCE);
-  let work = |side: &mut S| pairs.iter().for_each(|&(a, b)| assert_eq!(side.unify(a, b), 0));
+  let work = |side: &mut S| pairs.iter().for_each(|&(a, b)| assert_eq!(unify(side, a, b), 0));
   least(|| full.clone(), work) / (each * pairs.len()) as f64
 }
 
@@ -113,6 +123,10 @@ macro_rules! unify {
     let rust = unifying::<Vine>($shape, $count);
     let core = unifying::<Core>($shape, $count);
     line(concat!("unify ", $what, " core"), 4096, core, Some(core / rust));
+    let mut memory = shared::entries(shared::SHEET);
+    let lent = |side: &mut Core, a, b| side.unify_recalling(&mut memory, a, b) as u64;
+    let lent = unifying_by::<Core>($shape, $count, lent);
+    line(concat!("unify ", $what, " core with a memory"), 4096, lent, Some(lent / rust));
     let public = unifying::<Public>($shape, $count);
     line(concat!("unify ", $what, " public"), 4096, public, Some(public / rust));
     line(concat!("unify ", $what, " Rust"), 4096, rust, Some(1.0));
@@ -138,6 +152,9 @@ fn main() {
   if words.get(1).is_some_and(|word| word == "sound") {
     return sound::report();
   }
+  if words.get(1).is_some_and(|word| word == "shared") {
+    return shared::report();
+  }
   if let [_, chain, bytes] = &words[..] {
     return stack::descend(chain, bytes.parse().expect("not a number"));
   }
@@ -148,5 +165,6 @@ fn main() {
   // Deep recursion wants more than a main thread may have.
   std::thread::Builder::new().stack_size(256 << 20).spawn(unify).unwrap().join().unwrap();
   texts::report();
+  shared::report();
   stack::report();
 }

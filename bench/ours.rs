@@ -31,6 +31,7 @@ unsafe extern "C" {
   fn faroalder_direct_nil(h: M, _: N, ws: M, _: N, ks: P, _: N) -> u32;
   fn faroalder_direct_show(_: P, _: N, _: B, _: N, _: B, _: N, ws: P, _: N, ks: P, _: N, n: u32, t: u32, buf: *mut u8, _: N) -> usize;
   fn faroalder_direct_unify(ws: M, _: N, ks: P, _: N, n: u32, rule: B, _: N, text: B, _: N, a: u32, b: u32) -> u32;
+  fn faroalder_direct_unify_recalling(ws: M, _: N, ks: P, _: N, n: u32, rule: B, _: N, text: B, _: N, memory: M, _: N, a: u32, b: u32) -> u32;
 }
 
 /// A public call's answer from here on is a refusal.
@@ -41,6 +42,10 @@ pub const OBJECT: u32 = 2;
 const STRUCT: u32 = 4;
 pub const CLOSURE: u32 = 8;
 pub const REF: u32 = 9;
+pub const NEVER: u32 = 12;
+
+/// The bit of a type that says its inverse.
+pub const INVERSE: u32 = 1 << 31;
 
 const SPAN: u32 = 7;
 const CHART_TEXT: &[u8] = b"pointshape";
@@ -150,6 +155,37 @@ impl<const PUBLIC: bool> Ours<PUBLIC> {
     }
   }
 
+  /// The core unify with a lent memory, whatever it holds.
+  pub fn unify_recalling(&mut self, memory: &mut [u32], a: u32, b: u32) -> u32 {
+    let Ours { rule, h, ws, ks } = self;
+    unsafe {
+      faroalder_direct_unify_recalling(
+        ws.as_mut_ptr(),
+        ws.len(),
+        ks.as_ptr(),
+        ks.len(),
+        h[0],
+        rule.as_ptr(),
+        rule.len(),
+        CHART_TEXT.as_ptr(),
+        CHART_TEXT.len(),
+        memory.as_mut_ptr(),
+        memory.len(),
+        a,
+        b,
+      )
+    }
+  }
+
+  /// How many nodes there are, and their words.
+  pub fn count(&self) -> usize {
+    self.h[0] as usize
+  }
+
+  pub fn words(&self) -> &[u32] {
+    &self.ws
+  }
+
   /// A store whose names lie in another rule text.
   pub fn with_rule(rule: Vec<u8>, nodes: usize) -> Self {
     Ours { rule, ..Self::opened(nodes) }
@@ -256,6 +292,10 @@ impl<const PUBLIC: bool> Side for Ours<PUBLIC> {
 
   fn structure(&mut self, kids: &[u32]) -> u32 {
     self.kind(STRUCT, &entries(kids))
+  }
+
+  fn error(&mut self) -> u32 {
+    core!(self, faroalder_direct_error)
   }
 
   fn merge(&mut self, a: u32, b: u32) {

@@ -12,6 +12,7 @@ pub trait Side: Clone {
   fn object(&mut self, kids: &[u32]) -> u32;
   fn reference(&mut self, kid: u32) -> u32;
   fn structure(&mut self, kids: &[u32]) -> u32;
+  fn error(&mut self) -> u32;
   /// Two types that unify, where no time is taken.
   fn merge(&mut self, a: u32, b: u32);
   /// 0 Success, 1 Failure, 2 Indeterminate.

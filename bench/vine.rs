@@ -88,6 +88,10 @@ impl Side for Vine {
     view::node(self.types.new_struct(&self.chart, StructId(0), tys(kids))) as u32
   }
 
+  fn error(&mut self) -> u32 {
+    view::node(self.types.error(ErrorGuaranteed::new_unchecked())) as u32
+  }
+
   fn merge(&mut self, a: u32, b: u32) {
     assert_eq!(self.unify(a, b), 0);
   }
