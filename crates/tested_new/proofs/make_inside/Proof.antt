@@ -1,9 +1,9 @@
--- `call_new::make_inside` meets its contract: a refusal writes nothing, and a kind that passes is the one that the core is given.
+-- `tested_new::make_inside` meets its contract: a refusal writes nothing, and a kind that passes is the one that the core is given.
 -- Assumes nothing.
 use borrow.Author.Needs.{needs}
-use Rattle.call_new.proofs.Laws.{inside-refused, inside-full, inside-ready, inside-made}
-use Rattle.call_new.proofs.make_inside.Statement.{statement}
-use Rattle.call_new.proofs.make_inside.Tie as tie
+use Rattle.tested_new.proofs.Laws.{inside-refused, inside-full, inside-ready, inside-made}
+use Rattle.tested_new.proofs.make_inside.Statement.{statement}
+use Rattle.tested_new.proofs.make_inside.Tie as tie
 
 kind-refusal-requires : tie.Need-kind-refusal-requires
 kind-refusal-requires c κs = search needs

@@ -29,13 +29,13 @@ use Rattle.sound.specs.Tests.{envIn}
 use Rattle.walk.specs.Asks.{Stands}
 use Rattle.refusals.specs.Codes.{codeOf}
 use Rattle.refusals.proofs.Laws.{code-none, code-some}
-use Rattle.promise.specs.Promise.{Reply, value, refusal, TypesTested}
-use Rattle.promise.specs.Prints.{PrintPromised, countReply}
-use Rattle.promise.proofs.Laws.{lent-env, lent-store, lent-refused, lent-next, call-passed}
+use Rattle.promise.specs.Promise.{Reply, refusal, Tested, TypesTested}
+use Rattle.promise.specs.Prints.{PrintPromised}
+use Rattle.promise.proofs.Laws.{lent-env, lent-store, call-passed, tested-next, none-listed}
 use Rattle.promise.proofs.ReadLaws.{read-passed, read-clean, nodes-read}
 use Rattle.lent_tests.specs.Given.{oneImplTests, FirstOf}
 use Rattle.lent_tests.proofs.Laws.{defined-alone}
-use Rattle.call_show.specs.Ends.{endReply}
+use Rattle.tested_show.specs.Ends.{endReply}
 
 -- a text that is whole, in the buffer buf₀ that now is buf
 pub text-whole : (s : Store) (buf₀ : List ℕ) {buf : List ℕ} {end : ℕ} (bs : List ℕ) → SoFar buf₀ buf end bs
@@ -73,7 +73,7 @@ module _ (e : Env) (h ws ks : List ℕ) (us : Store → List (Bool × ℕ)) (f :
       text-whole (storeIn h ws ks) buf text (a .keeps buf [] (so-far-start buf)) in
       rw (q, code-none n z, s, p, w) t
 
--- what a call reads that 2 and 8 do not turn back
+-- what a call reads that its tests do not turn back
 
 module _ {chart : List ℕ} {b : Beside} {rule text h ws ks : List ℕ} {ts : List Ty} {n : ℕ} (q : TypesTested chart b rule text h ws ks ts n) (z : n ≡ 0)
     {x : Header} (g : x ≡ headerIn h) where
@@ -104,45 +104,21 @@ module _ {chart : List ℕ} {b : Beside} {rule text h ws ks : List ℕ} (t : Ty)
 
 -- `show_impl_type`
 
--- m is the first of refusals 2 and 8 that stands, and 0 where none does
-pub record LentTested (chart : List ℕ) (b : Beside) (rule text h ws ks : List ℕ) (m : ℕ) : Type 0 where
-  pub first : firstBroken (lentTests (envIn chart b rule text) (lentOf h ws ks)) ≡ codeOf m
-
-pub lent-tested : {chart : List ℕ} {b : Beside} {rule text h ws ks : List ℕ} {m : ℕ}
-    → firstBroken (lentTests (envIn chart b rule text) (lentOf h ws ks)) ≡ codeOf m → LentTested chart b rule text h ws ks m
-lent-tested q = record { first = q }
-
--- a call on no listed type
-pub none-listed : {chart : List ℕ} {b : Beside} {rule text h ws ks : List ℕ} {m : ℕ} → LentTested chart b rule text h ws ks m → m ≡ 0
-    → TypesTested chart b rule text h ws ks [] 0
-none-listed {chart} {b} {rule} {text} {h} {ws} {ks} {m} q z =
-    record { first = lent-next (envIn chart b rule text) h ws ks (outside (storeOf (lentOf h ws ks)) [] ∷ []) m (q .first) z }
-
-module _ (a : ImplType) {chart : List ℕ} {b : Beside} {rule text h ws ks : List ℕ} {m : ℕ} (q : LentTested chart b rule text h ws ks m) (buf : List ℕ) where
+module _ (a : ImplType) {chart : List ℕ} {b : Beside} {rule text h ws ks : List ℕ} (q : Tested chart b rule text h ws ks) (buf : List ℕ) where
   abbrev tests : Store → List (Bool × ℕ)
   tests s = implTests (envIn chart b rule text) s (a ∷ [])
 
   abbrev words : Store → List ℕ
   words s = showImplType (envIn chart b rule text) (s .nodes) a
 
-  pub impl-lent : (m ≡ 0 → ⊥) → PrintPromised (showImplTypeCall (envIn chart b rule text) (lentOf h ws ks) a buf) (refusal m) (storeIn h ws ks) buf
-  unfolding showImplTypeCall
-  impl-lent z =
-      let e : Env = envIn chart b rule text in
-      print-back e h ws ks tests words m (lent-refused e h ws ks (tests (storeOf (lentOf h ws ks))) m (q .first) z) buf z
-
-  module _ (z : m ≡ 0) {x : Header} (g : x ≡ headerIn h) {r : ℕ} (t : FirstOf (x .nodes) (oneImplTests (chartAlone chart) a) r) where
+  module _ {x : Header} (g : x ≡ headerIn h) {r : ℕ} (t : FirstOf (x .nodes) (oneImplTests (chartAlone chart) a) r) where
     own-code : firstBroken (lentTests (envIn chart b rule text) (lentOf h ws ks) ++ tests (storeOf (lentOf h ws ks))) ≡ codeOf r
     unfolding oneImplTests
     own-code =
-        let e : Env = envIn chart b rule text in
-        let s : Store = storeOf (lentOf h ws ks) in
-        let l = none-listed q z in
-        let p : firstBroken (lentTests e (lentOf h ws ks)) ≡ none = read-passed l refl in
-        let long : length (s .nodes) ≡ x .nodes =
-        ap (λ (y : Store). length (y .nodes)) (lent-store e h ws ks p) ∙ (ap length (nodes-read l refl g) ∙ length-decode ws ks (x .nodes)) in
-        lent-next e h ws ks (tests s) m (q .first) z
-        ∙ (ap (λ (y : Env). firstBroken (implTests y s (a ∷ []))) (lent-env chart b rule text h ws ks p)
+        let s : Store = storeIn h ws ks in
+        let long : length (s .nodes) ≡ x .nodes = ap length (nodes-read (none-listed q) refl g) ∙ length-decode ws ks (x .nodes) in
+        tested-next q tests
+        ∙ (ap (λ (y : Env). firstBroken (implTests y s (a ∷ []))) (lent-env chart b rule text h ws ks (q .passed))
         ∙ rw (defined-alone chart b rule text a) (t .code s long))
 
     pub impl-back : (r ≡ 0 → ⊥) → PrintPromised (showImplTypeCall (envIn chart b rule text) (lentOf h ws ks) a buf) (refusal r) (storeIn h ws ks) buf
@@ -154,4 +130,4 @@ module _ (a : ImplType) {chart : List ℕ} {b : Beside} {rule text h ws ks : Lis
         → PrintPromised (showImplTypeCall (envIn chart b rule text) (lentOf h ws ks) a buf) o (storeIn h ws ks) buf′
     unfolding showImplTypeCall
     impl-done y p w =
-        print-done (envIn chart b rule text) h ws ks tests words r own-code buf y (read-text (none-listed q z) refl g (λ e ns. showImplType e ns a)) p w
+        print-done (envIn chart b rule text) h ws ks tests words r own-code buf y (read-text (none-listed q) refl g (λ e ns. showImplType e ns a)) p w

@@ -37,13 +37,13 @@ use Rattle.sound.specs.Tests.{envIn}
 use Rattle.refusals.specs.Codes.{codeOf}
 use Rattle.promise.specs.Promise.{Promised, Reply, value, refusal}
 use Rattle.refusals.proofs.Laws.{code-none, code-some, none-some, code-first, code-next, test-passed, tests-passed, judged-refused, judged-done}
-use Rattle.promise.proofs.Laws.{lent-refused, lent-passed, lent-next, lent-env, lent-store, lent-outside, promised-back, promised-done}
+use Rattle.promise.proofs.Laws.{lent-passed, lent-next, lent-env, lent-store, lent-outside, promised-back, promised-done}
 use Rattle.refusals.proofs.RoomLaws.{ready-more}
-use Rattle.call_make.proofs.MakerLaws.{made-done}
+use Rattle.tested_make.proofs.MakerLaws.{made-done}
 use Rattle.lent_kind.specs.declared.KindArgs.{KindArgs}
 use Rattle.lent_kind.specs.Lent.{withFlag, kindLent, tidy, given, listTests, kindTests}
 use Rattle.lent_kind.proofs.Laws.{wide-unmakeable, given-count, given-kind, untidy-test, flag-is}
-use Rattle.call_new.specs.Inside.{insideCall}
+use Rattle.tested_new.specs.Inside.{insideCall}
 
 -- make_inside
 
@@ -130,9 +130,6 @@ module _ (cs : List ℕ) (b : Beside) (rule text h ws ks : List ℕ) (a : NewKin
   call-tests = refl
 
   module _ (n : ℕ) (q : firstBroken (lentTests outer lent) ≡ codeOf n) where
-    pub new-lent : (n ≡ 0 → ⊥) → Promised (newCall outer lent a) (refusal n) h ws ks h ws ks
-    new-lent z = promised-back (call-tests ∙ judged-refused tests made n (lent-refused outer h ws ks (outside (storeOf lent) (a .kids) ∷ later) n q z) z)
-
     module _ (z : n ≡ 0) {x : Header} (g : x ≡ headerIn h) (ts : List Ty) (kids : a .kids ≡ ts) {w : ℕ} (many : length ts ≡ w) {i : Bool}
         (o : (ns : List Node) → length ns ≡ x .nodes → i ≡ all (inStore ns) ts) where
       inside-tests : firstBroken tests ≡ firstBroken ((not i, OUTSIDE) ∷ later)

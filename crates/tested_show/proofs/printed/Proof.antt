@@ -1,9 +1,9 @@
--- `call_show::printed` meets its contract: its test is that of endReply.
+-- `tested_show::printed` meets its contract: its test is that of endReply.
 -- Assumes nothing.
 use mathlib.Core.Path.{refl, sym, _∙_}
 use borrow.Author.Needs.{needs}
-use Rattle.call_show.proofs.printed.Statement.{statement}
-use Rattle.call_show.proofs.printed.Tie as tie
+use Rattle.tested_show.proofs.printed.Statement.{statement}
+use Rattle.tested_show.proofs.printed.Tie as tie
 
 is-full-requires : tie.Need-is-full-requires
 is-full-requires c κs = search needs
