@@ -13,7 +13,6 @@ use Rattle.scope.specs.Limits.{MAX-WIDTH}
 use Rattle.scope.specs.Chart.{Env}
 use Rattle.scope.specs.Types.{Ty, tyOf}
 use Rattle.scope.specs.Kinds.{Head, flagOf, makeable, defined}
-use Rattle.scope.specs.Nodes as nodes
 use Rattle.scope.specs.Nodes.{Node, Store}
 use Rattle.scope.specs.Sound.{Lent, inStore, namesClean}
 use Rattle.scope.specs.Make.{new}

@@ -2,17 +2,16 @@
 -- from the text that the core appended to nothing, to what every printer promises.
 -- Assumes nothing.
 use mathlib.Core.Path.{_≡_, refl, ap, sym, _∙_}
-use mathlib.Core.Bool.{Bool, true, false}
+use mathlib.Core.Bool.{Bool}
 use mathlib.Core.List.{List, [], _∷_, _++_}
-use mathlib.Core.Option.{Option, none}
+use mathlib.Core.Option.{Option}
 use Prim.Native.Nat.{ℕ, _≤_, _<_}
 use native.Mathlib.Omega.{arith}
 use native.Mathlib.Decide.{decLt}
-use lib.Dec.{ltb, leb}
 use lib.ListN.{length}
 use borrow.Author.Tests.{lt-ltb, le-ltb, le-leb, lt-leb}
 use Rattle.scope.specs.Chart.{Env}
-use Rattle.scope.specs.Types.{Ty, tyOf}
+use Rattle.scope.specs.Types.{Ty}
 use Rattle.scope.specs.Nodes.{Node, Store}
 use Rattle.scope.specs.Unify.{ImplType}
 use Rattle.scope.specs.Show.{show, showImplType}

@@ -1,7 +1,7 @@
 -- `call_new::new_struct` meets its contract: where 2 and 8 do not stand the store is tested, and the form for such a store answers.
 -- Assumes nothing.
 use borrow.Author.Needs.{needs}
-use Rattle.scope.specs.Calls.{newStructCall}
+use Rattle.scope.specs.Calls.{newCall, newStructCall}
 use Rattle.promise.proofs.BackLaws.{tested, did-back}
 use Rattle.call_new.proofs.new_struct.Statement.{statement}
 use Rattle.call_new.proofs.new_struct.Tie as tie
@@ -19,7 +19,7 @@ same-length-3 : tie.Need-same-length-3
 same-length-3 c = search needs
 
 returns : tie.Need-returns
-unfolding newStructCall
+unfolding newStructCall newCall
 returns c = did-back _ _ _ _ _ (c .before .refusal .ensures) (c .if1 .taken) _ _
 
 new-struct-requires : tie.Need-new-struct-requires

@@ -1,7 +1,7 @@
 -- `call_new::new_union` meets its contract: where 2 and 8 do not stand the store is tested, and the form for such a store answers.
 -- Assumes nothing.
 use borrow.Author.Needs.{needs}
-use Rattle.scope.specs.Calls.{newUnionCall}
+use Rattle.scope.specs.Calls.{newCall, newUnionCall}
 use Rattle.promise.proofs.BackLaws.{tested, did-back}
 use Rattle.call_new.proofs.new_union.Statement.{statement}
 use Rattle.call_new.proofs.new_union.Tie as tie
@@ -19,7 +19,7 @@ same-length-3 : tie.Need-same-length-3
 same-length-3 c = search needs
 
 returns : tie.Need-returns
-unfolding newUnionCall
+unfolding newUnionCall newCall
 returns c = did-back _ _ _ _ _ (c .before .refusal .ensures) (c .if1 .taken) _ _
 
 new-union-requires : tie.Need-new-union-requires

@@ -14,14 +14,14 @@ same-length c = search needs
 
 returns : tie.Need-returns
 returns c =
-    let test = inside-tested (c .before .before .before .before .before .before .before .before .before .pre) (c .before .refusal-at .ensures) in
     let a = c .before .before .before .before .before .before .before .before .before .args in
+    let test = inside-tested (c .before .before .before .before .before .before .before .before .before .pre) (c .before .refusal-at .ensures) in
     forced-back (a .t) test (c .if1 .taken)
 
 force-kind-requires : tie.Need-force-kind-requires
 force-kind-requires c κs =
-    let test = inside-tested (c .before .before .before .before .before .before .before .before .before .before .before .pre) (c .before .before .before .refusal-at .ensures) in
     let a = c .before .before .before .before .before .before .before .before .before .before .before .args in
+    let test = inside-tested (c .before .before .before .before .before .before .before .before .before .before .before .pre) (c .before .before .before .refusal-at .ensures) in
     forced-clean (a .t) test (c .before .before .if1 .left)
 
 answer-requires : tie.Need-answer-requires
@@ -35,9 +35,11 @@ same-length-3 c = search needs
 
 returns-2 : tie.Need-returns-2
 returns-2 c =
+    let pre = c .before .before .before .before .before .before .before .before .before .before .before .before .before .before .before .before .before .pre in
+    let refusalAt = c .before .before .before .before .before .before .before .before .before .refusal-at in
     let a = c .before .before .before .before .before .before .before .before .before .before .before .before .before .before .before .before .before .args in
-    let test = inside-tested (c .before .before .before .before .before .before .before .before .before .before .before .before .before .before .before .before .before .pre) (c .before .before .before .before .before .before .before .before .before .refusal-at .ensures) in
     let passed = c .before .before .before .before .before .before .before .before .if1 .left in
+    let test = inside-tested pre (refusalAt .ensures) in
     forced-done (a .t) test passed (c .before .before .before .before .before .force-kind .ensures) (c .answer .ensures)
 
 pub force-kind-spec : {M : Type 1} → statement M

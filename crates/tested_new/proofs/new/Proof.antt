@@ -57,13 +57,14 @@ same-length-4 c = search needs
 
 returns-2 : tie.Need-returns-2
 returns-2 c =
+    let pre = c .before .before .before .before .before .before .before .before .before .before .before .before .before .before .before .before .before .before .before .before .before .before .pre in
     let a = c .before .before .before .before .before .before .before .before .before .before .before .before .before .before .before .before .before .before .before .before .before .before .args in
-    let passed = c .before .before .before .before .before .before .before .before .before .before .before .before .before .before .before .before .before .before .before .before .before .before .pre .passed in
     let readHeader = c .before .before .before .before .before .before .before .before .before .before .before .before .before .read-header in
     let entriesInside = c .before .before .before .before .before .before .before .before .before .before .before .before .entries-inside in
     let listRefusal = c .before .before .before .before .before .before .before .before .before .before .before .list-refusal in
     let if1 = c .before .before .before .before .before .before .before .before .before .before .if1 in
     let makeInside = c .before .before .before .before .before .before .make-inside in
+    let passed = pre .passed in
     new-promised (a .chart .now) (a .beside) (a .rule .now) (a .text .now) (a .h .now) (a .ws .now) (a .ks .now) (given (a .k) (a .entries .now))
     0 passed refl (readHeader .ensures) (entryTypes (a .entries .now)) (given-kids (a .k) (a .entries .now))
     (entries-long (a .entries .now)) (entriesInside .ensures) (listRefusal .ensures) (if1 .left) refl (makeInside .ensures)

@@ -100,8 +100,9 @@ same-length-4 c = search needs
 
 returns-2 : tie.Need-returns-2
 returns-2 c =
-    let a = c .before .before .before .before .before .before .before .before .before .before .before .before .before .before .before .before .before .before .before .before .before .before .before .before .before .before .before .args in
-    let passed = c .before .before .before .before .before .before .before .before .before .before .before .before .before .before .before .before .before .before .before .before .before .before .before .before .before .before .before .pre .0 .passed in
+    let early = c .before .before .before .before .before .before .before .before .before .before .before .before in
+    let pre = early .before .before .before .before .before .before .before .before .before .before .before .before .before .before .before .pre in
+    let a = early .before .before .before .before .before .before .before .before .before .before .before .before .before .before .before .args in
     let readHeader = c .before .before .before .before .before .before .before .before .before .before .before .before .before .before .before .before .before .before .read-header in
     let typesInside = c .before .before .before .before .before .before .before .before .before .before .before .before .before .before .before .before .before .types-inside in
     let listRefusal = c .before .before .before .before .before .before .before .before .before .before .before .before .before .before .before .before .list-refusal in
@@ -109,11 +110,12 @@ returns-2 c =
     let putTypes = c .before .before .before .before .before .before .before .before .before .before .before .before .before .put-types in
     let plainArgs = c .before .before .before .before .before .before .before .before .before .before .before .plain-args in
     let makeInside = c .before .before .before .before .before .before .make-inside in
+    let passed = pre .0 .passed in
     let narrow = listed-narrow (typesInside .result) (length (a .types .now)) (listRefusal .result) (listRefusal .ensures) (if1 .left) in
     new-promised (a .chart .now) (a .beside) (a .rule .now) (a .text .now) (a .h .now) (a .ws .now) (a .ks .now)
     (over (a .code) (a .number) (typesIn (a .types .now))) 0 passed refl (readHeader .ensures)
     (typesIn (a .types .now)) refl (length-map (a .types .now) tyOf) (typesInside .ensures) (listRefusal .ensures) (if1 .left)
-    (part-given (a .types .now) (putTypes .last .0) (putTypes .ensures) (omega (arith, putTypes .kept .0, narrow)) (a .code) (a .number) (c .before .before .before .before .before .before .before .before .before .before .before .before .before .before .before .before .before .before .before .before .before .before .before .before .before .before .before .pre .1) (plainArgs .ensures))
+    (part-given (a .types .now) (putTypes .last .0) (putTypes .ensures) (omega (arith, putTypes .kept .0, narrow)) (a .code) (a .number) (pre .1) (plainArgs .ensures))
     (makeInside .ensures)
 
 pub new-over-spec : {M : Type 1} → statement M

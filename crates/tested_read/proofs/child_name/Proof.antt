@@ -43,22 +43,26 @@ enum-told c = search needs
 returns-2 : tie.Need-returns-2
 unfolding nameCall
 returns-2 c =
+    let pre = c .before .before .before .before .before .before .before .before .before .before .before .before .before .before .before .pre in
+    let refusalAt = c .before .before .before .before .before .before .before .before .refusal-at in
     let a = c .before .before .before .before .before .before .before .before .before .before .before .before .before .before .before .args in
-    let test = inside-tested (c .before .before .before .before .before .before .before .before .before .before .before .before .before .before .before .pre) (c .before .before .before .before .before .before .before .before .refusal-at .ensures) in
     let passed = c .before .before .before .before .before .before .before .if1 .left in
     let head = c .before .before .before .before .before .before .read-header .ensures in
     let idx = c .before .before .before .before .before .idx .ensures in
+    let test = inside-tested pre (refusalAt .ensures) in
     node-tells test passed head idx (c .before .before .before .before .node-at .ensures) (λ (v : Node). childNameAt v (a .j))
     (c .before .before .before .name-of-node .ensures ∙ ap namedMeans (c .before .name .given .1))
 
 returns-3 : tie.Need-returns-3
 unfolding nameCall
 returns-3 c =
+    let pre = c .before .before .before .before .before .before .before .before .before .before .before .before .before .before .pre in
+    let refusalAt = c .before .before .before .before .before .before .before .refusal-at in
     let a = c .before .before .before .before .before .before .before .before .before .before .before .before .before .before .args in
-    let test = inside-tested (c .before .before .before .before .before .before .before .before .before .before .before .before .before .before .pre) (c .before .before .before .before .before .before .before .refusal-at .ensures) in
     let passed = c .before .before .before .before .before .before .if1 .left in
     let head = c .before .before .before .before .before .read-header .ensures in
     let idx = c .before .before .before .before .idx .ensures in
+    let test = inside-tested pre (refusalAt .ensures) in
     node-tells test passed head idx (c .before .before .before .node-at .ensures) (λ (v : Node). childNameAt v (a .j))
     (c .before .before .name-of-node .ensures ∙ ap namedMeans (c .enum-told .given .1))
 

@@ -31,8 +31,10 @@ answer-requires c κs = search needs
 
 returns-2 : tie.Need-returns-2
 returns-2 c =
-    let test = inside-tested (c .before .before .before .before .before .before .before .before .before .before .before .before .pre) (c .before .before .before .before .before .refusal-at .ensures) in
+    let pre = c .before .before .before .before .before .before .before .before .before .before .before .before .pre in
+    let refusalAt = c .before .before .before .before .before .refusal-at in
     let head = c .before .before .before .read-header .ensures in
+    let test = inside-tested pre (refusalAt .ensures) in
     node-found test (c .before .before .before .before .if1 .left) head (c .before .before .idx .ensures) (c .before .node-at .ensures) (c .answer .ensures)
 
 pub node-spec : {M : Type 1} → statement M

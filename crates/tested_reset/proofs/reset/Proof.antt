@@ -26,9 +26,11 @@ same-length-3 c = search needs
 returns : tie.Need-returns
 unfolding resetCall
 returns c =
+    let pre = c .before .before .before .before .before .before .before .before .before .before .before .before .before .before .before .before .pre in
+    let resetAt = c .before .before .before .before .before .before .reset in
     let a = c .before .before .before .before .before .before .before .before .before .before .before .before .before .before .before .before .args in
     let e = envIn (a .chart .now) (a .beside) (a .rule .now) (a .text .now) in
-    call-done e (a .h .now) (a .ws .now) (a .ks .now) (λ s. []) (λ s. done tt (reset s)) 0 (c .before .before .before .before .before .before .before .before .before .before .before .before .before .before .before .before .pre .passed) refl refl (c .before .before .before .before .before .before .reset .ensures)
+    call-done e (a .h .now) (a .ws .now) (a .ks .now) (λ s. []) (λ s. done tt (reset s)) 0 (pre .passed) refl refl (resetAt .ensures)
 
 pub reset-spec : {M : Type 1} → statement M
 reset-spec =

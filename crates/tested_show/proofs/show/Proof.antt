@@ -13,8 +13,8 @@ refusal-at-requires c κs = search needs
 
 returns : tie.Need-returns
 returns c =
-    let test = inside-tested (c .before .before .before .before .before .before .before .before .before .pre) (c .before .refusal-at .ensures) in
     let a = c .before .before .before .before .before .before .before .before .before .args in
+    let test = inside-tested (c .before .before .before .before .before .before .before .before .before .pre) (c .before .refusal-at .ensures) in
     show-back (tyOf (a .t .0)) test (a .buf .now) (c .if1 .taken)
 
 read-header-requires : tie.Need-read-header-requires
@@ -33,9 +33,14 @@ same-length c = search needs
 
 returns-2 : tie.Need-returns-2
 returns-2 c =
-    let test = inside-tested (c .before .before .before .before .before .before .before .before .before .before .before .before .before .before .before .before .pre) (c .before .before .before .before .before .before .before .before .refusal-at .ensures) in
+    let pre = c .before .before .before .before .before .before .before .before .before .before .before .before .before .before .before .before .pre in
+    let refusalAt = c .before .before .before .before .before .before .before .before .refusal-at in
+    let if1 = c .before .before .before .before .before .before .before .if1 in
+    let head = c .before .before .before .before .before .before .read-header in
+    let showAll = c .before .before .before .before .show-all in
     let a = c .before .before .before .before .before .before .before .before .before .before .before .before .before .before .before .before .args in
-    show-done (tyOf (a .t .0)) test (a .buf .now) (c .before .before .before .before .before .before .before .if1 .left) (c .before .before .before .before .before .before .read-header .ensures) (c .before .before .before .before .show-all .ensures) (c .printed .ensures)
+    let test = inside-tested pre (refusalAt .ensures) in
+    show-done (tyOf (a .t .0)) test (a .buf .now) (if1 .left) (head .ensures) (showAll .ensures) (c .printed .ensures)
 
 pub show-spec : {M : Type 1} → statement M
 show-spec =

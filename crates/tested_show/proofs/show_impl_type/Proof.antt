@@ -16,11 +16,13 @@ one-impl-requires c κs = search needs
 
 returns : tie.Need-returns
 returns c =
+    let pre = c .before .before .before .before .before .before .before .before .before .before .before .pre in
     let a = c .before .before .before .before .before .before .before .before .before .before .before .args in
-    impl-back (implMeans (a .a) (a .xs .now)) (c .before .before .before .before .before .before .before .before .before .before .before .pre) (a .buf .now) (c .before .before .read-header .ensures) (c .before .one-impl .ensures) (c .if1 .taken)
+    impl-back (implMeans (a .a) (a .xs .now)) pre (a .buf .now) (c .before .before .read-header .ensures) (c .before .one-impl .ensures) (c .if1 .taken)
 
 show-impl-type-requires : tie.Need-show-impl-type-requires
-show-impl-type-requires c κs = read-stands (none-listed (c .before .before .before .before .before .before .before .before .before .before .before .before .pre)) refl (c .before .before .before .read-header .ensures)
+show-impl-type-requires c κs =
+    read-stands (none-listed (c .before .before .before .before .before .before .before .before .before .before .before .before .pre)) refl (c .before .before .before .read-header .ensures)
 
 printed-requires : tie.Need-printed-requires
 printed-requires c κs = search needs
@@ -30,9 +32,13 @@ same-length c = search needs
 
 returns-2 : tie.Need-returns-2
 returns-2 c =
+    let pre = c .before .before .before .before .before .before .before .before .before .before .before .before .before .before .before .before .before .pre in
+    let oneImpl = c .before .before .before .before .before .before .before .one-impl in
+    let if1 = c .before .before .before .before .before .before .if1 in
+    let showImplType = c .before .before .before .before .show-impl-type in
     let a = c .before .before .before .before .before .before .before .before .before .before .before .before .before .before .before .before .before .args in
     let head = c .before .before .before .before .before .before .before .before .read-header .ensures in
-    impl-done (implMeans (a .a) (a .xs .now)) (c .before .before .before .before .before .before .before .before .before .before .before .before .before .before .before .before .before .pre) (a .buf .now) head (c .before .before .before .before .before .before .before .one-impl .ensures) (c .before .before .before .before .before .before .if1 .left) (c .before .before .before .before .show-impl-type .ensures) (c .printed .ensures)
+    impl-done (implMeans (a .a) (a .xs .now)) pre (a .buf .now) head (oneImpl .ensures) (if1 .left) (showImplType .ensures) (c .printed .ensures)
 
 pub show-impl-type-spec : {M : Type 1} → statement M
 show-impl-type-spec =

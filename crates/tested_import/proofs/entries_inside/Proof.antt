@@ -1,9 +1,9 @@
--- `call_import::entries_inside` meets its contract: a list has the lent types, and no list has none.
+-- `tested_import::entries_inside` meets its contract: a list has the lent types, and no list has none.
 -- Assumes nothing.
 use mathlib.Core.Path.{refl}
 use borrow.Author.Needs.{needs}
-use Rattle.call_import.proofs.entries_inside.Statement.{statement}
-use Rattle.call_import.proofs.entries_inside.Tie as tie
+use Rattle.tested_import.proofs.entries_inside.Statement.{statement}
+use Rattle.tested_import.proofs.entries_inside.Tie as tie
 
 types-inside-requires : tie.Need-types-inside-requires
 types-inside-requires c κs = search needs

@@ -1,9 +1,9 @@
--- `call_export::room` meets its contract: a fresh store has made nothing, so what is needed is compared with its capacities.
+-- `tested_export::room` meets its contract: a fresh store has made nothing, so what is needed is compared with its capacities.
 -- Assumes nothing.
 use Rattle.needs.specs.Sums.{sumOf}
-use Rattle.call_export.proofs.Laws.{fresh-nodes, fresh-children, fresh-enough}
-use Rattle.call_export.proofs.room.Statement.{statement}
-use Rattle.call_export.proofs.room.Tie as tie
+use Rattle.tested_export.proofs.Laws.{fresh-nodes, fresh-children, fresh-enough}
+use Rattle.tested_export.proofs.room.Statement.{statement}
+use Rattle.tested_export.proofs.room.Tie as tie
 
 returns : tie.Need-returns
 returns c =

@@ -1,5 +1,5 @@
--- What an import tests, part by part: one law for each way out of the tests of both stores and of both lists, and what these say once they are passed.
--- A source that is sound reads the chart that the destination's tests have passed, so what is known of a lent store is known of it too.
+-- What an import tests, part by part: tested stores pass the tests of both stores, one law for each way out of the tests of both lists, and what all these
+-- say once they are passed.
 -- Assumes nothing.
 use mathlib.Core.Path.{_≡_, refl, ap, sym, _∙_}
 use mathlib.Core.Bool.{Bool, true, false, not, _&&_, _||_}
@@ -20,49 +20,29 @@ use Rattle.scope.specs.Calls.{firstBroken, lentTests, tooMany, roomTests, impor
 use Rattle.scope.proofs.TestLaws.{or-no}
 use Rattle.names.proofs.Tests.{both}
 use Rattle.chart.specs.declared.Beside.{Beside}
-use Rattle.chart.specs.Env.{chartIn, chartWordsOk}
 use Rattle.layout.specs.Words.{storeIn, lentOf}
 use Rattle.store.specs.Entries.{typesIn}
 use Rattle.refusals.specs.Codes.{NO-REFUSAL, codeOf}
 use Rattle.refusals.proofs.Laws.{test-stands, test-falls, test-passed, tests-passed, passed-first, passed-next}
 use Rattle.sound.specs.Tests.{envIn}
-use Rattle.sound.proofs.Laws.{env-ok, env-sound}
 use Rattle.needs.specs.declared.Needs.{Needs}
 use Rattle.needs.specs.declared.Params.{Params}
 use Rattle.needs.specs.declared.Params.the-variants.{Entries}
 use Rattle.needs.specs.Roots.{paramsFor}
 use Rattle.needs.specs.Sources.{ImportNeeds}
-use Rattle.promise.proofs.Laws.{lent-chart, lent-refused, lent-next, lent-passed}
+use Rattle.promise.specs.Promise.{Tested}
+use Rattle.promise.proofs.Laws.{lent-chart, lent-sound}
 use Rattle.lent_tests.proofs.Laws.{Row, row-first, row-second, row-many, row-many-too, row-made}
 use Rattle.copy_parts.specs.Places.{listOf}
-use Rattle.call_import.specs.Tests.{storesTests, listsTests, needsTests, StoresTested, ListsTested, NeedsTested}
+use Rattle.tested_import.specs.Tests.{storesTests, listsTests, needsTests, StoresTested, ListsTested, NeedsTested}
 
 -- both stores
 
-module _ (chart : List ℕ) (b : Beside) (rule text h ws ks sh sw sk : List ℕ) (n : ℕ) (q : firstBroken (lentTests (envIn chart b rule text) (lentOf h ws ks)) ≡ codeOf n) where
-  abbrev e : Env
-  e = envIn chart b rule text
-
-  abbrev last : List (Bool × ℕ)
-  last = (not (sound e (lentOf sh sw sk)), SOURCE-UNSOUND) ∷ []
-
-  pub stores-lent : (n ≡ 0 → ⊥) → StoresTested chart b rule text h ws ks sh sw sk n
-  stores-lent z = record { first = lent-refused e h ws ks last n q z }
-
-  module _ (z : n ≡ 0) (r : Bool) (o : r ≡ sound (chartIn chart rule text) (lentOf sh sw sk)) where
-    words-ok : chartWordsOk chart b rule text ≡ true
-    words-ok = sym (env-ok chart b rule text) ∙ lent-chart e h ws ks (lent-passed e h ws ks n q z)
-
-    last-code : firstBroken (storesTests e (lentOf h ws ks) (lentOf sh sw sk)) ≡ firstBroken ((not r, SOURCE-UNSOUND) ∷ [])
-    last-code =
-        lent-next e h ws ks last n q z
-        ∙ ap (λ (y : Bool). firstBroken ((not y, SOURCE-UNSOUND) ∷ [])) (env-sound chart b rule text words-ok (lentOf sh sw sk) ∙ sym o)
-
-    pub stores-source : not r ≡ true → StoresTested chart b rule text h ws ks sh sw sk SOURCE-UNSOUND
-    stores-source t = record { first = last-code ∙ test-stands SOURCE-UNSOUND [] t }
-
-    pub stores-pass : not r ≡ false → StoresTested chart b rule text h ws ks sh sw sk NO-REFUSAL
-    stores-pass t = record { first = last-code ∙ test-falls SOURCE-UNSOUND [] t }
+pub stores-tested : {chart : List ℕ} {b : Beside} {rule text h ws ks sh sw sk : List ℕ} → Tested chart b rule text h ws ks → Tested chart b rule text sh sw sk
+    → StoresTested chart b rule text h ws ks sh sw sk 0
+stores-tested {chart} {b} {rule} {text} {h} {ws} {ks} {sh} {sw} {sk} d s =
+    let e : Env = envIn chart b rule text in
+    record { first = rw (lent-chart e h ws ks (d .passed), lent-sound e h ws ks (d .passed), lent-sound e sh sw sk (s .passed)) refl }
 
 -- what they say once they are passed: 2 and 8 would turn neither back
 module _ (e : Env) (h ws ks sh sw sk : List ℕ) (q : firstBroken (storesTests e (lentOf h ws ks) (lentOf sh sw sk)) ≡ none) where

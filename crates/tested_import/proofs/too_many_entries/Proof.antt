@@ -1,9 +1,9 @@
--- `call_import::too_many_entries` meets its contract: a list has as many entries as words, and no list has none.
+-- `tested_import::too_many_entries` meets its contract: a list has as many entries as words, and no list has none.
 -- Assumes nothing.
 use mathlib.Core.Path.{refl}
 use borrow.Author.Needs.{needs}
-use Rattle.call_import.proofs.too_many_entries.Statement.{statement}
-use Rattle.call_import.proofs.too_many_entries.Tie as tie
+use Rattle.tested_import.proofs.too_many_entries.Statement.{statement}
+use Rattle.tested_import.proofs.too_many_entries.Tie as tie
 
 too-many-requires : tie.Need-too-many-requires
 too-many-requires c κs = search needs

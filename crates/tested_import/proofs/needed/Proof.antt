@@ -1,9 +1,9 @@
--- `call_import::needed` meets its contract: a Param with no entry comes before room, which is asked of the header.
+-- `tested_import::needed` meets its contract: a Param with no entry comes before room, which is asked of the header.
 -- Assumes nothing.
 use borrow.Author.Needs.{needs}
-use Rattle.call_import.proofs.TestLaws.{needs-missing, needs-room}
-use Rattle.call_import.proofs.needed.Statement.{statement}
-use Rattle.call_import.proofs.needed.Tie as tie
+use Rattle.tested_import.proofs.TestLaws.{needs-missing, needs-room}
+use Rattle.tested_import.proofs.needed.Statement.{statement}
+use Rattle.tested_import.proofs.needed.Tie as tie
 
 params-of-requires : tie.Need-params-of-requires
 params-of-requires c κs = search needs

@@ -1,10 +1,10 @@
--- `call_export::list` meets its contract: 3 comes before 4.
+-- `tested_export::list` meets its contract: 3 comes before 4.
 -- Assumes nothing.
 use borrow.Author.Needs.{needs}
 use Rattle.store.specs.Entries.{typesIn}
-use Rattle.call_export.proofs.Laws.{list-outside, list-many, list-pass}
-use Rattle.call_export.proofs.list.Statement.{statement}
-use Rattle.call_export.proofs.list.Tie as tie
+use Rattle.tested_export.proofs.Laws.{list-outside, list-many, list-pass}
+use Rattle.tested_export.proofs.list.Statement.{statement}
+use Rattle.tested_export.proofs.list.Tie as tie
 
 types-inside-requires : tie.Need-types-inside-requires
 types-inside-requires c κs = search needs

@@ -1,9 +1,9 @@
--- `call_import::lists` meets its contract: one way out for each list that 3 turns back, one for each that 4 does, and one past all.
+-- `tested_import::lists` meets its contract: one way out for each list that 3 turns back, one for each that 4 does, and one past all.
 -- Assumes nothing.
 use borrow.Author.Needs.{needs}
-use Rattle.call_import.proofs.TestLaws.{lists-first, lists-second, lists-many, lists-many-too, lists-pass}
-use Rattle.call_import.proofs.lists.Statement.{statement}
-use Rattle.call_import.proofs.lists.Tie as tie
+use Rattle.tested_import.proofs.TestLaws.{lists-first, lists-second, lists-many, lists-many-too, lists-pass}
+use Rattle.tested_import.proofs.lists.Statement.{statement}
+use Rattle.tested_import.proofs.lists.Tie as tie
 
 types-inside-requires : tie.Need-types-inside-requires
 types-inside-requires c κs = search needs

@@ -43,7 +43,7 @@ use Rattle.promise.proofs.Laws.{lent-clean-words, lent-store, lent-facts}
 use Rattle.copy.specs.Whole.{ExportReady, ImportedIs}
 use Rattle.lent_tests.specs.Given.{FirstOf}
 use Rattle.lent_tests.proofs.Laws.{Row, row-first, row-many, row-made}
-use Rattle.call_export.specs.Tests.{listTests, freshTests, exportTests, ExportTested}
+use Rattle.tested_export.specs.Tests.{listTests, freshTests, exportTests, ExportTested}
 
 -- one list
 

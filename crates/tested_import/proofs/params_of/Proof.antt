@@ -1,10 +1,10 @@
--- `call_import::params_of` meets its contract: of a list it tells how many entries there are, which fits a number since they are few.
+-- `tested_import::params_of` meets its contract: of a list it tells how many entries there are, which fits a number since they are few.
 -- Assumes nothing.
 use mathlib.Core.Path.{refl}
 use native.Mathlib.Omega.{arith}
-use Rattle.call_import.proofs.TestLaws.{params-few, params-listed}
-use Rattle.call_import.proofs.params_of.Statement.{statement}
-use Rattle.call_import.proofs.params_of.Tie as tie
+use Rattle.tested_import.proofs.TestLaws.{params-few, params-listed}
+use Rattle.tested_import.proofs.params_of.Statement.{statement}
+use Rattle.tested_import.proofs.params_of.Tie as tie
 
 cast-t5 : tie.Need-cast-t5
 cast-t5 c =
