@@ -1,3 +1,1 @@
--- The laws that belong to no one function
-pub mod TestLaws
 pub mod Laws

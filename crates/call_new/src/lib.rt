@@ -1,63 +1,14 @@
-// The calls `new`, `new_struct` and `new_union` on any numbers at all: each tests and refuses, or makes the node that document 01 says. Refusals come in
-// the order 2, 8, 3, 4, 5, 10, 11. A list may be of any length: 3 is tested over all of it, and only then that it is no wider than 255.
-ghost use mathlib.Core.Path.{_≡_};
-ghost use Prim.Native.Nat.{_≤_};
-ghost use Rattle.scope.specs.Limits.{MAX-WIDTH};
-ghost use Rattle.scope.specs.Kinds.{NO-NAMES, rowOf};
-ghost use Rattle.scope.specs.Calls.{over, newCall, newStructCall, newUnionCall};
-ghost use Rattle.chart.specs.Env.{chartIn};
-ghost use Rattle.layout.specs.Words.{storeIn, lentOf};
-ghost use Rattle.store.specs.Holds.{Ready};
-ghost use Rattle.store.specs.Entries.{entryCount, typesIn};
+// The calls `new`, `new_struct` and `new_union` on any numbers at all: each tests chart and store and refuses with 2 or 8, or is its form for a tested store.
+ghost use Rattle.scope.specs.Calls.{newCall, newStructCall, newUnionCall};
+ghost use Rattle.layout.specs.Words.{lentOf};
+ghost use Rattle.store.specs.Entries.{typesIn};
 ghost use Rattle.sound.specs.Tests.{envIn};
 ghost use Rattle.promise.specs.Promise.{Promised, typeReply};
 ghost use Rattle.lent_kind.specs.Lent.{given};
-ghost use Rattle.call_new.specs.Inside.{insideCall};
 use chart::Beside;
-use kinds::STRUCT;
-use kinds::UNION;
-use layout::CHILD_WORDS;
 use lent_kind::KindArgs;
-use lent_kind::flagged;
-use lent_kind::kind_refusal;
-use lent_kind::list_refusal;
-use lent_kind::plain_args;
-use lent_kind::put_types;
 use promise::TypeAnswer;
 use refusals::NO_REFUSAL;
-use scope::MAX_WIDTH;
-
-// The words of the entries of the widest kind.
-const LIST_WORDS: usize = MAX_WIDTH * CHILD_WORDS;
-
-// What is left of `new` once 2, 8 and 3 are passed.
-fn make_inside<'a>(
-    chart: &[u32],
-    rule: &'a [u8],
-    text: &'a [u8],
-    h: &mut [u32],
-    ws: &mut [u32],
-    ks: &mut [u32],
-    k: KindArgs,
-    entries: &[u32],
-) -> TypeAnswer
-    requires { ⌜ Ready (now h) (now ws) (now ks) 0 0 ⌝ }
-    requires { ⌜ entryCount (now entries) ≤ MAX-WIDTH ⌝ }
-    ensures { λ r. ⌜ Promised
-        (insideCall (chartIn (now (chart .entry)) (now (rule .entry)) (now (text .entry))) (storeIn (now (h .entry)) (now (ws .entry)) (now (ks .entry)))
-        (given k (now (entries .entry))))
-        (typeReply r) (now (h .entry)) (now (ws .entry)) (now (ks .entry)) (now (h .exit)) (now (ws .exit)) (now (ks .exit)) ⌝ }
-{
-    let unmade = kind_refusal(chart, rule, text, k, entries);
-    if unmade != NO_REFUSAL {
-        return TypeAnswer::Refused(unmade);
-    }
-    let full = refusals::room(h, 1, (entries.len() / CHILD_WORDS) as u32);
-    if full != NO_REFUSAL {
-        return TypeAnswer::Refused(full);
-    }
-    TypeAnswer::Is(make::new_kind(h, ws, ks, flagged(k, chart), entries))
-}
 
 // `new`: a kind with its children as entries, each a type and its name's text, start and length.
 pub fn new<'a>(
@@ -76,53 +27,11 @@ pub fn new<'a>(
         (given k (now (entries .entry))))
         (typeReply r) (now (h .entry)) (now (ws .entry)) (now (ks .entry)) (now (h .exit)) (now (ws .exit)) (now (ks .exit)) ⌝ }
 {
-    let lent = sound::refusal(chart, beside, rule, text, h, ws, ks);
-    if lent != NO_REFUSAL {
-        return TypeAnswer::Refused(lent);
+    let code = sound::refusal(chart, beside, rule, text, h, ws, ks);
+    if code != NO_REFUSAL {
+        return TypeAnswer::Refused(code);
     }
-    let x = layout::read_header(h);
-    let inside = refusals::entries_inside(entries, x.nodes);
-    let listed = list_refusal(inside, entries.len() / CHILD_WORDS);
-    if listed != NO_REFUSAL {
-        return TypeAnswer::Refused(listed);
-    }
-    make_inside(chart, rule, text, h, ws, ks, k, entries)
-}
-
-// A kind over a definition, from a plain list of types.
-fn new_over<'a>(
-    chart: &[u32],
-    beside: Beside,
-    rule: &'a [u8],
-    text: &'a [u8],
-    h: &mut [u32],
-    ws: &mut [u32],
-    ks: &mut [u32],
-    code: u32,
-    number: u32,
-    types: &[u32],
-) -> TypeAnswer
-    requires { ⌜ rowOf code .names ≡ NO-NAMES ⌝ }
-    ensures { λ r. ⌜ Promised
-        (newCall (envIn (now (chart .entry)) beside (now (rule .entry)) (now (text .entry))) (lentOf (now (h .entry)) (now (ws .entry)) (now (ks .entry)))
-        (over code number (typesIn (now (types .entry)))))
-        (typeReply r) (now (h .entry)) (now (ws .entry)) (now (ks .entry)) (now (h .exit)) (now (ws .exit)) (now (ks .exit)) ⌝ }
-{
-    let unsound = sound::refusal(chart, beside, rule, text, h, ws, ks);
-    if unsound != NO_REFUSAL {
-        return TypeAnswer::Refused(unsound);
-    }
-    let x = layout::read_header(h);
-    let inside = refusals::types_inside(types, x.nodes);
-    let refused = list_refusal(inside, types.len());
-    if refused != NO_REFUSAL {
-        return TypeAnswer::Refused(refused);
-    }
-    let mut es = [0u32; LIST_WORDS];
-    put_types(&mut es, types);
-    let end = types.len() * CHILD_WORDS;
-    let k = plain_args(code, number);
-    make_inside(chart, rule, text, h, ws, ks, k, &es[..end])
+    tested_new::new(chart, beside, rule, text, h, ws, ks, k, entries)
 }
 
 // `new_struct`: a Struct over a definition.
@@ -142,7 +51,11 @@ pub fn new_struct<'a>(
         number (typesIn (now (types .entry))))
         (typeReply r) (now (h .entry)) (now (ws .entry)) (now (ks .entry)) (now (h .exit)) (now (ws .exit)) (now (ks .exit)) ⌝ }
 {
-    new_over(chart, beside, rule, text, h, ws, ks, STRUCT, number, types)
+    let broken = sound::refusal(chart, beside, rule, text, h, ws, ks);
+    if broken != NO_REFUSAL {
+        return TypeAnswer::Refused(broken);
+    }
+    tested_new::new_struct(chart, beside, rule, text, h, ws, ks, number, types)
 }
 
 // `new_union`: a Union over a definition.
@@ -162,5 +75,9 @@ pub fn new_union<'a>(
         number (typesIn (now (types .entry))))
         (typeReply r) (now (h .entry)) (now (ws .entry)) (now (ks .entry)) (now (h .exit)) (now (ws .exit)) (now (ks .exit)) ⌝ }
 {
-    new_over(chart, beside, rule, text, h, ws, ks, UNION, number, types)
+    let lent = sound::refusal(chart, beside, rule, text, h, ws, ks);
+    if lent != NO_REFUSAL {
+        return TypeAnswer::Refused(lent);
+    }
+    tested_new::new_union(chart, beside, rule, text, h, ws, ks, number, types)
 }

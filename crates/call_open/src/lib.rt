@@ -1,4 +1,5 @@
-// The calls that open and empty a store, on any numbers at all: opening is refused with 1 alone, emptying with 2 and 8.
+// The calls that open and empty a store, on any numbers at all: opening is refused with 1 alone; emptying tests chart and store and refuses with 2 or 8, or is
+// its form for a tested store.
 ghost use Rattle.scope.specs.Calls.{openCall, resetCall};
 ghost use Rattle.layout.specs.Words.{lentOf};
 ghost use Rattle.refusals.specs.Opening.{enough};
@@ -39,6 +40,5 @@ pub fn reset<'a>(
     if broken != NO_REFUSAL {
         return DoneAnswer::Refused(broken);
     }
-    make::reset(h, ws, ks);
-    DoneAnswer::Done
+    tested_reset::reset(chart, beside, rule, text, h, ws, ks)
 }

@@ -1,30 +1,16 @@
-// The public printers, on any numbers at all: `show` and `show_impl_type` "write 000's text into a lent buffer and answer its length or a refusal".
-// Refusals come in the order 2, 8, 3, 4, 5, 7; "7 from a printer fills the buffer with the text's first bytes".
-ghost use mathlib.Core.Path.{_≡_};
-ghost use lib.ListN.{length};
+// The public printers, on any numbers at all: `show` and `show_impl_type` "write 000's text into a lent buffer and answer its length or a refusal". Each tests
+// chart and store and refuses with 2 or 8, or is its form for a tested store.
 ghost use Rattle.scope.specs.Types.{tyOf};
 ghost use Rattle.scope.specs.Calls.{showCall, showImplTypeCall};
 ghost use Rattle.types.specs.Impls.{implMeans};
 ghost use Rattle.layout.specs.Words.{lentOf, storeIn};
 ghost use Rattle.sound.specs.Tests.{envIn};
 ghost use Rattle.promise.specs.Prints.{PrintPromised, countReply};
-ghost use Rattle.call_show.specs.Ends.{endReply};
 use chart::Beside;
 use promise::CountAnswer;
-use promise::refusal_at;
 use refusals::NO_REFUSAL;
 use types::Impl;
 use types::Type;
-
-// A text that ends at its length, or past the buffer.
-fn printed(buf: &[u8], end: usize) -> CountAnswer
-    ensures { λ r. ⌜ countReply r ≡ endReply (length (now (buf .entry))) end ⌝ }
-{
-    if append::is_full(buf, end) {
-        return CountAnswer::Refused(refusals::SHORT);
-    }
-    CountAnswer::Is(end)
-}
 
 // A type's text.
 pub fn show<'a>(
@@ -43,14 +29,11 @@ pub fn show<'a>(
         (tyOf (t .0)) (now (buf .entry)))
         (countReply r) (storeIn (now (h .entry)) (now (ws .entry)) (now (ks .entry))) (now (buf .exit)) ⌝ }
 {
-    let code = refusal_at(chart, beside, rule, text, h, ws, ks, t);
+    let code = sound::refusal(chart, beside, rule, text, h, ws, ks);
     if code != NO_REFUSAL {
         return CountAnswer::Refused(code);
     }
-    let x = layout::read_header(h);
-    let n = x.nodes;
-    let end = show::show_all(chart, beside, rule, text, ws, ks, n, buf, 0, t);
-    printed(buf, end)
+    tested_show::show(chart, beside, rule, text, h, ws, ks, t, buf)
 }
 
 // An impl type's text, its types lent beside it.
@@ -75,12 +58,5 @@ pub fn show_impl_type<'a>(
     if lent != NO_REFUSAL {
         return CountAnswer::Refused(lent);
     }
-    let x = layout::read_header(h);
-    let n = x.nodes;
-    let refused = lent_tests::one_impl(a, xs, n, chart);
-    if refused != NO_REFUSAL {
-        return CountAnswer::Refused(refused);
-    }
-    let end = show_impl::show_impl_type(chart, beside, rule, text, ws, ks, n, buf, 0, a, xs);
-    printed(buf, end)
+    tested_show::show_impl_type(chart, beside, rule, text, h, ws, ks, a, xs, buf)
 }

@@ -21,7 +21,7 @@ use Rattle.scope.specs.Sound.{Lent}
 use Rattle.scope.specs.Refusals.{SHORT}
 use Rattle.scope.specs.Show.{show, showImplType}
 use Rattle.scope.specs.Calls.{Printed, refused, done, unprinted, orUnprinted, printedText, showCall, showImplTypeCall, firstBroken, storeOf, lentTests, outside, implTests}
-use Rattle.promise.specs.Promise.{refusal, outcomeBy}
+use Rattle.promise.specs.Promise.{refusal}
 use Rattle.promise.specs.Prints.{countReply, PrintPromised, partReply, PartPromised}
 use Rattle.promise.specs.declared.CountAnswer.{CountAnswer}
 use Rattle.promise.specs.declared.CountAnswer.the-variants.{Is, Refused}

@@ -110,8 +110,15 @@ module _ {chart : List ℕ} {b : Beside} {rule text h ws ks : List ℕ} (q : Tes
       broken-next (lentTests env (lentOf h ws ks)) (us (storeOf (lentOf h ws ks))) (q .passed)
       ∙ ap (λ (s : Store). firstBroken (us s)) (lent-store env h ws ks (q .passed))
 
+  pub tested-clean : clean h ws ks ≡ true
+  tested-clean = lent-clean-words env h ws ks (q .passed)
+
   pub inside-tested : {ts : List Ty} {n : ℕ} → TypesInside h ts n → TypesTested chart b rule text h ws ks ts n
   inside-tested {ts} p = record { first = tested-next (λ s. outside s ts ∷ []) ∙ p .code ws ks }
+
+  -- a call on no listed type
+  pub none-listed : TypesTested chart b rule text h ws ks [] 0
+  none-listed = record { first = q .passed }
 
 -- one type, by the header alone
 

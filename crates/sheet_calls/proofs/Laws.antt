@@ -19,9 +19,9 @@ use Rattle.layout.proofs.StoreLaws.{lent-clean}
 use Rattle.sound.specs.Tests.{envIn}
 use Rattle.sound.proofs.Laws.{sound-clean}
 use Rattle.refusals.specs.Codes.{codeOf}
-use Rattle.promise.specs.Promise.{Reply, Promised, typesTests, TypesTested}
-use Rattle.call_make.specs.Room.{RoomTested}
-use Rattle.call_make.proofs.MakerLaws.{for-room}
+use Rattle.promise.specs.Promise.{Reply, Promised, Tested, typesTests, TypesTested}
+use Rattle.tested_make.specs.Room.{RoomTested}
+use Rattle.tested_make.proofs.MakerLaws.{for-room}
 use Rattle.call_unify.proofs.Laws.{Passed, passed}
 use Rattle.sheet_calls.specs.Sheet.{sheetBeside, SheetStore}
 
@@ -63,9 +63,13 @@ module _ {h ws ks : List ℕ} (ok : SheetStore h ws ks) where
   as-sheet {A = A} {r = r} {h′ = h′} {ws′ = ws′} {ks′ = ks′} call p =
       subst (λ (o : Outcome A). Promised o r h ws ks h′ ws′ ks′) (ap (λ (e : Env). call e lent) sheet-env ∙ ap (call sheetEnv) sheet-reads) p
 
+  -- it is tested
+  pub sheet-tested : Tested [] sheetBeside [] [] h ws ks
+  sheet-tested = record { passed = lent-code }
+
   -- the makers' test of room
   pub sheet-room : (a : ℕ) {r : ℕ} → firstBroken (roomTests (storeIn h ws ks) a 0) ≡ codeOf r → RoomTested [] sheetBeside [] [] h ws ks (λ _. a) r
-  sheet-room a p = for-room [] sheetBeside [] [] h ws ks a 0 lent-code refl p
+  sheet-room a {r} p = for-room a r sheet-tested p
 
   -- tests of listed types
   pub sheet-types : {ts : List Ty} {n : ℕ} → TypesTested [] sheetBeside [] [] h ws ks ts n

@@ -36,10 +36,10 @@ use Rattle.refusals.specs.Codes.{codeOf}
 use Rattle.refusals.proofs.Laws.{code-next, judged-refused}
 use Rattle.promise.specs.Promise.{Promised, Reply, value, refusal}
 use Rattle.promise.proofs.Laws.{promised-back}
-use Rattle.call_make.proofs.RoomLaws.{lent-within}
+use Rattle.tested_make.proofs.RoomLaws.{lent-within}
 use Rattle.lent_kind.specs.Lent.{given, plainArgs, withFlag, Listed, listTests, kindTests}
-use Rattle.call_new.specs.Inside.{insideCall}
-use Rattle.call_new.proofs.Laws.{new-listed, new-promised, inside-ready, inside-made}
+use Rattle.tested_new.specs.Inside.{insideCall}
+use Rattle.tested_new.proofs.Laws.{new-listed, new-promised, inside-ready, inside-made}
 use Rattle.lent_kind.proofs.ListLaws.{part-long, part-given}
 use Rattle.sheet_lines.specs.Limits.{LINE-TYPES}
 use Rattle.sheet_calls.specs.Sheet.{sheetBeside, plainHead, SheetStore, Plain}

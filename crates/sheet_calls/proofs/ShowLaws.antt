@@ -27,10 +27,10 @@ use Rattle.append.proofs.Laws.{so-far-start, so-far-length, so-far-fits, so-far
 use Rattle.refusals.specs.Codes.{codeOf}
 use Rattle.promise.specs.Promise.{value, refusal, typesTests}
 use Rattle.promise.specs.Prints.{PrintPromised}
-use Rattle.promise.proofs.Laws.{one-outside, one-inside}
+use Rattle.promise.proofs.Laws.{inside-tested, one-outside, one-inside}
 use Rattle.promise.proofs.ReadLaws.{read-clean}
 use Rattle.sheet_calls.specs.Sheet.{sheetBeside, SheetStore}
-use Rattle.sheet_calls.proofs.Laws.{lent-code, sheet-types}
+use Rattle.sheet_calls.proofs.Laws.{sheet-tested, sheet-types}
 
 module _ {h ws ks : List ℕ} (ok : SheetStore h ws ks) {x : Header} (g : x ≡ headerIn h) (t : Ty) {i : Bool} (o : (ns : List Node) → length ns ≡ x .nodes → i ≡ inStore ns t)
     (buf : List ℕ) where
@@ -41,15 +41,15 @@ module _ {h ws ks : List ℕ} (ok : SheetStore h ws ks) {x : Header} (g : x ≡ 
   unfolding showCall
   show-outside q =
       let first : firstBroken (typesTests sheetEnv (reads s) (t ∷ [])) ≡ codeOf OUTSIDE =
-      sheet-types ok (one-outside [] sheetBeside [] [] h ws ks t 0 (lent-code ok) refl g o (not-true i q)) in
+      sheet-types ok (inside-tested (sheet-tested ok) (one-outside h g t o (not-true i q))) in
       record { outcome = rw first; buffer = rw first }
 
   module _ (q : not i ≡ false) where
     pub show-stands : Stands ws ks (x .nodes)
-    show-stands = record { made = childrenMade h; clean = read-clean (one-inside [] sheetBeside [] [] h ws ks t 0 (lent-code ok) refl g o (not-false i q)) refl g }
+    show-stands = record { made = childrenMade h; clean = read-clean (inside-tested (sheet-tested ok) (one-inside h g t o (not-false i q))) refl g }
 
     first : firstBroken (typesTests sheetEnv (reads s) (t ∷ [])) ≡ codeOf 0
-    first = sheet-types ok (one-inside [] sheetBeside [] [] h ws ks t 0 (lent-code ok) refl g o (not-false i q))
+    first = sheet-types ok (inside-tested (sheet-tested ok) (one-inside h g t o (not-false i q)))
 
     made : x .nodes ≡ nodesMade h
     made = ap (λ (y : Header). y .nodes) g

@@ -82,7 +82,7 @@ pub fn error(h: &mut [u32], ws: &mut [u32], ks: &[u32]) -> TypeAnswer
 {
     let x = layout::read_header(h);
     let was = x.error;
-    let full = refusals::room(h, call_make::nodes_for(was), 0);
+    let full = refusals::room(h, tested_make::nodes_for(was), 0);
     if full != NO_REFUSAL {
         return TypeAnswer::Refused(full);
     }
@@ -97,7 +97,7 @@ pub fn nil(h: &mut [u32], ws: &mut [u32], ks: &[u32]) -> TypeAnswer
 {
     let x = layout::read_header(h);
     let was = x.nil;
-    let full = refusals::room(h, call_make::nodes_for(was), 0);
+    let full = refusals::room(h, tested_make::nodes_for(was), 0);
     if full != NO_REFUSAL {
         return TypeAnswer::Refused(full);
     }

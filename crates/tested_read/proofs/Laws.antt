@@ -7,7 +7,7 @@ use Prim.Native.Nat.{ℕ}
 use Rattle.scope.specs.Chart.{Env}
 use Rattle.scope.specs.Types.{Ty}
 use Rattle.scope.specs.Nodes.{Node, Store, at}
-use Rattle.scope.specs.Calls.{done, firstBroken, storeOf, lentTests, readCall, nodeCall}
+use Rattle.scope.specs.Calls.{done, storeOf, readCall, nodeCall}
 use Rattle.chart.specs.declared.Beside.{Beside}
 use Rattle.layout.specs.Words.{childrenMade, decode, storeIn, lentOf}
 use Rattle.layout.specs.Meaning.{readAt, nodeMeans, storeMeans, headerIn}
@@ -16,7 +16,6 @@ use Rattle.layout.specs.declared.TypeNode.{TypeNode}
 use Rattle.layout.proofs.Laws.{read-is, read-is-fit}
 use Rattle.layout.proofs.StoreLaws.{store-header}
 use Rattle.sound.specs.Tests.{envIn}
-use Rattle.refusals.specs.Codes.{codeOf}
 use Rattle.promise.specs.Promise.{Reply, TypesTested, outcomeBy}
 use Rattle.promise.proofs.ReadLaws.{read-refused, read-clean, read-nodes}
 use Rattle.tested_read.specs.declared.NodeAnswer.{NodeAnswer}
@@ -48,12 +47,7 @@ module _ {chart : List ℕ} {b : Beside} {rule text h ws ks : List ℕ} {t : Ty}
       outcome = node-tells (λ (y : Node). y) refl ∙ ap (λ (y : Reply Node). outcomeBy y (storeIn h ws ks)) (sym (w .means ks));
     }
 
--- `figures`: no type is listed, and the store that the slices hold is its header and its nodes
-
-pub no-types : (chart : List ℕ) (b : Beside) (rule text h ws ks : List ℕ) (n : ℕ) → firstBroken (lentTests (envIn chart b rule text) (lentOf h ws ks)) ≡ codeOf n
-    → TypesTested chart b rule text h ws ks [] n
-no-types chart b rule text h ws ks n q = record { first = q }
-
+-- `figures`: the store that the slices hold is its header and its nodes
 pub figures-read : (h ws ks : List ℕ) {x : Header} → x ≡ headerIn h
     → done (storeIn h ws ks) (storeIn h ws ks) ≡ done (storeMeans x (decode ws ks (x .nodes))) (storeIn h ws ks)
 figures-read h ws ks g =

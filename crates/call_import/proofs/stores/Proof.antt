@@ -1,7 +1,7 @@
 -- `call_import::stores` meets its contract: 2 and 8 come first, and the source is asked with the chart that passed them.
 -- Assumes nothing.
 use borrow.Author.Needs.{needs}
-use Rattle.call_import.proofs.TestLaws.{stores-lent, stores-source, stores-pass}
+use Rattle.call_import.proofs.Laws.{stores-lent, stores-source, stores-pass}
 use Rattle.call_import.proofs.stores.Statement.{statement}
 use Rattle.call_import.proofs.stores.Tie as tie
 

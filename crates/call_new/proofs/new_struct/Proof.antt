@@ -1,13 +1,13 @@
--- `call_new::new_struct` meets its contract: a Struct's row has no names, and the call is `new` of a kind over the list.
+-- `call_new::new_struct` meets its contract: where 2 and 8 do not stand the store is tested, and the form for such a store answers.
 -- Assumes nothing.
 use borrow.Author.Needs.{needs}
-use Rattle.scope.specs.Calls.{newStructCall}
-use Rattle.lent_kind.proofs.ListLaws.{struct-row}
+use Rattle.scope.specs.Calls.{newCall, newStructCall}
+use Rattle.promise.proofs.BackLaws.{tested, did-back}
 use Rattle.call_new.proofs.new_struct.Statement.{statement}
 use Rattle.call_new.proofs.new_struct.Tie as tie
 
-new-over-requires : tie.Need-new-over-requires
-new-over-requires c κs = struct-row
+refusal-requires : tie.Need-refusal-requires
+refusal-requires c κs = search needs
 
 same-length : tie.Need-same-length
 same-length c = search needs
@@ -19,9 +19,35 @@ same-length-3 : tie.Need-same-length-3
 same-length-3 c = search needs
 
 returns : tie.Need-returns
-unfolding newStructCall
-returns c = c .before .before .before .before .before .before .new-over .ensures
+unfolding newStructCall newCall
+returns c = did-back _ _ _ _ _ (c .before .refusal .ensures) (c .if1 .taken) _ _
+
+new-struct-requires : tie.Need-new-struct-requires
+new-struct-requires c κs = tested (c .before .before .before .before .refusal .ensures) (c .before .before .before .if1 .left)
+
+same-length-4 : tie.Need-same-length-4
+same-length-4 c = search needs
+
+same-length-5 : tie.Need-same-length-5
+same-length-5 c = search needs
+
+same-length-6 : tie.Need-same-length-6
+same-length-6 c = search needs
+
+returns-2 : tie.Need-returns-2
+returns-2 c = search needs
 
 pub new-struct-spec : {M : Type 1} → statement M
 new-struct-spec =
-    tie.close (tie.spec new-over-requires same-length same-length-2 same-length-3 returns)
+    tie.close
+    (tie.spec
+    refusal-requires
+    same-length
+    same-length-2
+    same-length-3
+    returns
+    new-struct-requires
+    same-length-4
+    same-length-5
+    same-length-6
+    returns-2)

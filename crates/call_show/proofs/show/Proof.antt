@@ -1,38 +1,26 @@
--- `call_show::show` meets its contract: a refusal is the first test that breaks and leaves the buffer as found; where none does, the core's text is the
--- definition's.
+-- `call_show::show` meets its contract: where 2 and 8 do not stand the store is tested, and the form for such a store answers.
 -- Assumes nothing.
-use Rattle.scope.specs.Types.{tyOf}
 use borrow.Author.Needs.{needs}
-use Rattle.call_show.proofs.Laws.{read-stands, show-back, show-done}
+use Rattle.scope.specs.Calls.{showCall}
+use Rattle.promise.proofs.BackLaws.{tested, print-back}
 use Rattle.call_show.proofs.show.Statement.{statement}
 use Rattle.call_show.proofs.show.Tie as tie
 
-refusal-at-requires : tie.Need-refusal-at-requires
-refusal-at-requires c κs = search needs
+refusal-requires : tie.Need-refusal-requires
+refusal-requires c κs = search needs
 
 returns : tie.Need-returns
-returns c =
-    let a = c .before .before .before .before .before .before .before .before .before .args in
-    show-back (tyOf (a .t .0)) (c .before .refusal-at .ensures) (a .buf .now) (c .if1 .taken)
+unfolding showCall
+returns c = print-back _ _ _ _ _ (c .before .refusal .ensures) (c .if1 .taken) _ _ _
 
-read-header-requires : tie.Need-read-header-requires
-read-header-requires c κs = search needs
-
-show-all-requires : tie.Need-show-all-requires
-show-all-requires c κs = read-stands (c .before .before .before .refusal-at .ensures) (c .before .before .if1 .left) (c .before .read-header .ensures)
-
-printed-requires : tie.Need-printed-requires
-printed-requires c κs = search needs
+show-requires : tie.Need-show-requires
+show-requires c κs = tested (c .before .before .refusal .ensures) (c .before .if1 .left)
 
 same-length : tie.Need-same-length
 same-length c = search needs
 
 returns-2 : tie.Need-returns-2
-returns-2 c =
-    let a = c .before .before .before .before .before .before .before .before .before .before .before .before .before .before .before .before .args in
-    show-done (tyOf (a .t .0)) (c .before .before .before .before .before .before .before .before .refusal-at .ensures) (a .buf .now) (c .before .before .before
-    .before .before .before .before .if1 .left) (c .before .before .before .before .before .before .read-header .ensures) (c .before .before .before
-    .before .show-all .ensures) (c .printed .ensures)
+returns-2 c = search needs
 
 pub show-spec : {M : Type 1} → statement M
-show-spec = tie.close (tie.spec refusal-at-requires returns read-header-requires show-all-requires printed-requires same-length returns-2)
+show-spec = tie.close (tie.spec refusal-requires returns show-requires same-length returns-2)

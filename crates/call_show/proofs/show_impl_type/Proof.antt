@@ -1,9 +1,8 @@
--- `call_show::show_impl_type` meets its contract: as `show`, with 4 for a list that is too long and 5 for a number that is no trait's.
+-- `call_show::show_impl_type` meets its contract: where 2 and 8 do not stand the store is tested, and the form for such a store answers.
 -- Assumes nothing.
-use mathlib.Core.Path.{refl}
-use Rattle.types.specs.Impls.{implMeans}
 use borrow.Author.Needs.{needs}
-use Rattle.call_show.proofs.Laws.{read-stands, lent-tested, impl-lent, none-listed, impl-back, impl-done}
+use Rattle.scope.specs.Calls.{showImplTypeCall}
+use Rattle.promise.proofs.BackLaws.{tested, print-back}
 use Rattle.call_show.proofs.show_impl_type.Statement.{statement}
 use Rattle.call_show.proofs.show_impl_type.Tie as tie
 
@@ -11,51 +10,18 @@ refusal-requires : tie.Need-refusal-requires
 refusal-requires c κs = search needs
 
 returns : tie.Need-returns
-returns c =
-    let a = c .before .before .before .before .before .before .before .before .before .before .args in
-    impl-lent (implMeans (a .a) (a .xs .now)) (lent-tested (c .before .refusal .ensures)) (a .buf .now) (c .if1 .taken)
-
-read-header-requires : tie.Need-read-header-requires
-read-header-requires c κs = search needs
-
-one-impl-requires : tie.Need-one-impl-requires
-one-impl-requires c κs = search needs
-
-returns-2 : tie.Need-returns-2
-returns-2 c =
-    let a = c .before .before .before .before .before .before .before .before .before .before .before .before .before .args in
-    let lent = lent-tested (c .before .before .before .before .refusal .ensures) in
-    impl-back (implMeans (a .a) (a .xs .now)) lent (a .buf .now) (c .before .before .before .if1 .left) (c .before .before .read-header .ensures) (c .before .one-impl .ensures) (c .if2 .taken)
+unfolding showImplTypeCall
+returns c = print-back _ _ _ _ _ (c .before .refusal .ensures) (c .if1 .taken) _ _ _
 
 show-impl-type-requires : tie.Need-show-impl-type-requires
-show-impl-type-requires c κs = read-stands (none-listed (lent-tested (c .before .before .before .before .before .refusal .ensures)) (c .before .before .before
-    .before .if1 .left)) refl (c .before .before .before .read-header .ensures)
-
-printed-requires : tie.Need-printed-requires
-printed-requires c κs = search needs
+show-impl-type-requires c κs = tested (c .before .before .refusal .ensures) (c .before .if1 .left)
 
 same-length : tie.Need-same-length
 same-length c = search needs
 
-returns-3 : tie.Need-returns-3
-returns-3 c =
-    let a = c .before .before .before .before .before .before .before .before .before .before .before .before .before .before .before .before .before .before .before .args in
-    let lent = lent-tested (c .before .before .before .before .before .before .before .before .before .before .refusal .ensures) in
-    let passed = c .before .before .before .before .before .before .before .before .before .if1 .left in
-    let head = c .before .before .before .before .before .before .before .before .read-header .ensures in
-    impl-done (implMeans (a .a) (a .xs .now)) lent (a .buf .now) passed head (c .before .before .before .before .before .before .before .one-impl .ensures) (c .before
-    .before .before .before .before .before .if2 .left) (c .before .before .before .before .show-impl-type .ensures) (c .printed .ensures)
+returns-2 : tie.Need-returns-2
+returns-2 c = search needs
 
 pub show-impl-type-spec : {M : Type 1} → statement M
 show-impl-type-spec =
-    tie.close
-    (tie.spec
-    refusal-requires
-    returns
-    read-header-requires
-    one-impl-requires
-    returns-2
-    show-impl-type-requires
-    printed-requires
-    same-length
-    returns-3)
+    tie.close (tie.spec refusal-requires returns show-impl-type-requires same-length returns-2)

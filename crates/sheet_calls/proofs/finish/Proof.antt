@@ -4,7 +4,7 @@ use mathlib.Core.Path.{refl}
 use mathlib.Core.List.{[]}
 use Rattle.scope.specs.Calls.{finishInferenceCall}
 use Rattle.promise.proofs.CallLaws.{call-done}
-use Rattle.call_force.proofs.Laws.{finishing}
+use Rattle.tested_force.proofs.Laws.{finishing}
 use Rattle.sheet_calls.proofs.Laws.{lentEnv, sheet-clean, lent-code, as-sheet}
 use borrow.Author.Needs.{needs}
 use Rattle.sheet_calls.proofs.finish.Statement.{statement}

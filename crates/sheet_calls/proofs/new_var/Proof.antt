@@ -3,7 +3,7 @@
 use Rattle.scope.specs.Limits.{NONE}
 use Rattle.scope.specs.Make.{newVar}
 use Rattle.scope.specs.Calls.{newVarCall}
-use Rattle.call_make.proofs.MakerLaws.{maker-back, maker-ready, maker-done}
+use Rattle.tested_make.proofs.MakerLaws.{maker-back, maker-ready, maker-done}
 use Rattle.sheet_calls.proofs.Laws.{as-sheet, sheet-room}
 use borrow.Author.Needs.{needs}
 use Rattle.sheet_calls.proofs.new_var.Statement.{statement}

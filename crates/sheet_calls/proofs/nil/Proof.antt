@@ -2,7 +2,7 @@
 -- Assumes nothing.
 use Rattle.scope.specs.Make.{makeNil}
 use Rattle.scope.specs.Calls.{nilCall}
-use Rattle.call_make.proofs.MakerLaws.{maker-back, maker-ready, maker-done, nil-tested}
+use Rattle.tested_make.proofs.MakerLaws.{maker-back, maker-ready, maker-done, nil-tested}
 use Rattle.sheet_calls.proofs.Laws.{as-sheet, sheet-room}
 use borrow.Author.Needs.{needs}
 use Rattle.sheet_calls.proofs.nil.Statement.{statement}

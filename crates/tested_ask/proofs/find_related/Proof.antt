@@ -11,8 +11,8 @@ refusal-at-requires c κs = search needs
 
 returns : tie.Need-returns
 returns c =
-    let test = inside-tested (c .before .before .before .before .before .before .before .before .before .pre) (c .before .refusal-at .ensures) in
     let a = c .before .before .before .before .before .before .before .before .before .args in
+    let test = inside-tested (c .before .before .before .before .before .before .before .before .before .pre) (c .before .refusal-at .ensures) in
     marks-refused (a .t .0) test (c .if1 .taken) (a .marks .now)
 
 read-header-requires : tie.Need-read-header-requires
@@ -23,14 +23,16 @@ cast-if2 c = search needs
 
 returns-2 : tie.Need-returns-2
 returns-2 c =
-    let test = inside-tested (c .before .before .before .before .before .before .before .before .before .before .before .before .pre) (c .before .before .before .before .refusal-at .ensures) in
     let a = c .before .before .before .before .before .before .before .before .before .before .before .before .args in
+    let test = inside-tested (c .before .before .before .before .before .before .before .before .before .before .before .before .pre) (c .before .before .before .before .refusal-at .ensures) in
     marks-short (a .t .0) test (c .before .before .before .if1 .left) (c .before .before .read-header .ensures) (a .marks .now) (c .if2 .taken)
 
 find-related-requires : tie.Need-find-related-requires
 find-related-requires c κs =
-    let test = inside-tested (c .before .before .before .before .before .before .before .before .before .before .before .before .before .pre) (c .before .before .before .before .before .refusal-at .ensures) in
+    let pre = c .before .before .before .before .before .before .before .before .before .before .before .before .before .pre in
+    let refusalAt = c .before .before .before .before .before .refusal-at in
     let a = c .before .before .before .before .before .before .before .before .before .before .before .before .before .args in
+    let test = inside-tested pre (refusalAt .ensures) in
     read-stands (a .t .0) test (c .before .before .before .before .if1 .left) (c .before .before .before .read-header .ensures)
 
 same-length : tie.Need-same-length
@@ -38,12 +40,14 @@ same-length c = search needs
 
 returns-3 : tie.Need-returns-3
 returns-3 c =
+    let pre = c .before .before .before .before .before .before .before .before .before .before .before .before .before .before .before .before .pre in
+    let refusalAt = c .before .before .before .before .before .before .before .before .refusal-at in
     let a = c .before .before .before .before .before .before .before .before .before .before .before .before .before .before .before .before .args in
-    let test = inside-tested (c .before .before .before .before .before .before .before .before .before .before .before .before .before .before .before .before .pre) (c .before .before .before .before .before .before .before .before .refusal-at .ensures) in
     let if1 = c .before .before .before .before .before .before .before .if1 in
     let readHeader = c .before .before .before .before .before .before .read-header in
     let if2 = c .before .before .before .before .if2 in
     let findRelated = c .before .before .find-related in
+    let test = inside-tested pre (refusalAt .ensures) in
     marks-done (a .t .0) test (if1 .left) (readHeader .ensures) (if2 .left) (findRelated .ensures)
 
 pub find-related-spec : {M : Type 1} → statement M

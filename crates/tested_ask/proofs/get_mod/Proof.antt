@@ -27,8 +27,8 @@ read-header-requires c κs = search needs
 
 get-mod-requires : tie.Need-get-mod-requires
 get-mod-requires c κs =
-    let test = inside-tested (c .before .before .before .before .before .before .before .before .before .pre) (c .before .before .refusal-at .ensures) in
     let a = c .before .before .before .before .before .before .before .before .before .args in
+    let test = inside-tested (c .before .before .before .before .before .before .before .before .before .pre) (c .before .before .refusal-at .ensures) in
     read-stands (a .t .0) test (c .before .if1 .left) (c .read-header .ensures)
 
 returns-2 : tie.Need-returns-2

@@ -33,9 +33,9 @@ returns-2 : tie.Need-returns-2
 unfolding isNilCall
 returns-2 c =
     let a = c .before .before .before .before .before .before .before .before .before .before .args in
-    let test = inside-tested (c .before .before .before .before .before .before .before .before .before .before .pre) (c .before .before .before .refusal-at .ensures) in
     let passed = c .before .before .if1 .left in
     let head = c .before .read-header .ensures in
+    let test = inside-tested (c .before .before .before .before .before .before .before .before .before .before .pre) (c .before .before .before .refusal-at .ensures) in
     read-nodes test passed head (λ (ns : List Node). isNil ns (tyOf (a .t .0)))
     (c .is-nil .ensures .nil (a .ks .now) (childrenMade (a .h .now)) (read-clean test passed head))
 

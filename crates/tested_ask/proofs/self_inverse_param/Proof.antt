@@ -26,15 +26,15 @@ read-header-requires c κs = search needs
 
 self-inverse-requires : tie.Need-self-inverse-requires
 self-inverse-requires c κs =
-    let test = inside-tested (c .before .before .before .before .before .before .before .before .before .pre) (c .before .before .refusal-at .ensures) in
     let a = c .before .before .before .before .before .before .before .before .before .args in
+    let test = inside-tested (c .before .before .before .before .before .before .before .before .before .pre) (c .before .before .refusal-at .ensures) in
     read-inverses (a .t .0) test (c .before .if1 .left) (c .read-header .ensures)
 
 returns-2 : tie.Need-returns-2
 unfolding selfInverseCall
 returns-2 c =
-    let test = inside-tested (c .before .before .before .before .before .before .before .before .before .before .pre) (c .before .before .before .refusal-at .ensures) in
     let a = c .before .before .before .before .before .before .before .before .before .before .args in
+    let test = inside-tested (c .before .before .before .before .before .before .before .before .before .before .pre) (c .before .before .before .refusal-at .ensures) in
     read-nodes test (c .before .before .if1 .left) (c .before .read-header .ensures)
     (λ (ns : List Node). selfInverseOf ns (tyOf (a .t .0)) (a .param)) (c .self-inverse .ensures)
 

@@ -30,8 +30,8 @@ find-requires c κs =
 returns-2 : tie.Need-returns-2
 unfolding findCall
 returns-2 c =
-    let test = inside-tested (c .before .before .before .before .before .before .before .before .before .before .pre) (c .before .before .before .refusal-at .ensures) in
     let a = c .before .before .before .before .before .before .before .before .before .before .args in
+    let test = inside-tested (c .before .before .before .before .before .before .before .before .before .before .pre) (c .before .before .before .refusal-at .ensures) in
     read-nodes test (c .before .before .if1 .left) (c .before .read-header .ensures)
     (λ (ns : List Node). find ns (tyOf (a .t .0))) (c .find .ensures .root (a .ks .now))
 

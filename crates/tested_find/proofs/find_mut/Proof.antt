@@ -12,8 +12,8 @@ refusal-at-requires c κs = search needs
 
 returns : tie.Need-returns
 returns c =
-    let test = inside-tested (c .before .before .before .before .before .before .before .before .pre) (c .before .refusal-at .ensures) in
     let a = c .before .before .before .before .before .before .before .before .args in
+    let test = inside-tested (c .before .before .before .before .before .before .before .before .pre) (c .before .refusal-at .ensures) in
     mut-refused (a .t) test (c .if1 .taken)
 
 read-header-requires : tie.Need-read-header-requires
@@ -29,8 +29,10 @@ same-length c = search needs
 
 returns-2 : tie.Need-returns-2
 returns-2 c =
-    let test = inside-tested (c .before .before .before .before .before .before .before .before .before .before .before .before .before .pre) (c .before .before .before .before .before .before .refusal-at .ensures) in
+    let pre = c .before .before .before .before .before .before .before .before .before .before .before .before .before .pre in
+    let refusalAt = c .before .before .before .before .before .before .refusal-at in
     let a = c .before .before .before .before .before .before .before .before .before .before .before .before .before .args in
+    let test = inside-tested pre (refusalAt .ensures) in
     mut-answer (a .t) test (c .before .before .before .before .before .if1 .left)
     (c .before .before .before .before .read-header .ensures) (c .before .before .find-mut .ensures)
 

@@ -22,18 +22,21 @@ same-length c = search needs
 returns : tie.Need-returns
 unfolding errorCall
 returns c =
+    let pre = c .before .before .before .before .before .before .before .before .before .before .before .before .pre in
     let a = c .before .before .before .before .before .before .before .before .before .before .before .before .args in
-    let test = for-room (c .before .before .nodes-for .result) (c .before .room .result) (c .before .before .before .before .before .before .before .before .before .before .before .before .pre) (c .before .room .ensures (a .ws .now) (a .ks .now)) in
     let head = c .before .before .before .before .read-header in
     let need = c .before .before .nodes-for in
+    let test = for-room (c .before .before .nodes-for .result) (c .before .room .result) pre (c .before .room .ensures (a .ws .now) (a .ks .now)) in
     maker-back (error-tested (head .ensures) (need .ensures) test) makeError (c .if1 .taken)
 
 error-requires : tie.Need-error-requires
 error-requires c κs =
+    let room = c .before .before .before .room in
+    let pre = c .before .before .before .before .before .before .before .before .before .before .before .before .before .before .pre in
     let a = c .before .before .before .before .before .before .before .before .before .before .before .before .before .before .args in
-    let test = for-room (c .before .before .before .before .nodes-for .result) (c .before .before .before .room .result) (c .before .before .before .before .before .before .before .before .before .before .before .before .before .before .pre) (c .before .before .before .room .ensures (a .ws .now) (a .ks .now)) in
     let head = c .before .before .before .before .before .before .read-header in
     let need = c .before .before .before .before .nodes-for in
+    let test = for-room (need .result) (room .result) pre (room .ensures (a .ws .now) (a .ks .now)) in
     maker-ready (error-tested (head .ensures) (need .ensures) test) (c .before .before .if1 .left)
 
 same-length-2 : tie.Need-same-length-2
@@ -45,11 +48,13 @@ same-length-3 c = search needs
 returns-2 : tie.Need-returns-2
 unfolding errorCall
 returns-2 c =
+    let room = c .before .before .before .before .before .before .before .before .room in
+    let pre = c .before .before .before .before .before .before .before .before .before .before .before .before .before .before .before .before .before .before .before .pre in
     let a = c .before .before .before .before .before .before .before .before .before .before .before .before .before .before .before .before .before .before .before .args in
-    let test = for-room (c .before .before .before .before .before .before .before .before .before .nodes-for .result) (c .before .before .before .before .before .before .before .before .room .result) (c .before .before .before .before .before .before .before .before .before .before .before .before .before .before .before .before .before .before .before .pre) (c .before .before .before .before .before .before .before .before .room .ensures (a .ws .now) (a .ks .now)) in
     let head = c .before .before .before .before .before .before .before .before .before .before .before .read-header in
     let need = c .before .before .before .before .before .before .before .before .before .nodes-for in
     let passed = c .before .before .before .before .before .before .before .if1 .left in
+    let test = for-room (need .result) (room .result) pre (room .ensures (a .ws .now) (a .ks .now)) in
     maker-done (error-tested (head .ensures) (need .ensures) test) makeError passed (c .before .before .before .before .error .ensures)
 
 pub error-spec : {M : Type 1} → statement M

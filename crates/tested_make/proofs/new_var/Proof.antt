@@ -22,8 +22,10 @@ returns c =
 
 new-var-requires : tie.Need-new-var-requires
 new-var-requires c κs =
+    let room = c .before .before .before .room in
+    let pre = c .before .before .before .before .before .before .before .before .before .before .before .pre in
     let a = c .before .before .before .before .before .before .before .before .before .before .before .args in
-    let test = for-room 1 (c .before .before .before .room .result) (c .before .before .before .before .before .before .before .before .before .before .before .pre) (c .before .before .before .room .ensures (a .ws .now) (a .ks .now)) in
+    let test = for-room 1 (room .result) pre (room .ensures (a .ws .now) (a .ks .now)) in
     maker-ready test (c .before .before .if1 .left)
 
 same-length-2 : tie.Need-same-length-2
@@ -35,8 +37,10 @@ same-length-3 c = search needs
 returns-2 : tie.Need-returns-2
 unfolding newVarCall
 returns-2 c =
+    let room = c .before .before .before .before .before .before .before .before .room in
+    let pre = c .before .before .before .before .before .before .before .before .before .before .before .before .before .before .before .before .pre in
     let a = c .before .before .before .before .before .before .before .before .before .before .before .before .before .before .before .before .args in
-    let test = for-room 1 (c .before .before .before .before .before .before .before .before .room .result) (c .before .before .before .before .before .before .before .before .before .before .before .before .before .before .before .before .pre) (c .before .before .before .before .before .before .before .before .room .ensures (a .ws .now) (a .ks .now)) in
+    let test = for-room 1 (room .result) pre (room .ensures (a .ws .now) (a .ks .now)) in
     maker-done test (λ s. newVar s (a .span)) (c .before .before .before .before .before .before .before .if1 .left) (c .before .before .before .before .new-var .ensures)
 
 pub new-var-spec : {M : Type 1} → statement M

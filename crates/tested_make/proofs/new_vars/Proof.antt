@@ -14,8 +14,9 @@ same-length c = search needs
 
 returns : tie.Need-returns
 returns c =
+    let pre = c .before .before .before .before .before .before .before .before .before .before .pre in
     let a = c .before .before .before .before .before .before .before .before .before .before .args in
-    let test = for-room (a .count) (c .before .room .result) (c .before .before .before .before .before .before .before .before .before .before .pre) (c .before .room .ensures (a .ws .now) (a .ks .now)) in
+    let test = for-room (a .count) (c .before .room .result) pre (c .before .room .ensures (a .ws .now) (a .ks .now)) in
     vars-back (a .span) (a .count) (a .out .now) test (c .if1 .taken)
 
 same-length-2 : tie.Need-same-length-2
@@ -23,14 +24,17 @@ same-length-2 c = search needs
 
 returns-2 : tie.Need-returns-2
 returns-2 c =
+    let pre = c .before .before .before .before .before .before .before .before .before .before .before .pre in
     let a = c .before .before .before .before .before .before .before .before .before .before .before .args in
-    let test = for-room (a .count) (c .before .before .room .result) (c .before .before .before .before .before .before .before .before .before .before .before .pre) (c .before .before .room .ensures (a .ws .now) (a .ks .now)) in
+    let test = for-room (a .count) (c .before .before .room .result) pre (c .before .before .room .ensures (a .ws .now) (a .ks .now)) in
     vars-short (a .span) (a .count) (a .out .now) test (c .before .if1 .left) (c .if2 .taken)
 
 new-vars-requires : tie.Need-new-vars-requires
 new-vars-requires c κs =
+    let room = c .before .before .before .before .before .room in
+    let pre = c .before .before .before .before .before .before .before .before .before .before .before .before .before .before .pre in
     let a = c .before .before .before .before .before .before .before .before .before .before .before .before .before .before .args in
-    let test = for-room (a .count) (c .before .before .before .before .before .room .result) (c .before .before .before .before .before .before .before .before .before .before .before .before .before .before .pre) (c .before .before .before .before .before .room .ensures (a .ws .now) (a .ks .now)) in
+    let test = for-room (a .count) (room .result) pre (room .ensures (a .ws .now) (a .ks .now)) in
     (vars-ready (a .span) (a .count) (a .out .now) test (c .before .before .before .before .if1 .left), c .before .before .before .if2 .left)
 
 same-length-3 : tie.Need-same-length-3
@@ -44,10 +48,12 @@ same-length-5 c = search needs
 
 returns-3 : tie.Need-returns-3
 returns-3 c =
+    let room = c .before .before .before .before .before .before .before .before .before .before .before .before .room in
+    let pre = c .before .before .before .before .before .before .before .before .before .before .before .before .before .before .before .before .before .before .before .before .before .pre in
     let a = c .before .before .before .before .before .before .before .before .before .before .before .before .before .before .before .before .before .before .before .before .before .args in
-    let test = for-room (a .count) (c .before .before .before .before .before .before .before .before .before .before .before .before .room .result) (c .before .before .before .before .before .before .before .before .before .before .before .before .before .before .before .before .before .before .before .before .before .pre) (c .before .before .before .before .before .before .before .before .before .before .before .before .room .ensures (a .ws .now) (a .ks .now)) in
     let passed = c .before .before .before .before .before .before .before .before .before .before .before .if1 .left in
     let long = c .before .before .before .before .before .before .before .before .before .before .if2 .left in
+    let test = for-room (a .count) (room .result) pre (room .ensures (a .ws .now) (a .ks .now)) in
     vars-done (a .span) (a .count) (a .out .now) test passed long (c .before .before .before .before .before .before .new-vars .ensures)
 
 pub new-vars-spec : {M : Type 1} → statement M
