@@ -1,8 +1,8 @@
-// What is lent to the calls: a chart, texts, and words of two stores.
-use crate::numbers::after;
-use crate::numbers::to_bytes;
-use crate::numbers::word;
+// What is lent to the calls: a chart and texts, by where they stand among the list's numbers, and how many words of two stores.
 use chart::Beside;
+use run_text::numbers::after;
+use run_text::numbers::first;
+use run_text::numbers::word;
 
 const RULE: u32 = 0;
 
@@ -18,6 +18,12 @@ pub(crate) const LEND: u32 = 4;
 // The other store in hand.
 pub(crate) const SWAP: u32 = 9;
 
+// A part of the list's numbers.
+pub(crate) struct Place {
+    pub(crate) at: usize,
+    pub(crate) len: usize,
+}
+
 // How many words of each slice of a store.
 pub(crate) struct Sizes {
     pub(crate) head: usize,
@@ -25,17 +31,18 @@ pub(crate) struct Sizes {
     pub(crate) kids: usize,
 }
 
-// What is lent: where the chart's records stand among the numbers, what stands beside them, how many bytes of the texts and words of the store in hand and
-// of the other, and whether the second store is in hand.
+// The chart's records and what stands beside them, the texts' bytes, and the words of the store in hand and of the other.
 pub(crate) struct Lent {
-    pub(crate) chart_at: usize,
-    pub(crate) chart_len: usize,
+    pub(crate) chart: Place,
     pub(crate) beside: Beside,
-    pub(crate) rule: usize,
-    pub(crate) text: usize,
+    pub(crate) rule: Place,
+    pub(crate) text: Place,
     pub(crate) here: Sizes,
     pub(crate) there: Sizes,
-    pub(crate) swapped: bool,
+}
+
+fn nothing() -> Place {
+    Place { at: 0, len: 0 }
 }
 
 fn no_words() -> Sizes {
@@ -49,18 +56,21 @@ fn no_words() -> Sizes {
 pub(crate) fn nothing_lent() -> Lent {
     let sigils = [0u32; 12];
     Lent {
-        chart_at: 0,
-        chart_len: 0,
+        chart: nothing(),
         beside: Beside {
             fn_trait: scope::NONE,
             sigils,
         },
-        rule: 0,
-        text: 0,
+        rule: nothing(),
+        text: nothing(),
         here: no_words(),
         there: no_words(),
-        swapped: false,
     }
+}
+
+// The numbers that stand there.
+pub(crate) fn part(s: &[u32], p: Place) -> &[u32] {
+    first(after(s, p.at), p.len)
 }
 
 fn sigils_of(a: &[u32]) -> [u32; 12] {
@@ -81,49 +91,40 @@ fn beside_of(a: &[u32]) -> Beside {
     }
 }
 
-// What is lent from now on; `at` is where the call's numbers stand.
-pub(crate) fn lend(
-    op: u32,
-    l: Lent,
-    at: usize,
-    a: &[u32],
-    rule: &mut [u8],
-    text: &mut [u8],
-) -> Lent {
+fn sizes_of(a: &[u32]) -> Sizes {
+    Sizes {
+        head: word(a, 0) as usize,
+        nodes: word(a, 1) as usize,
+        kids: word(a, 2) as usize,
+    }
+}
+
+// What is lent from now on; `at` is where the call's numbers a stand.
+pub(crate) fn lend(op: u32, l: Lent, at: usize, a: &[u32]) -> Lent {
     let mut m = l;
+    let p = Place { at, len: a.len() };
     if op == RULE {
-        let n = to_bytes(a, rule);
-        m.rule = n;
-        return m;
+        m.rule = p;
     }
     if op == TEXT {
-        let n = to_bytes(a, text);
-        m.text = n;
-        return m;
+        m.text = p;
     }
     if op == CHART {
-        m.chart_at = at;
-        m.chart_len = a.len();
-        return m;
+        m.chart = p;
     }
     if op == BESIDE {
         let beside = beside_of(a);
         m.beside = beside;
-        return m;
+    }
+    if op == LEND {
+        let here = sizes_of(a);
+        m.here = here;
     }
     if op == SWAP {
-        let here = m.here;
-        let there = m.there;
+        let here = l.here;
+        let there = l.there;
         m.here = there;
         m.there = here;
-        m.swapped = !l.swapped;
-        return m;
     }
-    let here = Sizes {
-        head: word(a, 0) as usize,
-        nodes: word(a, 1) as usize,
-        kids: word(a, 2) as usize,
-    };
-    m.here = here;
     m
 }

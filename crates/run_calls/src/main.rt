@@ -1,48 +1,43 @@
 // Runs a list of calls through the public calls and writes what each answers. The list is text on standard input: a call's number, how many numbers
-// follow, and these. What each number means stands in `lending`, `making`, `asking`, `joining`, `moving`, `printing` and `flipping`; the ones here write words
-// into what is lent, or write a line. There are two stores, one in hand and the other, which an import reads.
+// follow, and these. What each number means stands in `lending`, in `run_change` and in `run_read`. There are two stores, one in hand and the other, which an
+// import reads.
 ghost use Prim.Native.Nat.{_<_};
+ghost use lib.ListN.{length};
 
-mod asking; // calls that change no store
-mod flipping; // words changed in turn
-mod joining; // unify and its family
 mod lending; // what is lent
-mod making; // open, reset, the makers, forcing and finishing
-mod moving; // import and export
-mod numbers; // text to numbers
-mod printing; // show and show_impl_type
-mod writing; // answers to text
 
 use crate::lending::LEND;
 use crate::lending::Lent;
 use crate::lending::SWAP;
-use crate::lending::Sizes;
 use crate::lending::lend;
 use crate::lending::nothing_lent;
-use crate::numbers::after;
-use crate::numbers::bytes_upto;
-use crate::numbers::first;
-use crate::numbers::upto;
-use crate::numbers::word;
+use crate::lending::part;
 use chart::Beside;
-use layout::CHILD_WORDS;
-use layout::HEAD_WORDS;
-use layout::NODE_WORDS;
-use scope::MAX_CHILDREN;
-use scope::MAX_NODES;
+use run_change::forcing;
+use run_change::importing;
+use run_change::joining;
+use run_change::making;
+use run_read::HEAD;
+use run_read::KIDS;
+use run_read::NODES;
+use run_read::flipping;
+use run_text::numbers::after;
+use run_text::numbers::first;
+use run_text::numbers::numbers;
+use run_text::numbers::set;
+use run_text::numbers::to_bytes;
+use run_text::numbers::upto;
+use run_text::numbers::word;
+use run_text::writing;
 
-const POKE: u32 = 5;
+const POKE: u32 = 5; // slice 0 to 2, word, what it becomes
 
-const CASE: u32 = 7;
+// The other store's words stand behind one another: the header's, the nodes' from NODES_AT on, the children's from KIDS_AT on.
+const NODES_AT: usize = HEAD;
 
-const WORDS: u32 = 8;
+const KIDS_AT: usize = HEAD + NODES;
 
-// More words than the largest store needs, so that some are left over.
-const HEAD: usize = HEAD_WORDS + 2;
-
-const NODES: usize = (MAX_NODES + 1) * NODE_WORDS;
-
-const KIDS: usize = (MAX_CHILDREN + 2) * CHILD_WORDS;
+const OTHER: usize = HEAD + NODES + KIDS;
 
 // Room for a text, and for the list as text and as numbers.
 const BYTES: usize = 4096;
@@ -51,7 +46,63 @@ const INPUT: usize = 131_072;
 
 const NUMBERS: usize = 32_768;
 
-// A call by its number.
+// A word of a slice becomes another.
+fn poke(h: &mut [u32], ws: &mut [u32], ks: &mut [u32], a: &[u32]) {
+    let i = word(a, 1);
+    let v = word(a, 2);
+    match word(a, 0) {
+        0 => set(h, i, v),
+        1 => set(ws, i, v),
+        _ => set(ks, i, v),
+    }
+}
+
+// The calls that write nodes alone, or nothing.
+fn changing<'a>(
+    op: u32,
+    chart: &[u32],
+    beside: Beside,
+    rule: &'a [u8],
+    text: &'a [u8],
+    h: &[u32],
+    ws: &mut [u32],
+    ks: &[u32],
+    a: &[u32],
+) {
+    if forcing::finishes(op) {
+        writing::done(forcing::finish(op, chart, beside, rule, text, h, ws, ks, a));
+        return;
+    }
+    if joining::is(op) {
+        joining::call(op, chart, beside, rule, text, h, ws, ks, a);
+        return;
+    }
+    run_read::call(op, chart, beside, rule, text, h, ws, ks, a);
+}
+
+// And those that write the header too.
+fn adding<'a>(
+    op: u32,
+    chart: &[u32],
+    beside: Beside,
+    rule: &'a [u8],
+    text: &'a [u8],
+    h: &mut [u32],
+    ws: &mut [u32],
+    ks: &[u32],
+    a: &[u32],
+) {
+    match op {
+        making::NEW_VARS => making::new_vars(chart, beside, rule, text, h, ws, ks, a),
+        making::NEW_VAR | making::ERROR | making::NIL => {
+            writing::type_answer(making::plain(op, chart, beside, rule, text, h, ws, ks, a));
+        }
+        forcing::FORCE_KIND => forcing::force(chart, beside, rule, text, h, ws, ks, a),
+        _ => changing(op, chart, beside, rule, text, h, ws, ks, a),
+    }
+}
+
+// And those that write all; sh, sw, sk are the other store's words.
 fn call<'a>(
     op: u32,
     chart: &[u32],
@@ -61,289 +112,186 @@ fn call<'a>(
     h: &mut [u32],
     ws: &mut [u32],
     ks: &mut [u32],
+    sh: &[u32],
+    sw: &[u32],
+    sk: &[u32],
     a: &[u32],
 ) {
-    if op == POKE {
-        flipping::poke(h, ws, ks, a);
-        return;
+    match op {
+        POKE => poke(h, ws, ks, a),
+        making::OPEN | making::RESET => {
+            writing::done(making::opened(op, chart, beside, rule, text, h, ws, ks, a));
+        }
+        making::NEW | making::NEW_STRUCT | making::NEW_UNION => {
+            writing::type_answer(making::kind(op, chart, beside, rule, text, h, ws, ks, a));
+        }
+        importing::IMPORT => {
+            importing::import(chart, beside, rule, text, h, ws, ks, sh, sw, sk, a);
+        },
+        flipping::FLIP_SOURCE => {
+            flipping::source(chart, beside, rule, text, h, ws, ks, sh, sw, sk, a);
+        }
+        _ => adding(op, chart, beside, rule, text, h, ws, ks, a),
     }
-    if op == WORDS {
-        writing::words(h);
-        writing::words(ws);
-        writing::words(ks);
-        return;
-    }
-    if op == CASE {
-        writing::say(b"case ");
-        writing::number(word(a, 0));
-        writing::line();
-        return;
-    }
-    if op < asking::FIND {
-        making::call(op, chart, beside, rule, text, h, ws, ks, a);
-        return;
-    }
-    if op < joining::UNIFY {
-        asking::call(op, chart, beside, rule, text, h, ws, ks, a);
-        return;
-    }
-    if op < printing::SHOW {
-        joining::call(op, chart, beside, rule, text, h, ws, ks, a);
-        return;
-    }
-    printing::call(op, chart, beside, rule, text, h, ws, ks, a);
+}
+
+// A call on what is lent of the store in hand.
+fn on<'a>(
+    op: u32,
+    chart: &[u32],
+    rule: &'a [u8],
+    text: &'a [u8],
+    l: Lent,
+    h: &mut [u32],
+    ws: &mut [u32],
+    ks: &mut [u32],
+    o: &[u32],
+    a: &[u32],
+) {
+    let here = l.here;
+    let there = l.there;
+    let sh = first(o, there.head);
+    let sw = first(after(o, NODES_AT), there.nodes);
+    let sk = first(after(o, KIDS_AT), there.kids);
+    let x = upto(h, here.head);
+    let y = upto(ws, here.nodes);
+    let z = upto(ks, here.kids);
+    call(
+        op,
+        chart,
+        l.beside,
+        rule,
+        text,
+        &mut h[..x],
+        &mut ws[..y],
+        &mut ks[..z],
+        sh,
+        sw,
+        sk,
+        a,
+    );
+}
+
+// The same, with what is lent of chart and texts among the list's numbers s.
+fn act(
+    s: &[u32],
+    op: u32,
+    l: Lent,
+    h: &mut [u32],
+    ws: &mut [u32],
+    ks: &mut [u32],
+    o: &[u32],
+    a: &[u32],
+) {
+    let mut rule = [0u8; BYTES];
+    let mut text = [0u8; BYTES];
+    let r = to_bytes(part(s, l.rule), &mut rule);
+    let t = to_bytes(part(s, l.text), &mut text);
+    on(
+        op,
+        part(s, l.chart),
+        &rule[..r],
+        &text[..t],
+        l,
+        h,
+        ws,
+        ks,
+        o,
+        a,
+    );
 }
 
 // Where a call's numbers stand: behind its own and their count.
-fn place(at: usize) -> usize {
+fn behind(at: usize) -> usize {
     if at < 4_294_967_295 { at + 2 } else { at }
 }
 
+// The numbers of the call that stands there.
+fn given(s: &[u32], at: usize) -> &[u32] {
+    let rest = after(s, at);
+    first(after(rest, 2), word(rest, 1) as usize)
+}
+
 // Where the next call stands.
-fn next(at: usize, n: usize, len: usize) -> usize
-    ensures { λ r. ⌜ (at < len → at < r) ⌝ }
+fn next(s: &[u32], at: usize) -> usize
+    requires { ⌜ at < length (now s) ⌝ }
+    ensures { λ r. ⌜ at < r ⌝ }
 {
-    if len <= at {
-        return len;
-    }
-    let left = len - at;
+    let n = word(after(s, at), 1) as usize;
+    let left = s.len() - at;
     if left < 3 {
-        return len;
+        return s.len();
     }
     if left - 2 <= n {
-        return len;
+        return s.len();
     }
     at + 2 + n
 }
 
-// A call on one store or on both: oh, ow, ok are the other's words, eh, ew, ek those that exports go to.
-fn either<'a>(
-    op: u32,
-    chart: &[u32],
-    beside: Beside,
-    rule: &'a [u8],
-    text: &'a [u8],
-    h: &mut [u32],
-    ws: &mut [u32],
-    ks: &mut [u32],
-    oh: &mut [u32],
-    ow: &mut [u32],
-    ok: &mut [u32],
-    eh: &mut [u32],
-    ew: &mut [u32],
-    ek: &mut [u32],
-    a: &[u32],
-) {
-    if op == flipping::FLIP {
-        flipping::flips(op, chart, beside, rule, text, h, ws, ks, oh, ow, ok, a);
-        return;
+// Words for those that stand in o from there on.
+fn exchange(x: &mut [u32], o: &mut [u32], from: usize) {
+    let mut i = 0;
+    let mut j = from;
+    while i < x.len() {
+        if o.len() <= j {
+            return;
+        }
+        let v = x[i];
+        x[i] = o[j];
+        o[j] = v;
+        i += 1;
+        j += 1;
     }
-    if op == flipping::FLIP_SOURCE {
-        flipping::flips(op, chart, beside, rule, text, oh, ow, ok, h, ws, ks, a);
-        return;
-    }
-    if op == moving::IMPORT {
-        moving::import(chart, beside, rule, text, h, ws, ks, oh, ow, ok, a);
-        return;
-    }
-    if op == moving::EXPORT {
-        moving::export(chart, beside, rule, text, h, ws, ks, eh, ew, ek, a);
-        return;
-    }
-    call(op, chart, beside, rule, text, h, ws, ks, a);
 }
 
-// The same, with all of the other's words.
-fn with_other<'a>(
-    op: u32,
-    chart: &[u32],
-    beside: Beside,
-    rule: &'a [u8],
-    text: &'a [u8],
-    h: &mut [u32],
-    ws: &mut [u32],
-    ks: &mut [u32],
-    there: Sizes,
-    oh: &mut [u32],
-    ow: &mut [u32],
-    ok: &mut [u32],
-    eh: &mut [u32],
-    ew: &mut [u32],
-    ek: &mut [u32],
-    a: &[u32],
-) {
-    let x = upto(oh, there.head);
-    let y = upto(ow, there.nodes);
-    let z = upto(ok, there.kids);
-    either(
-        op,
-        chart,
-        beside,
-        rule,
-        text,
-        h,
-        ws,
-        ks,
-        &mut oh[..x],
-        &mut ow[..y],
-        &mut ok[..z],
-        eh,
-        ew,
-        ek,
-        a,
-    );
-}
-
-// A call on what is lent of these buffers.
-fn on(
-    s: &[u32],
-    op: u32,
-    a: &[u32],
-    l: Lent,
-    rule: &mut [u8],
-    text: &mut [u8],
-    h: &mut [u32],
-    ws: &mut [u32],
-    ks: &mut [u32],
-    oh: &mut [u32],
-    ow: &mut [u32],
-    ok: &mut [u32],
-    eh: &mut [u32],
-    ew: &mut [u32],
-    ek: &mut [u32],
-) {
-    let chart = first(after(s, l.chart_at), l.chart_len);
-    let r = bytes_upto(rule, l.rule);
-    let t = bytes_upto(text, l.text);
-    let here = l.here;
-    let x = upto(h, here.head);
-    let y = upto(ws, here.nodes);
-    let z = upto(ks, here.kids);
-    with_other(
-        op,
-        chart,
-        l.beside,
-        &rule[..r],
-        &text[..t],
-        &mut h[..x],
-        &mut ws[..y],
-        &mut ks[..z],
-        l.there,
-        oh,
-        ow,
-        ok,
-        eh,
-        ew,
-        ek,
-        a,
-    );
-}
-
-// A call, whose numbers a stand at `at`, on what is lent.
+// The call that stands there, on what is lent, and what is lent from now on.
 fn turn(
     s: &[u32],
-    op: u32,
     at: usize,
-    a: &[u32],
     l: Lent,
-    rule: &mut [u8],
-    text: &mut [u8],
     h: &mut [u32],
     ws: &mut [u32],
     ks: &mut [u32],
-    oh: &mut [u32],
-    ow: &mut [u32],
-    ok: &mut [u32],
-    eh: &mut [u32],
-    ew: &mut [u32],
-    ek: &mut [u32],
+    o: &mut [u32],
 ) -> Lent {
-    if op <= LEND || op == SWAP {
-        return lend(op, l, at, a, rule, text);
+    let op = word(s, at);
+    let a = given(s, at);
+    let m = lend(op, l, behind(at), a);
+    if op <= LEND {
+        return m;
     }
-    if l.swapped {
-        on(s, op, a, l, rule, text, oh, ow, ok, h, ws, ks, eh, ew, ek);
-    } else {
-        on(s, op, a, l, rule, text, h, ws, ks, oh, ow, ok, eh, ew, ek);
+    if op == SWAP {
+        exchange(h, o, 0);
+        exchange(ws, o, NODES_AT);
+        exchange(ks, o, KIDS_AT);
+        return m;
     }
-    l
+    act(s, op, l, h, ws, ks, o, a);
+    m
 }
 
 // The calls one after the other, on these buffers.
-fn turns(
-    s: &[u32],
-    rule: &mut [u8],
-    text: &mut [u8],
-    h: &mut [u32],
-    ws: &mut [u32],
-    ks: &mut [u32],
-    oh: &mut [u32],
-    ow: &mut [u32],
-    ok: &mut [u32],
-    eh: &mut [u32],
-    ew: &mut [u32],
-    ek: &mut [u32],
-) {
+fn turns(s: &[u32], h: &mut [u32], ws: &mut [u32], ks: &mut [u32], o: &mut [u32]) {
     let mut l = nothing_lent();
     let mut at = 0;
     while at < s.len() {
-        let rest = after(s, at);
-        let a = first(after(rest, 2), word(rest, 1) as usize);
-        let here = place(at);
-        at = next(at, a.len(), s.len());
-        l = turn(
-            s,
-            word(rest, 0),
-            here,
-            a,
-            l,
-            rule,
-            text,
-            h,
-            ws,
-            ks,
-            oh,
-            ow,
-            ok,
-            eh,
-            ew,
-            ek,
-        );
+        l = turn(s, at, l, h, ws, ks, o);
+        at = next(s, at);
     }
 }
 
 fn run(s: &[u32]) {
-    let mut rule = [0u8; BYTES];
-    let mut text = [0u8; BYTES];
     let mut h = [0u32; HEAD];
     let mut ws = [0u32; NODES];
     let mut ks = [0u32; KIDS];
-    let mut oh = [0u32; HEAD];
-    let mut ow = [0u32; NODES];
-    let mut ok = [0u32; KIDS];
-    let mut eh = [0u32; HEAD];
-    let mut ew = [0u32; NODES];
-    let mut ek = [0u32; KIDS];
-    turns(
-        s,
-        &mut rule,
-        &mut text,
-        &mut h,
-        &mut ws,
-        &mut ks,
-        &mut oh,
-        &mut ow,
-        &mut ok,
-        &mut eh,
-        &mut ew,
-        &mut ek,
-    );
+    let mut o = [0u32; OTHER];
+    turns(s, &mut h, &mut ws, &mut ks, &mut o);
 }
 
 fn main() {
     let mut input = [0u8; INPUT];
     let got = io::read_full(0, &mut input);
     let mut s = [0u32; NUMBERS];
-    let n = numbers::numbers(&input[..got], &mut s);
+    let n = numbers(&input[..got], &mut s);
     run(first(&s, n));
 }

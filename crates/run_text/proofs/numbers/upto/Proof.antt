@@ -1,0 +1,15 @@
+-- `run_text::numbers::upto` meets its contract: the smaller of the two counts a part of the slice.
+-- Assumes nothing.
+use native.Mathlib.Omega.{arith}
+use Rattle.run_text.proofs.NumberLaws.{counts}
+use Rattle.run_text.proofs.numbers.upto.Statement.{statement}
+use Rattle.run_text.proofs.numbers.upto.Tie as tie
+
+returns : tie.Need-returns
+returns c = counts _ _ (omega arith)
+
+returns-2 : tie.Need-returns-2
+returns-2 c = counts _ _ (omega arith)
+
+pub upto-spec : {M : Type 1} → statement M
+upto-spec = tie.close (tie.spec returns returns-2)
