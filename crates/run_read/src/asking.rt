@@ -1,5 +1,5 @@
 // Calls that change no store.
-use call_read::FiguresAnswer;
+use tested_read::FiguresAnswer;
 use chart::Beside;
 use promise::DoneAnswer;
 use run_text::numbers;

@@ -1,6 +1,6 @@
 // Words changed in turn, in a copy, each for one call that only answers whether a store is sound.
 use crate::KIDS;
-use call_read::FiguresAnswer;
+use tested_read::FiguresAnswer;
 use chart::Beside;
 use layout::CHILD_WORDS;
 use layout::HEAD_WORDS;
