@@ -53,7 +53,7 @@ module _ (p : ℕ → Bool) (a e : ℕ) where
 
 -- the same of what stands there
 
-all-map : {A : Type 0} (q : A → Bool) (f : ℕ → A) (l : List ℕ) → all q (map f l) ≡ all (λ i. q (f i)) l
+pub all-map : {A B : Type 0} (q : B → Bool) (f : A → B) (l : List A) → all q (map f l) ≡ all (λ i. q (f i)) l
 all-map q f [] = refl
 all-map q f (i ∷ l) = ap (λ (b : Bool). q (f i) && b) (all-map q f l)
 

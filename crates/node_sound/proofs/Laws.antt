@@ -31,7 +31,7 @@ use Rattle.layout.proofs.Lists.{all-from, from-all}
 use Rattle.layout.proofs.Laws.{past}
 use Rattle.layout.proofs.Cells.{cellNode, cellClean, node-words, clean-words, says}
 use Rattle.clean.specs.Parts.{nameCleanIf}
-use Rattle.clean.proofs.Laws.{childClean, slots-run, names-run, cell-known, known-parts, known-names}
+use Rattle.clean.proofs.Laws.{all-map, childClean, slots-run, names-run, cell-known, known-parts, known-names}
 use Rattle.kind_sound.proofs.Laws.{made-tests, kind-tests, sound-narrow}
 use Rattle.kind_sound.proofs.NameLaws.{no-names}
 use Rattle.node_sound.specs.Tests.{plainSlot, nodeTest, Told, PlainKind, PlainNode}
@@ -55,10 +55,6 @@ pick-same true = refl
 pick-same false = refl
 
 -- a kind without names, by its children
-
-all-map : {A B : Type 0} (p : B → Bool) (f : A → B) (xs : List A) → all p (map f xs) ≡ all (λ x. p (f x)) xs
-all-map p f [] = refl
-all-map p f (x ∷ xs) = ap (λ (b : Bool). p (f x) && b) (all-map p f xs)
 
 module _ (chart ks : List ℕ) (n : ℕ) (k : Kind) (row : Row) (e : asRow row ≡ rowOf (k .code)) (none : row .names ≡ NO-NAMES) where
   names-row : row .names ≡ rowOf (k .code) .names

@@ -1,16 +1,16 @@
 -- One law for each way out of the tests of a store and of a chart. A store that cannot be read is not sound, whichever of the tests before reading it
 -- breaks; one that can is sound if it passes the tests that are left. What stands beside the chart says nothing of a store.
 -- Assumes nothing.
-use mathlib.Core.Path.{_≡_, refl, ap, sym, _∙_}
-use mathlib.Core.Bool.{Bool, true, false, _&&_, and-true, and-false, false≢true}
-use mathlib.Core.List.{List}
+use mathlib.Core.Path.{_≡_, refl, ap, sym, _∙_, subst}
+use mathlib.Core.Bool.{Bool, true, false, _&&_, and-assoc, and-true, and-false, false≢true}
+use mathlib.Core.List.{List, [], _∷_}
 use mathlib.Core.Option.{none, some}
 use Prim.Native.Nat.{ℕ, _%_, _≤_, _<_}
 use native.Mathlib.Omega.{arith}
 use lib.Dec.{eqb, leb}
 use lib.ListN.{length, getD}
 use borrow.Author.Tests.{eq-eqb, le-leb, lt-leb, leb-true}
-use Rattle.scope.specs.Base.{all}
+use Rattle.scope.specs.Base.{all, from}
 use Rattle.scope.specs.Limits.{MAX-NODES, MAX-CHILDREN}
 use Rattle.scope.specs.Chart.{Env, recordOk, chartOk}
 use Rattle.scope.specs.Nodes as nodes
@@ -20,15 +20,28 @@ use Rattle.names.proofs.Tests.{both, all-at}
 use Rattle.chart.specs.declared.Beside.{Beside}
 use Rattle.chart.specs.Words.{RECORD-WORDS}
 use Rattle.chart.specs.Env.{envOf, chartIn, chartWordsOk}
-use Rattle.layout.specs.Words.{nodeWords, nodesMade, childrenMade, nodeRoom, childRoom, decode, storeIn, clean, lentOf}
+use Rattle.layout.specs.Words.{nodeWords, nodesMade, childrenMade, nodeRoom, childRoom, nodeAt, nodeClean, decode, storeIn, longEnough, unusedZero, nodesClean, clean, lentOf}
 use Rattle.layout.specs.Meaning.{Lies, headerIn, rememberedMeans}
 use Rattle.layout.specs.declared.Header.{Header}
 use Rattle.layout.proofs.Laws.{past, length-decode}
-use Rattle.layout.proofs.StoreLaws.{remembered-means, clean-lies, clean-nodes, lent-clean}
-use Rattle.kind_sound.specs.Nodes.{CleanNodes, narrowNodes}
-use Rattle.kind_sound.proofs.Laws.{kind-inside, nodes-beside, wide-unsound}
+use Rattle.layout.proofs.StoreLaws.{remembered-means, lies, clean-lies, clean-nodes, lent-clean}
+use Rattle.clean.specs.Parts.{roomClean}
+use Rattle.clean.proofs.Laws.{all-map}
+use Rattle.kind_sound.proofs.Laws.{kind-inside, nodes-beside}
+use Rattle.node_sound.specs.Tests.{nodesTest}
 use Rattle.shape.specs.Asks.{nodeInside, Shaped}
 use Rattle.sound.specs.Tests.{within, readable, noChart, envIn}
+
+-- two tests of every element
+
+swap-and : (a b c d : Bool) → ((a && b) && (c && d)) ≡ ((a && c) && (b && d))
+swap-and true true c d = refl
+swap-and true false c d = sym (and-false c)
+swap-and false b c d = refl
+
+all-both : {A : Type 0} (p q : A → Bool) (l : List A) → all (λ x. p x && q x) l ≡ (all p l && all q l)
+all-both p q [] = refl
+all-both p q (x ∷ l) = ap (λ (b : Bool). (p x && q x) && b) (all-both p q l) ∙ swap-and (p x) (q x) (all p l) (all q l)
 
 -- before a store is read
 
