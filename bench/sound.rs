@@ -1,6 +1,6 @@
 //! The soundness test, beside one read of the same words, a word a step; and the worst that lent words can make it do.
 
-use std::ptr::read_volatile;
+use std::{hint::black_box, ptr::read_volatile};
 
 use crate::{
   SIZES, filled, least, line,
@@ -15,10 +15,10 @@ fn testing(store: &mut Core, refusal: u32) -> f64 {
   least(|| (), |()| (0..CALLS).for_each(|_| assert_eq!(store.refusal(), refusal))) / CALLS as f64
 }
 
-/// One read of all words of a store, a word a step.
+/// One read of all words of a store, a word a step: their sum.
 fn reading(store: &Core) -> f64 {
-  let read = |words: &[u32]| words.iter().for_each(|word| _ = unsafe { read_volatile(word) });
-  least(|| (), |()| (0..CALLS).for_each(|_| store.words().map(read).into_iter().collect())) / CALLS as f64
+  let sum = |words: &[u32]| words.iter().fold(0, |sum: u32, word| sum.wrapping_add(unsafe { read_volatile(word) }));
+  least(|| (), |()| (0..CALLS).for_each(|_| _ = black_box(store.words().map(sum)))) / CALLS as f64
 }
 
 /// `nodes` nodes with four times as many children.

@@ -18,7 +18,7 @@ use Rattle.scope.specs.Types.{tyOf}
 use Rattle.scope.specs.Nodes as nodes
 use Rattle.scope.specs.Kinds.{rowOf, OWN-NAME, CHILD-NAMES, PARAMETER-NAMES}
 use Rattle.scope.specs.Sound.{Slot, zeros, nameClean, slotClean, slotBare, front, last, namesClean, kindBare, nodeIn}
-use Rattle.layout.specs.Words.{HEAD-WORDS, NODE-WORDS, KNOWN-TAG, nodeWords, childWords, between, slotAt, slots, longEnough, unusedZero, nodeClean, nodesClean}
+use Rattle.layout.specs.Words.{HEAD-WORDS, NODE-WORDS, KNOWN-TAG, nodeWords, childWords, between, slotAt, slots, longEnough, unusedZero, nodeClean}
 use Rattle.layout.specs.Meaning.{headerIn, cellIn, cellWords, cellKind, cellMeans, kindCell, namedOf}
 use Rattle.names.specs.declared.Name.{Name}
 use Rattle.layout.specs.declared.Cell.{Cell}
@@ -51,12 +51,9 @@ module _ (p : ℕ → Bool) (a e : ℕ) where
   pub flag-end : (ok : Bool) → e ≤ a → (ok && all p (from a (e - a))) ≡ ok
   flag-end ok h = rw (run-end h, and-true)
 
-pub run-whole : (p : ℕ → Bool) (n : ℕ) → all p (from 0 n) ≡ all p (from 0 (n - 0))
-run-whole p n = let z : n - 0 ≡ n = omega arith in rw z
-
 -- the same of what stands there
 
-all-map : {A : Type 0} (q : A → Bool) (f : ℕ → A) (l : List ℕ) → all q (map f l) ≡ all (λ i. q (f i)) l
+pub all-map : {A B : Type 0} (q : B → Bool) (f : A → B) (l : List A) → all q (map f l) ≡ all (λ i. q (f i)) l
 all-map q f [] = refl
 all-map q f (i ∷ l) = ap (λ (b : Bool). q (f i) && b) (all-map q f l)
 
@@ -126,10 +123,6 @@ module _ (h ws ks : List ℕ) (x : Header) (e : x ≡ headerIn h) where
       && zeros (between ks (childWords (x .children)) (childWords (x .«child_room»))))
   unfolding unusedZero
   unused-by = rw e
-
-  pub nodes-by : nodesClean h ws ks ≡ all (nodeClean ws ks (x .children)) (from 0 (x .nodes))
-  unfolding nodesClean
-  nodes-by = rw e
 
 -- a kind's names: its own, those of the children that may have one, and the others
 

@@ -7,9 +7,13 @@ use Rattle.scope.specs.Base.{pick, all, isSome}
 use Rattle.scope.specs.Sound.{Slot, zeros, nameClean, nodeIn}
 use Rattle.names.specs.Place.{nameFrom}
 use Rattle.names.specs.declared.Name.{Name}
-use Rattle.layout.specs.Words.{slots}
+use Rattle.layout.specs.Words.{slots, longEnough, unusedZero}
 use Rattle.layout.specs.Meaning.{CHILD-TAG, UNKNOWN-TAG, FAILED-TAG, cellMeans}
 use Rattle.layout.specs.declared.Cell.{Cell}
+
+-- what of `clean` is of no one node
+abbrev pub roomClean : List ℕ → List ℕ → List ℕ → Bool
+roomClean h ws ks = longEnough h ws ks && unusedZero h ws ks
 
 -- a name's three words: a name or none where there may be one; where there is none they are zeros
 abbrev pub nameCleanIf : Bool → Name → Bool

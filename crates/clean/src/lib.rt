@@ -1,16 +1,15 @@
 // The words' part of refusal 8: whether three slices, of any lengths, hold a store at all. "A field outside its values" and "unused numbers not zero"
 // are found here, and slices that are too short; whether the store is sound is not asked.
 //
-// A node's run of children is read once for that node. Runs may overlap, so the time goes with the nodes and the lengths of all their runs. A run is
-// at most the children made, 16,384 where the capacities are within their limits. Soundness allows a kind 255 children, but `clean` does not say so.
+// The slices are tested at once, their nodes one by one. A node's run of children is read whole: at most the children made, 16,384 where the capacities
+// are within their limits. Soundness allows a kind 255 children, but nothing here says so: who tests many nodes tests widths first.
 ghost use mathlib.Core.Path.{_≡_};
 ghost use Prim.Native.Nat.{_+_, _*_, _≤_};
 ghost use lib.ListN.{length};
-ghost use Rattle.scope.specs.Base.{all, from};
 ghost use Rattle.scope.specs.Sound.{zeros, namesClean};
-ghost use Rattle.layout.specs.Words.{NODE-WORDS, KNOWN-TAG, nodeWords, between, longEnough, unusedZero, nodeClean, clean};
+ghost use Rattle.layout.specs.Words.{NODE-WORDS, KNOWN-TAG, between, longEnough, unusedZero, nodeClean};
 ghost use Rattle.layout.specs.Meaning.{kindCell, namedOf, Lies};
-ghost use Rattle.clean.specs.Parts.{nameCleanIf, slotsCleanIf, plainClean, knownClean};
+ghost use Rattle.clean.specs.Parts.{roomClean, nameCleanIf, slotsCleanIf, plainClean, knownClean};
 use kinds::CHILD_NAMES;
 use kinds::OWN_NAME;
 use kinds::PARAMETER_NAMES;
@@ -75,8 +74,15 @@ fn unused_zero(h: &[u32], ws: &[u32], ks: &[u32]) -> bool
         && zero_between(ks, child_words(x.children), child_words(x.child_room))
 }
 
+// No slice is too short, and no unused slot is not zero.
+pub fn room_clean(h: &[u32], ws: &[u32], ks: &[u32]) -> bool
+    ensures { λ r. ⌜ r ≡ roomClean (now (h .entry)) (now (ws .entry)) (now (ks .entry)) ⌝ }
+{
+    long_enough(h, ws, ks) && unused_zero(h, ws, ks)
+}
+
 // A name's words: a name where there may be one, or zeros.
-fn name_clean(may: bool, name: Name) -> bool
+pub fn name_clean(may: bool, name: Name) -> bool
     ensures { λ r. ⌜ r ≡ nameCleanIf may name ⌝ }
 {
     if name.len != 0 {
@@ -153,7 +159,7 @@ fn plain_clean(x: Cell) -> bool
     x.tag == FAILED_TAG && x.link == 0
 }
 
-fn node_clean(ws: &[u32], ks: &[u32], c: u32, i: u32) -> bool
+pub fn node_clean(ws: &[u32], ks: &[u32], c: u32, i: u32) -> bool
     requires { ⌜ i * NODE-WORDS + NODE-WORDS ≤ length (now ws) ⌝ }
     ensures { λ r. ⌜ r ≡ nodeClean (now (ws .entry)) (now (ks .entry)) c i ⌝ }
 {
@@ -165,29 +171,4 @@ fn node_clean(ws: &[u32], ks: &[u32], c: u32, i: u32) -> bool
         return known_clean(ks, c, x);
     }
     plain_clean(x) && zero_between(s, KIND_WORDS, NODE_WORDS)
-}
-
-fn nodes_clean(ws: &[u32], ks: &[u32], n: u32, c: u32) -> bool
-    requires { ⌜ nodeWords n ≤ length (now ws) ⌝ }
-    ensures { λ r. ⌜ r ≡ all (nodeClean (now (ws .entry)) (now (ks .entry)) c) (from 0 n) ⌝ }
-{
-    let mut i: u32 = 0;
-    while i < n {
-        if !node_clean(ws, ks, c, i) {
-            return false;
-        }
-        i += 1;
-    }
-    true
-}
-
-// No field is outside its values, no unused number is not zero, and no slice is too short.
-pub fn clean(h: &[u32], ws: &[u32], ks: &[u32]) -> bool
-    ensures { λ r. ⌜ r ≡ clean (now (h .entry)) (now (ws .entry)) (now (ks .entry)) ⌝ }
-{
-    if !long_enough(h, ws, ks) {
-        return false;
-    }
-    let x = read_header(h);
-    unused_zero(h, ws, ks) && nodes_clean(ws, ks, x.nodes, x.children)
 }

@@ -1,14 +1,14 @@
 -- What the tests of kinds and nodes read: of the environment the chart's records and the texts, of a kind's children in `defined` and `flagIs` nothing, of
--- the nodes only how many there are. And a store with a kind of more than 255 children is not sound, so widths may be tested before all else.
+-- the nodes only how many there are. And a node with more than 255 children is not sound, so its width may be tested before all else.
 -- Assumes nothing.
 use mathlib.Core.Path.{_≡_, refl, ap, sym, _∙_, subst, fun-ext}
-use mathlib.Core.Bool.{Bool, true, false, _&&_, and-false, false≢true}
+use mathlib.Core.Bool.{Bool, true, _&&_}
 use mathlib.Core.List.{List, []}
 use Prim.Native.Nat.{ℕ, _+_, _≤_, _<_}
 use native.Mathlib.Omega.{arith}
 use lib.Dec.{ltb, leb}
 use lib.ListN.{length, getD}
-use borrow.Author.Tests.{lt-ltb, leb-true, le-leb}
+use borrow.Author.Tests.{leb-true}
 use Rattle.scope.specs.Base.{all}
 use Rattle.scope.specs.Limits.{MAX-WIDTH, KINDS}
 use Rattle.scope.specs.Chart.{Env}
@@ -17,26 +17,20 @@ use Rattle.scope.specs.Names.{Texts}
 use Rattle.scope.specs.Kinds.{Head, rowOf, shapeFits, namesOk, flexOk, numberOk, makeable, defined, flagOf, flagIs}
 use Rattle.scope.specs.Nodes as nodes
 use Rattle.scope.specs.Sound as sound
-use Rattle.scope.specs.Sound.{inStore, kindSound, nodeSound, roomSound, soundStore, sound}
+use Rattle.scope.specs.Sound.{inStore, kindSound, nodeSound}
 use Rattle.names.specs.Place.{texts}
-use Rattle.names.proofs.Tests.{all-at}
 use Rattle.chart.specs.Words.{recordsOf}
 use Rattle.chart.specs.Env.{envOf, chartIn, chartAlone}
 use Rattle.chart.specs.declared.Beside.{Beside}
-use Rattle.layout.specs.Words.{slotAt, countAt, decode, nodesMade, childrenMade, storeIn, clean, lentOf}
-use Rattle.layout.specs.Meaning.{cellIn, cellOf, cellWords, slotMeans, kindMeans, nodeMeans, readAt, Clean}
-use Rattle.layout.specs.declared.Cell.{Cell}
+use Rattle.layout.specs.Words.{slotAt}
+use Rattle.layout.specs.Meaning.{cellOf, slotMeans, kindMeans, nodeMeans}
 use Rattle.layout.specs.declared.Kind.{Kind}
 use Rattle.layout.specs.declared.Slot.{Slot}
 use Rattle.layout.specs.declared.TypeState.the-variants.{Known, Unknown, InferenceFailed}
 use Rattle.layout.specs.declared.TypeNode.{TypeNode}
 use Rattle.layout.specs.declared.TypeNode.the-variants.{Root, Child}
-use Rattle.layout.proofs.Lists.{and-left, and-right, from-all}
-use Rattle.layout.proofs.Cells.{clean-words, field-word, says}
+use Rattle.layout.proofs.Lists.{and-left, and-right}
 use Rattle.layout.proofs.ChildLaws.{length-kids, kid-at}
-use Rattle.layout.proofs.Laws.{past, length-decode, read-node}
-use Rattle.layout.proofs.StoreLaws.{clean-nodes}
-use Rattle.kind_sound.specs.Nodes.{narrowNodes}
 
 -- the children of a kind, by their places
 
@@ -128,20 +122,7 @@ nodes-beside ws b rule text ns =
     let same = node-sound-reads (envOf ws b rule text) (chartIn ws rule text) ns ns refl refl refl in
     ap (λ (p : nodes.Node → Bool). all p ns) (fun-ext same)
 
--- the nodes that words say, by their places
-
-module _ (ws ks : List ℕ) (n i : ℕ) where
-  pub node-below : i < n → i < length (decode ws ks n)
-  node-below h = rw (length-decode ws ks n) h
-
-  pub nodes-past : n ≤ i → length (decode ws ks n) ≤ i
-  nodes-past h = rw (length-decode ws ks n) h
-
 -- "255 children a kind"
-
--- a node's words where the code has read its cell
-pub count-cell : (ws : List ℕ) (i : ℕ) {x : Cell} → x ≡ cellIn (cellWords ws i) → x .count ≡ countAt ws i
-count-cell ws i e = ap (λ (y : Cell). y .count) e ∙ field-word ws i 11 (omega arith)
 
 made-narrow : (e : Env) (ns : List nodes.Node) (k : nodes.Kind) → kindSound e ns k ≡ true → length (k .kids) ≤ MAX-WIDTH
 unfolding kindSound makeable
@@ -150,46 +131,8 @@ made-narrow e ns k h =
     leb-true (length (k .kids)) MAX-WIDTH (and-left (leb (length (k .kids)) MAX-WIDTH) _ (and-right (ltb (k .head .code) KINDS) _ (and-left m _ h)))
 
 -- a node without a kind has no words for children
-sound-narrow : (e : Env) (ks : List ℕ) (ns : List nodes.Node) (v : TypeNode) → nodeSound e ns (nodeMeans ks v) ≡ true → cellOf v .count ≤ MAX-WIDTH
+pub sound-narrow : (e : Env) (ks : List ℕ) (ns : List nodes.Node) (v : TypeNode) → nodeSound e ns (nodeMeans ks v) ≡ true → cellOf v .count ≤ MAX-WIDTH
 sound-narrow e ks ns (Root (Known i k) z) h = subst (λ (n : ℕ). n ≤ MAX-WIDTH) (length-kids ks k) (made-narrow e ns (kindMeans ks k) h)
 sound-narrow e ks ns (Root (Unknown s) z) h = omega arith
 sound-narrow e ks ns (Root InferenceFailed z) h = omega arith
 sound-narrow e ks ns (Child t) h = omega arith
-
--- the words of a clean node are those of the node that they say
-count-read : (ws ks : List ℕ) (c n : ℕ) → Clean ws ks c n → (i : ℕ) → i < n → cellOf (readAt ws n i) .count ≡ countAt ws i
-unfolding readAt
-count-read ws ks c n cl i h =
-    let x = cellIn (cellWords ws i) in
-    rw (lt-ltb i n h) (count-cell ws i (says ks c x (sym (clean-words ws ks c i) ∙ cl .each i h) .back))
-
-module _ (e : Env) (ws ks : List ℕ) where
-  pub sound-widths : (c n : ℕ) → Clean ws ks c n → all (nodeSound e (decode ws ks n)) (decode ws ks n) ≡ true → narrowNodes ws n ≡ true
-  unfolding narrowNodes
-  sound-widths c n cl h =
-      let ns : List nodes.Node = decode ws ks n in
-      from-all (λ i. leb (countAt ws i) MAX-WIDTH) 0 n
-      (λ i a b. le-leb (countAt ws i) MAX-WIDTH (subst (λ (m : ℕ). m ≤ MAX-WIDTH) (count-read ws ks c n cl i (omega arith))
-      (sound-narrow e ks ns (readAt ws n i)
-      (ap (nodeSound e ns) (read-node ws ks c n cl i) ∙ all-at (nodeSound e ns) ns past i h (rw length-decode (omega arith))))))
-
-  -- nodes with a wider kind are not sound
-  pub wide-nodes : (c n : ℕ) → Clean ws ks c n → narrowNodes ws n ≡ false → all (nodeSound e (decode ws ks n)) (decode ws ks n) ≡ false
-  wide-nodes c n cl w = go (all (nodeSound e (decode ws ks n)) (decode ws ks n)) refl
-    where
-      go : (b : Bool) → all (nodeSound e (decode ws ks n)) (decode ws ks n) ≡ b → all (nodeSound e (decode ws ks n)) (decode ws ks n) ≡ false
-      go true q = absurd (false≢true (sym w ∙ sound-widths c n cl q))
-      go false q = q
-
-  store-by : (h : List ℕ) → clean h ws ks ≡ true → narrowNodes ws (nodesMade h) ≡ false → soundStore e (storeIn h ws ks) ≡ false
-  unfolding soundStore storeIn
-  store-by h q w = rw (wide-nodes (childrenMade h) (nodesMade h) (clean-nodes h ws ks q) w) (and-false (roomSound (storeIn h ws ks)))
-
-  lent-by : (b : Bool) (h : List ℕ) → clean h ws ks ≡ b → narrowNodes ws (nodesMade h) ≡ false → sound e (lentOf h ws ks) ≡ false
-  unfolding lentOf
-  lent-by true h q w = rw q (store-by h q w)
-  lent-by false h q w = rw q refl
-
-  -- nor is what three slices say with one among them, whatever else they hold
-  pub wide-unsound : (h : List ℕ) → narrowNodes ws (nodesMade h) ≡ false → sound e (lentOf h ws ks) ≡ false
-  wide-unsound h w = lent-by (clean h ws ks) h refl w

@@ -1,10 +1,9 @@
 // Whether a kind is sound. Refusals 4 and 5 turn back what can't be made and what is not defined; a store's kinds have also the chart's flag, and their
 // children are nodes of the store. A kind is read with the children's words, so the same tests serve a kind that is to be made and one that a store has.
 //
-// A kind's width is tested before its children are read: the time is that of the nodes and of at most 255 children each, whose names are at most 255 bytes.
+// A kind's width is tested before its children are read, of which it has at most 255, with names of at most 255 bytes.
 ghost use mathlib.Core.Path.{_≡_};
 ghost use mathlib.Core.List.{List, [], map};
-ghost use Prim.Native.Nat.{_≤_};
 ghost use lib.ListN.{length};
 ghost use Rattle.scope.specs.Base.{all};
 ghost use Rattle.scope.specs.Names.{namedOrNone};
@@ -13,9 +12,8 @@ ghost use Rattle.scope.specs.Nodes.{Node};
 ghost use Rattle.scope.specs.Sound.{nameIn, slotName, inStore, kindSound, nodeSound, remembered};
 ghost use Rattle.names.specs.Place.{texts};
 ghost use Rattle.chart.specs.Env.{chartIn, chartAlone};
-ghost use Rattle.layout.specs.Words.{nodeWords, slots, decode};
+ghost use Rattle.layout.specs.Words.{slots};
 ghost use Rattle.layout.specs.Meaning.{kindMeans, nodeMeans, rememberedMeans};
-ghost use Rattle.kind_sound.specs.Nodes.{CleanNodes, nodesSound, narrowNodes};
 use kinds::AS_CHART;
 use kinds::CHILD_NAMES;
 use kinds::ERROR;
@@ -28,7 +26,6 @@ use layout::TypeState;
 use names::NO_NAME;
 use names::Name;
 use scope::MAX_WIDTH;
-use types::TypeIdx;
 
 // A name that may be missing.
 fn name_or_none(n: Name, rule: &[u8], text: &[u8]) -> bool
@@ -191,7 +188,8 @@ pub fn kind_sound<'a>(
     kids_inside(k, ks, n)
 }
 
-fn node_sound<'a>(
+// A node: its kind is sound, or its parent is a node of the store.
+pub fn node_sound<'a>(
     node: TypeNode,
     ks: &[u32],
     n: u32,
@@ -209,42 +207,4 @@ fn node_sound<'a>(
             TypeState::InferenceFailed => true,
         },
     }
-}
-
-// Every kind of the store is sound, and every parent is a node of it.
-pub fn nodes_sound<'a>(
-    ws: &[u32],
-    ks: &[u32],
-    n: u32,
-    chart: &[u32],
-    rule: &'a [u8],
-    text: &'a [u8],
-) -> bool
-    requires { ⌜ CleanNodes (now ws) (now ks) n ⌝ }
-    ensures { λ r. ⌜ r ≡ nodesSound (chartIn (now (chart .entry)) (now (rule .entry)) (now (text .entry))) (decode (now (ws .entry)) (now (ks .entry)) n) ⌝ }
-{
-    let mut i: u32 = 0;
-    while i < n {
-        if !node_sound(layout::node_at(ws, n, TypeIdx(i)), ks, n, chart, rule, text) {
-            return false;
-        }
-        i += 1;
-    }
-    true
-}
-
-// "255 children a kind": a store that fails this is not sound, and one that passes has few enough children for every later test.
-pub fn widths_ok(ws: &[u32], n: u32) -> bool
-    requires { ⌜ nodeWords n ≤ length (now ws) ⌝ }
-    ensures { λ r. ⌜ r ≡ narrowNodes (now (ws .entry)) n ⌝ }
-{
-    let mut i: u32 = 0;
-    while i < n {
-        let cell = layout::cell_at(ws, TypeIdx(i));
-        if cell.count as usize > MAX_WIDTH {
-            return false;
-        }
-        i += 1;
-    }
-    true
 }

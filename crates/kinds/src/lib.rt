@@ -265,11 +265,10 @@ pub fn self_dual(code: u32, flag: bool) -> bool
     }
 }
 
-// n children fit the kind.
-pub fn shape_fits(code: u32, n: usize) -> bool
-    ensures { λ r. ⌜ r ≡ shapeFits (rowOf code .shape) n ⌝ }
+// n children fit the row's kind.
+pub fn row_fits(row: Row, n: usize) -> bool
+    ensures { λ r. ⌜ r ≡ shapeFits (row .shape) n ⌝ }
 {
-    let row = row_of(code);
     if row.shape == RUN {
         return true;
     }
@@ -277,6 +276,13 @@ pub fn shape_fits(code: u32, n: usize) -> bool
         return 1 <= n;
     }
     n == row.shape as usize
+}
+
+// n children fit the kind.
+pub fn shape_fits(code: u32, n: usize) -> bool
+    ensures { λ r. ⌜ r ≡ shapeFits (rowOf code .shape) n ⌝ }
+{
+    row_fits(row_of(code), n)
 }
 
 // A kind without a `Flex` has 0.
@@ -291,15 +297,20 @@ pub fn flex_ok(code: u32, flex: u32) -> bool
 }
 
 // A kind that has no number has 0.
-pub fn number_ok(code: u32, n: u32) -> bool
-    ensures { λ r. ⌜ r ≡ numberOk (rowOf code .number) n ⌝ }
+pub fn row_number_ok(row: Row, n: u32) -> bool
+    ensures { λ r. ⌜ r ≡ numberOk (row .number) n ⌝ }
 {
-    let row = row_of(code);
     if row.number == NO_NUMBER {
         n == 0
     } else {
         true
     }
+}
+
+pub fn number_ok(code: u32, n: u32) -> bool
+    ensures { λ r. ⌜ r ≡ numberOk (rowOf code .number) n ⌝ }
+{
+    row_number_ok(row_of(code), n)
 }
 
 pub fn is_definition(code: u32) -> bool
@@ -308,14 +319,19 @@ pub fn is_definition(code: u32) -> bool
     row_of(code).number == DEFINITION
 }
 
-// A definition of this sort is one of the kind's; a kind of no definition asks for none.
-pub fn sort_fits(code: u32, sort: u32) -> bool
-    ensures { λ r. ⌜ r ≡ sortFits (rowOf code) sort ⌝ }
+// A definition of this sort is one of the row's kind; a kind of no definition asks for none.
+pub fn row_sort_fits(row: Row, sort: u32) -> bool
+    ensures { λ r. ⌜ r ≡ sortFits (asRow row) sort ⌝ }
 {
-    let row = row_of(code);
     if row.number == DEFINITION {
         sort == row.sort || sort == row.other
     } else {
         true
     }
+}
+
+pub fn sort_fits(code: u32, sort: u32) -> bool
+    ensures { λ r. ⌜ r ≡ sortFits (rowOf code) sort ⌝ }
+{
+    row_sort_fits(row_of(code), sort)
 }

@@ -1,16 +1,16 @@
 -- One law for each way out of the tests of a store and of a chart. A store that cannot be read is not sound, whichever of the tests before reading it
 -- breaks; one that can is sound if it passes the tests that are left. What stands beside the chart says nothing of a store.
 -- Assumes nothing.
-use mathlib.Core.Path.{_≡_, refl, ap, sym, _∙_}
-use mathlib.Core.Bool.{Bool, true, false, _&&_, and-true, and-false, false≢true}
-use mathlib.Core.List.{List}
+use mathlib.Core.Path.{_≡_, refl, ap, sym, _∙_, subst}
+use mathlib.Core.Bool.{Bool, true, false, _&&_, and-assoc, and-true, and-false, false≢true}
+use mathlib.Core.List.{List, [], _∷_}
 use mathlib.Core.Option.{none, some}
 use Prim.Native.Nat.{ℕ, _%_, _≤_, _<_}
 use native.Mathlib.Omega.{arith}
 use lib.Dec.{eqb, leb}
 use lib.ListN.{length, getD}
 use borrow.Author.Tests.{eq-eqb, le-leb, lt-leb, leb-true}
-use Rattle.scope.specs.Base.{all}
+use Rattle.scope.specs.Base.{all, from}
 use Rattle.scope.specs.Limits.{MAX-NODES, MAX-CHILDREN}
 use Rattle.scope.specs.Chart.{Env, recordOk, chartOk}
 use Rattle.scope.specs.Nodes as nodes
@@ -20,28 +20,33 @@ use Rattle.names.proofs.Tests.{both, all-at}
 use Rattle.chart.specs.declared.Beside.{Beside}
 use Rattle.chart.specs.Words.{RECORD-WORDS}
 use Rattle.chart.specs.Env.{envOf, chartIn, chartWordsOk}
-use Rattle.layout.specs.Words.{nodeWords, nodesMade, childrenMade, nodeRoom, childRoom, decode, storeIn, clean, lentOf}
+use Rattle.layout.specs.Words.{nodeWords, nodesMade, childrenMade, nodeRoom, childRoom, nodeAt, nodeClean, decode, storeIn, longEnough, unusedZero, nodesClean, clean, lentOf}
 use Rattle.layout.specs.Meaning.{Lies, headerIn, rememberedMeans}
 use Rattle.layout.specs.declared.Header.{Header}
 use Rattle.layout.proofs.Laws.{past, length-decode}
-use Rattle.layout.proofs.StoreLaws.{remembered-means, clean-lies, clean-nodes, lent-clean}
-use Rattle.kind_sound.specs.Nodes.{CleanNodes, narrowNodes}
-use Rattle.kind_sound.proofs.Laws.{kind-inside, nodes-beside, wide-unsound}
+use Rattle.layout.proofs.StoreLaws.{remembered-means, lies, clean-lies, clean-nodes, lent-clean}
+use Rattle.clean.specs.Parts.{roomClean}
+use Rattle.clean.proofs.Laws.{all-map}
+use Rattle.kind_sound.proofs.Laws.{kind-inside, nodes-beside}
+use Rattle.node_sound.specs.Tests.{nodesTest}
 use Rattle.shape.specs.Asks.{nodeInside, Shaped}
 use Rattle.sound.specs.Tests.{within, readable, noChart, envIn}
+
+-- two tests of every element
+
+swap-and : (a b c d : Bool) → ((a && b) && (c && d)) ≡ ((a && c) && (b && d))
+swap-and true true c d = refl
+swap-and true false c d = sym (and-false c)
+swap-and false b c d = refl
+
+all-both : {A : Type 0} (p q : A → Bool) (l : List A) → all (λ x. p x && q x) l ≡ (all p l && all q l)
+all-both p q [] = refl
+all-both p q (x ∷ l) = ap (λ (b : Bool). (p x && q x) && b) (all-both p q l) ∙ swap-and (p x) (q x) (all p l) (all q l)
 
 -- before a store is read
 
 module _ (h ws ks : List ℕ) where
-  -- slices that are too short for the nodes made say no store
-  short-by : (b : Bool) → clean h ws ks ≡ b → length ws < nodeWords (nodesMade h) → clean h ws ks ≡ false
-  short-by true q s = let l : Lies h ws ks = clean-lies h ws ks q in absurd (omega (arith, l .nodes, l .nodeSlots))
-  short-by false q s = q
-
   module _ (x : Header) (e : x ≡ headerIn h) where
-    head-nodes : x .nodes ≡ nodesMade h
-    head-nodes = ap (λ (y : Header). y .nodes) e
-
     head-node-room : x .«node_room» ≡ nodeRoom h
     head-node-room = ap (λ (y : Header). y .«node_room») e
 
@@ -56,35 +61,32 @@ module _ (h ws ks : List ℕ) where
     unfolding readable
     many-children l = rw (lt-leb (childRoom h) MAX-CHILDREN (omega (arith, head-child-room)), and-false (leb (nodeRoom h) MAX-NODES))
 
-    pub few-words : length ws < nodeWords (x .nodes) → readable h ws ks ≡ false
+    pub readable-room : x .«node_room» ≤ MAX-NODES → x .«child_room» ≤ MAX-CHILDREN → readable h ws ks ≡ roomClean h ws ks
     unfolding readable
-    few-words l =
-        rw (
-          short-by (clean h ws ks) refl (omega (arith, head-nodes)),
-          and-false (narrowNodes ws (nodesMade h)),
-          and-false (within h),
-        )
-
-    pub wide-kind : narrowNodes ws (x .nodes) ≡ false → readable h ws ks ≡ false
-    unfolding readable
-    wide-kind w = rw (ap (narrowNodes ws) (sym head-nodes) ∙ w, and-false (within h))
-
-    pub readable-clean : x .«node_room» ≤ MAX-NODES → x .«child_room» ≤ MAX-CHILDREN → narrowNodes ws (x .nodes) ≡ true → readable h ws ks ≡ clean h ws ks
-    unfolding readable
-    readable-clean a b w =
+    readable-room a b =
         rw (
           le-leb (nodeRoom h) MAX-NODES (omega (arith, head-node-room)),
           le-leb (childRoom h) MAX-CHILDREN (omega (arith, head-child-room)),
-          ap (narrowNodes ws) (sym head-nodes) ∙ w,
         )
 
-  -- what a store that can be read is
+  -- a store is clean where its room is and its nodes are
 
-  pub readable-parts : readable h ws ks ≡ true → (within h ≡ true) × (clean h ws ks ≡ true)
+  clean-room : clean h ws ks ≡ (roomClean h ws ks && nodesClean h ws ks)
+  unfolding clean
+  clean-room = sym (and-assoc (longEnough h ws ks) (unusedZero h ws ks) (nodesClean h ws ks))
+
+  readable-parts : readable h ws ks ≡ true → (within h ≡ true) × (roomClean h ws ks ≡ true)
   unfolding readable
-  readable-parts r =
-      let p = both (within h) (narrowNodes ws (nodesMade h) && clean h ws ks) r in
-      (p .0, both (narrowNodes ws (nodesMade h)) (clean h ws ks) (p .1) .1)
+  readable-parts r = both (within h) (roomClean h ws ks) r
+
+  readable-clean : readable h ws ks ≡ true → clean h ws ks ≡ nodesClean h ws ks
+  readable-clean r = clean-room ∙ rw (readable-parts r .1)
+
+  pub readable-words : (x : Header) → x ≡ headerIn h → readable h ws ks ≡ true → nodeWords (x .nodes) ≤ length ws
+  readable-words x g r =
+      let l : Lies h ws ks = lies h ws ks (both (longEnough h ws ks) (unusedZero h ws ks) (readable-parts r .1) .0) in
+      let m : x .nodes ≡ nodesMade h = ap (λ (y : Header). y .nodes) g in
+      omega (arith, l .nodes, l .nodeSlots, m)
 
   room-within : clean h ws ks ≡ true → roomSound (storeIn h ws ks) ≡ within h
   unfolding roomSound storeIn
@@ -117,47 +119,57 @@ module _ (h ws ks : List ℕ) where
     unfolding soundStore
     room-unsound q w = read-sound q ∙ rw (room-within q, w)
 
-    unsound-by : (b w n : Bool) → clean h ws ks ≡ b → within h ≡ w → narrowNodes ws (nodesMade h) ≡ n → (w && (n && b)) ≡ false → sound e (lentOf h ws ks) ≡ false
-    unsound-by false w n q p m z = stray-unsound q
-    unsound-by true false n q p m z = room-unsound q p
-    unsound-by true true false q p m z = wide-unsound e ws ks h m
-    unsound-by true true true q p m z = absurd (false≢true (sym z))
+    unsound-by : (b w : Bool) → roomClean h ws ks ≡ b → within h ≡ w → (w && b) ≡ false → sound e (lentOf h ws ks) ≡ false
+    unsound-by false w q p z = stray-unsound (clean-room ∙ rw q)
+    unsound-by true false q p z = narrow-by (clean h ws ks) refl
+      where
+        narrow-by : (b : Bool) → clean h ws ks ≡ b → sound e (lentOf h ws ks) ≡ false
+        narrow-by true g = room-unsound g p
+        narrow-by false g = stray-unsound g
+    unsound-by true true q p z = absurd (false≢true (sym z))
 
     -- a store that cannot be read is not sound
     pub unreadable : readable h ws ks ≡ false → sound e (lentOf h ws ks) ≡ false
     unfolding readable
-    unreadable z = unsound-by (clean h ws ks) (within h) (narrowNodes ws (nodesMade h)) refl refl refl z
+    unreadable z = unsound-by (roomClean h ws ks) (within h) refl refl z
 
-    -- the tests that are left once a store can be read, by its header
+    -- the tests that are left once the nodes are tested, by the header
     abbrev pub rest : Header → Bool
     rest x =
         let ns : List nodes.Node = decode ws ks (x .nodes) in
-        all (nodeSound e ns) ns
-        && (remembered ns (rememberedMeans (x .error)) && (remembered ns (rememberedMeans (x .nil)) && shapeSound ns))
+        remembered ns (rememberedMeans (x .error)) && (remembered ns (rememberedMeans (x .nil)) && shapeSound ns)
 
-    rest-head : soundStore e (storeIn h ws ks) ≡ (roomSound (storeIn h ws ks) && rest (headerIn h))
+    rest-head : soundStore e (storeIn h ws ks)
+        ≡ (roomSound (storeIn h ws ks) && (all (nodeSound e (decode ws ks (nodesMade h))) (decode ws ks (nodesMade h)) && rest (headerIn h)))
     unfolding soundStore storeIn
     rest-head = rw (remembered-means (getD h 4 0), remembered-means (getD h 5 0))
 
-    pub readable-sound : (x : Header) → x ≡ headerIn h → readable h ws ks ≡ true → sound e (lentOf h ws ks) ≡ rest x
-    readable-sound x g r =
-        let p = readable-parts r in
-        read-sound (p .1) ∙ (rest-head ∙ (rw (room-within (p .1), p .0) (sym (ap rest g))))
+    -- the nodes' test is that they are clean and that they are sound
+    nodes-parts : nodesTest e ws ks (childrenMade h) (nodesMade h)
+        ≡ (nodesClean h ws ks && all (nodeSound e (decode ws ks (nodesMade h))) (decode ws ks (nodesMade h)))
+    unfolding nodesClean decode
+    nodes-parts =
+        all-both (nodeClean ws ks (childrenMade h)) (λ i. nodeSound e (decode ws ks (nodesMade h)) (nodeAt ws ks i)) (from 0 (nodesMade h))
+        ∙ ap (λ (b : Bool). nodesClean h ws ks && b) (sym (all-map (nodeSound e (decode ws ks (nodesMade h))) (nodeAt ws ks) (from 0 (nodesMade h))))
 
-  -- what the later tests ask
+    sound-by : (b : Bool) → nodesClean h ws ks ≡ b → readable h ws ks ≡ true
+        → sound e (lentOf h ws ks) ≡ (nodesTest e ws ks (childrenMade h) (nodesMade h) && rest (headerIn h))
+    sound-by true q r =
+        let g : clean h ws ks ≡ true = readable-clean r ∙ q in
+        read-sound g ∙ (rest-head ∙ rw (room-within g, readable-parts r .0, nodes-parts, q))
+    sound-by false q r = stray-unsound (readable-clean r ∙ q) ∙ sym (rw (nodes-parts, q))
 
-  pub readable-nodes : (x : Header) → x ≡ headerIn h → readable h ws ks ≡ true → CleanNodes ws ks (x .nodes)
-  readable-nodes x g r =
-      let m : x .nodes ≡ nodesMade h = ap (λ (y : Header). y .nodes) g in
-      record { made = childrenMade h; clean = rw m (clean-nodes h ws ks (readable-parts r .1)) }
+    pub readable-sound : (x : Header) → x ≡ headerIn h → readable h ws ks ≡ true
+        → sound e (lentOf h ws ks) ≡ (nodesTest e ws ks (x .children) (x .nodes) && rest x)
+    readable-sound x g r = sound-by (nodesClean h ws ks) refl r ∙ sym (ap (λ (y : Header). nodesTest e ws ks (y .children) (y .nodes) && rest y) g)
 
-  readable-few : (x : Header) → x ≡ headerIn h → readable h ws ks ≡ true → x .nodes ≤ MAX-NODES
-  readable-few x g r =
-      let m : x .nodes ≡ nodesMade h = ap (λ (y : Header). y .nodes) g in
-      let p = readable-parts r in
-      let l : Lies h ws ks = clean-lies h ws ks (p .1) in
-      let k : nodeRoom h ≤ MAX-NODES = leb-true (nodeRoom h) MAX-NODES (both (leb (nodeRoom h) MAX-NODES) (leb (childRoom h) MAX-CHILDREN) (p .0) .0) in
-      omega (arith, l .nodes)
+    -- what nodes that pass say
+    pub tested : (x : Header) → x ≡ headerIn h → readable h ws ks ≡ true → nodesTest e ws ks (x .children) (x .nodes) ≡ true
+        → (clean h ws ks ≡ true) × (all (nodeSound e (decode ws ks (nodesMade h))) (decode ws ks (nodesMade h)) ≡ true)
+    tested x g r t =
+        let u : nodesTest e ws ks (childrenMade h) (nodesMade h) ≡ true = sym (ap (λ (y : Header). nodesTest e ws ks (y .children) (y .nodes)) g) ∙ t in
+        let p = both (nodesClean h ws ks) (all (nodeSound e (decode ws ks (nodesMade h))) (decode ws ks (nodesMade h))) (sym nodes-parts ∙ u) in
+        (readable-clean r ∙ p .0, p .1)
 
 -- a sound node's parent, or its kind's children, are nodes of the store
 node-inside : (e : Env) (ns : List nodes.Node) (v : nodes.Node) → nodeSound e ns v ≡ true → nodeInside ns v ≡ true
@@ -166,16 +178,20 @@ node-inside e ns (nodes.Root (nodes.Unknown s) z) h = refl
 node-inside e ns (nodes.Root nodes.InferenceFailed z) h = refl
 node-inside e ns (nodes.Child t) h = h
 
-pub shaped : (h ws ks : List ℕ) (e : Env) (x : Header) → x ≡ headerIn h → readable h ws ks ≡ true
-    → all (nodeSound e (decode ws ks (x .nodes))) (decode ws ks (x .nodes)) ≡ true → Shaped ws ks (x .nodes)
-shaped h ws ks e x g r a =
-    let ns : List nodes.Node = decode ws ks (x .nodes) in
-    let c : CleanNodes ws ks (x .nodes) = readable-nodes h ws ks x g r in
-    record {
-      made = c .made;
-      few = readable-few h ws ks x g r;
-      clean = c .clean;
-      inside = λ i l. node-inside e ns (nodes.at ns i) (all-at (nodeSound e ns) ns past i a (rw (length-decode ws ks (x .nodes)) l));
+pub shaped : (h ws ks : List ℕ) (e : Env) (x : Header) → x ≡ headerIn h → readable h ws ks ≡ true → nodesTest e ws ks (x .children) (x .nodes) ≡ true
+    → Shaped ws ks (x .nodes)
+shaped h ws ks e x g r t =
+    let m : nodesMade h ≡ x .nodes = sym (ap (λ (y : Header). y .nodes) g) in
+    let p = tested h ws ks e x g r t in
+    let ns : List nodes.Node = decode ws ks (nodesMade h) in
+    let l : Lies h ws ks = clean-lies h ws ks (p .0) in
+    let w = both (leb (nodeRoom h) MAX-NODES) (leb (childRoom h) MAX-CHILDREN) (readable-parts h ws ks r .0) .0 in
+    let k : nodeRoom h ≤ MAX-NODES = leb-true (nodeRoom h) MAX-NODES w in
+    subst (Shaped ws ks) m record {
+      made = childrenMade h;
+      few = omega (arith, l .nodes, k);
+      clean = clean-nodes h ws ks (p .0);
+      inside = λ i q. node-inside e ns (nodes.at ns i) (all-at (nodeSound e ns) ns past i (p .1) (rw (length-decode ws ks (nodesMade h)) q));
     }
 
 -- what stands beside the chart

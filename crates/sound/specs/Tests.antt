@@ -11,16 +11,16 @@ use Rattle.names.specs.Place.{texts}
 use Rattle.chart.specs.declared.Beside.{Beside}
 use Rattle.chart.specs.Words.{RECORD-WORDS}
 use Rattle.chart.specs.Env.{envOf}
-use Rattle.layout.specs.Words.{nodesMade, nodeRoom, childRoom, clean}
-use Rattle.kind_sound.specs.Nodes.{narrowNodes}
+use Rattle.layout.specs.Words.{nodeRoom, childRoom}
+use Rattle.clean.specs.Parts.{roomClean}
 
 -- "Nodes 0 to 4,096; children over all nodes ever made 0 to 16,384"
 abbrev pub within : List ℕ → Bool
 within h = leb (nodeRoom h) MAX-NODES && leb (childRoom h) MAX-CHILDREN
 
--- the numbers say a store, its capacities are within the limits, and no kind of it is too wide
+-- the capacities are within the limits, no slice is too short for them, and no unused number is not zero
 unfoldable pub readable : List ℕ → List ℕ → List ℕ → Bool
-readable h ws ks = within h && (narrowNodes ws (nodesMade h) && clean h ws ks)
+readable h ws ks = within h && roomClean h ws ks
 
 -- the chart of numbers that are no whole records: one of a definition without a sort, which refusal 2 turns back
 abbrev pub noChart : Env

@@ -1,5 +1,6 @@
 // Refusals 2 and 8, which every call on a store can answer: of a chart and texts that break a limit, and of a store that is not sound.
-// Any numbers at all may be lent. Capacities and widths are tested first, so each later test looks at no more than 4,096 nodes with 255 children each.
+// Any numbers at all may be lent. Capacities are tested first, and a node's width before its children, so no test looks at more than 4,096 nodes with
+// 255 children each.
 ghost use mathlib.Core.Path.{_≡_};
 ghost use Rattle.scope.specs.Sound.{sound};
 ghost use Rattle.scope.specs.Refusals.{firstBroken, lentTests};
@@ -14,7 +15,7 @@ use refusals::UNSOUND;
 use scope::MAX_CHILDREN;
 use scope::MAX_NODES;
 
-// The numbers say a store, its capacities are within the limits, and no kind of it is too wide.
+// The capacities are within the limits, no slice is too short for them, and no unused number is not zero.
 fn readable(h: &[u32], ws: &[u32], ks: &[u32]) -> bool
     ensures { λ r. ⌜ r ≡ readable (now (h .entry)) (now (ws .entry)) (now (ks .entry)) ⌝ }
 {
@@ -25,13 +26,7 @@ fn readable(h: &[u32], ws: &[u32], ks: &[u32]) -> bool
     if x.child_room as usize > MAX_CHILDREN {
         return false;
     }
-    if ws.len() < layout::node_words(x.nodes) {
-        return false;
-    }
-    if !kind_sound::widths_ok(ws, x.nodes) {
-        return false;
-    }
-    clean::clean(h, ws, ks)
+    clean::room_clean(h, ws, ks)
 }
 
 // Whether refusal 8 does not stand, with this chart and these texts.
@@ -52,7 +47,7 @@ pub fn store_sound<'a>(
     let n = x.nodes;
     let error = x.error;
     let nil = x.nil;
-    if !kind_sound::nodes_sound(ws, ks, n, chart, rule, text) {
+    if !node_sound::nodes_sound(ws, ks, n, x.children, chart, rule, text) {
         return false;
     }
     if !kind_sound::remembered_inside(error, n) {

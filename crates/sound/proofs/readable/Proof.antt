@@ -1,11 +1,8 @@
--- `sound::readable` meets its contract: each way out has its law. Words too few for the nodes made are no store, so the order of the tests does not
--- matter.
+-- `sound::readable` meets its contract: each way out has its law.
 -- Assumes nothing.
-use mathlib.Core.Path.{sym, _∙_}
-use native.Mathlib.Omega.{arith}
 use borrow.Author.Needs.{needs}
-use Rattle.names.proofs.Tests.{passes, fails}
-use Rattle.sound.proofs.Laws.{many-nodes, many-children, few-words, wide-kind, readable-clean}
+use mathlib.Core.Path.{sym, _∙_}
+use Rattle.sound.proofs.Laws.{many-nodes, many-children, readable-room}
 use Rattle.sound.proofs.readable.Statement.{statement}
 use Rattle.sound.proofs.readable.Tie as tie
 
@@ -30,35 +27,14 @@ returns-2 c =
     let x = c .before .before .before .before .read-header in
     sym (many-children (a .h .now) (a .ws .now) (a .ks .now) (x .result) (x .ensures) (c .if2 .taken))
 
-node-words-requires : tie.Need-node-words-requires
-node-words-requires c κs = search needs
+room-clean-requires : tie.Need-room-clean-requires
+room-clean-requires c κs = search needs
 
 returns-3 : tie.Need-returns-3
 returns-3 c =
-    let a = c .before .before .before .before .before .before .before .before .before .before .args in
-    let x = c .before .before .before .before .before .before .read-header in
-    sym (few-words (a .h .now) (a .ws .now) (a .ks .now) (x .result) (x .ensures) (omega (arith, c .if3 .taken, c .before .node-words .ensures)))
-
-widths-ok-requires : tie.Need-widths-ok-requires
-widths-ok-requires c κs = search needs
-
-returns-4 : tie.Need-returns-4
-returns-4 c =
-    let a = c .before .before .before .before .before .before .before .before .before .before .before .before .args in
-    let x = c .before .before .before .before .before .before .before .before .read-header in
-    sym (wide-kind (a .h .now) (a .ws .now) (a .ks .now) (x .result) (x .ensures) (fails (c .before .widths-ok .ensures) (c .if4 .taken)))
-
-clean-requires : tie.Need-clean-requires
-clean-requires c κs = search needs
-
-returns-5 : tie.Need-returns-5
-returns-5 c =
-    let a = c .before .before .before .before .before .before .before .before .before .before .before .before .before .args in
-    let x = c .before .before .before .before .before .before .before .before .before .read-header in
-    let nodes = c .before .before .before .before .before .before .before .if1 .left in
-    let children = c .before .before .before .before .before .if2 .left in
-    let narrow = passes (c .before .before .widths-ok .ensures) (c .before .if4 .left) in
-    c .clean .ensures ∙ sym (readable-clean (a .h .now) (a .ws .now) (a .ks .now) (x .result) (x .ensures) nodes children narrow)
+    let a = c .before .before .before .before .before .before .before .before .before .args in
+    let x = c .before .before .before .before .before .read-header in
+    c .room-clean .ensures ∙ sym (readable-room (a .h .now) (a .ws .now) (a .ks .now) (x .result) (x .ensures) (c .before .before .before .if1 .left) (c .before .if2 .left))
 
 pub readable-spec : {M : Type 1} → statement M
 readable-spec =
@@ -69,9 +45,5 @@ readable-spec =
     returns
     cast-if2
     returns-2
-    node-words-requires
-    returns-3
-    widths-ok-requires
-    returns-4
-    clean-requires
-    returns-5)
+    room-clean-requires
+    returns-3)
