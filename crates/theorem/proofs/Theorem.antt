@@ -24,6 +24,7 @@ use Rattle.theorem.specs.Steps.{Ran}
 use Rattle.theorem.specs.Runs.{Runs, _then_, callsOf, joined, EachStep, asks}
 use Rattle.theorem.specs.Theorem.{FirstHalf, SecondHalf, ListHolds, Theorem}
 use Rattle.theorem.proofs.Contracts.{contracts}
+use Rattle.theorem.proofs.Tested.{tested-forms, stays-tested}
 use Rattle.theorem.proofs.StepLaws.{CleanWords, clean-reads}
 use Rattle.theorem.proofs.Steps.{stepped}
 use Rattle.theorem.proofs.RunLaws.{Fresh, opened-clean, opened-fresh, Ended, ended, answer-given, given-answer, asked-same, answers-every, default-none, nodes-added, calls-joined}
@@ -92,4 +93,4 @@ lists f n c m m′ o run = record {
     t = ended f run k
 
 pub theorem : Theorem
-theorem = record { contracts = contracts; lists = lists }
+theorem = record { contracts = contracts; lists = lists; forms = tested-forms; stays = stays-tested }

@@ -12,7 +12,7 @@ use Rattle.chart.specs.declared.Beside.{Beside}
 use Rattle.layout.specs.Words.{storeIn, lentOf}
 use Rattle.refusals.specs.Opening.{enough}
 use Rattle.sound.specs.Tests.{envIn}
-use Rattle.promise.specs.Promise.{Reply, outcomeBy, doneReply, Promised}
+use Rattle.promise.specs.Promise.{Reply, outcomeBy, doneReply, Promised, Tested}
 use Rattle.promise.specs.Lists.{ListPromised}
 use Rattle.promise.specs.declared.DoneAnswer.{DoneAnswer}
 use Rattle.promise.specs.declared.DoneAnswer.the-variants as end
@@ -50,6 +50,10 @@ lent m = lentOf (m .head) (m .nodes) (m .kids)
 
 abbrev pub held : Memory → Store
 held m = storeIn (m .head) (m .nodes) (m .kids)
+
+-- chart, texts and words pass the tests of 2 and 8
+abbrev pub TestedWords : Fixed → Memory → Type 0
+TestedWords f m = Tested (f .chart) (f .beside) (f .rule) (f .text) (m .head) (m .nodes) (m .kids)
 
 -- the slices are long enough for n nodes and c children, whatever they hold
 abbrev pub roomy : ℕ → ℕ → Memory → Bool

@@ -17,6 +17,7 @@ use Rattle.theorem.specs.Memory.{Memory, Fixed, env, lent, held, Opened}
 use Rattle.theorem.specs.Steps.{Ran}
 use Rattle.theorem.specs.Runs.{Runs, _then_, callsOf, repliesOf, joined, EachStep, summed, asks, unifyAnswers, noDefault, nodesBy}
 use Rattle.theorem.specs.Contracts.{Contracts}
+use Rattle.theorem.specs.Tested.{TestedForms, StaysTested}
 
 -- the first half: "the makers, `import`, `force_kind`, `unify`", and the reads
 pub record FirstHalf (f : Fixed) {m m′ : Memory} (run : Runs f m m′) : Type 0 where
@@ -60,3 +61,7 @@ pub record Theorem : Type 0 where
   pub contracts : Contracts
   -- all that holds of every list of steps, with slices opened for n nodes and c children: "Each list starts from a store just opened, with no node"
   pub lists : (f : Fixed) (n c : ℕ) (m m′ : Memory) → Opened n c m → (run : Runs f m m′) → ListHolds f n c run
+  -- what each form for a tested store was proved to do, on words that pass the tests, is what the call itself was proved to do
+  pub forms : TestedForms
+  -- and after any list the words pass them, if they did before
+  pub stays : StaysTested

@@ -1,0 +1,37 @@
+-- The stores that lists of calls reach: sound, and no node deep under a small root. Kept by every call. Assumes nothing.
+use mathlib.Core.List.{List, [], _∷_}
+use Prim.Native.Nat.{ℕ, _≤_}
+use Rattle.scope.specs.Limits.{MAX-NODES, MAX-CHILDREN}
+use Rattle.scope.specs.Chart.{Env}
+use Rattle.scope.specs.Nodes.{Store, opened}
+use Rattle.scope.specs.Force as Force
+use Rattle.scope.specs.Calls.{done, resetCall}
+use Rattle.scope.specs.Demand.{Call, make, import, forceKind, unify, read, later, reset, step, next, after}
+use Rattle.scope.proofs.Merge.{Shallow}
+use Rattle.scope.proofs.SoundLaws.{SoundFacts}
+use Rattle.scope.proofs.SoundKept.{Kept, opened-facts, opened-shallow, find-mut-kept, unify-kept, carry-kept, restates-kept, force-kept, reset-kept}
+use Rattle.scope.proofs.Steps.{maker-cases, import-cases, force-cases, unify-cases, read-cases, step-cases}
+use Rattle.scope.proofs.LaterSteps.{later-cases}
+
+
+pub next-kept : (e : Env) (s : Store) (c : Call) → SoundFacts e s → Kept e s (next e s c)
+unfolding resetCall
+next-kept e s c ok = go c
+  where
+    as-found : Kept e s s
+    as-found = record { facts = ok; shallow = λ h. h }
+
+    go : (c : Call) → Kept e s (next e s c)
+    go (make m) = maker-cases e s ok (λ t. Kept e s (t .store)) m as-found (λ s′ k. k .kept)
+    go (import l ts ps h) = import-cases e s ok (λ t. Kept e s (t .store)) l ts ps h as-found (λ k. k .kept)
+    go (forceKind t) = force-cases e s ok (λ t. Kept e s (t .store)) t as-found (λ h. force-kept e s t ok h)
+    go (unify a b) = unify-cases e s ok (λ o. Kept e s (step s o .store)) a b (λ n. as-found) (λ ha hb. unify-kept e s a b ok ha hb)
+    go (read q) = read-cases e s ok (λ t. Kept e s (t .store)) q as-found as-found (λ t. find-mut-kept e s t ok)
+    go (later q) = later-cases e s ok (λ t. Kept e s (t .store)) q as-found as-found (λ l h. carry-kept e s l ok h) (λ ns x. restates-kept e s ns x ok)
+    go reset = step-cases e s ok (λ t. Kept e s (t .store)) [] (done tt (Force.reset s)) as-found (λ t. reset-kept e s ok)
+
+-- a list of calls keeps a sound store sound
+pub after-sound : (e : Env) (s : Store) (cs : List Call) → SoundFacts e s → SoundFacts e (after e s cs)
+unfolding after
+after-sound e s [] ok = ok
+after-sound e s (c ∷ cs) ok = after-sound e (next e s c) cs (next-kept e s c ok .facts)
