@@ -39,12 +39,14 @@ struct Options {
   seed: u64,
   calls: u64,
   stores: u64,
+  /// Short lists alone, on small stores.
+  small: bool,
   /// One list of the run alone.
   list: Option<u64>,
 }
 
 fn options() -> Options {
-  let mut options = Options { seed: 1, calls: CALLS, stores: STORES, list: None };
+  let mut options = Options { seed: 1, calls: CALLS, stores: STORES, small: false, list: None };
   let mut words = std::env::args().skip(1);
   while let Some(word) = words.next() {
     let mut number = || words.next().and_then(|word| word.parse().ok()).expect("a number is missing");
@@ -52,6 +54,7 @@ fn options() -> Options {
       "--seed" => options.seed = number(),
       "--calls" => options.calls = number(),
       "--stores" => options.stores = number(),
+      "--small" => options.small = true,
       "--list" => options.list = Some(number()),
       _ => panic!("not an option: {word}"),
     }
@@ -64,28 +67,28 @@ fn random(seed: u64, list: u64) -> Random {
   Random::new(seed.wrapping_mul(1 << 32).wrapping_add(list))
 }
 
-fn one(seed: u64, list: u64, count: &mut Count) {
+fn one(seed: u64, list: u64, small: bool, count: &mut Count) {
   let mut random = random(seed, list);
   let world = World::new(&mut random);
-  let calls = make::list(&mut random, &world);
+  let calls = make::list(&mut random, &world, small);
   if run::run(&world, &calls, count).is_err() {
     let (short, difference) = run::shrink(&world, calls);
     println!("seed {seed}, list {list}: a difference; {} calls are enough:", short.ops.len());
     println!("rooms {:?}", short.rooms);
     difference.done.iter().for_each(|line| println!("  {line}"));
     println!("{}", difference.what);
-    println!("repeat with --seed {seed} --list {list}");
+    println!("repeat with --seed {seed} --list {list}{}", if small { " --small" } else { "" });
     exit(1);
   }
 }
 
 fn lists() {
-  let Options { seed, calls, stores, list } = options();
+  let Options { seed, calls, stores, small, list } = options();
   let begun = Instant::now();
   let mut count = Count::default();
   if let Some(list) = list {
     std::panic::set_hook(Box::new(|_| {}));
-    one(seed, list, &mut count);
+    one(seed, list, small, &mut count);
     return count.report();
   }
   limits::run();
@@ -99,7 +102,7 @@ fn lists() {
   let mut list = 0;
   let mut said = 0;
   while count.calls < calls {
-    one(seed, list, &mut count);
+    one(seed, list, small, &mut count);
     list += 1;
     if count.calls / 100_000 > said {
       said = count.calls / 100_000;

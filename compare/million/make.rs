@@ -30,8 +30,10 @@ struct Maker<'a> {
   size: Size,
 }
 
-pub fn list(random: &mut Random, world: &World) -> List {
+/// A list; with `small` a short one, on small stores.
+pub fn list(random: &mut Random, world: &World, small: bool) -> List {
   let size = match random.below(60) {
+    _ if small => Size::Small,
     0 => Size::Large,
     1..6 => Size::Medium,
     _ => Size::Small,
