@@ -1,5 +1,4 @@
 // Calls that change no store.
-use tested_read::FiguresAnswer;
 use chart::Beside;
 use promise::DoneAnswer;
 use run_text::numbers;
@@ -7,6 +6,7 @@ use run_text::numbers::after;
 use run_text::numbers::word;
 use run_text::writing;
 use scope::MAX_NODES;
+use tested_read::FiguresAnswer;
 use types::Type;
 
 pub const FIND: u32 = 30; // type, here and below

@@ -1,6 +1,5 @@
 // Words changed in turn, in a copy, each for one call that only answers whether a store is sound.
 use crate::KIDS;
-use tested_read::FiguresAnswer;
 use chart::Beside;
 use layout::CHILD_WORDS;
 use layout::HEAD_WORDS;
@@ -12,6 +11,7 @@ use run_text::numbers::set;
 use run_text::numbers::upto;
 use run_text::numbers::word;
 use run_text::writing;
+use tested_read::FiguresAnswer;
 use types::Type;
 
 // Which slice, then what its words become; with one number, each word's low bit the other way.

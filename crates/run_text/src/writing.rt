@@ -1,12 +1,6 @@
 // What the public calls answer, as lines of text.
 use crate::numbers::first;
 use crate::numbers::word;
-use tested_ask::ModAnswer;
-use tested_force::ForcedAnswer;
-use tested_read::ChildAnswer;
-use tested_read::FiguresAnswer;
-use tested_read::NameAnswer;
-use tested_read::NodeAnswer;
 use call_unify::UnifyAnswer;
 use layout::Header;
 use layout::Kind;
@@ -15,6 +9,12 @@ use names::Name;
 use promise::BoolAnswer;
 use promise::DoneAnswer;
 use promise::TypeAnswer;
+use tested_ask::ModAnswer;
+use tested_force::ForcedAnswer;
+use tested_read::ChildAnswer;
+use tested_read::FiguresAnswer;
+use tested_read::NameAnswer;
+use tested_read::NodeAnswer;
 use types::Inverted;
 use types::Type;
 use types::UnifyResult;

@@ -13,7 +13,6 @@ use Rattle.scope.proofs.SoundKept.{Kept, opened-facts, opened-shallow, find-mut
 use Rattle.scope.proofs.Steps.{maker-cases, import-cases, force-cases, unify-cases, read-cases, step-cases}
 use Rattle.scope.proofs.LaterSteps.{later-cases}
 
-
 pub next-kept : (e : Env) (s : Store) (c : Call) → SoundFacts e s → Kept e s (next e s c)
 unfolding resetCall
 next-kept e s c ok = go c
