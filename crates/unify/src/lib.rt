@@ -16,6 +16,7 @@ use meeting::Sought;
 use plan::Plan;
 use plan::Runs;
 use recall::Recalled;
+use scope::MAX_NODES;
 use types::Type;
 use types::UnifyResult;
 
@@ -43,7 +44,13 @@ pub fn unify<'a>(
     let rb = heed::find(ws, n, memory, b);
     let m = meeting::meet(ws, ks, n, rule, text, ra, rb);
     match m {
-        Meeting::Done(r) => r,
+        Meeting::Done(r) => {
+            // Never so: the compiler leaves a walk's 4 KB of marks out of the frame of a function that calls itself.
+            if n as usize > MAX_NODES {
+                return unify(ws, ks, n, rule, text, memory, a, b, depth - 1);
+            }
+            r
+        }
         Meeting::Bind => {
             merge::bind(ws, n, ra, rb);
             recall::changed(memory);

@@ -6,6 +6,7 @@ use native.Mathlib.Omega.{arith}
 use native.Mathlib.Nat.{pos-of-ne-zero}
 use borrow.Author.Needs.{needs}
 use lib.ListN.{length}
+use Rattle.scope.specs.Limits.{MAX-NODES}
 use Rattle.scope.specs.Types.{tyOf}
 use Rattle.names.specs.Place.{texts}
 use Rattle.unify.proofs.Laws.{words-linked, Climbed, climbed, no-depth, tops-add}
@@ -101,6 +102,8 @@ unify-claims t = (
   find-reads.Learnt,
   meet-reads.Asked,
   meet-reads.Learnt,
+  unify-below t,
+  unify.Post,
   bind-reads.Asked,
   bind-reads.Learnt,
   changed-reads.Asked,
@@ -180,6 +183,13 @@ module _ (t : ℕ) (c : unify-lts.After-find2 (unify-claims t) (unify-at t) unif
       (tyOf (a .a .0)) (tyOf (a .b .0)) (c .before .before .before .before .before .before .before .find .result .0) (c .find2 .result .0)
   climbed-there = climbed (start .pre .1) (visit .before .before .if1 .left) (visit .visited .ensures) (c .before .before .before .before .before .before .before .find .ensures) (c .find2 .ensures)
 
+  small-there : start .args .n ≤ MAX-NODES
+  small-there = climbed-there .tops .pair .words .small
+
+-- no store is so large
+never : {A : Type 0} {n : ℕ} → MAX-NODES < n → n ≤ MAX-NODES → A
+never h k = absurd (omega (arith, h, k))
+
 -- the roots have met
 met-there : (t : ℕ) (c : unify-lts.After-meet (unify-claims t) (unify-at t) unify.Post)
     → let g = c .before .before .before .before .before .before in
@@ -209,6 +219,21 @@ unify-meet-requires t c κs = climbed-there t (c .before .before .before .before
 
 unify-enum-known-m : (t : ℕ) → unify-lts.Need-enum-known-m (unify-claims t) (unify-at t) unify.Post
 unify-enum-known-m t c = search needs
+
+unify-sub-unify : (t : ℕ) → unify-lts.Need-sub-unify (unify-claims t) (unify-at t) unify.Post
+unify-sub-unify t c = deep-there t (c .before .before .before .before .before .before .before .before .before .before .before .before)
+
+unify-unify-requires : (t : ℕ) → unify-lts.Need-unify-requires (unify-claims t) (unify-at t) unify.Post
+unify-unify-requires t c κs = never (c .before .before .if2 .taken) (small-there t (c .before .before .before .before .before .before .before .before .before .before .before .before))
+
+unify-same-length : (t : ℕ) → unify-lts.Need-same-length (unify-claims t) (unify-at t) unify.Post
+unify-same-length t c = never (c .before .before .before .before .before .before .before .if2 .taken) (small-there t (c .before .before .before .before .before .before .before .before .before .before .before .before .before .before .before .before .before))
+
+unify-same-length-2 : (t : ℕ) → unify-lts.Need-same-length-2 (unify-claims t) (unify-at t) unify.Post
+unify-same-length-2 t c = never (c .before .before .before .before .before .before .before .if2 .taken) (small-there t (c .before .before .before .before .before .before .before .before .before .before .before .before .before .before .before .before .before))
+
+unify-returns-2 : (t : ℕ) → unify-lts.Need-returns-2 (unify-claims t) (unify-at t) unify.Post
+unify-returns-2 t c = never (c .before .before .before .before .before .before .before .if2 .taken) (small-there t (c .before .before .before .before .before .before .before .before .before .before .before .before .before .before .before .before .before))
 
 unify-enum-told : (t : ℕ) → unify-lts.Need-enum-told (unify-claims t) (unify-at t) unify.Post
 unify-enum-told t c = search needs
@@ -249,57 +274,57 @@ unify-settle-requires t c κs =
     let at-it = at-m2 .before .before in
     kids-settles (met-there t at-it) (at-m2 .m2 .given .1) (at-unify-kids .unify-kids .ensures)
 
-unify-same-length : (t : ℕ) → unify-lts.Need-same-length (unify-claims t) (unify-at t) unify.Post
-unify-same-length t c = search needs
-
-unify-same-length-2 : (t : ℕ) → unify-lts.Need-same-length-2 (unify-claims t) (unify-at t) unify.Post
-unify-same-length-2 t c = search needs
-
-unify-returns-2 : (t : ℕ) → unify-lts.Need-returns-2 (unify-claims t) (unify-at t) unify.Post
-unify-returns-2 t c = way-done (met-there t (c .before .before .before)) (c .before .m .given .1)
-
 unify-same-length-3 : (t : ℕ) → unify-lts.Need-same-length-3 (unify-claims t) (unify-at t) unify.Post
 unify-same-length-3 t c = search needs
 
 unify-same-length-4 : (t : ℕ) → unify-lts.Need-same-length-4 (unify-claims t) (unify-at t) unify.Post
-unify-same-length-4 t c =
-    let at-it = c .before .before .before .before .before .before .before .before .before .before .before .before .before .before .before .before in
-    c .before .before .changed .kept .0 ∙ kept-there t at-it
+unify-same-length-4 t c = search needs
 
 unify-returns-3 : (t : ℕ) → unify-lts.Need-returns-3 (unify-claims t) (unify-at t) unify.Post
-unify-returns-3 t c =
-    let at-bind = c .before .before .before .before .before .before in
-    let at-enum-told = at-bind .before .before in
-    let at-it = at-enum-told .before .before in
-    way-bind (met-there t at-it) (at-enum-told .enum-told .given .1) (at-bind .bind .ensures) (c .before .before .changed .ensures)
+unify-returns-3 t c = way-done (met-there t (c .before .before .before .before)) (c .before .before .m .given .1)
 
 unify-same-length-5 : (t : ℕ) → unify-lts.Need-same-length-5 (unify-claims t) (unify-at t) unify.Post
 unify-same-length-5 t c = search needs
 
 unify-same-length-6 : (t : ℕ) → unify-lts.Need-same-length-6 (unify-claims t) (unify-at t) unify.Post
-unify-same-length-6 t c = kept-there t (c .before .before .before .before .before .before .before .before .before .before .before .before .before .before)
+unify-same-length-6 t c =
+    let at-it = c .before .before .before .before .before .before .before .before .before .before .before .before .before .before .before .before in
+    c .before .before .changed .kept .0 ∙ kept-there t at-it
 
 unify-returns-4 : (t : ℕ) → unify-lts.Need-returns-4 (unify-claims t) (unify-at t) unify.Post
 unify-returns-4 t c =
+    let at-bind = c .before .before .before .before .before .before in
+    let at-enum-told = at-bind .before .before in
+    let at-it = at-enum-told .before .before in
+    way-bind (met-there t at-it) (at-enum-told .enum-told .given .1) (at-bind .bind .ensures) (c .before .before .changed .ensures)
+
+unify-same-length-7 : (t : ℕ) → unify-lts.Need-same-length-7 (unify-claims t) (unify-at t) unify.Post
+unify-same-length-7 t c = search needs
+
+unify-same-length-8 : (t : ℕ) → unify-lts.Need-same-length-8 (unify-claims t) (unify-at t) unify.Post
+unify-same-length-8 t c = kept-there t (c .before .before .before .before .before .before .before .before .before .before .before .before .before .before)
+
+unify-returns-5 : (t : ℕ) → unify-lts.Need-returns-5 (unify-claims t) (unify-at t) unify.Post
+unify-returns-5 t c =
     let at-look = c .before .before .before in
     let at-it = at-look .before .before .before .before .before in
     way-known (met-there t at-it) (at-look .look .ensures) (c .before .known .given .1)
 
-unify-same-length-7 : (t : ℕ) → unify-lts.Need-same-length-7 (unify-claims t) (unify-at t) unify.Post
-unify-same-length-7 t c =
+unify-same-length-9 : (t : ℕ) → unify-lts.Need-same-length-9 (unify-claims t) (unify-at t) unify.Post
+unify-same-length-9 t c =
     let k = c .before .before .before .before .before .before .before .before .before .before .before in
     c .before .before .before .before .settle .kept .0 ∙
     (k .unify-kids .kept .0 ∙ long-there t (k .before .before .before .before .before .before .before .before .before .before .before .before .before .before .before .before .before .before))
 
-unify-same-length-8 : (t : ℕ) → unify-lts.Need-same-length-8 (unify-claims t) (unify-at t) unify.Post
-unify-same-length-8 t c =
+unify-same-length-10 : (t : ℕ) → unify-lts.Need-same-length-10 (unify-claims t) (unify-at t) unify.Post
+unify-same-length-10 t c =
     let k = c .before .before .before .before .before .before .before .before .before .before .before in
     c .before .before .before .before .settle .kept .1 .1 .0 ∙
     (k .unify-kids .kept .1 .1 .1 .1 .1 .0
     ∙ kept-there t (k .before .before .before .before .before .before .before .before .before .before .before .before .before .before .before .before .before .before))
 
-unify-returns-5 : (t : ℕ) → unify-lts.Need-returns-5 (unify-claims t) (unify-at t) unify.Post
-unify-returns-5 t c =
+unify-returns-6 : (t : ℕ) → unify-lts.Need-returns-6 (unify-claims t) (unify-at t) unify.Post
+unify-returns-6 t c =
     let k = c .before .before .before .before .before .before .before .before .before .before .before in
     let m = k .before .before .before .before .before .before .before .before .before .before .before .before in
     way-kids (met-there t m) (k .before .before .before .before .before .before .before .before .before .before .m2 .given .1) (k .unify-kids .ensures)
@@ -589,6 +614,11 @@ pub +unify+unify-kids+unify-objects+unify-types-spec : {M : Type 1} → statemen
     (unify-find-requires-2 t)
     (unify-meet-requires t)
     (unify-enum-known-m t)
+    (unify-sub-unify t)
+    (unify-unify-requires t)
+    (unify-same-length t)
+    (unify-same-length-2 t)
+    (unify-returns-2 t)
     (unify-enum-told t)
     (unify-bind-requires t)
     (unify-changed-requires t)
@@ -600,9 +630,6 @@ pub +unify+unify-kids+unify-objects+unify-types-spec : {M : Type 1} → statemen
     (unify-sub-unify-kids t)
     (unify-unify-kids-requires t)
     (unify-settle-requires t)
-    (unify-same-length t)
-    (unify-same-length-2 t)
-    (unify-returns-2 t)
     (unify-same-length-3 t)
     (unify-same-length-4 t)
     (unify-returns-3 t)
@@ -611,7 +638,10 @@ pub +unify+unify-kids+unify-objects+unify-types-spec : {M : Type 1} → statemen
     (unify-returns-4 t)
     (unify-same-length-7 t)
     (unify-same-length-8 t)
-    (unify-returns-5 t))
+    (unify-returns-5 t)
+    (unify-same-length-9 t)
+    (unify-same-length-10 t)
+    (unify-returns-6 t))
     (λ t. unify-kids-lts.spec (unify-kids-claims t)
     (unify-kids-at t)
     unify-kids.Post
