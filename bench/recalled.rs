@@ -1,5 +1,5 @@
 //! Random types that share much, unified with a memory and without: each word of the nodes and the answer must be equal.
-//! Only stores count whose unify makes so many visits that something is remembered.
+//! It goes on until so many stores made so many visits that something could be remembered.
 
 use std::time::{Duration, Instant};
 
@@ -114,38 +114,36 @@ struct Tally {
   answers: [usize; 3],
   /// Where a node changed after something could be remembered.
   changed: usize,
-  plain: Duration,
-  full: Duration,
+  without: Duration,
+  with: Duration,
 }
 
-/// One store with every memory.
+/// One store with every memory, the last with an entry for each pair.
 fn compare(tally: &mut Tally, random: &mut Random) {
-  tally.tried += 1;
   let (before, (a, b)) = store(random);
   let mut plain = before.clone();
   let start = Instant::now();
   let answer = plain.unify(a, b) as u32;
-  let took = start.elapsed();
-  let mut clock = 0;
+  let without = start.elapsed();
+  let (mut clock, mut with) = (0, without);
   for mut memory in memories(before.count()) {
     litter(&mut memory, before.count(), random);
     let mut side = before.clone();
     let start = Instant::now();
     assert_eq!(side.unify_recalling(&mut memory, a, b), answer);
-    let took = start.elapsed();
+    with = start.elapsed();
     assert_eq!(side.words(), plain.words());
-    clock = if memory.len() < 6 { 0 } else { memory[0] };
-    if clock == 0 && memory.len() >= 6 {
-      return;
-    }
-    if memory.len() == full(before.count()).len() {
-      tally.full += took;
-    }
+    clock = memory[0];
+  }
+  tally.tried += 1;
+  if clock == 0 {
+    return;
   }
   tally.kept += 1;
   tally.answers[answer as usize] += 1;
   tally.changed += (clock > 1) as usize;
-  tally.plain += took;
+  tally.without += without;
+  tally.with += with;
 }
 
 pub fn report() {
@@ -154,8 +152,9 @@ pub fn report() {
   while tally.kept < STORES {
     compare(&mut tally, &mut random);
   }
-  let Tally { tried, kept, answers: [success, failure, indeterminate], changed, plain, full } = tally;
-  println!("random types that share, seed {SEED}: {kept} stores of {tried} made over 4,096 visits, each with 7 memories: all equal");
-  println!("  {success} Success, {failure} Failure, {indeterminate} Indeterminate; in {changed} a node changed after that");
-  println!("  in all {plain:?} without a memory, {full:?} with an entry for each pair");
+  let Tally { tried, kept, answers: [success, failure, indeterminate], changed, without, with } = tally;
+  println!("random types that share, seed {SEED}, {tried} stores, each with 7 memories: all equal");
+  println!("  {kept} make over 4,096 visits: {success} Success, {failure} Failure, {indeterminate} Indeterminate");
+  println!("  in {changed} of these a node changes after that");
+  println!("  in all they take {without:?} without a memory, {with:?} with an entry for each pair");
 }

@@ -7,8 +7,9 @@ use std::{
 };
 
 use crate::{
-  least, line, recalled,
+  least, line,
   ours::Core,
+  recalled,
   shapes::{Pair, Side},
   vine::Vine,
 };
@@ -73,8 +74,21 @@ fn alike<S: Side>(side: &mut S, levels: usize, bottom: Bottom) -> Pair {
   (a, b)
 }
 
-/// The same, but the two pairs that are met at a level have one entry of `sheet`'s memory, in a store of 256 nodes: the
-/// numbers are chosen for that.
+/// Each level has the one below twice, and between them a variable, so that a node changes between the two visits and all is
+/// forgotten.
+fn binding<S: Side>(side: &mut S, levels: usize, bottom: Bottom) -> Pair {
+  let (a, b) = bottom.pair(side);
+  let mut tower = |end| {
+    (0..levels).fold(end, |kid, _| {
+      let var = side.var();
+      side.tuple(&[kid, var, kid])
+    })
+  };
+  (tower(a), tower(b))
+}
+
+/// As `alike`, but the two pairs that are met at a level have one entry in a memory of 2,047, if the store has 256 nodes: the
+/// numbers are chosen for that. Each takes the other's place, and nothing is gained.
 fn clashing<S: Side>(side: &mut S, levels: usize, bottom: Bottom) -> Pair {
   let (mut a, mut b) = bottom.pair(side);
   let (mut c, mut d) = (a, b);
@@ -150,6 +164,10 @@ fn deep() {
       let (time, nodes) = recalling(shape, LEVELS, bottom, small);
       line(&format!("{what}, {LEVELS} levels, {answer}, {SHEET} entries"), nodes, time, None);
     }
+  }
+  for (what, memory) in [("an entry for each pair", full as fn(usize) -> Vec<u32>), ("2047 entries", small)] {
+    let (time, nodes) = recalling(binding, LEVELS, Failure, memory);
+    line(&format!("a variable between, {LEVELS} levels, Failure, {what}"), nodes, time, None);
   }
   let (time, nodes) = recalling(twice, LEVELS, Failure, one);
   line(&format!("a pair twice, {LEVELS} levels, Failure, 1 entry"), nodes, time, None);
