@@ -33,7 +33,7 @@ use Rattle.sheet_calls.specs.Sheet.{SheetStore}
 use Rattle.sheet_calls.proofs.Laws.{sheet-clean, sheet-reads}
 use Rattle.sheet_say.specs.Front.{Front}
 use Rattle.sheet_say.specs.Texts.{typeText, unifyText, doneText}
-use Rattle.sheet_line.specs.Ran.{lineLeaves, Ran}
+use Rattle.sheet_line.specs.Ran.{lineLeaves, Ran, Made}
 use Rattle.sheet_line.proofs.SoundLines.{line-sound}
 
 -- slices that hold a sound store
@@ -94,3 +94,11 @@ module _ {h ws ks : List ℕ} (ok : SheetStore h ws ks) where
         → Ran s l h ws ks h′ ws′ ks′ out out′ n
     ran-done o end.Done e p f = by-said _ (e ∙ ap (sayDone s) (p .outcome)) f (p .again refl)
     ran-done o (end.Refused m) e p f = by-said _ (e ∙ ap (sayDone s) (p .outcome)) f (found-store (p .kept refl))
+
+  pub made : (l : Line) {h′ ws′ ks′ : List ℕ} (o : Outcome Ty) (a : TypeAnswer) → sheetLine s l ≡ sayType s o → ((out : List ℕ) → lineLeaves s l out ≡ out)
+      → Promised o (typeReply a) h ws ks h′ ws′ ks′ → Made s l h ws ks h′ ws′ ks′ a
+  made l o a says leaves p = record { outcome = o; says = says; leaves = leaves; promised = p }
+
+  pub ran-made : (l : Line) {h′ ws′ ks′ out out′ : List ℕ} {n : ℕ} {a : TypeAnswer} → Made s l h ws ks h′ ws′ ks′ a → Front out out′ n (typeText a)
+      → Ran s l h ws ks h′ ws′ ks′ out out′ n
+  ran-made l {out = out} {a = a} m f = ran-type l (m .leaves out) (m .outcome) a (m .says) (m .promised) f

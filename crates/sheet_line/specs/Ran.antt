@@ -1,5 +1,6 @@
 -- What a line of `sheet` prints and leaves: scope's `sheetLine` of the store that the slices hold, and every byte of the lent buffer.
 use mathlib.Core.Path.{_≡_}
+use mathlib.Core.Bool.{Bool, true, false}
 use mathlib.Core.List.{List, _++_}
 use Prim.Native.Nat.{ℕ}
 use lib.ListN.{take, drop}
@@ -7,9 +8,13 @@ use Rattle.scope.specs.Limits.{SHEET-TEXT}
 use Rattle.scope.specs.Types.{Ty}
 use Rattle.scope.specs.Nodes.{Store}
 use Rattle.scope.specs.Sound.{reads}
-use Rattle.scope.specs.Calls.{showCall}
-use Rattle.scope.specs.Sheet.{Line, sheetEnv, sheetLine}
+use Rattle.scope.specs.Calls.{Outcome, showCall}
+use Rattle.scope.specs.Sheet.{Line, sheetEnv, sheetLine, sayType}
 use Rattle.store.specs.Holds.{Became}
+use Rattle.promise.specs.Promise.{Promised, typeReply}
+use Rattle.promise.specs.declared.TypeAnswer.{TypeAnswer}
+use Rattle.sheet_lines.specs.declared.Line as read
+use Rattle.sheet_lines.specs.declared.Line.the-variants.{Var, Nil, Never, Default, Error, Finish, Tuple, Ref, Unify, Show, Bad}
 use Rattle.sheet_calls.specs.Sheet.{SheetStore}
 use Rattle.sheet_say.specs.Front.{Front}
 
@@ -41,3 +46,24 @@ pub record Ran (s : Store) (l : Line) (h ws ks h′ ws′ ks′ out out′ : Lis
   pub printed : Front (lineLeaves s l out) out′ n (sheetLine s l .bytes)
   pub store : Became h ws ks h′ ws′ ks′ (sheetLine s l .store)
   pub sound : SheetStore h′ ws′ ks′
+
+-- the lines that make a type
+abbrev pub isMaker : read.Line → Bool
+isMaker Var = true
+isMaker Nil = true
+isMaker Never = true
+isMaker Default = true
+isMaker Error = true
+isMaker Finish = false
+isMaker (Tuple n) = true
+isMaker (Ref t) = true
+isMaker (Unify t u) = false
+isMaker (Show t) = false
+isMaker Bad = false
+
+-- such a line's call on the slices h ws ks, and its answer: what the line says is what is said for the call's outcome, and the buffer is as found
+pub record Made (s : Store) (l : Line) (h ws ks h′ ws′ ks′ : List ℕ) (a : TypeAnswer) : Type 0 where
+  pub outcome : Outcome Ty
+  pub says : sheetLine s l ≡ sayType s outcome
+  pub leaves : (out : List ℕ) → lineLeaves s l out ≡ out
+  pub promised : Promised outcome (typeReply a) h ws ks h′ ws′ ks′
