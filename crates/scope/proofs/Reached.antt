@@ -1,4 +1,4 @@
--- The stores that lists of calls reach: sound, and no node deep under a small root. Kept by every call. Assumes nothing.
+-- The stores that lists of calls reach: sound, and no node deep under a small root. Every call keeps a sound store sound. Assumes nothing.
 use mathlib.Core.List.{List, [], _∷_}
 use Prim.Native.Nat.{ℕ, _≤_}
 use Rattle.scope.specs.Limits.{MAX-NODES, MAX-CHILDREN}
@@ -13,6 +13,29 @@ use Rattle.scope.proofs.SoundKept.{Kept, opened-facts, opened-shallow, 
 use Rattle.scope.proofs.Steps.{maker-cases, import-cases, force-cases, unify-cases, read-cases, step-cases}
 use Rattle.scope.proofs.LaterSteps.{later-cases}
 
+-- what a call leaves of a sound store, be it refused or made
+pub next-kept : (e : Env) (s : Store) (c : Call) → SoundFacts e s → Kept e s (next e s c)
+unfolding resetCall
+next-kept e s c ok = go c
+  where
+    as-found : Kept e s s
+    as-found = record { facts = ok; shallow = λ h. h }
+
+    go : (c : Call) → Kept e s (next e s c)
+    go (make m) = maker-cases e s ok (λ t. Kept e s (t .store)) m as-found (λ s′ k. k .kept)
+    go (import l ts ps h) = import-cases e s ok (λ t. Kept e s (t .store)) l ts ps h as-found (λ k. k .kept)
+    go (forceKind t) = force-cases e s ok (λ t. Kept e s (t .store)) t as-found (λ h. force-kept e s t ok h)
+    go (unify a b) = unify-cases e s ok (λ o. Kept e s (step s o .store)) a b (λ n. as-found) (λ ha hb. unify-kept e s a b ok ha hb)
+    go (read q) = read-cases e s ok (λ t. Kept e s (t .store)) q as-found as-found (λ t. find-mut-kept e s t ok)
+    go (later q) = later-cases e s ok (λ t. Kept e s (t .store)) q as-found as-found (λ l h. carry-kept e s l ok h) (λ ns x. restates-kept e s ns x ok)
+    go reset = step-cases e s ok (λ t. Kept e s (t .store)) [] (done tt (Force.reset s)) as-found (λ t. reset-kept e s ok)
+
+-- a list of calls leaves a sound store sound
+pub after-sound : (e : Env) (s : Store) (cs : List Call) → SoundFacts e s → SoundFacts e (after e s cs)
+unfolding after
+after-sound e s [] ok = ok
+after-sound e s (c ∷ cs) ok = after-sound e (next e s c) cs (next-kept e s c ok .facts)
+
 pub record Reached (e : Env) (s : Store) : Type 0 where
   pub facts : SoundFacts e s
   pub shallow : Shallow (s .nodes)
@@ -21,21 +44,9 @@ pub opened-reached : (e : Env) (n c : ℕ) → n ≤ MAX-NODES → c ≤ MAX-CHI
 opened-reached e n c hn hc = record { facts = opened-facts e n c hn hc; shallow = opened-shallow e n c }
 
 pub next-reached : (e : Env) (s : Store) (c : Call) → Reached e s → Reached e (next e s c)
-unfolding resetCall
-next-reached e s c r = go c
-  where
-    on : {s′ : Store} → Kept e s s′ → Reached e s′
-    on k = record { facts = k .facts; shallow = k .shallow (r .shallow) }
-
-    go : (c : Call) → Reached e (next e s c)
-    go (make m) = maker-cases e s (r .facts) (λ t. Reached e (t .store)) m r (λ s′ k. on (k .kept))
-    go (import l ts ps h) = import-cases e s (r .facts) (λ t. Reached e (t .store)) l ts ps h r (λ k. on (k .kept))
-    go (forceKind t) = force-cases e s (r .facts) (λ t. Reached e (t .store)) t r (λ h. on (force-kept e s t (r .facts) h))
-    go (unify a b) = unify-cases e s (r .facts) (λ o. Reached e (step s o .store)) a b (λ n. r) (λ ha hb. on (unify-kept e s a b (r .facts) ha hb))
-    go (read q) = read-cases e s (r .facts) (λ t. Reached e (t .store)) q r r (λ t. on (find-mut-kept e s t (r .facts)))
-    go (later q) = later-cases e s (r .facts) (λ t. Reached e (t .store)) q r r (λ l h. on (carry-kept e s l (r .facts) h))
-        (λ ns x. on (restates-kept e s ns x (r .facts)))
-    go reset = step-cases e s (r .facts) (λ t. Reached e (t .store)) [] (done tt (Force.reset s)) r (λ t. on (reset-kept e s (r .facts)))
+next-reached e s c r =
+    let k = next-kept e s c (r .facts) in
+    record { facts = k .facts; shallow = k .shallow (r .shallow) }
 
 pub after-reached : (e : Env) (s : Store) (cs : List Call) → Reached e s → Reached e (after e s cs)
 unfolding after

@@ -3,7 +3,6 @@ pub mod StepLaws
 pub mod PrintLaws
 pub mod Steps
 pub mod RunLaws
-pub mod Temp
 pub mod Tested
 pub mod Theorem
 pub mod Example

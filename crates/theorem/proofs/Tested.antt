@@ -22,7 +22,7 @@ use Rattle.scope.proofs.SoundLaws.{SoundFacts, facts-sound}
 use Rattle.scope.proofs.SoundKept.{opened-facts}
 use Rattle.scope.proofs.ExportKept.{export-kept}
 use Rattle.scope.proofs.Steps.{judged-cases, all-inside}
-use Rattle.theorem.proofs.Temp.{after-sound}
+use Rattle.scope.proofs.Reached.{after-sound}
 use Rattle.store.specs.Entries.{typesIn}
 use Rattle.promise.specs.Exports.{ExportPromised}
 use Rattle.promise.specs.declared.DoneAnswer.the-variants.{Done}
