@@ -48,33 +48,59 @@ abbrev pub OnTested : {R : Type 0} → Args R → Type 0
 OnTested a = TestedWords (fixedIn a) (wordsIn a)
 
 pub record TestedForms : Type 0 where
-  pub new : Form tested_new.new.Kinds.ps tested_new.new.Kinds.r (λ κs a. OnTested a) tested_new.new.Reads.Asked tested_new.new.Reads.Learnt call_new.new.Reads.Learnt
-  pub new-var : Form tested_make.new_var.Kinds.ps tested_make.new_var.Kinds.r (λ κs a. OnTested a) tested_make.new_var.Reads.Asked tested_make.new_var.Reads.Learnt call_make.new_var.Reads.Learnt
-  pub new-struct : Form tested_new.new_struct.Kinds.ps tested_new.new_struct.Kinds.r (λ κs a. OnTested a) tested_new.new_struct.Reads.Asked tested_new.new_struct.Reads.Learnt call_new.new_struct.Reads.Learnt
-  pub new-union : Form tested_new.new_union.Kinds.ps tested_new.new_union.Kinds.r (λ κs a. OnTested a) tested_new.new_union.Reads.Asked tested_new.new_union.Reads.Learnt call_new.new_union.Reads.Learnt
-  pub new-vars : Form tested_make.new_vars.Kinds.ps tested_make.new_vars.Kinds.r (λ κs a. OnTested a) tested_make.new_vars.Reads.Asked tested_make.new_vars.Reads.Learnt call_make.new_vars.Reads.Learnt
-  pub error : Form tested_make.error.Kinds.ps tested_make.error.Kinds.r (λ κs a. OnTested a) tested_make.error.Reads.Asked tested_make.error.Reads.Learnt call_make.error.Reads.Learnt
-  pub nil : Form tested_make.nil.Kinds.ps tested_make.nil.Kinds.r (λ κs a. OnTested a) tested_make.nil.Reads.Asked tested_make.nil.Reads.Learnt call_make.nil.Reads.Learnt
-  pub force-kind : Form tested_force.force_kind.Kinds.ps tested_force.force_kind.Kinds.r (λ κs a. OnTested a) tested_force.force_kind.Reads.Asked tested_force.force_kind.Reads.Learnt call_force.force_kind.Reads.Learnt
+  pub new : Form tested_new.new.Kinds.ps tested_new.new.Kinds.r (λ κs a. OnTested a)
+      tested_new.new.Reads.Asked tested_new.new.Reads.Learnt call_new.new.Reads.Learnt
+  pub new-var : Form tested_make.new_var.Kinds.ps tested_make.new_var.Kinds.r (λ κs a. OnTested a)
+      tested_make.new_var.Reads.Asked tested_make.new_var.Reads.Learnt call_make.new_var.Reads.Learnt
+  pub new-struct : Form tested_new.new_struct.Kinds.ps tested_new.new_struct.Kinds.r (λ κs a. OnTested a)
+      tested_new.new_struct.Reads.Asked tested_new.new_struct.Reads.Learnt call_new.new_struct.Reads.Learnt
+  pub new-union : Form tested_new.new_union.Kinds.ps tested_new.new_union.Kinds.r (λ κs a. OnTested a)
+      tested_new.new_union.Reads.Asked tested_new.new_union.Reads.Learnt call_new.new_union.Reads.Learnt
+  pub new-vars : Form tested_make.new_vars.Kinds.ps tested_make.new_vars.Kinds.r (λ κs a. OnTested a)
+      tested_make.new_vars.Reads.Asked tested_make.new_vars.Reads.Learnt call_make.new_vars.Reads.Learnt
+  pub error : Form tested_make.error.Kinds.ps tested_make.error.Kinds.r (λ κs a. OnTested a)
+      tested_make.error.Reads.Asked tested_make.error.Reads.Learnt call_make.error.Reads.Learnt
+  pub nil : Form tested_make.nil.Kinds.ps tested_make.nil.Kinds.r (λ κs a. OnTested a)
+      tested_make.nil.Reads.Asked tested_make.nil.Reads.Learnt call_make.nil.Reads.Learnt
+  pub force-kind : Form tested_force.force_kind.Kinds.ps tested_force.force_kind.Kinds.r (λ κs a. OnTested a)
+      tested_force.force_kind.Reads.Asked tested_force.force_kind.Reads.Learnt call_force.force_kind.Reads.Learnt
   -- both stores are tested
-  pub import : Form tested_import.import.Kinds.ps tested_import.import.Kinds.r (λ κs a. OnTested a × TestedWords (fixedIn a) (otherWords a)) tested_import.import.Reads.Asked tested_import.import.Reads.Learnt call_import.import.Reads.Learnt
-  pub find : Form tested_find.find.Kinds.ps tested_find.find.Kinds.r (λ κs a. OnTested a) tested_find.find.Reads.Asked tested_find.find.Reads.Learnt call_find.find.Reads.Learnt
-  pub find-mut : Form tested_find.find_mut.Kinds.ps tested_find.find_mut.Kinds.r (λ κs a. OnTested a) tested_find.find_mut.Reads.Asked tested_find.find_mut.Reads.Learnt call_find.find_mut.Reads.Learnt
-  pub node : Form tested_read.node.Kinds.ps tested_read.node.Kinds.r (λ κs a. OnTested a) tested_read.node.Reads.Asked tested_read.node.Reads.Learnt call_read.node.Reads.Learnt
-  pub child : Form tested_read.child.Kinds.ps tested_read.child.Kinds.r (λ κs a. OnTested a) tested_read.child.Reads.Asked tested_read.child.Reads.Learnt call_read.child.Reads.Learnt
-  pub child-name : Form tested_read.child_name.Kinds.ps tested_read.child_name.Kinds.r (λ κs a. OnTested a) tested_read.child_name.Reads.Asked tested_read.child_name.Reads.Learnt call_read.child_name.Reads.Learnt
-  pub figures : Form tested_read.figures.Kinds.ps tested_read.figures.Kinds.r (λ κs a. OnTested a) tested_read.figures.Reads.Asked tested_read.figures.Reads.Learnt call_read.figures.Reads.Learnt
-  pub export : Form tested_export.export.Kinds.ps tested_export.export.Kinds.r (λ κs a. OnTested a) tested_export.export.Reads.Asked tested_export.export.Reads.Learnt call_export.export.Reads.Learnt
-  pub finish-inference : Form tested_force.finish_inference.Kinds.ps tested_force.finish_inference.Kinds.r (λ κs a. OnTested a) tested_force.finish_inference.Reads.Asked tested_force.finish_inference.Reads.Learnt call_force.finish_inference.Reads.Learnt
-  pub finish-inference-where : Form tested_force.finish_inference_where.Kinds.ps tested_force.finish_inference_where.Kinds.r (λ κs a. OnTested a) tested_force.finish_inference_where.Reads.Asked tested_force.finish_inference_where.Reads.Learnt call_force.finish_inference_where.Reads.Learnt
-  pub find-related : Form tested_ask.find_related.Kinds.ps tested_ask.find_related.Kinds.r (λ κs a. OnTested a) tested_ask.find_related.Reads.Asked tested_ask.find_related.Reads.Learnt call_ask.find_related.Reads.Learnt
-  pub self-inverse-param : Form tested_ask.self_inverse_param.Kinds.ps tested_ask.self_inverse_param.Kinds.r (λ κs a. OnTested a) tested_ask.self_inverse_param.Reads.Asked tested_ask.self_inverse_param.Reads.Learnt call_ask.self_inverse_param.Reads.Learnt
-  pub self-inverse : Form tested_ask.self_inverse.Kinds.ps tested_ask.self_inverse.Kinds.r (λ κs a. OnTested a) tested_ask.self_inverse.Reads.Asked tested_ask.self_inverse.Reads.Learnt call_ask.self_inverse.Reads.Learnt
-  pub is-nil : Form tested_ask.is_nil.Kinds.ps tested_ask.is_nil.Kinds.r (λ κs a. OnTested a) tested_ask.is_nil.Reads.Asked tested_ask.is_nil.Reads.Learnt call_ask.is_nil.Reads.Learnt
-  pub get-mod : Form tested_ask.get_mod.Kinds.ps tested_ask.get_mod.Kinds.r (λ κs a. OnTested a) tested_ask.get_mod.Reads.Asked tested_ask.get_mod.Reads.Learnt call_ask.get_mod.Reads.Learnt
-  pub show : Form tested_show.show.Kinds.ps tested_show.show.Kinds.r (λ κs a. OnTested a) tested_show.show.Reads.Asked tested_show.show.Reads.Learnt call_show.show.Reads.Learnt
-  pub show-impl-type : Form tested_show.show_impl_type.Kinds.ps tested_show.show_impl_type.Kinds.r (λ κs a. OnTested a) tested_show.show_impl_type.Reads.Asked tested_show.show_impl_type.Reads.Learnt call_show.show_impl_type.Reads.Learnt
-  pub reset : Form tested_reset.reset.Kinds.ps tested_reset.reset.Kinds.r (λ κs a. OnTested a) tested_reset.reset.Reads.Asked tested_reset.reset.Reads.Learnt opening.reset.Reads.Learnt
+  pub import : Form tested_import.import.Kinds.ps tested_import.import.Kinds.r (λ κs a. OnTested a × TestedWords (fixedIn a) (otherWords a))
+      tested_import.import.Reads.Asked tested_import.import.Reads.Learnt call_import.import.Reads.Learnt
+  pub find : Form tested_find.find.Kinds.ps tested_find.find.Kinds.r (λ κs a. OnTested a)
+      tested_find.find.Reads.Asked tested_find.find.Reads.Learnt call_find.find.Reads.Learnt
+  pub find-mut : Form tested_find.find_mut.Kinds.ps tested_find.find_mut.Kinds.r (λ κs a. OnTested a)
+      tested_find.find_mut.Reads.Asked tested_find.find_mut.Reads.Learnt call_find.find_mut.Reads.Learnt
+  pub node : Form tested_read.node.Kinds.ps tested_read.node.Kinds.r (λ κs a. OnTested a)
+      tested_read.node.Reads.Asked tested_read.node.Reads.Learnt call_read.node.Reads.Learnt
+  pub child : Form tested_read.child.Kinds.ps tested_read.child.Kinds.r (λ κs a. OnTested a)
+      tested_read.child.Reads.Asked tested_read.child.Reads.Learnt call_read.child.Reads.Learnt
+  pub child-name : Form tested_read.child_name.Kinds.ps tested_read.child_name.Kinds.r (λ κs a. OnTested a)
+      tested_read.child_name.Reads.Asked tested_read.child_name.Reads.Learnt call_read.child_name.Reads.Learnt
+  pub figures : Form tested_read.figures.Kinds.ps tested_read.figures.Kinds.r (λ κs a. OnTested a)
+      tested_read.figures.Reads.Asked tested_read.figures.Reads.Learnt call_read.figures.Reads.Learnt
+  pub export : Form tested_export.export.Kinds.ps tested_export.export.Kinds.r (λ κs a. OnTested a)
+      tested_export.export.Reads.Asked tested_export.export.Reads.Learnt call_export.export.Reads.Learnt
+  pub finish-inference : Form tested_force.finish_inference.Kinds.ps tested_force.finish_inference.Kinds.r (λ κs a. OnTested a)
+      tested_force.finish_inference.Reads.Asked tested_force.finish_inference.Reads.Learnt call_force.finish_inference.Reads.Learnt
+  pub finish-inference-where : Form tested_force.finish_inference_where.Kinds.ps tested_force.finish_inference_where.Kinds.r (λ κs a. OnTested a)
+      tested_force.finish_inference_where.Reads.Asked tested_force.finish_inference_where.Reads.Learnt call_force.finish_inference_where.Reads.Learnt
+  pub find-related : Form tested_ask.find_related.Kinds.ps tested_ask.find_related.Kinds.r (λ κs a. OnTested a)
+      tested_ask.find_related.Reads.Asked tested_ask.find_related.Reads.Learnt call_ask.find_related.Reads.Learnt
+  pub self-inverse-param : Form tested_ask.self_inverse_param.Kinds.ps tested_ask.self_inverse_param.Kinds.r (λ κs a. OnTested a)
+      tested_ask.self_inverse_param.Reads.Asked tested_ask.self_inverse_param.Reads.Learnt call_ask.self_inverse_param.Reads.Learnt
+  pub self-inverse : Form tested_ask.self_inverse.Kinds.ps tested_ask.self_inverse.Kinds.r (λ κs a. OnTested a)
+      tested_ask.self_inverse.Reads.Asked tested_ask.self_inverse.Reads.Learnt call_ask.self_inverse.Reads.Learnt
+  pub is-nil : Form tested_ask.is_nil.Kinds.ps tested_ask.is_nil.Kinds.r (λ κs a. OnTested a)
+      tested_ask.is_nil.Reads.Asked tested_ask.is_nil.Reads.Learnt call_ask.is_nil.Reads.Learnt
+  pub get-mod : Form tested_ask.get_mod.Kinds.ps tested_ask.get_mod.Kinds.r (λ κs a. OnTested a)
+      tested_ask.get_mod.Reads.Asked tested_ask.get_mod.Reads.Learnt call_ask.get_mod.Reads.Learnt
+  pub show : Form tested_show.show.Kinds.ps tested_show.show.Kinds.r (λ κs a. OnTested a)
+      tested_show.show.Reads.Asked tested_show.show.Reads.Learnt call_show.show.Reads.Learnt
+  pub show-impl-type : Form tested_show.show_impl_type.Kinds.ps tested_show.show_impl_type.Kinds.r (λ κs a. OnTested a)
+      tested_show.show_impl_type.Reads.Asked tested_show.show_impl_type.Reads.Learnt call_show.show_impl_type.Reads.Learnt
+  pub reset : Form tested_reset.reset.Kinds.ps tested_reset.reset.Kinds.r (λ κs a. OnTested a)
+      tested_reset.reset.Reads.Asked tested_reset.reset.Reads.Learnt opening.reset.Reads.Learnt
 
 pub record StaysTested : Type 0 where
   -- opening, with a chart and texts that 2 does not turn back
