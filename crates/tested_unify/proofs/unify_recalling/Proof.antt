@@ -11,9 +11,6 @@ read-header-requires c κs = search needs
 pair-requires : tie.Need-pair-requires
 pair-requires c κs = search needs
 
-same-length : tie.Need-same-length
-same-length c = search needs
-
 returns : tie.Need-returns
 returns c =
     let p = passed (c .before .before .before .before .before .before .before .before .before .before .pre) (c .before .before .read-header .ensures) in
@@ -33,11 +30,11 @@ unify-all-requires c κs =
     pair-asks (lent-words p) (at-begin .begin .ensures) _ _ (at-pair .pair .ensures)
     (at-if1 .if1 .left)
 
+same-length : tie.Need-same-length
+same-length c = search needs
+
 same-length-2 : tie.Need-same-length-2
 same-length-2 c = search needs
-
-same-length-3 : tie.Need-same-length-3
-same-length-3 c = search needs
 
 returns-2 : tie.Need-returns-2
 returns-2 c =
@@ -57,10 +54,9 @@ unify-recalling-spec =
     (tie.spec
     read-header-requires
     pair-requires
-    same-length
     returns
     begin-requires
     unify-all-requires
+    same-length
     same-length-2
-    same-length-3
     returns-2)

@@ -14,9 +14,6 @@ read-header-requires c κs = search needs
 objects-requires : tie.Need-objects-requires
 objects-requires c κs = search needs
 
-same-length : tie.Need-same-length
-same-length c = search needs
-
 returns : tie.Need-returns
 returns c =
     let p = passed (c .before .before .before .before .before .before .before .before .before .before .before .before .pre) (c .before .before .read-header .ensures) in
@@ -40,11 +37,11 @@ unify-entries-requires c κs =
     (at-objects .objects .ensures) (at-if1 .if1 .left)
     (at-args .args .inv)
 
+same-length : tie.Need-same-length
+same-length c = search needs
+
 same-length-2 : tie.Need-same-length-2
 same-length-2 c = search needs
-
-same-length-3 : tie.Need-same-length-3
-same-length-3 c = search needs
 
 returns-2 : tie.Need-returns-2
 returns-2 c =
@@ -66,10 +63,9 @@ unify-objects-recalling-spec =
     (tie.spec
     read-header-requires
     objects-requires
-    same-length
     returns
     begin-requires
     unify-entries-requires
+    same-length
     same-length-2
-    same-length-3
     returns-2)
