@@ -32,6 +32,12 @@ use Rattle.call_ask.proofs as call_ask
 use Rattle.tested_ask.proofs as tested_ask
 use Rattle.call_show.proofs as call_show
 use Rattle.tested_show.proofs as tested_show
+use Rattle.call_unify.proofs as call_unify
+use Rattle.tested_unify.proofs as tested_unify
+use Rattle.call_unify_lists.proofs as call_unify_lists
+use Rattle.tested_unify_lists.proofs as tested_unify_lists
+use Rattle.call_impl.proofs as call_impl
+use Rattle.tested_impl.proofs as tested_impl
 use Rattle.call_import.proofs as call_import
 use Rattle.tested_import.proofs as tested_import
 use Rattle.theorem.specs.Memory.{Memory, Fixed, env, lent, held, roomy, Opened, TestedWords}
@@ -64,6 +70,10 @@ pub record TestedForms : Type 0 where
       tested_make.nil.Reads.Asked tested_make.nil.Reads.Learnt call_make.nil.Reads.Learnt
   pub force-kind : Form tested_force.force_kind.Kinds.ps tested_force.force_kind.Kinds.r (λ κs a. OnTested a)
       tested_force.force_kind.Reads.Asked tested_force.force_kind.Reads.Learnt call_force.force_kind.Reads.Learnt
+  pub unify : Form tested_unify.unify.Kinds.ps tested_unify.unify.Kinds.r (λ κs a. OnTested a)
+      tested_unify.unify.Reads.Asked tested_unify.unify.Reads.Learnt call_unify.unify.Reads.Learnt
+  pub unify-recalling : Form tested_unify.unify_recalling.Kinds.ps tested_unify.unify_recalling.Kinds.r (λ κs a. OnTested a)
+      tested_unify.unify_recalling.Reads.Asked tested_unify.unify_recalling.Reads.Learnt call_unify.unify_recalling.Reads.Learnt
   -- both stores are tested
   pub import : Form tested_import.import.Kinds.ps tested_import.import.Kinds.r (λ κs a. OnTested a × TestedWords (fixedIn a) (otherWords a))
       tested_import.import.Reads.Asked tested_import.import.Reads.Learnt call_import.import.Reads.Learnt
@@ -81,6 +91,22 @@ pub record TestedForms : Type 0 where
       tested_read.figures.Reads.Asked tested_read.figures.Reads.Learnt call_read.figures.Reads.Learnt
   pub export : Form tested_export.export.Kinds.ps tested_export.export.Kinds.r (λ κs a. OnTested a)
       tested_export.export.Reads.Asked tested_export.export.Reads.Learnt call_export.export.Reads.Learnt
+  pub unify-types : Form tested_unify_lists.unify_types.Kinds.ps tested_unify_lists.unify_types.Kinds.r (λ κs a. OnTested a)
+      tested_unify_lists.unify_types.Reads.Asked tested_unify_lists.unify_types.Reads.Learnt call_unify_lists.unify_types.Reads.Learnt
+  pub unify-types-recalling : Form tested_unify_lists.unify_types_recalling.Kinds.ps tested_unify_lists.unify_types_recalling.Kinds.r (λ κs a. OnTested a)
+      tested_unify_lists.unify_types_recalling.Reads.Asked tested_unify_lists.unify_types_recalling.Reads.Learnt call_unify_lists.unify_types_recalling.Reads.Learnt
+  pub unify-objects : Form tested_unify_lists.unify_objects.Kinds.ps tested_unify_lists.unify_objects.Kinds.r (λ κs a. OnTested a)
+      tested_unify_lists.unify_objects.Reads.Asked tested_unify_lists.unify_objects.Reads.Learnt call_unify_lists.unify_objects.Reads.Learnt
+  pub unify-objects-recalling : Form tested_unify_lists.unify_objects_recalling.Kinds.ps tested_unify_lists.unify_objects_recalling.Kinds.r (λ κs a. OnTested a)
+      tested_unify_lists.unify_objects_recalling.Reads.Asked tested_unify_lists.unify_objects_recalling.Reads.Learnt call_unify_lists.unify_objects_recalling.Reads.Learnt
+  pub unify-impl-type : Form tested_impl.unify_impl_type.Kinds.ps tested_impl.unify_impl_type.Kinds.r (λ κs a. OnTested a)
+      tested_impl.unify_impl_type.Reads.Asked tested_impl.unify_impl_type.Reads.Learnt call_impl.unify_impl_type.Reads.Learnt
+  pub unify-impl-type-recalling : Form tested_impl.unify_impl_type_recalling.Kinds.ps tested_impl.unify_impl_type_recalling.Kinds.r (λ κs a. OnTested a)
+      tested_impl.unify_impl_type_recalling.Reads.Asked tested_impl.unify_impl_type_recalling.Reads.Learnt call_impl.unify_impl_type_recalling.Reads.Learnt
+  pub unify-fn-sig : Form tested_unify_lists.unify_fn_sig.Kinds.ps tested_unify_lists.unify_fn_sig.Kinds.r (λ κs a. OnTested a)
+      tested_unify_lists.unify_fn_sig.Reads.Asked tested_unify_lists.unify_fn_sig.Reads.Learnt call_unify_lists.unify_fn_sig.Reads.Learnt
+  pub unify-fn-sig-recalling : Form tested_unify_lists.unify_fn_sig_recalling.Kinds.ps tested_unify_lists.unify_fn_sig_recalling.Kinds.r (λ κs a. OnTested a)
+      tested_unify_lists.unify_fn_sig_recalling.Reads.Asked tested_unify_lists.unify_fn_sig_recalling.Reads.Learnt call_unify_lists.unify_fn_sig_recalling.Reads.Learnt
   pub finish-inference : Form tested_force.finish_inference.Kinds.ps tested_force.finish_inference.Kinds.r (λ κs a. OnTested a)
       tested_force.finish_inference.Reads.Asked tested_force.finish_inference.Reads.Learnt call_force.finish_inference.Reads.Learnt
   pub finish-inference-where : Form tested_force.finish_inference_where.Kinds.ps tested_force.finish_inference_where.Kinds.r (λ κs a. OnTested a)
@@ -95,6 +121,8 @@ pub record TestedForms : Type 0 where
       tested_ask.is_nil.Reads.Asked tested_ask.is_nil.Reads.Learnt call_ask.is_nil.Reads.Learnt
   pub get-mod : Form tested_ask.get_mod.Kinds.ps tested_ask.get_mod.Kinds.r (λ κs a. OnTested a)
       tested_ask.get_mod.Reads.Asked tested_ask.get_mod.Reads.Learnt call_ask.get_mod.Reads.Learnt
+  pub approx-eq : Form tested_impl.approx_eq.Kinds.ps tested_impl.approx_eq.Kinds.r (λ κs a. OnTested a)
+      tested_impl.approx_eq.Reads.Asked tested_impl.approx_eq.Reads.Learnt call_impl.approx_eq.Reads.Learnt
   pub show : Form tested_show.show.Kinds.ps tested_show.show.Kinds.r (λ κs a. OnTested a)
       tested_show.show.Reads.Asked tested_show.show.Reads.Learnt call_show.show.Reads.Learnt
   pub show-impl-type : Form tested_show.show_impl_type.Kinds.ps tested_show.show_impl_type.Kinds.r (λ κs a. OnTested a)
