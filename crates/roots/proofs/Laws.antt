@@ -22,6 +22,7 @@ use Rattle.layout.specs.declared.TypeNode.the-variants as code
 use Rattle.layout.specs.declared.TypeState.{TypeState}
 use Rattle.layout.proofs.Laws.{length-decode, length-put, tail-put, decode-put, clean-put}
 use Rattle.layout.proofs.LinkLaws.{parent-same, read-child, read-root, child-below, child-field, link-put, linked-put}
+use Rattle.roots.specs.declared.Nearby.the-variants as near
 use Rattle.roots.specs.Found.{Found, Relinked, FoundMut, Near}
 
 -- find
@@ -177,35 +178,66 @@ module _ {ws : List ℕ} {n r : ℕ} {b₀ : Bool} {i₀ : ℕ} {ws′ : List �
   pub points-out : f ≤ 0 → FoundMut ws n ws′ t r
   points-out h = points-end (λ ks. compress-out f (decode ws′ ks n) (tyOf r) (ty b i) h)
 
--- is_near
+-- near
 
 near-root : (ns : List Node) (t : Ty) → isRoot (at ns (t .idx)) ≡ true → findMut ns t ≡ ns
 unfolding findMut
 near-root ns t e = compress-root (length ns) ns (find ns t) t e
 
 -- a root's child is pointed at its parent again
+find-up : (ns : List Node) (t u : Ty) → at ns (t .idx) ≡ Child u → isRoot (at ns (u .idx)) ≡ true → find ns t ≡ flip (t .inv) u
+unfolding find
+find-up ns t u e r =
+    let h : 0 < length ns = omega (arith, child-inside ns (t .idx) e) in
+    climb-up (length ns) ns t u h e ∙ climb-root (length ns - 1) ns (flip (t .inv) u) r
+
+find-here : (ns : List Node) (t : Ty) → isRoot (at ns (t .idx)) ≡ true → find ns t ≡ t
+unfolding find
+find-here ns t r = climb-root (length ns) ns t r
+
 near-child : (ns : List Node) (t u : Ty) → at ns (t .idx) ≡ Child u → isRoot (at ns (u .idx)) ≡ true → findMut ns t ≡ ns
-unfolding findMut find
+unfolding findMut
 near-child ns t u e r =
     let h : 0 < length ns = omega (arith, child-inside ns (t .idx) e) in
-    let f : find ns t ≡ flip (t .inv) u = climb-up (length ns) ns t u h e ∙ climb-root (length ns - 1) ns (flip (t .inv) u) r in
+    let f : find ns t ≡ flip (t .inv) u = find-up ns t u e r in
     let s : set ns (t .idx) (Child (flip (t .inv) (find ns t))) ≡ ns =
     ap (λ (v : Node). set ns (t .idx) v) (ap (λ (v : Ty). Child (flip (t .inv) v)) f ∙ (ap Child (flip-twice (t .inv) u) ∙ sym e)) ∙ set-getD ns (t .idx) _ in
     compress-up (length ns) ns (find ns t) t u h e
     ∙ (ap (λ (ms : List Node). compress (length ns - 1) ms (find ns t) (flip (t .inv) u)) s ∙ compress-root (length ns - 1) ns (find ns t) (flip (t .inv) u) r)
 
-pub is-root : {ws : List ℕ} {n t i : ℕ} {v : TypeNode} {st : TypeState} {z : ℕ} → i ≡ tyOf t .idx → v ≡ readAt ws n i → v ≡ code.Root st z → Near ws n t true
-is-root {ws} {n} {t} {st = st} {z = z} ei ev e = record {
-  stays = λ _ ks. near-root (decode ws ks n) (tyOf t) (read-root ws n (tyOf t .idx) st z (sym (ev ∙ ap (readAt ws n) ei) ∙ e) ks);
-}
+module _ {ws : List ℕ} {n : ℕ} {t : «Type»} {i : ℕ} (ei : i ≡ tyOf (t .0) .idx) {v : TypeNode} (ev : v ≡ readAt ws n i) where
+  at-node : {w : TypeNode} → v ≡ w → readAt ws n (tyOf (t .0) .idx) ≡ w
+  at-node e = sym (ev ∙ ap (readAt ws n) ei) ∙ e
 
-pub under-root : {ws : List ℕ} {n t i j : ℕ} {v w : TypeNode} {u : «Type»} {st : TypeState} {z : ℕ} → Linked ws n → i ≡ tyOf t .idx → v ≡ readAt ws n i → v ≡ code.Child u
-    → j ≡ tyOf (u .0) .idx → w ≡ readAt ws n j → w ≡ code.Root st z → Near ws n t true
-under-root {ws} {n} {t} {u = u} {st = st} {z = z} l ei ev e ej ew er = record {
-  stays = λ _ ks.
-      near-child (decode ws ks n) (tyOf t) (tyOf (u .0)) (read-child ws n (tyOf t .idx) l u (sym (ev ∙ ap (readAt ws n) ei) ∙ e) ks)
-      (read-root ws n (tyOf (u .0) .idx) st z (sym (ew ∙ ap (readAt ws n) ej) ∙ er) ks);
-}
+  pub is-root : {st : TypeState} {z : ℕ} → v ≡ code.Root st z → Near ws n (t .0) (near.Is t)
+  is-root {st} {z} e = record {
+    found = λ r q. let s : t ≡ r = cc in record { root = λ ks. ap (λ (x : «Type»). tyOf (x .0)) (sym s) ∙ sym (find-here (decode ws ks n) (tyOf (t .0)) (top ks)) };
+    stays = λ r q ks. near-root (decode ws ks n) (tyOf (t .0)) (top ks);
+  }
+    where
+      top : (ks : List ℕ) → isRoot (at (decode ws ks n) (tyOf (t .0) .idx)) ≡ true
+      top ks = read-root ws n (tyOf (t .0) .idx) st z (at-node e) ks
 
-pub is-far : {ws : List ℕ} {n t : ℕ} → Near ws n t false
-is-far = record { stays = λ e. let z : _≡_ {A = ℕ} 0 1 = cc in absurd (omega arith) }
+  pub under-root : {u p : «Type»} {j : ℕ} {b : Bool} {w : TypeNode} {st : TypeState} {z : ℕ} → Linked ws n → v ≡ code.Child u → j ≡ tyOf (u .0) .idx → w ≡ readAt ws n j
+      → w ≡ code.Root st z → b ≡ tyOf (t .0) .inv → tyOf (p .0) ≡ flip b (tyOf (u .0)) → Near ws n (t .0) (near.Is p)
+  under-root {u} {p} {b = b} {st = st} {z = z} l e ej ew er eb ep = record {
+    found = λ r q.
+        let s : p ≡ r = cc in
+        record {
+          root = λ ks.
+              ap (λ (x : «Type»). tyOf (x .0)) (sym s) ∙ (ep ∙ (ap (λ (d : Bool). flip d (tyOf (u .0))) eb ∙ sym (find-up (decode ws ks n) (tyOf (t .0)) (tyOf (u .0)) (up ks) (top ks))));
+        };
+    stays = λ r q ks. near-child (decode ws ks n) (tyOf (t .0)) (tyOf (u .0)) (up ks) (top ks);
+  }
+    where
+      up : (ks : List ℕ) → at (decode ws ks n) (tyOf (t .0) .idx) ≡ Child (tyOf (u .0))
+      up ks = read-child ws n (tyOf (t .0) .idx) l u (at-node e) ks
+
+      top : (ks : List ℕ) → isRoot (at (decode ws ks n) (tyOf (u .0) .idx)) ≡ true
+      top ks = read-root ws n (tyOf (u .0) .idx) st z (sym (ew ∙ ap (readAt ws n) ej) ∙ er) ks
+
+pub is-far : {ws : List ℕ} {n t : ℕ} → Near ws n t near.Far
+is-far = record {
+  found = λ r e. let z : _≡_ {A = ℕ} 0 1 = cc in absurd (omega arith);
+  stays = λ r e. let z : _≡_ {A = ℕ} 0 1 = cc in absurd (omega arith);
+}
