@@ -79,10 +79,22 @@ found-far d f = record { found = f; told = λ ks. moved-forgot d }
 -- `quick`
 
 pub quick-not : {ws : List ℕ} {n : ℕ} {m : List ℕ} {a b : Ty} {d : ℕ} → QuickTold ws ws n m m a b d false
-quick-not = record { deep = λ e. cc; merged = λ e. cc; forgot = λ e. cc; words = λ e. refl; memory = λ e. refl }
+quick-not = record {
+  deep = λ e. let z : _≡_ {A = ℕ} 0 1 = cc in absurd (omega arith);
+  merged = λ e. let z : _≡_ {A = ℕ} 0 1 = cc in absurd (omega arith);
+  forgot = λ e. let z : _≡_ {A = ℕ} 0 1 = cc in absurd (omega arith);
+  words = λ e. refl;
+  memory = λ e. refl;
+}
 
 pub quick-stays : {ws ws′ : List ℕ} {n : ℕ} {m : List ℕ} {a b : Ty} {d : ℕ} {r : Bool} → Tried ws ws′ n a b r → r ≡ false → QuickTold ws ws′ n m m a b d false
-quick-stays t f = record { deep = λ e. cc; merged = λ e. cc; forgot = λ e. cc; words = λ e. t .stays f; memory = λ e. refl }
+quick-stays t f = record {
+  deep = λ e. let z : _≡_ {A = ℕ} 0 1 = cc in absurd (omega arith);
+  merged = λ e. let z : _≡_ {A = ℕ} 0 1 = cc in absurd (omega arith);
+  forgot = λ e. let z : _≡_ {A = ℕ} 0 1 = cc in absurd (omega arith);
+  words = λ e. t .stays f;
+  memory = λ e. refl;
+}
 
 pub quick-merges : {ws ws′ : List ℕ} {n : ℕ} {m m′ : List ℕ} {a b : Ty} {d : ℕ} {r : Bool} → (d ≡ 0 → ⊥) → Tried ws ws′ n a b r → r ≡ true → Forgot m m′
     → QuickTold ws ws′ n m m′ a b d true

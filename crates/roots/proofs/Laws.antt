@@ -205,10 +205,10 @@ near-child ns t u e r =
     compress-up (length ns) ns (find ns t) t u h e
     ∙ (ap (λ (ms : List Node). compress (length ns - 1) ms (find ns t) (flip (t .inv) u)) s ∙ compress-root (length ns - 1) ns (find ns t) (flip (t .inv) u) r)
 
-module _ {ws : List ℕ} {n : ℕ} {t : «Type»} {i : ℕ} (ei : i ≡ tyOf (t .0) .idx) {v : TypeNode} (ev : v ≡ readAt ws n i) where
-  at-node : {w : TypeNode} → v ≡ w → readAt ws n (tyOf (t .0) .idx) ≡ w
-  at-node e = sym (ev ∙ ap (readAt ws n) ei) ∙ e
+at-node : (ws : List ℕ) (n : ℕ) {i j : ℕ} {v w : TypeNode} → i ≡ j → v ≡ readAt ws n i → v ≡ w → readAt ws n j ≡ w
+at-node ws n ei ev e = sym (ev ∙ ap (readAt ws n) ei) ∙ e
 
+module _ {ws : List ℕ} {n : ℕ} {t : «Type»} {i : ℕ} (ei : i ≡ tyOf (t .0) .idx) {v : TypeNode} (ev : v ≡ readAt ws n i) where
   pub is-root : {st : TypeState} {z : ℕ} → v ≡ code.Root st z → Near ws n (t .0) (near.Is t)
   is-root {st} {z} e = record {
     found = λ r q. let s : t ≡ r = cc in record { root = λ ks. ap (λ (x : «Type»). tyOf (x .0)) (sym s) ∙ sym (find-here (decode ws ks n) (tyOf (t .0)) (top ks)) };
@@ -216,7 +216,7 @@ module _ {ws : List ℕ} {n : ℕ} {t : «Type»} {i : ℕ} (ei : i ≡ tyOf (t 
   }
     where
       top : (ks : List ℕ) → isRoot (at (decode ws ks n) (tyOf (t .0) .idx)) ≡ true
-      top ks = read-root ws n (tyOf (t .0) .idx) st z (at-node e) ks
+      top ks = read-root ws n (tyOf (t .0) .idx) st z (at-node ws n ei ev e) ks
 
   pub under-root : {u p : «Type»} {j : ℕ} {b : Bool} {w : TypeNode} {st : TypeState} {z : ℕ} → Linked ws n → v ≡ code.Child u → j ≡ tyOf (u .0) .idx → w ≡ readAt ws n j
       → w ≡ code.Root st z → b ≡ tyOf (t .0) .inv → tyOf (p .0) ≡ flip b (tyOf (u .0)) → Near ws n (t .0) (near.Is p)
@@ -231,10 +231,10 @@ module _ {ws : List ℕ} {n : ℕ} {t : «Type»} {i : ℕ} (ei : i ≡ tyOf (t 
   }
     where
       up : (ks : List ℕ) → at (decode ws ks n) (tyOf (t .0) .idx) ≡ Child (tyOf (u .0))
-      up ks = read-child ws n (tyOf (t .0) .idx) l u (at-node e) ks
+      up ks = read-child ws n (tyOf (t .0) .idx) l u (at-node ws n ei ev e) ks
 
       top : (ks : List ℕ) → isRoot (at (decode ws ks n) (tyOf (u .0) .idx)) ≡ true
-      top ks = read-root ws n (tyOf (u .0) .idx) st z (sym (ew ∙ ap (readAt ws n) ej) ∙ er) ks
+      top ks = read-root ws n (tyOf (u .0) .idx) st z (at-node ws n ej ew er) ks
 
 pub is-far : {ws : List ℕ} {n t : ℕ} → Near ws n t near.Far
 is-far = record {

@@ -18,7 +18,7 @@ enum-told : tie.Need-enum-told
 enum-told c = search needs
 
 returns : tie.Need-returns
-returns c = is-root (@idx .ensures) (@node-at .ensures) (@enum-told .given .1)
+returns c = is-root (c .before .before .before .idx .ensures) (c .before .before .node-at .ensures) (c .enum-told .given .1)
 
 idx-requires-2 : tie.Need-idx-requires-2
 idx-requires-2 c κs = search needs
@@ -40,7 +40,7 @@ invert-if-requires c κs = search needs
 
 returns-2 : tie.Need-returns-2
 returns-2 c =
-    under-root (@idx .ensures) (@node-at .ensures) (@pre) (@parent .given .1) (@idx2 .ensures) (@node-at2 .ensures) (@enum-told3 .given .1) (@inv .ensures) (@invert-if .ensures)
+    under-root (c .before .before .before .before .before .before .before .before .before .before .idx .ensures) (c .before .before .before .before .before .before .before .before .before .node-at .ensures) (c .before .before .before .before .before .before .before .before .before .before .before .before .pre) (c .before .before .before .before .before .before .before .parent .given .1) (c .before .before .before .before .before .idx2 .ensures) (c .before .before .before .before .node-at2 .ensures) (c .before .before .enum-told3 .given .1) (c .before .inv .ensures) (c .invert-if .ensures)
 
 returns-3 : tie.Need-returns-3
 returns-3 c = is-far
