@@ -1,6 +1,7 @@
-// "The functions that unify a pair, a run and an object call each other in turn", depth falling from the node count. What is to be done with two roots is
-// read first, then their children are unified, then the answer is settled; two roots without kinds merge at once. The words of the nodes change as scope's `unify` says of the nodes. Beside them goes a
-// memory: a pair that did not succeed is looked up there before its children are unified. Whatever is believed there is what unifying would give.
+// "The functions that unify a pair, a run and an object call each other in turn", depth falling from the node count. Two roots without kinds merge at once. Otherwise
+// what is to be done with two roots is read first, then their children are unified, then the answer is settled. The words of the nodes change as scope's `unify` says
+// of the nodes. Beside them goes a memory: a pair that did not succeed is looked up there before its children are unified. Whatever is believed there is what
+// unifying would give.
 ghost use Rattle.scope.specs.Types.{tyOf};
 ghost use Rattle.scope.specs.Unify.{unifyF};
 ghost use Rattle.names.specs.Place.{texts};

@@ -33,7 +33,11 @@ same-length-3 : tie.Need-same-length-3
 same-length-3 c = search needs
 
 returns-2 : tie.Need-returns-2
-returns-2 c = found-near (c .before .before .before .before .before .before .before .pre .0) (c .before .before .before .before .before .before .before .pre .1) (c .before .before .before .near .ensures) (c .before .r .given .1)
+returns-2 c =
+    let b1 = c .before in
+    let b3 = b1 .before .before in
+    let b7 = b3 .before .before .before .before in
+    found-near (b7 .pre .0) (b7 .pre .1) (b3 .near .ensures) (b1 .r .given .1)
 
 pub find-spec : {M : Type 1} → statement M
 find-spec =

@@ -28,7 +28,12 @@ same-length-3 : tie.Need-same-length-3
 same-length-3 c = search needs
 
 returns-3 : tie.Need-returns-3
-returns-3 c = quick-merges (c .before .before .before .before .before .before .before .before .before .if1 .left) (c .before .before .before .before .before .before .before .quick .ensures) (not-false _ (c .before .before .before .before .if2 .left)) (c .before .before .changed .ensures)
+returns-3 c =
+    let b2 = c .before .before in
+    let b4 = b2 .before .before in
+    let b7 = b4 .before .before .before in
+    let b9 = b7 .before .before in
+    quick-merges (b9 .if1 .left) (b7 .quick .ensures) (not-false _ (b4 .if2 .left)) (b2 .changed .ensures)
 
 pub quick-spec : {M : Type 1} → statement M
 quick-spec =

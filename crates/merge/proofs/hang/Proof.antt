@@ -27,7 +27,16 @@ same-length : tie.Need-same-length
 same-length c = search needs
 
 returns : tie.Need-returns
-returns c = hang-law _ _ _ _ _ _ _ _ _ _ _ (c .before .before .before .before .before .before .before .before .before .before .before .before .before .pre) (c .before .before .before .before .before .before .before .resize .kept .0) (c .before .before .before .before .before .before .before .before .before .before .before .inv .ensures) (c .before .before .before .before .before .before .before .before .before .before .invert-if .ensures) (c .before .before .before .before .before .before .before .before .idx .ensures) (c .before .before .before .idx2 .ensures) (c .before .before .before .before .before .before .before .resize .ensures) (c .before .before .put-node .ensures)
+returns c =
+    let b2 = c .before .before in
+    let b3 = b2 .before in
+    let b7 = b3 .before .before .before .before in
+    let b8 = b7 .before in
+    let b10 = b8 .before .before in
+    let b11 = b10 .before in
+    let b13 = b11 .before .before in
+    hang-law _ _ _ _ _ _ _ _ _ _ _ (b13 .pre) (b7 .resize .kept .0) (b11 .inv .ensures) (b10 .invert-if .ensures) (b8 .idx .ensures) (b3 .idx2 .ensures) (b7 .resize .ensures)
+    (b2 .put-node .ensures)
 
 pub hang-spec : {M : Type 1} → statement M
 hang-spec =

@@ -45,13 +45,30 @@ returns-3 : tie.Need-returns-3
 returns-3 c = tried-not
 
 unite-requires : tie.Need-unite-requires
-unite-requires c κs = sized (c .before .before .before .before .before .before .before .before .before .before .before .before .before .before .before .idx .ensures) (c .before .before .before .before .before .before .before .before .before .before .before .before .before .before .idx2 .ensures) (c .before .before .before .before .before .before .before .before .before .bare-at .ensures) (c .before .before .before .before .before .before .before .sa .given .1) (c .before .before .before .before .bare-at2 .ensures) (c .before .before .sb .given .1) (c .before .before .before .before .before .before .before .before .before .before .before .before .before .before .before .before .before .pre)
+unite-requires c κs =
+    let b2 = c .before .before in
+    let b4 = b2 .before .before in
+    let b7 = b4 .before .before .before in
+    let b9 = b7 .before .before in
+    let b14 = b9 .before .before .before .before .before in
+    let b15 = b14 .before in
+    let b17 = b15 .before .before in
+    sized (b15 .idx .ensures) (b14 .idx2 .ensures) (b9 .bare-at .ensures) (b7 .sa .given .1) (b4 .bare-at2 .ensures) (b2 .sb .given .1) (b17 .pre)
 
 same-length-3 : tie.Need-same-length-3
 same-length-3 c = search needs
 
 returns-4 : tie.Need-returns-4
-returns-4 c = tried-merged (c .before .before .before .before .before .before .before .before .before .before .before .before .before .before .before .before .before .before .idx .ensures) (c .before .before .before .before .before .before .before .before .before .before .before .before .before .before .before .before .before .idx2 .ensures) (c .before .before .before .before .before .before .before .before .before .before .before .before .bare-at .ensures) (c .before .before .before .before .before .before .before .before .before .before .sa .given .1) (c .before .before .before .before .before .before .before .bare-at2 .ensures) (c .before .before .before .before .before .sb .given .1) (c .before .before .before .before .before .before .before .before .before .before .before .before .before .before .if1 .left) (c .before .before .unite .ensures)
+returns-4 c =
+    let b2 = c .before .before in
+    let b5 = b2 .before .before .before in
+    let b7 = b5 .before .before in
+    let b10 = b7 .before .before .before in
+    let b12 = b10 .before .before in
+    let b14 = b12 .before .before in
+    let b17 = b14 .before .before .before in
+    let b18 = b17 .before in
+    tried-merged (b18 .idx .ensures) (b17 .idx2 .ensures) (b12 .bare-at .ensures) (b10 .sa .given .1) (b7 .bare-at2 .ensures) (b5 .sb .given .1) (b14 .if1 .left) (b2 .unite .ensures)
 
 pub quick-spec : {M : Type 1} → statement M
 quick-spec =

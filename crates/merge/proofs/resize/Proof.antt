@@ -27,13 +27,25 @@ same-length : tie.Need-same-length
 same-length c = search needs
 
 returns-2 : tie.Need-returns-2
-returns-2 c = resized-root _ _ _ _ (c .before .before .before .before .before .before .before .before .before .before .before .pre) (c .before .before .before .before .before .before .before .before .if1 .left) (c .before .before .before .before .before .before .node-at .ensures) (c .before .before .before .before .enum-told .given .1) (c .before .before .put-size .ensures)
+returns-2 c =
+    let b2 = c .before .before in
+    let b4 = b2 .before .before in
+    let b6 = b4 .before .before in
+    let b8 = b6 .before .before in
+    let b11 = b8 .before .before .before in
+    resized-root _ _ _ _ (b11 .pre) (b8 .if1 .left) (b6 .node-at .ensures) (b4 .enum-told .given .1) (b2 .put-size .ensures)
 
 same-length-2 : tie.Need-same-length-2
 same-length-2 c = search needs
 
 returns-3 : tie.Need-returns-3
-returns-3 c = resized-child _ _ _ _ (c .before .before .before .before .before .before .before .before .before .before .before .pre) (c .before .before .before .before .before .before .before .before .if1 .left) (c .before .before .before .before .before .before .node-at .ensures) (c .before .before .before .before .enum-told2 .given .1) (c .before .before .put-node .ensures)
+returns-3 c =
+    let b2 = c .before .before in
+    let b4 = b2 .before .before in
+    let b6 = b4 .before .before in
+    let b8 = b6 .before .before in
+    let b11 = b8 .before .before .before in
+    resized-child _ _ _ _ (b11 .pre) (b8 .if1 .left) (b6 .node-at .ensures) (b4 .enum-told2 .given .1) (b2 .put-node .ensures)
 
 pub resize-spec : {M : Type 1} → statement M
 resize-spec =

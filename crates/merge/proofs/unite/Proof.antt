@@ -21,13 +21,21 @@ same-length : tie.Need-same-length
 same-length c = search needs
 
 returns : tie.Need-returns
-returns c = merge-first _ _ _ _ _ _ _ _ _ (c .before .before .before .before .before .before .pre .second) (c .before .before .before .before .before .before .pre .first) (c .before .before .before .before .if1 .taken) (c .before .before .hang .ensures)
+returns c =
+    let b2 = c .before .before in
+    let b4 = b2 .before .before in
+    let b6 = b4 .before .before in
+    merge-first _ _ _ _ _ _ _ _ _ (b6 .pre .second) (b6 .pre .first) (b4 .if1 .taken) (b2 .hang .ensures)
 
 same-length-2 : tie.Need-same-length-2
 same-length-2 c = search needs
 
 returns-2 : tie.Need-returns-2
-returns-2 c = merge-second _ _ _ _ _ _ _ _ _ (c .before .before .before .before .before .before .pre .second) (c .before .before .before .before .before .before .pre .first) (c .before .before .before .before .if1 .left) (c .before .before .hang2 .ensures)
+returns-2 c =
+    let b2 = c .before .before in
+    let b4 = b2 .before .before in
+    let b6 = b4 .before .before in
+    merge-second _ _ _ _ _ _ _ _ _ (b6 .pre .second) (b6 .pre .first) (b4 .if1 .left) (b2 .hang2 .ensures)
 
 pub unite-spec : {M : Type 1} → statement M
 unite-spec =

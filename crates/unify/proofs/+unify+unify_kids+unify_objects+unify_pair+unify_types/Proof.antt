@@ -179,19 +179,33 @@ unify-same-length-2 : (t : ℕ) → unify-lts.Need-same-length-2 (unify-claims t
 unify-same-length-2 t c = search needs
 
 unify-returns : (t : ℕ) → unify-lts.Need-returns (unify-claims t) (unify-at t) unify.Post
-unify-returns t c = quick-merged (c .before .before .before .before .before .before .before .before .before .before .before .before .before .pre .1) (c .before .before .before .before .before .quick .ensures) (c .if1 .taken)
+unify-returns t c =
+    let b5 = c .before .before .before .before .before in
+    let b13 = b5 .before .before .before .before .before .before .before .before in
+    quick-merged (b13 .pre .1) (b5 .quick .ensures) (c .if1 .taken)
 
 unify-unify-pair-requires : (t : ℕ) → unify-lts.Need-unify-pair-requires (unify-claims t) (unify-at t) unify.Post
-unify-unify-pair-requires t c κs = (omega (arith, c .before .before .before .before .before .before .before .before .before .before .before .before .before .before .before .pre .0), quick-asked (c .before .before .before .before .before .before .before .before .before .before .before .before .before .before .before .pre .1) (c .before .before .before .before .before .before .before .quick .ensures) (c .before .before .if1 .left))
+unify-unify-pair-requires t c κs =
+    let b2 = c .before .before in
+    let b7 = b2 .before .before .before .before .before in
+    let b15 = b7 .before .before .before .before .before .before .before .before in
+    (omega (arith, b15 .pre .0), quick-asked (b15 .pre .1) (b7 .quick .ensures) (b2 .if1 .left))
 
 unify-same-length-3 : (t : ℕ) → unify-lts.Need-same-length-3 (unify-claims t) (unify-at t) unify.Post
 unify-same-length-3 t c = c .before .before .before .before .unify-pair .kept .0 ∙ c .before .before .before .before .before .before .before .before .before .before .before .before .quick .kept .0
 
 unify-same-length-4 : (t : ℕ) → unify-lts.Need-same-length-4 (unify-claims t) (unify-at t) unify.Post
-unify-same-length-4 t c = c .before .before .before .before .unify-pair .kept .1 .1 .1 .1 .1 .0 ∙ c .before .before .before .before .before .before .before .before .before .before .before .before .quick .kept .1 .1 .0
+unify-same-length-4 t c =
+    let b4 = c .before .before .before .before in
+    let b12 = b4 .before .before .before .before .before .before .before .before in
+    b4 .unify-pair .kept .1 .1 .1 .1 .1 .0 ∙ b12 .quick .kept .1 .1 .0
 
 unify-returns-2 : (t : ℕ) → unify-lts.Need-returns-2 (unify-claims t) (unify-at t) unify.Post
-unify-returns-2 t c = quick-not (c .before .before .before .before .before .before .before .before .before .before .before .before .quick .ensures) (c .before .before .before .before .before .before .before .if1 .left) (c .before .before .before .before .unify-pair .ensures)
+unify-returns-2 t c =
+    let b4 = c .before .before .before .before in
+    let b7 = b4 .before .before .before in
+    let b12 = b7 .before .before .before .before .before in
+    quick-not (b12 .quick .ensures) (b7 .if1 .left) (b4 .unify-pair .ensures)
 
 -- What is known at a place of `unify_pair`.
 
