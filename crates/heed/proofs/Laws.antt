@@ -2,7 +2,7 @@
 -- `find` and `settle`.
 -- Assumes nothing.
 use mathlib.Core.Path.{_≡_, refl, sym, subst, _∙_}
-use mathlib.Core.Bool.{Bool, true}
+use mathlib.Core.Bool.{Bool, true, false}
 use mathlib.Core.List.{List}
 use mathlib.Core.Logic.{inl}
 use Prim.Native.Nat.{ℕ}
@@ -14,12 +14,16 @@ use Rattle.scope.specs.Unify.{settle}
 use Rattle.types.specs.declared.UnifyResult.{UnifyResult}
 use Rattle.types.specs.declared.UnifyResult.the-variants.{Success, Failure, Indeterminate}
 use Rattle.layout.specs.Meaning.{Linked}
-use Rattle.roots.specs.Found.{Found, FoundMut, Near}
+use Rattle.types.specs.declared.«Type».{«Type»}
+use Rattle.roots.specs.Found.{FoundMut, Near}
+use Rattle.roots.specs.declared.Nearby.{Nearby}
+use Rattle.roots.specs.declared.Nearby.the-variants.{Is}
 use Rattle.roots.proofs.Laws.{relinked-refl}
 use Rattle.merge.specs.Meaning.{Settled}
+use Rattle.merge.specs.Quick.{Tried}
 use Rattle.recall.specs.Memory.{Running, Tidy, Begun, Fewer, Forgot, Noted}
 use Rattle.heed.specs.Recalls.{Meets, Recalls, Since}
-use Rattle.heed.specs.Told.{Moved, Closed, FoundTold, SettledTold}
+use Rattle.heed.specs.Told.{Moved, Closed, FoundTold, QuickTold, SettledTold}
 
 -- clocks
 
@@ -63,14 +67,38 @@ moved-same t = record { tidy = t; since = since-same; believed = λ a b q v. (v,
 
 -- `find`
 
-pub found-near : {ws : List ℕ} {n : ℕ} {m : List ℕ} {t r : ℕ} {near : Bool} → Linked ws n → Tidy m → Near ws n t near → near ≡ true → Found ws n t r → FoundTold ws n ws m m t r
-found-near l d h e f = record {
-  found = record { root = f .root; nodes = λ ks. sym (h .stays e ks); words = relinked-refl l };
+pub found-near : {ws : List ℕ} {n : ℕ} {m : List ℕ} {t : ℕ} {q : Nearby} {r : «Type»} → Linked ws n → Tidy m → Near ws n t q → q ≡ Is r → FoundTold ws n ws m m t (r .0)
+found-near {r = r} l d h e = record {
+  found = record { root = h .found r e .root; nodes = λ ks. sym (h .stays r e ks); words = relinked-refl l };
   told = λ ks. moved-same d;
 }
 
 pub found-far : {ws : List ℕ} {n : ℕ} {ws′ m m′ : List ℕ} {t r : ℕ} → Forgot m m′ → FoundMut ws n ws′ t r → FoundTold ws n ws′ m m′ t r
 found-far d f = record { found = f; told = λ ks. moved-forgot d }
+
+-- `quick`
+
+pub quick-not : {ws : List ℕ} {n : ℕ} {m : List ℕ} {a b : Ty} {d : ℕ} → QuickTold ws ws n m m a b d false
+quick-not = record {
+  deep = λ e. let z : _≡_ {A = ℕ} 0 1 = cc in absurd (omega arith);
+  merged = λ e. let z : _≡_ {A = ℕ} 0 1 = cc in absurd (omega arith);
+  forgot = λ e. let z : _≡_ {A = ℕ} 0 1 = cc in absurd (omega arith);
+  words = λ e. refl;
+  memory = λ e. refl;
+}
+
+pub quick-stays : {ws ws′ : List ℕ} {n : ℕ} {m : List ℕ} {a b : Ty} {d : ℕ} {r : Bool} → Tried ws ws′ n a b r → r ≡ false → QuickTold ws ws′ n m m a b d false
+quick-stays t f = record {
+  deep = λ e. let z : _≡_ {A = ℕ} 0 1 = cc in absurd (omega arith);
+  merged = λ e. let z : _≡_ {A = ℕ} 0 1 = cc in absurd (omega arith);
+  forgot = λ e. let z : _≡_ {A = ℕ} 0 1 = cc in absurd (omega arith);
+  words = λ e. t .stays f;
+  memory = λ e. refl;
+}
+
+pub quick-merges : {ws ws′ : List ℕ} {n : ℕ} {m m′ : List ℕ} {a b : Ty} {d : ℕ} {r : Bool} → (d ≡ 0 → ⊥) → Tried ws ws′ n a b r → r ≡ true → Forgot m m′
+    → QuickTold ws ws′ n m m′ a b d true
+quick-merges h t f g = record { deep = λ e. h; merged = λ e. t .merged f; forgot = λ e. g; words = λ e. cc; memory = λ e. cc }
 
 -- `settle`
 

@@ -1,5 +1,6 @@
 -- What a memory is told: m′ after m, and ns′ after ns.
 use mathlib.Core.Path.{_≡_}
+use mathlib.Core.Bool.{Bool, true, false}
 use mathlib.Core.List.{List}
 use mathlib.Core.Logic.{_⊎_}
 use Prim.Native.Nat.{ℕ, _≤_}
@@ -10,7 +11,8 @@ use Rattle.types.specs.declared.UnifyResult.{UnifyResult}
 use Rattle.layout.specs.Words.{decode}
 use Rattle.roots.specs.Found.{FoundMut}
 use Rattle.merge.specs.Meaning.{Adds, Settled}
-use Rattle.recall.specs.Memory.{clockOf, Believed, Tidy, New}
+use Rattle.merge.specs.Quick.{Quick}
+use Rattle.recall.specs.Memory.{clockOf, Believed, Tidy, Forgot, New}
 use Rattle.heed.specs.Recalls.{Since}
 
 -- what is believed still was believed of the same nodes
@@ -28,6 +30,14 @@ pub record Closed (m m′ : List ℕ) (ns ns′ : List Node) (began a b : ℕ) (
 pub record FoundTold (ws : List ℕ) (n : ℕ) (ws′ m m′ : List ℕ) (t r : ℕ) : Type 0 where
   pub found : FoundMut ws n ws′ t r
   pub told : (ks : List ℕ) → Moved m m′ (decode ws ks n) (decode ws′ ks n)
+
+-- told that two roots without kinds merged, they did; else nothing changed
+pub record QuickTold (ws ws′ : List ℕ) (n : ℕ) (m m′ : List ℕ) (a b : Ty) (d : ℕ) (r : Bool) : Type 0 where
+  pub deep : r ≡ true → d ≡ 0 → ⊥
+  pub merged : r ≡ true → Quick ws ws′ n a b
+  pub forgot : r ≡ true → Forgot m m′
+  pub words : r ≡ false → ws′ ≡ ws
+  pub memory : r ≡ false → m′ ≡ m
 
 pub record Settles (ws : List ℕ) (n : ℕ) (m : List ℕ) (a b : Ty) : Type 0 where
   pub adds : Adds ws n a b

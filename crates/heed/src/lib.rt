@@ -3,7 +3,9 @@
 ghost use Rattle.scope.specs.Types.{tyOf};
 ghost use Rattle.layout.specs.Meaning.{Linked};
 ghost use Rattle.recall.specs.Memory.{Tidy};
-ghost use Rattle.heed.specs.Told.{Settles, FoundTold, SettledTold};
+ghost use Rattle.merge.specs.Meaning.{Adds};
+ghost use Rattle.heed.specs.Told.{Settles, FoundTold, QuickTold, SettledTold};
+use roots::Nearby;
 use types::Type;
 use types::UnifyResult;
 
@@ -12,11 +14,26 @@ pub fn find(ws: &mut [u32], n: u32, memory: &mut [u32], t: Type) -> Type
     requires { ⌜ Linked (now ws) n × Tidy (now memory) ⌝ }
     ensures { λ r. ⌜ FoundTold (now (ws .entry)) n (now (ws .exit)) (now (memory .entry)) (now (memory .exit)) (t .0) (r .0) ⌝ }
 {
-    if roots::is_near(ws, n, t) {
-        return roots::find(ws, n, t);
+    let Nearby::Is(r) = roots::near(ws, n, t) else {
+        recall::changed(memory);
+        return roots::find_mut(ws, n, t);
+    };
+    r
+}
+
+// Two roots without kinds merge, and true: what unifying them at a depth gives. Else nothing is changed.
+pub fn quick(ws: &mut [u32], n: u32, memory: &mut [u32], a: Type, b: Type, depth: u32) -> bool
+    requires { ⌜ Adds (now ws) n (tyOf (a .0)) (tyOf (b .0)) × Tidy (now memory) ⌝ }
+    ensures { λ r. ⌜ QuickTold (now (ws .entry)) (now (ws .exit)) n (now (memory .entry)) (now (memory .exit)) (tyOf (a .0)) (tyOf (b .0)) depth r ⌝ }
+{
+    if depth == 0 {
+        return false;
+    }
+    if !merge::quick(ws, n, a, b) {
+        return false;
     }
     recall::changed(memory);
-    roots::find_mut(ws, n, t)
+    true
 }
 
 // "Only Success merges." What the visit answered that began at that clock is noted.

@@ -76,7 +76,7 @@ module _ (ws : List ℕ) (n : ℕ) (w l : Ty) (st : TypeState) (room : nodeWords
         ∙ (ap (λ (t : Ty). set (decode once ks n) (l .idx) (nodes.Child t)) link
         ∙ ap (λ (ns : List nodes.Node). set ns (l .idx) (nodes.Child (flip (l .inv) w))) once-nodes)
 
-  twice : Joined ws (putAt once n (l .idx) (Child p)) n w l st
+  pub twice : Joined ws (putAt once n (l .idx) (Child p)) n w l st
   twice = record {
     tail = tail-put once n once-room (l .idx) (Child p) ∙ tail-put ws n room (w .idx) stays;
     clean = λ ks c cl f. clean-put once ks c n (clean-put ws ks c n cl (w .idx) stays f) (l .idx) (Child p) refl;

@@ -1,17 +1,28 @@
 // Two roots become one: "The first root stays if its size is larger; on equal sizes it becomes the child." The node words change as scope's join, merge,
 // bind and settle say of the nodes that they hold. Nothing here reads a child's words.
 ghost use mathlib.Core.Path.{_≡_};
-ghost use Prim.Native.Nat.{_≤_};
-ghost use lib.ListN.{length};
+ghost use Prim.Native.Nat.{_+_, _*_, _≤_};
+ghost use lib.ListN.{length, set};
 ghost use Rattle.scope.specs.Types.{tyOf};
-ghost use Rattle.layout.specs.Words.{nodeWords};
+ghost use Rattle.layout.specs.Words.{NODE-WORDS, nodeWords};
+ghost use Rattle.layout.specs.Meaning.{cellWords, pasteAt, readAt};
 ghost use Rattle.merge.specs.Meaning.{sizeAt, stateAt, turned, firstKnown, keptOf};
 ghost use Rattle.merge.specs.Meaning.{Adds, Joined, Merged, Bound, Settled};
+ghost use Rattle.merge.specs.Quick.{bareIn, Resized, Sums, Sized, Tried};
+use layout::NODE_WORDS;
 use layout::TypeNode;
 use layout::TypeState;
+use scope::NONE;
 use types::Inverted;
 use types::Type;
+use types::TypeIdx;
 use types::UnifyResult;
+
+// The size of a root without a kind.
+pub enum Bare {
+    Is(u32),
+    Nothing,
+}
 
 // What the node of a type is, whether or not it is inverted.
 pub fn state_at(ws: &[u32], n: u32, t: Type) -> TypeState
@@ -95,6 +106,96 @@ pub fn bind(ws: &mut [u32], n: u32, a: Type, b: Type)
     merge(ws, n, a, b, ka, kb);
 }
 
+// The word of a root's size.
+fn put_size(ws: &mut [u32], i: TypeIdx, size: u32)
+    requires { ⌜ i .0 * NODE-WORDS + NODE-WORDS ≤ length (now ws) ⌝ }
+    ensures { λ _. ⌜ now (ws .exit) ≡ pasteAt (now (ws .entry)) (i .0) (set (cellWords (now (ws .entry)) (i .0)) 2 size) ⌝ }
+{
+    let a = i.0 as usize * NODE_WORDS;
+    let e = a + NODE_WORDS;
+    let s = &mut ws[a..e];
+    s[2] = size;
+}
+
+// Node i keeps its state and has another size.
+fn resize(ws: &mut [u32], n: u32, i: TypeIdx, size: u32)
+    requires { ⌜ nodeWords n ≤ length (now ws) ⌝ }
+    ensures { λ _. ⌜ Resized (now (ws .entry)) (now (ws .exit)) n (i .0) size ⌝ }
+{
+    if n <= i.0 {
+        return;
+    }
+    let node = layout::node_at(ws, n, i);
+    match node {
+        TypeNode::Root { state: _, size: _ } => {
+            put_size(ws, i, size);
+        }
+        TypeNode::Child(_) => {
+            let state = TypeState::Unknown(NONE);
+            layout::put_node(ws, n, i, TypeNode::Root { state, size });
+        }
+    }
+}
+
+// The root w stays as it is but for its size, and l becomes its child.
+fn hang(ws: &mut [u32], n: u32, w: Type, l: Type, size: u32)
+    requires { ⌜ Sums (now ws) n (tyOf (w .0)) (tyOf (l .0)) size ⌝ }
+    ensures { λ _. ⌜ Joined (now (ws .entry)) (now (ws .exit)) n (tyOf (w .0)) (tyOf (l .0)) (stateAt (now (ws .entry)) n (tyOf (w .0) .idx)) ⌝ }
+{
+    let inv = l.inv();
+    let parent = w.invert_if(inv);
+    resize(ws, n, w.idx(), size);
+    layout::put_node(ws, n, l.idx(), TypeNode::Child(parent));
+}
+
+// Two roots of known sizes merge, and the one that stays keeps its state.
+fn unite(ws: &mut [u32], n: u32, a: Type, b: Type, sa: u32, sb: u32)
+    requires { ⌜ Sized (now ws) n (tyOf (a .0)) (tyOf (b .0)) sa sb ⌝ }
+    ensures { λ _. ⌜ Merged (now (ws .entry)) (now (ws .exit)) n (tyOf (a .0)) (tyOf (b .0)) (stateAt (now (ws .entry)) n (tyOf (a .0) .idx)) (stateAt (now (ws .entry)) n (tyOf (b .0) .idx)) ⌝ }
+{
+    if sb < sa {
+        hang(ws, n, a, b, sa + sb);
+    } else {
+        hang(ws, n, b, a, sb + sa);
+    }
+}
+
+// Past the n nodes there is such a root.
+fn bare_at(ws: &[u32], n: u32, i: TypeIdx) -> Bare
+    requires { ⌜ nodeWords n ≤ length (now ws) ⌝ }
+    ensures { λ r. ⌜ r ≡ bareIn (readAt (now (ws .entry)) n (i .0)) ⌝ }
+{
+    let node = layout::node_at(ws, n, i);
+    match node {
+        TypeNode::Root { state, size } => match state {
+            TypeState::Known(_, _) => Bare::Nothing,
+            TypeState::Unknown(_) => Bare::Is(size),
+            TypeState::InferenceFailed => Bare::Is(size),
+        },
+        TypeNode::Child(_) => Bare::Nothing,
+    }
+}
+
+// Two roots without kinds merge, and true; else nothing is changed.
+pub fn quick(ws: &mut [u32], n: u32, a: Type, b: Type) -> bool
+    requires { ⌜ Adds (now ws) n (tyOf (a .0)) (tyOf (b .0)) ⌝ }
+    ensures { λ r. ⌜ Tried (now (ws .entry)) (now (ws .exit)) n (tyOf (a .0)) (tyOf (b .0)) r ⌝ }
+{
+    let ia = a.idx();
+    let ib = b.idx();
+    if ia.0 == ib.0 {
+        return false;
+    }
+    let Bare::Is(sa) = bare_at(ws, n, ia) else {
+        return false;
+    };
+    let Bare::Is(sb) = bare_at(ws, n, ib) else {
+        return false;
+    };
+    unite(ws, n, a, b, sa, sb);
+    true
+}
+
 // "Only Success merges."
 pub fn settle(ws: &mut [u32], n: u32, a: Type, b: Type, r: UnifyResult) -> UnifyResult
     requires { ⌜ Adds (now ws) n (tyOf (a .0)) (tyOf (b .0)) ⌝ }
@@ -102,9 +203,9 @@ pub fn settle(ws: &mut [u32], n: u32, a: Type, b: Type, r: UnifyResult) -> Unify
 {
     match r {
         UnifyResult::Success => {
-            let sa = state_at(ws, n, a);
-            let sb = state_at(ws, n, b);
-            merge(ws, n, a, b, sa, sb);
+            let sa = size_at(ws, n, a);
+            let sb = size_at(ws, n, b);
+            unite(ws, n, a, b, sa, sb);
             UnifyResult::Success
         }
         UnifyResult::Failure => UnifyResult::Failure,

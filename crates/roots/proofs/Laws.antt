@@ -6,13 +6,13 @@ use mathlib.Core.Bool.{Bool, true, false}
 use mathlib.Core.List.{List}
 use Prim.Native.Nat.{ℕ, zero, suc, _+_, _-_, _*_, _<_, _≤_}
 use native.Mathlib.Omega.{arith}
-use lib.ListN.{set}
+use lib.ListN.{length, set}
 use lib.Seq.{getD-set-other}
 use Rattle.scope.specs.Base.{xor}
 use Rattle.scope.specs.Types.{Ty, ty, flip, INV-BIT, tyOf}
 use Rattle.scope.specs.Nodes.{Node, Root, Child, at, isRoot, climb, find, compress, findMut}
 use Rattle.scope.proofs.Laws as scope
-use Rattle.scope.proofs.Paths.{near-root, near-child}
+use Rattle.scope.proofs.Paths.{child-inside, near-root, near-child}
 use Rattle.types.specs.declared.«Type».{«Type»}
 use Rattle.types.proofs.Laws.{idx-below, ty-new}
 use Rattle.layout.specs.Words.{NODE-WORDS, nodeField, decode}
@@ -22,6 +22,7 @@ use Rattle.layout.specs.declared.TypeNode.the-variants as code
 use Rattle.layout.specs.declared.TypeState.{TypeState}
 use Rattle.layout.proofs.Laws.{length-decode, length-put, tail-put, decode-put, clean-put}
 use Rattle.layout.proofs.LinkLaws.{parent-same, read-child, read-root, child-below, child-field, link-put, linked-put}
+use Rattle.roots.specs.declared.Nearby.the-variants as near
 use Rattle.roots.specs.Found.{Found, Relinked, FoundMut, Near}
 
 -- find
@@ -177,20 +178,51 @@ module _ {ws : List ℕ} {n r : ℕ} {b₀ : Bool} {i₀ : ℕ} {ws′ : List �
   pub points-out : f ≤ 0 → FoundMut ws n ws′ t r
   points-out h = points-end (λ ks. compress-out f (decode ws′ ks n) (tyOf r) (ty b i) h)
 
--- is_near
+-- near
 
-pub is-root : {ws : List ℕ} {n t i : ℕ} {v : TypeNode} {st : TypeState} {z : ℕ} → i ≡ tyOf t .idx → v ≡ readAt ws n i → v ≡ code.Root st z → Near ws n t true
-is-root {ws} {n} {t} {st = st} {z = z} ei ev e = record {
-  stays = λ _ ks. near-root (decode ws ks n) (tyOf t) (read-root ws n (tyOf t .idx) st z (sym (ev ∙ ap (readAt ws n) ei) ∙ e) ks);
+find-up : (ns : List Node) (t u : Ty) → at ns (t .idx) ≡ Child u → isRoot (at ns (u .idx)) ≡ true → find ns t ≡ flip (t .inv) u
+unfolding find
+find-up ns t u e r =
+    let h : 0 < length ns = omega (arith, child-inside ns (t .idx) e) in
+    climb-up (length ns) ns t u h e ∙ climb-root (length ns - 1) ns (flip (t .inv) u) r
+
+find-here : (ns : List Node) (t : Ty) → isRoot (at ns (t .idx)) ≡ true → find ns t ≡ t
+unfolding find
+find-here ns t r = climb-root (length ns) ns t r
+
+at-node : (ws : List ℕ) (n : ℕ) {i j : ℕ} {v w : TypeNode} → i ≡ j → v ≡ readAt ws n i → v ≡ w → readAt ws n j ≡ w
+at-node ws n ei ev e = sym (ev ∙ ap (readAt ws n) ei) ∙ e
+
+module _ {ws : List ℕ} {n : ℕ} {t : «Type»} {i : ℕ} (ei : i ≡ tyOf (t .0) .idx) {v : TypeNode} (ev : v ≡ readAt ws n i) where
+  pub is-root : {st : TypeState} {z : ℕ} → v ≡ code.Root st z → Near ws n (t .0) (near.Is t)
+  is-root {st} {z} e = record {
+    found = λ r q. let s : t ≡ r = cc in record { root = λ ks. ap (λ (x : «Type»). tyOf (x .0)) (sym s) ∙ sym (find-here (decode ws ks n) (tyOf (t .0)) (top ks)) };
+    stays = λ r q ks. near-root (decode ws ks n) (tyOf (t .0)) (top ks);
+  }
+    where
+      top : (ks : List ℕ) → isRoot (at (decode ws ks n) (tyOf (t .0) .idx)) ≡ true
+      top ks = read-root ws n (tyOf (t .0) .idx) st z (at-node ws n ei ev e) ks
+
+  pub under-root : {u p : «Type»} {j : ℕ} {b : Bool} {w : TypeNode} {st : TypeState} {z : ℕ} → Linked ws n → v ≡ code.Child u → j ≡ tyOf (u .0) .idx → w ≡ readAt ws n j
+      → w ≡ code.Root st z → b ≡ tyOf (t .0) .inv → tyOf (p .0) ≡ flip b (tyOf (u .0)) → Near ws n (t .0) (near.Is p)
+  under-root {u} {p} {b = b} {st = st} {z = z} l e ej ew er eb ep = record {
+    found = λ r q.
+        let s : p ≡ r = cc in
+        record {
+          root = λ ks.
+              ap (λ (x : «Type»). tyOf (x .0)) (sym s) ∙ (ep ∙ (ap (λ (d : Bool). flip d (tyOf (u .0))) eb ∙ sym (find-up (decode ws ks n) (tyOf (t .0)) (tyOf (u .0)) (up ks) (top ks))));
+        };
+    stays = λ r q ks. near-child (decode ws ks n) (tyOf (t .0)) (tyOf (u .0)) (up ks) (top ks);
+  }
+    where
+      up : (ks : List ℕ) → at (decode ws ks n) (tyOf (t .0) .idx) ≡ Child (tyOf (u .0))
+      up ks = read-child ws n (tyOf (t .0) .idx) l u (at-node ws n ei ev e) ks
+
+      top : (ks : List ℕ) → isRoot (at (decode ws ks n) (tyOf (u .0) .idx)) ≡ true
+      top ks = read-root ws n (tyOf (u .0) .idx) st z (at-node ws n ej ew er) ks
+
+pub is-far : {ws : List ℕ} {n t : ℕ} → Near ws n t near.Far
+is-far = record {
+  found = λ r e. let z : _≡_ {A = ℕ} 0 1 = cc in absurd (omega arith);
+  stays = λ r e. let z : _≡_ {A = ℕ} 0 1 = cc in absurd (omega arith);
 }
-
-pub under-root : {ws : List ℕ} {n t i j : ℕ} {v w : TypeNode} {u : «Type»} {st : TypeState} {z : ℕ} → Linked ws n → i ≡ tyOf t .idx → v ≡ readAt ws n i → v ≡ code.Child u
-    → j ≡ tyOf (u .0) .idx → w ≡ readAt ws n j → w ≡ code.Root st z → Near ws n t true
-under-root {ws} {n} {t} {u = u} {st = st} {z = z} l ei ev e ej ew er = record {
-  stays = λ _ ks.
-      near-child (decode ws ks n) (tyOf t) (tyOf (u .0)) (read-child ws n (tyOf t .idx) l u (sym (ev ∙ ap (readAt ws n) ei) ∙ e) ks)
-      (read-root ws n (tyOf (u .0) .idx) st z (sym (ew ∙ ap (readAt ws n) ej) ∙ er) ks);
-}
-
-pub is-far : {ws : List ℕ} {n t : ℕ} → Near ws n t false
-is-far = record { stays = λ e. let z : _≡_ {A = ℕ} 0 1 = cc in absurd (omega arith) }

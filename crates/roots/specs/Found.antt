@@ -1,14 +1,16 @@
 -- What `find` and `find_mut` say of node words: the root that scope's `find` gives, and the nodes that scope's `findMut` leaves, whatever the children's
 -- words ks are, since a parent is no child of a kind. The words are the n nodes in ws, before, and in ws′, after.
 use mathlib.Core.Path.{_≡_}
-use mathlib.Core.Bool.{Bool, true}
 use mathlib.Core.List.{List}
 use Prim.Native.Nat.{ℕ, _+_, _*_, _<_}
 use lib.ListN.{length, getD, drop}
 use Rattle.scope.specs.Types.{tyOf}
 use Rattle.scope.specs.Nodes.{find, findMut}
+use Rattle.types.specs.declared.«Type».{«Type»}
 use Rattle.layout.specs.Words.{NODE-WORDS, nodeWords, nodeField, decode}
 use Rattle.layout.specs.Meaning.{CHILD-TAG, Clean, Linked}
+use Rattle.roots.specs.declared.Nearby.{Nearby}
+use Rattle.roots.specs.declared.Nearby.the-variants.{Is}
 
 -- the word r holds the root of the type in the word t
 pub record Found (ws : List ℕ) (n t r : ℕ) : Type 0 where
@@ -27,6 +29,7 @@ pub record FoundMut (ws : List ℕ) (n : ℕ) (ws′ : List ℕ) (t r : ℕ) : T
   pub nodes : (ks : List ℕ) → decode ws′ ks n ≡ findMut (decode ws ks n) (tyOf t)
   pub words : Relinked ws n ws′
 
--- told that the type in the word t is near, its `find_mut` leaves the nodes as they are
-pub record Near (ws : List ℕ) (n t : ℕ) (near : Bool) : Type 0 where
-  pub stays : near ≡ true → (ks : List ℕ) → findMut (decode ws ks n) (tyOf t) ≡ decode ws ks n
+-- told the root of the type in the word t, its `find_mut` leaves the nodes as they are
+pub record Near (ws : List ℕ) (n t : ℕ) (q : Nearby) : Type 0 where
+  pub found : (r : «Type») → q ≡ Is r → Found ws n t (r .0)
+  pub stays : (r : «Type») → q ≡ Is r → (ks : List ℕ) → findMut (decode ws ks n) (tyOf t) ≡ decode ws ks n

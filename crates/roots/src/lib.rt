@@ -5,6 +5,12 @@ ghost use Rattle.roots.specs.Found.{Found, FoundMut, Near};
 use layout::TypeNode;
 use types::Type;
 
+// The root of a type that is near it.
+pub enum Nearby {
+    Is(Type),
+    Far,
+}
+
 // The root of a type among n nodes, with the inversions on the way.
 pub fn find(ws: &[u32], n: u32, t: Type) -> Type
     requires { ⌜ Linked (now ws) n ⌝ }
@@ -45,16 +51,17 @@ pub fn find_mut(ws: &mut [u32], n: u32, t: Type) -> Type
     root
 }
 
-// A type is near if its node is a root or a root's child: `find_mut` then leaves every node as it is.
-pub fn is_near(ws: &[u32], n: u32, t: Type) -> bool
+// The root of a type whose node is a root or a root's child: `find_mut` then leaves every node as it is.
+pub fn near(ws: &[u32], n: u32, t: Type) -> Nearby
     requires { ⌜ Linked (now ws) n ⌝ }
     ensures { λ r. ⌜ Near (now (ws .entry)) n (t .0) r ⌝ }
 {
     let TypeNode::Child(parent) = layout::node_at(ws, n, t.idx()) else {
-        return true;
+        return Nearby::Is(t);
     };
     let TypeNode::Child(_) = layout::node_at(ws, n, parent.idx()) else {
-        return true;
+        let inv = t.inv();
+        return Nearby::Is(parent.invert_if(inv));
     };
-    false
+    Nearby::Far
 }

@@ -146,7 +146,7 @@ pub record Climbed (x : Texts) (ws ks m ws₂ m₂ : List ℕ) (n d : ℕ) (p q 
   pub recalls : Recalls x n (decode ws₂ ks n) m₂
   pub since : Since (clockOf m) (clockOf m₂) (decode ws ks n) (decode ws₂ ks n)
 
-unify-deep : (x : Texts) (n d : ℕ) (ns : List Node) (p q : Ty) → (d ≡ 0 → ⊥)
+pub unify-deep : (x : Texts) (n d : ℕ) (ns : List Node) (p q : Ty) → (d ≡ 0 → ⊥)
     → unifyF x n d ns p q ≡ meet (unifyF x n (d - 1)) x n (findMut (findMut ns p) q) (find ns p) (find (findMut ns p) q)
 unfolding unifyF
 unify-deep x n zero ns p q h = absurd (h refl)

@@ -2,3 +2,4 @@
 pub mod Kept
 pub mod Laws
 pub mod RunLaws
+pub mod QuickLaws

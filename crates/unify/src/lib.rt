@@ -1,6 +1,7 @@
-// "The functions that unify a pair, a run and an object call each other in turn", depth falling from the node count. What is to be done with two roots is
-// read first, then their children are unified, then the answer is settled. The words of the nodes change as scope's `unify` says of the nodes. Beside them goes a
-// memory: a pair that did not succeed is looked up there before its children are unified. Whatever is believed there is what unifying would give.
+// "The functions that unify a pair, a run and an object call each other in turn", depth falling from the node count. Two roots without kinds merge at once. Otherwise
+// what is to be done with two roots is read first, then their children are unified, then the answer is settled. The words of the nodes change as scope's `unify` says
+// of the nodes. Beside them goes a memory: a pair that did not succeed is looked up there before its children are unified. Whatever is believed there is what
+// unifying would give.
 ghost use Rattle.scope.specs.Types.{tyOf};
 ghost use Rattle.scope.specs.Unify.{unifyF};
 ghost use Rattle.names.specs.Place.{texts};
@@ -16,12 +17,33 @@ use meeting::Sought;
 use plan::Plan;
 use plan::Runs;
 use recall::Recalled;
-use scope::MAX_NODES;
 use types::Type;
 use types::UnifyResult;
 
 // A pair of types, at a depth.
 pub fn unify<'a>(
+    ws: &mut [u32],
+    ks: &[u32],
+    n: u32,
+    rule: &'a [u8],
+    text: &'a [u8],
+    memory: &mut [u32],
+    a: Type,
+    b: Type,
+    depth: u32,
+) -> UnifyResult
+    requires { ⌜ Asked (texts (now rule) (now text)) (now ws) (now ks) (now memory) n depth ((tyOf (a .0), tyOf (b .0)) ∷ []) ⌝ }
+    ensures { λ r. ⌜ Unified (texts (now (rule .entry)) (now (text .entry))) (now (ws .entry)) (now (ks .entry)) (now (memory .entry)) (now (ws .exit)) (now (memory .exit)) n
+        (unifyF (texts (now (rule .entry)) (now (text .entry))) n depth (decode (now (ws .entry)) (now (ks .entry)) n) (tyOf (a .0)) (tyOf (b .0))) r ⌝ }
+{
+    if heed::quick(ws, n, memory, a, b, depth) {
+        return UnifyResult::Success;
+    }
+    unify_pair(ws, ks, n, rule, text, memory, a, b, depth)
+}
+
+// The same where they may be anything.
+pub fn unify_pair<'a>(
     ws: &mut [u32],
     ks: &[u32],
     n: u32,
@@ -44,13 +66,7 @@ pub fn unify<'a>(
     let rb = heed::find(ws, n, memory, b);
     let m = meeting::meet(ws, ks, n, rule, text, ra, rb);
     match m {
-        Meeting::Done(r) => {
-            // Never so: the compiler leaves a walk's 4 KB of marks out of the frame of a function that calls itself.
-            if n as usize > MAX_NODES {
-                return unify(ws, ks, n, rule, text, memory, a, b, depth - 1);
-            }
-            r
-        }
+        Meeting::Done(r) => r,
         Meeting::Bind => {
             merge::bind(ws, n, ra, rb);
             recall::changed(memory);

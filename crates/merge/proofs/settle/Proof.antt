@@ -9,14 +9,14 @@ use Rattle.merge.proofs.settle.Tie as tie
 enum-told : tie.Need-enum-told
 enum-told c = search needs
 
-state-at-requires : tie.Need-state-at-requires
-state-at-requires c κs = search needs
+size-at-requires : tie.Need-size-at-requires
+size-at-requires c κs = search needs
 
-state-at-requires-2 : tie.Need-state-at-requires-2
-state-at-requires-2 c κs = search needs
+size-at-requires-2 : tie.Need-size-at-requires-2
+size-at-requires-2 c κs = search needs
 
-merge-requires : tie.Need-merge-requires
-merge-requires c κs = search needs
+unite-requires : tie.Need-unite-requires
+unite-requires c κs = search needs
 
 enum-told-2 : tie.Need-enum-told-2
 enum-told-2 c = search needs
@@ -28,10 +28,7 @@ same-length : tie.Need-same-length
 same-length c = search needs
 
 returns : tie.Need-returns
-returns c =
-    settle-merges _ _ _ _ _ _ _ _ (c .before .before .before .before .before .before .before .before .enum-told .given .1)
-    (c .before .before .before .before .before .before .state-at .ensures) (c .before .before .before .before .state-at2 .ensures)
-    (c .before .before .merge .ensures)
+returns c = settle-merges _ _ _ _ _ _ _ _ (c .before .before .before .before .before .before .before .before .enum-told .given .1) refl refl (c .before .before .unite .ensures)
 
 returns-2 : tie.Need-returns-2
 returns-2 c = settle-stays _ _ _ _ _ _ (c .enum-told2 .given .1) refl
@@ -44,9 +41,9 @@ settle-spec =
     tie.close
     (tie.spec
     enum-told
-    state-at-requires
-    state-at-requires-2
-    merge-requires
+    size-at-requires
+    size-at-requires-2
+    unite-requires
     enum-told-2
     enum-told-3
     same-length

@@ -1,16 +1,16 @@
--- The cycle `unify`, `unify_kids`, `unify_objects`, `unify_types` meets its contracts. The measure is three times the depth, one more for a run and an object, and
--- two more for the children of two kinds. A loop's invariant: the pairs that are left give what the whole gives, from words and a memory that still meet what is asked.
+-- The cycle `unify`, `unify_kids`, `unify_objects`, `unify_pair`, `unify_types` meets its contracts. The measure is four times the depth, one more for `unify`, two
+-- for a run and an object, and three for the children of two kinds. A loop's invariant: the pairs that are left give what the whole gives, from words and a memory that still meet what is asked.
 -- Assumes nothing.
 use mathlib.Core.Path.{_≡_, refl, _∙_}
 use native.Mathlib.Omega.{arith}
 use native.Mathlib.Nat.{pos-of-ne-zero}
 use borrow.Author.Needs.{needs}
 use lib.ListN.{length}
-use Rattle.scope.specs.Limits.{MAX-NODES}
 use Rattle.scope.specs.Types.{tyOf}
 use Rattle.names.specs.Place.{texts}
 use Rattle.unify.proofs.Laws.{words-linked, Climbed, climbed, no-depth, tops-add}
 use Rattle.unify.proofs.Laws.{AtRoots, way-done, way-bind, way-known, kids-asks, kids-settles, way-kids, plan-asks, plan-unified, plan-answers}
+use Rattle.unify.proofs.QuickLaws.{quick-adds, quick-merged, quick-asked, quick-not}
 use Rattle.unify.proofs.RunLaws.{RunLeft, RunNext, run-fails, run-start, run-pair, run-asks, run-next, run-ends}
 use Rattle.unify.proofs.RunLaws.{ObjectLeft, ObjectNext, stored-start, object-none, object-pair, object-asks, object-next, stored-ends}
 use Rattle.unify.proofs.RunLaws.{parameters-asks, Halfway, returns-in, signature-lacking, signature-pair}
@@ -19,17 +19,21 @@ use borrow.Fn.Kinds.{In}
 use borrow.Fn.PlainCycle.{Measures, is, falls, and}
 use Rattle.unify.proofs.unify.Reads as unify
 use Rattle.unify.proofs.unify.Kinds as unify-kinds
-use Rattle.unify.proofs.+unify+unify_kids+unify_objects+unify_types.Lts-unify as unify-lts
+use Rattle.unify.proofs.+unify+unify_kids+unify_objects+unify_pair+unify_types.Lts-unify as unify-lts
 use Rattle.unify.proofs.unify_kids.Reads as unify-kids
 use Rattle.unify.proofs.unify_kids.Kinds as unify-kids-kinds
-use Rattle.unify.proofs.+unify+unify_kids+unify_objects+unify_types.Lts-unify_kids as unify-kids-lts
+use Rattle.unify.proofs.+unify+unify_kids+unify_objects+unify_pair+unify_types.Lts-unify_kids as unify-kids-lts
 use Rattle.unify.proofs.unify_objects.Reads as unify-objects
 use Rattle.unify.proofs.unify_objects.Kinds as unify-objects-kinds
-use Rattle.unify.proofs.+unify+unify_kids+unify_objects+unify_types.Lts-unify_objects as unify-objects-lts
+use Rattle.unify.proofs.+unify+unify_kids+unify_objects+unify_pair+unify_types.Lts-unify_objects as unify-objects-lts
+use Rattle.unify.proofs.unify_pair.Reads as unify-pair
+use Rattle.unify.proofs.unify_pair.Kinds as unify-pair-kinds
+use Rattle.unify.proofs.+unify+unify_kids+unify_objects+unify_pair+unify_types.Lts-unify_pair as unify-pair-lts
 use Rattle.unify.proofs.unify_types.Reads as unify-types
 use Rattle.unify.proofs.unify_types.Kinds as unify-types-kinds
-use Rattle.unify.proofs.+unify+unify_kids+unify_objects+unify_types.Lts-unify_types as unify-types-lts
+use Rattle.unify.proofs.+unify+unify_kids+unify_objects+unify_pair+unify_types.Lts-unify_types as unify-types-lts
 use Rattle.heed.proofs.find.Reads as find-reads
+use Rattle.heed.proofs.quick.Reads as quick-reads
 use Rattle.heed.proofs.settle.Reads as settle-reads
 use Rattle.meeting.proofs.kid.Reads as kid-reads
 use Rattle.meeting.proofs.kid_name.Reads as kid-name-reads
@@ -45,20 +49,23 @@ use Rattle.recall.proofs.visited.Reads as visited-reads
 use Rattle.types.proofs.Type.invert_if.Reads as invert-if-reads
 use Rattle.types.proofs.UnifyResult.and.Reads as and-reads
 use Rattle.types.proofs.UnifyResult.from_bool.Reads as from-bool-reads
-use Rattle.unify.proofs.+unify+unify_kids+unify_objects+unify_types.{statement}
-use Rattle.unify.proofs.+unify+unify_kids+unify_objects+unify_types.Tie.{close}
+use Rattle.unify.proofs.+unify+unify_kids+unify_objects+unify_pair+unify_types.{statement}
+use Rattle.unify.proofs.+unify+unify_kids+unify_objects+unify_pair+unify_types.Tie.{close}
 
 abbrev μ-unify : Measures 4 unify-kinds.ps ℕ
-μ-unify κs a = 3 * a .1 .1 .1 .1 .1 .1 .1 .1 .0
+μ-unify κs a = 4 * a .1 .1 .1 .1 .1 .1 .1 .1 .0 + 1
 
 abbrev μ-unify-kids : Measures 4 unify-kids-kinds.ps ℕ
-μ-unify-kids κs a = 3 * a .1 .1 .1 .1 .1 .1 .1 .0 + 2
+μ-unify-kids κs a = 4 * a .1 .1 .1 .1 .1 .1 .1 .0 + 3
 
 abbrev μ-unify-objects : Measures 4 unify-objects-kinds.ps ℕ
-μ-unify-objects κs a = 3 * a .1 .1 .1 .1 .1 .1 .1 .0 + 1
+μ-unify-objects κs a = 4 * a .1 .1 .1 .1 .1 .1 .1 .0 + 2
+
+abbrev μ-unify-pair : Measures 4 unify-pair-kinds.ps ℕ
+μ-unify-pair κs a = 4 * a .1 .1 .1 .1 .1 .1 .1 .1 .0
 
 abbrev μ-unify-types : Measures 4 unify-types-kinds.ps ℕ
-μ-unify-types κs a = 3 * a .1 .1 .1 .1 .1 .1 .1 .0 + 1
+μ-unify-types κs a = 4 * a .1 .1 .1 .1 .1 .1 .1 .0 + 2
 
 abbrev unify-at : ℕ → In 4 unify-kinds.ps
 unify-at t = and 4 unify-kinds.ps (is 4 unify-kinds.ps μ-unify t) unify.Pre
@@ -86,6 +93,12 @@ unify-objects-below t =
     (falls 4 unify-objects-kinds.ps _<_ μ-unify-objects t)
     unify-objects.Pre
 
+abbrev unify-pair-at : ℕ → In 4 unify-pair-kinds.ps
+unify-pair-at t = and 4 unify-pair-kinds.ps (is 4 unify-pair-kinds.ps μ-unify-pair t) unify-pair.Pre
+
+abbrev unify-pair-below : ℕ → In 4 unify-pair-kinds.ps
+unify-pair-below t = and 4 unify-pair-kinds.ps (falls 4 unify-pair-kinds.ps _<_ μ-unify-pair t) unify-pair.Pre
+
 abbrev unify-types-at : ℕ → In 4 unify-types-kinds.ps
 unify-types-at t =
     and 4 unify-types-kinds.ps (is 4 unify-types-kinds.ps μ-unify-types t) unify-types.Pre
@@ -95,28 +108,7 @@ unify-types-below t =
     and 4 unify-types-kinds.ps (falls 4 unify-types-kinds.ps _<_ μ-unify-types t) unify-types.Pre
 
 abbrev unify-claims : ℕ → unify-lts.Claims
-unify-claims t = (
-  visited-reads.Asked,
-  visited-reads.Learnt,
-  find-reads.Asked,
-  find-reads.Learnt,
-  meet-reads.Asked,
-  meet-reads.Learnt,
-  unify-below t,
-  unify.Post,
-  bind-reads.Asked,
-  bind-reads.Learnt,
-  changed-reads.Asked,
-  changed-reads.Learnt,
-  look-reads.Asked,
-  look-reads.Learnt,
-  clock-reads.Asked,
-  clock-reads.Learnt,
-  unify-kids-below t,
-  unify-kids.Post,
-  settle-reads.Asked,
-  settle-reads.Learnt,
-)
+unify-claims t = (quick-reads.Asked, quick-reads.Learnt, unify-pair-below t, unify-pair.Post)
 
 abbrev unify-kids-claims : ℕ → unify-kids-lts.Claims
 unify-kids-claims t = (
@@ -152,23 +144,83 @@ unify-objects-claims t = (
   and-reads.Learnt,
 )
 
+abbrev unify-pair-claims : ℕ → unify-pair-lts.Claims
+unify-pair-claims t = (
+  visited-reads.Asked,
+  visited-reads.Learnt,
+  find-reads.Asked,
+  find-reads.Learnt,
+  meet-reads.Asked,
+  meet-reads.Learnt,
+  bind-reads.Asked,
+  bind-reads.Learnt,
+  changed-reads.Asked,
+  changed-reads.Learnt,
+  look-reads.Asked,
+  look-reads.Learnt,
+  clock-reads.Asked,
+  clock-reads.Learnt,
+  unify-kids-below t,
+  unify-kids.Post,
+  settle-reads.Asked,
+  settle-reads.Learnt,
+)
+
 abbrev unify-types-claims : ℕ → unify-types-lts.Claims
 unify-types-claims t = (kid-reads.Asked, kid-reads.Learnt, invert-if-reads.Asked, invert-if-reads.Learnt, unify-below t, unify.Post, and-reads.Asked, and-reads.Learnt)
 
--- What is known at a place of `unify`.
+unify-quick-requires : (t : ℕ) → unify-lts.Need-quick-requires (unify-claims t) (unify-at t) unify.Post
+unify-quick-requires t c κs = quick-adds (c .before .before .before .before .before .before .before .pre .1)
+
+unify-same-length : (t : ℕ) → unify-lts.Need-same-length (unify-claims t) (unify-at t) unify.Post
+unify-same-length t c = search needs
+
+unify-same-length-2 : (t : ℕ) → unify-lts.Need-same-length-2 (unify-claims t) (unify-at t) unify.Post
+unify-same-length-2 t c = search needs
+
+unify-returns : (t : ℕ) → unify-lts.Need-returns (unify-claims t) (unify-at t) unify.Post
+unify-returns t c =
+    let b5 = c .before .before .before .before .before in
+    let b13 = b5 .before .before .before .before .before .before .before .before in
+    quick-merged (b13 .pre .1) (b5 .quick .ensures) (c .if1 .taken)
+
+unify-unify-pair-requires : (t : ℕ) → unify-lts.Need-unify-pair-requires (unify-claims t) (unify-at t) unify.Post
+unify-unify-pair-requires t c κs =
+    let b2 = c .before .before in
+    let b7 = b2 .before .before .before .before .before in
+    let b15 = b7 .before .before .before .before .before .before .before .before in
+    (omega (arith, b15 .pre .0), quick-asked (b15 .pre .1) (b7 .quick .ensures) (b2 .if1 .left))
+
+unify-same-length-3 : (t : ℕ) → unify-lts.Need-same-length-3 (unify-claims t) (unify-at t) unify.Post
+unify-same-length-3 t c = c .before .before .before .before .unify-pair .kept .0 ∙ c .before .before .before .before .before .before .before .before .before .before .before .before .quick .kept .0
+
+unify-same-length-4 : (t : ℕ) → unify-lts.Need-same-length-4 (unify-claims t) (unify-at t) unify.Post
+unify-same-length-4 t c =
+    let b4 = c .before .before .before .before in
+    let b12 = b4 .before .before .before .before .before .before .before .before in
+    b4 .unify-pair .kept .1 .1 .1 .1 .1 .0 ∙ b12 .quick .kept .1 .1 .0
+
+unify-returns-2 : (t : ℕ) → unify-lts.Need-returns-2 (unify-claims t) (unify-at t) unify.Post
+unify-returns-2 t c =
+    let b4 = c .before .before .before .before in
+    let b7 = b4 .before .before .before in
+    let b12 = b7 .before .before .before .before .before in
+    quick-not (b12 .quick .ensures) (b7 .if1 .left) (b4 .unify-pair .ensures)
+
+-- What is known at a place of `unify_pair`.
 
 -- both roots are found
-module _ (t : ℕ) (c : unify-lts.After-find2 (unify-claims t) (unify-at t) unify.Post) where
-  abbrev visit : unify-lts.After-visited (unify-claims t) (unify-at t) unify.Post
+module _ (t : ℕ) (c : unify-pair-lts.After-find2 (unify-pair-claims t) (unify-pair-at t) unify-pair.Post) where
+  abbrev visit : unify-pair-lts.After-visited (unify-pair-claims t) (unify-pair-at t) unify-pair.Post
   visit = c .before .before .before .before .before .before .before .before .before .before .before .before
 
-  abbrev start : unify-lts.Start (unify-claims t) (unify-at t) unify.Post
+  abbrev start : unify-pair-lts.Start (unify-pair-claims t) (unify-pair-at t) unify-pair.Post
   start = visit .before .before .before .before .before .before .before .before
 
   deep-there : 1 ≤ start .args .depth
   deep-there = pos-of-ne-zero (visit .before .before .if1 .left)
 
-  falls-there : 3 * (start .args .depth - 1) + 2 < t
+  falls-there : 4 * (start .args .depth - 1) + 3 < t
   falls-there = omega (arith, deep-there, start .pre .0)
 
   long-there : length (c .find2 .last .0) ≡ length (start .args .ws .now)
@@ -183,148 +235,126 @@ module _ (t : ℕ) (c : unify-lts.After-find2 (unify-claims t) (unify-at t) unif
       (tyOf (a .a .0)) (tyOf (a .b .0)) (c .before .before .before .before .before .before .before .find .result .0) (c .find2 .result .0)
   climbed-there = climbed (start .pre .1) (visit .before .before .if1 .left) (visit .visited .ensures) (c .before .before .before .before .before .before .before .find .ensures) (c .find2 .ensures)
 
-  small-there : start .args .n ≤ MAX-NODES
-  small-there = climbed-there .tops .pair .words .small
-
--- no store is so large
-never : {A : Type 0} {n : ℕ} → MAX-NODES < n → n ≤ MAX-NODES → A
-never h k = absurd (omega (arith, h, k))
-
 -- the roots have met
-met-there : (t : ℕ) (c : unify-lts.After-meet (unify-claims t) (unify-at t) unify.Post)
+met-there : (t : ℕ) (c : unify-pair-lts.After-meet (unify-pair-claims t) (unify-pair-at t) unify-pair.Post)
     → let g = c .before .before .before .before .before .before in
     let a = start t g .args in
     AtRoots (texts (a .rule .now) (a .text .now)) (a .ws .now) (a .ks .now) (a .memory .now) (g .find2 .last .0) (g .find2 .last .1 .1 .0) (a .n) (a .depth)
     (tyOf (a .a .0)) (tyOf (a .b .0)) (g .before .before .before .before .before .before .before .find .result .0) (g .find2 .result .0) (c .meet .result)
 met-there t c = record { up = climbed-there t (c .before .before .before .before .before .before); met = c .meet .ensures }
 
-unify-returns : (t : ℕ) → unify-lts.Need-returns (unify-claims t) (unify-at t) unify.Post
-unify-returns t c = no-depth (c .before .before .before .before .before .before .pre .1) (c .if1 .taken)
+unify-pair-returns : (t : ℕ) → unify-pair-lts.Need-returns (unify-pair-claims t) (unify-pair-at t) unify-pair.Post
+unify-pair-returns t c = no-depth (c .before .before .before .before .before .before .pre .1) (c .if1 .taken)
 
-unify-visited-requires : (t : ℕ) → unify-lts.Need-visited-requires (unify-claims t) (unify-at t) unify.Post
-unify-visited-requires t c κs = c .before .before .before .before .before .before .before .pre .1 .recalls .tidy
+unify-pair-visited-requires : (t : ℕ) → unify-pair-lts.Need-visited-requires (unify-pair-claims t) (unify-pair-at t) unify-pair.Post
+unify-pair-visited-requires t c κs = c .before .before .before .before .before .before .before .pre .1 .recalls .tidy
 
-unify-find-requires : (t : ℕ) → unify-lts.Need-find-requires (unify-claims t) (unify-at t) unify.Post
-unify-find-requires t c κs =
+unify-pair-find-requires : (t : ℕ) → unify-pair-lts.Need-find-requires (unify-pair-claims t) (unify-pair-at t) unify-pair.Post
+unify-pair-find-requires t c κs =
     let v = c .before .before .before .before in
     (words-linked (v .before .before .before .before .before .before .before .before .pre .1 .pairs .words), v .visited .ensures .tidy)
 
-unify-find-requires-2 : (t : ℕ) → unify-lts.Need-find-requires-2 (unify-claims t) (unify-at t) unify.Post
-unify-find-requires-2 t c κs =
+unify-pair-find-requires-2 : (t : ℕ) → unify-pair-lts.Need-find-requires-2 (unify-pair-claims t) (unify-pair-at t) unify-pair.Post
+unify-pair-find-requires-2 t c κs =
     let v = c .before .before .before .before .before .before in
     (v .find .ensures .found .words .linked, v .find .ensures .told (v .before .before .before .before .before .before .before .before .before .before .before .before .before .args .ks .now) .tidy)
 
-unify-meet-requires : (t : ℕ) → unify-lts.Need-meet-requires (unify-claims t) (unify-at t) unify.Post
-unify-meet-requires t c κs = climbed-there t (c .before .before .before .before .before) .tops
+unify-pair-meet-requires : (t : ℕ) → unify-pair-lts.Need-meet-requires (unify-pair-claims t) (unify-pair-at t) unify-pair.Post
+unify-pair-meet-requires t c κs = climbed-there t (c .before .before .before .before .before) .tops
 
-unify-enum-known-m : (t : ℕ) → unify-lts.Need-enum-known-m (unify-claims t) (unify-at t) unify.Post
-unify-enum-known-m t c = search needs
+unify-pair-enum-known-m : (t : ℕ) → unify-pair-lts.Need-enum-known-m (unify-pair-claims t) (unify-pair-at t) unify-pair.Post
+unify-pair-enum-known-m t c = search needs
 
-unify-sub-unify : (t : ℕ) → unify-lts.Need-sub-unify (unify-claims t) (unify-at t) unify.Post
-unify-sub-unify t c = deep-there t (c .before .before .before .before .before .before .before .before .before .before .before .before)
+unify-pair-enum-told : (t : ℕ) → unify-pair-lts.Need-enum-told (unify-pair-claims t) (unify-pair-at t) unify-pair.Post
+unify-pair-enum-told t c = search needs
 
-unify-unify-requires : (t : ℕ) → unify-lts.Need-unify-requires (unify-claims t) (unify-at t) unify.Post
-unify-unify-requires t c κs = never (c .before .before .if2 .taken) (small-there t (c .before .before .before .before .before .before .before .before .before .before .before .before))
+unify-pair-bind-requires : (t : ℕ) → unify-pair-lts.Need-bind-requires (unify-pair-claims t) (unify-pair-at t) unify-pair.Post
+unify-pair-bind-requires t c κs = tops-add (climbed-there t (c .before .before .before .before .before .before .before .before .before))
 
-unify-same-length : (t : ℕ) → unify-lts.Need-same-length (unify-claims t) (unify-at t) unify.Post
-unify-same-length t c = never (c .before .before .before .before .before .before .before .if2 .taken) (small-there t (c .before .before .before .before .before .before .before .before .before .before .before .before .before .before .before .before .before))
+unify-pair-changed-requires : (t : ℕ) → unify-pair-lts.Need-changed-requires (unify-pair-claims t) (unify-pair-at t) unify-pair.Post
+unify-pair-changed-requires t c κs = climbed-there t (c .before .before .before .before .before .before .before .before .before .before .before .before .before) .recalls .tidy
 
-unify-same-length-2 : (t : ℕ) → unify-lts.Need-same-length-2 (unify-claims t) (unify-at t) unify.Post
-unify-same-length-2 t c = never (c .before .before .before .before .before .before .before .if2 .taken) (small-there t (c .before .before .before .before .before .before .before .before .before .before .before .before .before .before .before .before .before))
+unify-pair-enum-known-m-2 : (t : ℕ) → unify-pair-lts.Need-enum-known-m-2 (unify-pair-claims t) (unify-pair-at t) unify-pair.Post
+unify-pair-enum-known-m-2 t c = search needs
 
-unify-returns-2 : (t : ℕ) → unify-lts.Need-returns-2 (unify-claims t) (unify-at t) unify.Post
-unify-returns-2 t c = never (c .before .before .before .before .before .before .before .if2 .taken) (small-there t (c .before .before .before .before .before .before .before .before .before .before .before .before .before .before .before .before .before))
+unify-pair-look-requires : (t : ℕ) → unify-pair-lts.Need-look-requires (unify-pair-claims t) (unify-pair-at t) unify-pair.Post
+unify-pair-look-requires t c κs = climbed-there t (c .before .before .before .before .before .before .before .before .before .before) .tops .pair .words .small
 
-unify-enum-told : (t : ℕ) → unify-lts.Need-enum-told (unify-claims t) (unify-at t) unify.Post
-unify-enum-told t c = search needs
+unify-pair-enum-known-known : (t : ℕ) → unify-pair-lts.Need-enum-known-known (unify-pair-claims t) (unify-pair-at t) unify-pair.Post
+unify-pair-enum-known-known t c = search needs
 
-unify-bind-requires : (t : ℕ) → unify-lts.Need-bind-requires (unify-claims t) (unify-at t) unify.Post
-unify-bind-requires t c κs = tops-add (climbed-there t (c .before .before .before .before .before .before .before .before .before))
+unify-pair-enum-told-2 : (t : ℕ) → unify-pair-lts.Need-enum-told-2 (unify-pair-claims t) (unify-pair-at t) unify-pair.Post
+unify-pair-enum-told-2 t c = search needs
 
-unify-changed-requires : (t : ℕ) → unify-lts.Need-changed-requires (unify-claims t) (unify-at t) unify.Post
-unify-changed-requires t c κs = climbed-there t (c .before .before .before .before .before .before .before .before .before .before .before .before .before) .recalls .tidy
+unify-pair-clock-requires : (t : ℕ) → unify-pair-lts.Need-clock-requires (unify-pair-claims t) (unify-pair-at t) unify-pair.Post
+unify-pair-clock-requires t c κs = search needs
 
-unify-enum-known-m-2 : (t : ℕ) → unify-lts.Need-enum-known-m-2 (unify-claims t) (unify-at t) unify.Post
-unify-enum-known-m-2 t c = search needs
+unify-pair-sub-unify-kids : (t : ℕ) → unify-pair-lts.Need-sub-unify-kids (unify-pair-claims t) (unify-pair-at t) unify-pair.Post
+unify-pair-sub-unify-kids t c = deep-there t (c .before .before .before .before .before .before .before .before .before .before .before .before .before .before .before .before .before)
 
-unify-look-requires : (t : ℕ) → unify-lts.Need-look-requires (unify-claims t) (unify-at t) unify.Post
-unify-look-requires t c κs = climbed-there t (c .before .before .before .before .before .before .before .before .before .before) .tops .pair .words .small
-
-unify-enum-known-known : (t : ℕ) → unify-lts.Need-enum-known-known (unify-claims t) (unify-at t) unify.Post
-unify-enum-known-known t c = search needs
-
-unify-enum-told-2 : (t : ℕ) → unify-lts.Need-enum-told-2 (unify-claims t) (unify-at t) unify.Post
-unify-enum-told-2 t c = search needs
-
-unify-clock-requires : (t : ℕ) → unify-lts.Need-clock-requires (unify-claims t) (unify-at t) unify.Post
-unify-clock-requires t c κs = search needs
-
-unify-sub-unify-kids : (t : ℕ) → unify-lts.Need-sub-unify-kids (unify-claims t) (unify-at t) unify.Post
-unify-sub-unify-kids t c = deep-there t (c .before .before .before .before .before .before .before .before .before .before .before .before .before .before .before .before .before)
-
-unify-unify-kids-requires : (t : ℕ) → unify-lts.Need-unify-kids-requires (unify-claims t) (unify-at t) unify.Post
-unify-unify-kids-requires t c κs =
+unify-pair-unify-kids-requires : (t : ℕ) → unify-pair-lts.Need-unify-kids-requires (unify-pair-claims t) (unify-pair-at t) unify-pair.Post
+unify-pair-unify-kids-requires t c κs =
     let m = c .before .before .before .before .before .before .before .before .before .before .before in
     (falls-there t (m .before .before .before .before .before .before), kids-asks (met-there t m) (c .before .before .before .before .before .before .before .before .before .m2 .given .1))
 
-unify-settle-requires : (t : ℕ) → unify-lts.Need-settle-requires (unify-claims t) (unify-at t) unify.Post
-unify-settle-requires t c κs =
+unify-pair-settle-requires : (t : ℕ) → unify-pair-lts.Need-settle-requires (unify-pair-claims t) (unify-pair-at t) unify-pair.Post
+unify-pair-settle-requires t c κs =
     let at-unify-kids = c .before .before .before .before .before .before in
     let at-m2 = at-unify-kids .before .before .before .before .before .before .before .before .before .before in
     let at-it = at-m2 .before .before in
     kids-settles (met-there t at-it) (at-m2 .m2 .given .1) (at-unify-kids .unify-kids .ensures)
 
-unify-same-length-3 : (t : ℕ) → unify-lts.Need-same-length-3 (unify-claims t) (unify-at t) unify.Post
-unify-same-length-3 t c = search needs
+unify-pair-same-length : (t : ℕ) → unify-pair-lts.Need-same-length (unify-pair-claims t) (unify-pair-at t) unify-pair.Post
+unify-pair-same-length t c = search needs
 
-unify-same-length-4 : (t : ℕ) → unify-lts.Need-same-length-4 (unify-claims t) (unify-at t) unify.Post
-unify-same-length-4 t c = search needs
+unify-pair-same-length-2 : (t : ℕ) → unify-pair-lts.Need-same-length-2 (unify-pair-claims t) (unify-pair-at t) unify-pair.Post
+unify-pair-same-length-2 t c = search needs
 
-unify-returns-3 : (t : ℕ) → unify-lts.Need-returns-3 (unify-claims t) (unify-at t) unify.Post
-unify-returns-3 t c = way-done (met-there t (c .before .before .before .before)) (c .before .before .m .given .1)
+unify-pair-returns-2 : (t : ℕ) → unify-pair-lts.Need-returns-2 (unify-pair-claims t) (unify-pair-at t) unify-pair.Post
+unify-pair-returns-2 t c = way-done (met-there t (c .before .before .before)) (c .before .m .given .1)
 
-unify-same-length-5 : (t : ℕ) → unify-lts.Need-same-length-5 (unify-claims t) (unify-at t) unify.Post
-unify-same-length-5 t c = search needs
+unify-pair-same-length-3 : (t : ℕ) → unify-pair-lts.Need-same-length-3 (unify-pair-claims t) (unify-pair-at t) unify-pair.Post
+unify-pair-same-length-3 t c = search needs
 
-unify-same-length-6 : (t : ℕ) → unify-lts.Need-same-length-6 (unify-claims t) (unify-at t) unify.Post
-unify-same-length-6 t c =
+unify-pair-same-length-4 : (t : ℕ) → unify-pair-lts.Need-same-length-4 (unify-pair-claims t) (unify-pair-at t) unify-pair.Post
+unify-pair-same-length-4 t c =
     let at-it = c .before .before .before .before .before .before .before .before .before .before .before .before .before .before .before .before in
     c .before .before .changed .kept .0 ∙ kept-there t at-it
 
-unify-returns-4 : (t : ℕ) → unify-lts.Need-returns-4 (unify-claims t) (unify-at t) unify.Post
-unify-returns-4 t c =
+unify-pair-returns-3 : (t : ℕ) → unify-pair-lts.Need-returns-3 (unify-pair-claims t) (unify-pair-at t) unify-pair.Post
+unify-pair-returns-3 t c =
     let at-bind = c .before .before .before .before .before .before in
     let at-enum-told = at-bind .before .before in
     let at-it = at-enum-told .before .before in
     way-bind (met-there t at-it) (at-enum-told .enum-told .given .1) (at-bind .bind .ensures) (c .before .before .changed .ensures)
 
-unify-same-length-7 : (t : ℕ) → unify-lts.Need-same-length-7 (unify-claims t) (unify-at t) unify.Post
-unify-same-length-7 t c = search needs
+unify-pair-same-length-5 : (t : ℕ) → unify-pair-lts.Need-same-length-5 (unify-pair-claims t) (unify-pair-at t) unify-pair.Post
+unify-pair-same-length-5 t c = search needs
 
-unify-same-length-8 : (t : ℕ) → unify-lts.Need-same-length-8 (unify-claims t) (unify-at t) unify.Post
-unify-same-length-8 t c = kept-there t (c .before .before .before .before .before .before .before .before .before .before .before .before .before .before)
+unify-pair-same-length-6 : (t : ℕ) → unify-pair-lts.Need-same-length-6 (unify-pair-claims t) (unify-pair-at t) unify-pair.Post
+unify-pair-same-length-6 t c = kept-there t (c .before .before .before .before .before .before .before .before .before .before .before .before .before .before)
 
-unify-returns-5 : (t : ℕ) → unify-lts.Need-returns-5 (unify-claims t) (unify-at t) unify.Post
-unify-returns-5 t c =
+unify-pair-returns-4 : (t : ℕ) → unify-pair-lts.Need-returns-4 (unify-pair-claims t) (unify-pair-at t) unify-pair.Post
+unify-pair-returns-4 t c =
     let at-look = c .before .before .before in
     let at-it = at-look .before .before .before .before .before in
     way-known (met-there t at-it) (at-look .look .ensures) (c .before .known .given .1)
 
-unify-same-length-9 : (t : ℕ) → unify-lts.Need-same-length-9 (unify-claims t) (unify-at t) unify.Post
-unify-same-length-9 t c =
+unify-pair-same-length-7 : (t : ℕ) → unify-pair-lts.Need-same-length-7 (unify-pair-claims t) (unify-pair-at t) unify-pair.Post
+unify-pair-same-length-7 t c =
     let k = c .before .before .before .before .before .before .before .before .before .before .before in
     c .before .before .before .before .settle .kept .0 ∙
     (k .unify-kids .kept .0 ∙ long-there t (k .before .before .before .before .before .before .before .before .before .before .before .before .before .before .before .before .before .before))
 
-unify-same-length-10 : (t : ℕ) → unify-lts.Need-same-length-10 (unify-claims t) (unify-at t) unify.Post
-unify-same-length-10 t c =
+unify-pair-same-length-8 : (t : ℕ) → unify-pair-lts.Need-same-length-8 (unify-pair-claims t) (unify-pair-at t) unify-pair.Post
+unify-pair-same-length-8 t c =
     let k = c .before .before .before .before .before .before .before .before .before .before .before in
     c .before .before .before .before .settle .kept .1 .1 .0 ∙
     (k .unify-kids .kept .1 .1 .1 .1 .1 .0
     ∙ kept-there t (k .before .before .before .before .before .before .before .before .before .before .before .before .before .before .before .before .before .before))
 
-unify-returns-6 : (t : ℕ) → unify-lts.Need-returns-6 (unify-claims t) (unify-at t) unify.Post
-unify-returns-6 t c =
+unify-pair-returns-5 : (t : ℕ) → unify-pair-lts.Need-returns-5 (unify-pair-claims t) (unify-pair-at t) unify-pair.Post
+unify-pair-returns-5 t c =
     let k = c .before .before .before .before .before .before .before .before .before .before .before in
     let m = k .before .before .before .before .before .before .before .before .before .before .before .before in
     way-kids (met-there t m) (k .before .before .before .before .before .before .before .before .before .before .m2 .given .1) (k .unify-kids .ensures)
@@ -603,45 +633,19 @@ unify-types-same-length-2 t c = c .before .before .loop .inv .1
 unify-types-returns-2 : (t : ℕ) → unify-types-lts.Need-returns-2 (unify-types-claims t) (unify-types-at t) unify-types.Post unify-types-Inv-loop unify-types-μ-loop
 unify-types-returns-2 t c = run-ends (c .before .before .loop .inv .2) (c .if2 .left)
 
-pub +unify+unify-kids+unify-objects+unify-types-spec : {M : Type 1} → statement M
-+unify+unify-kids+unify-objects+unify-types-spec =
-    close μ-unify μ-unify-kids μ-unify-objects μ-unify-types (λ t. unify-lts.spec (unify-claims t)
+pub +unify+unify-kids+unify-objects+unify-pair+unify-types-spec : {M : Type 1} → statement M
++unify+unify-kids+unify-objects+unify-pair+unify-types-spec =
+    close μ-unify μ-unify-kids μ-unify-objects μ-unify-pair μ-unify-types (λ t. unify-lts.spec (unify-claims t)
     (unify-at t)
     unify.Post
-    (unify-returns t)
-    (unify-visited-requires t)
-    (unify-find-requires t)
-    (unify-find-requires-2 t)
-    (unify-meet-requires t)
-    (unify-enum-known-m t)
-    (unify-sub-unify t)
-    (unify-unify-requires t)
+    (unify-quick-requires t)
     (unify-same-length t)
     (unify-same-length-2 t)
-    (unify-returns-2 t)
-    (unify-enum-told t)
-    (unify-bind-requires t)
-    (unify-changed-requires t)
-    (unify-enum-known-m-2 t)
-    (unify-look-requires t)
-    (unify-enum-known-known t)
-    (unify-enum-told-2 t)
-    (unify-clock-requires t)
-    (unify-sub-unify-kids t)
-    (unify-unify-kids-requires t)
-    (unify-settle-requires t)
+    (unify-returns t)
+    (unify-unify-pair-requires t)
     (unify-same-length-3 t)
     (unify-same-length-4 t)
-    (unify-returns-3 t)
-    (unify-same-length-5 t)
-    (unify-same-length-6 t)
-    (unify-returns-4 t)
-    (unify-same-length-7 t)
-    (unify-same-length-8 t)
-    (unify-returns-5 t)
-    (unify-same-length-9 t)
-    (unify-same-length-10 t)
-    (unify-returns-6 t))
+    (unify-returns-2 t))
     (λ t. unify-kids-lts.spec (unify-kids-claims t)
     (unify-kids-at t)
     unify-kids.Post
@@ -696,6 +700,38 @@ pub +unify+unify-kids+unify-objects+unify-types-spec : {M : Type 1} → statemen
     (unify-objects-same-length t)
     (unify-objects-same-length-2 t)
     (unify-objects-returns t))
+    (λ t. unify-pair-lts.spec (unify-pair-claims t)
+    (unify-pair-at t)
+    unify-pair.Post
+    (unify-pair-returns t)
+    (unify-pair-visited-requires t)
+    (unify-pair-find-requires t)
+    (unify-pair-find-requires-2 t)
+    (unify-pair-meet-requires t)
+    (unify-pair-enum-known-m t)
+    (unify-pair-enum-told t)
+    (unify-pair-bind-requires t)
+    (unify-pair-changed-requires t)
+    (unify-pair-enum-known-m-2 t)
+    (unify-pair-look-requires t)
+    (unify-pair-enum-known-known t)
+    (unify-pair-enum-told-2 t)
+    (unify-pair-clock-requires t)
+    (unify-pair-sub-unify-kids t)
+    (unify-pair-unify-kids-requires t)
+    (unify-pair-settle-requires t)
+    (unify-pair-same-length t)
+    (unify-pair-same-length-2 t)
+    (unify-pair-returns-2 t)
+    (unify-pair-same-length-3 t)
+    (unify-pair-same-length-4 t)
+    (unify-pair-returns-3 t)
+    (unify-pair-same-length-5 t)
+    (unify-pair-same-length-6 t)
+    (unify-pair-returns-4 t)
+    (unify-pair-same-length-7 t)
+    (unify-pair-same-length-8 t)
+    (unify-pair-returns-5 t))
     λ t. unify-types-lts.spec (unify-types-claims t)
     (unify-types-at t)
     unify-types.Post

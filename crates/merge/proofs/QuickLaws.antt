@@ -1,0 +1,173 @@
+-- Merging over words: in clean words another size word is another size, and two roots without kinds merge as scope's `bound` says. One law for each way out.
+-- Assumes nothing.
+use mathlib.Core.Path.{_≡_, refl, ap, ap₂, sym, subst, _∙_}
+use mathlib.Core.Bool.{Bool, true, false}
+use mathlib.Core.List.{List, _++_}
+use mathlib.Core.Option.{Option, none}
+use Prim.Native.Nat.{ℕ, _+_, _-_, _*_, _<_, _≤_}
+use native.Mathlib.Omega.{arith}
+use lib.ListN.{length, take, drop, set, length-set, length-drop}
+use lib.Seq.{length-take-le}
+use borrow.Author.Tests.{lt-ltb}
+use Rattle.scope.specs.Limits.{NONE}
+use Rattle.scope.specs.Types.{Ty, tyOf, flip}
+use Rattle.scope.specs.Nodes as nodes
+use Rattle.scope.specs.Unify as scope
+use Rattle.types.specs.declared.«Type».{«Type»}
+use Rattle.layout.specs.Words.{nodeWords, decode}
+use Rattle.layout.specs.Meaning.{cellIn, wordsOf, cellOf, cellWords, pasteAt, readAt, putAt, nodeSize, nodeMeans, stateMeans, Clean}
+use Rattle.layout.specs.declared.TypeState.{TypeState}
+use Rattle.layout.specs.declared.TypeState.the-variants.{Known, Unknown, InferenceFailed}
+use Rattle.layout.specs.declared.TypeNode.{TypeNode}
+use Rattle.layout.specs.declared.TypeNode.the-variants.{Root, Child}
+use Rattle.layout.proofs.Lists.{drop-past}
+use Rattle.layout.proofs.Cells.{words-back, clean-words, says}
+use Rattle.layout.proofs.Laws.{tail-put, put-past, read-node}
+use Rattle.layout.proofs.HeldLaws.{state-read, state-fits}
+use Rattle.merge.specs.declared.Bare.{Bare}
+use Rattle.merge.specs.declared.Bare.the-variants.{Is, Nothing}
+use Rattle.merge.specs.Meaning.{stateAt, sizeAt, Adds, Joined, Merged, Bound}
+use Rattle.merge.specs.Quick.{bareBy, bareIn, bareNode, Resized, Sums, Sized, Quick, Tried}
+use Rattle.merge.proofs.Laws.{twice}
+
+-- a size alone
+
+size-set : (st : TypeState) (y z : ℕ) → set (wordsOf (cellOf (Root st y))) 2 z ≡ wordsOf (cellOf (Root st z))
+size-set (Known i k) y z = refl
+size-set (Unknown p) y z = refl
+size-set InferenceFailed y z = refl
+
+pub put-size-law : (ws : List ℕ) (i z : ℕ)
+    → take (i * 12) ws ++ (set (take (i * 12 + 12 - i * 12) (drop (i * 12) ws)) 2 z ++ drop (i * 12 + 12 - i * 12) (drop (i * 12) ws)) ≡ pasteAt ws i (set (cellWords ws i) 2 z)
+put-size-law ws i z = let k : i * 12 + 12 - i * 12 ≡ 12 = omega arith in rw k
+
+cell-read : (ws ks : List ℕ) (c n : ℕ) → Clean ws ks c n → (i : ℕ) → i < n → cellWords ws i ≡ wordsOf (cellOf (readAt ws n i))
+unfolding readAt
+cell-read ws ks c n cl i h =
+    let r : nodeWords n ≤ length ws = cl .room in
+    let k : length (cellWords ws i) ≡ 12 = length-take-le 12 (drop (i * 12) ws) (simp length-drop (omega arith)) in
+    let s = says ks c (cellIn (cellWords ws i)) (sym (clean-words ws ks c i) ∙ cl .each i h) in
+    rw (lt-ltb i n h) (sym (ap wordsOf (s .back) ∙ words-back (cellWords ws i) k))
+
+module _ (ws : List ℕ) (n i z : ℕ) (room : nodeWords n ≤ length ws) where
+  pub resized-past : n ≤ i → Resized ws ws n i z
+  resized-past h = record { tail = refl; put = λ ks c cl. sym (put-past ws n room i (Root (stateAt ws n i) z) h) }
+
+  module _ (h : i < n) where
+    size-tail : drop (nodeWords n) (pasteAt ws i (set (cellWords ws i) 2 z)) ≡ drop (nodeWords n) ws
+    size-tail =
+        let k : length (cellWords ws i) ≡ 12 = length-take-le 12 (drop (i * 12) ws) (simp length-drop (omega arith)) in
+        drop-past (i * 12) 12 ws (set (cellWords ws i) 2 z) (length-set (cellWords ws i) 2 z ∙ k) (omega arith) (n * 12) (omega arith)
+
+    size-put : (ks : List ℕ) (c : ℕ) → Clean ws ks c n → (st : TypeState) (y : ℕ) → readAt ws n i ≡ Root st y
+        → pasteAt ws i (set (cellWords ws i) 2 z) ≡ putAt ws n i (Root (stateAt ws n i) z)
+    unfolding putAt
+    size-put ks c cl st y e =
+        rw (lt-ltb i n h, e)
+        (ap (λ (w : List ℕ). pasteAt ws i (set w 2 z)) (cell-read ws ks c n cl i h ∙ ap (λ (u : TypeNode). wordsOf (cellOf u)) e) ∙ ap (pasteAt ws i) (size-set st y z))
+
+    pub resized-root : {ws′ : List ℕ} {v : TypeNode} {st : TypeState} {y : ℕ} → v ≡ readAt ws n i → v ≡ Root st y → ws′ ≡ pasteAt ws i (set (cellWords ws i) 2 z) → Resized ws ws′ n i z
+    resized-root {st = st} {y = y} ev e q = record {
+      tail = ap (drop (nodeWords n)) q ∙ size-tail;
+      put = λ ks c cl. q ∙ size-put ks c cl st y (sym ev ∙ e);
+    }
+
+    pub resized-child : {ws′ : List ℕ} {v : TypeNode} {t : «Type»} → v ≡ readAt ws n i → v ≡ Child t → ws′ ≡ putAt ws n i (Root (Unknown NONE) z) → Resized ws ws′ n i z
+    resized-child {t = t} ev e q =
+        let s : readAt ws n i ≡ Child t = sym ev ∙ e in
+        record {
+          tail = ap (drop (nodeWords n)) q ∙ tail-put ws n room i (Root (Unknown NONE) z);
+          put = λ ks c cl. q ∙ rw s refl;
+        }
+
+-- `hang`: as `join`, with the root's own state
+
+pub hang-law : (ws ws₁ ws₂ : List ℕ) (n : ℕ) (w l : Ty) (z i j : ℕ) (b : Bool) (p : «Type») → Sums ws n w l z → length ws₁ ≡ length ws
+    → b ≡ l .inv → tyOf (p .0) ≡ flip b w → i ≡ w .idx → j ≡ l .idx → Resized ws ws₁ n i z → ws₂ ≡ putAt ws₁ n j (Child p)
+    → Joined ws ws₂ n w l (stateAt ws n (w .idx))
+hang-law ws ws₁ ws₂ n w l z i j b p s k eb ep ei ej r e =
+    let st : TypeState = stateAt ws n (w .idx) in
+    let t = twice ws n w l st (s .room) p (ep ∙ ap (λ (d : Bool). flip d w) eb) in
+    let f : (ks : List ℕ) (c : ℕ) → Clean ws ks c n → ws₂ ≡ putAt (putAt ws n (w .idx) (Root st (sizeAt ws n (w .idx) + sizeAt ws n (l .idx)))) n (l .idx) (Child p) =
+    λ ks c cl. e ∙ rw (ej, r .put ks c cl, ei, s .sum) refl in
+    record {
+      tail = ap (drop (nodeWords n)) e ∙ (tail-put ws₁ n (rw k (s .room)) j (Child p) ∙ r .tail);
+      clean = λ ks c cl g. rw (f ks c cl) (t .clean ks c cl g);
+      nodes = λ ks c cl g. rw (f ks c cl) (t .nodes ks c cl g);
+    }
+
+-- roots without kinds
+
+pub bare-root : {v w : TypeNode} {st st′ : TypeState} {z : ℕ} → v ≡ w → v ≡ Root st z → st ≡ st′ → bareBy st′ z ≡ bareIn w
+bare-root {z = z} e f g = ap (λ (s : TypeState). bareBy s z) (sym g) ∙ (ap bareIn (sym f) ∙ ap bareIn e)
+
+pub bare-child : {v w : TypeNode} {t : «Type»} → v ≡ w → v ≡ Child t → Nothing ≡ bareIn w
+bare-child e f = ap bareIn (sym f) ∙ ap bareIn e
+
+bare-size : (v : TypeNode) (z : ℕ) → bareIn v ≡ Is z → z ≡ nodeSize v
+bare-size (Root (Known i k) y) z e = let f : _≡_ {A = ℕ} 0 1 = cc in absurd (omega arith)
+bare-size (Root (Unknown s) y) z e = cc
+bare-size (Root InferenceFailed y) z e = cc
+bare-size (Child t) z e = let f : _≡_ {A = ℕ} 0 1 = cc in absurd (omega arith)
+
+bare-means : (ks : List ℕ) (v : TypeNode) (z : ℕ) → bareIn v ≡ Is z → bareNode (nodeMeans ks v) ≡ true
+bare-means ks (Root (Known i k) y) z e = let f : _≡_ {A = ℕ} 0 1 = cc in absurd (omega arith)
+bare-means ks (Root (Unknown s) y) z e = refl
+bare-means ks (Root InferenceFailed y) z e = refl
+bare-means ks (Child t) z e = let f : _≡_ {A = ℕ} 0 1 = cc in absurd (omega arith)
+
+pub bare-none : (t : Ty) (v : nodes.Node) → bareNode v ≡ true → nodes.kindOf t (nodes.stateOf v) ≡ none
+bare-none t (nodes.Root (nodes.Known i k) z) e = cc
+bare-none t (nodes.Root (nodes.Unknown s) z) e = refl
+bare-none t (nodes.Root nodes.InferenceFailed z) e = refl
+bare-none t (nodes.Child u) e = cc
+
+kept-bare : (ns : List nodes.Node) (w a b : Ty) → bareNode (nodes.at ns (a .idx)) ≡ true → bareNode (nodes.at ns (b .idx)) ≡ true
+    → scope.kept ns w (scope.kindIn ns a) (scope.kindIn ns b) ≡ scope.stateIn ns w
+kept-bare ns w a b f g = ap₂ (scope.kept ns w) (bare-none a (nodes.at ns (a .idx)) f) (bare-none b (nodes.at ns (b .idx)) g)
+
+pub tried-not : {ws : List ℕ} {n : ℕ} {a b : Ty} → Tried ws ws n a b false
+tried-not = record { merged = λ e. let f : _≡_ {A = ℕ} 0 1 = cc in absurd (omega arith); stays = λ e. refl }
+
+module _ (ws : List ℕ) (n : ℕ) (a b : Ty) (y z : ℕ) (here : bareIn (readAt ws n (a .idx)) ≡ Is y) (there : bareIn (readAt ws n (b .idx)) ≡ Is z) where
+  bare-sizes : Adds ws n a b → Sized ws n a b y z
+  bare-sizes s = record { adds = s; first = bare-size (readAt ws n (a .idx)) y here; second = bare-size (readAt ws n (b .idx)) z there }
+
+  module _ (ks : List ℕ) (c : ℕ) (cl : Clean ws ks c n) where
+    bare-first : bareNode (nodes.at (decode ws ks n) (a .idx)) ≡ true
+    bare-first = ap bareNode (sym (read-node ws ks c n cl (a .idx))) ∙ bare-means ks (readAt ws n (a .idx)) y here
+
+    bare-second : bareNode (nodes.at (decode ws ks n) (b .idx)) ≡ true
+    bare-second = ap bareNode (sym (read-node ws ks c n cl (b .idx))) ∙ bare-means ks (readAt ws n (b .idx)) z there
+
+    kept-own : (w : Ty) → stateMeans ks (stateAt ws n (w .idx)) ≡ scope.kept (decode ws ks n) w (scope.kindIn (decode ws ks n) a) (scope.kindIn (decode ws ks n) b)
+    kept-own w = state-read ws ks c n cl (w .idx) ∙ sym (kept-bare (decode ws ks n) w a b bare-first bare-second)
+
+  bare-quick : (ws′ : List ℕ) → (a .idx ≡ b .idx → ⊥) → Merged ws ws′ n a b (stateAt ws n (a .idx)) (stateAt ws n (b .idx)) → Quick ws ws′ n a b
+  bare-quick ws′ h m = record {
+    apart = h;
+    first = bare-first;
+    second = bare-second;
+    bound = record {
+      tail = m .tail;
+      clean = λ ks c cl. m .clean ks c cl (state-fits ws ks c n cl (a .idx)) (state-fits ws ks c n cl (b .idx));
+      nodes = λ ks c cl.
+          m .nodes ks c cl (state-fits ws ks c n cl (a .idx)) (state-fits ws ks c n cl (b .idx))
+          ∙ ap₂ (scope.merge (decode ws ks n) a b) (kept-own ks c cl a) (kept-own ks c cl b);
+    };
+  }
+
+-- what was read at the number i of a type's node
+read-bare : (ws : List ℕ) (n : ℕ) {i j y : ℕ} {p : Bare} → i ≡ j → p ≡ bareIn (readAt ws n i) → p ≡ Is y → bareIn (readAt ws n j) ≡ Is y
+read-bare ws n ei ep fp = ap (λ (k : ℕ). bareIn (readAt ws n k)) (sym ei) ∙ (sym ep ∙ fp)
+
+pub sized : {ws : List ℕ} {n : ℕ} {a b : Ty} {i j y z : ℕ} {p q : Bare} → i ≡ a .idx → j ≡ b .idx → p ≡ bareIn (readAt ws n i) → p ≡ Is y
+    → q ≡ bareIn (readAt ws n j) → q ≡ Is z → Adds ws n a b → Sized ws n a b y z
+sized {ws} {n} {a} {b} {i} {j} {y} {z} ei ej ep fp eq fq = bare-sizes ws n a b y z (read-bare ws n ei ep fp) (read-bare ws n ej eq fq)
+
+pub tried-merged : {ws ws′ : List ℕ} {n : ℕ} {a b : Ty} {i j y z : ℕ} {p q : Bare} → i ≡ a .idx → j ≡ b .idx → p ≡ bareIn (readAt ws n i) → p ≡ Is y
+    → q ≡ bareIn (readAt ws n j) → q ≡ Is z → (i ≡ j → ⊥) → Merged ws ws′ n a b (stateAt ws n (a .idx)) (stateAt ws n (b .idx)) → Tried ws ws′ n a b true
+tried-merged {ws} {ws′} {n} {a} {b} {i} {j} {y} {z} ei ej ep fp eq fq h m = record {
+  merged = λ e. bare-quick ws n a b y z (read-bare ws n ei ep fp) (read-bare ws n ej eq fq) ws′ (λ f. h (ei ∙ (f ∙ sym ej))) m;
+  stays = λ e. let f : _≡_ {A = ℕ} 0 1 = cc in absurd (omega arith);
+}
