@@ -351,6 +351,31 @@ static void lists(void) {
        CALL(show_impl_type)(BOTH, FAROALDER_NONE, FAROALDER_EMPTY, 0, buf, sizeof buf), "??");
 }
 
+/* Two types, each of a pair of the one below it: without a memory each call would compare 2^30 pairs. */
+static void remembering(void) {
+  size_t n = faroalder_memory_words(64);
+  uint32_t *memory = malloc(n * sizeof *memory);
+  struct faroalder_store small = s;
+  struct faroalder_name x = name("a");
+  title("types that are shared and differ at the bottom, with a memory");
+  if (!memory) abort();
+  s = opened(64, 128);
+  uint32_t a = bare(FAROALDER_NEVER), b = nil();
+  for (int i = 0; i < 30; i++) a = tuple2(a, a), b = tuple2(b, b);
+  uint32_t as[4] = {a, x.text, x.start, x.len}, bs[4] = {b, x.text, x.start, x.len};
+  number("unify", CALL(unify_recalling)(BOTH, a, b, memory, n), FAROALDER_FAILURE);
+  number("unify_types", CALL(unify_types_recalling)(BOTH, as, 1, bs, 1, 0, memory, n), FAROALDER_FAILURE);
+  number("unify_objects", CALL(unify_objects_recalling)(BOTH, as, 4, bs, 4, 0, memory, n), FAROALDER_FAILURE);
+  number("unify_fn_sig", CALL(unify_fn_sig_recalling)(BOTH, as, 1, a, bs, 1, b, memory, n), FAROALDER_FAILURE);
+  number("unify_impl_type", CALL(unify_impl_type_recalling)(BOTH, TRAIT_FITS, as, 1, TRAIT_FITS, bs, 1, memory, n),
+         FAROALDER_FAILURE);
+  number("a memory of nothing", CALL(unify_recalling)(BOTH, var(0), a, FAROALDER_EMPTY, 0), FAROALDER_SUCCESS);
+  number("words for 4,097 nodes", faroalder_memory_words(4097), 0);
+  closed(&s);
+  s = small;
+  free(memory);
+}
+
 static void finishing(void) {
   uint8_t marks[4] = {0};
   uint32_t out[12];
@@ -425,7 +450,7 @@ static void turned_back(void) {
 int main(void) {
   void (*cases[])(void) = {var_inverse, nil_inverse,   occurs,  defaults, error_never, var_error, three_vars,
                            failure_keeps, objects,     forced,  shown,    params,      room,      sheet,
-                           kinds,       lists,         finishing, exporting, turned_back};
+                           kinds,       lists,         remembering, finishing, exporting, turned_back};
   r = rules();
   for (size_t i = 0; i < sizeof cases / sizeof *cases; i++) {
     s = opened(16, 32);

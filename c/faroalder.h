@@ -20,7 +20,8 @@
  *   FAROALDER_REFUSED + n is refusal n. An answer of more than one number goes to `out`, the last argument, an array of
  *   fixed size: all of it is written, with 0 for what does not apply; on a refusal it is as found. `faroalder_refusal`
  *   and `faroalder_load` answer the refusal's number itself, 0 for none.
- *   A refusal leaves every buffer as found, but that 7 from a printer fills its buffer with the text's first bytes.
+ *   A refusal leaves every buffer as found, but that 7 from a printer fills its buffer with the text's first bytes, and
+ *   that nothing is promised of what a memory holds (see Remembering).
  *   Whatever numbers are lent, a call of the first family ends, and answers or refuses: it asks nothing of what the
  *   buffers hold.
  *
@@ -213,6 +214,7 @@ size_t faroalder_header_words(void);
 size_t faroalder_node_words(uint32_t nodes);
 size_t faroalder_child_words(uint32_t children);
 size_t faroalder_record_words(uint32_t records); /* a chart */
+size_t faroalder_memory_words(uint32_t nodes);   /* a memory with a place for every pair of types: see Remembering */
 
 /* ---- The chart ---- */
 
@@ -314,6 +316,29 @@ FAROALDER_CALL(unify_impl_type, FAROALDER_THE_RULES, FAROALDER_NODES_OF_STORE, u
                size_t as_len, uint32_t b_trait, const uint32_t *bs, size_t bs_len);
 FAROALDER_CALL(approx_eq, FAROALDER_THE_RULES, FAROALDER_READ_STORE, uint32_t a_trait, const uint32_t *as,
                size_t as_len, uint32_t b_trait, const uint32_t *bs, size_t bs_len);
+
+/* ---- Remembering ----
+ * Each of these is the call above with a memory of yours: words that may hold anything, of any length, 0 too. Answers,
+ * refusals and nodes are the same. What it is for: where a type is shared many times over and unifying fails deep down,
+ * the pairs that were compared before are not compared again. Every pair has a place in `faroalder_memory_words(nodes)`
+ * words; that is 4 words for each of 4 * nodes * nodes pairs and 2 more, much for a large store, and in fewer, pairs
+ * share places and some are compared again. Ordinary calls pay nothing: a call remembers from its 4,096th visit on.
+ * What a memory holds afterwards means nothing, so any store may use it next. Of more than 4,096 nodes
+ * `faroalder_memory_words` answers 0. */
+
+FAROALDER_CALL(unify_recalling, FAROALDER_THE_RULES, FAROALDER_NODES_OF_STORE, uint32_t a, uint32_t b, uint32_t *memory,
+               size_t memory_len);
+FAROALDER_CALL(unify_types_recalling, FAROALDER_THE_RULES, FAROALDER_NODES_OF_STORE, const uint32_t *as, size_t as_len,
+               const uint32_t *bs, size_t bs_len, uint32_t inverted, uint32_t *memory, size_t memory_len);
+FAROALDER_CALL(unify_objects_recalling, FAROALDER_THE_RULES, FAROALDER_NODES_OF_STORE, const uint32_t *as,
+               size_t as_len, const uint32_t *bs, size_t bs_len, uint32_t inverted, uint32_t *memory,
+               size_t memory_len);
+FAROALDER_CALL(unify_fn_sig_recalling, FAROALDER_THE_RULES, FAROALDER_NODES_OF_STORE, const uint32_t *as, size_t as_len,
+               uint32_t a_return, const uint32_t *bs, size_t bs_len, uint32_t b_return, uint32_t *memory,
+               size_t memory_len);
+FAROALDER_CALL(unify_impl_type_recalling, FAROALDER_THE_RULES, FAROALDER_NODES_OF_STORE, uint32_t a_trait,
+               const uint32_t *as, size_t as_len, uint32_t b_trait, const uint32_t *bs, size_t bs_len, uint32_t *memory,
+               size_t memory_len);
 
 /* ---- Forcing and finishing. Refusals 2, 8 ---- */
 

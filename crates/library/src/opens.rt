@@ -1,9 +1,13 @@
 // How large the buffers are, the chart from records, and opening, testing and emptying a store.
 ghost use mathlib.Core.Path.{_≡_};
 ghost use Prim.Native.Nat.{_*_};
+ghost use lib.Dec.{leb};
+ghost use Rattle.scope.specs.Base.{pick};
+ghost use Rattle.scope.specs.Limits.{«MAX-NODES»};
 ghost use Rattle.scope.specs.Calls.{firstBroken, lentTests, openCall, resetCall};
 ghost use Rattle.chart.specs.Words.{«RECORD-WORDS»};
 ghost use Rattle.layout.specs.Words.{HEAD-WORDS, nodeWords, childWords, lentOf};
+ghost use Rattle.recall.specs.Memory.{wordsFor};
 ghost use Rattle.refusals.specs.Codes.{codeOf};
 ghost use Rattle.refusals.specs.Opening.{enough};
 ghost use Rattle.promise.specs.Promise.{Promised, doneReply};
@@ -42,6 +46,14 @@ pub extern "C" fn faroalder_record_words(records: u32) -> usize
     ensures { λ r. ⌜ r ≡ records * «RECORD-WORDS» ⌝ }
 {
     records as usize * RECORD_WORDS
+}
+
+// The words of a memory in which every pair of types of so many nodes has a place; 0 where no store has so many nodes.
+#[no_mangle]
+pub extern "C" fn faroalder_memory_words(nodes: u32) -> usize
+    ensures { λ r. ⌜ r ≡ pick (leb nodes «MAX-NODES») (wordsFor nodes) 0 ⌝ }
+{
+    call_unify::memory_words(nodes)
 }
 
 // The chart's words from records: 0, or 7 where there is too little room for them.

@@ -1,4 +1,4 @@
--- `library::makes::faroalder_new` meets its contract: it is `call_make::new_var`, and its number gives its answer back. Assumes nothing.
+-- `library::makes::faroalder_new` meets its contract: it is `call_new::new`, and its number gives its answer back. Assumes nothing.
 use borrow.Author.Needs.{needs}
 use Rattle.library.proofs.makes.faroalder_new.Statement.{statement}
 use Rattle.library.proofs.makes.faroalder_new.Tie as tie
