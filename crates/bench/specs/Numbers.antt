@@ -19,8 +19,8 @@ use Rattle.promise.specs.declared.DoneAnswer.{DoneAnswer}
 use Rattle.promise.specs.declared.DoneAnswer.the-variants as end
 use Rattle.promise.specs.declared.CountAnswer.{CountAnswer}
 use Rattle.promise.specs.declared.CountAnswer.the-variants as count
-use Rattle.call_unify.specs.declared.UnifyAnswer.{UnifyAnswer}
-use Rattle.call_unify.specs.declared.UnifyAnswer.the-variants as unify
+use Rattle.tested_unify.specs.declared.UnifyAnswer.{UnifyAnswer}
+use Rattle.tested_unify.specs.declared.UnifyAnswer.the-variants as unify
 
 -- refusal n is this and n; every value is below
 abbrev pub REFUSED : ℕ

@@ -14,9 +14,8 @@ ghost use Rattle.refusals.specs.Opening.{enough};
 ghost use Rattle.promise.specs.Lists.{ListPromised};
 ghost use Rattle.promise.specs.Prints.{PrintPromised, countReply};
 ghost use Rattle.lent_kind.specs.Lent.{plainArgs, given};
-ghost use Rattle.call_unify.specs.Answers.{unifyReply};
+ghost use Rattle.tested_unify.specs.Answers.{unifyReply};
 ghost use Rattle.bench.specs.Numbers.{typeIn, doneIn, unifyIn, countIn, bare, lentEnv};
-use call_unify::UnifyAnswer;
 use chart::Beside;
 use lent_kind::KindArgs;
 use names::NO_NAME;
@@ -24,6 +23,7 @@ use promise::CountAnswer;
 use promise::DoneAnswer;
 use promise::TypeAnswer;
 use scope::NONE;
+use tested_unify::UnifyAnswer;
 use types::Type;
 
 // Refusal n is this and n; every value is below.

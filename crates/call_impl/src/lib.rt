@@ -1,19 +1,15 @@
-// The calls on impl types, each a trait over a lent list of types or an error, on any numbers at all: `unify_impl_type` and `approx_eq`. Refusals come in
-// the order 2, 8, 3, 4, 5. The first has a form with a lent memory, any slice whatever it holds, and the same answer and nodes.
-ghost use mathlib.Core.Path.{_≡_};
-ghost use mathlib.Core.List.{List};
-ghost use Prim.Native.Nat.{ℕ};
-ghost use Rattle.scope.specs.Unify.{approxEq};
+// The calls on impl types, each a trait over a lent list of types or an error, on any numbers at all: `unify_impl_type` and `approx_eq`. Each tests chart and store
+// and refuses with 2 or 8, or is its form for a tested store. The first has a form with a lent memory, any slice whatever it holds, and the same answer and nodes.
 ghost use Rattle.scope.specs.Calls.{unifyImplTypeCall, approxEqCall};
 ghost use Rattle.types.specs.Impls.{implMeans};
 ghost use Rattle.layout.specs.Words.{lentOf};
 ghost use Rattle.sound.specs.Tests.{envIn};
 ghost use Rattle.promise.specs.Promise.{Promised, boolReply};
-ghost use Rattle.call_unify.specs.Answers.{unifyReply};
-use call_unify::UnifyAnswer;
+ghost use Rattle.tested_unify.specs.Answers.{unifyReply};
 use chart::Beside;
 use promise::BoolAnswer;
 use refusals::NO_REFUSAL;
+use tested_unify::UnifyAnswer;
 use types::Impl;
 
 // Two traits, each over a list of types, or errors.
@@ -40,13 +36,20 @@ pub fn unify_impl_type_recalling<'a>(
     if lent != NO_REFUSAL {
         return UnifyAnswer::Refused(lent);
     }
-    let x = layout::read_header(h);
-    let refused = lent_tests::impls(a, xs, b, ys, x.nodes, chart);
-    if refused != NO_REFUSAL {
-        return UnifyAnswer::Refused(refused);
-    }
-    recall::begin(memory);
-    UnifyAnswer::Is(unify_lists::unify_impl_type(ws, ks, x.nodes, rule, text, memory, a, xs, b, ys))
+    tested_impl::unify_impl_type_recalling(
+        chart,
+        beside,
+        rule,
+        text,
+        h,
+        ws,
+        ks,
+        memory,
+        a,
+        xs,
+        b,
+        ys,
+    )
 }
 
 // The same without a memory.
@@ -85,19 +88,6 @@ pub fn unify_impl_type<'a>(
     )
 }
 
-// Are two impl types of one trait? An error is of none.
-fn same_trait(a: Impl, b: Impl) -> bool
-    ensures { λ r. ⌜ ((xs ys : List ℕ) → r ≡ approxEq (implMeans a xs) (implMeans b ys)) ⌝ }
-{
-    let Impl::Trait(i) = a else {
-        return false;
-    };
-    match b {
-        Impl::Trait(j) => i == j,
-        Impl::Error => false,
-    }
-}
-
 // `approx_eq`: two impl types, by their traits alone.
 pub fn approx_eq<'a>(
     chart: &[u32],
@@ -117,14 +107,9 @@ pub fn approx_eq<'a>(
         (implMeans a (now (xs .entry))) (implMeans b (now (ys .entry))))
         (boolReply r) (now (h .entry)) (now (ws .entry)) (now (ks .entry)) (now (h .entry)) (now (ws .entry)) (now (ks .entry)) ⌝ }
 {
-    let lent = sound::refusal(chart, beside, rule, text, h, ws, ks);
-    if lent != NO_REFUSAL {
-        return BoolAnswer::Refused(lent);
+    let broken = sound::refusal(chart, beside, rule, text, h, ws, ks);
+    if broken != NO_REFUSAL {
+        return BoolAnswer::Refused(broken);
     }
-    let x = layout::read_header(h);
-    let refused = lent_tests::impls(a, xs, b, ys, x.nodes, chart);
-    if refused != NO_REFUSAL {
-        return BoolAnswer::Refused(refused);
-    }
-    BoolAnswer::Is(same_trait(a, b))
+    tested_impl::approx_eq(chart, beside, rule, text, h, ws, ks, a, xs, b, ys)
 }

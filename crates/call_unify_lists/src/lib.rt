@@ -1,5 +1,5 @@
-// The calls that unify lent lists of types, entries and signatures, on any numbers at all: each tests and refuses, or does and answers what document 01
-// says. Refusals come in the order 2, 8, 3, 4. Each has a form with a lent memory, any slice whatever it holds, and the same answer and nodes.
+// The calls that unify lent lists of types, entries and signatures, on any numbers at all: each tests chart and store and refuses with 2 or 8, or is its form for a
+// tested store. Each has a form with a lent memory, any slice whatever it holds, and the same answer and nodes.
 ghost use Rattle.scope.specs.Types.{tyOf};
 ghost use Rattle.scope.specs.Calls.{unifyTypesCall, unifyObjectsCall, unifyFnSigCall};
 ghost use Rattle.layout.specs.Words.{lentOf};
@@ -7,12 +7,10 @@ ghost use Rattle.sound.specs.Tests.{envIn};
 ghost use Rattle.promise.specs.Promise.{Promised};
 ghost use Rattle.store.specs.Entries.{typesIn};
 ghost use Rattle.lent_tests.specs.Given.{entriesIn};
-ghost use Rattle.call_unify.specs.Answers.{unifyReply};
-use call_unify::UnifyAnswer;
+ghost use Rattle.tested_unify.specs.Answers.{unifyReply};
 use chart::Beside;
-use promise::BoolAnswer;
 use refusals::NO_REFUSAL;
-use types::Impl;
+use tested_unify::UnifyAnswer;
 use types::Inverted;
 use types::Type;
 
@@ -39,13 +37,19 @@ pub fn unify_types_recalling<'a>(
     if lent != NO_REFUSAL {
         return UnifyAnswer::Refused(lent);
     }
-    let x = layout::read_header(h);
-    let refused = lent_tests::lists(xs, ys, x.nodes);
-    if refused != NO_REFUSAL {
-        return UnifyAnswer::Refused(refused);
-    }
-    recall::begin(memory);
-    UnifyAnswer::Is(unify_lists::unify_lists(ws, ks, x.nodes, rule, text, memory, xs, ys, inv))
+    tested_unify_lists::unify_types_recalling(
+        chart,
+        beside,
+        rule,
+        text,
+        h,
+        ws,
+        ks,
+        memory,
+        xs,
+        ys,
+        inv,
+    )
 }
 
 // The same without a memory.
@@ -101,17 +105,23 @@ pub fn unify_objects_recalling<'a>(
         (entriesIn (now (xs .entry))) (entriesIn (now (ys .entry))) (inv .0))
         (unifyReply r) (now (h .entry)) (now (ws .entry)) (now (ks .entry)) (now (h .entry)) (now (ws .exit)) (now (ks .entry)) ⌝ }
 {
-    let lent = sound::refusal(chart, beside, rule, text, h, ws, ks);
-    if lent != NO_REFUSAL {
-        return UnifyAnswer::Refused(lent);
+    let broken = sound::refusal(chart, beside, rule, text, h, ws, ks);
+    if broken != NO_REFUSAL {
+        return UnifyAnswer::Refused(broken);
     }
-    let x = layout::read_header(h);
-    let refused = lent_tests::objects(xs, ys, x.nodes, rule, text);
-    if refused != NO_REFUSAL {
-        return UnifyAnswer::Refused(refused);
-    }
-    recall::begin(memory);
-    UnifyAnswer::Is(unify_lists::unify_entries(ws, ks, x.nodes, rule, text, memory, xs, ys, inv))
+    tested_unify_lists::unify_objects_recalling(
+        chart,
+        beside,
+        rule,
+        text,
+        h,
+        ws,
+        ks,
+        memory,
+        xs,
+        ys,
+        inv,
+    )
 }
 
 // The same without a memory.
@@ -168,17 +178,24 @@ pub fn unify_fn_sig_recalling<'a>(
         (typesIn (now (xs .entry))) (tyOf (r .0)) (typesIn (now (ys .entry))) (tyOf (q .0)))
         (unifyReply t) (now (h .entry)) (now (ws .entry)) (now (ks .entry)) (now (h .entry)) (now (ws .exit)) (now (ks .entry)) ⌝ }
 {
-    let lent = sound::refusal(chart, beside, rule, text, h, ws, ks);
-    if lent != NO_REFUSAL {
-        return UnifyAnswer::Refused(lent);
+    let code = sound::refusal(chart, beside, rule, text, h, ws, ks);
+    if code != NO_REFUSAL {
+        return UnifyAnswer::Refused(code);
     }
-    let x = layout::read_header(h);
-    let refused = lent_tests::signatures(xs, r, ys, q, x.nodes);
-    if refused != NO_REFUSAL {
-        return UnifyAnswer::Refused(refused);
-    }
-    recall::begin(memory);
-    UnifyAnswer::Is(unify_lists::unify_fn_sig(ws, ks, x.nodes, rule, text, memory, xs, r, ys, q))
+    tested_unify_lists::unify_fn_sig_recalling(
+        chart,
+        beside,
+        rule,
+        text,
+        h,
+        ws,
+        ks,
+        memory,
+        xs,
+        r,
+        ys,
+        q,
+    )
 }
 
 // The same without a memory.

@@ -1,7 +1,6 @@
 // What the public calls answer, as lines of text.
 use crate::numbers::first;
 use crate::numbers::word;
-use call_unify::UnifyAnswer;
 use layout::Header;
 use layout::Kind;
 use layout::Remembered;
@@ -15,6 +14,7 @@ use tested_read::ChildAnswer;
 use tested_read::FiguresAnswer;
 use tested_read::NameAnswer;
 use tested_read::NodeAnswer;
+use tested_unify::UnifyAnswer;
 use types::Inverted;
 use types::Type;
 use types::UnifyResult;

@@ -22,7 +22,7 @@ use Rattle.refusals.specs.Codes.{codeOf}
 use Rattle.promise.specs.Promise.{Reply, Promised, Tested, typesTests, TypesTested}
 use Rattle.tested_make.specs.Room.{RoomTested}
 use Rattle.tested_make.proofs.MakerLaws.{for-room}
-use Rattle.call_unify.proofs.Laws.{Passed, passed}
+use Rattle.tested_unify.proofs.Laws.{Passed, passed}
 use Rattle.sheet_calls.specs.Sheet.{sheetBeside, SheetStore}
 
 -- what is lent beside the store, as any call reads it
@@ -54,18 +54,18 @@ module _ {h ws ks : List ℕ} (ok : SheetStore h ws ks) where
   pub lent-code : firstBroken (lentTests lentEnv lent) ≡ codeOf 0
   lent-code = subst (λ (e : Env). firstBroken (lentTests e lent) ≡ none) (sym sheet-env) tests-pass
 
+  -- it is tested
+  pub sheet-tested : Tested [] sheetBeside [] [] h ws ks
+  sheet-tested = record { passed = lent-code }
+
   pub sheet-passed : {x : Header} → x ≡ headerIn h → Passed [] sheetBeside [] [] h ws ks x
-  sheet-passed g = passed lent-code refl g
+  sheet-passed g = passed sheet-tested g
 
   -- what a call promises over what is lent, it promises over scope's empty chart
   pub as-sheet : {A : Type 0} {r : Reply A} {h′ ws′ ks′ : List ℕ} (call : Env → Lent → Outcome A) → Promised (call lentEnv lent) r h ws ks h′ ws′ ks′
       → Promised (call sheetEnv (reads (storeIn h ws ks))) r h ws ks h′ ws′ ks′
   as-sheet {A = A} {r = r} {h′ = h′} {ws′ = ws′} {ks′ = ks′} call p =
       subst (λ (o : Outcome A). Promised o r h ws ks h′ ws′ ks′) (ap (λ (e : Env). call e lent) sheet-env ∙ ap (call sheetEnv) sheet-reads) p
-
-  -- it is tested
-  pub sheet-tested : Tested [] sheetBeside [] [] h ws ks
-  sheet-tested = record { passed = lent-code }
 
   -- the makers' test of room
   pub sheet-room : (a : ℕ) {r : ℕ} → firstBroken (roomTests (storeIn h ws ks) a 0) ≡ codeOf r → RoomTested [] sheetBeside [] [] h ws ks (λ _. a) r

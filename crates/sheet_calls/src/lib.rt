@@ -10,10 +10,9 @@ ghost use Rattle.layout.specs.Words.{storeIn};
 ghost use Rattle.store.specs.Entries.{typesIn};
 ghost use Rattle.promise.specs.Promise.{typeReply, doneReply, Promised};
 ghost use Rattle.promise.specs.Prints.{countReply, PrintPromised};
-ghost use Rattle.call_unify.specs.Answers.{unifyReply};
+ghost use Rattle.tested_unify.specs.Answers.{unifyReply};
 ghost use lib.ListN.{length};
 ghost use Rattle.sheet_calls.specs.Sheet.{sheetBeside, plainHead, SheetStore, Plain};
-use call_unify::UnifyAnswer;
 use chart::Beside;
 use layout::CHILD_WORDS;
 use make::Head;
@@ -28,6 +27,7 @@ use refusals::OUTSIDE;
 use refusals::SHORT;
 use scope::NONE;
 use sheet_lines::LINE_TYPES;
+use tested_unify::UnifyAnswer;
 use types::Type;
 
 // The words of the entries of a line's types.

@@ -26,9 +26,9 @@ use Rattle.promise.specs.declared.TypeAnswer.{TypeAnswer}
 use Rattle.promise.specs.declared.TypeAnswer.the-variants as type
 use Rattle.promise.specs.declared.DoneAnswer.{DoneAnswer}
 use Rattle.promise.specs.declared.DoneAnswer.the-variants as end
-use Rattle.call_unify.specs.Answers.{unifyReply}
-use Rattle.call_unify.specs.declared.UnifyAnswer.{UnifyAnswer}
-use Rattle.call_unify.specs.declared.UnifyAnswer.the-variants as unify
+use Rattle.tested_unify.specs.Answers.{unifyReply}
+use Rattle.tested_unify.specs.declared.UnifyAnswer.{UnifyAnswer}
+use Rattle.tested_unify.specs.declared.UnifyAnswer.the-variants as unify
 use Rattle.sheet_calls.specs.Sheet.{SheetStore}
 use Rattle.sheet_calls.proofs.Laws.{sheet-clean, sheet-reads}
 use Rattle.sheet_say.specs.Front.{Front}

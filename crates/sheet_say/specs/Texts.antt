@@ -10,8 +10,8 @@ use Rattle.promise.specs.declared.TypeAnswer.{TypeAnswer}
 use Rattle.promise.specs.declared.TypeAnswer.the-variants as type
 use Rattle.promise.specs.declared.DoneAnswer.{DoneAnswer}
 use Rattle.promise.specs.declared.DoneAnswer.the-variants as end
-use Rattle.call_unify.specs.declared.UnifyAnswer.{UnifyAnswer}
-use Rattle.call_unify.specs.declared.UnifyAnswer.the-variants as unify
+use Rattle.tested_unify.specs.declared.UnifyAnswer.{UnifyAnswer}
+use Rattle.tested_unify.specs.declared.UnifyAnswer.the-variants as unify
 
 -- "A refusal prints as `refused 3`"
 abbrev pub refusedText : ℕ → List ℕ

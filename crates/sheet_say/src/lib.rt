@@ -5,9 +5,9 @@ ghost use lib.ListN.{length};
 ghost use Rattle.scope.specs.Limits.{SHEET-TEXT};
 ghost use Rattle.sheet_say.specs.Front.{Front};
 ghost use Rattle.sheet_say.specs.Texts.{refusedText, typeText, unifyText, doneText, badText};
-use call_unify::UnifyAnswer;
 use promise::DoneAnswer;
 use promise::TypeAnswer;
+use tested_unify::UnifyAnswer;
 use types::UnifyResult;
 
 // "A refusal prints as `refused 3`."

@@ -20,7 +20,7 @@ use Rattle.lent_kind.specs.Lent.{given}
 use Rattle.tested_read.specs.Replies.{nodeReply, childReply, nameReply, figuresReply}
 use Rattle.tested_ask.specs.Replies.{modReply, marksReply}
 use Rattle.tested_force.specs.Replies.{forcedReply}
-use Rattle.call_unify.specs.Answers.{unifyReply}
+use Rattle.tested_unify.specs.Answers.{unifyReply}
 use Rattle.theorem.specs.Memory.{Memory, Fixed, env, lent, held, roomy}
 use Rattle.copy_parts.specs.Places.{listOf}
 use Rattle.theorem.specs.Steps.{Ran}

@@ -43,6 +43,8 @@ tested-forms = record {
   error = record { asks = λ κs a t. t; is = λ κs a r x p. p };
   nil = record { asks = λ κs a t. t; is = λ κs a r x p. p };
   force-kind = record { asks = λ κs a t. t; is = λ κs a r x p. p };
+  unify = record { asks = λ κs a t. t; is = λ κs a r x p. p };
+  unify-recalling = record { asks = λ κs a t. t; is = λ κs a r x p. p };
   find = record { asks = λ κs a t. t; is = λ κs a r x p. p };
   find-mut = record { asks = λ κs a t. t; is = λ κs a r x p. p };
   node = record { asks = λ κs a t. t; is = λ κs a r x p. p };
@@ -50,6 +52,14 @@ tested-forms = record {
   child-name = record { asks = λ κs a t. t; is = λ κs a r x p. p };
   figures = record { asks = λ κs a t. t; is = λ κs a r x p. p };
   export = record { asks = λ κs a t. t; is = λ κs a r x p. p };
+  unify-types = record { asks = λ κs a t. t; is = λ κs a r x p. p };
+  unify-types-recalling = record { asks = λ κs a t. t; is = λ κs a r x p. p };
+  unify-objects = record { asks = λ κs a t. t; is = λ κs a r x p. p };
+  unify-objects-recalling = record { asks = λ κs a t. t; is = λ κs a r x p. p };
+  unify-impl-type = record { asks = λ κs a t. t; is = λ κs a r x p. p };
+  unify-impl-type-recalling = record { asks = λ κs a t. t; is = λ κs a r x p. p };
+  unify-fn-sig = record { asks = λ κs a t. t; is = λ κs a r x p. p };
+  unify-fn-sig-recalling = record { asks = λ κs a t. t; is = λ κs a r x p. p };
   finish-inference = record { asks = λ κs a t. t; is = λ κs a r x p. p };
   finish-inference-where = record { asks = λ κs a t. t; is = λ κs a r x p. p };
   find-related = record { asks = λ κs a t. t; is = λ κs a r x p. p };
@@ -57,6 +67,7 @@ tested-forms = record {
   self-inverse = record { asks = λ κs a t. t; is = λ κs a r x p. p };
   is-nil = record { asks = λ κs a t. t; is = λ κs a r x p. p };
   get-mod = record { asks = λ κs a t. t; is = λ κs a r x p. p };
+  approx-eq = record { asks = λ κs a t. t; is = λ κs a r x p. p };
   show = record { asks = λ κs a t. t; is = λ κs a r x p. p };
   show-impl-type = record { asks = λ κs a t. t; is = λ κs a r x p. p };
   import = record { asks = λ κs a t. t; is = λ κs a r x p. p };

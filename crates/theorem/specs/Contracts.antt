@@ -36,7 +36,7 @@ use Rattle.tested_ask.specs.Replies.{modReply, marksReply}
 use Rattle.call_force.proofs as call_force
 use Rattle.tested_force.specs.Replies.{forcedReply}
 use Rattle.call_unify.proofs as call_unify
-use Rattle.call_unify.specs.Answers.{unifyReply}
+use Rattle.tested_unify.specs.Answers.{unifyReply}
 use Rattle.call_unify_lists.proofs as call_unify_lists
 use Rattle.call_impl.proofs as call_impl
 use Rattle.call_import.proofs as call_import

@@ -39,8 +39,8 @@ use Rattle.tested_ask.specs.Replies.{modReply, marksReply, MarksPromised}
 use Rattle.tested_ask.specs.declared.ModAnswer.{ModAnswer}
 use Rattle.tested_force.specs.Replies.{forcedReply, ForcePromised}
 use Rattle.tested_force.specs.declared.ForcedAnswer.{ForcedAnswer}
-use Rattle.call_unify.specs.Answers.{unifyReply}
-use Rattle.call_unify.specs.declared.UnifyAnswer.{UnifyAnswer}
+use Rattle.tested_unify.specs.Answers.{unifyReply}
+use Rattle.tested_unify.specs.declared.UnifyAnswer.{UnifyAnswer}
 use Rattle.copy_parts.specs.Places.{listOf}
 use Rattle.theorem.specs.Memory.{Memory, nodesNow, headNow, Fixed, env, lent, held, roomy, Did, DidList, Told}
 

@@ -32,6 +32,12 @@ use Rattle.call_ask.proofs as call_ask
 use Rattle.tested_ask.proofs as tested_ask
 use Rattle.call_show.proofs as call_show
 use Rattle.tested_show.proofs as tested_show
+use Rattle.call_unify.proofs as call_unify
+use Rattle.tested_unify.proofs as tested_unify
+use Rattle.call_unify_lists.proofs as call_unify_lists
+use Rattle.tested_unify_lists.proofs as tested_unify_lists
+use Rattle.call_impl.proofs as call_impl
+use Rattle.tested_impl.proofs as tested_impl
 use Rattle.call_import.proofs as call_import
 use Rattle.tested_import.proofs as tested_import
 use Rattle.theorem.specs.Memory.{Memory, Fixed, env, lent, held, roomy, Opened, TestedWords}
@@ -56,6 +62,9 @@ pub record TestedForms : Type 0 where
   pub error : Form tested_make.error.Kinds.ps tested_make.error.Kinds.r (λ κs a. OnTested a) tested_make.error.Reads.Asked tested_make.error.Reads.Learnt call_make.error.Reads.Learnt
   pub nil : Form tested_make.nil.Kinds.ps tested_make.nil.Kinds.r (λ κs a. OnTested a) tested_make.nil.Reads.Asked tested_make.nil.Reads.Learnt call_make.nil.Reads.Learnt
   pub force-kind : Form tested_force.force_kind.Kinds.ps tested_force.force_kind.Kinds.r (λ κs a. OnTested a) tested_force.force_kind.Reads.Asked tested_force.force_kind.Reads.Learnt call_force.force_kind.Reads.Learnt
+  pub unify : Form tested_unify.unify.Kinds.ps tested_unify.unify.Kinds.r (λ κs a. OnTested a) tested_unify.unify.Reads.Asked tested_unify.unify.Reads.Learnt call_unify.unify.Reads.Learnt
+  pub unify-recalling : Form tested_unify.unify_recalling.Kinds.ps tested_unify.unify_recalling.Kinds.r (λ κs a. OnTested a)
+      tested_unify.unify_recalling.Reads.Asked tested_unify.unify_recalling.Reads.Learnt call_unify.unify_recalling.Reads.Learnt
   -- both stores are tested
   pub import : Form tested_import.import.Kinds.ps tested_import.import.Kinds.r (λ κs a. OnTested a × TestedWords (fixedIn a) (otherWords a)) tested_import.import.Reads.Asked tested_import.import.Reads.Learnt call_import.import.Reads.Learnt
   pub find : Form tested_find.find.Kinds.ps tested_find.find.Kinds.r (λ κs a. OnTested a) tested_find.find.Reads.Asked tested_find.find.Reads.Learnt call_find.find.Reads.Learnt
@@ -65,6 +74,22 @@ pub record TestedForms : Type 0 where
   pub child-name : Form tested_read.child_name.Kinds.ps tested_read.child_name.Kinds.r (λ κs a. OnTested a) tested_read.child_name.Reads.Asked tested_read.child_name.Reads.Learnt call_read.child_name.Reads.Learnt
   pub figures : Form tested_read.figures.Kinds.ps tested_read.figures.Kinds.r (λ κs a. OnTested a) tested_read.figures.Reads.Asked tested_read.figures.Reads.Learnt call_read.figures.Reads.Learnt
   pub export : Form tested_export.export.Kinds.ps tested_export.export.Kinds.r (λ κs a. OnTested a) tested_export.export.Reads.Asked tested_export.export.Reads.Learnt call_export.export.Reads.Learnt
+  pub unify-types : Form tested_unify_lists.unify_types.Kinds.ps tested_unify_lists.unify_types.Kinds.r (λ κs a. OnTested a)
+      tested_unify_lists.unify_types.Reads.Asked tested_unify_lists.unify_types.Reads.Learnt call_unify_lists.unify_types.Reads.Learnt
+  pub unify-types-recalling : Form tested_unify_lists.unify_types_recalling.Kinds.ps tested_unify_lists.unify_types_recalling.Kinds.r (λ κs a. OnTested a)
+      tested_unify_lists.unify_types_recalling.Reads.Asked tested_unify_lists.unify_types_recalling.Reads.Learnt call_unify_lists.unify_types_recalling.Reads.Learnt
+  pub unify-objects : Form tested_unify_lists.unify_objects.Kinds.ps tested_unify_lists.unify_objects.Kinds.r (λ κs a. OnTested a)
+      tested_unify_lists.unify_objects.Reads.Asked tested_unify_lists.unify_objects.Reads.Learnt call_unify_lists.unify_objects.Reads.Learnt
+  pub unify-objects-recalling : Form tested_unify_lists.unify_objects_recalling.Kinds.ps tested_unify_lists.unify_objects_recalling.Kinds.r (λ κs a. OnTested a)
+      tested_unify_lists.unify_objects_recalling.Reads.Asked tested_unify_lists.unify_objects_recalling.Reads.Learnt call_unify_lists.unify_objects_recalling.Reads.Learnt
+  pub unify-impl-type : Form tested_impl.unify_impl_type.Kinds.ps tested_impl.unify_impl_type.Kinds.r (λ κs a. OnTested a)
+      tested_impl.unify_impl_type.Reads.Asked tested_impl.unify_impl_type.Reads.Learnt call_impl.unify_impl_type.Reads.Learnt
+  pub unify-impl-type-recalling : Form tested_impl.unify_impl_type_recalling.Kinds.ps tested_impl.unify_impl_type_recalling.Kinds.r (λ κs a. OnTested a)
+      tested_impl.unify_impl_type_recalling.Reads.Asked tested_impl.unify_impl_type_recalling.Reads.Learnt call_impl.unify_impl_type_recalling.Reads.Learnt
+  pub unify-fn-sig : Form tested_unify_lists.unify_fn_sig.Kinds.ps tested_unify_lists.unify_fn_sig.Kinds.r (λ κs a. OnTested a)
+      tested_unify_lists.unify_fn_sig.Reads.Asked tested_unify_lists.unify_fn_sig.Reads.Learnt call_unify_lists.unify_fn_sig.Reads.Learnt
+  pub unify-fn-sig-recalling : Form tested_unify_lists.unify_fn_sig_recalling.Kinds.ps tested_unify_lists.unify_fn_sig_recalling.Kinds.r (λ κs a. OnTested a)
+      tested_unify_lists.unify_fn_sig_recalling.Reads.Asked tested_unify_lists.unify_fn_sig_recalling.Reads.Learnt call_unify_lists.unify_fn_sig_recalling.Reads.Learnt
   pub finish-inference : Form tested_force.finish_inference.Kinds.ps tested_force.finish_inference.Kinds.r (λ κs a. OnTested a) tested_force.finish_inference.Reads.Asked tested_force.finish_inference.Reads.Learnt call_force.finish_inference.Reads.Learnt
   pub finish-inference-where : Form tested_force.finish_inference_where.Kinds.ps tested_force.finish_inference_where.Kinds.r (λ κs a. OnTested a) tested_force.finish_inference_where.Reads.Asked tested_force.finish_inference_where.Reads.Learnt call_force.finish_inference_where.Reads.Learnt
   pub find-related : Form tested_ask.find_related.Kinds.ps tested_ask.find_related.Kinds.r (λ κs a. OnTested a) tested_ask.find_related.Reads.Asked tested_ask.find_related.Reads.Learnt call_ask.find_related.Reads.Learnt
@@ -72,6 +97,8 @@ pub record TestedForms : Type 0 where
   pub self-inverse : Form tested_ask.self_inverse.Kinds.ps tested_ask.self_inverse.Kinds.r (λ κs a. OnTested a) tested_ask.self_inverse.Reads.Asked tested_ask.self_inverse.Reads.Learnt call_ask.self_inverse.Reads.Learnt
   pub is-nil : Form tested_ask.is_nil.Kinds.ps tested_ask.is_nil.Kinds.r (λ κs a. OnTested a) tested_ask.is_nil.Reads.Asked tested_ask.is_nil.Reads.Learnt call_ask.is_nil.Reads.Learnt
   pub get-mod : Form tested_ask.get_mod.Kinds.ps tested_ask.get_mod.Kinds.r (λ κs a. OnTested a) tested_ask.get_mod.Reads.Asked tested_ask.get_mod.Reads.Learnt call_ask.get_mod.Reads.Learnt
+  pub approx-eq : Form tested_impl.approx_eq.Kinds.ps tested_impl.approx_eq.Kinds.r (λ κs a. OnTested a)
+      tested_impl.approx_eq.Reads.Asked tested_impl.approx_eq.Reads.Learnt call_impl.approx_eq.Reads.Learnt
   pub show : Form tested_show.show.Kinds.ps tested_show.show.Kinds.r (λ κs a. OnTested a) tested_show.show.Reads.Asked tested_show.show.Reads.Learnt call_show.show.Reads.Learnt
   pub show-impl-type : Form tested_show.show_impl_type.Kinds.ps tested_show.show_impl_type.Kinds.r (λ κs a. OnTested a) tested_show.show_impl_type.Reads.Asked tested_show.show_impl_type.Reads.Learnt call_show.show_impl_type.Reads.Learnt
   pub reset : Form tested_reset.reset.Kinds.ps tested_reset.reset.Kinds.r (λ κs a. OnTested a) tested_reset.reset.Reads.Asked tested_reset.reset.Reads.Learnt opening.reset.Reads.Learnt

@@ -1,8 +1,8 @@
--- `call_impl::unify_impl_type_recalling` meets its contract: as `unify_types`, with 5 for a number that is no trait's.
+-- `call_impl::unify_impl_type_recalling` meets its contract: where 2 and 8 do not stand the store is tested, and the form for such a store answers.
 -- Assumes nothing.
-use Rattle.call_unify.proofs.Laws.{passed, back-lent, lent-words, back-own, unify-done}
-use Rattle.call_impl.proofs.Laws.{impls-ask, impls-beside, impls-form}
 use borrow.Author.Needs.{needs}
+use Rattle.scope.specs.Calls.{unifyImplTypeCall}
+use Rattle.promise.proofs.BackLaws.{tested, did-back}
 use Rattle.call_impl.proofs.unify_impl_type_recalling.Statement.{statement}
 use Rattle.call_impl.proofs.unify_impl_type_recalling.Tie as tie
 
@@ -13,55 +13,20 @@ same-length : tie.Need-same-length
 same-length c = search needs
 
 returns : tie.Need-returns
-returns c = back-lent _ (impls-form _ _ .form) (c .before .refusal .ensures) (c .if1 .taken)
+unfolding unifyImplTypeCall
+returns c = did-back _ _ _ _ _ (c .before .refusal .ensures) (c .if1 .taken) _ _
 
-read-header-requires : tie.Need-read-header-requires
-read-header-requires c κs = search needs
-
-impls-requires : tie.Need-impls-requires
-impls-requires c κs = search needs
+unify-impl-type-recalling-requires : tie.Need-unify-impl-type-recalling-requires
+unify-impl-type-recalling-requires c κs = tested (c .before .before .before .refusal .ensures) (c .before .before .if1 .left)
 
 same-length-2 : tie.Need-same-length-2
 same-length-2 c = search needs
 
-returns-2 : tie.Need-returns-2
-returns-2 c =
-    let p = passed (c .before .before .before .before .refusal .ensures) (c .before .before .before .if1 .left) (c .before .before .read-header .ensures) in
-    back-own p (impls-form _ _ .form) (impls-beside p _ _ (c .before .impls .ensures)) (c .if2 .taken)
-
-begin-requires : tie.Need-begin-requires
-begin-requires c κs = search needs
-
-unify-impl-type-requires : tie.Need-unify-impl-type-requires
-unify-impl-type-requires c κs =
-    let at-begin = c .before .before .before .before in
-    let at-if2 = at-begin .before .before in
-    let at-impls = at-if2 .before in
-    let at-read-header = at-impls .before in
-    let at-if1 = at-read-header .before in
-    let at-refusal = at-if1 .before in
-    let p = passed (at-refusal .refusal .ensures) (at-if1 .if1 .left) (at-read-header .read-header .ensures) in
-    impls-ask (lent-words p) (at-begin .begin .ensures) _ _ _ _ _ (at-impls .impls .ensures)
-    (at-if2 .if2 .left)
-
 same-length-3 : tie.Need-same-length-3
 same-length-3 c = search needs
 
-same-length-4 : tie.Need-same-length-4
-same-length-4 c = search needs
-
-returns-3 : tie.Need-returns-3
-returns-3 c =
-    let at-unify-impl-type = c .before .before .before .before in
-    let at-if2 = at-unify-impl-type .before .before .before .before .before .before .before in
-    let at-impls = at-if2 .before in
-    let at-read-header = at-impls .before in
-    let at-if1 = at-read-header .before in
-    let at-refusal = at-if1 .before in
-    let p = passed (at-refusal .refusal .ensures) (at-if1 .if1 .left) (at-read-header .read-header .ensures) in
-    unify-done p (impls-form _ _) (impls-beside p _ _ (at-impls .impls .ensures))
-    (at-if2 .if2 .left) (at-unify-impl-type .unify-impl-type .kept .0)
-    (at-unify-impl-type .unify-impl-type .ensures .leaves)
+returns-2 : tie.Need-returns-2
+returns-2 c = search needs
 
 pub unify-impl-type-recalling-spec : {M : Type 1} → statement M
 unify-impl-type-recalling-spec =
@@ -70,12 +35,7 @@ unify-impl-type-recalling-spec =
     refusal-requires
     same-length
     returns
-    read-header-requires
-    impls-requires
+    unify-impl-type-recalling-requires
     same-length-2
-    returns-2
-    begin-requires
-    unify-impl-type-requires
     same-length-3
-    same-length-4
-    returns-3)
+    returns-2)

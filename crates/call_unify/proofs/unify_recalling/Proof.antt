@@ -1,7 +1,8 @@
--- `call_unify::unify_recalling` meets its contract: 2 and 8 turn the call back, or 3 does, or the store is sound and both types are inside it, which is all that unifying asks.
+-- `call_unify::unify_recalling` meets its contract: where 2 and 8 do not stand the store is tested, and the form for such a store answers.
 -- Assumes nothing.
-use Rattle.call_unify.proofs.Laws.{passed, pair-asks, back-lent, lent-words, back-own, unify-done, unify-form}
 use borrow.Author.Needs.{needs}
+use Rattle.scope.specs.Calls.{unifyCall}
+use Rattle.promise.proofs.BackLaws.{tested, did-back}
 use Rattle.call_unify.proofs.unify_recalling.Statement.{statement}
 use Rattle.call_unify.proofs.unify_recalling.Tie as tie
 
@@ -12,55 +13,20 @@ same-length : tie.Need-same-length
 same-length c = search needs
 
 returns : tie.Need-returns
-returns c = back-lent _ (unify-form _ _ .form) (c .before .refusal .ensures) (c .if1 .taken)
+unfolding unifyCall
+returns c = did-back _ _ _ _ _ (c .before .refusal .ensures) (c .if1 .taken) _ _
 
-read-header-requires : tie.Need-read-header-requires
-read-header-requires c κs = search needs
-
-pair-requires : tie.Need-pair-requires
-pair-requires c κs = search needs
+unify-recalling-requires : tie.Need-unify-recalling-requires
+unify-recalling-requires c κs = tested (c .before .before .before .refusal .ensures) (c .before .before .if1 .left)
 
 same-length-2 : tie.Need-same-length-2
 same-length-2 c = search needs
 
-returns-2 : tie.Need-returns-2
-returns-2 c =
-    let p = passed (c .before .before .before .before .refusal .ensures) (c .before .before .before .if1 .left) (c .before .before .read-header .ensures) in
-    back-own p (unify-form _ _ .form) (c .before .pair .ensures) (c .if2 .taken)
-
-begin-requires : tie.Need-begin-requires
-begin-requires c κs = search needs
-
-unify-all-requires : tie.Need-unify-all-requires
-unify-all-requires c κs =
-    let at-begin = c .before .before .before .before in
-    let at-if2 = at-begin .before .before in
-    let at-pair = at-if2 .before in
-    let at-read-header = at-pair .before in
-    let at-if1 = at-read-header .before in
-    let at-refusal = at-if1 .before in
-    let p = passed (at-refusal .refusal .ensures) (at-if1 .if1 .left) (at-read-header .read-header .ensures) in
-    pair-asks (lent-words p) (at-begin .begin .ensures) _ _ (at-pair .pair .ensures)
-    (at-if2 .if2 .left)
-
 same-length-3 : tie.Need-same-length-3
 same-length-3 c = search needs
 
-same-length-4 : tie.Need-same-length-4
-same-length-4 c = search needs
-
-returns-3 : tie.Need-returns-3
-returns-3 c =
-    let at-unify-all = c .before .before .before .before in
-    let at-if2 = at-unify-all .before .before .before .before .before .before .before in
-    let at-pair = at-if2 .before in
-    let at-read-header = at-pair .before in
-    let at-if1 = at-read-header .before in
-    let at-refusal = at-if1 .before in
-    let p = passed (at-refusal .refusal .ensures) (at-if1 .if1 .left) (at-read-header .read-header .ensures) in
-    unify-done p (unify-form _ _) (at-pair .pair .ensures)
-    (at-if2 .if2 .left) (at-unify-all .unify-all .kept .0)
-    (at-unify-all .unify-all .ensures .leaves)
+returns-2 : tie.Need-returns-2
+returns-2 c = search needs
 
 pub unify-recalling-spec : {M : Type 1} → statement M
 unify-recalling-spec =
@@ -69,12 +35,7 @@ unify-recalling-spec =
     refusal-requires
     same-length
     returns
-    read-header-requires
-    pair-requires
+    unify-recalling-requires
     same-length-2
-    returns-2
-    begin-requires
-    unify-all-requires
     same-length-3
-    same-length-4
-    returns-3)
+    returns-2)

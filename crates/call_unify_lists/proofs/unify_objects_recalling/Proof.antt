@@ -1,10 +1,8 @@
--- `call_unify_lists::unify_objects_recalling` meets its contract: as `unify`, over the entries of two objects.
+-- `call_unify_lists::unify_objects_recalling` meets its contract: where 2 and 8 do not stand the store is tested, and the form for such a store answers.
 -- Assumes nothing.
-use mathlib.Core.List.{[]}
-use Rattle.chart.specs.Env.{chartIn}
-use Rattle.call_unify.proofs.Laws.{passed, back-lent, lent-words, back-own, unify-done}
-use Rattle.call_unify_lists.proofs.Laws.{objects-ask, objects-leave, objects-beside, objects-form}
 use borrow.Author.Needs.{needs}
+use Rattle.scope.specs.Calls.{unifyObjectsCall}
+use Rattle.promise.proofs.BackLaws.{tested, did-back}
 use Rattle.call_unify_lists.proofs.unify_objects_recalling.Statement.{statement}
 use Rattle.call_unify_lists.proofs.unify_objects_recalling.Tie as tie
 
@@ -15,63 +13,20 @@ same-length : tie.Need-same-length
 same-length c = search needs
 
 returns : tie.Need-returns
-returns c = back-lent _ (objects-form _ _ _ .form) (c .before .refusal .ensures) (c .if1 .taken)
+unfolding unifyObjectsCall
+returns c = did-back _ _ _ _ _ (c .before .refusal .ensures) (c .if1 .taken) _ _
 
-read-header-requires : tie.Need-read-header-requires
-read-header-requires c κs = search needs
-
-objects-requires : tie.Need-objects-requires
-objects-requires c κs = search needs
+unify-objects-recalling-requires : tie.Need-unify-objects-recalling-requires
+unify-objects-recalling-requires c κs = tested (c .before .before .before .refusal .ensures) (c .before .before .if1 .left)
 
 same-length-2 : tie.Need-same-length-2
 same-length-2 c = search needs
 
-returns-2 : tie.Need-returns-2
-returns-2 c =
-    let p = passed (c .before .before .before .before .refusal .ensures) (c .before .before .before .if1 .left) (c .before .before .read-header .ensures) in
-    back-own p (objects-form _ _ _ .form) (objects-beside p _ _ (c .before .objects .ensures)) (c .if2 .taken)
-
-begin-requires : tie.Need-begin-requires
-begin-requires c κs = search needs
-
-unify-entries-requires : tie.Need-unify-entries-requires
-unify-entries-requires c κs =
-    let at-begin = c .before .before .before .before in
-    let at-if2 = at-begin .before .before in
-    let at-objects = at-if2 .before in
-    let at-read-header = at-objects .before in
-    let at-if1 = at-read-header .before in
-    let at-refusal = at-if1 .before in
-    let at-args = at-refusal .before .before .before .before .before .before .before .before .before .before .before in
-    let p = passed (at-refusal .refusal .ensures) (at-if1 .if1 .left) (at-read-header .read-header .ensures) in
-    objects-ask (lent-words p) (at-begin .begin .ensures)
-    (chartIn [] (at-args .args .rule .now) (at-args .args .text .now))
-    (at-args .args .xs .now)
-    (at-args .args .ys .now)
-    (at-objects .objects .ensures) (at-if2 .if2 .left)
-    (at-args .args .inv)
-
 same-length-3 : tie.Need-same-length-3
 same-length-3 c = search needs
 
-same-length-4 : tie.Need-same-length-4
-same-length-4 c = search needs
-
-returns-3 : tie.Need-returns-3
-returns-3 c =
-    let at-unify-entries = c .before .before .before .before in
-    let at-begin = at-unify-entries .before .before .before .before .before in
-    let at-if2 = at-begin .before .before in
-    let at-objects = at-if2 .before in
-    let at-read-header = at-objects .before in
-    let at-if1 = at-read-header .before in
-    let at-refusal = at-if1 .before in
-    let at-args = at-refusal .before .before .before .before .before .before .before .before .before .before .before in
-    let p = passed (at-refusal .refusal .ensures) (at-if1 .if1 .left) (at-read-header .read-header .ensures) in
-    unify-done p (objects-form _ _ _) (objects-beside p _ _ (at-objects .objects .ensures))
-    (at-if2 .if2 .left) (at-unify-entries .unify-entries .kept .0)
-    (objects-leave (lent-words p) (at-begin .begin .ensures) (chartIn [] (at-args .args .rule .now) (at-args .args .text .now)) (at-args .args .xs .now)
-    (at-args .args .ys .now) (at-objects .objects .ensures) (at-if2 .if2 .left) (at-args .args .inv .0) (at-unify-entries .unify-entries .ensures .leaves))
+returns-2 : tie.Need-returns-2
+returns-2 c = search needs
 
 pub unify-objects-recalling-spec : {M : Type 1} → statement M
 unify-objects-recalling-spec =
@@ -80,12 +35,7 @@ unify-objects-recalling-spec =
     refusal-requires
     same-length
     returns
-    read-header-requires
-    objects-requires
+    unify-objects-recalling-requires
     same-length-2
-    returns-2
-    begin-requires
-    unify-entries-requires
     same-length-3
-    same-length-4
-    returns-3)
+    returns-2)

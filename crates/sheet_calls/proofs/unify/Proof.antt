@@ -2,7 +2,7 @@
 -- Assumes nothing.
 use Rattle.scope.specs.Types.{tyOf}
 use Rattle.scope.specs.Calls.{unifyCall}
-use Rattle.call_unify.proofs.Laws.{pair-asks, lent-words, back-own, unify-done, unify-form}
+use Rattle.tested_unify.proofs.Laws.{pair-asks, lent-words, back-own, unify-done, unify-form}
 use Rattle.sheet_calls.proofs.Laws.{sheet-passed, as-sheet}
 use borrow.Author.Needs.{needs}
 use Rattle.sheet_calls.proofs.unify.Statement.{statement}

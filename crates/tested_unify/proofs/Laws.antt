@@ -1,5 +1,5 @@
--- From the codes of a call's tests, 2 and 8 first and then those of its arguments, and from what its core leaves, to what every call promises. A call that no test
--- turns back has a sound store and types inside it, which is what its core asks; its core changes nodes alone. `unify` and the calls on lent lists share this.
+-- From the code of the tests of a call's arguments on a tested store, and from what its core leaves, to what every call promises. A call that no test turns back has
+-- a sound store and types inside it, which is what its core asks; its core changes nodes alone. `unify` and the calls on lent lists share this.
 -- Assumes nothing.
 use mathlib.Core.Path.{_≡_, refl, ap, sym, _∙_}
 use mathlib.Core.Bool.{Bool, true, not}
@@ -33,9 +33,9 @@ use Rattle.store.specs.Holds.{Holds, Became}
 use Rattle.store.proofs.Laws.{store-count, beyond-refl, holds-with, beyond-with}
 use Rattle.sound.specs.Tests.{envIn}
 use Rattle.refusals.specs.Codes.{codeOf}
-use Rattle.promise.specs.Promise.{value, refusal, Promised}
+use Rattle.promise.specs.Promise.{value, refusal, Promised, Tested}
 use Rattle.refusals.proofs.Laws.{code-none, test-passed, tests-passed}
-use Rattle.promise.proofs.Laws.{lent-env, lent-facts, lent-clean-words, lent-store, lent-refused, lent-next, lent-passed}
+use Rattle.promise.proofs.Laws.{lent-env, lent-facts, tested-clean, tested-next}
 use Rattle.promise.proofs.CallLaws.{call-back, call-done}
 use Rattle.recall.specs.Memory.{Begun}
 use Rattle.meeting.specs.Asks.{SoundWords}
@@ -79,21 +79,14 @@ pub record Form {A : Type 0} (o : Env → Lent → Outcome A) (tests : Env → S
 pub record Unifies (o : Env → Lent → Outcome Answer) (tests : Env → Store → List (Bool × ℕ)) (core : Texts → List Node → Out) : Type 0 where
   pub form : Form o tests (λ e s. unified s (core (e .texts) (s .nodes)))
 
-pub back-lent : {A : Type 0} {o : Env → Lent → Outcome A} {tests : Env → Store → List (Bool × ℕ)} {rest : Env → Store → Outcome A} {h ws ks : List ℕ} {n : ℕ} (e : Env)
-    → Form o tests rest → firstBroken (lentTests e (lentOf h ws ks)) ≡ codeOf n → (n ≡ 0 → ⊥) → Promised (o e (lentOf h ws ks)) (refusal n) h ws ks h ws ks
-back-lent {tests = tests} {rest = rest} {h = h} {ws = ws} {ks = ks} {n = n} e p q z =
-    rw (p .is e (lentOf h ws ks)) (call-back e h ws ks (tests e) (rest e) n (lent-refused e h ws ks (tests e (storeOf (lentOf h ws ks))) n q z) z)
-
 -- 2 and 8 do not turn a call on these slices back, and x is the header
 pub record Passed (chart : List ℕ) (b : Beside) (rule text h ws ks : List ℕ) (x : Header) : Type 0 where
-  pub code : ℕ
-  pub lent : firstBroken (lentTests (envIn chart b rule text) (lentOf h ws ks)) ≡ codeOf code
-  pub none : code ≡ 0
+  pub tested : Tested chart b rule text h ws ks
   pub header : x ≡ headerIn h
 
-pub passed : {chart : List ℕ} {b : Beside} {rule text h ws ks : List ℕ} {x : Header} {n : ℕ}
-    → firstBroken (lentTests (envIn chart b rule text) (lentOf h ws ks)) ≡ codeOf n → n ≡ 0 → x ≡ headerIn h → Passed chart b rule text h ws ks x
-passed {n = n} q z g = record { code = n; lent = q; none = z; header = g }
+pub passed : {chart : List ℕ} {b : Beside} {rule text h ws ks : List ℕ} {x : Header} → Tested chart b rule text h ws ks → x ≡ headerIn h
+    → Passed chart b rule text h ws ks x
+passed q g = record { tested = q; header = g }
 
 module _ {chart : List ℕ} {b : Beside} {rule text h ws ks : List ℕ} {x : Header} (c : Passed chart b rule text h ws ks x) where
   abbrev env : Env
@@ -106,13 +99,13 @@ module _ {chart : List ℕ} {b : Beside} {rule text h ws ks : List ℕ} {x : Hea
   whole = envOf chart b rule text
 
   none-broken : firstBroken (lentTests env lent) ≡ none
-  none-broken = lent-passed env h ws ks (c .code) (c .lent) (c .none)
+  none-broken = c .tested .passed
 
   env-is : env ≡ whole
   env-is = lent-env chart b rule text h ws ks none-broken
 
   words : clean h ws ks ≡ true
-  words = lent-clean-words env h ws ks none-broken
+  words = tested-clean (c .tested)
 
   nodes-made : x .nodes ≡ nodesMade h
   nodes-made = ap (λ (y : Header). y .nodes) (c .header)
@@ -138,9 +131,8 @@ module _ {chart : List ℕ} {b : Beside} {rule text h ws ks : List ℕ} {x : Hea
       {m : ℕ} (t : FirstOf (x .nodes) (tests whole) m) where
     own-code : firstBroken (lentTests env lent ++ tests env (storeOf lent)) ≡ codeOf m
     own-code =
-        lent-next env h ws ks (tests env (storeOf lent)) (c .code) (c .lent) (c .none)
-        ∙ (ap (λ (e : Env). firstBroken (tests e (storeOf lent))) env-is
-        ∙ t .code (storeOf lent) (ap (λ (s : Store). length (s .nodes)) (lent-store env h ws ks none-broken) ∙ (store-count h ws ks ∙ sym nodes-made)))
+        tested-next (c .tested) (tests env)
+        ∙ (ap (λ (e : Env). firstBroken (tests e (storeIn h ws ks))) env-is ∙ t .code (storeIn h ws ks) (store-count h ws ks ∙ sym nodes-made))
 
     pub back-own : (m ≡ 0 → ⊥) → Promised (o env lent) (refusal m) h ws ks h ws ks
     back-own w = rw (p .is env lent) (call-back env h ws ks (tests env) (rest env) m own-code w)

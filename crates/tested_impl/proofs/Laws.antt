@@ -22,7 +22,7 @@ use Rattle.unify_lists.specs.Lent.{Impls}
 use Rattle.unify_lists.proofs.CallerLaws.{given-impls}
 use Rattle.lent_tests.proofs.Laws.{defined-alone}
 use Rattle.lent_tests.specs.Given.{implsTests, FirstOf}
-use Rattle.call_unify.proofs.Laws.{inside, Form, Unifies, Passed}
+use Rattle.tested_unify.proofs.Laws.{inside, Form, Unifies, Passed}
 
 -- what the core asks, of arguments that no test turned back
 

@@ -1,12 +1,12 @@
--- `call_impl::same_trait` meets its contract: an error is of no trait, and two traits are compared by their numbers.
+-- `tested_impl::same_trait` meets its contract: an error is of no trait, and two traits are compared by their numbers.
 -- Assumes nothing.
 use mathlib.Core.Path.{refl, ap, sym}
 use Rattle.scope.specs.Unify.{approxEq}
 use Rattle.types.specs.Impls.{implMeans}
 use Rattle.types.specs.declared.Impl.{Impl}
 use borrow.Author.Needs.{needs}
-use Rattle.call_impl.proofs.same_trait.Statement.{statement}
-use Rattle.call_impl.proofs.same_trait.Tie as tie
+use Rattle.tested_impl.proofs.same_trait.Statement.{statement}
+use Rattle.tested_impl.proofs.same_trait.Tie as tie
 
 enum-known-a : tie.Need-enum-known-a
 enum-known-a c = search needs
