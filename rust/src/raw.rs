@@ -119,6 +119,12 @@ macro_rules! calls {
       finish_inference();
       finish_inference_where(bytes: *const u8, bytes_len: N);
       reset();
+      unify(a: u32, b: u32);
+      unify_types(a: P, a_len: N, b: P, b_len: N, inv: u32);
+      unify_objects(a: P, a_len: N, b: P, b_len: N, inv: u32);
+      unify_fn_sig(a: P, a_len: N, a_ret: u32, b: P, b_len: N, b_ret: u32);
+      unify_impl_type(a: u32, x: P, x_len: N, b: u32, y: P, y_len: N);
+      approx_eq(a: u32, x: P, x_len: N, b: u32, y: P, y_len: N);
       show(t: u32, buf: *mut u8, buf_len: N);
       show_impl_type(a: u32, x: P, x_len: N, buf: *mut u8, buf_len: N);
       import(sh: P, sh_len: N, sw: P, sw_len: N, sk: P, sk_len: N, ts: P, ts_len: N, listed: u32,
@@ -129,28 +135,13 @@ macro_rules! calls {
   };
 }
 
-macro_rules! unify_calls {
-  ($prefix:literal) => {
-    family! { $prefix, u64;
-      unify(a: u32, b: u32);
-      unify_types(a: P, a_len: N, b: P, b_len: N, inv: u32);
-      unify_objects(a: P, a_len: N, b: P, b_len: N, inv: u32);
-      unify_fn_sig(a: P, a_len: N, a_ret: u32, b: P, b_len: N, b_ret: u32);
-      unify_impl_type(a: u32, x: P, x_len: N, b: u32, y: P, y_len: N);
-      approx_eq(a: u32, x: P, x_len: N, b: u32, y: P, y_len: N);
-    }
-  };
-}
-
 mod first {
   calls! { "faroalder_" }
-  unify_calls! { "faroalder_" }
   family! { "faroalder_", u32; refusal(); }
 }
 
 mod second {
   calls! { "faroalder_tested_" }
-  unify_calls! { "faroalder_" }
 }
 
 /// A chart in words, what stands beside it, and the two texts: any at all, tested or not.

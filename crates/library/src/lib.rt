@@ -15,5 +15,7 @@ pub mod tested_forces;
 pub mod tested_makes;
 pub mod tested_opens;
 pub mod tested_reads;
+pub mod tested_recalls;
 pub mod tested_shows;
+pub mod tested_unifies;
 pub mod unifies;
