@@ -49,12 +49,18 @@ node-sound-requires : tie.Need-node-sound-requires
 node-sound-requires c κs = search needs
 
 returns-4 : tie.Need-returns-4
-returns-4 c = λ ns l.
-    let a = c .before .before .before .before .before .before .before .before .before .before .before .before .before .before .args in
+returns-4 c =
+    let b1 = c .before in
+    let b2 = b1 .before in
+    let b3 = b2 .before in
+    let b8 = b3 .before .before .before .before .before in
+    let b14 = b8 .before .before .before .before .before .before in
+    λ ns l.
+    let a = b14 .args in
     let e = chartIn (a .chart .now) (a .rule .now) (a .text .now) in
-    let x = c .before .before .before .before .before .before .before .before .cell-at in
-    let clean = passes (c .before .before .before .node-clean .ensures) (c .before .before .if3 .left) in
-    test-node e (a .ws .now) (a .ks .now) (a .c) (a .i) ns (x .result) (x .ensures) (a .n) (c .before .before .before .before .before .before .before .before .before .before .before .before .before .before .pre .1) clean (c .before .node-at .ensures) (c .node-sound .ensures ns l)
+    let x = b8 .cell-at in
+    let clean = passes (b3 .node-clean .ensures) (b2 .if3 .left) in
+    test-node e (a .ws .now) (a .ks .now) (a .c) (a .i) ns (x .result) (x .ensures) (a .n) (b14 .pre .1) clean (b1 .node-at .ensures) (c .node-sound .ensures ns l)
 
 pub node-sound-spec : {M : Type 1} → statement M
 node-sound-spec =

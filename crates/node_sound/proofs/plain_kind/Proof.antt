@@ -62,10 +62,27 @@ plain-children-requires : tie.Need-plain-children-requires
 plain-children-requires c κs = search needs
 
 returns-9 : tie.Need-returns-9
-returns-9 c = λ t.
-    let a = c .before .before .before .before .before .before .before .before .before .before .before .before .before .before .before .before .before .before .before .before .before .args in
-    plain-kind (a .chart .now) (a .ks .now) (a .n) (a .k) (c .before .before .before .before .before .before .before .before .before .before .before .before .before .before .before .before .before .before .row-of .result) (c .before .before .before .before .before .before .before .before .before .before .before .before .before .before .before .before .before .before .row-of .ensures) (c .before .before .before .before .before .before .before .before .before .before .before .before .before .if2 .left) (sym (c .plain-children .ensures) ∙ t) (omega (arith, c .before .before .before .before .before .before .before .before .before .before .before .before .before .before .before .if1 .left)) (c .before .before .before .before .before .before .before .before .before .before .before .before .if3 .left)
-    (c .before .before .before .before .before .before .before .before .before .before .if4 .left) (passes (c .before .before .before .before .before .before .before .before .before .row-fits .ensures) (c .before .before .before .before .before .before .before .before .if5 .left)) (passes (c .before .before .before .before .before .before .before .row-number-ok .ensures) (c .before .before .before .before .before .before .if6 .left)) (c .before .before .before .before .before .told .ensures (not-false _ (c .before .before .before .before .if7 .left))) (passes (c .before .before .before .name-clean .ensures) (c .before .before .if8 .left))
+returns-9 c =
+    let b2 = c .before .before in
+    let b3 = b2 .before in
+    let b4 = b3 .before in
+    let b5 = b4 .before in
+    let b6 = b5 .before in
+    let b7 = b6 .before in
+    let b8 = b7 .before in
+    let b9 = b8 .before in
+    let b10 = b9 .before in
+    let b12 = b10 .before .before in
+    let b13 = b12 .before in
+    let b15 = b13 .before .before in
+    let b18 = b15 .before .before .before in
+    let b21 = b18 .before .before .before in
+    λ t.
+    let a = b21 .args in
+    plain-kind (a .chart .now) (a .ks .now) (a .n) (a .k) (b18 .row-of .result) (b18 .row-of .ensures) (b13 .if2 .left) (sym (c .plain-children .ensures) ∙ t)
+    (omega (arith, b15 .if1 .left)) (b12 .if3 .left)
+    (b10 .if4 .left) (passes (b9 .row-fits .ensures) (b8 .if5 .left)) (passes (b7 .row-number-ok .ensures) (b6 .if6 .left)) (b5 .told .ensures (not-false _ (b4 .if7 .left)))
+    (passes (b3 .name-clean .ensures) (b2 .if8 .left))
 
 pub plain-kind-spec : {M : Type 1} → statement M
 plain-kind-spec =

@@ -34,9 +34,16 @@ plain-kind-requires : tie.Need-plain-kind-requires
 plain-kind-requires c κs = search needs
 
 returns-5 : tie.Need-returns-5
-returns-5 c = λ t.
-    let a = c .before .before .before .before .before .before .before .before .before .before .before .before .before .args in
-    plain-node (a .chart .now) (a .ks .now) (a .n) (a .c) (a .x) (c .before .before .before .before .before .before .before .before .before .if1 .left) (c .before .before .before .before .before .before .if2 .left) (c .before .before .before .before .if3 .left) (c .before .before .if4 .left) (c .before .kind-in .ensures) (c .plain-kind .ensures t)
+returns-5 c =
+    let b1 = c .before in
+    let b2 = b1 .before in
+    let b4 = b2 .before .before in
+    let b6 = b4 .before .before in
+    let b9 = b6 .before .before .before in
+    let b13 = b9 .before .before .before .before in
+    λ t.
+    let a = b13 .args in
+    plain-node (a .chart .now) (a .ks .now) (a .n) (a .c) (a .x) (b9 .if1 .left) (b6 .if2 .left) (b4 .if3 .left) (b2 .if4 .left) (b1 .kind-in .ensures) (c .plain-kind .ensures t)
 
 pub plain-node-spec : {M : Type 1} → statement M
 plain-node-spec =

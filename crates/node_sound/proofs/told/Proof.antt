@@ -23,7 +23,11 @@ returns-3 : tie.Need-returns-3
 returns-3 c = λ t. absurd (false≢true t)
 
 returns-4 : tie.Need-returns-4
-returns-4 c = λ t. told-plain _ (c .before .before .before .before .before .before .args .k) (c .before .before .before .before .before .before .args .row) (c .before .before .before .before .before .before .pre) (c .before .before .before .if1 .left) (c .before .if3 .left) t
+returns-4 c =
+    let b1 = c .before in
+    let b3 = b1 .before .before in
+    let b6 = b3 .before .before .before in
+    λ t. told-plain _ (b6 .args .k) (b6 .args .row) (b6 .pre) (b3 .if1 .left) (b1 .if3 .left) t
 
 pub told-spec : {M : Type 1} → statement M
 told-spec =
