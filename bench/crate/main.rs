@@ -109,24 +109,51 @@ fn unifying() {
   both!("unify objects of 64 names", shapes::objects, shapes::OBJECTS * shapes::NAMES);
 }
 
-/// Every fourth node of a filled store of 512, into an empty one: the time a node of the source.
+/// What is imported: a filled store's every fourth type, a chain of Refs, wide tuples, a tree shared at every level.
+fn mixed<S: Side>(side: &mut S) -> Vec<u32> {
+  shapes::fill(side, 512);
+  (0..512).step_by(4).collect()
+}
+
+fn chain<S: Side>(side: &mut S) -> Vec<u32> {
+  let bottom = side.var();
+  vec![(1..shapes::CHAIN).fold(bottom, |kid, _| side.reference(kid))]
+}
+
+fn wide<S: Side>(side: &mut S) -> Vec<u32> {
+  let kids: Vec<u32> = (0..shapes::WIDTH).map(|_| side.var()).collect();
+  (0..shapes::TUPLES).map(|_| side.tuple(&kids)).collect()
+}
+
+fn shared<S: Side>(side: &mut S) -> Vec<u32> {
+  let bottom = side.var();
+  vec![(0..120).fold(bottom, |kid, _| side.tuple(&[kid, kid]))]
+}
+
+/// Into an empty store with room for all of it: the time a node of the source.
 fn importing() {
-  const SOURCE: usize = 512;
-  let types: Vec<u32> = (0..SOURCE as u32).step_by(4).collect();
-  let mut ours = Ours::opened(SOURCE);
-  let mut rust = Vine::opened(SOURCE);
-  shapes::fill(&mut ours, SOURCE);
-  shapes::fill(&mut rust, SOURCE);
-  let listed = ours::tys(&types);
-  let mine =
-    least(|| Ours::opened(SOURCE), |side| _ = black_box(side.types.import_types(&ours.types, &listed, None).unwrap()));
-  let inner: Vec<_> = types.iter().map(|&node| view::make(node as usize, false)).collect();
-  let source = TypeCtx { types: rust.types, inner };
-  let theirs = least(Types::default, |types| _ = black_box(types.import(&source, None)));
-  line("import, a node of the source", mine / SOURCE as f64, theirs / SOURCE as f64);
-  let mine = least(|| (), |()| _ = black_box(ours.types.export(&listed).unwrap()));
-  let theirs = least(|| (), |()| _ = black_box(source.types.export(|t| t.transfer(&source.inner))));
-  line("export, a node of the source", mine / SOURCE as f64, theirs / SOURCE as f64);
+  macro_rules! both {
+    ($what:literal, $shape:path) => {{
+      let (mut ours, mut rust) = (Ours::opened(NODES), Vine::opened(NODES));
+      let (types, others) = ($shape(&mut ours), $shape(&mut rust));
+      assert_eq!(types, others);
+      let listed = ours::tys(&types);
+      let nodes = ours.types.figures().nodes as f64;
+      let open = || Ours::opened(NODES);
+      let mine = least(open, |side| _ = black_box(side.types.import_types(&ours.types, &listed, None).unwrap()));
+      let inner: Vec<_> = types.iter().map(|&node| view::make(node as usize, false)).collect();
+      let source = TypeCtx { types: rust.types, inner };
+      let theirs = least(Types::default, |types| _ = black_box(types.import(&source, None)));
+      line(concat!("import of ", $what), mine / nodes, theirs / nodes);
+      let mine = least(|| (), |()| _ = black_box(ours.types.export(&listed).unwrap()));
+      let theirs = least(|| (), |()| _ = black_box(source.types.export(|t| t.transfer(&source.inner))));
+      line(concat!("export of ", $what), mine / nodes, theirs / nodes);
+    }};
+  }
+  both!("a mixed store", mixed);
+  both!("a chain of Refs", chain);
+  both!("wide tuples over the same variables", wide);
+  both!("a tree shared at every level", shared);
 }
 
 /// The texts of a short type and of one of 16,706 bytes: the whole call.

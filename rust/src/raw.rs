@@ -119,11 +119,6 @@ macro_rules! calls {
       finish_inference();
       finish_inference_where(bytes: *const u8, bytes_len: N);
       reset();
-      unify(a: u32, b: u32);
-      unify_types(a: P, a_len: N, b: P, b_len: N, inv: u32);
-      unify_objects(a: P, a_len: N, b: P, b_len: N, inv: u32);
-      unify_fn_sig(a: P, a_len: N, a_ret: u32, b: P, b_len: N, b_ret: u32);
-      unify_impl_type(a: u32, x: P, x_len: N, b: u32, y: P, y_len: N);
       approx_eq(a: u32, x: P, x_len: N, b: u32, y: P, y_len: N);
       show(t: u32, buf: *mut u8, buf_len: N);
       show_impl_type(a: u32, x: P, x_len: N, buf: *mut u8, buf_len: N);
@@ -138,10 +133,24 @@ macro_rules! calls {
 mod first {
   calls! { "faroalder_" }
   family! { "faroalder_", u32; refusal(); }
+  family! { "faroalder_", u64;
+    unify(a: u32, b: u32);
+    unify_types(a: P, a_len: N, b: P, b_len: N, inv: u32);
+    unify_objects(a: P, a_len: N, b: P, b_len: N, inv: u32);
+    unify_fn_sig(a: P, a_len: N, a_ret: u32, b: P, b_len: N, b_ret: u32);
+    unify_impl_type(a: u32, x: P, x_len: N, b: u32, y: P, y_len: N);
+  }
 }
 
 mod second {
   calls! { "faroalder_tested_" }
+  family! { "faroalder_tested_", u64;
+    unify_recalling(a: u32, b: u32, m: M, m_len: N);
+    unify_types_recalling(a: P, a_len: N, b: P, b_len: N, inv: u32, m: M, m_len: N);
+    unify_objects_recalling(a: P, a_len: N, b: P, b_len: N, inv: u32, m: M, m_len: N);
+    unify_fn_sig_recalling(a: P, a_len: N, a_ret: u32, b: P, b_len: N, b_ret: u32, m: M, m_len: N);
+    unify_impl_type_recalling(a: u32, x: P, x_len: N, b: u32, y: P, y_len: N, m: M, m_len: N);
+  }
 }
 
 /// A chart in words, what stands beside it, and the two texts: any at all, tested or not.
@@ -322,30 +331,6 @@ macro_rules! methods {
       change!(self, $family::reset)
     }
 
-    pub fn unify(&mut self, a: u32, b: u32) -> u64 {
-      change!(self, $family::unify, a, b)
-    }
-
-    pub fn unify_types(&mut self, a: &[u32], b: &[u32], inv: bool) -> u64 {
-      let inv = inv.into();
-      change!(self, $family::unify_types, a.as_ptr(), a.len(), b.as_ptr(), b.len(), inv)
-    }
-
-    pub fn unify_objects(&mut self, a: &[u32], b: &[u32], inv: bool) -> u64 {
-      let inv = inv.into();
-      change!(self, $family::unify_objects, a.as_ptr(), a.len(), b.as_ptr(), b.len(), inv)
-    }
-
-    pub fn unify_fn_sig(&mut self, a: &[u32], a_ret: u32, b: &[u32], b_ret: u32) -> u64 {
-      let (x, y) = (a.as_ptr(), b.as_ptr());
-      change!(self, $family::unify_fn_sig, x, a.len(), a_ret, y, b.len(), b_ret)
-    }
-
-    pub fn unify_impl_type(&mut self, (a, x): (u32, &[u32]), (b, y): (u32, &[u32])) -> u64 {
-      let (xs, ys) = (x.as_ptr(), y.as_ptr());
-      change!(self, $family::unify_impl_type, a, xs, x.len(), b, ys, y.len())
-    }
-
     pub fn approx_eq(&self, (a, x): (u32, &[u32]), (b, y): (u32, &[u32])) -> u64 {
       let (xs, ys) = (x.as_ptr(), y.as_ptr());
       read!(self, $family::approx_eq, a, xs, x.len(), b, ys, y.len())
@@ -419,6 +404,30 @@ macro_rules! methods {
 #[allow(missing_docs)]
 impl Lent<'_> {
   methods! { first }
+
+  pub fn unify(&mut self, a: u32, b: u32) -> u64 {
+    change!(self, first::unify, a, b)
+  }
+
+  pub fn unify_types(&mut self, a: &[u32], b: &[u32], inv: bool) -> u64 {
+    let inv = inv.into();
+    change!(self, first::unify_types, a.as_ptr(), a.len(), b.as_ptr(), b.len(), inv)
+  }
+
+  pub fn unify_objects(&mut self, a: &[u32], b: &[u32], inv: bool) -> u64 {
+    let inv = inv.into();
+    change!(self, first::unify_objects, a.as_ptr(), a.len(), b.as_ptr(), b.len(), inv)
+  }
+
+  pub fn unify_fn_sig(&mut self, a: &[u32], a_ret: u32, b: &[u32], b_ret: u32) -> u64 {
+    let (x, y) = (a.as_ptr(), b.as_ptr());
+    change!(self, first::unify_fn_sig, x, a.len(), a_ret, y, b.len(), b_ret)
+  }
+
+  pub fn unify_impl_type(&mut self, (a, x): (u32, &[u32]), (b, y): (u32, &[u32])) -> u64 {
+    let (xs, ys) = (x.as_ptr(), y.as_ptr());
+    change!(self, first::unify_impl_type, a, xs, x.len(), b, ys, y.len())
+  }
 
   fn rules(&self) -> &Rules {
     self.rules
@@ -542,6 +551,83 @@ impl Tested {
 
 impl Store {
   methods! { second }
+
+  /// Unifying with a memory, of any length and whatever it holds: what is remembered changes no answer.
+  pub fn unify(&mut self, a: u32, b: u32, m: &mut [u32]) -> u64 {
+    change!(self, second::unify_recalling, a, b, m.as_mut_ptr(), m.len())
+  }
+
+  pub fn unify_types(&mut self, a: &[u32], b: &[u32], inv: bool, m: &mut [u32]) -> u64 {
+    let (x, y, inv) = (a.as_ptr(), b.as_ptr(), inv.into());
+    change!(
+      self,
+      second::unify_types_recalling,
+      x,
+      a.len(),
+      y,
+      b.len(),
+      inv,
+      m.as_mut_ptr(),
+      m.len()
+    )
+  }
+
+  pub fn unify_objects(&mut self, a: &[u32], b: &[u32], inv: bool, m: &mut [u32]) -> u64 {
+    let (x, y, inv) = (a.as_ptr(), b.as_ptr(), inv.into());
+    change!(
+      self,
+      second::unify_objects_recalling,
+      x,
+      a.len(),
+      y,
+      b.len(),
+      inv,
+      m.as_mut_ptr(),
+      m.len()
+    )
+  }
+
+  pub fn unify_fn_sig(
+    &mut self,
+    (a, r): (&[u32], u32),
+    (b, q): (&[u32], u32),
+    m: &mut [u32],
+  ) -> u64 {
+    let (x, y) = (a.as_ptr(), b.as_ptr());
+    change!(
+      self,
+      second::unify_fn_sig_recalling,
+      x,
+      a.len(),
+      r,
+      y,
+      b.len(),
+      q,
+      m.as_mut_ptr(),
+      m.len()
+    )
+  }
+
+  pub fn unify_impl_type(
+    &mut self,
+    (a, x): (u32, &[u32]),
+    (b, y): (u32, &[u32]),
+    m: &mut [u32],
+  ) -> u64 {
+    let (xs, ys) = (x.as_ptr(), y.as_ptr());
+    change!(
+      self,
+      second::unify_impl_type_recalling,
+      a,
+      xs,
+      x.len(),
+      b,
+      ys,
+      y.len(),
+      m.as_mut_ptr(),
+      m.len()
+    )
+  }
 
   fn rules(&self) -> &Rules {
     &self.rules.0

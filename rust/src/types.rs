@@ -18,6 +18,9 @@ pub const MAX_SHOWN: usize = 1 << 24;
 /// A text up to this length is written without a buffer on the heap.
 const SHORT_TEXT: usize = 512;
 
+/// What a unify may remember: room for 16,381 pairs, made at a store's first unify.
+const MEMORY_WORDS: usize = 2 + 4 * 16_381;
+
 /// How many fields of nodes follow one another where the library writes them out.
 const PARENT_OR_SPAN: usize = 0;
 const SIZE: usize = 1;
@@ -29,7 +32,7 @@ const INVERTED: usize = 2;
 /// call that needs more is refused with [`Refusal::NodesFull`] or [`Refusal::ChildrenFull`]. A call that is refused has
 /// changed nothing.
 ///
-/// Some calls walk down a type and take stack as they go: up to 640 bytes a level, so 2.6 MB at the very worst, a chain
+/// Some calls walk down a type and take stack as they go: up to 740 bytes a level, so 3 MB at the very worst, a chain
 /// of 4,096 nodes. A thread with less should keep its stores smaller. Where the stack ends the program ends, as
 /// elsewhere in Rust: the library's code touches every page of what it takes.
 ///
@@ -49,8 +52,29 @@ const INVERTED: usize = 2;
 #[derive(Clone)]
 pub struct Types {
   store: Store,
+  memory: Memory,
   /// Where the children of a kind that is made are laid out; what it holds between calls is of no account.
   entries: Vec<u32>,
+}
+
+/// Where a unify remembers pairs that did not succeed, so that types shared at every level take no longer than others.
+/// Nothing of it outlives the call, so a copy of a store has an empty one.
+#[derive(Default)]
+struct Memory(Vec<u32>);
+
+impl Clone for Memory {
+  fn clone(&self) -> Memory {
+    Memory::default()
+  }
+}
+
+impl Memory {
+  fn lend(&mut self) -> &mut [u32] {
+    if self.0.is_empty() {
+      self.0 = vec![0; MEMORY_WORDS];
+    }
+    &mut self.0
+  }
 }
 
 /// The value of an answer.
@@ -155,7 +179,7 @@ impl Types {
   }
 
   fn of(store: Store) -> Types {
-    Types { store, entries: Vec::new() }
+    Types { store, memory: Memory::default(), entries: Vec::new() }
   }
 
   /// Room for more, or for less, with every node as it is: every type stays what it was. [`Refusal::Unopenable`] above
@@ -289,7 +313,7 @@ impl Types {
   /// # Ok::<(), Refusal>(())
   /// ```
   pub fn unify(&mut self, a: Type, b: Type) -> Result<UnifyResult, Refusal> {
-    unified(self.store.unify(a.word(), b.word()))
+    unified(self.store.unify(a.word(), b.word(), self.memory.lend()))
   }
 
   /// Unifies pair by pair, the second of each inverted if `inv` says so. Lists of different lengths: Failure, and
@@ -300,7 +324,7 @@ impl Types {
     b: &[Type],
     inv: Inverted,
   ) -> Result<UnifyResult, Refusal> {
-    unified(self.store.unify_types(raw::words(a), raw::words(b), inv.0))
+    unified(self.store.unify_types(raw::words(a), raw::words(b), inv.0, self.memory.lend()))
   }
 
   /// Unifies field by field. Fields whose name is on one side alone: Failure, and the others are unified. Both lists are
@@ -316,7 +340,7 @@ impl Types {
     let first = self.entries.len();
     kind::fields(&mut self.entries, b);
     let (x, y) = self.entries.split_at(first);
-    unified(self.store.unify_objects(x, y, inv.0))
+    unified(self.store.unify_objects(x, y, inv.0, self.memory.lend()))
   }
 
   /// Unifies two signatures, each its parameters and its return.
@@ -325,12 +349,13 @@ impl Types {
     (a, a_ret): (&[Type], Type),
     (b, b_ret): (&[Type], Type),
   ) -> Result<UnifyResult, Refusal> {
-    unified(self.store.unify_fn_sig(raw::words(a), a_ret.word(), raw::words(b), b_ret.word()))
+    let (a, b) = ((raw::words(a), a_ret.word()), (raw::words(b), b_ret.word()));
+    unified(self.store.unify_fn_sig(a, b, self.memory.lend()))
   }
 
   /// Unifies two impl types: those of one trait type by type.
   pub fn unify_impl_type(&mut self, a: &ImplType, b: &ImplType) -> Result<UnifyResult, Refusal> {
-    unified(self.store.unify_impl_type(impl_words(a), impl_words(b)))
+    unified(self.store.unify_impl_type(impl_words(a), impl_words(b), self.memory.lend()))
   }
 }
 
