@@ -118,6 +118,10 @@ impl Side for Ours {
     node(self.types.new_struct(StructId::at(0), &tys(kids)).unwrap())
   }
 
+  fn error(&mut self) -> u32 {
+    node(self.types.error().unwrap())
+  }
+
   fn merge(&mut self, a: u32, b: u32) {
     assert_eq!(self.unify(a, b), 0);
   }
