@@ -177,13 +177,9 @@ impl<const PUBLIC: bool> Ours<PUBLIC> {
     }
   }
 
-  /// How many nodes there are, and their words.
+  /// How many nodes there are.
   pub fn count(&self) -> usize {
     self.h[0] as usize
-  }
-
-  pub fn words(&self) -> &[u32] {
-    &self.ws
   }
 
   /// A store whose names lie in another rule text.
