@@ -192,8 +192,8 @@ static const uint64_t faroalder_nothing = 0;
 
 /* Two families, with the same arguments and the same answers.
  *
- * faroalder_X tests everything: the chart, the texts and the whole store, each time. On 4,096 nodes that takes about
- * 160 microseconds.
+ * faroalder_X tests everything: the chart, the texts and the whole store, each time. On 4,096 nodes that takes some
+ * 60 to 90 microseconds, and up to 160 milliseconds where 255-byte names lie in runs that overlap.
  *
  * faroalder_tested_X tests its own arguments and nothing else. It is for rules and a store that were tested once,
  * and that only this library has written since:
