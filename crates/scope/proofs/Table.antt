@@ -215,8 +215,19 @@ input = text "var\nvar\ntuple 0 ~1\ntuple ~1 0\nunify 2 3\nshow ~2"
 pub output : List ℕ
 output = text "=0\n=1\n=2\n=3\nSuccess\n(?1, ?1)\n"
 
--- the whole table, and sheet's lines and example with it
-pub table-holds : (map done-by table ≡ table) × (map (λ r. parse (r .line)) reads ≡ map (λ r. r .as-line) reads) × (sheet input ≡ output)
+-- a bad line and a refused one change nothing: the next node made is the next number
+pub strayInput : List ℕ
+strayInput = text "var\nvars\nshow 1\n\nvar"
+
+pub strayOutput : List ℕ
+strayOutput = text "=0\nbad line\nrefused 3\nbad line\n=1\n"
+
+-- the whole table, and sheet's lines and examples with it
+pub table-holds :
+    (map done-by table ≡ table)
+    × (map (λ r. parse (r .line)) reads ≡ map (λ r. r .as-line) reads)
+    × (sheet input ≡ output)
+    × (sheet strayInput ≡ strayOutput)
 unfolding ran done-by table zeros reads env t ~t made var a-var plain known tuple a-tuple object an-object shown shown-trait a b
-    input output lines words typeWord typeWords parse sheetLine sheetLines sheet
-table-holds = (refl, refl, refl)
+    input output strayInput strayOutput lines words typeWord typeWords parse sheetLine sheetLines sheet
+table-holds = (refl, refl, refl, refl)
