@@ -62,7 +62,7 @@ moved-forgot f = record {
   believed = λ a b q v. absurd (f .none a b q v);
 }
 
-moved-same : {m : List ℕ} {ns : List Node} → Tidy m → Moved m m ns ns
+pub moved-same : {m : List ℕ} {ns : List Node} → Tidy m → Moved m m ns ns
 moved-same t = record { tidy = t; since = since-same; believed = λ a b q v. (v, refl) }
 
 -- `find`

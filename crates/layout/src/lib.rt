@@ -229,21 +229,29 @@ fn write_slot(s: &mut [u32], c: Slot)
     s[3] = c.name.len;
 }
 
+// The child i, where all its words are.
+pub fn child_there(ks: &[u32], i: usize) -> Slot
+    requires { ⌜ i * CHILD-WORDS + CHILD-WORDS ≤ length (now ks) ⌝ }
+    ensures { λ r. ⌜ slotMeans r ≡ slotAt (now (ks .entry)) i ⌝ }
+{
+    let a = i * CHILD_WORDS;
+    Slot {
+        ty: Type(ks[a]),
+        name: Name {
+            text: ks[a + 1],
+            start: ks[a + 2],
+            len: ks[a + 3],
+        },
+    }
+}
+
 // The child i; past the end zeros.
 pub fn child_at(ks: &[u32], i: usize) -> Slot
     ensures { λ r. ⌜ slotMeans r ≡ slotAt (now (ks .entry)) i ⌝ }
 {
     let whole = ks.len() / CHILD_WORDS;
     if i < whole {
-        let a = i * CHILD_WORDS;
-        return Slot {
-            ty: Type(ks[a]),
-            name: Name {
-                text: ks[a + 1],
-                start: ks[a + 2],
-                len: ks[a + 3],
-            },
-        };
+        return child_there(ks, i);
     }
     if whole < i {
         return Slot {

@@ -1,34 +1,26 @@
--- Children read from their words: how many there are, the type beside a name, a signature's parameters and its returns. One law for each way out of `seek` and
--- `returns`; `seek` goes on while what the children from a place on give is what all give.
+-- Children read from their words: how many there are, the type beside a name, all but the last and the last. One law for each way out of `seek` and `seek_near`; `seek` goes on while
+-- what the children from a place on give is what all give.
 -- Assumes nothing.
 use mathlib.Core.Path.{_≡_, refl, ap, sym, _∙_}
 use mathlib.Core.Bool.{Bool, true, false}
-use mathlib.Core.List.{List, [], _∷_}
+use mathlib.Core.List.{List, [], _∷_, map, List·Memᴰ, List·Memᴰ·head, List·Memᴰ·tail}
 use mathlib.Core.Option.{Option, none, some}
 use Prim.Native.Nat.{ℕ, zero, suc, _+_, _-_, _<_, _≤_}
 use native.Mathlib.Omega.{arith}
-use native.Mathlib.Decide.{ℕ-discrete}
-use lib.Dec.{eqb}
 use lib.ListN.{length, length-map}
-use borrow.Author.Tests.{eq-eqb, ne-eqb}
 use Rattle.scope.specs.Base.{pick, front, last}
-use Rattle.scope.specs.Names.{Texts, Name, bytes, bytesOr, eqBytes}
-use Rattle.scope.specs.Types.{Ty, tyOf, flip}
-use Rattle.scope.specs.Answers.{ofBool}
-use Rattle.scope.specs.Unify.{answers, runPlan, zipped, seek}
+use Rattle.scope.specs.Names.{Texts, Name, bytes, bytesOr, eqBytes, ascending}
+use Rattle.scope.specs.Types.{Ty, tyOf}
+use Rattle.scope.specs.Unify.{seek}
 use Rattle.scope.specs.Sound as sound
+use Rattle.scope.proofs.NameLaws.{eq-bytes, bytes-eq, lt-apart, ascending-tail, ascending-above}
 use Rattle.scope.specs.Sound.{slotName}
-use Rattle.types.specs.Answers.{answerOf}
-use Rattle.types.specs.declared.«Type».{«Type»}
-use Rattle.types.specs.declared.UnifyResult.{UnifyResult}
-use Rattle.types.specs.declared.UnifyResult.the-variants.{Failure}
 use Rattle.layout.specs.Words.{slotAt, slots}
 use Rattle.layout.proofs.ChildLaws.{length-slots}
 use Rattle.plan.specs.Meaning.{kidsFrom, namesFrom}
-use Rattle.plan.specs.declared.Runs.{Runs}
 use Rattle.plan.proofs.Laws.{name-bytes}
-use Rattle.meeting.specs.Kids.{slotPlace, soughtIn, returnsMean, returnsPlan}
-use Rattle.meeting.specs.declared.Returned.the-variants.{Lacking, Pair}
+use Rattle.meeting.specs.Kids.{slotPlace, soughtIn}
+use Rattle.meeting.specs.Steps.{Ascends}
 
 -- numbers
 
@@ -86,7 +78,37 @@ module _ {x : Texts} {ks : List ℕ} {m : Name} {b count j : ℕ} (w : Seeking x
     pub seek-on : r ≡ false → Seeking x ks m b count (j + 1)
     seek-on g = record { rest = by false g }
 
--- a signature: its parameters, then its returns
+-- `seek_near`: of names that ascend no other is as the i-th
+
+name-in : (x : Texts) (ks : List ℕ) (b count i : ℕ) → i < count
+    → List·Memᴰ (bytesOr x (slotName (slotAt ks (b + i)))) (map (bytesOr x) (namesFrom ks b count))
+name-in x ks b zero i h = absurd (omega arith)
+name-in x ks b (suc c) zero h = let p : b + 0 ≡ b = omega arith in rw p (List·Memᴰ·head refl)
+name-in x ks b (suc c) (suc i) h = let p : b + suc i ≡ suc b + i = omega arith in rw p (List·Memᴰ·tail (name-in x ks (suc b) c i (omega arith)))
+
+seek-at : (x : Texts) (ks n : List ℕ) (b count i : ℕ) → i < count → ascending (map (bytesOr x) (namesFrom ks b count)) ≡ true
+    → n ≡ bytesOr x (slotName (slotAt ks (b + i))) → seek x n (namesFrom ks b count) (kidsFrom ks b count) ≡ some (kidTy ks (b + i))
+unfolding seek
+seek-at x ks n b zero i h a e = absurd (omega arith)
+seek-at x ks n b (suc c) zero h a e =
+    let p : b + 0 ≡ b = omega arith in
+    let q : n ≡ bytesOr x (slotName (slotAt ks b)) = rw p at e in
+    rw (p, bytes-eq q) refl
+seek-at x ks n b (suc c) (suc i) h a e =
+    let p : b + suc i ≡ suc b + i = omega arith in
+    let q : n ≡ bytesOr x (slotName (slotAt ks (suc b + i))) = rw p at e in
+    let y : List ℕ = bytesOr x (slotName (slotAt ks b)) in
+    let l = ascending-above y (map (bytesOr x) (namesFrom ks (suc b) c)) a (bytesOr x (slotName (slotAt ks (suc b + i)))) (name-in x ks (suc b) c i (omega arith)) in
+    rw (p, ap (λ (z : List ℕ). eqBytes z y) q ∙ lt-apart y (bytesOr x (slotName (slotAt ks (suc b + i)))) l)
+    (seek-at x ks n (suc b) c i (omega arith) (ascending-tail y (map (bytesOr x) (namesFrom ks (suc b) c)) a) q)
+
+pub seek-near : {x : Texts} {ks : List ℕ} (m : Name) {k : Name} {b count i t : ℕ} {r : Bool} → Ascends x ks b count → i < count → k ≡ slotPlace (slotAt ks (b + i))
+    → r ≡ eqBytes (bytes x m) (bytes x k) → r ≡ true → t ≡ slotAt ks (b + i) .type → some (tyOf t) ≡ soughtIn x ks m b count
+seek-near {x} {ks} m {k} {b} {count} {i} a h e f g q =
+    let l : bytes x m ≡ bytesOr x (slotName (slotAt ks (b + i))) = eq-bytes (bytes x m) (bytes x k) (sym f ∙ g) ∙ (ap (bytes x) e ∙ sym (slot-bytes x (slotAt ks (b + i)))) in
+    rw q (sym (seek-at x ks (bytes x m) b count i h (a .names) l))
+
+-- all but the last child, and the last
 
 pub front-kids : (ks : List ℕ) (a n : ℕ) → front (kidsFrom ks a n) ≡ kidsFrom ks a (n - 1)
 front-kids ks a zero = refl
@@ -96,32 +118,12 @@ front-kids ks a (suc (suc n)) =
     let f : suc n - 1 ≡ n = omega arith in
     rw (e, front-kids ks (suc a) (suc n), f) refl
 
-last-kid : (ks : List ℕ) (a n : ℕ) → 0 < n → last (kidsFrom ks a n) ≡ kidTy ks (a + (n - 1)) ∷ []
+pub last-kid : (ks : List ℕ) (a n : ℕ) → 0 < n → last (kidsFrom ks a n) ≡ kidTy ks (a + (n - 1)) ∷ []
 last-kid ks a zero h = absurd (omega arith)
 last-kid ks a (suc zero) h = let e : a + (suc zero - 1) ≡ a = omega arith in rw e refl
 last-kid ks a (suc (suc n)) h =
     let e : suc a + (suc n - 1) ≡ a + (suc (suc n) - 1) = omega arith in
     rw (last-kid ks (suc a) (suc n) (omega arith), e) refl
 
-no-kid : (ks : List ℕ) (a n : ℕ) → n ≡ 0 → last (kidsFrom ks a n) ≡ []
+pub no-kid : (ks : List ℕ) (a n : ℕ) → n ≡ 0 → last (kidsFrom ks a n) ≡ []
 no-kid ks a n e = rw e refl
-
--- `returns`
-module _ (ks : List ℕ) (s : Runs) where
-  pub returns-none : (r : UnifyResult) → s .na ≡ 0 → answerOf r ≡ ofBool (eqb (s .nb) 0) → returnsMean (Lacking r) ≡ returnsPlan ks s
-  unfolding runPlan
-  returns-none r e q = rw (no-kid ks (s .a) (s .na) e) (go (ℕ-discrete (s .nb) 0))
-    where
-      go : Dec (s .nb ≡ 0) → answers (answerOf r) ≡ runPlan (s .inv .0) [] (last (kidsFrom ks (s .b) (s .nb)))
-      go (yes z) = unfold runPlan zipped in rw (no-kid ks (s .b) (s .nb) z, q, eq-eqb (s .nb) 0 z) refl
-      go (no z) = unfold runPlan zipped in rw (last-kid ks (s .b) (s .nb) (omega arith), q, ne-eqb (s .nb) 0 z) refl
-
-  pub returns-lack : (s .na ≡ 0 → ⊥) → s .nb ≡ 0 → returnsMean (Lacking Failure) ≡ returnsPlan ks s
-  unfolding runPlan
-  returns-lack h e = rw (last-kid ks (s .a) (s .na) (omega arith), no-kid ks (s .b) (s .nb) e) refl
-
-  pub returns-pair : (x y z : «Type») → (s .na ≡ 0 → ⊥) → (s .nb ≡ 0 → ⊥) → x .0 ≡ slotAt ks (s .a + (s .na - 1)) .type
-      → z .0 ≡ slotAt ks (s .b + (s .nb - 1)) .type → tyOf (y .0) ≡ flip (s .inv .0) (tyOf (z .0)) → returnsMean (Pair x y) ≡ returnsPlan ks s
-  unfolding runPlan zipped
-  returns-pair x y z h g ex ez ey =
-      rw (last-kid ks (s .a) (s .na) (omega arith), last-kid ks (s .b) (s .nb) (omega arith), ey, ex, ez) refl

@@ -1,3 +1,4 @@
 -- The laws that belong to no one function
-pub mod MeetLaws
 pub mod KidLaws
+pub mod StepLaws
+pub mod MeetLaws

@@ -1,16 +1,17 @@
--- What unifying asks of the words: n sound nodes over the children's words ks, by some chart whose texts are the lent ones, and types inside. Every
+-- What unifying asks of the words: n sound nodes over the children's words ks, which hold all their children, by some chart whose texts are the lent ones, and types inside. Every
 -- call that unifies keeps this.
 use mathlib.Core.Path.{_≡_}
 use mathlib.Core.Bool.{true}
 use mathlib.Core.List.{List, List·Memᴰ}
 use Prim.Native.Nat.{ℕ, _≤_, _<_}
-use Rattle.scope.specs.Limits.{MAX-NODES}
+use lib.ListN.{length}
+use Rattle.scope.specs.Limits.{MAX-NODES, MAX-CHILDREN}
 use Rattle.scope.specs.Names.{Texts}
 use Rattle.scope.specs.Chart.{Env}
 use Rattle.scope.specs.Types.{Ty}
 use Rattle.scope.specs.Nodes.{at, isRoot}
 use Rattle.scope.proofs.SoundLaws.{SoundNodes}
-use Rattle.layout.specs.Words.{decode}
+use Rattle.layout.specs.Words.{childWords, decode}
 use Rattle.layout.specs.Meaning.{Clean}
 
 pub record SoundWords (x : Texts) (ws ks : List ℕ) (n : ℕ) : Type 0 where
@@ -18,6 +19,8 @@ pub record SoundWords (x : Texts) (ws ks : List ℕ) (n : ℕ) : Type 0 where
   pub lent : env .texts ≡ x
   pub children : ℕ
   pub clean : Clean ws ks children n
+  pub few : children ≤ MAX-CHILDREN
+  pub room : childWords children ≤ length ks
   pub small : n ≤ MAX-NODES
   pub sound : SoundNodes env (decode ws ks n)
 

@@ -1,3 +1,4 @@
 pub mod Asks
+pub mod Steps
 pub mod Meets
 pub mod Kids

@@ -1,30 +1,41 @@
 // What two roots ask for, and what is read of their children on the way. Nothing here changes a word.
 ghost use mathlib.Core.Path.{_≡_};
-ghost use Prim.Native.Nat.{_+_, _-_};
+ghost use Prim.Native.Nat.{_+_, _≤_};
+ghost use lib.ListN.{length};
 ghost use Rattle.scope.specs.Types.{tyOf};
 ghost use Rattle.names.specs.Place.{texts, nameOf};
-ghost use Rattle.layout.specs.Words.{slotAt};
+ghost use Rattle.layout.specs.Words.{nodeWords, childWords, slotAt};
 ghost use Rattle.meeting.specs.Asks.{Tops, Roots};
-ghost use Rattle.meeting.specs.Meets.{OneNode, Bare, Met};
-ghost use Rattle.meeting.specs.Kids.{slotPlace, soughtMeans, soughtIn, Parameters, returnsMean, returnsPlan};
+ghost use Rattle.meeting.specs.Meets.{OneNode, Bare, WalkedTo, bareRoots, Met};
+ghost use Rattle.plan.specs.declared.Plan.the-variants as plans;
+ghost use Rattle.meeting.specs.Steps.{Ascends, Spans, PlanSpans, Stepped, Lasts, Returns};
+ghost use Rattle.meeting.specs.Kids.{slotPlace, soughtMeans, soughtIn};
 use layout::Held;
+use layout::TypeNode;
+use layout::TypeState;
 use names::Name;
 use plan::Plan;
 use plan::Runs;
 use types::Type;
 use types::UnifyResult;
 
-// Nothing more, a merge, or their children first.
+// A walk, or their children first.
 pub enum Meeting {
-    Done(UnifyResult),
-    Bind,
-    Kids(Plan),
+    Walk,
+    Kids(Steps),
 }
 
-// A signature's returns: a pair, or what their number answers.
-pub enum Returned {
-    Lacking(UnifyResult),
-    Pair(Type, Type),
+// After a walk: nothing more, or a merge.
+pub enum Walked {
+    Done(UnifyResult),
+    Bind,
+}
+
+// What two kinds ask of their children: an answer, two runs beside an answer, or two objects.
+pub enum Steps {
+    Answer(UnifyResult),
+    Run(UnifyResult, Runs),
+    Object(Runs),
 }
 
 // The type beside a name.
@@ -46,17 +57,57 @@ fn same_node(ws: &[u32], ks: &[u32], n: u32, a: Type, b: Type) -> UnifyResult
 }
 
 // "If either has no kind: Failure if one occurs in the other, else they merge."
-fn without_kind(ws: &[u32], ks: &[u32], n: u32, a: Type, b: Type) -> Meeting
+fn without_kind(ws: &[u32], ks: &[u32], n: u32, a: Type, b: Type) -> Walked
     requires { ⌜ Roots (now ws) (now ks) n (tyOf (a .0)) (tyOf (b .0)) ⌝ }
     ensures { λ r. ⌜ Bare (now (ws .entry)) (now (ks .entry)) n (tyOf (a .0)) (tyOf (b .0)) r ⌝ }
 {
     if walk::occurs(ws, ks, n, a.idx(), b) {
-        return Meeting::Done(UnifyResult::Failure);
+        return Walked::Done(UnifyResult::Failure);
     }
     if walk::occurs(ws, ks, n, b.idx(), a) {
-        return Meeting::Done(UnifyResult::Failure);
+        return Walked::Done(UnifyResult::Failure);
     }
-    Meeting::Bind
+    Walked::Bind
+}
+
+// One node, or two of which one has no kind: what walks, apart from `meet`, so that the marks of a walk stay out of the cycle's frames.
+pub fn walk_roots(ws: &[u32], ks: &[u32], n: u32, a: Type, b: Type) -> Walked
+    requires { ⌜ Roots (now ws) (now ks) n (tyOf (a .0)) (tyOf (b .0)) ⌝ }
+    ensures { λ r. ⌜ WalkedTo (now (ws .entry)) (now (ks .entry)) n (tyOf (a .0)) (tyOf (b .0)) r ⌝ }
+{
+    let ia = a.idx();
+    let ib = b.idx();
+    if ia.0 == ib.0 {
+        return Walked::Done(same_node(ws, ks, n, a, b));
+    }
+    without_kind(ws, ks, n, a, b)
+}
+
+// Are these two nodes, both roots, of which one has no kind?
+pub fn bare_roots(ws: &[u32], n: u32, a: Type, b: Type) -> bool
+    requires { ⌜ nodeWords n ≤ length (now ws) ⌝ }
+    ensures { λ r. ⌜ r ≡ bareRoots (now (ws .entry)) n (tyOf (a .0) .idx) (tyOf (b .0) .idx) ⌝ }
+{
+    let ia = a.idx();
+    let ib = b.idx();
+    if ia.0 == ib.0 {
+        return false;
+    }
+    let TypeNode::Root { state: s, size: _ } = layout::node_at(ws, n, ia) else {
+        return false;
+    };
+    let TypeNode::Root { state: t, size: _ } = layout::node_at(ws, n, ib) else {
+        return false;
+    };
+    match s {
+        TypeState::Known(_, _) => match t {
+            TypeState::Known(_, _) => false,
+            TypeState::Unknown(_) => true,
+            TypeState::InferenceFailed => true,
+        },
+        TypeState::Unknown(_) => true,
+        TypeState::InferenceFailed => true,
+    }
 }
 
 // Two roots, and nothing is changed.
@@ -75,16 +126,16 @@ pub fn meet<'a>(
     let ia = a.idx();
     let ib = b.idx();
     if ia.0 == ib.0 {
-        return Meeting::Done(same_node(ws, ks, n, a, b));
+        return Meeting::Walk;
     }
     let Held::Is(i, k) = layout::held_at(ws, n, ia) else {
-        return without_kind(ws, ks, n, a, b);
+        return Meeting::Walk;
     };
     let Held::Is(j, m) = layout::held_at(ws, n, ib) else {
-        return without_kind(ws, ks, n, a, b);
+        return Meeting::Walk;
     };
     let inv = i.xor(a.inv()).xor(j.xor(b.inv()));
-    Meeting::Kids(plan::plan_of(k, m, inv, rule, text))
+    Meeting::Kids(in_steps(plan::plan_of(k, m, inv, rule, text)))
 }
 
 // A child of a run.
@@ -104,6 +155,21 @@ pub fn kid_name(ks: &[u32], a: u32, i: u32) -> Name
     ensures { λ r. ⌜ nameOf r ≡ slotPlace (slotAt (now (ks .entry)) (a + i)) ⌝ }
 {
     layout::child_at(ks, place(a, i)).name
+}
+
+// The same of a child that lies in the slice.
+pub fn kid_there(ks: &[u32], a: u32, i: u32) -> Type
+    requires { ⌜ childWords (a + i + 1) ≤ length (now ks) ⌝ }
+    ensures { λ r. ⌜ r .0 ≡ slotAt (now (ks .entry)) (a + i) .type ⌝ }
+{
+    layout::child_there(ks, place(a, i)).ty
+}
+
+pub fn name_there(ks: &[u32], a: u32, i: u32) -> Name
+    requires { ⌜ childWords (a + i + 1) ≤ length (now ks) ⌝ }
+    ensures { λ r. ⌜ nameOf r ≡ slotPlace (slotAt (now (ks .entry)) (a + i)) ⌝ }
+{
+    layout::child_there(ks, place(a, i)).name
 }
 
 // The type beside a name among count children from b on.
@@ -127,39 +193,67 @@ pub fn seek<'a>(
     Sought::Nothing
 }
 
-// All but one.
-fn less(n: u32) -> u32
-    ensures { λ r. ⌜ r ≡ n - 1 ⌝ }
+// The same where names ascend, and one may stand in the i-th place: that child is looked at first.
+pub fn seek_near<'a>(
+    ks: &[u32],
+    name: Name,
+    i: u32,
+    b: u32,
+    count: u32,
+    rule: &'a [u8],
+    text: &'a [u8],
+) -> Sought
+    requires { ⌜ (childWords (b + count) ≤ length (now ks)) × Ascends (texts (now rule) (now text)) (now ks) b count ⌝ }
+    ensures { λ r. ⌜ soughtMeans r ≡ soughtIn (texts (now (rule .entry)) (now (text .entry))) (now (ks .entry)) (nameOf name) b count ⌝ }
 {
-    if n == 0 { 0 } else { n - 1 }
+    if i < count {
+        if names::same_name(name, name_there(ks, b, i), rule, text) {
+            return Sought::Is(kid_there(ks, b, i));
+        }
+    }
+    seek(ks, name, b, count, rule, text)
 }
 
-// A signature's parameters: all children but the last.
-pub fn parameters(s: Runs) -> Runs
-    ensures { λ r. ⌜ Parameters s r ⌝ }
+// Two runs of a signature's returns alone, where both have one.
+fn returns(s: Runs) -> Runs
+    requires { ⌜ Lasts s ⌝ }
+    ensures { λ r. ⌜ Returns s r ⌝ }
 {
     let inv = s.inv;
     Runs {
-        a: s.a,
-        na: less(s.na),
-        b: s.b,
-        nb: less(s.nb),
+        a: s.a + (s.na - 1),
+        na: 1,
+        b: s.b + (s.nb - 1),
+        nb: 1,
         inv,
     }
 }
 
-// Its returns: the last children.
-pub fn returns(ks: &[u32], s: Runs) -> Returned
-    ensures { λ r. ⌜ returnsMean r ≡ returnsPlan (now (ks .entry)) s ⌝ }
+// A signature is a run of its parameters and its return. "Runs of different length answer Failure and unify nothing, but a Closure's returns are still unified."
+fn signature(s: Runs) -> Steps
+    requires { ⌜ Spans s ⌝ }
+    ensures { λ r. ⌜ Stepped (plans.Signature s) r ⌝ }
 {
+    if s.na == s.nb {
+        return Steps::Run(UnifyResult::Success, s);
+    }
     if s.na == 0 {
-        return Returned::Lacking(UnifyResult::from_bool(s.nb == 0));
+        return Steps::Answer(UnifyResult::Failure);
     }
     if s.nb == 0 {
-        return Returned::Lacking(UnifyResult::Failure);
+        return Steps::Answer(UnifyResult::Failure);
     }
-    let inv = s.inv;
-    let x = kid(ks, s.a, s.na - 1);
-    let y = kid(ks, s.b, s.nb - 1);
-    Returned::Pair(x, y.invert_if(inv))
+    Steps::Run(UnifyResult::Failure, returns(s))
+}
+
+fn in_steps(p: Plan) -> Steps
+    requires { ⌜ PlanSpans p ⌝ }
+    ensures { λ r. ⌜ Stepped p r ⌝ }
+{
+    match p {
+        Plan::Answer(r) => Steps::Answer(r),
+        Plan::Run(s) => Steps::Run(UnifyResult::Success, s),
+        Plan::Object(s) => Steps::Object(s),
+        Plan::Signature(s) => signature(s),
+    }
 }

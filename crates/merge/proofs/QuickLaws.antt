@@ -6,9 +6,11 @@ use mathlib.Core.List.{List, _++_}
 use mathlib.Core.Option.{Option, none}
 use Prim.Native.Nat.{ℕ, _+_, _-_, _*_, _<_, _≤_}
 use native.Mathlib.Omega.{arith}
+use lib.Dec.{ltb}
 use lib.ListN.{length, take, drop, set, length-set, length-drop}
 use lib.Seq.{length-take-le}
-use borrow.Author.Tests.{lt-ltb}
+use borrow.Author.Tests.{lt-ltb, le-ltb}
+use Rattle.scope.specs.Base.{pick}
 use Rattle.scope.specs.Limits.{NONE}
 use Rattle.scope.specs.Types.{Ty, tyOf, flip}
 use Rattle.scope.specs.Nodes as nodes
@@ -27,7 +29,7 @@ use Rattle.layout.proofs.HeldLaws.{state-read, state-fits}
 use Rattle.merge.specs.declared.Bare.{Bare}
 use Rattle.merge.specs.declared.Bare.the-variants.{Is, Nothing}
 use Rattle.merge.specs.Meaning.{stateAt, sizeAt, Adds, Joined, Merged, Bound}
-use Rattle.merge.specs.Quick.{bareBy, bareIn, bareNode, Resized, Sums, Sized, Quick, Tried}
+use Rattle.merge.specs.Quick.{bareBy, bareIn, bareWithin, bareNode, Resized, Sums, Sized, Quick, Tried}
 use Rattle.merge.proofs.Laws.{twice}
 
 -- a size alone
@@ -98,11 +100,23 @@ hang-law ws ws₁ ws₂ n w l z i j b p s k eb ep ei ej r e =
 
 -- roots without kinds
 
-pub bare-root : {v w : TypeNode} {st st′ : TypeState} {z : ℕ} → v ≡ w → v ≡ Root st z → st ≡ st′ → bareBy st′ z ≡ bareIn w
-bare-root {z = z} e f g = ap (λ (s : TypeState). bareBy s z) (sym g) ∙ (ap bareIn (sym f) ∙ ap bareIn e)
+module _ (ws : List ℕ) (n i : ℕ) where
+  pub bare-past : n ≤ i → Nothing ≡ bareWithin ws n i
+  bare-past h = rw (le-ltb i n h) refl
 
-pub bare-child : {v w : TypeNode} {t : «Type»} → v ≡ w → v ≡ Child t → Nothing ≡ bareIn w
-bare-child e f = ap bareIn (sym f) ∙ ap bareIn e
+  module _ (h : i < n) {v : TypeNode} (e : v ≡ readAt ws n i) where
+    bare-inside : bareIn v ≡ bareWithin ws n i
+    bare-inside = rw (lt-ltb i n h) (ap bareIn e)
+
+    pub bare-root : {st st′ : TypeState} {z : ℕ} → v ≡ Root st z → st ≡ st′ → bareBy st′ z ≡ bareWithin ws n i
+    bare-root {z = z} f g = ap (λ (s : TypeState). bareBy s z) (sym g) ∙ (ap bareIn (sym f) ∙ bare-inside)
+
+    pub bare-child : {t : «Type»} → v ≡ Child t → Nothing ≡ bareWithin ws n i
+    bare-child f = ap bareIn (sym f) ∙ bare-inside
+
+bare-of : (t : Bool) (p : Bare) (y : ℕ) → pick t p Nothing ≡ Is y → p ≡ Is y
+bare-of true p y e = e
+bare-of false p y e = let f : _≡_ {A = ℕ} 0 1 = cc in absurd (omega arith)
 
 bare-size : (v : TypeNode) (z : ℕ) → bareIn v ≡ Is z → z ≡ nodeSize v
 bare-size (Root (Known i k) y) z e = let f : _≡_ {A = ℕ} 0 1 = cc in absurd (omega arith)
@@ -158,15 +172,16 @@ module _ (ws : List ℕ) (n : ℕ) (a b : Ty) (y z : ℕ) (here : bareIn (readAt
   }
 
 -- what was read at the number i of a type's node
-read-bare : (ws : List ℕ) (n : ℕ) {i j y : ℕ} {p : Bare} → i ≡ j → p ≡ bareIn (readAt ws n i) → p ≡ Is y → bareIn (readAt ws n j) ≡ Is y
-read-bare ws n ei ep fp = ap (λ (k : ℕ). bareIn (readAt ws n k)) (sym ei) ∙ (sym ep ∙ fp)
+read-bare : (ws : List ℕ) (n : ℕ) {i j y : ℕ} {p : Bare} → i ≡ j → p ≡ bareWithin ws n i → p ≡ Is y → bareIn (readAt ws n j) ≡ Is y
+read-bare ws n {i} {j} {y} ei ep fp =
+    ap (λ (k : ℕ). bareIn (readAt ws n k)) (sym ei) ∙ bare-of (ltb i n) (bareIn (readAt ws n i)) y (sym ep ∙ fp)
 
-pub sized : {ws : List ℕ} {n : ℕ} {a b : Ty} {i j y z : ℕ} {p q : Bare} → i ≡ a .idx → j ≡ b .idx → p ≡ bareIn (readAt ws n i) → p ≡ Is y
-    → q ≡ bareIn (readAt ws n j) → q ≡ Is z → Adds ws n a b → Sized ws n a b y z
+pub sized : {ws : List ℕ} {n : ℕ} {a b : Ty} {i j y z : ℕ} {p q : Bare} → i ≡ a .idx → j ≡ b .idx → p ≡ bareWithin ws n i → p ≡ Is y
+    → q ≡ bareWithin ws n j → q ≡ Is z → Adds ws n a b → Sized ws n a b y z
 sized {ws} {n} {a} {b} {i} {j} {y} {z} ei ej ep fp eq fq = bare-sizes ws n a b y z (read-bare ws n ei ep fp) (read-bare ws n ej eq fq)
 
-pub tried-merged : {ws ws′ : List ℕ} {n : ℕ} {a b : Ty} {i j y z : ℕ} {p q : Bare} → i ≡ a .idx → j ≡ b .idx → p ≡ bareIn (readAt ws n i) → p ≡ Is y
-    → q ≡ bareIn (readAt ws n j) → q ≡ Is z → (i ≡ j → ⊥) → Merged ws ws′ n a b (stateAt ws n (a .idx)) (stateAt ws n (b .idx)) → Tried ws ws′ n a b true
+pub tried-merged : {ws ws′ : List ℕ} {n : ℕ} {a b : Ty} {i j y z : ℕ} {p q : Bare} → i ≡ a .idx → j ≡ b .idx → p ≡ bareWithin ws n i → p ≡ Is y
+    → q ≡ bareWithin ws n j → q ≡ Is z → (i ≡ j → ⊥) → Merged ws ws′ n a b (stateAt ws n (a .idx)) (stateAt ws n (b .idx)) → Tried ws ws′ n a b true
 tried-merged {ws} {ws′} {n} {a} {b} {i} {j} {y} {z} ei ej ep fp eq fq h m = record {
   merged = λ e. bare-quick ws n a b y z (read-bare ws n ei ep fp) (read-bare ws n ej eq fq) ws′ (λ f. h (ei ∙ (f ∙ sym ej))) m;
   stays = λ e. let f : _≡_ {A = ℕ} 0 1 = cc in absurd (omega arith);

@@ -3,11 +3,13 @@ use mathlib.Core.Path.{_≡_}
 use mathlib.Core.Bool.{Bool, true, false}
 use mathlib.Core.List.{List}
 use Prim.Native.Nat.{ℕ, _+_, _≤_}
+use lib.Dec.{ltb}
 use lib.ListN.{length, drop}
+use Rattle.scope.specs.Base.{pick}
 use Rattle.scope.specs.Types.{Ty}
 use Rattle.scope.specs.Nodes as nodes
 use Rattle.layout.specs.Words.{nodeWords, decode}
-use Rattle.layout.specs.Meaning.{putAt, Clean}
+use Rattle.layout.specs.Meaning.{readAt, putAt, Clean}
 use Rattle.layout.specs.declared.TypeState.{TypeState}
 use Rattle.layout.specs.declared.TypeState.the-variants.{Known, Unknown, InferenceFailed}
 use Rattle.layout.specs.declared.TypeNode.{TypeNode}
@@ -26,6 +28,10 @@ bareBy InferenceFailed z = Is z
 abbrev pub bareIn : TypeNode → Bare
 bareIn (Root st z) = bareBy st z
 bareIn (Child t) = Nothing
+
+-- of node i of the n
+abbrev pub bareWithin : List ℕ → ℕ → ℕ → Bare
+bareWithin ws n i = pick (ltb i n) (bareIn (readAt ws n i)) Nothing
 
 -- a root without a kind
 abbrev pub bareNode : nodes.Node → Bool

@@ -5,10 +5,10 @@ ghost use Prim.Native.Nat.{_+_, _*_, _≤_};
 ghost use lib.ListN.{length, set};
 ghost use Rattle.scope.specs.Types.{tyOf};
 ghost use Rattle.layout.specs.Words.{NODE-WORDS, nodeWords};
-ghost use Rattle.layout.specs.Meaning.{cellWords, pasteAt, readAt};
+ghost use Rattle.layout.specs.Meaning.{cellWords, pasteAt};
 ghost use Rattle.merge.specs.Meaning.{sizeAt, stateAt, turned, firstKnown, keptOf};
 ghost use Rattle.merge.specs.Meaning.{Adds, Joined, Merged, Bound, Settled};
-ghost use Rattle.merge.specs.Quick.{bareIn, Resized, Sums, Sized, Tried};
+ghost use Rattle.merge.specs.Quick.{bareWithin, Resized, Sums, Sized, Tried};
 use layout::NODE_WORDS;
 use layout::TypeNode;
 use layout::TypeState;
@@ -160,11 +160,14 @@ fn unite(ws: &mut [u32], n: u32, a: Type, b: Type, sa: u32, sb: u32)
     }
 }
 
-// Past the n nodes there is such a root.
+// A node of the n, if it is such a root.
 fn bare_at(ws: &[u32], n: u32, i: TypeIdx) -> Bare
     requires { ⌜ nodeWords n ≤ length (now ws) ⌝ }
-    ensures { λ r. ⌜ r ≡ bareIn (readAt (now (ws .entry)) n (i .0)) ⌝ }
+    ensures { λ r. ⌜ r ≡ bareWithin (now (ws .entry)) n (i .0) ⌝ }
 {
+    if n <= i.0 {
+        return Bare::Nothing;
+    }
     let node = layout::node_at(ws, n, i);
     match node {
         TypeNode::Root { state, size } => match state {

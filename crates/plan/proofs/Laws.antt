@@ -20,7 +20,7 @@ use Rattle.types.specs.declared.UnifyResult.the-variants.{Failure, Indeterminat
 use Rattle.layout.proofs.Lists.{and-left}
 use Rattle.layout.specs.Meaning.{kindCell, kindMeans}
 use Rattle.layout.specs.declared.Kind.{Kind}
-use Rattle.plan.specs.Meaning.{namesFrom, planMeans, SameKinds, crossesKind, Planned}
+use Rattle.plan.specs.Meaning.{namesFrom, planMeans, SameKinds, crossesKind, Over, Planned}
 use Rattle.plan.specs.declared.Runs.{Runs}
 use Rattle.plan.specs.declared.Plan.the-variants.{Answer, Run, Object, Signature}
 
@@ -38,7 +38,7 @@ key-name : (x : Texts) (ks : List ℕ) (k : Kind) → k .code ≡ KEY → firstN
 unfolding rowOf rows
 key-name x ks k e = rw e (name-bytes x (k .name .text) (k .name .start) (k .name .len))
 
-object-names : (ks : List ℕ) (k : Kind) → k .code ≡ OBJECT → namesIn (kindCell ks k) ≡ namesFrom ks (k .first) (k .count)
+pub object-names : (ks : List ℕ) (k : Kind) → k .code ≡ OBJECT → namesIn (kindCell ks k) ≡ namesFrom ks (k .first) (k .count)
 unfolding rowOf rows
 object-names ks k e = rw e refl
 
@@ -93,23 +93,25 @@ free-crossed i r t e h = rw (sym e ∙ not-false r h) (or-true (not i))
 module _ (x : Texts) (k m : Kind) (i : Bool) where
   pub plan-error : k .code ≡ ERROR → Planned x k m i (Answer Indeterminate)
   unfolding planMeans scope.plan kindMeans
-  plan-error e = record { means = λ ks. rw (eq-eqb (k .code) ERROR e) }
+  plan-error e = record { means = λ ks. rw (eq-eqb (k .code) ERROR e); over = tt }
 
   pub plan-against-error : (k .code ≡ ERROR → ⊥) → m .code ≡ ERROR → Planned x k m i (Answer Indeterminate)
   unfolding planMeans scope.plan kindMeans
-  plan-against-error h e = record { means = λ ks. rw (ne-eqb (k .code) ERROR h, eq-eqb (m .code) ERROR e) }
+  plan-against-error h e = record { means = λ ks. rw (ne-eqb (k .code) ERROR h, eq-eqb (m .code) ERROR e); over = tt }
 
   module _ (h : k .code ≡ ERROR → ⊥) (g : m .code ≡ ERROR → ⊥) where
     pub plan-unequal : (r : Bool) → SameKinds x k m r → not r ≡ true → Planned x k m i (Answer Failure)
     unfolding planMeans scope.plan kindMeans
     plan-unequal r s e = record {
       means = λ ks. rw (ne-eqb (k .code) ERROR h, ne-eqb (m .code) ERROR g, sym (s .is ks) ∙ not-true r e);
+      over = tt;
     }
 
     pub plan-crossed : (r t : Bool) → SameKinds x k m r → i ≡ true → t ≡ crossesKind k → not t ≡ true → Planned x k m i (Answer Failure)
     unfolding planMeans scope.plan scope.crosses selfDual kindMeans
     plan-crossed r t s e f n = record {
       means = λ ks. rw (ne-eqb (k .code) ERROR h, ne-eqb (m .code) ERROR g, e, sym f ∙ not-true t n, and-false (sameHead x (kindMeans ks k .head) (kindMeans ks m .head)));
+      over = tt;
     }
 
     pub meets : (r : Bool) → SameKinds x k m r → not r ≡ false → (not i || crossesKind k) ≡ true → Meets x k m i
@@ -124,21 +126,27 @@ module _ (x : Texts) (k m : Kind) (i : Bool) where
   abbrev runs : Inverted → Runs
   runs j = record { a = k .first; na = k .count; b = m .first; nb = m .count; inv = j }
 
+all-of : (k m : Kind) (j : Inverted) → Over k m (record { a = k .first; na = k .count; b = m .first; nb = m .count; inv = j })
+all-of k m j = record { a = refl; na = refl; b = refl; nb = refl }
+
 module _ (x : Texts) (k m : Kind) (j : Inverted) (d : Meets x k m (j .0)) where
   pub plan-object : k .code ≡ OBJECT → Planned x k m (j .0) (Object (runs x k m (j .0) j))
   unfolding planMeans kidsPlan kindMeans
   plan-object e = record {
     means = λ ks. sym (plan-kids x k m (j .0) d ks ∙ rw (eq-eqb (k .code) OBJECT e, object-names ks k e, object-names ks m (sym (same-codes x k m (d .same)) ∙ e)));
+    over = (all-of k m j, sym (same-codes x k m (d .same)) ∙ e);
   }
 
   pub plan-closure : (k .code ≡ OBJECT → ⊥) → k .code ≡ CLOSURE → Planned x k m (j .0) (Signature (runs x k m (j .0) j))
   unfolding planMeans kidsPlan kindMeans
   plan-closure h e = record {
     means = λ ks. sym (plan-kids x k m (j .0) d ks ∙ rw (ne-eqb (k .code) OBJECT h, eq-eqb (k .code) CLOSURE e));
+    over = all-of k m j;
   }
 
   pub plan-run : (k .code ≡ OBJECT → ⊥) → (k .code ≡ CLOSURE → ⊥) → Planned x k m (j .0) (Run (runs x k m (j .0) j))
   unfolding planMeans kidsPlan kindMeans
   plan-run h g = record {
     means = λ ks. sym (plan-kids x k m (j .0) d ks ∙ rw (ne-eqb (k .code) OBJECT h, ne-eqb (k .code) CLOSURE g));
+    over = all-of k m j;
   }

@@ -7,7 +7,7 @@ use Prim.Native.Nat.{ℕ}
 use lib.Dec.{eqb}
 use Rattle.scope.specs.Names.{Texts, Name}
 use Rattle.scope.specs.Types.{Ty, tyOf}
-use Rattle.scope.specs.Kinds.{dualBy, rowOf, DEFAULT}
+use Rattle.scope.specs.Kinds.{dualBy, rowOf, OBJECT, DEFAULT}
 use Rattle.scope.specs.Unify.{answers, runPlan, objectPlan, signaturePlan, sameHead}
 use Rattle.scope.specs.Unify as scope
 use Rattle.scope.specs.Sound.{slotName}
@@ -15,6 +15,7 @@ use Rattle.types.specs.Answers.{answerOf}
 use Rattle.layout.specs.Words.{slots}
 use Rattle.layout.specs.Meaning.{kindMeans}
 use Rattle.layout.specs.declared.Kind.{Kind}
+use Rattle.plan.specs.declared.Runs.{Runs}
 use Rattle.plan.specs.declared.Plan.{Plan}
 use Rattle.plan.specs.declared.Plan.the-variants.{Answer, Run, Object, Signature}
 
@@ -39,6 +40,21 @@ pub record SameKinds (x : Texts) (k m : Kind) (r : Bool) : Type 0 where
 abbrev pub crossesKind : Kind → Bool
 crossesKind k = dualBy (rowOf (k .code) .dual) (k .dual) && not (eqb (k .code) DEFAULT)
 
+-- runs of the children of two kinds
+pub record Over (k m : Kind) (s : Runs) : Type 0 where
+  pub a : s .a ≡ k .first
+  pub na : s .na ≡ k .count
+  pub b : s .b ≡ m .first
+  pub nb : s .nb ≡ m .count
+
+-- what a plan names of two kinds is all their children; an object's are those of two objects
+abbrev pub PlanOver : Kind → Kind → Plan → Type 0
+PlanOver k m (Answer r) = Unit {0}
+PlanOver k m (Run s) = Over k m s
+PlanOver k m (Object s) = Over k m s × (m .code ≡ OBJECT)
+PlanOver k m (Signature s) = Over k m s
+
 -- whatever the children are, r is the plan of two kinds whose inversions differ if i
 pub record Planned (x : Texts) (k m : Kind) (i : Bool) (r : Plan) : Type 0 where
   pub means : (ks : List ℕ) → planMeans ks x r ≡ scope.plan x (kindMeans ks k) (kindMeans ks m) i
+  pub over : PlanOver k m r

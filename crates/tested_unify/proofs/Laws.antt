@@ -28,7 +28,7 @@ use Rattle.layout.specs.Words.{nodesMade, childrenMade, decode, storeIn, clean,
 use Rattle.layout.specs.Meaning.{headerIn}
 use Rattle.layout.specs.declared.Header.{Header}
 use Rattle.layout.proofs.Laws.{length-decode}
-use Rattle.layout.proofs.StoreLaws.{clean-nodes}
+use Rattle.layout.proofs.StoreLaws.{clean-lies, clean-nodes}
 use Rattle.store.specs.Holds.{Holds, Became}
 use Rattle.store.proofs.Laws.{store-count, beyond-refl, holds-with, beyond-with}
 use Rattle.sound.specs.Tests.{envIn}
@@ -123,6 +123,8 @@ module _ {chart : List ℕ} {b : Beside} {rule text h ws ks : List ℕ} {x : Hea
         lent = ap (λ (e : Env). e .texts) env-is;
         children = childrenMade h;
         clean = clean-nodes h ws ks words;
+        few = omega (arith, f .child-limit, f .child-room);
+        room = let l = clean-lies h ws ks words in omega (arith, l .children, l .childSlots);
         small = omega (arith, f .node-limit, f .node-room, store-count h ws ks);
         sound = f .nodes;
       })

@@ -12,9 +12,10 @@ use Rattle.scope.specs.Limits.{MAX-NODES}
 use Rattle.scope.specs.Names.{Texts}
 use Rattle.scope.specs.Chart.{Env}
 use Rattle.scope.specs.Types.{Ty, tyOf}
-use Rattle.scope.specs.Nodes.{Node, at, isRoot, sizeOf, kidsOf, find, findMut}
+use Rattle.scope.specs.Nodes.{Node, Root, Child, at, isRoot, sizeOf, kidsOf, find, findMut}
 use Rattle.scope.specs.Answers as answers
 use Rattle.scope.specs.Unify.{Out, out, run, stateIn, settle, meet, unifyF}
+use Rattle.scope.proofs.Laws.{find-root, compress-root}
 use Rattle.scope.proofs.View.{View, view}
 use Rattle.scope.proofs.Paths.{Forest, Tidied, find-idx, find-inside, rep-root, find-mut-tidied, tidied-forest, tidied-trans, tidied-view}
 use Rattle.scope.proofs.Sizes.{size-le}
@@ -30,23 +31,25 @@ use Rattle.layout.proofs.Laws.{length-decode}
 use Rattle.layout.proofs.HeldLaws.{size-read}
 use Rattle.layout.proofs.LinkLaws.{clean-linked}
 use Rattle.roots.specs.Found.{FoundMut}
-use Rattle.plan.specs.Meaning.{planMeans}
-use Rattle.plan.specs.declared.Plan.{Plan}
-use Rattle.plan.specs.declared.Plan.the-variants.{Answer}
-use Rattle.recall.specs.Memory.{clockOf, Believed, Fewer, Forgot, New}
+use Rattle.recall.specs.Memory.{clockOf, Believed, Tidy, Fewer, Forgot, New}
 use Rattle.recall.specs.Places.{Told}
 use Rattle.recall.specs.declared.Recalled.{Recalled}
 use Rattle.recall.specs.declared.Recalled.the-variants.{Is}
 use Rattle.heed.specs.Recalls.{Meets, Recalls, Since}
 use Rattle.heed.specs.Told.{Moved, FoundTold, Settles, SettledTold}
-use Rattle.heed.proofs.Laws.{since-same, since-then, recalls-moved, moved-fewer, moved-forgot}
+use Rattle.heed.proofs.Laws.{since-same, since-then, recalls-moved, moved-fewer, moved-forgot, moved-same}
 use Rattle.merge.specs.Meaning.{Adds, Bound}
 use Rattle.meeting.specs.Asks.{SoundWords, Pair, Tops, Inside}
-use Rattle.meeting.specs.Meets.{does, metBy, pairsOf, Met}
+use Rattle.meeting.specs.Steps.{stepsMean, Ready}
+use Rattle.meeting.specs.Meets.{does, walkedBy, metBy, pairsOf, MeetReady, Met, WalkedTo}
+use Rattle.meeting.specs.declared.Steps.{Steps}
+use Rattle.meeting.specs.declared.Walked.{Walked}
+use Rattle.meeting.specs.declared.Walked.the-variants.{Done, Bind}
 use Rattle.meeting.specs.declared.Meeting.{Meeting}
-use Rattle.meeting.specs.declared.Meeting.the-variants.{Done, Bind, Kids}
+use Rattle.meeting.specs.declared.Meeting.the-variants.{Walk, Kids}
 use Rattle.unify.specs.Leaves.{Leaves}
 use Rattle.unify.specs.Asked.{Asked, Unified}
+use Rattle.unify.specs.Walk.{WalkAsks, WalkTold}
 use Rattle.unify.proofs.Kept.{pair-sound, run-sound}
 
 -- what is asked
@@ -61,6 +64,8 @@ module _ {x : Texts} {ws ks : List ℕ} {n : ℕ} (w : SoundWords x ws ks n) whe
     lent = w .lent;
     children = w .children;
     clean = cl (w .children) (w .clean);
+    few = w .few;
+    room = w .room;
     small = w .small;
     sound = s;
   }
@@ -209,6 +214,39 @@ climbed {x} {ws} {ks} {ws₁} {ws₂} {m} {m₀} {m₁} {m₂} {n} {d} {p} {q} {
     t₂ : Tidied ms (findMut ms (tyOf q))
     t₂ = find-mut-tidied (ok₁ .forest) (tyOf q)
 
+-- two roots are their own
+
+root-find : (ns : List Node) (t : Ty) (v : Node) → at ns (t .idx) ≡ v → isRoot v ≡ true → find ns t ≡ t
+root-find ns t (Root st z) e r = find-root ns t st z e
+root-find ns t (Child u) e r = cc
+
+root-find-mut : (ns : List Node) (t : Ty) (v : Node) → at ns (t .idx) ≡ v → isRoot v ≡ true → findMut ns t ≡ ns
+unfolding findMut
+root-find-mut ns t (Root st z) e r = compress-root (length ns) ns (find ns t) t e
+root-find-mut ns t (Child u) e r = cc
+
+pub unify-roots : (x : Texts) (n d : ℕ) (ns : List Node) (a b : Ty) → (d ≡ 0 → ⊥) → isRoot (at ns (a .idx)) ≡ true → isRoot (at ns (b .idx)) ≡ true
+    → unifyF x n d ns a b ≡ meet (unifyF x n (d - 1)) x n ns a b
+unify-roots x n d ns a b h f g =
+    let e₁ : findMut ns a ≡ ns = root-find-mut ns a (at ns (a .idx)) refl f in
+    let e₂ : findMut ns b ≡ ns = root-find-mut ns b (at ns (b .idx)) refl g in
+    let e₃ : find ns a ≡ a = root-find ns a (at ns (a .idx)) refl f in
+    let e₄ : find ns b ≡ b = root-find ns b (at ns (b .idx)) refl g in
+    unify-deep x n d ns a b h ∙ rw (e₁, e₂, e₃, e₄) refl
+
+pub climbed-here : {x : Texts} {ws ks m : List ℕ} {n d p q : ℕ} → Asked x ws ks m n d ((tyOf p, tyOf q) ∷ []) → (d ≡ 0 → ⊥) → Tops x ws ks n (tyOf p) (tyOf q)
+    → Climbed x ws ks m ws m n d (tyOf p) (tyOf q) p q
+climbed-here {x} {ws} {ks} {m} {n} {d} {p} {q} w h t = record {
+  same = unify-roots x n d (decode ws ks n) (tyOf p) (tyOf q) h (t .first) (t .second);
+  clean = λ c cl. cl;
+  tail = refl;
+  tops = t;
+  deep = h;
+  enough = w .enough;
+  recalls = w .recalls;
+  since = since-same;
+}
+
 -- the ways out
 
 pub no-depth : {x : Texts} {ws ks m : List ℕ} {n d : ℕ} {p q : Ty} → Asked x ws ks m n d ((p, q) ∷ []) → d ≡ 0
@@ -218,6 +256,30 @@ no-depth w e = record { leaves = record { same = rw e refl; clean = λ c cl. cl;
 
 pub tops-add : {x : Texts} {ws ks m ws₂ m₂ : List ℕ} {n d : ℕ} {p q : Ty} {a b : ℕ} → Climbed x ws ks m ws₂ m₂ n d p q a b → Adds ws₂ n (tyOf a) (tyOf b)
 tops-add {a = a} {b = b} c = words-add (c .tops .pair .words) (tyOf a) (tyOf b) (c .tops .pair .first) (c .tops .pair .second)
+
+pub walk-asks : {x : Texts} {ws ks m ws₂ m₂ : List ℕ} {n d : ℕ} {p q : Ty} {a b : ℕ} → Climbed x ws ks m ws₂ m₂ n d p q a b → WalkAsks ws₂ ks m₂ n (tyOf a) (tyOf b)
+walk-asks {x} c = record { roots = record { lent = x; tops = c .tops }; adds = tops-add c; tidy = c .recalls .tidy }
+
+-- `walk_pair`
+
+module _ {ws ks m : List ℕ} {n : ℕ} {a b : Ty} {w : Walked} (asks : WalkAsks ws ks m n a b) (o : WalkedTo ws ks n a b w) where
+  pub walk-done : {r : UnifyResult} → w ≡ Done r → WalkTold ws ks m ws m n a b r
+  walk-done e = record {
+    leaves = record { same = o .same ∙ ap (walkedBy (decode ws ks n) a b) e; clean = λ c cl. cl; tail = refl };
+    told = moved-same (asks .tidy);
+  }
+
+  pub walk-binds : {ws′ m′ : List ℕ} → w ≡ Bind → Bound ws ws′ n a b → Forgot m m′ → WalkTold ws ks m ws′ m′ n a b Success
+  walk-binds e v f =
+      let g = asks .roots .tops .pair .words in
+      record {
+        leaves = record {
+          same = o .same ∙ (ap (walkedBy (decode ws ks n) a b) e ∙ ap (λ (ns : List Node). out ns answers.Success) (sym (v .nodes ks (g .children) (g .clean))));
+          clean = λ c cl. v .clean ks c cl;
+          tail = v .tail;
+        };
+        told = moved-forgot f;
+      }
 
 -- the same, and the roots ask for k
 pub record AtRoots (x : Texts) (ws ks m ws₂ m₂ : List ℕ) (n d : ℕ) (p q : Ty) (a b : ℕ) (k : Meeting) : Type 0 where
@@ -231,8 +293,8 @@ module _ {x : Texts} {ws ks m ws₂ m₂ : List ℕ} {n d : ℕ} {p q : Ty} {a b
   abbrev whole : Out
   whole = unifyF x n d (decode ws ks n) p q
 
-  went : {l : Meeting} → k ≡ l → whole ≡ metBy (unifyF x n (d - 1)) x ks (decode ws₂ ks n) (tyOf a) (tyOf b) l
-  went e = c .up .same ∙ (c .met .same (unifyF x n (d - 1)) ∙ ap (metBy (unifyF x n (d - 1)) x ks (decode ws₂ ks n) (tyOf a) (tyOf b)) e)
+  went : {l : Meeting} → k ≡ l → whole ≡ metBy (unifyF x n (d - 1)) x n ks (decode ws₂ ks n) (tyOf a) (tyOf b) l
+  went e = c .up .same ∙ (c .met .same (unifyF x n (d - 1)) ∙ ap (metBy (unifyF x n (d - 1)) x n ks (decode ws₂ ks n) (tyOf a) (tyOf b)) e)
 
   -- the depth here changes nothing
   deep-enough : meet (unifyF x n (d - 1)) x n (decode ws₂ ks n) (tyOf a) (tyOf b) ≡ meet (unifyF x n n) x n (decode ws₂ ks n) (tyOf a) (tyOf b)
@@ -242,44 +304,42 @@ module _ {x : Texts} {ws ks m ws₂ m₂ : List ℕ} {n d : ℕ} {p q : Ty} {a b
   at-once : {r : UnifyResult} → whole ≡ out (decode ws₂ ks n) (answerOf r) → Unified x ws ks m ws₂ m₂ n whole r
   at-once e = record { leaves = record { same = e; clean = c .up .clean; tail = c .up .tail }; recalls = c .up .recalls; since = c .up .since }
 
-  pub way-done : {r : UnifyResult} → k ≡ Done r → Unified x ws ks m ws₂ m₂ n whole r
-  way-done e = at-once (went e)
-
-  pub way-bind : {ws₃ m₃ : List ℕ} → k ≡ Bind → Bound ws₂ ws₃ n (tyOf a) (tyOf b) → Forgot m₂ m₃ → Unified x ws ks m ws₃ m₃ n whole Success
-  way-bind {ws₃} {m₃} e o f = record {
+  -- no child is unified
+  pub way-walk : {ws₃ m₃ : List ℕ} {r : UnifyResult} → k ≡ Walk → WalkTold ws₂ ks m₂ ws₃ m₃ n (tyOf a) (tyOf b) r → Unified x ws ks m ws₃ m₃ n whole r
+  way-walk e o = record {
     leaves = record {
-      same = went e ∙ ap (λ (ns : List Node). out ns answers.Success) (sym (o .nodes ks (words .children) (words .clean)));
-      clean = λ h cl. o .clean ks h (c .up .clean h cl);
-      tail = o .tail ∙ c .up .tail;
+      same = went e ∙ o .leaves .same;
+      clean = λ h cl. o .leaves .clean h (c .up .clean h cl);
+      tail = o .leaves .tail ∙ c .up .tail;
     };
-    recalls = recalls-moved (c .up .recalls) gone;
-    since = since-then (c .up .since) (gone .since);
+    recalls = recalls-moved (c .up .recalls) (o .told);
+    since = since-then (c .up .since) (o .told .since);
   }
-    where
-      gone : Moved m₂ m₃ (decode ws₂ ks n) (decode ws₃ ks n)
-      gone = moved-forgot f
 
   -- what the memory tells is what the roots would give
   pub way-known : {t : Recalled} {r : UnifyResult} → Told m₂ a b t → t ≡ Is r → Unified x ws ks m ws₂ m₂ n whole r
   way-known {r = r} f e = at-once (c .up .same ∙ (deep-enough ∙ c .up .recalls .true a b r (f .believed r e) .same))
 
   -- the children are asked for: what they ask, what settling asks after them, and the way out
-  module _ {l : Plan} (e : k ≡ Kids l) where
-    kids-inside : Inside n (planMeans ks x l .pairs)
+  module _ {l : Steps} (e : k ≡ Kids l) where
+    kids-inside : Inside n (stepsMean ks x l .pairs)
     kids-inside = subst (λ (v : Meeting). Inside n (pairsOf x ks v)) e (c .met .inside)
 
-    pub kids-asks : Asked x ws₂ ks m₂ n (d - 1) (planMeans ks x l .pairs)
-    kids-asks = record {
+    kids-asked : Asked x ws₂ ks m₂ n (d - 1) (stepsMean ks x l .pairs)
+    kids-asked = record {
       pairs = record { words = words; inside = kids-inside };
-      enough = words-kids words (tyOf a) (tyOf b) (c .up .tops .pair .first) (c .up .tops .first) (c .up .enough) (c .up .deep) (planMeans ks x l .pairs)
+      enough = words-kids words (tyOf a) (tyOf b) (c .up .tops .pair .first) (c .up .tops .first) (c .up .enough) (c .up .deep) (stepsMean ks x l .pairs)
           (subst (λ (v : Meeting). (p : Ty × Ty) → List·Memᴰ p (pairsOf x ks v) → List·Memᴰ (p .0) (kidsOf (stateIn (decode ws₂ ks n) (tyOf a)))) e (c .met .left));
       recalls = c .up .recalls;
     }
 
-    module _ {ws₃ m₃ : List ℕ} {r : UnifyResult} (v : Unified x ws₂ ks m₂ ws₃ m₃ n (does (unifyF x n (d - 1)) (decode ws₂ ks n) (planMeans ks x l)) r) where
+    pub kids-asks : Asked x ws₂ ks m₂ n (d - 1) (stepsMean ks x l .pairs) × Ready x ks l
+    kids-asks = (kids-asked, subst (MeetReady x ks) e (c .met .ready))
+
+    module _ {ws₃ m₃ : List ℕ} {r : UnifyResult} (v : Unified x ws₂ ks m₂ ws₃ m₃ n (does (unifyF x n (d - 1)) (decode ws₂ ks n) (stepsMean ks x l)) r) where
       pub kids-settles : Settles ws₃ n m₃ (tyOf a) (tyOf b)
       kids-settles =
-          let o = planMeans ks x l in
+          let o = stepsMean ks x l in
           let t = c .up .tops .pair in
           record {
             adds = words-add (words-run words (d - 1) (o .base) (o .pairs) kids-inside (v .leaves)) (tyOf a) (tyOf b) (t .first) (t .second);
@@ -313,18 +373,3 @@ module _ {x : Texts} {ws ks m ws₂ m₂ : List ℕ} {n d : ℕ} {p q : Ty} {a b
           recalls = record { tidy = o .told ks .tidy; true = λ a′ b′ q′ w. believed-now a′ b′ q′ (o .told ks .believed a′ b′ q′ w) };
           since = since-then (c .up .since) (since-then (v .since) (o .told ks .since));
         }
-
--- the children of two kinds, by what their plan is
-
-module _ {x : Texts} {ws ks m : List ℕ} {n : ℕ} (d : ℕ) {k l : Plan} (e : k ≡ l) where
-  pub plan-asks : Asked x ws ks m n d (planMeans ks x k .pairs) → Asked x ws ks m n d (planMeans ks x l .pairs)
-  plan-asks w = subst (λ (v : Plan). Asked x ws ks m n d (planMeans ks x v .pairs)) e w
-
-  pub plan-unified : {ws′ m′ : List ℕ} {r : UnifyResult} → Unified x ws ks m ws′ m′ n (does (unifyF x n d) (decode ws ks n) (planMeans ks x l)) r
-      → Unified x ws ks m ws′ m′ n (does (unifyF x n d) (decode ws ks n) (planMeans ks x k)) r
-  plan-unified {ws′} {m′} {r} v = subst (λ (z : Plan). Unified x ws ks m ws′ m′ n (does (unifyF x n d) (decode ws ks n) (planMeans ks x z)) r) (sym e) v
-
-pub plan-answers : {x : Texts} {ws ks m : List ℕ} {n d : ℕ} {k : Plan} {r : UnifyResult} → Asked x ws ks m n d (planMeans ks x k .pairs) → k ≡ Answer r
-    → Unified x ws ks m ws m n (does (unifyF x n d) (decode ws ks n) (planMeans ks x k)) r
-unfolding planMeans run
-plan-answers w e = record { leaves = record { same = rw e refl; clean = λ c cl. cl; tail = refl }; recalls = w .recalls; since = since-same }

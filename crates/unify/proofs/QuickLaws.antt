@@ -6,14 +6,12 @@ use mathlib.Core.List.{List, [], _∷_}
 use mathlib.Core.Option.{Option}
 use Prim.Native.Nat.{ℕ, zero, suc, _-_, _<_}
 use native.Mathlib.Omega.{arith}
-use lib.ListN.{length}
 use borrow.Author.Tests.{ne-eqb}
 use Rattle.scope.specs.Names.{Texts}
 use Rattle.scope.specs.Types.{Ty}
-use Rattle.scope.specs.Nodes.{Kind, Node, Root, Child, Known, Unknown, InferenceFailed, at, stateOf, kidsOf, find, findMut}
+use Rattle.scope.specs.Nodes.{Kind, Node, Root, Child, Known, Unknown, InferenceFailed, at, isRoot, stateOf, kidsOf}
 use Rattle.scope.specs.Answers as answers
 use Rattle.scope.specs.Unify.{Out, out, kindIn, occurs, bound, bind, meetKinds, meet, unifyF}
-use Rattle.scope.proofs.Laws.{find-root, compress-root}
 use Rattle.types.specs.declared.UnifyResult.{UnifyResult}
 use Rattle.types.specs.declared.UnifyResult.the-variants.{Success}
 use Rattle.layout.specs.Words.{decode}
@@ -25,7 +23,7 @@ use Rattle.heed.specs.Told.{Moved, QuickTold}
 use Rattle.heed.proofs.Laws.{recalls-moved, moved-forgot}
 use Rattle.meeting.specs.Asks.{Pair}
 use Rattle.unify.specs.Asked.{Asked, Unified}
-use Rattle.unify.proofs.Laws.{words-add, asked-pair, unify-deep}
+use Rattle.unify.proofs.Laws.{words-add, asked-pair, unify-roots}
 
 -- roots without kinds
 
@@ -35,14 +33,9 @@ bare-kids (Root (Unknown s) z) e = refl
 bare-kids (Root InferenceFailed z) e = refl
 bare-kids (Child t) e = cc
 
-bare-find : (ns : List Node) (t : Ty) (v : Node) → at ns (t .idx) ≡ v → bareNode v ≡ true → find ns t ≡ t
-bare-find ns t (Root st z) e b = find-root ns t st z e
-bare-find ns t (Child u) e b = cc
-
-bare-find-mut : (ns : List Node) (t : Ty) (v : Node) → at ns (t .idx) ≡ v → bareNode v ≡ true → findMut ns t ≡ ns
-unfolding findMut
-bare-find-mut ns t (Root st z) e b = compress-root (length ns) ns (find ns t) t e
-bare-find-mut ns t (Child u) e b = cc
+bare-root : (v : Node) → bareNode v ≡ true → isRoot v ≡ true
+bare-root (Root st z) e = refl
+bare-root (Child t) e = e
 
 occurs-bare : (n : ℕ) (ns : List Node) (x y : ℕ) → 0 < n → (y ≡ x → ⊥) → bareNode (at ns y) ≡ true → occurs n ns x y ≡ false
 unfolding occurs
@@ -63,12 +56,7 @@ module _ (n : ℕ) (ns : List Node) (a b : Ty) (h : 0 < n) (d : a .idx ≡ b .id
       bare-apart u x ∙ (ap (λ (k : Option (Bool × Kind)). meetKinds u x n ns a b k (kindIn ns b)) (bare-none a (at ns (a .idx)) f) ∙ bare-bind)
 
   bare-unify : (x : Texts) (m : ℕ) → (m ≡ 0 → ⊥) → unifyF x n m ns a b ≡ out (bound ns a b) answers.Success
-  bare-unify x m e =
-      let e₁ : findMut ns a ≡ ns = bare-find-mut ns a (at ns (a .idx)) refl f in
-      let e₂ : findMut ns b ≡ ns = bare-find-mut ns b (at ns (b .idx)) refl g in
-      let e₃ : find ns a ≡ a = bare-find ns a (at ns (a .idx)) refl f in
-      let e₄ : find ns b ≡ b = bare-find ns b (at ns (b .idx)) refl g in
-      unify-deep x n m ns a b e ∙ rw (e₁, e₂, e₃, e₄) (bare-meet (unifyF x n (m - 1)) x)
+  bare-unify x m e = unify-roots x n m ns a b e (bare-root (at ns (a .idx)) f) (bare-root (at ns (b .idx)) g) ∙ bare-meet (unifyF x n (m - 1)) x
 
 -- what `quick` asks, and what it leaves
 

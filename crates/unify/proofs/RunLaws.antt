@@ -1,8 +1,8 @@
--- Pairs in order: a step for each pair, what is left of a run and of an object, and a signature as two runs. A loop's invariant is that what is left gives
--- the whole; one law for each way out of `unify_types` and `unify_objects`.
+-- Pairs in order: a step for each pair, what is left of a run and of an object. A loop's invariant is that what is left gives the whole; one law for each way out of
+-- `unify_kids`, `unify_types` and `unify_objects`.
 -- Assumes nothing.
 use mathlib.Core.Path.{_≡_, refl, ap, sym, subst, _∙_}
-use mathlib.Core.List.{List, [], _∷_, _++_, List·Memᴰ·head, List·Memᴰ·tail, Memᴰ·append-left, Memᴰ·append-right}
+use mathlib.Core.List.{List, [], _∷_, _++_, List·Memᴰ·head, List·Memᴰ·tail, Memᴰ·append-left}
 use mathlib.Core.Bool.{Bool}
 use mathlib.Core.Option.{Option}
 use Prim.Native.Nat.{ℕ, suc, _+_, _-_, _<_, _≤_}
@@ -10,12 +10,11 @@ use native.Mathlib.Omega.{arith}
 use lib.Dec.{eqb}
 use lib.ListN.{drop}
 use borrow.Author.Tests.{eq-eqb, ne-eqb}
-use Rattle.scope.specs.Base.{front}
 use Rattle.scope.specs.Names.{Texts, Name}
 use Rattle.scope.specs.Types.{Ty, tyOf, flip}
 use Rattle.scope.specs.Nodes.{Node}
 use Rattle.scope.specs.Answers.{Answer, Success, Failure, Indeterminate, both, ofBool}
-use Rattle.scope.specs.Unify.{Plan, Out, out, run, unifyF, answers, zipped, runPlan, shared, sharedNames, objectPlan, after, signaturePlan}
+use Rattle.scope.specs.Unify.{Plan, Out, out, run, unifyF, answers, zipped, runPlan, shared, sharedNames, objectPlan, after}
 use Rattle.scope.proofs.Laws.{both-assoc, both-comm}
 use Rattle.types.specs.Answers.{answerOf}
 use Rattle.types.specs.declared.«Type».{«Type»}
@@ -31,20 +30,24 @@ use Rattle.plan.specs.Meaning.{kidsFrom, namesFrom, planMeans}
 use Rattle.plan.specs.declared.Runs.{Runs}
 use Rattle.plan.specs.declared.Plan.the-variants as plans
 use Rattle.meeting.specs.Asks.{Pair}
+use Rattle.meeting.specs.Steps.{stepsMean, Ready, RunsLie, Ascends}
 use Rattle.meeting.specs.Meets.{does}
-use Rattle.meeting.specs.Kids.{objectsOf, slotPlace, soughtMeans, soughtIn, Parameters, returnsMean, returnsPlan}
-use Rattle.meeting.specs.declared.Returned.{Returned}
-use Rattle.meeting.specs.declared.Returned.the-variants as back
+use Rattle.meeting.specs.Kids.{objectsOf, slotPlace, soughtMeans, soughtIn}
+use Rattle.meeting.specs.declared.Steps.{Steps}
+use Rattle.meeting.specs.declared.Steps.the-variants as steps
 use Rattle.meeting.specs.declared.Sought.{Sought}
 use Rattle.meeting.specs.declared.Sought.the-variants as found
-use Rattle.meeting.proofs.KidLaws.{one-more, none-left, kid-length, kidTy, slot-bytes, front-kids}
+use Rattle.meeting.proofs.KidLaws.{one-more, none-left, kid-length, kidTy, slot-bytes}
 use Rattle.unify.specs.Asked.{Asked, Unified}
-use Rattle.unify.proofs.Laws.{words-pair, words-run, words-enough}
+use Rattle.unify.proofs.Laws.{words-pair, words-enough}
 
 -- answers
 
 both-turn : (a b c : Answer) → both (both a b) c ≡ both (both a c) b
 both-turn a b c = both-assoc a b c ∙ (ap (both a) (both-comm b c) ∙ sym (both-assoc a c b))
+
+pub both-success : (a : Answer) → a ≡ both a Success
+both-success a = both-comm Success a
 
 both-fails : (a b : Answer) → both a Failure ≡ both (both a Failure) b
 both-fails Success b = refl
@@ -321,85 +324,38 @@ pub stored-ends : {x : Texts} {ws₀ ks m₀ : List ℕ} {n d : ℕ} {s : Runs} 
 unfolding planMeans
 stored-ends g h = object-ends g h
 
--- a signature: its parameters, then its returns
+-- `unify_kids`: what the steps are
 
-module _ (x : Texts) (ks : List ℕ) {s p : Runs} (ep : Parameters s p) where
-  parameters-plan : planMeans ks x (plans.Run p) ≡ runPlan (s .inv .0) (front (kidsFrom ks (s .a) (s .na))) (front (kidsFrom ks (s .b) (s .nb)))
-  unfolding planMeans
-  parameters-plan = rw (ep .a, ep .na, ep .b, ep .nb, ep .inv, front-kids ks (s .a) (s .na), front-kids ks (s .b) (s .nb)) refl
-
-  signature-split : (t : Returned) → returnsMean t ≡ returnsPlan ks s → planMeans ks x (plans.Signature s) ≡ after (planMeans ks x (plans.Run p)) (returnsMean t)
-  unfolding planMeans signaturePlan
-  signature-split t et = rw (parameters-plan, et) refl
-
-pub parameters-asks : {x : Texts} {ws ks m : List ℕ} {n d : ℕ} {s p : Runs} → Asked x ws ks m n d (planMeans ks x (plans.Signature s) .pairs) → Parameters s p
-    → Asked x ws ks m n d (planMeans ks x (plans.Run p) .pairs)
-unfolding planMeans signaturePlan
-parameters-asks {x} {ws} {ks} {m} {n} {d} {s} g ep = subst (λ (l : Plan). Asked x ws ks m n d (l .pairs)) (sym (parameters-plan x ks ep)) (record {
-  pairs = record { words = g .pairs .words; inside = λ q w. g .pairs .inside q (Memᴰ·append-left (returnsPlan ks s .pairs) w) };
-  enough = enough-part (λ q w. Memᴰ·append-left (returnsPlan ks s .pairs) w) (g .enough);
-  recalls = g .recalls;
-})
-
--- a signature's parameters are unified, from ws to ws₁ and from m to m₁, and answered q; its returns are t
-pub record Halfway (x : Texts) (ws ks m ws₁ m₁ : List ℕ) (n d : ℕ) (s : Runs) (q : UnifyResult) (t : Returned) : Type 0 where
-  pub asked : Asked x ws ks m n d (planMeans ks x (plans.Signature s) .pairs)
-  pub front : Runs
-  pub parameters : Parameters s front
-  pub left : Unified x ws ks m ws₁ m₁ n (does (unifyF x n d) (decode ws ks n) (planMeans ks x (plans.Run front))) q
-  pub returns : returnsMean t ≡ returnsPlan ks s
-
-module _ {x : Texts} {ws ks m ws₁ m₁ : List ℕ} {n d : ℕ} {s : Runs} {q : UnifyResult} {t : Returned} (h : Halfway x ws ks m ws₁ m₁ n d s q t) where
-  abbrev first : Plan
-  first = planMeans ks x (plans.Run (h .front))
-
-  split : planMeans ks x (plans.Signature s) ≡ after first (returnsMean t)
-  split = signature-split x ks (h .parameters) t (h .returns)
-
-  all-asked : Asked x ws ks m n d (first .pairs ++ returnsMean t .pairs)
-  all-asked = subst (λ (l : Plan). Asked x ws ks m n d (l .pairs)) split (h .asked)
-
-  returns-asked : Asked x ws₁ ks m₁ n d (returnsMean t .pairs)
-  returns-asked =
-      let w = all-asked .pairs .words in
-      let i = all-asked .pairs .inside in
-      record {
-        pairs = record {
-          words = words-run w d (first .base) (first .pairs) (λ p v. i p (Memᴰ·append-left (returnsMean t .pairs) v)) (h .left .leaves);
-          inside = λ p v. i p (Memᴰ·append-right (first .pairs) v);
-        };
-        enough = words-enough w d (first .base) (first .pairs) (returnsMean t .pairs) i (all-asked .enough) (h .left .leaves);
-        recalls = h .left .recalls;
-      }
-
-  pub returns-in : {y z : «Type»} → t ≡ back.Pair y z → Asked x ws₁ ks m₁ n d ((tyOf (y .0), tyOf (z .0)) ∷ [])
-  returns-in e = subst (λ (v : Returned). Asked x ws₁ ks m₁ n d (returnsMean v .pairs)) e returns-asked
-
-  abbrev signature : Out
-  signature = does (unifyF x n d) (decode ws ks n) (planMeans ks x (plans.Signature s))
-
-  -- the whole from its two parts
-  whole-by : signature ≡ next (unifyF x n d) (out (decode ws₁ ks n) (answerOf q)) (returnsMean t)
-  whole-by = ap (does (unifyF x n d) (decode ws ks n)) split ∙ does-after (unifyF x n d) (decode ws ks n) first (returnsMean t) (h .left .leaves .same)
-
-  pub signature-lacking : {r : UnifyResult} (v : UnifyResult) → t ≡ back.Lacking r → answerOf v ≡ both (answerOf q) (answerOf r) → Unified x ws ks m ws₁ m₁ n signature v
+module _ {x : Texts} {ws ks m : List ℕ} {n : ℕ} (d : ℕ) {k : Steps} where
+  pub steps-answer : {r : UnifyResult} → Asked x ws ks m n d (stepsMean ks x k .pairs) → k ≡ steps.Answer r → Unified x ws ks m ws m n (does (unifyF x n d) (decode ws ks n) (stepsMean ks x k)) r
   unfolding run
-  signature-lacking v e f = record {
-    leaves = record { same = whole-by ∙ rw (e, f) refl; clean = h .left .leaves .clean; tail = h .left .leaves .tail };
-    recalls = h .left .recalls;
-    since = h .left .since;
-  }
+  steps-answer w e = record { leaves = record { same = rw e refl; clean = λ c cl. cl; tail = refl }; recalls = w .recalls; since = since-same }
 
-  pub signature-pair : {y z : «Type»} {ws₂ m₂ : List ℕ} {r : UnifyResult} (v : UnifyResult) → t ≡ back.Pair y z
-      → Unified x ws₁ ks m₁ ws₂ m₂ n (unifyF x n d (decode ws₁ ks n) (tyOf (y .0)) (tyOf (z .0))) r → answerOf v ≡ both (answerOf q) (answerOf r)
-      → Unified x ws ks m ws₂ m₂ n signature v
-  unfolding run
-  signature-pair v e u f = record {
-    leaves = record {
-      same = whole-by ∙ rw (e, u .leaves .same, f) refl;
-      clean = λ c cl. u .leaves .clean c (h .left .leaves .clean c cl);
-      tail = u .leaves .tail ∙ h .left .leaves .tail;
-    };
-    recalls = u .recalls;
-    since = since-then (h .left .since) (u .since);
-  }
+  module _ {q : UnifyResult} {s : Runs} (e : k ≡ steps.Run q s) where
+    pub steps-runs : Asked x ws ks m n d (stepsMean ks x k .pairs) × Ready x ks k → Asked x ws ks m n d (planMeans ks x (plans.Run s) .pairs) × RunsLie ks s
+    steps-runs w = subst (λ (z : Steps). Asked x ws ks m n d (stepsMean ks x z .pairs) × Ready x ks z) e w
+
+    pub steps-run : {ws′ m′ : List ℕ} {r v : UnifyResult} → Unified x ws ks m ws′ m′ n (does (unifyF x n d) (decode ws ks n) (planMeans ks x (plans.Run s))) r
+        → answerOf v ≡ both (answerOf q) (answerOf r) → Unified x ws ks m ws′ m′ n (does (unifyF x n d) (decode ws ks n) (stepsMean ks x k)) v
+    steps-run {ws′} {m′} {r} {v} u f =
+        let l = planMeans ks x (plans.Run s) in
+        record {
+          leaves = record {
+            same = ap (λ (z : Steps). does (unifyF x n d) (decode ws ks n) (stepsMean ks x z)) e
+                ∙ (run-base (unifyF x n d) (decode ws ks n) (answerOf q) (l .base) (l .pairs)
+                ∙ (ap (λ (o : Out). out (o .nodes) (both (answerOf q) (o .answer))) (u .leaves .same) ∙ ap (out (decode ws′ ks n)) (sym f)));
+            clean = u .leaves .clean;
+            tail = u .leaves .tail;
+          };
+          recalls = u .recalls;
+          since = u .since;
+        }
+
+  module _ {s : Runs} (e : k ≡ steps.Object s) where
+    pub steps-objects : Asked x ws ks m n d (stepsMean ks x k .pairs) × Ready x ks k
+        → Asked x ws ks m n d (planMeans ks x (plans.Object s) .pairs) × (RunsLie ks s × Ascends x ks (s .b) (s .nb))
+    steps-objects w = subst (λ (z : Steps). Asked x ws ks m n d (stepsMean ks x z .pairs) × Ready x ks z) e w
+
+    pub steps-object : {ws′ m′ : List ℕ} {r : UnifyResult} → Unified x ws ks m ws′ m′ n (does (unifyF x n d) (decode ws ks n) (planMeans ks x (plans.Object s))) r
+        → Unified x ws ks m ws′ m′ n (does (unifyF x n d) (decode ws ks n) (stepsMean ks x k)) r
+    steps-object {ws′} {m′} {r} u = subst (λ (z : Steps). Unified x ws ks m ws′ m′ n (does (unifyF x n d) (decode ws ks n) (stepsMean ks x z)) r) (sym e) u

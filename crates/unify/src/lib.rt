@@ -1,20 +1,22 @@
-// "The functions that unify a pair, a run and an object call each other in turn", depth falling from the node count. Two roots without kinds merge at once. Otherwise
-// what is to be done with two roots is read first, then their children are unified, then the answer is settled. The words of the nodes change as scope's `unify` says
-// of the nodes. Beside them goes a memory: a pair that did not succeed is looked up there before its children are unified. Whatever is believed there is what
-// unifying would give.
+// "The functions that unify a pair, a run and an object call each other in turn", depth falling from the node count. Two roots without kinds merge at once, in the
+// loops too. What walks is a leaf apart from the cycle, and so its marks stay out of the cycle's frames. Otherwise what is to be done with two roots is read first,
+// then their children are unified, then the answer is settled. The words of the nodes change as scope's `unify` says of the nodes. Beside them goes a memory: a pair
+// that did not succeed is looked up there before its children are unified. Whatever is believed there is what unifying would give.
 ghost use Rattle.scope.specs.Types.{tyOf};
 ghost use Rattle.scope.specs.Unify.{unifyF};
 ghost use Rattle.names.specs.Place.{texts};
 ghost use Rattle.layout.specs.Words.{decode};
 ghost use Rattle.plan.specs.Meaning.{planMeans};
 ghost use Rattle.plan.specs.declared.Plan.the-variants as plans;
+ghost use Rattle.meeting.specs.Steps.{stepsMean, Ready, RunsLie, Ascends};
 ghost use Rattle.meeting.specs.Meets.{does};
 ghost use mathlib.Core.List.{[], _∷_};
 ghost use Rattle.unify.specs.Asked.{Asked, Unified};
+ghost use Rattle.unify.specs.Walk.{WalkAsks, WalkTold};
 use meeting::Meeting;
-use meeting::Returned;
 use meeting::Sought;
-use plan::Plan;
+use meeting::Steps;
+use meeting::Walked;
 use plan::Runs;
 use recall::Recalled;
 use types::Type;
@@ -61,17 +63,15 @@ pub fn unify_pair<'a>(
     if depth == 0 {
         return UnifyResult::Failure;
     }
+    if meeting::bare_roots(ws, n, a, b) {
+        return walk_pair(ws, ks, n, memory, a, b);
+    }
     recall::visited(memory);
     let ra = heed::find(ws, n, memory, a);
     let rb = heed::find(ws, n, memory, b);
     let m = meeting::meet(ws, ks, n, rule, text, ra, rb);
     match m {
-        Meeting::Done(r) => r,
-        Meeting::Bind => {
-            merge::bind(ws, n, ra, rb);
-            recall::changed(memory);
-            UnifyResult::Success
-        }
+        Meeting::Walk => walk_pair(ws, ks, n, memory, ra, rb),
         Meeting::Kids(p) => {
             let known = recall::look(memory, n, ra, rb);
             match known {
@@ -86,7 +86,30 @@ pub fn unify_pair<'a>(
     }
 }
 
-// The children of two kinds, as their plan says.
+// Two roots, one node or one of them without a kind: no child is unified.
+fn walk_pair(
+    ws: &mut [u32],
+    ks: &[u32],
+    n: u32,
+    memory: &mut [u32],
+    a: Type,
+    b: Type,
+) -> UnifyResult
+    requires { ⌜ WalkAsks (now ws) (now ks) (now memory) n (tyOf (a .0)) (tyOf (b .0)) ⌝ }
+    ensures { λ r. ⌜ WalkTold (now (ws .entry)) (now (ks .entry)) (now (memory .entry)) (now (ws .exit)) (now (memory .exit)) n (tyOf (a .0)) (tyOf (b .0)) r ⌝ }
+{
+    let w = meeting::walk_roots(ws, ks, n, a, b);
+    match w {
+        Walked::Done(r) => r,
+        Walked::Bind => {
+            merge::bind(ws, n, a, b);
+            recall::changed(memory);
+            UnifyResult::Success
+        }
+    }
+}
+
+// The children of two kinds, step by step.
 pub fn unify_kids<'a>(
     ws: &mut [u32],
     ks: &[u32],
@@ -94,26 +117,19 @@ pub fn unify_kids<'a>(
     rule: &'a [u8],
     text: &'a [u8],
     memory: &mut [u32],
-    p: Plan,
+    p: Steps,
     depth: u32,
 ) -> UnifyResult
-    requires { ⌜ Asked (texts (now rule) (now text)) (now ws) (now ks) (now memory) n depth (planMeans (now ks) (texts (now rule) (now text)) p .pairs) ⌝ }
+    requires { ⌜ Asked (texts (now rule) (now text)) (now ws) (now ks) (now memory) n depth (stepsMean (now ks) (texts (now rule) (now text)) p .pairs)
+        × Ready (texts (now rule) (now text)) (now ks) p ⌝ }
     ensures { λ r. ⌜ Unified (texts (now (rule .entry)) (now (text .entry))) (now (ws .entry)) (now (ks .entry)) (now (memory .entry)) (now (ws .exit)) (now (memory .exit)) n
         (does (unifyF (texts (now (rule .entry)) (now (text .entry))) n depth) (decode (now (ws .entry)) (now (ks .entry)) n)
-        (planMeans (now (ks .entry)) (texts (now (rule .entry)) (now (text .entry))) p)) r ⌝ }
+        (stepsMean (now (ks .entry)) (texts (now (rule .entry)) (now (text .entry))) p)) r ⌝ }
 {
     match p {
-        Plan::Answer(r) => r,
-        Plan::Run(s) => unify_types(ws, ks, n, rule, text, memory, s, depth),
-        Plan::Object(s) => unify_objects(ws, ks, n, rule, text, memory, s, depth),
-        Plan::Signature(s) => {
-            let q = unify_types(ws, ks, n, rule, text, memory, meeting::parameters(s), depth);
-            let t = meeting::returns(ks, s);
-            match t {
-                Returned::Lacking(r) => q.and(r),
-                Returned::Pair(x, y) => q.and(unify(ws, ks, n, rule, text, memory, x, y, depth)),
-            }
-        }
+        Steps::Answer(r) => r,
+        Steps::Run(q, s) => q.and(unify_types(ws, ks, n, rule, text, memory, s, depth)),
+        Steps::Object(s) => unify_objects(ws, ks, n, rule, text, memory, s, depth),
     }
 }
 
@@ -128,7 +144,8 @@ pub fn unify_types<'a>(
     s: Runs,
     depth: u32,
 ) -> UnifyResult
-    requires { ⌜ Asked (texts (now rule) (now text)) (now ws) (now ks) (now memory) n depth (planMeans (now ks) (texts (now rule) (now text)) (plans.Run s) .pairs) ⌝ }
+    requires { ⌜ Asked (texts (now rule) (now text)) (now ws) (now ks) (now memory) n depth (planMeans (now ks) (texts (now rule) (now text)) (plans.Run s) .pairs)
+        × RunsLie (now ks) s ⌝ }
     ensures { λ r. ⌜ Unified (texts (now (rule .entry)) (now (text .entry))) (now (ws .entry)) (now (ks .entry)) (now (memory .entry)) (now (ws .exit)) (now (memory .exit)) n
         (does (unifyF (texts (now (rule .entry)) (now (text .entry))) n depth) (decode (now (ws .entry)) (now (ks .entry)) n)
         (planMeans (now (ks .entry)) (texts (now (rule .entry)) (now (text .entry))) (plans.Run s))) r ⌝ }
@@ -140,10 +157,12 @@ pub fn unify_types<'a>(
     let mut r = UnifyResult::Success;
     let mut i: u32 = 0;
     while i < s.na {
-        let x = meeting::kid(ks, s.a, i);
-        let y = meeting::kid(ks, s.b, i).invert_if(inv);
+        let x = meeting::kid_there(ks, s.a, i);
+        let y = meeting::kid_there(ks, s.b, i).invert_if(inv);
         i += 1;
-        r = r.and(unify(ws, ks, n, rule, text, memory, x, y, depth));
+        if !heed::quick(ws, n, memory, x, y, depth) {
+            r = r.and(unify_pair(ws, ks, n, rule, text, memory, x, y, depth));
+        }
     }
     r
 }
@@ -159,7 +178,8 @@ pub fn unify_objects<'a>(
     s: Runs,
     depth: u32,
 ) -> UnifyResult
-    requires { ⌜ Asked (texts (now rule) (now text)) (now ws) (now ks) (now memory) n depth (planMeans (now ks) (texts (now rule) (now text)) (plans.Object s) .pairs) ⌝ }
+    requires { ⌜ Asked (texts (now rule) (now text)) (now ws) (now ks) (now memory) n depth (planMeans (now ks) (texts (now rule) (now text)) (plans.Object s) .pairs)
+        × (RunsLie (now ks) s × Ascends (texts (now rule) (now text)) (now ks) (s .b) (s .nb)) ⌝ }
     ensures { λ r. ⌜ Unified (texts (now (rule .entry)) (now (text .entry))) (now (ws .entry)) (now (ks .entry)) (now (memory .entry)) (now (ws .exit)) (now (memory .exit)) n
         (does (unifyF (texts (now (rule .entry)) (now (text .entry))) n depth) (decode (now (ws .entry)) (now (ks .entry)) n)
         (planMeans (now (ks .entry)) (texts (now (rule .entry)) (now (text .entry))) (plans.Object s))) r ⌝ }
@@ -168,12 +188,23 @@ pub fn unify_objects<'a>(
     let mut r = UnifyResult::from_bool(s.na == s.nb);
     let mut j: u32 = 0;
     while j < s.na {
-        let x = meeting::kid(ks, s.a, j);
-        let f = meeting::seek(ks, meeting::kid_name(ks, s.a, j), s.b, s.nb, rule, text);
+        let x = meeting::kid_there(ks, s.a, j);
+        let f = meeting::seek_near(
+            ks,
+            meeting::name_there(ks, s.a, j),
+            j,
+            s.b,
+            s.nb,
+            rule,
+            text,
+        );
         j += 1;
         match f {
             Sought::Is(t) => {
-                r = r.and(unify(ws, ks, n, rule, text, memory, x, t.invert_if(inv), depth));
+                let u = t.invert_if(inv);
+                if !heed::quick(ws, n, memory, x, u, depth) {
+                    r = r.and(unify_pair(ws, ks, n, rule, text, memory, x, u, depth));
+                }
             }
             Sought::Nothing => {
                 r = r.and(UnifyResult::Failure);
