@@ -91,7 +91,8 @@ fn needed(
 {
     let wanted = needs::of_import(sw, sk, n, params_of(listed, params), ts);
     let full = refusals::room(h, wanted.nodes, wanted.children);
-    if wanted.missing {
+    let missing = wanted.missing;
+    if missing {
         return NO_ENTRY;
     }
     full

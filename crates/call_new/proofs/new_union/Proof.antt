@@ -35,7 +35,7 @@ same-length-6 : tie.Need-same-length-6
 same-length-6 c = search needs
 
 returns-2 : tie.Need-returns-2
-returns-2 c = search needs
+returns-2 c = c .before .before .before .before .before .before .new-union .ensures
 
 pub new-union-spec : {M : Type 1} → statement M
 new-union-spec =

@@ -16,7 +16,7 @@ returns : tie.Need-returns
 returns c = search needs
 
 returns-2 : tie.Need-returns-2
-returns-2 c = search needs
+returns-2 c = rw (c .before .r .given .1) refl
 
 returns-3 : tie.Need-returns-3
 returns-3 c = rw (c .before .before .r2 .given .1, ne-eqb _ _ (c .if1 .left)) refl

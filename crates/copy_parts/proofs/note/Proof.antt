@@ -1,6 +1,6 @@
 -- `copy_parts::note` meets its contract: past the end a list with another element is the list.
 -- Assumes nothing.
-use mathlib.Core.Path.{sym}
+use mathlib.Core.Path.{refl, sym}
 use lib.Seq.{set-out}
 use borrow.Author.Needs.{needs}
 use Rattle.copy_parts.proofs.note.Statement.{statement}
@@ -19,7 +19,7 @@ same-length : tie.Need-same-length
 same-length c = search needs
 
 returns : tie.Need-returns
-returns c = search needs
+returns c = refl
 
 returns-2 : tie.Need-returns-2
 returns-2 c = sym (set-out (c .before .before .args .table .now) (c .before .before .args .i .0) (c .before .before .args .number) (c .if1 .left))

@@ -1,12 +1,11 @@
 -- `names::text_of` meets its contract: any number but 0 selects the chart text. Assumes nothing.
-use borrow.Author.Needs.{needs}
-use mathlib.Core.Path.{sym}
+use mathlib.Core.Path.{refl, sym}
 use Rattle.names.proofs.Laws as laws
 use Rattle.names.proofs.text_of.Statement.{statement}
 use Rattle.names.proofs.text_of.Tie as tie
 
 returns : tie.Need-returns
-returns c = search needs
+returns c = rw (c .if1 .taken) refl
 
 returns-2 : tie.Need-returns-2
 returns-2 c = sym (laws.chart-text _ _ (c .if1 .left))

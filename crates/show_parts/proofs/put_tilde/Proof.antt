@@ -1,5 +1,7 @@
 -- `show_parts::put_tilde` meets its contract: the tests are those of tildeOf.
 -- Assumes nothing.
+use mathlib.Core.Path.{_≡_}
+use mathlib.Core.Bool.{true, false}
 use borrow.Author.Tests.{not-true, not-false}
 use borrow.Author.Needs.{needs}
 use Rattle.append.proofs.Laws.{append-none}
@@ -13,7 +15,11 @@ self-dual-requires : tie.Need-self-dual-requires
 self-dual-requires c κs = search needs
 
 returns-2 : tie.Need-returns-2
-returns-2 c = rw (not-false (c .before .before .before .before .before .args .i .0) (c .before .before .if1 .left), ← c .before .self-dual .ensures, c .if2 .taken) (append-none _ _)
+returns-2 c =
+    let i = c .before .before .before .before .before .args .i .0 in
+    let dual = c .before .self-dual in
+    let is : dual .result ≡ true = c .if2 .taken in
+    rw (not-false i (c .before .before .if1 .left), ← dual .ensures, is) (append-none _ _)
 
 put-byte-requires : tie.Need-put-byte-requires
 put-byte-requires c κs = search needs
@@ -25,7 +31,8 @@ returns-3 : tie.Need-returns-3
 returns-3 c =
     let i = c .before .before .before .before .before .before .before .before .before .args .i .0 in
     let dual = c .before .before .before .before .before .self-dual in
-    rw (not-false i (c .before .before .before .before .before .before .if1 .left), ← dual .ensures, c .before .before .before .before .if2 .left) (c .before .before .put-byte .ensures)
+    let is : dual .result ≡ false = c .before .before .before .before .if2 .left in
+    rw (not-false i (c .before .before .before .before .before .before .if1 .left), ← dual .ensures, is) (c .before .before .put-byte .ensures)
 
 pub put-tilde-spec : {M : Type 1} → statement M
 put-tilde-spec =

@@ -6,7 +6,7 @@ use Rattle.tested_import.proofs.needed.Statement.{statement}
 use Rattle.tested_import.proofs.needed.Tie as tie
 
 params-of-requires : tie.Need-params-of-requires
-params-of-requires c κs = search needs
+params-of-requires c κs = c .before .before .before .before .before .pre .1
 
 of-import-requires : tie.Need-of-import-requires
 of-import-requires c κs = search needs
