@@ -8,8 +8,9 @@ use Rattle.make.proofs.error.Tie as tie
 
 error-once-requires : tie.Need-error-once-requires
 error-once-requires c κs =
-    let a = c .before .before .before .before .before .args in
-    once-ready (c .before .before .before .before .before .pre .clean) (error-is (a .h .now) (a .ws .now) (a .ks .now)) (c .before .before .before .before .before .pre)
+    let start = c .before .before .before .before .before in
+    let a = start .args in
+    once-ready (start .pre .clean) (error-is (a .h .now) (a .ws .now) (a .ks .now)) (start .pre)
 
 same-length : tie.Need-same-length
 same-length c = search needs
@@ -19,8 +20,10 @@ same-length-2 c = search needs
 
 returns : tie.Need-returns
 returns c =
-    let a = c .before .before .before .before .before .before .before .before .before .before .args in
-    error-made (a .h .now) (a .ws .now) (a .ks .now) (c .before .before .before .before .before .before .before .before .before .before .pre) (c .before .before .before .before .error-once .ensures)
+    let atErrorOnce = c .before .before .before .before in
+    let start = atErrorOnce .before .before .before .before .before .before in
+    let a = start .args in
+    error-made (a .h .now) (a .ws .now) (a .ks .now) (start .pre) (atErrorOnce .error-once .ensures)
 
 pub error-spec : {M : Type 1} → statement M
 error-spec = tie.close (tie.spec error-once-requires same-length same-length-2 returns)

@@ -20,7 +20,11 @@ read-header-requires c κs = search needs
 
 push-bare-requires : tie.Need-push-bare-requires
 push-bare-requires c κs =
-    rw (c .before .before .read-header .ensures) (c .before .before .before .before .before .before .before .before .before .before .pre .pushable (sym (c .before .before .before .before .before .before .error-made .ensures) ∙ c .before .before .before .before .enum-told .given .1))
+    let atReadHeader = c .before .before in
+    let atEnumTold = atReadHeader .before .before in
+    let atErrorMade = atEnumTold .before .before in
+    let start = atErrorMade .before .before .before .before in
+    rw (atReadHeader .read-header .ensures) (start .pre .pushable (sym (atErrorMade .error-made .ensures) ∙ atEnumTold .enum-told .given .1))
 
 same-length : tie.Need-same-length
 same-length c = search needs
@@ -36,7 +40,11 @@ same-length-3 c = search needs
 
 returns-2 : tie.Need-returns-2
 returns-2 c =
-    once-new (sym (c .before .before .before .before .before .before .before .before .before .before .before .error-made .ensures) ∙ c .before .before .before .before .before .before .before .before .before .enum-told .given .1) refl (rw (c .before .before .before .before .before .before .before .read-header .ensures) at (c .before .before .before .before .push-bare .ensures))
+    let atPushBare = c .before .before .before .before in
+    let atReadHeader = atPushBare .before .before .before in
+    let atEnumTold = atReadHeader .before .before in
+    let atErrorMade = atEnumTold .before .before in
+    once-new (sym (atErrorMade .error-made .ensures) ∙ atEnumTold .enum-told .given .1) refl (rw (atReadHeader .read-header .ensures) at (atPushBare .push-bare .ensures))
 
 pub error-once-spec : {M : Type 1} → statement M
 error-once-spec =

@@ -15,7 +15,10 @@ same-length-2 : tie.Need-same-length-2
 same-length-2 c = search needs
 
 returns : tie.Need-returns
-returns c = blank-made (c .before .before .before .before .before .before .before .before .before .before .pre) (c .before .before .before .before .push-unknown .ensures)
+returns c =
+    let atPushUnknown = c .before .before .before .before in
+    let start = atPushUnknown .before .before .before .before .before .before in
+    blank-made (start .pre) (atPushUnknown .push-unknown .ensures)
 
 pub new-blank-spec : {M : Type 1} → statement M
 new-blank-spec = tie.close (tie.spec push-unknown-requires same-length same-length-2 returns)

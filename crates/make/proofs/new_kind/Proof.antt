@@ -14,7 +14,11 @@ children-made-requires : tie.Need-children-made-requires
 children-made-requires c κs = kind-head (c .before .before .before .before .before .before .pre)
 
 put-children-requires : tie.Need-put-children-requires
-put-children-requires c κs = children-room (entries-ready (c .before .before .before .before .before .before .before .before .pre) (c .before .before .before .entry-count .ensures)) (c .before .children-made .ensures)
+put-children-requires c κs =
+    let atChildrenMade = c .before in
+    let atEntryCount = atChildrenMade .before .before in
+    let start = atEntryCount .before .before .before .before .before in
+    children-room (entries-ready (start .pre) (atEntryCount .entry-count .ensures)) (atChildrenMade .children-made .ensures)
 
 cast-count : tie.Need-cast-count
 cast-count c = search needs
@@ -23,7 +27,10 @@ kind-of-requires : tie.Need-kind-of-requires
 kind-of-requires c κs = search needs
 
 push-requires : tie.Need-push-requires
-push-requires c κs = pushable-in (entries-ready (c .before .before .before .before .before .before .before .before .before .before .before .before .before .before .pre) (c .before .before .before .before .before .before .before .before .before .entry-count .ensures))
+push-requires c κs =
+    let atEntryCount = c .before .before .before .before .before .before .before .before .before in
+    let start = atEntryCount .before .before .before .before .before in
+    pushable-in (entries-ready (start .pre) (atEntryCount .entry-count .ensures))
 
 same-length : tie.Need-same-length
 same-length c = search needs
@@ -36,7 +43,14 @@ same-length-3 c = search needs
 
 returns : tie.Need-returns
 returns c =
-    kind-made (c .before .before .before .before .before .before .before .before .before .before .before .before .before .before .before .before .before .before .before .pre) (c .before .before .before .before .before .before .before .before .before .before .before .before .children-made .ensures) (c .before .before .before .before .before .before .before .before .before .before .before .before .before .before .entry-count .ensures) (c .before .before .before .before .before .before .before .before .before .before .put-children .ensures) (c .before .before .before .before .before .before .before .before .before .before .put-children .kept .0) (c .before .before .before .before .before .before .before .kind-of .ensures) (c .before .before .before .before .push .ensures)
+    let atPush = c .before .before .before .before in
+    let atKindOf = atPush .before .before .before in
+    let atPutChildren = atKindOf .before .before .before in
+    let atChildrenMade = atPutChildren .before .before in
+    let atEntryCount = atChildrenMade .before .before in
+    let start = atEntryCount .before .before .before .before .before in
+    kind-made (start .pre) (atChildrenMade .children-made .ensures) (atEntryCount .entry-count .ensures) (atPutChildren .put-children .ensures)
+    (atPutChildren .put-children .kept .0) (atKindOf .kind-of .ensures) (atPush .push .ensures)
 
 pub new-kind-spec : {M : Type 1} → statement M
 new-kind-spec =

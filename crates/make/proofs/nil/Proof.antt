@@ -8,8 +8,9 @@ use Rattle.make.proofs.nil.Tie as tie
 
 nil-once-requires : tie.Need-nil-once-requires
 nil-once-requires c κs =
-    let a = c .before .before .before .before .before .args in
-    once-ready (c .before .before .before .before .before .pre .clean) (nil-is (a .h .now) (a .ws .now) (a .ks .now)) (c .before .before .before .before .before .pre)
+    let start = c .before .before .before .before .before in
+    let a = start .args in
+    once-ready (start .pre .clean) (nil-is (a .h .now) (a .ws .now) (a .ks .now)) (start .pre)
 
 same-length : tie.Need-same-length
 same-length c = search needs
@@ -19,8 +20,10 @@ same-length-2 c = search needs
 
 returns : tie.Need-returns
 returns c =
-    let a = c .before .before .before .before .before .before .before .before .before .before .args in
-    nil-made (a .h .now) (a .ws .now) (a .ks .now) (c .before .before .before .before .before .before .before .before .before .before .pre) (c .before .before .before .before .nil-once .ensures)
+    let atNilOnce = c .before .before .before .before in
+    let start = atNilOnce .before .before .before .before .before .before in
+    let a = start .args in
+    nil-made (a .h .now) (a .ws .now) (a .ks .now) (start .pre) (atNilOnce .nil-once .ensures)
 
 pub nil-spec : {M : Type 1} → statement M
 nil-spec = tie.close (tie.spec nil-once-requires same-length same-length-2 returns)

@@ -36,7 +36,14 @@ same-length-2 c = search needs
 
 returns : tie.Need-returns
 returns c =
-    counted-push (c .before .before .before .before .before .before .before .before .before .before .before .before .before .before .pre .head) (omega (arith, c .before .before .before .before .before .before .before .before .before .before .before .before .before .slice-known .given 6)) (c .before .before .before .before .before .before .before .before .before .before .nodes-made .ensures) (c .before .before .before .before .children-made .ensures) refl (c .before .before .before .before .before .before .before .before .put-node .ensures) (c .before .before .put-counts .ensures)
+    let atPutCounts = c .before .before in
+    let atChildrenMade = atPutCounts .before .before in
+    let atPutNode = atChildrenMade .before .before .before .before in
+    let atNodesMade = atPutNode .before .before in
+    let atSliceKnown = atNodesMade .before .before .before in
+    let start = atSliceKnown .before in
+    counted-push (start .pre .head) (omega (arith, atSliceKnown .slice-known .given 6)) (atNodesMade .nodes-made .ensures) (atChildrenMade .children-made .ensures) refl
+    (atPutNode .put-node .ensures) (atPutCounts .put-counts .ensures)
 
 pub push-spec : {M : Type 1} → statement M
 push-spec =

@@ -29,7 +29,10 @@ same-length-2 c = search needs
 
 returns : tie.Need-returns
 returns c =
-    bare-push refl (c .before .before .before .before .before .before .before .before .bare-kind .ensures) (c .before .before .before .before .before .before .put-node .ensures) (c .before .before .write-header .ensures)
+    let atWriteHeader = c .before .before in
+    let atPutNode = atWriteHeader .before .before .before .before in
+    let atBareKind = atPutNode .before .before in
+    bare-push refl (atBareKind .bare-kind .ensures) (atPutNode .put-node .ensures) (atWriteHeader .write-header .ensures)
 
 pub push-bare-spec : {M : Type 1} → statement M
 push-bare-spec =

@@ -35,8 +35,15 @@ same-length-2 c = search needs
 
 returns : tie.Need-returns
 returns c =
-    counted-push (c .before .before .before .before .before .before .before .before .before .before .before .before .before .before .pre .pushable .head) (omega (arith, c .before .before .before .before .before .before .before .before .before .before .before .before .before .slice-known .given 6)) (c .before .before .before .before .before .before .before .before .before .before .nodes-made .ensures) (c .before .before .before .before .children-made .ensures) refl (c .before .before .before .before .before .before .before .before .put-unknown .ensures)
-    (c .before .before .put-counts .ensures)
+    let atPutCounts = c .before .before in
+    let atChildrenMade = atPutCounts .before .before in
+    let atPutUnknown = atChildrenMade .before .before .before .before in
+    let atNodesMade = atPutUnknown .before .before in
+    let atSliceKnown = atNodesMade .before .before .before in
+    let start = atSliceKnown .before in
+    counted-push (start .pre .pushable .head) (omega (arith, atSliceKnown .slice-known .given 6)) (atNodesMade .nodes-made .ensures) (atChildrenMade .children-made .ensures) refl
+    (atPutUnknown .put-unknown .ensures)
+    (atPutCounts .put-counts .ensures)
 
 pub push-unknown-spec : {M : Type 1} → statement M
 push-unknown-spec =
