@@ -26,7 +26,7 @@ use Rattle.layout.specs.Words.{slotAt, slots}
 use Rattle.layout.proofs.ChildLaws.{length-slots}
 use Rattle.plan.specs.Meaning.{kidsFrom, namesFrom}
 use Rattle.plan.specs.declared.Runs.{Runs}
-use Rattle.plan.proofs.Laws.{name-bytes}
+use Rattle.names.proofs.InWords.{name-bytes}
 use Rattle.meeting.specs.Kids.{slotPlace, soughtIn, returnsMean, returnsPlan}
 use Rattle.meeting.specs.declared.Returned.the-variants.{Lacking, Pair}
 
