@@ -4,20 +4,17 @@ use mathlib.Core.Path.{_≡_, refl, ap, sym, _∙_, subst}
 use mathlib.Core.Bool.{true}
 use mathlib.Core.Option.{Option, none, some}
 use mathlib.Core.List.{List, [], _∷_, _++_, map, map-append, List·Memᴰ·head}
-use Prim.Native.Nat.{ℕ, zero, suc, _+_, _-_, _≤_, _<_}
+use Prim.Native.Nat.{ℕ, suc, _+_, _-_, _≤_, _<_}
 use native.Mathlib.Omega.{arith}
 use native.Mathlib.Numerals.{add-one}
-use lib.ListN.{length, getD, set, take, drop, drop-of-length-le, length-set, length-append}
+use lib.ListN.{length, set, take, drop, drop-of-length-le, length-set}
 use lib.Seq.{take-suc-set, drop-set-lt, drop-drop}
 use borrow.Author.Tests.{ne-eqb}
 use Rattle.scope.specs.Limits.{MAX-NODES, NONE}
 use Rattle.scope.specs.Types.{Ty, tyOf}
-use Rattle.scope.specs.Nodes.{State, Known, Unknown, InferenceFailed, Node, Root, stateAt, find}
-use Rattle.scope.specs.Import.{Replaced, keep, missing-entry, entry, replaced, spanOf}
 use Rattle.scope.specs.Needs.{listed}
-use Rattle.scope.proofs.ReplacedLaws.{replaced-none}
-use Rattle.scope.proofs.CopyTable.{Copying, Copied, CopiedAll, noted, copyAll, copyNew, copyAt, copyF}
-use Rattle.scope.proofs.CopyTableLaws.{Left, left-start, left-next, left-end, left-grows, grows-all, copy-grows, Placed, copy-placed}
+use Rattle.scope.proofs.CopyTable.{Copying, Copied, CopiedAll, copyAll, copyF}
+use Rattle.scope.proofs.CopyTableLaws.{Left, left-start, left-next, left-end, left-grows, Placed, copy-placed, copy-inside}
 use Rattle.types.specs.declared.«Type».{«Type»}
 use Rattle.layout.specs.Words.{decode}
 use Rattle.layout.specs.Meaning.{rememberedMeans, rememberedFits, Clean}
@@ -109,34 +106,7 @@ module _ {sw sk : List ℕ} {n : ℕ} {ps : Option (List Ty)} {us : List Ty} {ta
         wide = length-set out i (r .0) ∙ o .wide;
       }
 
--- with no parameter list a copy is a node of the destination
-
-module _ (ns : List Node) (f : ℕ) (c : Copying) (t : Ty) where
-  abbrev below : Copying → Ty → Copied
-  below = copyF f ns none
-
-  new-inside : (st : State) → copyNew below c (find ns t) st .type .idx < length (copyNew below c (find ns t) st .to .dest .nodes)
-  new-inside (Known i k) =
-      let b : CopiedAll = copyAll below (noted c (find ns t .idx) (Known i k)) (k .kids) in
-      let p = grows-all below (copy-grows ns none f) (noted c (find ns t .idx) (Known i k)) (k .kids) .nodes in
-      let q = length-append (c .dest .nodes) (Root (Unknown (spanOf (Known i k))) 1 ∷ []) in
-      let l = length-set (b .to .dest .nodes) (length (c .dest .nodes)) (Root (Known i (record { head = k .head; kids = b .types })) 1) in
-      omega (arith, p, q, l)
-  new-inside (Unknown s) = omega (arith, length-append (c .dest .nodes) (Root (Unknown s) 1 ∷ []))
-  new-inside InferenceFailed = omega (arith, length-append (c .dest .nodes) (Root (Unknown NONE) 1 ∷ []))
-
-  place-inside : (st : State) (m : ℕ) (u : Replaced) → m ≤ length (c .dest .nodes) → u ≡ keep
-      → copyAt below c (find ns t) st u m .type .idx < length (copyAt below c (find ns t) st u m .to .dest .nodes)
-  place-inside st (suc m) u h e = omega arith
-  place-inside st zero keep h e = new-inside st
-  place-inside st zero missing-entry h e = let z : _≡_ {A = ℕ} 0 1 = cc in absurd (omega arith)
-  place-inside st zero (entry x) h e = let z : _≡_ {A = ℕ} 0 1 = cc in absurd (omega arith)
-
-  copy-inside : Placed c → copyF (suc f) ns none c t .type .idx < length (copyF (suc f) ns none c t .to .dest .nodes)
-  unfolding copyF
-  copy-inside p = place-inside (stateAt ns t) (getD (c .table) (find ns t .idx) 0) (replaced none (stateAt ns t)) (p (find ns t .idx)) (replaced-none (stateAt ns t))
-
--- such a type may be remembered
+-- a node of the destination may be remembered
 inside-fits : (r : «Type») → tyOf (r .0) .idx < MAX-NODES → rememberedFits (Is r) ≡ true
 unfolding tyOf
 inside-fits r l = rw (ne-eqb (r .0) NONE (λ e. omega (arith, e))) refl

@@ -19,6 +19,7 @@ use Rattle.scope.specs.Sound.{nameIn, slotName}
 use Rattle.scope.specs.Sound as sound
 use Rattle.names.specs.Place.{nameOf}
 use Rattle.names.proofs.Laws.{name-length}
+use Rattle.names.proofs.InWords.{name-bytes}
 use Rattle.layout.specs.Words.{slotAt, slots}
 use Rattle.layout.specs.Meaning.{slotMeans, kindMeans}
 use Rattle.layout.specs.declared.Kind.{Kind}
@@ -36,10 +37,6 @@ no-empty : (x : Texts) (t i : ℕ) → nameOk x (name t i 0) ≡ false
 unfolding nameOk
 no-empty x t i = and-false (inText x (name t i 0))
 
-empty-bytes : (x : Texts) (t i : ℕ) → bytes x (name t i 0) ≡ []
-unfolding bytes
-empty-bytes x t i = refl
-
 named-by : (b : Bool) (x : Texts) (t i n : ℕ) → eqb n 0 ≡ b → named x (nameIn t i n) ≡ nameOk x (name t i n)
 named-by true x t i n q = rw q (sym (ap (λ (m : ℕ). nameOk x (name t i m)) (eqb-true n 0 q) ∙ no-empty x t i))
 named-by false x t i n q = rw q refl
@@ -48,12 +45,8 @@ named-by false x t i n q = rw q refl
 pub named-or : (x : Texts) (n : Name) → named x (nameOr n) ≡ nameOk x n
 named-or x n = named-by (eqb (n .len) 0) x (n .text) (n .start) (n .len) refl
 
-bytes-by : (b : Bool) (x : Texts) (t i n : ℕ) → eqb n 0 ≡ b → bytesOr x (nameIn t i n) ≡ bytes x (name t i n)
-bytes-by true x t i n q = rw q (sym (ap (λ (m : ℕ). bytes x (name t i m)) (eqb-true n 0 q) ∙ empty-bytes x t i))
-bytes-by false x t i n q = rw q refl
-
 pub bytes-or : (x : Texts) (n : Name) → bytesOr x (nameOr n) ≡ bytes x n
-bytes-or x n = bytes-by (eqb (n .len) 0) x (n .text) (n .start) (n .len) refl
+bytes-or x n = name-bytes x (n .text) (n .start) (n .len)
 
 -- the names of a run of children
 

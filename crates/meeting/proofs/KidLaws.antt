@@ -18,7 +18,7 @@ use Rattle.scope.specs.Sound.{slotName}
 use Rattle.layout.specs.Words.{slotAt, slots}
 use Rattle.layout.proofs.ChildLaws.{length-slots}
 use Rattle.plan.specs.Meaning.{kidsFrom, namesFrom}
-use Rattle.plan.proofs.Laws.{name-bytes}
+use Rattle.names.proofs.InWords.{name-bytes}
 use Rattle.meeting.specs.Kids.{slotPlace, soughtIn}
 use Rattle.meeting.specs.Steps.{Ascends}
 

@@ -4,17 +4,17 @@
 use mathlib.Core.Path.{_≡_, refl, sym, _∙_}
 use mathlib.Core.Bool.{Bool, true, false, not, _||_, and-true, and-false, or-true}
 use mathlib.Core.List.{List, []}
-use mathlib.Core.Option.{none, some}
 use Prim.Native.Nat.{ℕ}
 use lib.Dec.{eqb}
 use borrow.Author.Tests.{eq-eqb, ne-eqb, eqb-true, not-true, not-false}
 use Rattle.scope.specs.Base.{pick}
-use Rattle.scope.specs.Names.{Texts, name, bytes, bytesOr, eqBytes}
+use Rattle.scope.specs.Names.{Texts, bytes, eqBytes}
 use Rattle.scope.specs.Kinds.{KEY, OBJECT, CLOSURE, ERROR, DEFAULT, rowOf, rows, dualBy, selfDual}
 use Rattle.scope.specs.Unify.{firstName, sameHead, kidsPlan}
 use Rattle.scope.specs.Unify as scope
-use Rattle.scope.specs.Sound.{nameIn, namesIn}
+use Rattle.scope.specs.Sound.{namesIn}
 use Rattle.names.specs.Place.{nameOf}
+use Rattle.names.proofs.InWords.{name-bytes}
 use Rattle.types.specs.declared.Inverted.{Inverted}
 use Rattle.types.specs.declared.UnifyResult.the-variants.{Failure, Indeterminate}
 use Rattle.layout.proofs.Lists.{and-left}
@@ -24,15 +24,7 @@ use Rattle.plan.specs.Meaning.{namesFrom, planMeans, SameKinds, crossesK
 use Rattle.plan.specs.declared.Runs.{Runs}
 use Rattle.plan.specs.declared.Plan.the-variants.{Answer, Run, Object, Signature}
 
--- names: none where the length is 0, which has no bytes; a Key's own, and an Object's
-
-name-bytes-by : (b : Bool) (x : Texts) (t i n : ℕ) → eqb n 0 ≡ b → bytesOr x (pick b none (some (name t i n))) ≡ bytes x (name t i n)
-unfolding bytes
-name-bytes-by true x t i n e = rw (eqb-true n 0 e)
-name-bytes-by false x t i n e = refl
-
-pub name-bytes : (x : Texts) (t i n : ℕ) → bytesOr x (nameIn t i n) ≡ bytes x (name t i n)
-name-bytes x t i n = name-bytes-by (eqb n 0) x t i n refl
+-- names: a Key's own, and an Object's
 
 key-name : (x : Texts) (ks : List ℕ) (k : Kind) → k .code ≡ KEY → firstName x (namesIn (kindCell ks k)) ≡ bytes x (nameOf (k .name))
 unfolding rowOf rows

@@ -13,7 +13,7 @@ use lib.Seq.{getD-set-same, getD-set-other}
 use borrow.Author.Tests.{eq-eqb, ne-eqb}
 use Rattle.scope.specs.Base.{pick}
 use Rattle.scope.specs.Types.{Ty, ty, flip}
-use Rattle.scope.specs.Nodes.{State, Known, Unknown, InferenceFailed, Node, Root, Store, withNodes, stateAt, find, kidsOf}
+use Rattle.scope.specs.Nodes.{State, Known, Unknown, InferenceFailed, Node, Root, Store, withNodes, remembering, stateAt, find, kidsOf}
 use Rattle.scope.specs.Make.{pushed}
 use Rattle.scope.specs.Import.{Work, Moved, MovedAll, copyOf, Replaced, keep, missing-entry, entry, replaced, spanOf, begun, ended, many, copied, place, transfer}
 use Rattle.scope.specs.Import.{start, import, carried, firstOf, export}
@@ -218,18 +218,6 @@ module _ (ns : List Node) (ps : Option (List Ty)) (s : Store) (ts : List Ty) (sr
 
   pub copy-children : copyAll (copyF (length ns) ns ps) (uncopied s m) ts .to .dest .children ≡ s .children + needs ns ps ts .children
   copy-children = ap (λ (d : Store). d .children) copy-dest ∙ needs-children ns ps s ts src given
-
--- a store that remembers these types
-abbrev pub remembering : Store → Option Ty → Option Ty → Store
-remembering s error nil = record {
-  nodes = s .nodes;
-  children = s .children;
-  nodeRoom = s .nodeRoom;
-  childRoom = s .childRoom;
-  error = error;
-  nil = nil;
-  reports = s .reports;
-}
 
 -- an export by the table: "error type first, nil next", then the list
 unfoldable pub copyExport : Store → Store → ℕ → List Ty → CopiedAll

@@ -3,7 +3,7 @@
 use mathlib.Core.Path.{_≡_, refl, sym, ap, subst, _∙_}
 use mathlib.Core.List.{List, [], _∷_, _++_, append-assoc, append-nil}
 use mathlib.Core.Bool.{Bool, false, true≢false}
-use mathlib.Core.Option.{Option}
+use mathlib.Core.Option.{Option, none}
 use Prim.Native.Nat.{ℕ, zero, suc, _+_, _≤_, _<_}
 use native.Mathlib.Omega.{arith}
 use native.Mathlib.Numerals.{add-one}
@@ -14,6 +14,7 @@ use Rattle.scope.specs.Types.{Ty, ty, flip}
 use Rattle.scope.specs.Nodes.{Kind, State, Known, Unknown, InferenceFailed, Node, Root, Store, at, isKnown, stateAt, find}
 use Rattle.scope.specs.Import.{Replaced, keep, missing-entry, entry, replaced, spanOf}
 use Rattle.scope.proofs.Mapping.{Rest}
+use Rattle.scope.proofs.ReplacedLaws.{replaced-none}
 use Rattle.scope.proofs.CopyTable.{Copying, Copied, CopiedAll, noted, filled, copyAll, copyNew, copyRoot, copyAt, copyF, uncopied}
 
 module _ (ns : List Node) (ps : Option (List Ty)) where
@@ -211,3 +212,30 @@ module _ (ns : List Node) (ps : Option (List Ty)) where
   pub left-grows : (f : ℕ) {c₀ : Copying} {ts : List Ty} {c : Copying} {done rest : List Ty} → Left (copyF f ns ps) c₀ ts c done rest
       → Grows c (copyAll (copyF f ns ps) c₀ ts .to)
   left-grows f {c = c} {rest = rest} l = subst (Grows c) (l .to) (grows-all (copyF f ns ps) (copy-grows f) c rest)
+
+-- with no parameter list a copy is a node of the destination
+
+module _ (ns : List Node) (f : ℕ) (c : Copying) (t : Ty) where
+  abbrev below : Copying → Ty → Copied
+  below = copyF f ns none
+
+  new-inside : (st : State) → copyNew below c (find ns t) st .type .idx < length (copyNew below c (find ns t) st .to .dest .nodes)
+  new-inside (Known i k) =
+      let b : CopiedAll = copyAll below (noted c (find ns t .idx) (Known i k)) (k .kids) in
+      let p = grows-all below (copy-grows ns none f) (noted c (find ns t .idx) (Known i k)) (k .kids) .nodes in
+      let q = length-append (c .dest .nodes) (Root (Unknown (spanOf (Known i k))) 1 ∷ []) in
+      let l = length-set (b .to .dest .nodes) (length (c .dest .nodes)) (Root (Known i (record { head = k .head; kids = b .types })) 1) in
+      omega (arith, p, q, l)
+  new-inside (Unknown s) = omega (arith, length-append (c .dest .nodes) (Root (Unknown s) 1 ∷ []))
+  new-inside InferenceFailed = omega (arith, length-append (c .dest .nodes) (Root (Unknown NONE) 1 ∷ []))
+
+  place-inside : (st : State) (m : ℕ) (u : Replaced) → m ≤ length (c .dest .nodes) → u ≡ keep
+      → copyAt below c (find ns t) st u m .type .idx < length (copyAt below c (find ns t) st u m .to .dest .nodes)
+  place-inside st (suc m) u h e = omega arith
+  place-inside st zero keep h e = new-inside st
+  place-inside st zero missing-entry h e = let z : _≡_ {A = ℕ} 0 1 = cc in absurd (omega arith)
+  place-inside st zero (entry x) h e = let z : _≡_ {A = ℕ} 0 1 = cc in absurd (omega arith)
+
+  pub copy-inside : Placed c → copyF (suc f) ns none c t .type .idx < length (copyF (suc f) ns none c t .to .dest .nodes)
+  unfolding copyF
+  copy-inside p = place-inside (stateAt ns t) (getD (c .table) (find ns t .idx) 0) (replaced none (stateAt ns t)) (p (find ns t .idx)) (replaced-none (stateAt ns t))

@@ -17,10 +17,11 @@ use Rattle.scope.specs.Show.{Piece, fixed, render, decimal, knownPieces, commas
 use Rattle.layout.specs.Words.{slotAt}
 use Rattle.layout.specs.Meaning.{kindMeans}
 use Rattle.layout.specs.declared.Kind.{Kind}
+use Rattle.names.proofs.InWords.{name-bytes}
 use Rattle.show_names.specs.Names.{comma, entryText, definedText}
 use Rattle.show_parts.specs.Parts.{gapOf, leadOf, closeOf, fixedOf, dualOf}
 use Rattle.show.specs.Level.{children, kidOf, shownOf, levelOf}
-use Rattle.show.proofs.Runs.{tys, kid, commas-run, params-run, tuple-run, object-run, signature-run, if-const-run, own-bytes}
+use Rattle.show.proofs.Runs.{tys, kid, commas-run, params-run, tuple-run, object-run, signature-run, if-const-run}
 
 -- the pieces, written out, are the level
 abbrev Levelled : (Ty → List ℕ) → Env → (Ty → Bool) → List ℕ → Bool → Kind → Type 0
@@ -49,7 +50,7 @@ module _ (g : Ty → List ℕ) (e : Env) (nil : Ty → Bool) (ks : List ℕ) (k 
 
   level-param : (i : Bool) → Level-of i PARAM
   unfolding kindPieces kindMeans leadOf closeOf shownOf rowOf rows render children
-  level-param i = rw own-bytes
+  level-param i = rw name-bytes
 
   gap-tuple : (j : ℕ) → gap TUPLE j ≡ comma j
   unfolding gapOf
@@ -134,7 +135,7 @@ module _ (g : Ty → List ℕ) (e : Env) (nil : Ty → Bool) (ks : List ℕ) (k 
 
   level-key : (i : Bool) → Level-of i KEY
   unfolding kindPieces kindMeans leadOf closeOf shownOf rowOf rows render children
-  level-key i = rw own-bytes
+  level-key i = rw name-bytes
 
   gap-first : gap IF-CONST 0 ≡ []
   unfolding gapOf

@@ -12,11 +12,11 @@ use lib.Dec.{eqb, ltb}
 use lib.ListN.{length, length-map}
 use Rattle.scope.specs.Base.{pick, from, front, last}
 use Rattle.scope.specs.Text.{text}
-use Rattle.scope.specs.Names.{Texts, name, bytes, bytesOr}
+use Rattle.scope.specs.Names.{Texts, bytes}
 use Rattle.scope.specs.Chart.{Env, recordAt}
 use Rattle.scope.specs.Types.{Ty, flip, tyOf}
 use Rattle.scope.specs.Kinds.{Head}
-use Rattle.scope.specs.Sound.{nameIn, slotName}
+use Rattle.scope.specs.Sound.{slotName}
 use Rattle.scope.specs.Show.{Piece, fixed, sub, render, joined, commas, params, tuple, object, entries, signature, ifConst, nameOrDots}
 use Rattle.layout.specs.Words.{slotAt, slots}
 use Rattle.layout.proofs.ChildLaws.{front-slots}
@@ -227,12 +227,6 @@ module _ (g : Ty → List ℕ) (e : Env) (nil : Ty → Bool) (i : Bool) (h : Hea
   if-const-run (suc zero) b w = refl
   if-const-run (suc (suc n)) true w = rw (le-ltb (suc (suc n)) 2 (omega arith)) (if-const-one g e nil i h ks a gap first second n w)
   if-const-run (suc (suc n)) false w = rw (le-ltb (suc (suc n)) 2 (omega arith)) (if-const-two g e nil i h ks a gap first second n w)
-
--- the bytes of a kind's own name; a name of no length has none
-pub own-bytes : (x : Texts) (t s l : ℕ) → bytesOr x (nameIn t s l) ≡ bytes x (name t s l)
-unfolding bytes
-own-bytes x t s zero = refl
-own-bytes x t s (suc l) = rw (suc-zero l)
 
 pub children-next : (gap item : ℕ → List ℕ) (close : List ℕ) (m j : ℕ) → j < m → children gap item close (m - j) j ≡ gap j ++ (item j ++ children gap item close (m - (j + 1)) (j + 1))
 unfolding children

@@ -16,7 +16,7 @@ use Rattle.layout.specs.declared.TypeNode.{TypeNode}
 use Rattle.layout.proofs.Laws.{read-is, read-is-fit}
 use Rattle.layout.proofs.StoreLaws.{store-header}
 use Rattle.sound.specs.Tests.{envIn}
-use Rattle.promise.specs.Promise.{Reply, TypesTested, outcomeBy}
+use Rattle.promise.specs.Promise.{Reply, value, TypesTested, outcomeBy}
 use Rattle.promise.proofs.ReadLaws.{read-refused, read-clean, read-nodes}
 use Rattle.tested_read.specs.declared.NodeAnswer.{NodeAnswer}
 use Rattle.tested_read.specs.declared.NodeAnswer.the-variants as node
@@ -34,17 +34,21 @@ module _ {chart : List ℕ} {b : Beside} {rule text h ws ks : List ℕ} {t : Ty}
 
   module _ (z : n ≡ 0) {x : Header} (g : x ≡ headerIn h) {i : ℕ} (o : i ≡ t .idx) {v : TypeNode} (r : v ≡ readAt ws (x .nodes) i) where
     -- what is told of it
-    pub node-tells : {A : Type 0} {a : A} (f : Node → A) → f (nodeMeans ks v) ≡ a
+    node-tells : {A : Type 0} {a : A} (f : Node → A) → f (nodeMeans ks v) ≡ a
         → readCall e (lentOf h ws ks) (t ∷ []) (f (at (storeOf (lentOf h ws ks) .nodes) (t .idx))) ≡ done a (storeIn h ws ks)
     node-tells f w =
         let m : at (decode ws ks (x .nodes)) (t .idx) ≡ nodeMeans ks v = rw o at (read-is ws ks (childrenMade h) (x .nodes) (read-clean q z g) i r) in
         read-nodes q z g (λ (ns : List Node). f (at ns (t .idx))) (sym (ap f m ∙ w))
 
+    pub node-told : {A : Type 0} {y : Reply A} (f : Node → A) → value (f (nodeMeans ks v)) ≡ y
+        → readCall e (lentOf h ws ks) (t ∷ []) (f (at (storeOf (lentOf h ws ks) .nodes) (t .idx))) ≡ outcomeBy y (storeIn h ws ks)
+    node-told f w = node-tells f refl ∙ ap (λ (y : Reply _). outcomeBy y (storeIn h ws ks)) w
+
     pub node-found : {a : NodeAnswer} → Answers v a → NodePromised (nodeCall e (lentOf h ws ks) t) a h ws ks
     unfolding nodeCall
     node-found w = record {
       fits = w .fits ks (childrenMade h) ∙ read-is-fit ws ks (childrenMade h) (x .nodes) (read-clean q z g) i r;
-      outcome = node-tells (λ (y : Node). y) refl ∙ ap (λ (y : Reply Node). outcomeBy y (storeIn h ws ks)) (sym (w .means ks));
+      outcome = node-told (λ (y : Node). y) (sym (w .means ks));
     }
 
 -- `figures`: the store that the slices hold is its header and its nodes

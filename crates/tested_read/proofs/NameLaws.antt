@@ -22,6 +22,7 @@ use Rattle.layout.specs.declared.Kind.{Kind}
 use Rattle.layout.specs.declared.Slot.{Slot}
 use Rattle.layout.proofs.ChildLaws.{length-slots, slots-get, length-kids, kid-at, front-slots}
 use Rattle.layout.proofs.KindLaws.{names-own, names-child, names-parameters}
+use Rattle.promise.specs.Promise.{Reply, value}
 
 -- what lies at j
 
@@ -41,13 +42,13 @@ abbrev nameOr : Name → Option scope.Name
 nameOr n = nameIn (n .text) (n .start) (n .len)
 
 module _ (ks : List ℕ) (k : Kind) (j : ℕ) where
-  pub kid-is : (s : Slot) → j < k .count → slotMeans s ≡ slotAt ks (k .first + j) → getElem? (kindMeans ks k .kids) j ≡ some (tyOf (s .ty .0))
+  pub kid-is : (s : Slot) → j < k .count → slotMeans s ≡ slotAt ks (k .first + j) → value (getElem? (kindMeans ks k .kids) j) ≡ value (some (tyOf (s .ty .0)))
   kid-is s h e =
-      element-is (kindMeans ks k .kids) j (tyOf (slotAt ks 0 .type)) (rw (length-kids ks k) h)
-      ∙ ap some (kid-at ks k j (slotAt ks 0) h ∙ ap (λ (y : sound.Slot). tyOf (y .type)) (sym e))
+      ap value (element-is (kindMeans ks k .kids) j (tyOf (slotAt ks 0 .type)) (rw (length-kids ks k) h)
+      ∙ ap some (kid-at ks k j (slotAt ks 0) h ∙ ap (λ (y : sound.Slot). tyOf (y .type)) (sym e)))
 
-  pub kid-past : k .count ≤ j → getElem? (kindMeans ks k .kids) j ≡ none
-  kid-past h = element-none (kindMeans ks k .kids) j (rw (length-kids ks k) h)
+  pub kid-past : k .count ≤ j → value (getElem? (kindMeans ks k .kids) j) ≡ value none
+  kid-past h = ap value (element-none (kindMeans ks k .kids) j (rw (length-kids ks k) h))
 
   -- the name of child j among the first n
 
@@ -55,24 +56,24 @@ module _ (ks : List ℕ) (k : Kind) (j : ℕ) where
     named-length : length (map slotName (slots ks (k .first) n)) ≡ n
     named-length = length-map (slots ks (k .first) n) slotName ∙ length-slots ks (k .first) n
 
-    pub named-is : (s : Slot) {o : Option scope.Name} → j < n → slotMeans s ≡ slotAt ks (k .first + j) → nameOr (s .name) ≡ o
-        → flat (getElem? (map slotName (slots ks (k .first) n)) j) ≡ o
+    pub named-is : (s : Slot) {o : Reply (Option scope.Name)} → j < n → slotMeans s ≡ slotAt ks (k .first + j) → value (nameOr (s .name)) ≡ o
+        → value (flat (getElem? (map slotName (slots ks (k .first) n)) j)) ≡ o
     named-is s h e w =
         let l = slots ks (k .first) n in
         let x : getD (map slotName l) j (slotName (slotAt ks 0)) ≡ slotName (slotMeans s) =
         List·getD-map slotName l j (slotAt ks 0) ∙ ap slotName (slots-get ks (k .first) n j (slotAt ks 0) h ∙ sym e) in
-        ap flat (element-is (map slotName l) j (slotName (slotAt ks 0)) (rw named-length h)) ∙ (x ∙ w)
+        ap value (ap flat (element-is (map slotName l) j (slotName (slotAt ks 0)) (rw named-length h)) ∙ x) ∙ w
 
-    pub named-past : n ≤ j → flat (getElem? (map slotName (slots ks (k .first) n)) j) ≡ none
-    named-past h = ap flat (element-none (map slotName (slots ks (k .first) n)) j (rw named-length h))
+    pub named-past : n ≤ j → value (flat (getElem? (map slotName (slots ks (k .first) n)) j)) ≡ value none
+    named-past h = ap (λ (o : Option (Option scope.Name)). value (flat o)) (element-none (map slotName (slots ks (k .first) n)) j (rw named-length h))
 
   -- name j of a kind, where d is what names its row has
 
-  abbrev nameOf : List (Option scope.Name) → Option scope.Name
-  nameOf l = flat (getElem? l j)
+  abbrev nameOf : List (Option scope.Name) → Reply (Option scope.Name)
+  nameOf l = value (flat (getElem? l j))
 
-  module _ {o : Option scope.Name} {d : ℕ} (e : d ≡ rowOf (k .code) .names) where
-    pub own-first : d ≡ OWN-NAME → j ≡ 0 → nameOr (k .name) ≡ o → nameOf (kindMeans ks k .head .names) ≡ o
+  module _ {o : Reply (Option scope.Name)} {d : ℕ} (e : d ≡ rowOf (k .code) .names) where
+    pub own-first : d ≡ OWN-NAME → j ≡ 0 → value (nameOr (k .name)) ≡ o → nameOf (kindMeans ks k .head .names) ≡ o
     own-first q z w = ap nameOf (names-own ks k (sym e ∙ q)) ∙ rw z w
 
     pub child-named : d ≡ CHILD-NAMES → nameOf (map slotName (slots ks (k .first) (k .count))) ≡ o → nameOf (kindMeans ks k .head .names) ≡ o
@@ -87,15 +88,15 @@ module _ (ks : List ℕ) (k : Kind) (j : ℕ) where
         ap nameOf (names-parameters ks k (sym e ∙ q) ∙ ap (map slotName) f) ∙ w
 
   module _ {d : ℕ} (e : d ≡ rowOf (k .code) .names) where
-    pub own-later : d ≡ OWN-NAME → (j ≡ 0 → ⊥) → nameOf (kindMeans ks k .head .names) ≡ none
+    pub own-later : d ≡ OWN-NAME → (j ≡ 0 → ⊥) → nameOf (kindMeans ks k .head .names) ≡ value none
     own-later q z =
-        ap nameOf (names-own ks k (sym e ∙ q)) ∙ ap flat (element-none (nameOr (k .name) ∷ []) j (omega arith))
+        ap nameOf (names-own ks k (sym e ∙ q)) ∙ ap (λ (o : Option (Option scope.Name)). value (flat o)) (element-none (nameOr (k .name) ∷ []) j (omega arith))
 
-    pub parameter-none : d ≡ PARAMETER-NAMES → k .count ≤ 0 → nameOf (kindMeans ks k .head .names) ≡ none
+    pub parameter-none : d ≡ PARAMETER-NAMES → k .count ≤ 0 → nameOf (kindMeans ks k .head .names) ≡ value none
     parameter-none q h =
         let m : k .count ≡ 0 = omega arith in
         ap nameOf (names-parameters ks k (sym e ∙ q) ∙ ap (λ (n : ℕ). map slotName (front (slots ks (k .first) n))) m)
 
-    pub nameless : (d ≡ OWN-NAME → ⊥) → (d ≡ CHILD-NAMES → ⊥) → (d ≡ PARAMETER-NAMES → ⊥) → nameOf (kindMeans ks k .head .names) ≡ none
+    pub nameless : (d ≡ OWN-NAME → ⊥) → (d ≡ CHILD-NAMES → ⊥) → (d ≡ PARAMETER-NAMES → ⊥) → nameOf (kindMeans ks k .head .names) ≡ value none
     unfolding kindMeans
     nameless a b p = rw (← e, ne-eqb d OWN-NAME a, ne-eqb d CHILD-NAMES b, ne-eqb d PARAMETER-NAMES p)

@@ -15,10 +15,6 @@ use Rattle.layout.specs.Words.{childrenMade, decode, storeIn}
 use Rattle.layout.specs.Meaning.{kindMeans, nodeMeans, kindFits, nodeFits, storeMeans}
 use Rattle.layout.specs.declared.TypeNode.{TypeNode}
 use Rattle.promise.specs.Promise.{Reply, value, refusal, outcomeBy}
-use Rattle.tested_read.specs.declared.Kid.{Kid}
-use Rattle.tested_read.specs.declared.Kid.the-variants as kid
-use Rattle.tested_read.specs.declared.Named.{Named}
-use Rattle.tested_read.specs.declared.Named.the-variants as named
 use Rattle.tested_read.specs.declared.NodeAnswer.{NodeAnswer}
 use Rattle.tested_read.specs.declared.NodeAnswer.the-variants as node
 use Rattle.tested_read.specs.declared.ChildAnswer.{ChildAnswer}
@@ -27,15 +23,6 @@ use Rattle.tested_read.specs.declared.NameAnswer.{NameAnswer}
 use Rattle.tested_read.specs.declared.NameAnswer.the-variants as name
 use Rattle.tested_read.specs.declared.FiguresAnswer.{FiguresAnswer}
 use Rattle.tested_read.specs.declared.FiguresAnswer.the-variants as figures
-
--- a child or none, a name or none
-abbrev pub kidMeans : Kid → Option Ty
-kidMeans (kid.Is t) = some (tyOf (t .0))
-kidMeans kid.Nothing = none
-
-abbrev pub namedMeans : Named → Option scope.Name
-namedMeans (named.Is n) = some (nameOf n)
-namedMeans named.Nothing = none
 
 -- a node as it stands, with its children's words
 abbrev pub nodeReply : List ℕ → NodeAnswer → Reply Node
@@ -63,6 +50,7 @@ pub record NodePromised (o : Outcome Node) (r : NodeAnswer) (h ws ks : List ℕ)
   pub fits : nodeAnswerFits ks (childrenMade h) r ≡ true
   pub outcome : o ≡ outcomeBy (nodeReply ks r) (storeIn h ws ks)
 
+-- a child or none, a name or none
 abbrev pub childReply : ChildAnswer → Reply (Option Ty)
 childReply (child.Is t) = value (some (tyOf (t .0)))
 childReply child.Nothing = value none

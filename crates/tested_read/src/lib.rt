@@ -9,8 +9,8 @@ ghost use Rattle.scope.specs.Calls.{childAt, flat, childNameAt, nodeCall, child
 ghost use Rattle.layout.specs.Words.{slots, lentOf, storeIn};
 ghost use Rattle.layout.specs.Meaning.{kindMeans, nodeMeans};
 ghost use Rattle.sound.specs.Tests.{envIn};
-ghost use Rattle.promise.specs.Promise.{outcomeBy, Tested};
-ghost use Rattle.tested_read.specs.Replies.{kidMeans, namedMeans, Answers, NodePromised, childReply, nameReply, figuresReply};
+ghost use Rattle.promise.specs.Promise.{value, outcomeBy, Tested};
+ghost use Rattle.tested_read.specs.Replies.{Answers, NodePromised, childReply, nameReply, figuresReply};
 use chart::Beside;
 use kinds::CHILD_NAMES;
 use kinds::OWN_NAME;
@@ -24,18 +24,6 @@ use promise::refusal_at;
 use refusals::NO_REFUSAL;
 use types::Inverted;
 use types::Type;
-
-// A child, if there is one.
-pub enum Kid {
-    Is(Type),
-    Nothing,
-}
-
-// A name, if there is one.
-pub enum Named {
-    Is(Name),
-    Nothing,
-}
 
 // A node as it stands, or a refusal's number. A root's last number is the size of its tree.
 pub enum NodeAnswer {
@@ -69,61 +57,61 @@ pub enum FiguresAnswer {
 }
 
 // Child j of a kind, none past the end.
-fn child_of_kind(ks: &[u32], kind: Kind, j: u32) -> Kid
-    ensures { λ r. ⌜ getElem? (kindMeans (now (ks .entry)) kind .kids) j ≡ kidMeans r ⌝ }
+fn child_of_kind(ks: &[u32], kind: Kind, j: u32) -> ChildAnswer
+    ensures { λ r. ⌜ value (getElem? (kindMeans (now (ks .entry)) kind .kids) j) ≡ childReply r ⌝ }
 {
     if j < kind.count {
         let kid = layout::child_of(ks, kind, j).ty;
-        return Kid::Is(kid);
+        return ChildAnswer::Is(kid);
     }
-    Kid::Nothing
+    ChildAnswer::Nothing
 }
 
 // Child j of a node that was read; a node without a kind has none.
-pub fn child_of_node(ks: &[u32], node: TypeNode, j: u32) -> Kid
-    ensures { λ r. ⌜ childAt (nodeMeans (now (ks .entry)) node) j ≡ kidMeans r ⌝ }
+fn child_of_node(ks: &[u32], node: TypeNode, j: u32) -> ChildAnswer
+    ensures { λ r. ⌜ value (childAt (nodeMeans (now (ks .entry)) node) j) ≡ childReply r ⌝ }
 {
     match node {
         TypeNode::Root { state, size: _ } => match state {
             TypeState::Known(_, kind) => child_of_kind(ks, kind, j),
-            TypeState::Unknown(_) => Kid::Nothing,
-            TypeState::InferenceFailed => Kid::Nothing,
+            TypeState::Unknown(_) => ChildAnswer::Nothing,
+            TypeState::InferenceFailed => ChildAnswer::Nothing,
         },
-        TypeNode::Child(_) => Kid::Nothing,
+        TypeNode::Child(_) => ChildAnswer::Nothing,
     }
 }
 
 // A name as it lies in a store; no name is empty.
-fn name_in(n: Name) -> Named
-    ensures { λ r. ⌜ nameIn (n .text) (n .start) (n .len) ≡ namedMeans r ⌝ }
+fn name_in(n: Name) -> NameAnswer
+    ensures { λ r. ⌜ value (nameIn (n .text) (n .start) (n .len)) ≡ nameReply r ⌝ }
 {
     if n.len == 0 {
-        return Named::Nothing;
+        return NameAnswer::Nothing;
     }
-    Named::Is(n)
+    NameAnswer::Is(n)
 }
 
 // Child j's name, among the first n of a kind's children.
-fn child_named(ks: &[u32], kind: Kind, n: u32, j: u32) -> Named
-    ensures { λ r. ⌜ flat (getElem? (map slotName (slots (now (ks .entry)) (kind .first) n)) j) ≡ namedMeans r ⌝ }
+fn child_named(ks: &[u32], kind: Kind, n: u32, j: u32) -> NameAnswer
+    ensures { λ r. ⌜ value (flat (getElem? (map slotName (slots (now (ks .entry)) (kind .first) n)) j)) ≡ nameReply r ⌝ }
 {
     if n <= j {
-        return Named::Nothing;
+        return NameAnswer::Nothing;
     }
     let kid = layout::child_of(ks, kind, j);
     name_in(kid.name)
 }
 
 // Name j of a kind: its own is name 0; a child's has the child's number, and a Closure's return has none.
-fn name_of_kind(ks: &[u32], kind: Kind, j: u32) -> Named
-    ensures { λ r. ⌜ flat (getElem? (kindMeans (now (ks .entry)) kind .head .names) j) ≡ namedMeans r ⌝ }
+fn name_of_kind(ks: &[u32], kind: Kind, j: u32) -> NameAnswer
+    ensures { λ r. ⌜ value (flat (getElem? (kindMeans (now (ks .entry)) kind .head .names) j)) ≡ nameReply r ⌝ }
 {
     let names = kinds::row_of(kind.code).names;
     if names == OWN_NAME {
         if j == 0 {
             return name_in(kind.name);
         }
-        return Named::Nothing;
+        return NameAnswer::Nothing;
     }
     if names == CHILD_NAMES {
         return child_named(ks, kind, kind.count, j);
@@ -133,20 +121,20 @@ fn name_of_kind(ks: &[u32], kind: Kind, j: u32) -> Named
             return child_named(ks, kind, kind.count - 1, j);
         }
     }
-    Named::Nothing
+    NameAnswer::Nothing
 }
 
 // Name j of a node that was read; a node without a kind has none.
-pub fn name_of_node(ks: &[u32], node: TypeNode, j: u32) -> Named
-    ensures { λ r. ⌜ childNameAt (nodeMeans (now (ks .entry)) node) j ≡ namedMeans r ⌝ }
+fn name_of_node(ks: &[u32], node: TypeNode, j: u32) -> NameAnswer
+    ensures { λ r. ⌜ value (childNameAt (nodeMeans (now (ks .entry)) node) j) ≡ nameReply r ⌝ }
 {
     match node {
         TypeNode::Root { state, size: _ } => match state {
             TypeState::Known(_, kind) => name_of_kind(ks, kind, j),
-            TypeState::Unknown(_) => Named::Nothing,
-            TypeState::InferenceFailed => Named::Nothing,
+            TypeState::Unknown(_) => NameAnswer::Nothing,
+            TypeState::InferenceFailed => NameAnswer::Nothing,
         },
-        TypeNode::Child(_) => Named::Nothing,
+        TypeNode::Child(_) => NameAnswer::Nothing,
     }
 }
 
@@ -210,10 +198,7 @@ pub fn child<'a>(
         return ChildAnswer::Refused(code);
     }
     let x = layout::read_header(h);
-    match child_of_node(ks, layout::node_at(ws, x.nodes, t.idx()), j) {
-        Kid::Is(kid) => ChildAnswer::Is(kid),
-        Kid::Nothing => ChildAnswer::Nothing,
-    }
+    child_of_node(ks, layout::node_at(ws, x.nodes, t.idx()), j)
 }
 
 // Name j of a type's node, none past the end and where there is no name.
@@ -238,10 +223,7 @@ pub fn child_name<'a>(
         return NameAnswer::Refused(code);
     }
     let x = layout::read_header(h);
-    match name_of_node(ks, layout::node_at(ws, x.nodes, t.idx()), j) {
-        Named::Is(name) => NameAnswer::Is(name),
-        Named::Nothing => NameAnswer::Nothing,
-    }
+    name_of_node(ks, layout::node_at(ws, x.nodes, t.idx()), j)
 }
 
 // Counts, capacities, remembered types and the report count.

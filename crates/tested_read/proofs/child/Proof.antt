@@ -1,13 +1,11 @@
 -- `tested_read::child` meets its contract: a refusal is the first test that breaks, and where none does the child is read of the type's node.
 -- Assumes nothing.
-use mathlib.Core.Path.{ap, _∙_}
 use borrow.Author.Needs.{needs}
 use Rattle.scope.specs.Nodes.{Node}
 use Rattle.scope.specs.Calls.{childAt, childCall}
 use Rattle.promise.proofs.Laws.{inside-tested}
 use Rattle.promise.proofs.ReadLaws.{read-refused, read-clean}
-use Rattle.tested_read.specs.Replies.{kidMeans}
-use Rattle.tested_read.proofs.Laws.{node-tells}
+use Rattle.tested_read.proofs.Laws.{node-told}
 use Rattle.tested_read.proofs.child.Statement.{statement}
 use Rattle.tested_read.proofs.child.Tie as tie
 
@@ -34,37 +32,16 @@ node-at-requires c κs =
 child-of-node-requires : tie.Need-child-of-node-requires
 child-of-node-requires c κs = search needs
 
-enum-known-kid : tie.Need-enum-known-kid
-enum-known-kid c = search needs
-
-enum-told : tie.Need-enum-told
-enum-told c = search needs
-
 returns-2 : tie.Need-returns-2
 unfolding childCall
 returns-2 c =
-    let pre = c .before .before .before .before .before .before .before .before .before .before .before .before .before .before .before .pre in
-    let refusalAt = c .before .before .before .before .before .before .before .before .refusal-at in
-    let a = c .before .before .before .before .before .before .before .before .before .before .before .before .before .before .before .args in
-    let passed = c .before .before .before .before .before .before .before .if1 .left in
-    let head = c .before .before .before .before .before .before .read-header .ensures in
-    let idx = c .before .before .before .before .before .idx .ensures in
+    let pre = c .before .before .before .before .before .before .before .before .before .before .before .before .pre in
+    let refusalAt = c .before .before .before .before .before .refusal-at in
+    let a = c .before .before .before .before .before .before .before .before .before .before .before .before .args in
+    let passed = c .before .before .before .before .if1 .left in
+    let head = c .before .before .before .read-header .ensures in
     let test = inside-tested pre (refusalAt .ensures) in
-    node-tells test passed head idx (c .before .before .before .before .node-at .ensures) (λ (v : Node). childAt v (a .j))
-    (c .before .before .before .child-of-node .ensures ∙ ap kidMeans (c .before .kid .given .1))
-
-returns-3 : tie.Need-returns-3
-unfolding childCall
-returns-3 c =
-    let pre = c .before .before .before .before .before .before .before .before .before .before .before .before .before .before .pre in
-    let refusalAt = c .before .before .before .before .before .before .before .refusal-at in
-    let a = c .before .before .before .before .before .before .before .before .before .before .before .before .before .before .args in
-    let passed = c .before .before .before .before .before .before .if1 .left in
-    let head = c .before .before .before .before .before .read-header .ensures in
-    let idx = c .before .before .before .before .idx .ensures in
-    let test = inside-tested pre (refusalAt .ensures) in
-    node-tells test passed head idx (c .before .before .before .node-at .ensures) (λ (v : Node). childAt v (a .j))
-    (c .before .before .child-of-node .ensures ∙ ap kidMeans (c .enum-told .given .1))
+    node-told test passed head (c .before .before .idx .ensures) (c .before .node-at .ensures) (λ (v : Node). childAt v (a .j)) (c .child-of-node .ensures)
 
 pub child-spec : {M : Type 1} → statement M
 child-spec =
@@ -76,7 +53,4 @@ child-spec =
     idx-requires
     node-at-requires
     child-of-node-requires
-    enum-known-kid
-    enum-told
-    returns-2
-    returns-3)
+    returns-2)
