@@ -111,6 +111,12 @@ pub record Falls (ws ks : List ℕ) (n : ℕ) (roots : List ℕ) : Type 0 where
   pub room : nodeWords n ≤ length ws
   pub below : (v i : ℕ) → v < n → InRun (kids ws ks n roots) v i → kidAt ks i < n
 
+-- `kids_before`: the walks from the nodes before v end
+pub record Before (ws ks : List ℕ) (n : ℕ) (roots : List ℕ) (v : ℕ) : Type 0 where
+  pub falls : Falls ws ks n roots
+  pub node : v < n
+  pub ended : (u : ℕ) → u < v → ends (kids ws ks n roots) n u ≡ true
+
 pub record Visits (ws ks : List ℕ) (n : ℕ) (roots marks : List ℕ) (v : ℕ) : Type 0 where
   pub falls : Falls ws ks n roots
   pub marked : TrueMarks (kids ws ks n roots) n marks
