@@ -27,6 +27,7 @@ use kinds::DEFINITION;
 use kinds::ERROR;
 use kinds::NO_NAMES;
 use kinds::Row;
+use layout::CHILD_WORDS;
 use layout::Cell;
 use layout::KNOWN_TAG;
 use layout::Kind;
@@ -48,10 +49,14 @@ fn plain_child(x: Slot, n: u32) -> bool
     x.ty.idx().0 < n
 }
 
-// The children a to e. Each is looked at, whatever the others are.
+// A quick yes to whether the children a to e are such. Each is looked at, whatever the others are. A run that is not all in ks has no quick yes, so a child
+// is read without a test of its own.
 fn plain_children(ks: &[u32], a: usize, e: usize, n: u32) -> bool
-    ensures { λ r. ⌜ r ≡ all (λ j. plainSlot n (slotAt (now (ks .entry)) j)) (from a (e - a)) ⌝ }
+    ensures { λ r. ⌜ (r ≡ true → all (λ j. plainSlot n (slotAt (now (ks .entry)) j)) (from a (e - a)) ≡ true) ⌝ }
 {
+    if ks.len() / CHILD_WORDS < e {
+        return false;
+    }
     let mut plain = true;
     let mut i = a;
     while i < e {
@@ -115,7 +120,7 @@ fn named_child<'a>(child: Slot, n: u32, rule: &'a [u8], text: &'a [u8]) -> bool
     child.ty.idx().0 < n
 }
 
-// An object's child i, which is not the first. What was seen of its name is not looked at again.
+// A quick yes to whether an object's child i, which is not the first, follows. What was seen of its name is not looked at again.
 fn next_child<'a>(
     ks: &[u32],
     i: usize,
@@ -128,6 +133,9 @@ fn next_child<'a>(
     ensures { λ r. ⌜ (r ≡ true → Follows (texts (now (rule .entry)) (now (text .entry))) (now (ks .entry)) n i)
         × TrueSeen (texts (now (rule .entry)) (now (text .entry))) (now (ks .entry)) (now (seen .exit)) ⌝ }
 {
+    if ks.len() / CHILD_WORDS <= i {
+        return false;
+    }
     let child = layout::child_at(ks, i);
     if child.ty.idx().0 >= n {
         return false;

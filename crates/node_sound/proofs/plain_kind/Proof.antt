@@ -37,7 +37,7 @@ returns-2 c =
     let passed = c .before .before .before .before .before in
     let framed = passed .before .frame-ok .ensures (not-false _ (passed .if1 .left)) in
     let none = sym (ap (λ (r : Row). r .names) (c .before .before .before .before .before .before .before .row-of .ensures)) ∙ c .before .if2 .taken in
-    (λ t. kind-bare (a .chart .now) (a .rule .now) (a .text .now) (a .ks .now) (a .n) (a .k) framed none (sym (c .plain-children .ensures) ∙ t), start .pre .0)
+    (λ t. kind-bare (a .chart .now) (a .rule .now) (a .text .now) (a .ks .now) (a .n) (a .k) framed none (c .plain-children .ensures t), start .pre .0)
 
 returns-3 : tie.Need-returns-3
 returns-3 c = (λ t. absurd (false≢true t), c .before .before .before .before .before .before .before .before .before .before .before .before .before .pre .0)
