@@ -4,7 +4,7 @@
 use mathlib.Core.Path.{_≡_, refl, ap, sym, _∙_}
 use mathlib.Core.Bool.{Bool, true, false, false≢true}
 use mathlib.Core.List.{List}
-use Prim.Native.Nat.{ℕ, zero, suc, _+_, _≤_, _<_}
+use Prim.Native.Nat.{ℕ, zero, suc, _+_, _-_, _≤_, _<_}
 use native.Mathlib.Decide.{ℕ-discrete}
 use native.Mathlib.Omega.{arith}
 use borrow.Author.Count.{below-more}
@@ -174,7 +174,7 @@ module _ (g : Graph) (n : ℕ) where
   pub visits-not : {v : ℕ} {marks marks′ : List ℕ} {r : Bool} → Tried v marks → r ≡ false → Visited g n v marks marks′ r → ends g n v ≡ false
   visits-not a t w = w .failed t n (λ u o. absurd (a .shut u o))
 
-  -- kids_before: the walks on from the places a to i end, if ok says so
+  -- kids_done: the walks on from the places a to i end, if ok says so
   pub record Ended (a i : ℕ) (ok : Bool) : Type 0 where
     pub low : a ≤ i
     pub each : ok ≡ true → (j : ℕ) → a ≤ j → j < i → ends g n (g .to j) ≡ true
@@ -236,12 +236,21 @@ module _ {ws ks roots : List ℕ} {n v : ℕ} (a : Falls ws ks n roots) (node : 
       let l = a .below v i node r in
       rw e (omega (arith, a .rooted .few), a .rooted .known (kidAt ks i) l)
 
-  -- a child whose root lies before v, where the code has read one more than that root
-  pub kid-before : {i k m : ℕ} → InRun (kids ws ks n roots) v i → k ≡ kidAt ks i → m ≡ getD roots k 0 → m ≤ v → kids ws ks n roots .to i < v
-  kid-before {i} r e f l =
-      let known = a .rooted .known (kidAt ks i) (a .below v i node r) in
-      let up = f ∙ ap (λ (j : ℕ). getD roots j 0) e in
-      omega (arith, known, up, l)
+  -- where the code has read one more than a child's root: it lies before v, or it has a mark
+  module _ {i k m : ℕ} (r : InRun (kids ws ks n roots) v i) (e : k ≡ kidAt ks i) (f : m ≡ getD roots k 0) where
+    pub kid-root : kids ws ks n roots .to i ≡ m - 1
+    kid-root =
+        let up = f ∙ ap (λ (j : ℕ). getD roots j 0) e in
+        omega (arith, up)
+
+    pub kid-before : m ≤ v → kids ws ks n roots .to i < v
+    kid-before l =
+        let known = a .rooted .known (kidAt ks i) (a .below v i node r) in
+        let up = f ∙ ap (λ (j : ℕ). getD roots j 0) e in
+        omega (arith, known, up, l)
+
+    pub root-marked : m - 1 < MAX-NODES
+    root-marked = omega (arith, kid-root, kids-closed a .inside v i node r, a .rooted .few)
 
 module _ {ws ks roots before : List ℕ} {n v : ℕ} (a : Visits ws ks n roots before v) where
   pub mark-small : v < MAX-NODES

@@ -34,45 +34,46 @@ loop-again c =
     let tried = c .before .before .before .before .loop .inv in
     laws.visits-more _ _ tried refl (laws.visit-done _ _ (tried .marked) (c .before .at .ensures) (c .if1 .taken))
 
-kids-before-requires : tie.Need-kids-before-requires Inv-loop μ-loop
-kids-before-requires c κs =
-    let falls = c .before .before .before .before .before .before .before .pre in
-    record { falls = falls; node = c .before .before .before .loop-test .taken; ended = c .before .before .before .before .loop .inv .ended }
+kids-done-requires : tie.Need-kids-done-requires Inv-loop μ-loop
+kids-done-requires c κs =
+    let falls = c .before .before .before .before .before .before .before .before .pre in
+    let tried = c .before .before .before .before .before .loop .inv in
+    record { visits = record { falls = falls; marked = tried .marked; node = c .before .before .before .before .loop-test .taken }; ended = tried .ended }
 
 put-requires : tie.Need-put-requires Inv-loop μ-loop
 put-requires c κs =
-    let few = c .before .before .before .before .before .before .before .before .before .before .pre .rooted .few in
-    omega (arith, few, c .before .before .before .before .before .before .loop-test .taken)
+    let few = c .before .before .before .before .before .before .before .before .before .before .before .pre .rooted .few in
+    omega (arith, few, c .before .before .before .before .before .before .before .loop-test .taken)
 
 loop-less-2 : tie.Need-loop-less-2 Inv-loop μ-loop
-loop-less-2 c = omega (arith, c .before .before .before .before .before .before .before .loop-test .taken)
+loop-less-2 c = omega (arith, c .before .before .before .before .before .before .before .before .loop-test .taken)
 
 loop-again-2 : tie.Need-loop-again-2 Inv-loop μ-loop
 loop-again-2 c =
-    let few = c .before .before .before .before .before .before .before .before .before .before .before .pre .rooted .few in
-    let node = c .before .before .before .before .before .before .before .loop-test .taken in
-    let ends = c .before .before .before .kids-before .ensures (c .before .before .if2 .taken) in
-    let tried = c .before .before .before .before .before .before .before .before .loop .inv in
+    let few = c .before .before .before .before .before .before .before .before .before .before .before .before .pre .rooted .few in
+    let node = c .before .before .before .before .before .before .before .before .loop-test .taken in
+    let ends = c .before .before .before .kids-done .ensures (c .before .before .if2 .taken) in
+    let tried = c .before .before .before .before .before .before .before .before .before .loop .inv in
     rw (c .put .ensures) (laws.visits-own _ _ tried (omega (arith, few, node)) ends)
 
 visit-requires : tie.Need-visit-requires Inv-loop μ-loop
 visit-requires c κs =
-    let falls = c .before .before .before .before .before .before .before .before .before .before .pre in
-    let tried = c .before .before .before .before .before .before .before .loop .inv in
-    record { falls = falls; marked = tried .marked; node = c .before .before .before .before .before .before .loop-test .taken }
+    let falls = c .before .before .before .before .before .before .before .before .before .before .before .pre in
+    let tried = c .before .before .before .before .before .before .before .before .loop .inv in
+    record { falls = falls; marked = tried .marked; node = c .before .before .before .before .before .before .before .loop-test .taken }
 
 returns : tie.Need-returns Inv-loop μ-loop
 returns c =
-    let tried = c .before .before .before .before .before .before .before .before .before .loop in
+    let tried = c .before .before .before .before .before .before .before .before .before .before .loop in
     let long = laws.visits-not _ _ (tried .inv) (not-true _ (c .if3 .taken)) (c .before .visit .ensures) in
-    let n = c .before .before .before .before .before .before .before .before .before .before .before .before .args .n in
-    all-stop _ n (tried .next) (c .before .before .before .before .before .before .before .before .loop-test .taken) long
+    let n = c .before .before .before .before .before .before .before .before .before .before .before .before .before .args .n in
+    all-stop _ n (tried .next) (c .before .before .before .before .before .before .before .before .before .loop-test .taken) long
 
 loop-less-3 : tie.Need-loop-less-3 Inv-loop μ-loop
-loop-less-3 c = omega (arith, c .before .before .before .before .before .before .before .before .loop-test .taken)
+loop-less-3 c = omega (arith, c .before .before .before .before .before .before .before .before .before .loop-test .taken)
 
 loop-again-3 : tie.Need-loop-again-3 Inv-loop μ-loop
-loop-again-3 c = laws.visits-more _ _ (c .before .before .before .before .before .before .before .before .before .loop .inv) (not-false _ (c .if3 .left)) (c .before .visit .ensures)
+loop-again-3 c = laws.visits-more _ _ (c .before .before .before .before .before .before .before .before .before .before .loop .inv) (not-false _ (c .if3 .left)) (c .before .visit .ensures)
 
 returns-2 : tie.Need-returns-2 Inv-loop μ-loop
 returns-2 c =
@@ -90,7 +91,7 @@ falls-ok-spec =
     at-requires
     loop-less
     loop-again
-    kids-before-requires
+    kids-done-requires
     put-requires
     loop-less-2
     loop-again-2
