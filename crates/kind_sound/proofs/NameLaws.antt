@@ -33,7 +33,7 @@ use Rattle.layout.proofs.KindLaws.{names-own, names-child, names-parameters}
 abbrev pub nameOr : Name → Option Name
 nameOr n = nameIn (n .text) (n .start) (n .len)
 
-no-empty : (x : Texts) (t i : ℕ) → nameOk x (name t i 0) ≡ false
+pub no-empty : (x : Texts) (t i : ℕ) → nameOk x (name t i 0) ≡ false
 unfolding nameOk
 no-empty x t i = and-false (inText x (name t i 0))
 
@@ -75,7 +75,7 @@ module _ (ks : List ℕ) (i n j : ℕ) where
 abbrev pub upFrom : Texts → List ℕ → List (Option Name) → Bool
 upFrom x p ns = all (named x) ns && ascending (p ∷ map (bytesOr x) ns)
 
-some-before : (l : List ℕ) → 1 ≤ length l → ltBytes [] l ≡ true
+pub some-before : (l : List ℕ) → 1 ≤ length l → ltBytes [] l ≡ true
 unfolding ltBytes
 some-before [] h = absurd (omega arith)
 some-before (y ∷ l) h = refl

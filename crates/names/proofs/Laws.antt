@@ -4,7 +4,7 @@
 use mathlib.Core.Path.{_≡_, refl, sym, _∙_}
 use mathlib.Core.Bool.{Bool, true, false, false≢true}
 use mathlib.Core.List.{List, [], _∷_}
-use Prim.Native.Nat.{ℕ, zero, suc, _+_, _-_, _≤_, _<_}
+use Prim.Native.Nat.{ℕ, zero, suc, _+_, _-_, _≤_, _<_, min}
 use native.Mathlib.Numerals.{add-one}
 use native.Mathlib.Decide.{decLt}
 use native.Mathlib.Omega.{arith}
@@ -50,23 +50,28 @@ unfolding ltBytes
 none-before [] = refl
 none-before (x ∷ a) = refl
 
-pub before-short : (a b : List ℕ) (i : ℕ) → length b ≤ i → ltBytes (drop i a) (drop i b) ≡ false
-before-short a b i h = rw (drop-of-length-le b h) (none-before (drop i a))
-
-pub before-end : (a b : List ℕ) (i : ℕ) → length a ≤ i → ltBytes (drop i a) (drop i b) ≡ ltb i (length b)
+-- one list is at its end
+pub before-over : (a b : List ℕ) (i : ℕ) → i ≡ min (length a) (length b) → ltBytes (drop i a) (drop i b) ≡ ltb (length a) (length b)
 unfolding ltBytes
-before-end a b i h = go (decLt i (length b))
+before-over a b i h = go (decLt i (length b))
   where
-    go : Dec (i < length b) → ltBytes (drop i a) (drop i b) ≡ ltb i (length b)
-    go (yes k) = rw (drop-of-length-le a h, drop-cons b i 0 k, lt-ltb i (length b) k)
-    go (no k) = before-short a b i (omega arith) ∙ sym (le-ltb i (length b) (omega arith))
+    go : Dec (i < length b) → ltBytes (drop i a) (drop i b) ≡ ltb (length a) (length b)
+    go (yes k) =
+        let l : length a ≤ i = omega arith in
+        rw (drop-of-length-le a l, drop-cons b i 0 k, lt-ltb (length a) (length b) (omega arith))
+    go (no k) =
+        let l : length b ≤ i = omega arith in
+        rw (drop-of-length-le b l, le-ltb (length a) (length b) (omega arith)) (none-before (drop i a))
 
 module _ (a b : List ℕ) (i : ℕ) (h : i < length a) (k : i < length b) where
-  pub before-less : getD a i 0 < getD b i 0 → ltBytes (drop i a) (drop i b) ≡ true
-  before-less l = rw (drop-cons a i 0 h, drop-cons b i 0 k) (head-less _ _ _ _ l)
-
-  pub before-more : getD b i 0 < getD a i 0 → ltBytes (drop i a) (drop i b) ≡ false
-  before-more l = rw (drop-cons a i 0 h, drop-cons b i 0 k) (head-more _ _ _ _ l)
+  pub before-other : (getD a i 0 ≡ getD b i 0 → ⊥) → ltBytes (drop i a) (drop i b) ≡ ltb (getD a i 0) (getD b i 0)
+  before-other z = go (decLt (getD a i 0) (getD b i 0))
+    where
+      go : Dec (getD a i 0 < getD b i 0) → ltBytes (drop i a) (drop i b) ≡ ltb (getD a i 0) (getD b i 0)
+      go (yes l) = rw (drop-cons a i 0 h, drop-cons b i 0 k, lt-ltb (getD a i 0) (getD b i 0) l) (head-less _ _ _ _ l)
+      go (no l) =
+          let m : getD b i 0 < getD a i 0 = omega (arith, z) in
+          rw (drop-cons a i 0 h, drop-cons b i 0 k, le-ltb (getD a i 0) (getD b i 0) (omega arith)) (head-more _ _ _ _ m)
 
   pub before-step : getD a i 0 ≡ getD b i 0 → ltBytes (drop i a) (drop i b) ≡ ltBytes (drop (i + 1) a) (drop (i + 1) b)
   before-step e = rw (drop-cons a i 0 h, drop-cons b i 0 k, add-one) (head-same _ _ _ _ e)

@@ -1,5 +1,6 @@
 // "A name is a part of the rule text or of the chart text, compared as bytes." Its lookup returns a part of one of the two lent slices. No call here asks anything of its arguments.
 ghost use mathlib.Core.Path.{_≡_};
+ghost use Prim.Native.Nat.{min};
 ghost use lib.ListN.{length, take, drop};
 ghost use Rattle.scope.specs.Names.{textOf, bytes, inText, nameOk, eqBytes, ltBytes};
 ghost use Rattle.names.specs.Place.{texts, nameOf};
@@ -60,26 +61,32 @@ pub fn same_bytes(a: &[u8], b: &[u8]) -> bool
     check::same(a, b)
 }
 
-// Byte by byte, unsigned; a prefix comes first.
+fn lesser(n: usize, m: usize) -> usize
+    ensures { λ r. ⌜ r ≡ min n m ⌝ }
+{
+    if n < m {
+        return n;
+    }
+    m
+}
+
+// Byte by byte, unsigned, up to the first that differs; a prefix comes first.
 pub fn before(a: &[u8], b: &[u8]) -> bool
     ensures { λ r. ⌜ r ≡ ltBytes (now (a .entry)) (now (b .entry)) ⌝ }
 {
+    let n = a.len();
+    let m = b.len();
+    let end = lesser(n, m);
     let mut i: usize = 0;
-    while i < a.len() {
-        if b.len() <= i {
-            return false;
-        }
+    while i < end {
         let x = a[i];
         let y = b[i];
-        if x < y {
-            return true;
-        }
-        if y < x {
-            return false;
+        if x != y {
+            return x < y;
         }
         i += 1;
     }
-    i < b.len()
+    n < m
 }
 
 pub fn same_name<'a>(a: Name, b: Name, rule: &'a [u8], chart: &'a [u8]) -> bool

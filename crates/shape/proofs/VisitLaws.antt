@@ -4,7 +4,7 @@
 use mathlib.Core.Path.{_≡_, refl, ap, sym, _∙_}
 use mathlib.Core.Bool.{Bool, true, false, false≢true}
 use mathlib.Core.List.{List}
-use Prim.Native.Nat.{ℕ, zero, suc, _+_, _≤_, _<_}
+use Prim.Native.Nat.{ℕ, zero, suc, _+_, _-_, _≤_, _<_}
 use native.Mathlib.Decide.{ℕ-discrete}
 use native.Mathlib.Omega.{arith}
 use borrow.Author.Count.{below-more}
@@ -182,10 +182,10 @@ module _ (g : Graph) (n : ℕ) where
   pub ended-none : (a : ℕ) (ok : Bool) → Ended a a ok
   ended-none a ok = record { low = omega arith; each = λ _ j k q. absurd (omega arith) }
 
-  pub ended-more : {a i k m : ℕ} {ok : Bool} {marks : List ℕ} → TrueMarks g n marks → Ended a i ok → k ≡ g .to i → m ≡ getD marks k 0 → m ≡ DONE → Ended a (i + 1) ok
-  ended-more {a} {i} {k} b w e f z = record {
+  pub ended-more : {a i : ℕ} {ok : Bool} → Ended a i ok → ends g n (g .to i) ≡ true → Ended a (i + 1) ok
+  ended-more {a} {i} w h = record {
     low = omega (arith, w .low);
-    each = λ t j l q. below-more (λ x. a ≤ x → ends g n (g .to x) ≡ true) i (λ x y h. w .each t x h y) (λ _. rw (← e) (b .done k (sym f ∙ z))) j q l;
+    each = λ t j l q. below-more (λ x. a ≤ x → ends g n (g .to x) ≡ true) i (λ x y m. w .each t x m y) (λ _. h) j q l;
   }
 
   pub ended-not : {a i : ℕ} {ok : Bool} → Ended a i ok → Ended a (i + 1) false
@@ -208,6 +208,50 @@ module _ (g : Graph) (n : ℕ) where
 pub kids-closed : {ws ks roots : List ℕ} {n : ℕ} → Falls ws ks n roots → Closed (kids ws ks n roots) n
 kids-closed {ks = ks} a = record { inside = λ v i l r. a .rooted .below (kidAt ks i) (a .below v i l r) }
 
+-- v is a node
+module _ {ws ks roots : List ℕ} {n v : ℕ} (a : Falls ws ks n roots) (node : v < n) where
+  -- v holds the kind k: what the code reads of its run
+  module _ {r : Held} {j : Inverted} {k : Kind} (e : r ≡ heldIn (readAt ws n v)) (q : r ≡ Is j k) where
+    pub in-run : {i : ℕ} → kids ws ks n roots .first v ≤ i → i < k .first + k .count → InRun (kids ws ks n roots) v i
+    in-run w l = record { from = w; below = rw (sym e ∙ q) l }
+
+    pub run-done : {i : ℕ} → k .first + k .count ≤ i → kids ws ks n roots .first v + kids ws ks n roots .deg v ≤ i
+    run-done l = rw (sym e ∙ q) l
+
+    pub run-low : {i : ℕ} → k .first ≤ i → kids ws ks n roots .first v ≤ i
+    run-low l = rw (sym e ∙ q) l
+
+    pub run-ended : {i : ℕ} {ok : Bool} → Ended (kids ws ks n roots) n (k .first) i ok → k .first + k .count ≤ i → ok ≡ true → ends (kids ws ks n roots) n v ≡ true
+    run-ended w l = ended-all (kids ws ks n roots) n (kids-closed a) node (rw (sym e ∙ q) w) (run-done l)
+
+  -- v holds no kind: it has no place to go through
+  pub ended-bare : {r : Held} → r ≡ heldIn (readAt ws n v) → r ≡ Nothing → ends (kids ws ks n roots) n v ≡ true
+  ended-bare e q =
+      let g : Graph = kids ws ks n roots in
+      let d : g .deg v ≡ 0 = ap countOf (sym e ∙ q) in
+      ended-all g n (kids-closed a) node (ended-none g n (g .first v) true) (omega arith) refl
+
+  pub kid-known : {i k : ℕ} → InRun (kids ws ks n roots) v i → k ≡ kidAt ks i → (k < MAX-NODES) × (0 < getD roots k 0)
+  kid-known {i} r e =
+      let l = a .below v i node r in
+      rw e (omega (arith, a .rooted .few), a .rooted .known (kidAt ks i) l)
+
+  -- where the code has read one more than a child's root: it lies before v, or it has a mark
+  module _ {i k m : ℕ} (r : InRun (kids ws ks n roots) v i) (e : k ≡ kidAt ks i) (f : m ≡ getD roots k 0) where
+    pub kid-root : kids ws ks n roots .to i ≡ m - 1
+    kid-root =
+        let up = f ∙ ap (λ (j : ℕ). getD roots j 0) e in
+        omega (arith, up)
+
+    pub kid-before : m ≤ v → kids ws ks n roots .to i < v
+    kid-before l =
+        let known = a .rooted .known (kidAt ks i) (a .below v i node r) in
+        let up = f ∙ ap (λ (j : ℕ). getD roots j 0) e in
+        omega (arith, known, up, l)
+
+    pub root-marked : m - 1 < MAX-NODES
+    root-marked = omega (arith, kid-root, kids-closed a .inside v i node r, a .rooted .few)
+
 module _ {ws ks roots before : List ℕ} {n v : ℕ} (a : Visits ws ks n roots before v) where
   pub mark-small : v < MAX-NODES
   mark-small = omega (arith, a .node, a .falls .rooted .few)
@@ -220,38 +264,10 @@ module _ {ws ks roots before : List ℕ} {n v : ℕ} (a : Visits ws ks n roots b
       let d : g .deg v ≡ 0 = ap countOf (sym e ∙ q) in
       rw (h, f) (visit-passed g n (a .marked) mark-small (passed-none g n mark-small (a .marked)) (kids-closed (a .falls)) (a .node) (omega arith))
 
-  -- v holds the kind k: what the code reads of its run
-  module _ {r : Held} {j : Inverted} {k : Kind} (e : r ≡ heldIn (readAt ws n v)) (q : r ≡ Is j k) where
-    pub run-first : {marks : List ℕ} → marks ≡ set before v OPEN → Passed (kids ws ks n roots) n v (k .first) marks marks
-    run-first f = rw f (rw (ap firstOf (sym e ∙ q)) at (passed-none (kids ws ks n roots) n mark-small (a .marked)))
-
-    pub in-run : {i : ℕ} → kids ws ks n roots .first v ≤ i → i < k .first + k .count → InRun (kids ws ks n roots) v i
-    in-run w l = record { from = w; below = rw (sym e ∙ q) l }
-
-    pub run-done : {i : ℕ} → k .first + k .count ≤ i → kids ws ks n roots .first v + kids ws ks n roots .deg v ≤ i
-    run-done l = rw (sym e ∙ q) l
-
-    pub run-low : {i : ℕ} → k .first ≤ i → kids ws ks n roots .first v ≤ i
-    run-low l = rw (sym e ∙ q) l
-
-    pub run-ended : {i : ℕ} {ok : Bool} → Ended (kids ws ks n roots) n (k .first) i ok → k .first + k .count ≤ i → ok ≡ true → ends (kids ws ks n roots) n v ≡ true
-    run-ended w l = ended-all (kids ws ks n roots) n (kids-closed (a .falls)) (a .node) (rw (sym e ∙ q) w) (run-done l)
-
-  -- v holds no kind: it has no place to go through
-  pub ended-bare : {r : Held} → r ≡ heldIn (readAt ws n v) → r ≡ Nothing → ends (kids ws ks n roots) n v ≡ true
-  ended-bare e q =
-      let g : Graph = kids ws ks n roots in
-      let d : g .deg v ≡ 0 = ap countOf (sym e ∙ q) in
-      ended-all g n (kids-closed (a .falls)) (a .node) (ended-none g n (g .first v) true) (omega arith) refl
-
-  pub kid-known : {i k : ℕ} → InRun (kids ws ks n roots) v i → k ≡ kidAt ks i → (k < MAX-NODES) × (0 < getD roots k 0)
-  kid-known {i} r e =
-      let l = a .falls .below v i (a .node) r in
-      rw e (omega (arith, a .falls .rooted .few), a .falls .rooted .known (kidAt ks i) l)
-
-  -- a child's root has a mark
-  pub root-marked : {i k : ℕ} → InRun (kids ws ks n roots) v i → k ≡ rootOf roots (kidAt ks i) → k < MAX-NODES
-  root-marked {i} r e = omega (arith, kids-closed (a .falls) .inside v i (a .node) r, a .falls .rooted .few, e)
+  -- v holds the kind k
+  pub run-first : {r : Held} {j : Inverted} {k : Kind} {marks : List ℕ} → r ≡ heldIn (readAt ws n v) → r ≡ Is j k → marks ≡ set before v OPEN
+      → Passed (kids ws ks n roots) n v (k .first) marks marks
+  run-first e q f = rw f (rw (ap firstOf (sym e ∙ q)) at (passed-none (kids ws ks n roots) n mark-small (a .marked)))
 
   pub visits-on : {i k : ℕ} {marks₁ marks : List ℕ} → Passed (kids ws ks n roots) n v i marks₁ marks → InRun (kids ws ks n roots) v i
       → k ≡ rootOf roots (kidAt ks i) → Visits ws ks n roots marks k

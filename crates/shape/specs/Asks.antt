@@ -116,6 +116,11 @@ pub record Visits (ws ks : List ℕ) (n : ℕ) (roots marks : List ℕ) (v : ℕ
   pub marked : TrueMarks (kids ws ks n roots) n marks
   pub node : v < n
 
+-- `kids_done`: the walks from the nodes before v end
+pub record Tries (ws ks : List ℕ) (n : ℕ) (roots marks : List ℕ) (v : ℕ) : Type 0 where
+  pub visits : Visits ws ks n roots marks v
+  pub ended : (u : ℕ) → u < v → ends (kids ws ks n roots) n u ≡ true
+
 -- Marks stay. Where the answer is yes, walks from v end and no node is left open that was not. Where it is no, some walk from v is longer than d nodes
 -- for each d for which this is so of the nodes that were open
 pub record Visited (g : Graph) (n v : ℕ) (marks₀ marks : List ℕ) (r : Bool) : Type 0 where

@@ -11,7 +11,8 @@ ghost use Rattle.layout.specs.Words.{nodeWords, decode};
 ghost use Rattle.layout.specs.Meaning.{readAt};
 ghost use Rattle.shape.specs.Walks.{ends};
 ghost use Rattle.shape.specs.Read.{upIn, kidAt, ups, rootOf, kids, sizeFits};
-ghost use Rattle.shape.specs.Asks.{Shaped, Climbs, Climbed, ClimbsAll, ClimbedAll, Tallies, Tallied, Sizes, Falls, Visits, Visited};
+ghost use Rattle.shape.specs.Asks.{Shaped, Climbs, Climbed, ClimbsAll, ClimbedAll, Tallies, Tallied, Sizes, Falls, Visits, Tries, Visited};
+use layout::CHILD_WORDS;
 use layout::Held;
 use layout::TypeNode;
 use scope::MAX_NODES;
@@ -185,9 +186,10 @@ fn visit(ws: &[u32], ks: &[u32], n: u32, roots: &Table, marks: &mut Table, v: Ty
     true
 }
 
-// A quick yes to whether every walk from v ends: the roots of its children are done. Where nodes are made after their children this is always so.
+// A quick yes to whether every walk from v ends, where those from the nodes before v do: the roots of its children lie before v, or are done. Where nodes are
+// made after their children few marks are read. A run that is not all in ks has no quick yes, so a child is read without a test of its own.
 fn kids_done(ws: &[u32], ks: &[u32], n: u32, roots: &Table, marks: &Table, v: TypeIdx) -> bool
-    requires { ⌜ Visits (now ws) (now ks) n (now roots) (now marks) (v .0) ⌝ }
+    requires { ⌜ Tries (now ws) (now ks) n (now roots) (now marks) (v .0) ⌝ }
     ensures { λ r. ⌜ (r ≡ true → ends (kids (now (ws .entry)) (now (ks .entry)) n (now (roots .entry))) n (v .0) ≡ true) ⌝ }
 {
     let Held::Is(_, kind) = layout::held_at(ws, n, v) else {
@@ -196,11 +198,17 @@ fn kids_done(ws: &[u32], ks: &[u32], n: u32, roots: &Table, marks: &Table, v: Ty
     let mut done = true;
     let mut i = kind.first as usize;
     let end = i + kind.count as usize;
+    if ks.len() / CHILD_WORDS < end {
+        return false;
+    }
     while i < end {
-        let mark = at(marks, root_of(roots, kid_at(ks, i)));
+        let root_more = at(roots, kid_at(ks, i));
         i += 1;
-        if mark != DONE {
-            done = false;
+        if v.0 < root_more {
+            let root = root_more - 1;
+            if at(marks, TypeIdx(root)) != DONE {
+                done = false;
+            }
         }
     }
     done

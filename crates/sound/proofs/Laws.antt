@@ -82,11 +82,14 @@ module _ (h ws ks : List ℕ) where
   readable-clean : readable h ws ks ≡ true → clean h ws ks ≡ nodesClean h ws ks
   readable-clean r = clean-room ∙ rw (readable-parts r .1)
 
-  pub readable-words : (x : Header) → x ≡ headerIn h → readable h ws ks ≡ true → nodeWords (x .nodes) ≤ length ws
+  pub readable-words : (x : Header) → x ≡ headerIn h → readable h ws ks ≡ true → (nodeWords (x .nodes) ≤ length ws) × (x .children ≤ MAX-CHILDREN)
   readable-words x g r =
-      let l : Lies h ws ks = lies h ws ks (both (longEnough h ws ks) (unusedZero h ws ks) (readable-parts r .1) .0) in
+      let p = readable-parts r in
+      let l : Lies h ws ks = lies h ws ks (both (longEnough h ws ks) (unusedZero h ws ks) (p .1) .0) in
       let m : x .nodes ≡ nodesMade h = ap (λ (y : Header). y .nodes) g in
-      omega (arith, l .nodes, l .nodeSlots, m)
+      let c : x .children ≡ childrenMade h = ap (λ (y : Header). y .children) g in
+      let k : childRoom h ≤ MAX-CHILDREN = leb-true (childRoom h) MAX-CHILDREN (both (leb (nodeRoom h) MAX-NODES) (leb (childRoom h) MAX-CHILDREN) (p .0) .1) in
+      (omega (arith, l .nodes, l .nodeSlots, m), omega (arith, l .children, k, c))
 
   room-within : clean h ws ks ≡ true → roomSound (storeIn h ws ks) ≡ within h
   unfolding roomSound storeIn

@@ -1,46 +1,40 @@
 -- `names::before` meets its contract. The loop's invariant: from i on the first list comes before the second if and only if it does as a whole. The
--- measure is what is left of the first. Assumes nothing.
+-- measure is what is left of the shorter. Assumes nothing.
 use mathlib.Core.Path.{_≡_, refl, sym, _∙_}
 use native.Mathlib.Omega.{arith}
-use Prim.Native.Nat.{_-_}
-use lib.ListN.{length, drop}
+use borrow.Author.Needs.{needs}
+use Prim.Native.Nat.{_-_, _≤_}
+use lib.ListN.{drop}
 use Rattle.scope.specs.Names.{ltBytes}
 use Rattle.names.proofs.Laws as laws
 use Rattle.names.proofs.before.Statement.{statement}
 use Rattle.names.proofs.before.Tie as tie
 
 abbrev Inv-loop : tie.InvT-loop
-Inv-loop a b i₀ i = ltBytes (drop i a) (drop i b) ≡ ltBytes a b
+Inv-loop a b n m end i₀ i = (i ≤ end) × (ltBytes (drop i a) (drop i b) ≡ ltBytes a b)
 
 abbrev μ-loop : tie.MeasureT-loop
-μ-loop a b i₀ i = length a - i
+μ-loop a b n m end i₀ i = end - i
+
+lesser-requires : tie.Need-lesser-requires Inv-loop μ-loop
+lesser-requires c κs = search needs
 
 loop-holds : tie.Need-loop-holds Inv-loop μ-loop
-loop-holds c = refl
+loop-holds c = (omega arith, refl)
+
+shared-slice-read-x : tie.Need-shared-slice-read-x Inv-loop μ-loop
+shared-slice-read-x c = omega (arith, c .before .before .before .lesser .ensures, c .before .loop-test .taken)
+
+shared-slice-read-y : tie.Need-shared-slice-read-y Inv-loop μ-loop
+shared-slice-read-y c = omega (arith, c .before .before .before .before .lesser .ensures, c .before .before .loop-test .taken)
 
 returns : tie.Need-returns Inv-loop μ-loop
 returns c =
-    let s = c .before .before .before .args in
-    let l = c .before .before .loop in
-    sym (laws.before-short (s .a .now) (s .b .now) (l .i) (c .if1 .taken)) ∙ l .inv
-
-shared-slice-read-x : tie.Need-shared-slice-read-x Inv-loop μ-loop
-shared-slice-read-x c = omega arith
-
-shared-slice-read-y : tie.Need-shared-slice-read-y Inv-loop μ-loop
-shared-slice-read-y c = omega arith
-
-returns-2 : tie.Need-returns-2 Inv-loop μ-loop
-returns-2 c =
-    let s = c .before .before .before .before .before .before .args in
-    let l = c .before .before .before .before .before .loop in
-    sym (laws.before-less (s .a .now) (s .b .now) (l .i) (c .before .before .before .before .loop-test .taken) (c .before .before .before .if1 .left) (c .if2 .taken)) ∙ l .inv
-
-returns-3 : tie.Need-returns-3 Inv-loop μ-loop
-returns-3 c =
-    let s = c .before .before .before .before .before .before .before .args in
-    let l = c .before .before .before .before .before .before .loop in
-    sym (laws.before-more (s .a .now) (s .b .now) (l .i) (c .before .before .before .before .before .loop-test .taken) (c .before .before .before .before .if1 .left) (c .if3 .taken)) ∙ l .inv
+    let s = c .before .before .before .before .before .before .before .before .args in
+    let l = c .before .before .before .before .loop in
+    let end = c .before .before .before .before .before .lesser .ensures in
+    let in-both = c .before .before .before .loop-test .taken in
+    sym (laws.before-other (s .a .now) (s .b .now) (l .i) (omega (arith, end, in-both)) (omega (arith, end, in-both)) (c .if1 .taken)) ∙ l .inv .1
 
 add-i : tie.Need-add-i Inv-loop μ-loop
 add-i c = omega arith
@@ -50,15 +44,19 @@ loop-less c = omega arith
 
 loop-again : tie.Need-loop-again Inv-loop μ-loop
 loop-again c =
-    let s = c .before .before .before .before .before .before .before .args in
-    let l = c .before .before .before .before .before .before .loop in
-    sym (laws.before-step (s .a .now) (s .b .now) (l .i) (c .before .before .before .before .before .loop-test .taken) (c .before .before .before .before .if1 .left) (omega arith)) ∙ l .inv
+    let s = c .before .before .before .before .before .before .before .before .args in
+    let l = c .before .before .before .before .loop in
+    let end = c .before .before .before .before .before .lesser .ensures in
+    let in-both = c .before .before .before .loop-test .taken in (
+      omega (arith, in-both),
+      sym (laws.before-step (s .a .now) (s .b .now) (l .i) (omega (arith, end, in-both)) (omega (arith, end, in-both)) (c .if1 .left)) ∙ l .inv .1,
+    )
 
-returns-4 : tie.Need-returns-4 Inv-loop μ-loop
-returns-4 c =
-    let s = c .before .before .args in
+returns-2 : tie.Need-returns-2 Inv-loop μ-loop
+returns-2 c =
+    let s = c .before .before .before .before .before .args in
     let l = c .before .loop in
-    sym (laws.before-end (s .a .now) (s .b .now) (l .i) (c .loop-test .left)) ∙ l .inv
+    sym (laws.before-over (s .a .now) (s .b .now) (l .i) (omega (arith, c .before .before .lesser .ensures, l .inv .0, c .loop-test .left))) ∙ l .inv .1
 
 pub before-spec : {M : Type 1} → statement M
 before-spec =
@@ -66,13 +64,12 @@ before-spec =
     (tie.spec
     Inv-loop
     μ-loop
+    lesser-requires
     loop-holds
-    returns
     shared-slice-read-x
     shared-slice-read-y
-    returns-2
-    returns-3
+    returns
     add-i
     loop-less
     loop-again
-    returns-4)
+    returns-2)

@@ -1,7 +1,7 @@
 -- `node_sound::node_sound` meets its contract: each way out is a law of the node's words, read as a cell.
 -- Assumes nothing.
-use borrow.Author.Needs.{needs}
 use mathlib.Core.Path.{sym}
+use borrow.Author.Needs.{needs}
 use Rattle.names.proofs.Tests.{passes, fails}
 use Rattle.chart.specs.Env.{chartIn}
 use Rattle.node_sound.proofs.Laws.{test-plain, test-wide, test-unclean, test-node}
@@ -12,35 +12,39 @@ cell-at-requires : tie.Need-cell-at-requires
 cell-at-requires c κs = search needs
 
 plain-node-requires : tie.Need-plain-node-requires
-plain-node-requires c κs = search needs
+plain-node-requires c κs =
+    let start = c .before .before .before .before .before .before .before in
+    (start .pre .3, start .pre .2)
 
 returns : tie.Need-returns
-returns c = λ ns l.
-    let a = c .before .before .before .before .before .before .before .before .args in
+returns c =
+    let a = c .before .before .before .before .before .before .before .before .before .args in
     let e = chartIn (a .chart .now) (a .rule .now) (a .text .now) in
-    let x = c .before .before .cell-at in
-    let p = c .before .plain-node .ensures (c .if1 .taken) in
-    sym (test-plain e (a .ws .now) (a .ks .now) (a .c) (a .i) ns (x .result) (x .ensures) (p .clean) (p .sound (a .rule .now) (a .text .now) ns l))
+    let x = c .before .before .before .cell-at in
+    let quick = c .before .plain-node .ensures in
+    let plain = quick .0 (c .if1 .taken) in
+    (λ ns l. sym (test-plain e (a .ws .now) (a .ks .now) (a .c) (a .i) ns (x .result) (x .ensures) (plain .clean) (plain .sound ns l)), quick .1)
 
 cast-if2 : tie.Need-cast-if2
 cast-if2 c = search needs
 
 returns-2 : tie.Need-returns-2
-returns-2 c = λ ns l.
-    let a = c .before .before .before .before .before .before .before .before .before .before .args in
+returns-2 c =
+    let a = c .before .before .before .before .before .before .before .before .before .before .before .args in
     let e = chartIn (a .chart .now) (a .rule .now) (a .text .now) in
-    let x = c .before .before .before .before .cell-at in
-    sym (test-wide e (a .ws .now) (a .ks .now) (a .c) (a .i) ns (x .result) (x .ensures) (c .if2 .taken))
+    let x = c .before .before .before .before .before .cell-at in
+    (λ ns l. sym (test-wide e (a .ws .now) (a .ks .now) (a .c) (a .i) ns (x .result) (x .ensures) (c .if2 .taken)), c .before .before .before .plain-node .ensures .1)
 
 node-clean-requires : tie.Need-node-clean-requires
 node-clean-requires c κs = search needs
 
 returns-3 : tie.Need-returns-3
-returns-3 c = λ ns l.
-    let a = c .before .before .before .before .before .before .before .before .before .before .before .before .args in
+returns-3 c =
+    let a = c .before .before .before .before .before .before .before .before .before .before .before .before .before .args in
     let e = chartIn (a .chart .now) (a .rule .now) (a .text .now) in
-    let x = c .before .before .before .before .before .before .cell-at in
-    sym (test-unclean e (a .ws .now) (a .ks .now) (a .c) (a .i) ns (x .result) (x .ensures) (fails (c .before .node-clean .ensures) (c .if3 .taken)))
+    let x = c .before .before .before .before .before .before .before .cell-at in
+    let unclean = fails (c .before .node-clean .ensures) (c .if3 .taken) in
+    (λ ns l. sym (test-unclean e (a .ws .now) (a .ks .now) (a .c) (a .i) ns (x .result) (x .ensures) unclean), c .before .before .before .before .before .plain-node .ensures .1)
 
 node-at-requires : tie.Need-node-at-requires
 node-at-requires c κs = search needs
@@ -50,17 +54,15 @@ node-sound-requires c κs = search needs
 
 returns-4 : tie.Need-returns-4
 returns-4 c =
-    let b1 = c .before in
-    let b2 = b1 .before in
-    let b3 = b2 .before in
-    let b8 = b3 .before .before .before .before .before in
-    let b14 = b8 .before .before .before .before .before .before in
-    λ ns l.
-    let a = b14 .args in
+    let start = c .before .before .before .before .before .before .before .before .before .before .before .before .before .before .before in
+    let a = start .args in
     let e = chartIn (a .chart .now) (a .rule .now) (a .text .now) in
-    let x = b8 .cell-at in
-    let clean = passes (b3 .node-clean .ensures) (b2 .if3 .left) in
-    test-node e (a .ws .now) (a .ks .now) (a .c) (a .i) ns (x .result) (x .ensures) (a .n) (b14 .pre .1) clean (b1 .node-at .ensures) (c .node-sound .ensures ns l)
+    let x = c .before .before .before .before .before .before .before .before .before .cell-at in
+    let clean = passes (c .before .before .before .node-clean .ensures) (c .before .before .if3 .left) in
+    let node = c .before .node-at .ensures in (
+      λ ns l. test-node e (a .ws .now) (a .ks .now) (a .c) (a .i) ns (x .result) (x .ensures) (a .n) (start .pre .1) clean node (c .node-sound .ensures ns l),
+      c .before .before .before .before .before .before .before .plain-node .ensures .1,
+    )
 
 pub node-sound-spec : {M : Type 1} → statement M
 node-sound-spec =

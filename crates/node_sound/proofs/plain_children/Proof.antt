@@ -2,7 +2,7 @@
 -- on. The measure is what is left of them.
 -- Assumes nothing.
 use mathlib.Core.Path.{_≡_, refl, sym, ap, _∙_}
-use mathlib.Core.Bool.{_&&_}
+use mathlib.Core.Bool.{_&&_, false≢true}
 use Prim.Native.Nat.{_-_}
 use native.Mathlib.Omega.{arith}
 use borrow.Author.Needs.{needs}
@@ -21,6 +21,9 @@ Inv-loop ks a e n plain₀ i₀ plain i =
 abbrev μ-loop : tie.MeasureT-loop
 μ-loop ks a e n plain₀ i₀ plain i = e - i
 
+returns : tie.Need-returns Inv-loop μ-loop
+returns c = λ t. absurd (false≢true t)
+
 loop-holds : tie.Need-loop-holds Inv-loop μ-loop
 loop-holds c = refl
 
@@ -38,9 +41,9 @@ loop-less c = omega (arith, c .before .before .before .loop-test .taken)
 
 loop-again : tie.Need-loop-again Inv-loop μ-loop
 loop-again c =
-    let a = c .before .before .before .before .before .before .args in
+    let a = c .before .before .before .before .before .before .before .args in
     let o = c .before .before .before .before .loop in
-    let other = ap (plainSlot (a .n)) (sym (c .before .before .child-at .ensures)) ∙ fails (c .before .plain-child .ensures) (c .if1 .taken) in
+    let other = ap (plainSlot (a .n)) (sym (c .before .before .child-at .ensures)) ∙ fails (c .before .plain-child .ensures) (c .if2 .taken) in
     o .inv ∙ flag-stop (λ j. plainSlot (a .n) (slotAt (a .ks .now) j)) (o .i) (a .e) (o .plain) (c .before .before .before .loop-test .taken) other
 
 loop-less-2 : tie.Need-loop-less-2 Inv-loop μ-loop
@@ -48,16 +51,16 @@ loop-less-2 c = omega (arith, c .before .before .before .loop-test .taken)
 
 loop-again-2 : tie.Need-loop-again-2 Inv-loop μ-loop
 loop-again-2 c =
-    let a = c .before .before .before .before .before .before .args in
+    let a = c .before .before .before .before .before .before .before .args in
     let o = c .before .before .before .before .loop in
-    let plain = ap (plainSlot (a .n)) (sym (c .before .before .child-at .ensures)) ∙ passes (c .before .plain-child .ensures) (c .if1 .left) in
+    let plain = ap (plainSlot (a .n)) (sym (c .before .before .child-at .ensures)) ∙ passes (c .before .plain-child .ensures) (c .if2 .left) in
     o .inv ∙ flag-step (λ j. plainSlot (a .n) (slotAt (a .ks .now) j)) (o .i) (a .e) (o .plain) (c .before .before .before .loop-test .taken) plain
 
-returns : tie.Need-returns Inv-loop μ-loop
-returns c =
-    let a = c .before .before .before .args in
+returns-2 : tie.Need-returns-2 Inv-loop μ-loop
+returns-2 c =
+    let a = c .before .before .before .before .args in
     let o = c .before .loop in
-    sym (o .inv ∙ flag-end (λ j. plainSlot (a .n) (slotAt (a .ks .now) j)) (o .i) (a .e) (o .plain) (c .loop-test .left))
+    λ t. o .inv ∙ (flag-end (λ j. plainSlot (a .n) (slotAt (a .ks .now) j)) (o .i) (a .e) (o .plain) (c .loop-test .left) ∙ t)
 
 pub plain-children-spec : {M : Type 1} → statement M
 plain-children-spec =
@@ -65,6 +68,7 @@ plain-children-spec =
     (tie.spec
     Inv-loop
     μ-loop
+    returns
     loop-holds
     child-at-requires
     add-i
@@ -73,4 +77,4 @@ plain-children-spec =
     loop-again
     loop-less-2
     loop-again-2
-    returns)
+    returns-2)

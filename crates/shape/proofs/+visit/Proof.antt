@@ -107,8 +107,8 @@ visit-root-of-requires t c κs =
     let held-at = c .before .before .before .before .before .before .before .before .held-at in
     let kind = c .before .before .before .before .before .before .kind in
     let s = c .before .before .before .before .before .before .before .before .before .before .before .before .before .before .before .before .before .pre .1 in
-    let run = laws.in-run s (held-at .ensures) (kind .given .1) (c .before .before .loop .inv .low) (c .before .loop-test .taken) in
-    laws.kid-known s run (c .kid-at .ensures)
+    let run = laws.in-run (s .falls) (s .node) (held-at .ensures) (kind .given .1) (c .before .before .loop .inv .low) (c .before .loop-test .taken) in
+    laws.kid-known (s .falls) (s .node) run (c .kid-at .ensures)
 
 visit-visit-requires : (t : ℕ) → visit-lts.Need-visit-requires (visit-claims t) (visit-at t) visit.Post visit-Inv-loop visit-μ-loop
 visit-visit-requires t c κs =
@@ -121,7 +121,7 @@ visit-visit-requires t c κs =
     let s = c .before .before .before .before .before .before .before .before .before .before .before .before .before .before .before .before .before .before .before in
     let p = s .pre .1 in
     let inv = c .before .before .before .before .loop .inv in
-    let run = laws.in-run p (held-at .ensures) (kind .given .1) (inv .low) (loop-test .taken) in
+    let run = laws.in-run (p .falls) (p .node) (held-at .ensures) (kind .given .1) (inv .low) (loop-test .taken) in
     let kid = c .before .root-of .ensures ∙ ap (rootOf (s .args .roots .now)) (c .before .before .kid-at .ensures) in
     let new = sym (at .ensures) ∙ if2 .left in
     let less = laws.fresh-less _ _ (p .marked) (laws.mark-small p) (rw (put .ensures) at inv) (p .node) new in
@@ -138,7 +138,7 @@ visit-returns-4 t c =
     let s = c .before .before .before .before .before .before .before .before .before .before .before .before .before .before .before .before .before .before .before .before .before in
     let p = s .pre .1 in
     let inv = c .before .before .before .before .before .before .loop .inv in
-    let run = laws.in-run p (held-at .ensures) (kind .given .1) (inv .low) (loop-test .taken) in
+    let run = laws.in-run (p .falls) (p .node) (held-at .ensures) (kind .given .1) (inv .low) (loop-test .taken) in
     let kid = root-of .ensures ∙ ap (rootOf (s .args .roots .now)) (kid-at .ensures) in
     laws.visit-failed _ _ (p .marked) (laws.mark-small p) (rw (put .ensures) at inv) run kid (not-true _ (c .if3 .taken)) (c .before .visit .ensures)
 
@@ -171,7 +171,7 @@ visit-returns-5 t c =
     let inv = rw (c .before .before .before .before .before .before .before .before .before .before .put .ensures) at (c .before .before .before .loop .inv) in
     let held-at = c .before .before .before .before .before .before .before .before .before .held-at in
     let kind = c .before .before .before .before .before .before .before .kind in
-    let all = laws.run-done p (held-at .ensures) (kind .given .1) (c .before .before .loop-test .left) in
+    let all = laws.run-done (p .falls) (p .node) (held-at .ensures) (kind .given .1) (c .before .before .loop-test .left) in
     rw (c .put3 .ensures) (laws.visit-passed _ _ (p .marked) (laws.mark-small p) inv (laws.kids-closed (p .falls)) (p .node) all)
 
 pub +visit-spec : {M : Type 1} → statement M
