@@ -1,9 +1,18 @@
 // "`find` follows parents, combining inversions by exclusive or. `find_mut` also points every node on the path straight at the root, keeping each
-// node's meaning." Both look at node words alone, and take as many steps at most as there are nodes.
+// node's meaning." Both look at node words alone, and take as many steps at most as there are nodes. Beside them what a walk over roots keeps for each
+// node: a mark, and its root once that is found.
+ghost use mathlib.Core.Path.{_≡_};
+ghost use mathlib.Core.Bool.{not};
+ghost use Prim.Native.Nat.{_<_};
+ghost use lib.Dec.{eqb};
+ghost use lib.ListN.{getD, set};
+ghost use Rattle.scope.specs.Types.{tyOf};
 ghost use Rattle.layout.specs.Meaning.{Linked};
 ghost use Rattle.roots.specs.Found.{Found, FoundMut, Near};
+ghost use Rattle.roots.specs.Kept.{keptWord, Kept, Cached};
 use layout::TypeNode;
 use types::Type;
+use types::TypeIdx;
 
 // The root of a type that is near it.
 pub enum Nearby {
@@ -64,4 +73,99 @@ pub fn near(ws: &[u32], n: u32, t: Type) -> Nearby
         return Nearby::Is(parent.invert_if(inv));
     };
     Nearby::Far
+}
+
+// A mark for each node is a lent byte: nonzero is a mark, "absent means no".
+pub fn is_marked(marks: &[u8], i: TypeIdx) -> bool
+    ensures { λ r. ⌜ r ≡ not (eqb (getD (now (marks .entry)) (i .0) 0) 0) ⌝ }
+{
+    let at = i.0 as usize;
+    if at < marks.len() {
+        return marks[at] != 0;
+    }
+    false
+}
+
+pub fn set_mark(marks: &mut [u8], i: TypeIdx)
+    ensures { λ _. ⌜ now (marks .exit) ≡ set (now (marks .entry)) (i .0) 1 ⌝ }
+{
+    let at = i.0 as usize;
+    if at < marks.len() {
+        marks[at] = 1;
+    }
+}
+
+// A cache has a number for each node: 0, or its root's number and 1, and KEPT_INV more where the root is to be inverted.
+const KEPT_INV: u32 = 32768;
+
+fn wide(x: u16) -> u32
+    ensures { λ r. ⌜ (r ≡ x) × (r < 65536) ⌝ }
+{
+    x as u32
+}
+
+// Node i's root by a cache, if it is there.
+fn kept(cache: &[u16], i: TypeIdx) -> Nearby
+    ensures { λ r. ⌜ Kept (getD (now (cache .entry)) (i .0) 0) r ⌝ }
+{
+    let at = i.0 as usize;
+    if cache.len() <= at {
+        return Nearby::Far;
+    }
+    let was = wide(cache[at]);
+    if was == 0 {
+        return Nearby::Far;
+    }
+    if KEPT_INV < was {
+        return Nearby::Is(Type(was - 1 - KEPT_INV).inverse());
+    }
+    Nearby::Is(Type(was - 1))
+}
+
+// The number of a root in a cache; 0 of one that is too large for it.
+fn kept_word(root: Type) -> u16
+    ensures { λ r. ⌜ r ≡ keptWord (tyOf (root .0)) ⌝ }
+{
+    let i = root.idx().0;
+    if KEPT_INV <= i + 1 {
+        return 0;
+    }
+    if root.inv().0 {
+        return (i + 1 + KEPT_INV) as u16;
+    }
+    (i + 1) as u16
+}
+
+// Past the end nothing is kept.
+fn keep(cache: &mut [u16], i: TypeIdx, root: Type)
+    ensures { λ _. ⌜ now (cache .exit) ≡ set (now (cache .entry)) (i .0) (keptWord (tyOf (root .0))) ⌝ }
+{
+    let at = i.0 as usize;
+    if at < cache.len() {
+        cache[at] = kept_word(root);
+    }
+}
+
+fn find_kept(ws: &[u32], n: u32, cache: &mut [u16], t: Type) -> Type
+    requires { ⌜ Linked (now ws) n × Cached (now ws) n (now cache) ⌝ }
+    ensures { λ r. ⌜ Found (now (ws .entry)) n (t .0) (r .0) × Cached (now (ws .entry)) n (now (cache .exit)) ⌝ }
+{
+    let i = t.idx();
+    let Nearby::Is(known) = kept(cache, i) else {
+        let root = find(ws, n, Type(i.0));
+        keep(cache, i, root);
+        return root.invert_if(t.inv());
+    };
+    known.invert_if(t.inv())
+}
+
+// The same as `find` where much is asked for and nothing changes: a node's path is followed once, whatever the cache's length.
+pub fn find_by(ws: &[u32], n: u32, cache: &mut [u16], t: Type) -> Type
+    requires { ⌜ Linked (now ws) n × Cached (now ws) n (now cache) ⌝ }
+    ensures { λ r. ⌜ Found (now (ws .entry)) n (t .0) (r .0) × Cached (now (ws .entry)) n (now (cache .exit)) ⌝ }
+{
+    let TypeNode::Child(_) = layout::node_at(ws, n, t.idx()) else {
+        return t;
+    };
+    find_kept(ws, n, cache, t)
 }

@@ -52,12 +52,12 @@ clear {ws} {ks} {n} w = clear-zeros (decode ws ks n) MAX-NODES (omega (arith, le
 
 -- `occurs`
 
-occurs-same : (n : ℕ) (ns : List Node) (x y : ℕ) → 0 < n → y ≡ x → true ≡ occurs n ns x y
+pub occurs-same : (n : ℕ) (ns : List Node) (x y : ℕ) → 0 < n → y ≡ x → true ≡ occurs n ns x y
 unfolding occurs
 occurs-same zero ns x y h e = absurd (omega arith)
 occurs-same (suc f) ns x y h e = rw (eq-eqb y x e)
 
-occurs-leaf : (n : ℕ) (ns : List Node) (x y : ℕ) → 0 < n → (y ≡ x → ⊥) → kidsOf (stateOf (at ns y)) ≡ [] → false ≡ occurs n ns x y
+pub occurs-leaf : (n : ℕ) (ns : List Node) (x y : ℕ) → 0 < n → (y ≡ x → ⊥) → kidsOf (stateOf (at ns y)) ≡ [] → false ≡ occurs n ns x y
 unfolding occurs
 occurs-leaf zero ns x y h e z = absurd (omega arith)
 occurs-leaf (suc f) ns x y h e z = rw (ne-eqb y x e, z)

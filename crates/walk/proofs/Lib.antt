@@ -1,3 +1,4 @@
 -- The laws that belong to no one function
 pub mod Laws
 pub mod Answers
+pub mod LookLaws

@@ -1,6 +1,6 @@
--- What a kind tells without its children: whether a type can be its own inverse, and the answer of `get_mod`.
+-- What a kind tells without its children: whether it has any, whether a type can be its own inverse, and the answer of `get_mod`.
 use mathlib.Core.List.{List}
-use mathlib.Core.Bool.{Bool, false, _||_}
+use mathlib.Core.Bool.{Bool, true, false, _||_}
 use Prim.Native.Nat.{ℕ}
 use lib.Dec.{eqb}
 use lib.ListN.{getD}
@@ -15,6 +15,11 @@ use Rattle.layout.specs.declared.Held.{Held}
 use Rattle.layout.specs.declared.Held.the-variants as held
 use Rattle.walk.specs.declared.Mod.{Mod}
 use Rattle.walk.specs.declared.Mod.the-variants.{Nothing, Def, Error}
+
+-- a root without children
+abbrev pub leafBy : Held → Bool
+leafBy (held.Is i k) = eqb (k .count) 0
+leafBy held.Nothing = true
 
 -- a kind that lets a type be its own inverse, children apart
 abbrev pub goodKind : Bool → Kind → Bool

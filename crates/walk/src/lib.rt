@@ -1,24 +1,31 @@
 // One walk that marks each root it meets: `find_related`, and by it `occurs` and `self_inverse`. Beside it what one root tells: `is_nil`, and
 // `get_mod`, which looks through Refs. Each gives what scope's definition gives of the n nodes in ws, whose children lie in ks.
 ghost use mathlib.Core.Path.{_≡_};
-ghost use mathlib.Core.Bool.{not};
-ghost use Prim.Native.Nat.{_≤_};
-ghost use lib.Dec.{eqb};
-ghost use lib.ListN.{length, getD, set};
+ghost use Prim.Native.Nat.{_≤_, _<_};
+ghost use lib.ListN.{length};
 ghost use Rattle.scope.specs.Base.{all, from};
 ghost use Rattle.scope.specs.Types.{tyOf};
 ghost use Rattle.scope.specs.Unify.{occurs, selfInverseOf};
 ghost use Rattle.scope.specs.Force.{hasDef, relatedF, findRelated};
 ghost use Rattle.layout.specs.Words.{nodeWords, decode};
-ghost use Rattle.layout.specs.Meaning.{readAt, heldIn, Linked};
+ghost use Rattle.layout.specs.Meaning.{readAt, heldIn, kindMeans, Linked};
+ghost use Rattle.roots.specs.Kept.{Cached};
 ghost use Rattle.chart.specs.Words.{recordsOf};
-ghost use Rattle.walk.specs.Read.{goodKind, goodBy, goodAt, modMeans, modBy};
-ghost use Rattle.walk.specs.Asks.{Stands, Occurs, Inverses, Nil, Modded};
+ghost use Rattle.walk.specs.Read.{leafBy, goodKind, goodBy, goodAt, modMeans, modBy};
+ghost use Rattle.walk.specs.Asks.{Stands, Looked, Occurs, Inverses, Nil, Modded};
 use layout::Held;
 use layout::Kind;
+use roots::Nearby;
 use scope::MAX_NODES;
 use types::Type;
 use types::TypeIdx;
+
+// What a look at a kind's children tells of a node: it is the root of one, or it is nowhere below, or only a walk can tell.
+enum Glance {
+    Met,
+    Clear,
+    Deep,
+}
 
 // get_mod's answer: no definition, a definition's def number, or an error.
 pub enum Mod {
@@ -27,47 +34,31 @@ pub enum Mod {
     Error,
 }
 
-// Nonzero is a mark; past the end there is none.
-fn is_marked(marks: &[u8], i: TypeIdx) -> bool
-    ensures { λ r. ⌜ r ≡ not (eqb (getD (now (marks .entry)) (i .0) 0) 0) ⌝ }
-{
-    let at = i.0 as usize;
-    if at < marks.len() {
-        return marks[at] != 0;
-    }
-    false
-}
-
-fn set_mark(marks: &mut [u8], i: TypeIdx)
-    ensures { λ _. ⌜ now (marks .exit) ≡ set (now (marks .entry)) (i .0) 1 ⌝ }
-{
-    let at = i.0 as usize;
-    if at < marks.len() {
-        marks[at] = 1;
-    }
-}
-
-// The walk from t: an unmarked root is marked, then its children are walked from, one level less deep.
-fn mark(ws: &[u32], ks: &[u32], n: u32, marks: &mut [u8], t: Type, depth: u32)
-    requires { ⌜ Stands (now ws) (now ks) n ⌝ }
-    ensures { λ _. ⌜ now (marks .exit) ≡ relatedF depth (decode (now (ws .entry)) (now (ks .entry)) n) (now (marks .entry)) (tyOf (t .0)) ⌝ }
+// The walk from t: an unmarked root is marked, then its children are walked from, one level less deep. Of a child whose root is marked there is nothing to do.
+fn mark(ws: &[u32], ks: &[u32], n: u32, cache: &mut [u16], marks: &mut [u8], t: Type, depth: u32)
+    requires { ⌜ Stands (now ws) (now ks) n × Cached (now ws) n (now cache) ⌝ }
+    ensures { λ _. ⌜ (now (marks .exit) ≡ relatedF depth (decode (now (ws .entry)) (now (ks .entry)) n) (now (marks .entry)) (tyOf (t .0)))
+        × Cached (now (ws .entry)) n (now (cache .exit)) ⌝ }
 {
     if depth == 0 {
         return;
     }
-    let root = roots::find(ws, n, t).idx();
-    if is_marked(marks, root) {
+    let root = roots::find_by(ws, n, cache, t).idx();
+    if roots::is_marked(marks, root) {
         return;
     }
-    set_mark(marks, root);
+    roots::set_mark(marks, root);
     let Held::Is(_, kind) = layout::held_at(ws, n, root) else {
         return;
     };
     let mut j: u32 = 0;
     while j < kind.count {
         let kid = layout::child_of(ks, kind, j).ty;
-        mark(ws, ks, n, marks, kid, depth - 1);
         j += 1;
+        let next = roots::find_by(ws, n, cache, kid).idx();
+        if !roots::is_marked(marks, next) {
+            mark(ws, ks, n, cache, marks, kid, depth - 1);
+        }
     }
 }
 
@@ -76,10 +67,54 @@ pub fn find_related(ws: &[u32], ks: &[u32], n: u32, marks: &mut [u8], t: Type)
     requires { ⌜ Stands (now ws) (now ks) n ⌝ }
     ensures { λ _. ⌜ now (marks .exit) ≡ findRelated (decode (now (ws .entry)) (now (ks .entry)) n) (tyOf (t .0)) (now (marks .entry)) ⌝ }
 {
-    mark(ws, ks, n, marks, t, n);
+    let mut cache = [0u16; MAX_NODES];
+    mark(ws, ks, n, &mut cache, marks, t, n);
 }
 
-// Is x the root y, or in what its kind holds? Without children no walk is needed.
+// A root without children.
+fn is_leaf(ws: &[u32], n: u32, i: TypeIdx) -> bool
+    requires { ⌜ nodeWords n ≤ length (now ws) ⌝ }
+    ensures { λ r. ⌜ r ≡ leafBy (heldIn (readAt (now (ws .entry)) n (i .0))) ⌝ }
+{
+    match layout::held_at(ws, n, i) {
+        Held::Is(_, kind) => kind.count == 0,
+        Held::Nothing => true,
+    }
+}
+
+// A look at a kind's children, which ends where one is far from its root or has children itself.
+fn look(ws: &[u32], ks: &[u32], n: u32, x: TypeIdx, kind: Kind) -> Glance
+    requires { ⌜ Stands (now ws) (now ks) n × (1 < n) ⌝ }
+    ensures { λ r. ⌜ Looked (decode (now (ws .entry)) (now (ks .entry)) n) n (x .0) (kindMeans (now (ks .entry)) kind .kids) r ⌝ }
+{
+    let mut j: u32 = 0;
+    while j < kind.count {
+        let kid = layout::child_of(ks, kind, j).ty;
+        j += 1;
+        let Nearby::Is(root) = roots::near(ws, n, kid) else {
+            return Glance::Deep;
+        };
+        let i = root.idx();
+        if i.0 == x.0 {
+            return Glance::Met;
+        }
+        if !is_leaf(ws, n, i) {
+            return Glance::Deep;
+        }
+    }
+    Glance::Clear
+}
+
+fn occurs_deep(ws: &[u32], ks: &[u32], n: u32, x: TypeIdx, y: Type) -> bool
+    requires { ⌜ Occurs (now ws) (now ks) n (x .0) (y .0) ⌝ }
+    ensures { λ r. ⌜ r ≡ occurs n (decode (now (ws .entry)) (now (ks .entry)) n) (x .0) (tyOf (y .0) .idx) ⌝ }
+{
+    let mut marks = [0u8; MAX_NODES];
+    find_related(ws, ks, n, &mut marks, y);
+    roots::is_marked(&marks, x)
+}
+
+// Is x the root y, or in what its kind holds? Where that has no children of its own no walk is needed.
 pub fn occurs(ws: &[u32], ks: &[u32], n: u32, x: TypeIdx, y: Type) -> bool
     requires { ⌜ Occurs (now ws) (now ks) n (x .0) (y .0) ⌝ }
     ensures { λ r. ⌜ r ≡ occurs n (decode (now (ws .entry)) (now (ks .entry)) n) (x .0) (tyOf (y .0) .idx) ⌝ }
@@ -94,9 +129,11 @@ pub fn occurs(ws: &[u32], ks: &[u32], n: u32, x: TypeIdx, y: Type) -> bool
     if kind.count == 0 {
         return false;
     }
-    let mut marks = [0u8; MAX_NODES];
-    find_related(ws, ks, n, &mut marks, y);
-    is_marked(&marks, x)
+    match look(ws, ks, n, x, kind) {
+        Glance::Met => true,
+        Glance::Clear => false,
+        Glance::Deep => occurs_deep(ws, ks, n, x, y),
+    }
 }
 
 // A kind that lets a type be its own inverse, children apart; a Param as param says.
@@ -128,7 +165,7 @@ fn all_good(ws: &[u32], n: u32, marks: &[u8], param: bool) -> bool
     while i < n {
         let at = TypeIdx(i);
         i += 1;
-        if is_marked(marks, at) {
+        if roots::is_marked(marks, at) {
             if !good_at(ws, n, at, param) {
                 return false;
             }
@@ -137,11 +174,21 @@ fn all_good(ws: &[u32], n: u32, marks: &[u8], param: bool) -> bool
     true
 }
 
-// "Holds where the root has a self-dual kind and it holds of every child": where every root that the type leads to is good.
+// "Holds where the root has a self-dual kind and it holds of every child": where every root that the type leads to is good. What the root alone tells needs no walk.
 pub fn self_inverse(ws: &[u32], ks: &[u32], n: u32, t: Type, param: bool) -> bool
     requires { ⌜ Inverses (now ws) (now ks) n (t .0) ⌝ }
     ensures { λ r. ⌜ r ≡ selfInverseOf (decode (now (ws .entry)) (now (ks .entry)) n) (tyOf (t .0)) param ⌝ }
 {
+    let root = roots::find(ws, n, t).idx();
+    let Held::Is(_, kind) = layout::held_at(ws, n, root) else {
+        return false;
+    };
+    if !good_kind(kind, param) {
+        return false;
+    }
+    if kind.count < 1 {
+        return true;
+    }
     let mut marks = [0u8; MAX_NODES];
     find_related(ws, ks, n, &mut marks, t);
     all_good(ws, n, &marks, param)

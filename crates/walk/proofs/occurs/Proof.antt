@@ -1,9 +1,10 @@
--- `walk::occurs` meets its contract: the root itself, a root without children, and else what one walk from no marks tells.
+-- `walk::occurs` meets its contract: the root itself, a root without children, what a look at its children tells, and else what a walk does.
 -- Assumes nothing.
 use mathlib.Core.Path.{refl}
 use native.Mathlib.Omega.{arith}
 use Rattle.walk.proofs.Laws.{kid-none}
-use Rattle.walk.proofs.Answers.{occurs-is, occurs-none, occurs-walk}
+use Rattle.walk.proofs.Answers.{occurs-is, occurs-none}
+use Rattle.walk.proofs.LookLaws.{two-nodes, occurs-met, occurs-clear}
 use borrow.Author.Needs.{needs}
 use Rattle.walk.proofs.occurs.Statement.{statement}
 use Rattle.walk.proofs.occurs.Tie as tie
@@ -25,36 +26,62 @@ enum-told c = search needs
 
 returns-2 : tie.Need-returns-2
 returns-2 c =
-    let k = c .before .before in
-    let s = k .before .before .before .before in
-    occurs-none (s .before .before .before .pre) (s .idx .ensures) (k .before .if1 .left) (k .held-at .ensures) (c .enum-told .given .1) refl
+    let at-held-at = c .before .before in
+    let at-if1 = at-held-at .before in
+    let at-idx = at-if1 .before .before .before in
+    let start = at-idx .before .before .before in
+    occurs-none (start .pre) (at-idx .idx .ensures) (at-if1 .if1 .left) (at-held-at .held-at .ensures) (c .enum-told .given .1) refl
 
 returns-3 : tie.Need-returns-3
 returns-3 c =
-    let kind = c .before .before .before .kind in
-    let k = c .before .before .before .before .before in
-    let s = k .before .before .before .before in
-    occurs-none (s .before .before .before .pre) (s .idx .ensures) (k .before .if1 .left) (k .held-at .ensures) (kind .given .1)
-    (kid-none (s .before .before .before .args .ks .now) _ 0 (omega (arith, c .if2 .taken)))
+    let at-kind = c .before .before .before in
+    let at-held-at = at-kind .before .before in
+    let at-if1 = at-held-at .before in
+    let at-idx = at-if1 .before .before .before in
+    let start = at-idx .before .before .before in
+    occurs-none (start .pre) (at-idx .idx .ensures) (at-if1 .if1 .left) (at-held-at .held-at .ensures) (at-kind .kind .given .1) (kid-none (start .args .ks .now) _ 0 (omega (arith, c .if2 .taken)))
 
-slice-aggregate-find-related : tie.Need-slice-aggregate-find-related
-slice-aggregate-find-related c = search needs
+look-requires : tie.Need-look-requires
+look-requires c κs =
+    let at-if1 = c .before .before .before .before .before .before in
+    let at-idx = at-if1 .before .before .before in
+    let start = at-idx .before .before .before in
+    (start .pre .walks .stands, two-nodes (start .pre) (at-idx .idx .ensures) (at-if1 .if1 .left))
 
-find-related-requires : tie.Need-find-related-requires
-find-related-requires c κs = search needs
+enum-told-2 : tie.Need-enum-told-2
+enum-told-2 c = search needs
 
-slice-aggregate-is-marked : tie.Need-slice-aggregate-is-marked
-slice-aggregate-is-marked c = search needs
+enum-told-3 : tie.Need-enum-told-3
+enum-told-3 c = search needs
 
-is-marked-requires : tie.Need-is-marked-requires
-is-marked-requires c κs = search needs
+enum-told-4 : tie.Need-enum-told-4
+enum-told-4 c = search needs
+
+occurs-deep-requires : tie.Need-occurs-deep-requires
+occurs-deep-requires c κs = search needs
 
 returns-4 : tie.Need-returns-4
 returns-4 c =
-    let f = c .before .before .before in
-    let k = f .before .before .before .before .before .before .before in
-    let s = k .before .before .before .before in
-    occurs-walk (s .before .before .before .pre) (f .find-related .ensures) (c .is-marked .ensures)
+    let at-look = c .before .before in
+    let at-kind = at-look .before .before .before .before in
+    let at-held-at = at-kind .before .before in
+    let at-if1 = at-held-at .before in
+    let at-idx = at-if1 .before .before .before in
+    let start = at-idx .before .before .before in
+    occurs-met (start .pre) (at-idx .idx .ensures) (at-if1 .if1 .left) (at-held-at .held-at .ensures) (at-kind .kind .given .1) (at-look .look .ensures) (c .enum-told2 .given .1)
+
+returns-5 : tie.Need-returns-5
+returns-5 c =
+    let at-look = c .before .before in
+    let at-kind = at-look .before .before .before .before in
+    let at-held-at = at-kind .before .before in
+    let at-if1 = at-held-at .before in
+    let at-idx = at-if1 .before .before .before in
+    let start = at-idx .before .before .before in
+    occurs-clear (start .pre) (at-idx .idx .ensures) (at-if1 .if1 .left) (at-held-at .held-at .ensures) (at-kind .kind .given .1) (at-look .look .ensures) (c .enum-told3 .given .1)
+
+returns-6 : tie.Need-returns-6
+returns-6 c = search needs
 
 pub occurs-spec : {M : Type 1} → statement M
 occurs-spec =
@@ -67,8 +94,11 @@ occurs-spec =
     enum-told
     returns-2
     returns-3
-    slice-aggregate-find-related
-    find-related-requires
-    slice-aggregate-is-marked
-    is-marked-requires
-    returns-4)
+    look-requires
+    enum-told-2
+    enum-told-3
+    enum-told-4
+    occurs-deep-requires
+    returns-4
+    returns-5
+    returns-6)

@@ -1,9 +1,9 @@
--- `walk::is_marked` meets its contract: past the end getD gives 0, which is no mark.
+-- `roots::is_marked` meets its contract: past the end getD gives 0, which is no mark.
 -- Assumes nothing.
 use lib.ListN.{List·getD-eq-default}
 use borrow.Author.Needs.{needs}
-use Rattle.walk.proofs.is_marked.Statement.{statement}
-use Rattle.walk.proofs.is_marked.Tie as tie
+use Rattle.roots.proofs.is_marked.Statement.{statement}
+use Rattle.roots.proofs.is_marked.Tie as tie
 
 cast-at : tie.Need-cast-at
 cast-at c = search needs

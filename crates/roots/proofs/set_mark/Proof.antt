@@ -1,10 +1,10 @@
--- `walk::set_mark` meets its contract: past the end a list with another element is the list.
+-- `roots::set_mark` meets its contract: past the end a list with another element is the list.
 -- Assumes nothing.
 use mathlib.Core.Path.{sym}
 use lib.Seq.{set-out}
 use borrow.Author.Needs.{needs}
-use Rattle.walk.proofs.set_mark.Statement.{statement}
-use Rattle.walk.proofs.set_mark.Tie as tie
+use Rattle.roots.proofs.set_mark.Statement.{statement}
+use Rattle.roots.proofs.set_mark.Tie as tie
 
 cast-at : tie.Need-cast-at
 cast-at c = search needs
