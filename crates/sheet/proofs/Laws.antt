@@ -1,7 +1,9 @@
 -- What the program keeps, from one step to the next.
 -- Assumes nothing.
+use mathlib.Core.Path.{_≡_, refl}
 use mathlib.Core.List.{List, [], _++_}
 use Prim.Native.Nat.{ℕ}
+use lib.ListN.{length}
 use Rattle.append.proofs.Laws.{so-far-start}
 use Rattle.sheet_calls.specs.Sheet.{SheetStore}
 use Rattle.sheet_feed.specs.Fed.{GoesOn}
@@ -18,3 +20,15 @@ goes-more {piece = piece} g s w = record {
   store = rw (g .head, g .nodes, g .kids) s;
   holds = record { line₀ = w .line₀; bs = w .bs ++ piece; so-far = g .so-far (w .line₀) (w .bs) (w .so-far) };
 }
+
+-- the slices are as long as they were
+pub record Long (h₀ ws₀ ks₀ m₀ l₀ t₀ h ws ks m l t : List ℕ) : Type 0 where
+  pub head : length h ≡ length h₀
+  pub nodes : length ws ≡ length ws₀
+  pub kids : length ks ≡ length ks₀
+  pub memory : length m ≡ length m₀
+  pub line : length l ≡ length l₀
+  pub text : length t ≡ length t₀
+
+pub long-same : (h ws ks memory line text : List ℕ) → Long h ws ks memory line text h ws ks memory line text
+long-same h ws ks memory line text = record { head = refl; nodes = refl; kids = refl; memory = refl; line = refl; text = refl }

@@ -1,4 +1,5 @@
-// Program `sheet`: lines from standard input, and what each prints to standard output, in fixed memory. Each line is answered before more is read, so that
+// Program `sheet`: lines from standard input, and what each prints to standard output, in fixed memory: 4 MB are lent to its unify, in which each pair of types
+// has its own entry, so that no input takes long. Each line is answered before more is read, so that
 // it can be used over a pipe or at a terminal. It only reads and writes: what a line is and what it prints is `sheet_feed`'s. Where nobody takes the output
 // any more it ends; a read that fails is told on standard error.
 ghost use mathlib.Core.Path.{_≡_};
@@ -15,6 +16,7 @@ use scope::SHEET_TEXT;
 use sheet_feed::Fed;
 use sheet_feed::LINE_KEPT;
 use sheet_run::SHEET_CHILD_WORDS;
+use sheet_run::SHEET_MEMORY_WORDS;
 use sheet_run::SHEET_NODE_WORDS;
 
 // A text and its newline.
@@ -35,6 +37,7 @@ fn feed_all(
     h: &mut [u32],
     ws: &mut [u32],
     ks: &mut [u32],
+    memory: &mut [u32],
     line: &mut [u8],
     at: usize,
     piece: &[u8],
@@ -50,7 +53,7 @@ fn feed_all(
     let mut left = piece.len();
     while left > 0 {
         let i = piece.len() - left;
-        let f = sheet_feed::feed(h, ws, ks, line, p, &piece[i..], text);
+        let f = sheet_feed::feed(h, ws, ks, memory, line, p, &piece[i..], text);
         match f {
             Fed::More(q) => {
                 return Went::On(q);
@@ -72,6 +75,7 @@ fn turn(
     h: &mut [u32],
     ws: &mut [u32],
     ks: &mut [u32],
+    memory: &mut [u32],
     line: &mut [u8],
     at: usize,
     piece: &mut [u8],
@@ -89,12 +93,12 @@ fn turn(
         return Went::Closed;
     }
     if got == 0 {
-        let n = sheet_feed::feed_end(h, ws, ks, line, at, text);
+        let n = sheet_feed::feed_end(h, ws, ks, memory, line, at, text);
         io::write_all(STDOUT_FILENO, &text[..n]);
         return Went::Closed;
     }
     let n = io::count(got, piece);
-    feed_all(h, ws, ks, line, at, &piece[..n], text)
+    feed_all(h, ws, ks, memory, line, at, &piece[..n], text)
 }
 
 // A proved loop has to end, and nothing says that the input does: so turns are counted down, from a number that no run uses up.
@@ -102,6 +106,7 @@ fn serve(
     h: &mut [u32],
     ws: &mut [u32],
     ks: &mut [u32],
+    memory: &mut [u32],
     line: &mut [u8],
     piece: &mut [u8],
     text: &mut [u8],
@@ -114,7 +119,7 @@ fn serve(
     let mut turns = u64::MAX;
     while turns > 0 {
         turns -= 1;
-        let w = turn(h, ws, ks, line, at, piece, text);
+        let w = turn(h, ws, ks, memory, line, at, piece, text);
         let Went::On(p) = w else {
             return;
         };
@@ -127,8 +132,17 @@ fn main() {
     let mut ws = [0u32; SHEET_NODE_WORDS];
     let mut ks = [0u32; SHEET_CHILD_WORDS];
     sheet_run::start(&mut h, &mut ws, &mut ks);
+    let mut memory = [0u32; SHEET_MEMORY_WORDS];
     let mut line = [0u8; LINE_KEPT];
     let mut piece = [0u8; PIECE];
     let mut text = [0u8; TEXT];
-    serve(&mut h, &mut ws, &mut ks, &mut line, &mut piece, &mut text);
+    serve(
+        &mut h,
+        &mut ws,
+        &mut ks,
+        &mut memory,
+        &mut line,
+        &mut piece,
+        &mut text,
+    );
 }

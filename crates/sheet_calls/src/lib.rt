@@ -20,8 +20,6 @@ use names::NO_NAME;
 use promise::CountAnswer;
 use promise::DoneAnswer;
 use promise::TypeAnswer;
-use recall::ENTRY;
-use recall::HEAD;
 use refusals::NO_REFUSAL;
 use refusals::OUTSIDE;
 use refusals::SHORT;
@@ -32,11 +30,6 @@ use types::Type;
 
 // The words of the entries of a line's types.
 const LIST_WORDS: usize = LINE_TYPES * CHILD_WORDS;
-
-// The words of a memory of so many pairs: a type that is shared and fails deep down is not visited again and again.
-const PAIRS: usize = 2047;
-
-const MEMORY_WORDS: usize = HEAD + ENTRY * PAIRS;
 
 // No fn trait, and four empty sigils.
 fn beside() -> Beside
@@ -132,8 +125,15 @@ pub fn new_over(
     TypeAnswer::Is(make::new_kind(h, ws, ks, plain_head(code), &es[..end]))
 }
 
-// `unify`
-pub fn unify(h: &[u32], ws: &mut [u32], ks: &[u32], a: Type, b: Type) -> UnifyAnswer
+// `unify`, with a lent memory, whatever it holds: a type that is shared and fails deep down is not visited again and again.
+pub fn unify(
+    h: &[u32],
+    ws: &mut [u32],
+    ks: &[u32],
+    memory: &mut [u32],
+    a: Type,
+    b: Type,
+) -> UnifyAnswer
     requires { ⌜ SheetStore (now h) (now ws) (now ks) ⌝ }
     ensures { λ r. ⌜ Promised
         (unifyCall sheetEnv (reads (storeIn (now (h .entry)) (now (ws .entry)) (now (ks .entry)))) (tyOf (a .0)) (tyOf (b .0)))
@@ -144,9 +144,8 @@ pub fn unify(h: &[u32], ws: &mut [u32], ks: &[u32], a: Type, b: Type) -> UnifyAn
     if refused != NO_REFUSAL {
         return UnifyAnswer::Refused(refused);
     }
-    let mut memory = [0u32; MEMORY_WORDS];
-    recall::begin(&mut memory);
-    UnifyAnswer::Is(unify_lists::unify_all(ws, ks, x.nodes, b"", b"", &mut memory, a, b))
+    recall::begin(memory);
+    UnifyAnswer::Is(unify_lists::unify_all(ws, ks, x.nodes, b"", b"", memory, a, b))
 }
 
 // `finish`

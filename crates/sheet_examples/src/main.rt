@@ -2,6 +2,7 @@
 ghost use Rattle.io.specs.Counts.{Counts};
 use libc::STDOUT_FILENO;
 use promise::CountAnswer;
+use sheet_run::SHEET_MEMORY_WORDS;
 
 // No input and no output here is longer.
 const LONGEST: usize = 4096;
@@ -29,13 +30,13 @@ fn file(name: &[u8], ending: &[u8], into: &mut [u8]) -> usize
     n
 }
 
-fn agrees(name: &[u8]) -> bool {
+fn agrees(name: &[u8], memory: &mut [u32]) -> bool {
     let mut input = [0u8; LONGEST];
     let n = file(name, b".in", &mut input);
     let mut expected = [0u8; LONGEST];
     let m = file(name, b".out", &mut expected);
     let mut printed = [0u8; LONGEST];
-    let CountAnswer::Is(k) = sheet_run::run(&input[..n], &mut printed) else {
+    let CountAnswer::Is(k) = sheet_run::run(&input[..n], memory, &mut printed) else {
         return false;
     };
     if LONGEST < k {
@@ -44,11 +45,11 @@ fn agrees(name: &[u8]) -> bool {
     names::same_bytes(&printed[..k], &expected[..m])
 }
 
-fn one(i: usize) {
+fn one(i: usize, memory: &mut [u32]) {
     let mut name = [0u8; 256];
     let n = os::arg(i, &mut name);
     say(&name[..n]);
-    if agrees(&name[..n]) {
+    if agrees(&name[..n], memory) {
         say(b": as it should be\n");
     } else {
         say(b": differs\n");
@@ -57,9 +58,10 @@ fn one(i: usize) {
 
 fn main() {
     let count = os::arg_count();
+    let mut memory = [0u32; SHEET_MEMORY_WORDS];
     let mut i: usize = 1;
     while i < count {
-        one(i);
+        one(i, &mut memory);
         i += 1;
     }
 }

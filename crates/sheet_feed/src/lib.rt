@@ -1,5 +1,6 @@
 // Program `sheet` on an input that comes in pieces, as a pipe or a terminal hands it over: a piece is taken up to the end of the line that it goes on with.
-// What a line that goes over pieces has so far is kept in a buffer of 256 bytes; a line that is longer is bad however long it is.
+// What a line that goes over pieces has so far is kept in a buffer of 256 bytes; a line that is longer is bad however long it is. The memory is lent to each
+// line's unify: any slice, whatever it holds.
 ghost use mathlib.Core.Path.{_≡_};
 ghost use Prim.Native.Nat.{_<_, _≤_};
 ghost use lib.ListN.{length};
@@ -23,6 +24,7 @@ pub fn end_line(
     h: &mut [u32],
     ws: &mut [u32],
     ks: &mut [u32],
+    memory: &mut [u32],
     line: &[u8],
     at: usize,
     text: &mut [u8],
@@ -34,9 +36,9 @@ pub fn end_line(
         (now (line .entry)) at (now (text .entry)) (now (text .exit)) r ⌝ }
 {
     if append::is_full(line, at) {
-        return sheet_line::run_line(h, ws, ks, line, text);
+        return sheet_line::run_line(h, ws, ks, memory, line, text);
     }
-    sheet_line::run_line(h, ws, ks, &line[..at], text)
+    sheet_line::run_line(h, ws, ks, memory, &line[..at], text)
 }
 
 // A piece, up to its first newline. What the line printed, with its newline, stands at the front of `text`.
@@ -44,6 +46,7 @@ pub fn feed(
     h: &mut [u32],
     ws: &mut [u32],
     ks: &mut [u32],
+    memory: &mut [u32],
     line: &mut [u8],
     at: usize,
     piece: &[u8],
@@ -60,9 +63,11 @@ pub fn feed(
     if piece.len() <= e {
         return Fed::More(q);
     }
-    let n = end_line(h, ws, ks, line, q, text);
+    let took = e + 1;
+    let n = end_line(h, ws, ks, memory, line, q, text);
     text[n] = b'\n';
-    Fed::Line(n + 1, e + 1)
+    let printed = n + 1;
+    Fed::Line(printed, took)
 }
 
 // The input ended: "a last line may lack its newline". What it prints, if there is one, stands at the front of `text`; the answer is its length.
@@ -70,6 +75,7 @@ pub fn feed_end(
     h: &mut [u32],
     ws: &mut [u32],
     ks: &mut [u32],
+    memory: &mut [u32],
     line: &[u8],
     at: usize,
     text: &mut [u8],
@@ -82,7 +88,7 @@ pub fn feed_end(
     if at == 0 {
         return 0;
     }
-    let n = end_line(h, ws, ks, line, at, text);
+    let n = end_line(h, ws, ks, memory, line, at, text);
     text[n] = b'\n';
     n + 1
 }

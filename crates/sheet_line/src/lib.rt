@@ -86,7 +86,15 @@ fn made(h: &mut [u32], ws: &mut [u32], ks: &mut [u32], line: Line, types: &[u32]
 }
 
 // A line that makes no type.
-fn asks(h: &[u32], ws: &mut [u32], ks: &[u32], line: Line, types: &[u32], out: &mut [u8]) -> usize
+fn asks(
+    h: &[u32],
+    ws: &mut [u32],
+    ks: &[u32],
+    memory: &mut [u32],
+    line: Line,
+    types: &[u32],
+    out: &mut [u8],
+) -> usize
     requires { ⌜ SheetStore (now h) (now ws) (now ks) ⌝ }
     requires { ⌜ SHEET-TEXT ≤ length (now out) ⌝ }
     requires { ⌜ isMaker line ≡ false ⌝ }
@@ -95,7 +103,7 @@ fn asks(h: &[u32], ws: &mut [u32], ks: &[u32], line: Line, types: &[u32], out: &
 {
     match line {
         Line::Finish => sheet_say::put_done(out, sheet_calls::finish(h, ws, ks)),
-        Line::Unify(a, b) => sheet_say::put_unify(out, sheet_calls::unify(h, ws, ks, a, b)),
+        Line::Unify(a, b) => sheet_say::put_unify(out, sheet_calls::unify(h, ws, ks, memory, a, b)),
         Line::Show(t) => show_line(h, ws, ks, t, out),
         Line::Bad => sheet_say::put_bad(out),
         Line::Var => 0,
@@ -113,6 +121,7 @@ fn do_line(
     h: &mut [u32],
     ws: &mut [u32],
     ks: &mut [u32],
+    memory: &mut [u32],
     line: Line,
     types: &[u32],
     out: &mut [u8],
@@ -128,11 +137,19 @@ fn do_line(
         let t = made(h, ws, ks, line, types);
         return sheet_say::put_type(out, t);
     }
-    asks(h, ws, ks, line, types, out)
+    asks(h, ws, ks, memory, line, types, out)
 }
 
-// One line on the store that the slices hold. What it prints, without its newline, stands at the front of `out`; the answer is its length.
-pub fn run_line(h: &mut [u32], ws: &mut [u32], ks: &mut [u32], line: &[u8], out: &mut [u8]) -> usize
+// One line on the store that the slices hold. What it prints, without its newline, stands at the front of `out`; the answer is its length. The memory is any slice,
+// whatever it holds: the longer it is, the more pairs of types a unify need not visit again.
+pub fn run_line(
+    h: &mut [u32],
+    ws: &mut [u32],
+    ks: &mut [u32],
+    memory: &mut [u32],
+    line: &[u8],
+    out: &mut [u8],
+) -> usize
     requires { ⌜ SheetStore (now h) (now ws) (now ks) ⌝ }
     requires { ⌜ SHEET-TEXT ≤ length (now out) ⌝ }
     ensures { λ r. ⌜ Ran (storeIn (now (h .entry)) (now (ws .entry)) (now (ks .entry))) (parse (now (line .entry)))
@@ -140,5 +157,5 @@ pub fn run_line(h: &mut [u32], ws: &mut [u32], ks: &mut [u32], line: &[u8], out:
 {
     let mut types = [0u32; LINE_TYPES];
     let l = sheet_lines::parse(line, &mut types);
-    do_line(h, ws, ks, l, &types, out)
+    do_line(h, ws, ks, memory, l, &types, out)
 }

@@ -8,13 +8,13 @@ use native.Mathlib.Omega.{arith}
 use borrow.Author.Tests.{lt-ltb, le-ltb, le-leb, lt-leb}
 use lib.ListN.{length, take, drop, drop-of-length-le}
 use lib.Seq.{take-at}
-use Rattle.scope.specs.Limits.{SHEET-NODES, SHEET-CHILDREN}
+use Rattle.scope.specs.Limits.{SHEET-NODES, SHEET-CHILDREN, SHEET-TEXT}
 use Rattle.scope.specs.Nodes.{Store, opened}
 use Rattle.scope.specs.Refusals.{SHORT}
 use Rattle.scope.specs.Calls.{printedText}
 use Rattle.scope.specs.Sheet.{Line, sheetEnv, sheetStore, lines, parse, sheetLine, sheetLines, sheet}
 use Rattle.scope.proofs.SoundKept.{opened-facts}
-use Rattle.layout.specs.Words.{storeIn}
+use Rattle.layout.specs.Words.{HEAD-WORDS, nodeWords, childWords, storeIn}
 use Rattle.store.specs.Holds.{Became}
 use Rattle.sheet_lines.specs.Places.{nextPlace}
 use Rattle.sheet_lines.proofs.Laws.{lines-turn, lines-end}
@@ -55,6 +55,14 @@ start-on s i e r l h q = go (decLe (length s) e)
     go : Dec (length s ≤ e) → i < r
     go (yes k) = omega (arith, q ∙ start-past s e k)
     go (no k) = omega (arith, q ∙ start-inside s e (omega (arith, k)))
+
+-- the arrays, and the memory that is lent, are as long as they were
+pub record Long (m₀ m h ws ks t : List ℕ) : Type 0 where
+  pub memory : length m ≡ length m₀
+  pub head : length h ≡ HEAD-WORDS
+  pub nodes : length ws ≡ nodeWords SHEET-NODES
+  pub kids : length ks ≡ childWords SHEET-CHILDREN
+  pub text : length t ≡ SHEET-TEXT
 
 -- a line's text is what stands in front
 pub ran-text : {s : Store} {l : Line} {h ws ks h′ ws′ ks′ out out′ : List ℕ} {n : ℕ} → Ran s l h ws ks h′ ws′ ks′ out out′ n → take n out′ ≡ sheetLine s l .bytes

@@ -12,6 +12,8 @@ use layout::CHILD_WORDS;
 use layout::HEAD_WORDS;
 use layout::NODE_WORDS;
 use promise::CountAnswer;
+use recall::ENTRY;
+use recall::HEAD;
 use refusals::SHORT;
 use scope::SHEET_CHILDREN;
 use scope::SHEET_NODES;
@@ -21,6 +23,9 @@ use scope::SHEET_TEXT;
 pub const SHEET_NODE_WORDS: usize = NODE_WORDS * SHEET_NODES;
 
 pub const SHEET_CHILD_WORDS: usize = CHILD_WORDS * SHEET_CHILDREN;
+
+// The words of a memory with an entry for each pair of types, as `recall::words_for` says them: a type is a node or its inverse.
+pub const SHEET_MEMORY_WORDS: usize = HEAD + ENTRY * (2 * SHEET_NODES) * (2 * SHEET_NODES);
 
 // The store before the first line: "`sheet` opens 256 nodes and 1,024 children", whatever the slices held.
 pub fn start(h: &mut [u32], ws: &mut [u32], ks: &mut [u32])
@@ -37,8 +42,9 @@ fn next_start(input: &[u8], e: usize) -> usize
     if e < input.len() { e + 1 } else { e }
 }
 
-// A whole input, from bytes to bytes. Where the output does not fit, `out` is filled with its first bytes, as a printer's buffer is.
-pub fn run(input: &[u8], out: &mut [u8]) -> CountAnswer
+// A whole input, from bytes to bytes, with a memory for its unify, whatever it holds. Where the output does not fit, `out` is filled with its first bytes, as a
+// printer's buffer is.
+pub fn run(input: &[u8], memory: &mut [u32], out: &mut [u8]) -> CountAnswer
     ensures { λ r. ⌜ PrintPromised (printedText sheetStore (sheet (now (input .entry))) (now (out .entry))) (countReply r) sheetStore (now (out .exit)) ⌝ }
 {
     let mut h = [0u32; HEAD_WORDS];
@@ -50,7 +56,7 @@ pub fn run(input: &[u8], out: &mut [u8]) -> CountAnswer
     let mut i: usize = 0;
     while i < input.len() {
         let e = sheet_lines::line_end(input, i);
-        let n = sheet_line::run_line(&mut h, &mut ws, &mut ks, &input[i..e], &mut text);
+        let n = sheet_line::run_line(&mut h, &mut ws, &mut ks, memory, &input[i..e], &mut text);
         let p = append::put(out, at, &text[..n]);
         at = append::put_byte(out, p, b'\n');
         i = next_start(input, e);

@@ -1,6 +1,11 @@
 -- `sheet::main` is safe and ends: the arrays are as long as the store, the line and a text need.
 -- Assumes nothing.
+use mathlib.Core.Path.{sym}
+use Prim.Native.Nat.{ℕ}
+use lib.ListN.{length-replicate}
 use borrow.Author.Needs.{needs}
+use Rattle.scope.specs.Limits.{SHEET-NODES}
+use Rattle.recall.specs.Memory.{wordsFor}
 use Rattle.sheet.proofs.main.Statement.{statement}
 use Rattle.sheet.proofs.main.Tie as tie
 
@@ -26,7 +31,7 @@ slice-aggregate-serve-3 : tie.Need-slice-aggregate-serve-3
 slice-aggregate-serve-3 c = search needs
 
 slice-aggregate-serve-4 : tie.Need-slice-aggregate-serve-4
-slice-aggregate-serve-4 c = search needs
+slice-aggregate-serve-4 c = sym (length-replicate {A = ℕ} (wordsFor SHEET-NODES) 0)
 
 slice-aggregate-serve-5 : tie.Need-slice-aggregate-serve-5
 slice-aggregate-serve-5 c = search needs
@@ -34,8 +39,11 @@ slice-aggregate-serve-5 c = search needs
 slice-aggregate-serve-6 : tie.Need-slice-aggregate-serve-6
 slice-aggregate-serve-6 c = search needs
 
+slice-aggregate-serve-7 : tie.Need-slice-aggregate-serve-7
+slice-aggregate-serve-7 c = search needs
+
 serve-requires : tie.Need-serve-requires
-serve-requires c κs = (c .before .before .before .before .before .before .before .before .before .start .ensures .1, (search needs, search needs))
+serve-requires c κs = (c .before .before .before .before .before .before .before .before .before .before .start .ensures .1, (search needs, search needs))
 
 returns : tie.Need-returns
 returns c = search needs
@@ -54,5 +62,6 @@ main-spec =
     slice-aggregate-serve-4
     slice-aggregate-serve-5
     slice-aggregate-serve-6
+    slice-aggregate-serve-7
     serve-requires
     returns)

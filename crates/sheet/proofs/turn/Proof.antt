@@ -22,15 +22,17 @@ returns : tie.Need-returns
 returns c = search needs
 
 feed-end-requires : tie.Need-feed-end-requires
-feed-end-requires c κs = search needs
+feed-end-requires c κs =
+    let asked = c .before .before .before .before .before .before .before .before .before .before .before .before .before .before .before .before .before .before .before .pre in
+    (asked .0, (asked .1 .0, asked .1 .1 .0))
 
 slice-reshare-prefix-write-all : tie.Need-slice-reshare-prefix-write-all
 slice-reshare-prefix-write-all c = search needs
 
 slice-aggregate-write-all : tie.Need-slice-aggregate-write-all
 slice-aggregate-write-all c =
-    let b9 = c .before .before .before .before .before .before .before .before .before in
-    sym (length-take-le (b9 .feed-end .result) (b9 .feed-end .last .1 .1 .1 .1 .1 .0) (b9 .feed-end .ensures .fits))
+    let last = c .before .before .before .before .before .before .before .before .before .before .before .feed-end in
+    sym (length-take-le (last .result) (last .last .1 .1 .1 .1 .1 .1 .0) (last .ensures .fits))
 
 write-all-requires : tie.Need-write-all-requires
 write-all-requires c κs = search needs
@@ -53,6 +55,9 @@ same-length-6 c = search needs
 same-length-7 : tie.Need-same-length-7
 same-length-7 c = search needs
 
+same-length-8 : tie.Need-same-length-8
+same-length-8 c = search needs
+
 returns-2 : tie.Need-returns-2
 returns-2 c = search needs
 
@@ -68,9 +73,6 @@ slice-aggregate-feed-all c = search needs
 feed-all-requires : tie.Need-feed-all-requires
 feed-all-requires c κs = search needs
 
-same-length-8 : tie.Need-same-length-8
-same-length-8 c = search needs
-
 same-length-9 : tie.Need-same-length-9
 same-length-9 c = search needs
 
@@ -85,6 +87,12 @@ same-length-12 c = search needs
 
 same-length-13 : tie.Need-same-length-13
 same-length-13 c = search needs
+
+same-length-14 : tie.Need-same-length-14
+same-length-14 c = search needs
+
+same-length-15 : tie.Need-same-length-15
+same-length-15 c = search needs
 
 returns-3 : tie.Need-returns-3
 returns-3 c = search needs
@@ -108,15 +116,17 @@ turn-spec =
     same-length-5
     same-length-6
     same-length-7
+    same-length-8
     returns-2
     count-requires
     slice-reshare-prefix-feed-all
     slice-aggregate-feed-all
     feed-all-requires
-    same-length-8
     same-length-9
     same-length-10
     same-length-11
     same-length-12
     same-length-13
+    same-length-14
+    same-length-15
     returns-3)

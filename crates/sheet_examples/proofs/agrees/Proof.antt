@@ -43,8 +43,14 @@ enum-known-k c = search needs
 enum-told : tie.Need-enum-told
 enum-told c = search needs
 
+same-length : tie.Need-same-length
+same-length c = search needs
+
 returns : tie.Need-returns
 returns c = search needs
+
+same-length-2 : tie.Need-same-length-2
+same-length-2 c = search needs
 
 returns-2 : tie.Need-returns-2
 returns-2 c = search needs
@@ -54,10 +60,8 @@ array-share-prefix-printed c = search needs
 
 slice-aggregate-same-bytes : tie.Need-slice-aggregate-same-bytes
 slice-aggregate-same-bytes c =
-    let at1 = c .before in
-    let at3 = at1 .before .before in
-    let at6 = at3 .before .before .before in
-    sym (length-take-le (at3 .k .given .0 .0) (at6 .run .last .1 .0) (omega (arith, at6 .run .kept .1 .0, at1 .if1 .left)))
+    let run = c .before .before .before .before .before .before .before .before .run in
+    sym (length-take-le (c .before .before .before .k .given .0 .0) (run .last .1 .1 .0) (omega (arith, run .kept .1 .1 .0, c .before .if1 .left)))
 
 array-share-prefix-expected : tie.Need-array-share-prefix-expected
 array-share-prefix-expected c = search needs
@@ -67,6 +71,9 @@ slice-aggregate-same-bytes-2 c = search needs
 
 same-bytes-requires : tie.Need-same-bytes-requires
 same-bytes-requires c κs = search needs
+
+same-length-3 : tie.Need-same-length-3
+same-length-3 c = search needs
 
 returns-3 : tie.Need-returns-3
 returns-3 c = search needs
@@ -87,11 +94,14 @@ agrees-spec =
     run-requires
     enum-known-k
     enum-told
+    same-length
     returns
+    same-length-2
     returns-2
     array-share-prefix-printed
     slice-aggregate-same-bytes
     array-share-prefix-expected
     slice-aggregate-same-bytes-2
     same-bytes-requires
+    same-length-3
     returns-3)

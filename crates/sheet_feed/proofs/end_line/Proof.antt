@@ -26,26 +26,23 @@ same-length-3 c = search needs
 same-length-4 : tie.Need-same-length-4
 same-length-4 c = search needs
 
+same-length-5 : tie.Need-same-length-5
+same-length-5 c = search needs
+
 returns : tie.Need-returns
 returns c =
-    let b8 = c .before .before .before .before .before .before .before .before in
-    let b13 = b8 .before .before .before .before .before in
-    let b14 = b13 .before in
-    let b20 = b14 .before .before .before .before .before .before in
-    ran-long (is-over (b14 .is-full .ensures) (b13 .if1 .taken)) (b20 .pre .1 .1) (b8 .run-line .ensures)
+    let at-line = c .before .before .before .before .before .before .before .before .before .before in
+    let at-test = at-line .before .before .before .before .before .before in
+    let over = is-over (at-test .before .is-full .ensures) (at-test .if1 .taken) in
+    ran-long over (at-test .before .before .before .before .before .before .before .before .pre .1 .1) (at-line .run-line .ensures)
 
 slice-aggregate-run-line : tie.Need-slice-aggregate-run-line
 slice-aggregate-run-line c =
-    let b4 = c .before .before .before .before in
-    let b5 = b4 .before in
-    let b11 = b5 .before .before .before .before .before .before in
-    sym (length-take-le (b11 .args .at) (b11 .args .line .now) (has-room (b5 .is-full .ensures) (b4 .if1 .left)))
+    let a = c .before .before .before .before .before .before .before .before .before .before .before .before .before .args in
+    sym (length-take-le (a .at) (a .line .now) (has-room (c .before .before .before .before .before .before .is-full .ensures) (c .before .before .before .before .before .if1 .left)))
 
 run-line-requires-2 : tie.Need-run-line-requires-2
 run-line-requires-2 c κs = search needs
-
-same-length-5 : tie.Need-same-length-5
-same-length-5 c = search needs
 
 same-length-6 : tie.Need-same-length-6
 same-length-6 c = search needs
@@ -56,12 +53,18 @@ same-length-7 c = search needs
 same-length-8 : tie.Need-same-length-8
 same-length-8 c = search needs
 
+same-length-9 : tie.Need-same-length-9
+same-length-9 c = search needs
+
+same-length-10 : tie.Need-same-length-10
+same-length-10 c = search needs
+
 returns-2 : tie.Need-returns-2
 returns-2 c =
-    let b8 = c .before .before .before .before .before .before .before .before in
-    let b14 = b8 .before .before .before .before .before .before in
-    let b15 = b14 .before in
-    ran-whole (has-room (b15 .is-full .ensures) (b14 .if1 .left)) (b8 .run-line2 .ensures)
+    let at-line = c .before .before .before .before .before .before .before .before .before .before in
+    let at-test = at-line .before .before .before .before .before .before .before in
+    let whole = has-room (at-test .before .is-full .ensures) (at-test .if1 .left) in
+    ran-whole whole (at-line .run-line2 .ensures)
 
 pub end-line-spec : {M : Type 1} → statement M
 end-line-spec =
@@ -73,11 +76,13 @@ end-line-spec =
     same-length-2
     same-length-3
     same-length-4
+    same-length-5
     returns
     slice-aggregate-run-line
     run-line-requires-2
-    same-length-5
     same-length-6
     same-length-7
     same-length-8
+    same-length-9
+    same-length-10
     returns-2)

@@ -14,9 +14,9 @@ line-end-requires c κs = search needs
 
 slice-aggregate-put : tie.Need-slice-aggregate-put
 slice-aggregate-put c =
-    let b2 = c .before .before in
-    let b9 = b2 .before .before .before .before .before .before .before in
-    sym (length-take-le (b2 .line-end .result) (b9 .args .piece .now) (place-within 10 (b9 .args .piece .now) 0 (b2 .line-end .result) (omega arith) (b2 .line-end .ensures) .1))
+    let piece = c .before .before .before .before .before .before .before .before .before .before .args .piece .now in
+    let end = c .before .before .line-end in
+    sym (length-take-le (end .result) piece (place-within 10 piece 0 (end .result) (omega arith) (end .ensures) .1))
 
 put-requires : tie.Need-put-requires
 put-requires c κs = search needs
@@ -26,25 +26,23 @@ same-length c = search needs
 
 returns : tie.Need-returns
 returns c =
-    let b3 = c .before .before .before in
-    let b6 = b3 .before .before .before in
-    let b13 = b6 .before .before .before .before .before .before .before in
-    goes-on (b13 .args .piece .now) (b6 .line-end .result) (b6 .line-end .ensures) (c .if1 .taken) (b3 .put .ensures)
+    let piece = c .before .before .before .before .before .before .before .before .before .before .before .before .before .before .args .piece .now in
+    let end = c .before .before .before .before .before .before .line-end in
+    goes-on piece (end .result) (end .ensures) (c .if1 .taken) (c .before .before .before .put .ensures)
+
+add-took : tie.Need-add-took
+add-took c = search needs
 
 end-line-requires : tie.Need-end-line-requires
 end-line-requires c κs =
-    let b8 = c .before .before .before .before .before .before .before .before in
-    let b18 = b8 .before .before .before .before .before .before .before .before .before .before in
-    (b18 .pre .0, (omega (arith, b18 .pre .1 .0), omega (arith, b8 .put .kept .0, b18 .pre .1 .1)))
+    let asked = c .before .before .before .before .before .before .before .before .before .before .before .before .before .before .before .before .before .before .before .before .pre in
+    (asked .0, (omega (arith, asked .1 .0), omega (arith, c .before .before .before .before .before .before .before .before .before .put .kept .0, asked .1 .1)))
 
 slice-write-text : tie.Need-slice-write-text
 slice-write-text c = search needs
 
-add-t15 : tie.Need-add-t15
-add-t15 c = search needs
-
-add-t28 : tie.Need-add-t28
-add-t28 c = search needs
+add-printed : tie.Need-add-printed
+add-printed c = search needs
 
 same-length-2 : tie.Need-same-length-2
 same-length-2 c = search needs
@@ -61,15 +59,19 @@ same-length-5 c = search needs
 same-length-6 : tie.Need-same-length-6
 same-length-6 c = search needs
 
+same-length-7 : tie.Need-same-length-7
+same-length-7 c = search needs
+
 returns-2 : tie.Need-returns-2
 returns-2 c =
-    let b8 = c .before .before .before .before .before .before .before .before in
-    let b14 = b8 .before .before .before .before .before .before in
-    let b17 = b14 .before .before .before in
-    let b20 = b17 .before .before .before in
-    let b27 = b20 .before .before .before .before .before .before .before in
-    line-ended (b27 .args .piece .now) (b20 .line-end .result) (b20 .line-end .ensures) (b14 .if1 .left) (b17 .put .ensures)
-    (omega (arith, b8 .end-line .kept .1 .1 .1 .1 .1 .0, b27 .pre .1 .0)) (b8 .end-line .ensures)
+    let at-line = c .before .before .before .before .before .before .before .before .before .before in
+    let line = at-line .end-line in
+    let ended = at-line .before .before .before .before .before .before .before .if1 .left in
+    let at-put = at-line .before .before .before .before .before .before .before .before .before .before in
+    let end = at-put .before .before .before .line-end in
+    let start = at-put .before .before .before .before .before .before .before .before .before .before .before in
+    let long = line .kept .1 .1 .1 .1 .1 .1 .0 in
+    line-ended (start .args .piece .now) (end .result) (end .ensures) ended (at-put .put .ensures) (omega (arith, long, start .pre .1 .0)) (line .ensures)
 
 pub feed-spec : {M : Type 1} → statement M
 feed-spec =
@@ -80,13 +82,14 @@ feed-spec =
     put-requires
     same-length
     returns
+    add-took
     end-line-requires
     slice-write-text
-    add-t15
-    add-t28
+    add-printed
     same-length-2
     same-length-3
     same-length-4
     same-length-5
     same-length-6
+    same-length-7
     returns-2)

@@ -8,13 +8,13 @@ use Rattle.sheet_feed.proofs.feed_end.Tie as tie
 
 returns : tie.Need-returns
 returns c =
-    let b6 = c .before .before .before .before .before .before in
-    last-none (b6 .args .h .now) (b6 .args .ws .now) (b6 .args .ks .now) (c .if1 .taken)
+    let a = c .before .before .before .before .before .before .before .args in
+    last-none (a .h .now) (a .ws .now) (a .ks .now) (c .if1 .taken)
 
 end-line-requires : tie.Need-end-line-requires
 end-line-requires c κs =
-    let b10 = c .before .before .before .before .before .before .before .before .before .before in
-    (b10 .pre .0, (omega (arith, b10 .pre .1 .0), b10 .pre .1 .1))
+    let asked = c .before .before .before .before .before .before .before .before .before .before .before .before .pre in
+    (asked .0, (omega (arith, asked .1 .0), asked .1 .1))
 
 slice-write-text : tie.Need-slice-write-text
 slice-write-text c = search needs
@@ -34,12 +34,16 @@ same-length-3 c = search needs
 same-length-4 : tie.Need-same-length-4
 same-length-4 c = search needs
 
+same-length-5 : tie.Need-same-length-5
+same-length-5 c = search needs
+
 returns-2 : tie.Need-returns-2
 returns-2 c =
-    let b8 = c .before .before .before .before .before .before .before .before in
-    let b13 = b8 .before .before .before .before .before in
-    let b19 = b13 .before .before .before .before .before .before in
-    last-ran (b13 .if1 .left) (omega (arith, b8 .end-line .kept .1 .1 .1 .1 .1 .0, b19 .pre .1 .0)) (b8 .end-line .ensures)
+    let at-line = c .before .before .before .before .before .before .before .before .before .before in
+    let line = at-line .end-line in
+    let long = line .kept .1 .1 .1 .1 .1 .1 .0 in
+    let room = at-line .before .before .before .before .before .before .before .before .before .before .before .before .before .pre .1 .0 in
+    last-ran (at-line .before .before .before .before .before .before .if1 .left) (omega (arith, long, room)) (line .ensures)
 
 pub feed-end-spec : {M : Type 1} → statement M
 feed-end-spec =
@@ -53,4 +57,5 @@ feed-end-spec =
     same-length-2
     same-length-3
     same-length-4
+    same-length-5
     returns-2)

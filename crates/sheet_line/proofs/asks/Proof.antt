@@ -69,11 +69,10 @@ same-length-2 c = search needs
 returns : tie.Need-returns
 unfolding sheetLine
 returns c =
-    let b2 = c .before .before in
-    let b5 = b2 .before .before .before in
-    let b8 = b5 .before .before .before in
-    let b15 = b8 .before .before .before .before .before .before .before in
-    rw (b8 .enum-told .given .1) (ran-done (b15 .pre .0) Line.finish refl _ (b5 .finish .result) refl (b5 .finish .ensures) (b2 .put-done .ensures))
+    let sheet = c .before .before .before .before .before .before .before .before .before .before .before .before .before .before .before .before .pre .0 in
+    let call = c .before .before .before .before .before .finish in
+    let said = c .before .before .put-done .ensures in
+    rw (c .before .before .before .before .before .before .before .before .enum-told .given .1) (ran-done sheet Line.finish refl _ (call .result) refl (call .ensures) said)
 
 same-length-3 : tie.Need-same-length-3
 same-length-3 c = search needs
@@ -81,61 +80,62 @@ same-length-3 c = search needs
 same-length-4 : tie.Need-same-length-4
 same-length-4 c = search needs
 
+same-length-5 : tie.Need-same-length-5
+same-length-5 c = search needs
+
 returns-2 : tie.Need-returns-2
 unfolding sheetLine
 returns-2 c =
-    let b2 = c .before .before in
-    let b5 = b2 .before .before .before in
-    let b9 = b5 .before .before .before .before in
-    let b16 = b9 .before .before .before .before .before .before .before in
-    rw (b9 .line .given .1) (ran-unify (b16 .pre .0) (Line.unify _ _) refl _ (b5 .unify .result) refl (b5 .unify .ensures) (b2 .put-unify .ensures))
-
-same-length-5 : tie.Need-same-length-5
-same-length-5 c = search needs
+    let sheet = c .before .before .before .before .before .before .before .before .before .before .before .before .before .before .before .before .before .before .before .before .pre .0 in
+    let call = c .before .before .before .before .before .before .before .unify in
+    let said = c .before .before .put-unify .ensures in
+    let is-unify = c .before .before .before .before .before .before .before .before .before .before .before .before .line .given .1 in
+    rw is-unify (ran-unify sheet (Line.unify _ _) refl _ (call .result) refl (call .ensures) said)
 
 same-length-6 : tie.Need-same-length-6
 same-length-6 c = search needs
 
+same-length-7 : tie.Need-same-length-7
+same-length-7 c = search needs
+
 returns-3 : tie.Need-returns-3
 unfolding sheetLine
 returns-3 c =
-    let b2 = c .before .before in
-    let b6 = b2 .before .before .before .before in
-    let b13 = b6 .before .before .before .before .before .before .before in
-    rw (b6 .line2 .given .1) (ran (b13 .pre .0) (Line.show _) (b2 .show-line .ensures) (rw (show-store (storeIn (b13 .args .h .now) (b13 .args .ws .now)
-    (b13 .args .ks .now)) _) (same-store (b13 .pre .0))))
+    let start = c .before .before .before .before .before .before .before .before .before .before .before .before .before .before in
+    let a = start .args in
+    let sheet = start .pre .0 in
+    let s = storeIn (a .h .now) (a .ws .now) (a .ks .now) in
+    rw (c .before .before .before .before .before .before .line2 .given .1) (ran sheet (Line.show _) (c .before .before .show-line .ensures) (rw (show-store s _) (same-store sheet)))
 
-same-length-7 : tie.Need-same-length-7
-same-length-7 c = search needs
+same-length-8 : tie.Need-same-length-8
+same-length-8 c = search needs
 
 returns-4 : tie.Need-returns-4
 unfolding sheetLine
 returns-4 c =
-    let b2 = c .before .before in
-    let b4 = b2 .before .before in
-    let b11 = b4 .before .before .before .before .before .before .before in
-    rw (b4 .enum-told2 .given .1) (ran (b11 .pre .0) Line.bad (b2 .put-bad .ensures) (same-store (b11 .pre .0)))
+    let sheet = c .before .before .before .before .before .before .before .before .before .before .before .before .pre .0 in
+    rw (c .before .before .before .before .enum-told2 .given .1) (ran sheet Line.bad (c .before .before .put-bad .ensures) (same-store sheet))
 
 returns-5 : tie.Need-returns-5
-returns-5 c = absurd (true≢false (rw (c .enum-told3 .given .1) at (c .before .before .before .before .before .before .before .pre .1 .1)))
+returns-5 c = absurd (true≢false (rw (c .enum-told3 .given .1) at (c .before .before .before .before .before .before .before .before .pre .1 .1)))
 
 returns-6 : tie.Need-returns-6
-returns-6 c = absurd (true≢false (rw (c .enum-told4 .given .1) at (c .before .before .before .before .before .before .before .pre .1 .1)))
+returns-6 c = absurd (true≢false (rw (c .enum-told4 .given .1) at (c .before .before .before .before .before .before .before .before .pre .1 .1)))
 
 returns-7 : tie.Need-returns-7
-returns-7 c = absurd (true≢false (rw (c .enum-told5 .given .1) at (c .before .before .before .before .before .before .before .pre .1 .1)))
+returns-7 c = absurd (true≢false (rw (c .enum-told5 .given .1) at (c .before .before .before .before .before .before .before .before .pre .1 .1)))
 
 returns-8 : tie.Need-returns-8
-returns-8 c = absurd (true≢false (rw (c .enum-told6 .given .1) at (c .before .before .before .before .before .before .before .pre .1 .1)))
+returns-8 c = absurd (true≢false (rw (c .enum-told6 .given .1) at (c .before .before .before .before .before .before .before .before .pre .1 .1)))
 
 returns-9 : tie.Need-returns-9
-returns-9 c = absurd (true≢false (rw (c .enum-told7 .given .1) at (c .before .before .before .before .before .before .before .pre .1 .1)))
+returns-9 c = absurd (true≢false (rw (c .enum-told7 .given .1) at (c .before .before .before .before .before .before .before .before .pre .1 .1)))
 
 returns-10 : tie.Need-returns-10
-returns-10 c = absurd (true≢false (rw (c .enum-told8 .given .1) at (c .before .before .before .before .before .before .before .pre .1 .1)))
+returns-10 c = absurd (true≢false (rw (c .enum-told8 .given .1) at (c .before .before .before .before .before .before .before .before .pre .1 .1)))
 
 returns-11 : tie.Need-returns-11
-returns-11 c = absurd (true≢false (rw (c .enum-told9 .given .1) at (c .before .before .before .before .before .before .before .pre .1 .1)))
+returns-11 c = absurd (true≢false (rw (c .enum-told9 .given .1) at (c .before .before .before .before .before .before .before .before .pre .1 .1)))
 
 pub asks-spec : {M : Type 1} → statement M
 asks-spec =
@@ -163,11 +163,12 @@ asks-spec =
     returns
     same-length-3
     same-length-4
-    returns-2
     same-length-5
+    returns-2
     same-length-6
-    returns-3
     same-length-7
+    returns-3
+    same-length-8
     returns-4
     returns-5
     returns-6

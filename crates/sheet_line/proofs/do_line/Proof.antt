@@ -11,10 +11,8 @@ makes-requires c κs = search needs
 
 made-requires : tie.Need-made-requires
 made-requires c κs =
-    let b3 = c .before .before .before in
-    let b4 = b3 .before in
-    let b10 = b4 .before .before .before .before .before .before in
-    (b10 .pre .0, (sym (b4 .makes .ensures) ∙ b3 .if1 .taken, b10 .pre .1 .1))
+    let asked = c .before .before .before .before .before .before .before .before .before .before .before .pre in
+    (asked .0, (sym (c .before .before .before .before .makes .ensures) ∙ c .before .before .before .if1 .taken, asked .1 .1))
 
 put-type-requires : tie.Need-put-type-requires
 put-type-requires c κs = search needs
@@ -33,17 +31,14 @@ same-length-4 c = search needs
 
 returns : tie.Need-returns
 returns c =
-    let b2 = c .before .before in
-    let b10 = b2 .before .before .before .before .before .before .before .before in
-    let b21 = b10 .before .before .before .before .before .before .before .before .before .before .before in
-    ran-made (b21 .pre .0) _ (b10 .made .ensures) (b2 .put-type .ensures)
+    let at-made = c .before .before .before .before .before .before .before .before .before .before in
+    let sheet = at-made .before .before .before .before .before .before .before .before .before .before .before .before .pre .0 in
+    ran-made sheet _ (at-made .made .ensures) (c .before .before .put-type .ensures)
 
 asks-requires : tie.Need-asks-requires
 asks-requires c κs =
-    let b4 = c .before .before .before .before in
-    let b5 = b4 .before in
-    let b11 = b5 .before .before .before .before .before .before in
-    (b11 .pre .0, (b11 .pre .1 .0, sym (b5 .makes .ensures) ∙ b4 .if1 .left))
+    let asked = c .before .before .before .before .before .before .before .before .before .before .before .before .before .pre in
+    (asked .0, (asked .1 .0, sym (c .before .before .before .before .before .before .makes .ensures) ∙ c .before .before .before .before .before .if1 .left))
 
 same-length-5 : tie.Need-same-length-5
 same-length-5 c = search needs
@@ -56,6 +51,9 @@ same-length-7 c = search needs
 
 same-length-8 : tie.Need-same-length-8
 same-length-8 c = search needs
+
+same-length-9 : tie.Need-same-length-9
+same-length-9 c = search needs
 
 returns-2 : tie.Need-returns-2
 returns-2 c = search needs
@@ -77,4 +75,5 @@ do-line-spec =
     same-length-6
     same-length-7
     same-length-8
+    same-length-9
     returns-2)

@@ -16,9 +16,9 @@ slice-aggregate-do-line c = search needs
 
 do-line-requires : tie.Need-do-line-requires
 do-line-requires c κs =
-    let at6 = c .before .before .before .before .before .before in
-    let at13 = at6 .before .before .before .before .before .before .before in
-    let f = at6 .parse .ensures .fits in (at13 .pre .0, (at13 .pre .1, (f, omega (arith, at6 .parse .kept))))
+    let asked = c .before .before .before .before .before .before .before .before .before .before .before .before .before .before .before .pre in
+    let parse = c .before .before .before .before .before .before .before .parse in
+    (asked .0, (asked .1, (parse .ensures .fits, omega (arith, parse .kept))))
 
 same-length : tie.Need-same-length
 same-length c = search needs
@@ -32,11 +32,13 @@ same-length-3 c = search needs
 same-length-4 : tie.Need-same-length-4
 same-length-4 c = search needs
 
+same-length-5 : tie.Need-same-length-5
+same-length-5 c = search needs
+
 returns : tie.Need-returns
 returns c =
-    let at8 = c .before .before .before .before .before .before .before .before in
-    let at15 = at8 .before .before .before .before .before .before .before in
-    rw (at15 .parse .ensures .means) at (at8 .do-line .ensures)
+    let means = c .before .before .before .before .before .before .before .before .before .before .before .before .before .before .before .before .before .before .parse .ensures .means in
+    rw means at (c .before .before .before .before .before .before .before .before .before .before .do-line .ensures)
 
 pub run-line-spec : {M : Type 1} → statement M
 run-line-spec =
@@ -50,4 +52,5 @@ run-line-spec =
     same-length-2
     same-length-3
     same-length-4
+    same-length-5
     returns)
