@@ -27,7 +27,7 @@ use std::{
 };
 
 use ours::Ours;
-use shapes::{MAKES, Maker, Pair, Side};
+use shapes::{Maker, Pair, Side};
 use structures::types::{TypeCtx, Types, view};
 use vine::Vine;
 
@@ -66,8 +66,10 @@ fn filled<S: Side>(nodes: usize) -> S {
 
 fn makers() {
   fn making<S: Side>(maker: Maker) -> f64 {
+    let nodes = maker.nodes(NODES);
+    let calls = maker.calls(nodes);
     // Filled anew each time: the Rust's vector has room then, as one that grew has.
-    least(|| filled::<S>(NODES - MAKES), |side| side.makes(maker)) / maker.calls() as f64
+    least(|| filled::<S>(NODES - nodes), |side| side.makes(maker, calls)) / calls as f64
   }
   for maker in Maker::ALL {
     line(maker.name(), making::<Ours>(maker), making::<Vine>(maker));
@@ -199,6 +201,7 @@ fn failing() {
 }
 
 fn report() {
+  shapes::warm();
   println!("what, nanoseconds a call (unify: a pair) by the crate, by the Rust, ratio");
   makers();
   finding();
