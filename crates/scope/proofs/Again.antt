@@ -33,11 +33,11 @@ abbrev tests : Env → Store → Ty → Ty → List (Bool × ℕ)
 tests e s a b = lentTests e (reads s) ++ (outside s (a ∷ b ∷ []) ∷ [])
 
 -- what a Success says: the chart is sound, the two types are in the store, and the store left has joined them
-record Won (e : Env) (s : Store) (a b : Ty) (o : Outcome Answer) : Type 0 where
-  chart : chartOk e ≡ true
-  a-in : a .idx < length (s .nodes)
-  b-in : b .idx < length (s .nodes)
-  joined : Joined (view (step s o .store .nodes)) a b
+pub record Won (e : Env) (s : Store) (a b : Ty) (o : Outcome Answer) : Type 0 where
+  pub chart : chartOk e ≡ true
+  pub a-in : a .idx < length (s .nodes)
+  pub b-in : b .idx < length (s .nodes)
+  pub joined : Joined (view (step s o .store .nodes)) a b
 
 module _ (e : Env) (s : Store) (a b : Ty) (reached : Reached e s) where
   success-joined : a .idx < length (s .nodes) → b .idx < length (s .nodes) → unify (e .texts) (s .nodes) a b .answer ≡ Success
@@ -48,7 +48,7 @@ module _ (e : Env) (s : Store) (a b : Ty) (reached : Reached e s) where
       subst (λ (g : View). Joined g a b) (sym (m .views))
       (unify-spec e (length (s .nodes)) (length (s .nodes)) (view (s .nodes)) a b (ok .good) (stable-kinds (nodes-stable e ok)) .joined (sym (m .answers) ∙ q))
 
-  success-won : given (unifyCall e (reads s) a b) ≡ some Success → Won e s a b (unifyCall e (reads s) a b)
+  pub success-won : given (unifyCall e (reads s) a b) ≡ some Success → Won e s a b (unifyCall e (reads s) a b)
   unfolding unifyCall
   success-won = judged-cases (λ o. given o ≡ some Success → Won e s a b o) (tests e s a b) (unified s (unify (e .texts) (s .nodes) a b))
       (λ n q. let z : _≡_ {A = ℕ} 0 1 = cc in absurd (omega arith))
@@ -76,7 +76,7 @@ module _ (e : Env) (s : Store) (a b : Ty) (reached : Reached e s) where
           ∙ ap (λ (o : Seen.Out). o .answer) (joined-answer (e .texts) (length (s .nodes)) f (view (s .nodes)) a b (ok .good) (st .inside) ha j)
 
   -- and of a call on it
-  joined-success : chartOk e ≡ true → a .idx < length (s .nodes) → b .idx < length (s .nodes) → Joined (view (s .nodes)) a b
+  pub joined-success : chartOk e ≡ true → a .idx < length (s .nodes) → b .idx < length (s .nodes) → Joined (view (s .nodes)) a b
       → given (unifyCall e (reads s) a b) ≡ some Success
   unfolding unifyCall
   joined-success chart ha hb j =

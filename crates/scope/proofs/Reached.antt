@@ -1,4 +1,5 @@
--- Every call leaves a sound store sound. The stores that lists of calls reach are sound, and no node is deep under a small root. Assumes nothing.
+-- Every call leaves a sound store sound and its capacities as they are. The stores that lists of calls reach are sound, and no node is deep under a small
+-- root. Assumes nothing.
 use mathlib.Core.List.{List, [], _∷_}
 use Prim.Native.Nat.{ℕ, _≤_}
 use Rattle.scope.specs.Limits.{MAX-NODES, MAX-CHILDREN}
@@ -9,7 +10,7 @@ use Rattle.scope.specs.Calls.{done, resetCall}
 use Rattle.scope.specs.Demand.{Call, make, import, forceKind, unify, read, later, reset, step, next, after}
 use Rattle.scope.proofs.Merge.{Shallow}
 use Rattle.scope.proofs.SoundLaws.{SoundFacts}
-use Rattle.scope.proofs.SoundKept.{Kept, opened-facts, opened-shallow, find-mut-kept, unify-kept, carry-kept, restates-kept, force-kept, reset-kept}
+use Rattle.scope.proofs.SoundKept.{Kept, kept-same, opened-facts, opened-shallow, find-mut-kept, unify-kept, carry-kept, restates-kept, force-kept, reset-kept}
 use Rattle.scope.proofs.Steps.{maker-cases, import-cases, force-cases, unify-cases, read-cases, step-cases}
 use Rattle.scope.proofs.LaterSteps.{later-cases}
 
@@ -18,7 +19,7 @@ unfolding resetCall
 next-kept e s c ok = go c
   where
     same : Kept e s s
-    same = record { facts = ok; shallow = λ h. h }
+    same = kept-same ok
 
     go : (c : Call) → Kept e s (next e s c)
     go (make m) = maker-cases e s ok (λ t. Kept e s (t .store)) m same (λ s′ k. k .kept)
