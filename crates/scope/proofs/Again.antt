@@ -14,7 +14,7 @@ use Rattle.scope.specs.Answers.{Answer, Success}
 use Rattle.scope.specs.Unify.{Out, unify}
 use Rattle.scope.specs.Sound.{reads}
 use Rattle.scope.specs.Calls.{Outcome, lentTests, outside, unified, unifyCall}
-use Rattle.scope.specs.Demand.{Call, given, step, next, after, Each, inSecondHalf}
+use Rattle.scope.specs.Demand.{Call, given, step, next, after}
 use Rattle.scope.specs.Demand as Demand
 use Rattle.scope.proofs.View.{View, view}
 use Rattle.scope.proofs.View as Seen
@@ -88,21 +88,16 @@ unfolding after
 after-append e s [] ds = refl
 after-append e s (c ∷ cs) ds = after-append e (next e s c) cs ds
 
-each-append : (p : Call → Bool) (cs ds : List Call) → Each p (cs ++ ds) → Each p ds
-unfolding Each
-each-append p [] ds h = h
-each-append p (c ∷ cs) ds h = each-append p cs ds (h .1)
-
 -- a pair that once got Success gets it again
-pub success-again : (e : Env) (s : Store) → Reached e s → (cs : List Call) → Each inSecondHalf cs → (before later : List Call) (a b : Ty)
+pub success-again : (e : Env) (s : Store) → Reached e s → (cs before later : List Call) (a b : Ty)
     → cs ≡ before ++ (Demand.unify a b ∷ later)
     → given (unifyCall e (reads (after e s before)) a b) ≡ some Success
     → given (unifyCall e (reads (after e s cs)) a b) ≡ some Success
-unfolding after Each
-success-again e s r cs h before later a b q w =
+unfolding after
+success-again e s r cs before later a b q w =
     subst (λ (x : Store). given (unifyCall e (reads x) a b) ≡ some Success) (sym (ap (after e s) q ∙ after-append e s before (Demand.unify a b ∷ later)))
     (joined-success e end a b (after-reached e s₂ later r₂) (won .chart) (omega (arith, won .a-in, more)) (omega (arith, won .b-in, more))
-    (joined-grow (r₂ .facts .nodes .good) (after-grow e s₂ later r₂ (rest .1)) (won .joined)))
+    (joined-grow (r₂ .facts .nodes .good) (after-grow e s₂ later r₂) (won .joined)))
   where
     s₁ : Store
     s₁ = after e s before
@@ -119,11 +114,8 @@ success-again e s r cs h before later a b q w =
     end : Store
     end = after e s₂ later
 
-    rest : Each inSecondHalf (Demand.unify a b ∷ later)
-    rest = each-append inSecondHalf before (Demand.unify a b ∷ later) (subst (Each inSecondHalf) q h)
-
     won : Won e s₁ a b (unifyCall e (reads s₁) a b)
     won = success-won e s₁ a b r₁ w
 
     more : length (s₁ .nodes) ≤ length (end .nodes)
-    more = omega (arith, after-length e s₁ (Demand.unify a b ∷ later) r₁ rest)
+    more = omega (arith, after-length e s₁ (Demand.unify a b ∷ later) r₁)

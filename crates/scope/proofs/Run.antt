@@ -36,7 +36,7 @@ unfolding replies Names.bytes Names.inText Names.nameOk Names.eqBytes Names.ltBy
     Sound.treeSize Sound.kindSound Sound.roomSound Sound.shapeSound Sound.soundStore Calls.findCall Calls.findMutCall Calls.nodeCall Calls.childCall
     Calls.nameCall Calls.figuresCall Calls.newCall Calls.newStructCall Calls.newUnionCall Calls.newVarCall Calls.newVarsCall Calls.errorCall Calls.nilCall
     Calls.unifyCall Calls.unifyTypesCall Calls.unifyObjectsCall Calls.unifyImplTypeCall Calls.approxEqCall Calls.unifyFnSigCall Calls.forceKindCall
-    Calls.finishInferenceCall Calls.finishWhereCall Calls.findRelatedCall Calls.selfInverseCall Calls.isNilCall Calls.getModCall Calls.resetCall
+    Calls.finishInferenceCall Calls.finishWhereCall Calls.findRelatedCall Calls.selfInverseCall Calls.isNilCall Calls.getModCall
     Calls.importCall Calls.exportCall Calls.showCall Calls.showImplTypeCall Demand.after
 ran e s cs = record { replies = replies e s cs; store = after e s cs }
 

@@ -20,7 +20,7 @@ use Rattle.scope.specs.Force.{withReports}
 use Rattle.scope.specs.Sound.{reads}
 use Rattle.scope.specs.Calls.{Outcome, unifyCall}
 use Rattle.scope.specs.States.{Named, Place, Book, isFree, under, placeWhere, holdsNone, keepReports, storeUnder}
-use Rattle.scope.specs.Demand.{Call, given, next, inSecondHalf}
+use Rattle.scope.specs.Demand.{Call, given, next}
 use Rattle.scope.specs.Demand as Demand
 use Rattle.scope.specs.StatesDemand.{Naming, StateCall, call, naming, name, returnTo, drop, reset, Desk, desk}
 use Rattle.scope.specs.StatesDemand.{outcomeOn, left, nextDesk, afterDesk, Pair, pair, answered, pairsBy, Ledger, entered}
@@ -71,47 +71,46 @@ behind-reports {e} n b = record {
 }
 
 -- a call that stood
-module _ (e : Env) (s : Store) (l : Ledger) (b : Behind e s l) (c : Call) (half : inSecondHalf c ≡ true) where
+module _ (e : Env) (s : Store) (l : Ledger) (b : Behind e s l) (c : Call) where
   old-pairs : (x y : Ty) → List·Memᴰ (pair x y Success) (l .pairs) → Pairs e (next e s c) x y
   old-pairs x y m =
       let p = b .pairs x y m in
-      let len = next-moves e s c (b .reached) half .len in
+      let len = next-moves e s c (b .reached) .len in
       record {
         chart = p .chart;
         a-in = omega (arith, p .a-in, len);
         b-in = omega (arith, p .b-in, len);
-        joined = joined-grow (b .reached .facts .nodes .good) (next-grow e s c (b .reached) half) (p .joined);
+        joined = joined-grow (b .reached .facts .nodes .good) (next-grow e s c (b .reached)) (p .joined);
       }
 
-new-pairs : (e : Env) (s : Store) → Reached e s → (c : Call) → inSecondHalf c ≡ true → (x y : Ty) → List·Memᴰ (pair x y Success) (pairsBy e s c) → Pairs e (next e s c) x y
-new-pairs e s r (Demand.make k) half x y m = elim m [ ]
-new-pairs e s r (Demand.import l ts ps h) half x y m = elim m [ ]
-new-pairs e s r (Demand.forceKind t) half x y m = elim m [ ]
-new-pairs e s r (Demand.read q) half x y m = elim m [ ]
-new-pairs e s r (Demand.later q) half x y m = elim m [ ]
-new-pairs e s r Demand.reset half x y m = elim m [ ]
-new-pairs e s r (Demand.unify a b) half x y m = go (given (unifyCall e (reads s) a b)) refl m
+new-pairs : (e : Env) (s : Store) → Reached e s → (c : Call) → (x y : Ty) → List·Memᴰ (pair x y Success) (pairsBy e s c) → Pairs e (next e s c) x y
+new-pairs e s r (Demand.make k) x y m = elim m [ ]
+new-pairs e s r (Demand.import l ts ps h) x y m = elim m [ ]
+new-pairs e s r (Demand.forceKind t) x y m = elim m [ ]
+new-pairs e s r (Demand.read q) x y m = elim m [ ]
+new-pairs e s r (Demand.later q) x y m = elim m [ ]
+new-pairs e s r (Demand.unify a b) x y m = go (given (unifyCall e (reads s) a b)) refl m
   where
     go : (o : Option Answer) → given (unifyCall e (reads s) a b) ≡ o → List·Memᴰ (pair x y Success) (answered a b o) → Pairs e (next e s (Demand.unify a b)) x y
     go none q m = elim m [ ]
     go (some z) q m =
         let p : pair x y Success ≡ pair a b z = List·Memᴰ·eq-of-singleton m in
         let w = success-won e s a b r (q ∙ ap some (sym (ap (λ (u : Pair). u .answer) p))) in
-        let len = next-moves e s (Demand.unify a b) r refl .len in
+        let len = next-moves e s (Demand.unify a b) r .len in
         let joined : Pairs e (next e s (Demand.unify a b)) a b =
         record { chart = w .chart; a-in = omega (arith, w .a-in, len); b-in = omega (arith, w .b-in, len); joined = w .joined } in
         subst (λ (u : Pair). Pairs e (next e s (Demand.unify a b)) (u .a) (u .b)) (sym p) joined
 
-behind-next : (e : Env) (s : Store) (l : Ledger) → Behind e s l → (c : Call) → inSecondHalf c ≡ true → Behind e (next e s c) (entered e s l c)
-behind-next e s l b c half = record {
+behind-next : (e : Env) (s : Store) (l : Ledger) → Behind e s l → (c : Call) → Behind e (next e s c) (entered e s l c)
+behind-next e s l b c = record {
   reached = next-reached e s c (b .reached);
-  count = omega (arith, next-moves e s c (b .reached) half .len, b .count);
+  count = omega (arith, next-moves e s c (b .reached) .len, b .count);
   pairs = λ x y m. go x y (List·Memᴰ·append-cases (l .pairs) m);
 }
   where
     go : (x y : Ty) → List·Memᴰ (pair x y Success) (l .pairs) ⊎ List·Memᴰ (pair x y Success) (pairsBy e s c) → Pairs e (next e s c) x y
-    go x y (inl m) = old-pairs e s l b c half x y m
-    go x y (inr m) = new-pairs e s (b .reached) c half x y m
+    go x y (inl m) = old-pairs e s l b c x y m
+    go x y (inr m) = new-pairs e s (b .reached) c x y m
 
 -- what is saved, beside a newer ledger and where another name is forgotten
 module _ (n m : List ℕ) (apart : m ≢ n) where
@@ -178,7 +177,7 @@ module _ (e : Env) (d : Desk) (g : Ledgers) (ok : Stands e d g) where
   naming-stands reset half = tf (sym half)
 
 stands-next : (e : Env) (d : Desk) (g : Ledgers) → Stands e d g → (c : StateCall) → inStatesHalf c ≡ true → Stands e (nextDesk e d c) (nextLedgers e d g c)
-stands-next e d g ok (call c) half = record { present = behind-next e (d .store) (g .present) (ok .present) c half; held = ok .held }
+stands-next e d g ok (call c) half = record { present = behind-next e (d .store) (g .present) (ok .present) c; held = ok .held }
 stands-next e d g ok (naming x) half = naming-stands e d g ok x half
 
 stands-after : (e : Env) (d : Desk) (g : Ledgers) → Stands e d g → (cs : List StateCall) → all inStatesHalf cs ≡ true

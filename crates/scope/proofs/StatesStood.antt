@@ -59,7 +59,6 @@ by-asked e s (Demand.import l ts ps h) cs p m = elim m [ ]
 by-asked e s (Demand.forceKind t) cs p m = elim m [ ]
 by-asked e s (Demand.read q) cs p m = elim m [ ]
 by-asked e s (Demand.later q) cs p m = elim m [ ]
-by-asked e s Demand.reset cs p m = elim m [ ]
 by-asked e s (Demand.unify a b) cs p m = go (given (unifyCall e (reads s) a b)) refl m
   where
     go : (o : Option Answer) → given (unifyCall e (reads s) a b) ≡ o → List·Memᴰ p (answered a b o) → Asked e s (Demand.unify a b ∷ cs) p

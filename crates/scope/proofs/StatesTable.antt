@@ -14,7 +14,7 @@ use Rattle.scope.specs.Answers.{Success, Failure}
 use Rattle.scope.specs.Force.{withReports, forcedError}
 use Rattle.scope.specs.Sound.{stray, reads}
 use Rattle.scope.specs.Refusals.{UNOPENABLE, BAD-CHART, UNSOUND, UNHELD, NO-PLACE, Outcome, refused, done}
-use Rattle.scope.specs.States.{Place, Book, LentBook, strayBook, readsBook, blank, withPlaces, unopened, opens, openNamesCall, returnToCall}
+use Rattle.scope.specs.States.{Place, Book, LentBook, strayBook, readsBook, blank, withPlaces, unopened, opens, openNamesCall, returnToCall, resetNamesCall}
 use Rattle.scope.specs.Demand.{make, unify, forceKind, read, error, nil, node}
 use Rattle.scope.specs.Replies.{Reply, number, answer, forced, a-node, nothing}
 use Rattle.scope.specs.StatesDemand.{StateCall, call, naming, name, returnTo, drop, reset, Desk, desk, pair, Ledger}
@@ -179,7 +179,7 @@ cases =
       store = remembering (holding (known ERROR ∷ []) 0) (some (t 0)) none;
       names = text "a" ∷ free 7;
     }
-    -- "`reset` drops all names"
+    -- "`reset` drops all names" and "frees all"; the report count "outlives `reset`"
     ∷ record {
       calls = call var ∷ save (text "a") ∷ save (text "b") ∷ call (forceKind (t 0)) ∷ naming reset ∷ back (text "a") ∷ save (text "b") ∷ [];
       replies = made 0 ∷ nothing ∷ nothing ∷ forced (forcedError (some 7)) ∷ nothing ∷ number UNHELD ∷ nothing ∷ [];
@@ -223,13 +223,17 @@ refusals =
     -- 8 of the store, and 8 of the book before 12
     ∷ returnToCall env stray (readsBook plainBook) (text "a")
     ∷ returnToCall env (reads (opened 8 8)) strayBook []
+    -- `reset` tests them too
+    ∷ resetNamesCall env stray (readsBook plainBook)
+    ∷ resetNamesCall env (reads (opened 8 8)) strayBook
+    ∷ resetNamesCall env (reads (opened 8 8)) (second (text "b") unsound)
     -- 2 before 8
     ∷ returnToCall (Refusals.env 2 SIGILS) stray strayBook []
     ∷ returns (readsBook plainBook)
     ∷ []
 
 pub answers : List (Outcome Book)
-answers = replicate 12 (refused UNSOUND) ++ (refused BAD-CHART ∷ done plainBook (opened 8 8) ∷ [])
+answers = replicate 15 (refused UNSOUND) ++ (refused BAD-CHART ∷ done plainBook (opened 8 8) ∷ [])
 
 -- "the ones behind the named state when it was named, and the ones since the return": the pair and the node in between are gone
 pub asked : Ledger

@@ -175,7 +175,7 @@ dropNameCall e l k n =
     let b : Book = bookOf k in
     judged (bookTests e l k ++ (unheld n (b .places) ∷ [])) (done (dropped n b) s)
 
--- "`reset` drops all names". This is `reset` once a names buffer is lent to it; then `Calls.resetCall` and `Demand.Call`'s `reset` go
+-- "`reset` frees all" and "drops all names"; the report count "outlives `reset`". There is no other `reset`: one without the names buffer would let names survive it
 unfoldable pub resetNamesCall : Env → Lent → LentBook → Outcome Book
 resetNamesCall e l k =
     let s : Store = storeOf l in

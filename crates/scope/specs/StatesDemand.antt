@@ -18,8 +18,7 @@ use Rattle.scope.specs.Answers.{Answer, Success}
 use Rattle.scope.specs.Sound.{Lent, reads, rooted}
 use Rattle.scope.specs.Calls.{Outcome, refused, done, unifyCall}
 use Rattle.scope.specs.States.{Book, LentBook, readsBook, holdsNone, nameStateCall, keepReports, returnToCall, dropNameCall, resetNamesCall}
-use Rattle.scope.specs.Demand.{Call, make, import, forceKind, unify, read, later, given, next, inSecondHalf, madeBy, sizes, Contains, SecondHalf}
-use Rattle.scope.specs.Demand as Demand
+use Rattle.scope.specs.Demand.{Call, make, import, forceKind, unify, read, later, given, next, madeBy, sizes, Contains, SecondHalf}
 use Rattle.scope.specs.Replies.{Reply, nothing, reply, replyOf}
 
 -- a call on a store and its names buffer
@@ -94,7 +93,6 @@ pairsBy e s (forceKind t) = []
 pairsBy e s (unify a b) = answered a b (given (unifyCall e (reads s) a b))
 pairsBy e s (read r) = []
 pairsBy e s (later c) = []
-pairsBy e s Demand.reset = []
 
 -- what stands behind a state: the pairs asked with their answers, in order, and the nodes made
 pub record Ledger : Type 0 where
@@ -140,9 +138,9 @@ unfoldable pub afterLedgers : Env → Desk → Ledgers → List StateCall → Le
 afterLedgers e d g [] = g
 afterLedgers e d g (c ∷ cs) = afterLedgers e (nextDesk e d c) (nextLedgers e d g c) cs
 
--- "Each later call on the store joins the second half as it lands", "without `reset`"
+-- "Each later call on the store joins the second half as it lands"; "these and the next section's calls without `reset`"
 abbrev pub inStatesHalf : StateCall → Bool
-inStatesHalf (call c) = inSecondHalf c
+inStatesHalf (call c) = true
 inStatesHalf (naming (name n)) = true
 inStatesHalf (naming (returnTo n)) = true
 inStatesHalf (naming (drop n)) = true
