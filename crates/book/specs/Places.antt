@@ -1,13 +1,13 @@
 -- What the code reads and writes of a names buffer: its capacities, a place's words `ps`, and the name in them.
 use mathlib.Core.List.{List, _∷_, _++_, map}
 use mathlib.Core.Bool.{Bool, false}
-use Prim.Native.Nat.{ℕ, suc, _≤_, _<_}
+use Prim.Native.Nat.{ℕ, suc, _-_, _≤_, _<_}
 use lib.Dec.{eqb}
-use lib.ListN.{length, getD, drop}
+use lib.ListN.{length, getD, take, drop}
 use Rattle.scope.specs.Base.{pick, from}
 use Rattle.scope.specs.Limits.{MAX-STATES, MAX-STATE-NAME}
 use Rattle.scope.specs.Names.{eqBytes}
-use Rattle.book.specs.Words.{NAME-WORDS, placeFrom, placeWords, bookWords, nameLengthIn, nameIn, nodeRoomIn, childRoomIn}
+use Rattle.book.specs.Words.{NAME-WORDS, placeFrom, bookWords, nameLengthIn, nameIn, nodeRoomIn, childRoomIn}
 use Rattle.book.specs.declared.Room.{Room}
 
 abbrev pub roomIn : List ℕ → Room
@@ -17,6 +17,11 @@ roomIn bs = record { nodes = nodeRoomIn bs; children = childRoomIn bs }
 pub record PlaceLies (bs : List ℕ) (n c i : ℕ) : Type 0 where
   pub words : bookWords n c ≤ length bs
   pub index : i < MAX-STATES
+
+-- the book with other words at place i, as a part that was lent comes back
+abbrev pub putPlace : List ℕ → ℕ → ℕ → ℕ → List ℕ → List ℕ
+putPlace bs n c i ps =
+    take (placeFrom n c i) bs ++ (ps ++ drop (placeFrom n c (suc i) - placeFrom n c i) (drop (placeFrom n c i) bs))
 
 -- a place has the words that its name's length says
 abbrev pub NameLies : List ℕ → Type 0

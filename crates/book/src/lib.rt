@@ -13,8 +13,8 @@ ghost use Rattle.book.specs.Places.{roomIn, PlaceLies, NameLies, heldUnd
 use layout::HEAD_WORDS;
 use layout::child_words;
 use layout::node_words;
-use scope::MAX_STATES;
 use scope::MAX_STATE_NAME;
+use scope::MAX_STATES;
 
 // The two capacities.
 pub const BOOK_HEAD: usize = 2;

@@ -1,0 +1,4 @@
+-- The laws that belong to no one function
+pub mod Geometry
+pub mod Places
+pub mod Names
