@@ -1,4 +1,5 @@
 -- The laws that belong to no one function
 pub mod Geometry
+pub mod Parts
 pub mod Places
 pub mod Names

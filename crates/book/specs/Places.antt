@@ -18,10 +18,13 @@ pub record PlaceLies (bs : List ℕ) (n c i : ℕ) : Type 0 where
   pub words : bookWords n c ≤ length bs
   pub index : i < MAX-STATES
 
--- the book with other words at place i, as a part that was lent comes back
+-- words a to e become ys, as a part that was lent comes back
+abbrev pub putPart : List ℕ → ℕ → ℕ → List ℕ → List ℕ
+putPart xs a e ys = take a xs ++ (ys ++ drop (e - a) (drop a xs))
+
+-- the book with other words at place i
 abbrev pub putPlace : List ℕ → ℕ → ℕ → ℕ → List ℕ → List ℕ
-putPlace bs n c i ps =
-    take (placeFrom n c i) bs ++ (ps ++ drop (placeFrom n c (suc i) - placeFrom n c i) (drop (placeFrom n c i) bs))
+putPlace bs n c i ps = putPart bs (placeFrom n c i) (placeFrom n c (suc i)) ps
 
 -- a place has the words that its name's length says
 abbrev pub NameLies : List ℕ → Type 0
