@@ -3,3 +3,4 @@ pub mod Geometry
 pub mod Parts
 pub mod Places
 pub mod Names
+pub mod Search

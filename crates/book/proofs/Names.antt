@@ -20,8 +20,10 @@ use Rattle.scope.specs.States.{Place, under, isFree, placeWhere}
 use Rattle.scope.proofs.NameLaws.{eq-bytes}
 use Rattle.layout.specs.Words.{between}
 use Rattle.layout.proofs.Lists.{and-both, and-left, length-from, get-from, from-all}
-use Rattle.book.specs.Words.{NAME-WORDS, nodesFrom, placeWords, nameLengthIn, nameIn, placeIn, isByte, nameWordsClean, heldClean, placeClean}
+use Rattle.book.specs.Words.{NAME-WORDS, nodesFrom, placeWords, placeAt, nameLengthIn, nameIn, placeIn, isByte, nameWordsClean, heldClean, placeClean}
+use Rattle.book.specs.Words.{nodeRoomIn, childRoomIn, bookClean}
 use Rattle.book.specs.Places.{NameLies, heldUnder, nameBytes, putName}
+use Rattle.book.proofs.Places.{BookLies, book-lies, placeOf, place-length}
 
 -- what the code's tests say of a place
 
@@ -134,3 +136,21 @@ module _ (ps name : List ℕ) (lies : NameLies ps) where
 
       pub compare-end : nameLengthIn ps ≤ i → true ≡ heldUnder name ps
       compare-end h = sym (no-words (nameIn ps) name i (rw (name-length ps lies) h) (omega arith)) ∙ (s ∙ sym held-bytes)
+
+-- the places of a clean book
+
+pub place-name : (bs : List ℕ) (i : ℕ) → bookClean bs ≡ true → i < MAX-STATES → NameLies (placeAt bs (nodeRoomIn bs) (childRoomIn bs) i)
+place-name bs i cl h =
+    let b = book-lies bs cl in
+    let l = place-length bs (nodeRoomIn bs) (childRoomIn bs) i (b .words) h in
+    name-lies (nodeRoomIn bs) (childRoomIn bs) (placeAt bs (nodeRoomIn bs) (childRoomIn bs) i) (omega arith) (b .each i h)
+
+module _ (bs ps : List ℕ) (i : ℕ) (e : ps ≡ placeAt bs (nodeRoomIn bs) (childRoomIn bs) i) where
+  pub place-under : (name : List ℕ) (t : Bool) → t ≡ heldUnder name ps → under name (placeOf bs i) ≡ t
+  place-under name t h = under-is name (nodeRoomIn bs) (childRoomIn bs) _ ∙ (ap (heldUnder name) (sym e) ∙ sym h)
+
+  pub place-free : nameLengthIn ps ≡ 0 → isFree (placeOf bs i) ≡ true
+  place-free z = free-is (nodeRoomIn bs) (childRoomIn bs) _ ∙ (ap (λ (l : List ℕ). eqb (nameLengthIn l) 0) (sym e) ∙ eq-eqb (nameLengthIn ps) 0 z)
+
+  pub place-held : (nameLengthIn ps ≡ 0 → ⊥) → isFree (placeOf bs i) ≡ false
+  place-held z = free-is (nodeRoomIn bs) (childRoomIn bs) _ ∙ (ap (λ (l : List ℕ). eqb (nameLengthIn l) 0) (sym e) ∙ ne-eqb (nameLengthIn ps) 0 z)

@@ -45,9 +45,3 @@ between-take b d w xs h g = go (decLe b d)
     go : Dec (b ≤ d) → between (take w xs) b d ≡ between xs b d
     go (yes l) = mid-mid b (d - b) w xs (omega arith) g
     go (no l) = let z : d - b ≡ 0 = omega arith in rw z refl
-
--- a place's parts
-
-pub head-length : (ps : List ℕ) → nodesFrom ≤ length ps → length (headIn ps) ≡ HEAD-WORDS
-head-length ps h = ?
-
