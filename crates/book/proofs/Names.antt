@@ -22,8 +22,8 @@ use Rattle.layout.specs.Words.{between}
 use Rattle.layout.proofs.Lists.{and-both, and-left, length-from, get-from, from-all}
 use Rattle.book.specs.Words.{NAME-WORDS, nodesFrom, placeWords, placeAt, nameLengthIn, nameIn, placeIn, isByte, nameWordsClean, heldClean, placeClean}
 use Rattle.book.specs.Words.{nodeRoomIn, childRoomIn, bookClean}
-use Rattle.book.specs.Places.{NameLies, heldUnder, nameBytes, putName}
-use Rattle.book.proofs.Places.{BookLies, book-lies, placeOf, place-length}
+use Rattle.book.specs.Places.{placeOf, NameLies, heldUnder}
+use Rattle.book.proofs.Places.{BookLies, book-lies, place-length}
 
 -- what the code's tests say of a place
 

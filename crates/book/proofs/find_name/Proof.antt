@@ -7,7 +7,8 @@ use native.Mathlib.Omega.{arith}
 use Rattle.scope.specs.Limits.{MAX-STATES}
 use Rattle.scope.specs.States.{under, placeWhere}
 use Rattle.book.specs.Words.{placesIn}
-use Rattle.book.proofs.Places.{book-lies, placeOf}
+use Rattle.book.specs.Places.{placeOf}
+use Rattle.book.proofs.Places.{book-lies}
 use Rattle.book.proofs.Names.{place-name, place-under}
 use Rattle.book.proofs.Search.{foundFrom, search-start, search-found, search-on, search-end}
 use borrow.Author.Needs.{needs}
