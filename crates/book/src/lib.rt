@@ -3,11 +3,10 @@
 ghost use mathlib.Core.Path.{_≡_};
 ghost use mathlib.Core.Bool.{true};
 ghost use Prim.Native.Nat.{_≤_, _<_};
-ghost use lib.Dec.{eqb};
 ghost use lib.ListN.{length, getD, set};
 ghost use Rattle.scope.specs.Limits.{MAX-STATES};
 ghost use Rattle.scope.specs.States.{under, isFree, placeWhere};
-ghost use Rattle.book.specs.Words.{NAME-WORDS, nodesFrom, kidsFrom, placeWords, bookWords, placeFrom, placeAt};
+ghost use Rattle.book.specs.Words.{nodesFrom, kidsFrom, placeWords, bookWords, placeFrom, placeAt};
 ghost use Rattle.book.specs.Words.{nameLengthIn, nameIn, headIn, nodesIn, kidsIn, placesIn, bookClean};
 ghost use Rattle.book.specs.Places.{roomIn, PlaceLies, NameLies, heldUnder, Nameable, putName};
 use layout::HEAD_WORDS;

@@ -13,14 +13,14 @@ use Rattle.scope.specs.Base.{all, from}
 use Rattle.scope.specs.Limits.{MAX-STATES}
 use Rattle.scope.specs.Chart.{Env, chartOk}
 use Rattle.scope.specs.Nodes.{Store}
-use Rattle.scope.specs.Sound.{Lent, reads, sound, soundStore}
+use Rattle.scope.specs.Sound.{Lent, reads, sound}
 use Rattle.scope.specs.Refusals.{BAD-CHART, UNSOUND, firstBroken, storeOf, lentTests}
 use Rattle.scope.specs.States.{Place, Book, LentBook, strayBook, readsBook, blank, sameRoom, placeSound, namesDiffer, bookSound, lentBookSound, bookTests}
 use Rattle.names.proofs.Tests.{both}
 use Rattle.chart.specs.declared.Beside.{Beside}
-use Rattle.chart.specs.Env.{envOf, chartIn, chartWordsOk}
-use Rattle.layout.specs.Words.{nodeRoom, childRoom, storeIn, clean, lentOf}
-use Rattle.layout.proofs.Lists.{and-both, and-left, and-right}
+use Rattle.chart.specs.Env.{envOf, chartIn}
+use Rattle.layout.specs.Words.{storeIn, lentOf}
+use Rattle.layout.proofs.Lists.{and-left}
 use Rattle.layout.proofs.StoreLaws.{lent-clean}
 use Rattle.clean.proofs.Laws.{all-map}
 use Rattle.refusals.specs.Codes.{codeOf}

@@ -3,19 +3,18 @@
 use mathlib.Core.Path.{_≡_, refl, ap, sym, _∙_}
 use mathlib.Core.Bool.{Bool, true, false, not, _&&_, _||_}
 use mathlib.Core.List.{List, [], _∷_, map}
-use mathlib.Core.Option.{none, some}
-use Prim.Native.Nat.{ℕ, zero, suc, _+_, _-_, _≤_, _<_}
+use Prim.Native.Nat.{ℕ, suc, _+_, _-_, _≤_, _<_}
 use native.Mathlib.Omega.{arith}
 use native.Mathlib.Numerals.{add-one}
 use lib.Dec.{eqb}
 use lib.ListN.{length}
-use borrow.Author.Tests.{eq-eqb, ne-eqb, eqb-true, eqb-false}
-use Rattle.scope.specs.Base.{pick, all, any, from}
+use borrow.Author.Tests.{ne-eqb, eqb-true, eqb-false}
+use Rattle.scope.specs.Base.{all, any, from}
 use Rattle.scope.specs.Limits.{MAX-STATES}
 use Rattle.scope.specs.States.{Place, under, heldOnce, namesDiffer}
 use Rattle.layout.proofs.Lists.{from-all}
 use Rattle.clean.proofs.Laws.{all-map}
-use Rattle.book.specs.Words.{placeAt, nameLengthIn, nameIn, heldIn, placeIn, nodeRoomIn, childRoomIn, bookClean}
+use Rattle.book.specs.Words.{placeAt, nameLengthIn, nameIn, placeIn, nodeRoomIn, childRoomIn, bookClean}
 use Rattle.book.specs.Places.{placeOf, heldUnder}
 use Rattle.book.proofs.Names.{under-is, placeIn-free, place-name, name-is, name-length, apart-length}
 use Rattle.book_sound.specs.Tests.{nameOnce}

@@ -24,7 +24,7 @@ use Rattle.layout.proofs.Laws.{length-decode}
 use Rattle.layout.proofs.Lists.{and-both, and-left}
 use Rattle.layout.proofs.StoreLaws.{clean-lies, lent-clean}
 use Rattle.book.specs.Words.{NAME-WORDS, nodesFrom, kidsFrom, placeWords, nameLengthIn, nameIn, headIn, nodesIn, kidsIn, withRoom, heldIn, placeIn}
-use Rattle.book.specs.Words.{isByte, nameWordsClean, countsAreRoom, heldClean, placeClean}
+use Rattle.book.specs.Words.{nameWordsClean, countsAreRoom, heldClean}
 use Rattle.book.proofs.Names.{placeIn-free, clean-free, clean-held, name-length}
 use Rattle.book.proofs.Laws.{all-run}
 use Rattle.book_sound.specs.Tests.{Run, isBelow, placeOk}

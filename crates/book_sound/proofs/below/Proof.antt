@@ -1,7 +1,8 @@
 -- `book_sound::below` meets its contract. The invariant: the words from i to e pass just where those from a to e do. The measure is what is left.
 -- Assumes nothing.
 use mathlib.Core.Path.{_≡_, refl, sym, _∙_}
-use Prim.Native.Nat.{_-_}
+use mathlib.Core.Bool.{Bool}
+use Prim.Native.Nat.{ℕ, _-_}
 use native.Mathlib.Omega.{arith}
 use lib.ListN.{getD}
 use borrow.Author.Tests.{lt-ltb, le-ltb}
@@ -32,7 +33,9 @@ returns : tie.Need-returns Inv-loop μ-loop
 returns c =
     let a = c .before .before .before .before .args in
     let o = c .before .before .before .loop in
-    sym (below-run (a .limit) (a .s .now) (a .a) (a .e) (c .before .before .before .before .pre) ∙ (o .inv ∙ run-stop (λ j. isBelow (c .before .before .before .before .args .limit) (getD (c .before .before .before .before .args .s .now) j 0)) (o .i) (a .e) (c .before .before .loop-test .taken) (le-ltb _ _ (c .if1 .taken))))
+    let q : ℕ → Bool = λ j. isBelow (a .limit) (getD (a .s .now) j 0) in
+    let run = below-run (a .limit) (a .s .now) (a .a) (a .e) (c .before .before .before .before .pre) in
+    sym (run ∙ (o .inv ∙ run-stop q (o .i) (a .e) (c .before .before .loop-test .taken) (le-ltb _ _ (c .if1 .taken))))
 
 add-i : tie.Need-add-i Inv-loop μ-loop
 add-i c = search needs
@@ -44,13 +47,16 @@ loop-again : tie.Need-loop-again Inv-loop μ-loop
 loop-again c =
     let a = c .before .before .before .before .args in
     let o = c .before .before .before .loop in
-    o .inv ∙ run-step (λ j. isBelow (c .before .before .before .before .args .limit) (getD (c .before .before .before .before .args .s .now) j 0)) (o .i) (a .e) (c .before .before .loop-test .taken) (lt-ltb _ _ (c .if1 .left))
+    let q : ℕ → Bool = λ j. isBelow (a .limit) (getD (a .s .now) j 0) in
+    o .inv ∙ run-step q (o .i) (a .e) (c .before .before .loop-test .taken) (lt-ltb _ _ (c .if1 .left))
 
 returns-2 : tie.Need-returns-2 Inv-loop μ-loop
 returns-2 c =
     let a = c .before .before .args in
     let o = c .before .loop in
-    sym (below-run (a .limit) (a .s .now) (a .a) (a .e) (c .before .before .pre) ∙ (o .inv ∙ run-end (λ j. isBelow (c .before .before .args .limit) (getD (c .before .before .args .s .now) j 0)) (o .i) (a .e) (c .loop-test .left)))
+    let q : ℕ → Bool = λ j. isBelow (a .limit) (getD (a .s .now) j 0) in
+    let run = below-run (a .limit) (a .s .now) (a .a) (a .e) (c .before .before .pre) in
+    sym (run ∙ (o .inv ∙ run-end q (o .i) (a .e) (c .loop-test .left)))
 
 pub below-spec : {M : Type 1} → statement M
 below-spec =

@@ -28,7 +28,8 @@ returns : tie.Need-returns
 returns c =
     let a = c .before .before .before .before .before .before .before .before .before .args in
     let e = chartIn (a .chart .now) (a .rule .now) (a .text .now) in
-    let w = c .before .before .room-of .ensures in
+    let room = c .before .before .room-of in
+    let w = room .ensures in
     let b = rw w at (c .before .book-words .ensures) in
     sym (too-short e (roomAlone (a .h .now)) (a .bs .now) (omega arith))
 
@@ -36,19 +37,23 @@ returns-2 : tie.Need-returns-2
 returns-2 c =
     let a = c .before .before .before .before .before .before .before .before .before .before .before .before .args in
     let e = chartIn (a .chart .now) (a .rule .now) (a .text .now) in
-    let w = c .before .before .before .before .before .room-of .ensures in
+    let room = c .before .before .before .before .before .room-of in
+    let w = room .ensures in
+    let x = c .before .before .before .before .before .before .read-header .ensures in
     let n = ap (λ (y : Room). y .nodes) w in
-    let m = ap (λ (y : Header). y .«node_room») (c .before .before .before .before .before .before .read-header .ensures) in
+    let m = ap (λ (y : Header). y .«node_room») x in
     sym (other-nodes e (roomAlone (a .h .now)) (a .bs .now) (λ q. c .if2 .taken (n ∙ (q ∙ sym m))))
 
 returns-3 : tie.Need-returns-3
 returns-3 c =
     let a = c .before .before .before .before .before .before .before .before .before .before .before .before .before .before .before .args in
     let e = chartIn (a .chart .now) (a .rule .now) (a .text .now) in
-    let w = c .before .before .before .before .before .before .before .before .room-of .ensures in
-    let c₁ = ap (λ (y : Room). y .children) w in
-    let d = ap (λ (y : Header). y .«child_room») (c .before .before .before .before .before .before .before .before .before .read-header .ensures) in
-    sym (other-children e (roomAlone (a .h .now)) (a .bs .now) (λ q. c .if3 .taken (c₁ ∙ (q ∙ sym d))))
+    let room = c .before .before .before .before .before .before .before .before .room-of in
+    let w = room .ensures in
+    let x = c .before .before .before .before .before .before .before .before .before .read-header .ensures in
+    let k = ap (λ (y : Room). y .children) w in
+    let d = ap (λ (y : Header). y .«child_room») x in
+    sym (other-children e (roomAlone (a .h .now)) (a .bs .now) (λ q. c .if3 .taken (k ∙ (q ∙ sym d))))
 
 places-sound-requires : tie.Need-places-sound-requires
 places-sound-requires c κs = search needs
@@ -57,21 +62,26 @@ returns-4 : tie.Need-returns-4
 returns-4 c =
     let a = c .before .before .before .before .before .before .before .before .before .before .before .before .before .before .before .before .before .args in
     let e = chartIn (a .chart .now) (a .rule .now) (a .text .now) in
-    let w = c .before .before .before .before .before .before .before .before .before .before .room-of .ensures in
+    let room = c .before .before .before .before .before .before .before .before .before .before .room-of in
+    let w = room .ensures in
     let b = rw w at (c .before .before .before .before .before .before .before .before .before .book-words .ensures) in
     let l : bookWords (nodeRoomIn (a .bs .now)) (childRoomIn (a .bs .now)) ≤ length (a .bs .now) = omega arith in
+    let x = c .before .before .before .before .before .before .before .before .before .before .before .read-header .ensures in
     let n = ap (λ (y : Room). y .nodes) w in
-    let m = ap (λ (y : Header). y .«node_room») (c .before .before .before .before .before .before .before .before .before .before .before .read-header .ensures) in
-    let c₁ = ap (λ (y : Room). y .children) w in
-    let d = ap (λ (y : Header). y .«child_room») (c .before .before .before .before .before .before .before .before .before .before .before .read-header .ensures) in
+    let m = ap (λ (y : Header). y .«node_room») x in
+    let k = ap (λ (y : Room). y .children) w in
+    let d = ap (λ (y : Header). y .«child_room») x in
+    let nodes = sym n ∙ (c .before .before .before .before .before .if2 .left ∙ m) in
+    let children = sym k ∙ (c .before .before .if3 .left ∙ d) in
     let p = rw w at (c .before .places-sound .ensures) in
-    sym (bad-place e (roomAlone (a .h .now)) (a .bs .now) l (sym n ∙ (c .before .before .before .before .before .if2 .left ∙ m)) (sym c₁ ∙ (c .before .before .if3 .left ∙ d)) (fails p (c .if4 .taken)))
+    sym (bad-place e (roomAlone (a .h .now)) (a .bs .now) l nodes children (fails p (c .if4 .taken)))
 
 names-differ-requires : tie.Need-names-differ-requires
 names-differ-requires c κs =
     let a = c .before .before .before .before .before .before .before .before .before .before .before .before .before .before .before .before .before .args in
     let e = chartIn (a .chart .now) (a .rule .now) (a .text .now) in
-    let w = c .before .before .before .before .before .before .before .before .before .before .room-of .ensures in
+    let room = c .before .before .before .before .before .before .before .before .before .before .room-of in
+    let w = room .ensures in
     let b = rw w at (c .before .before .before .before .before .before .before .before .before .book-words .ensures) in
     let l : bookWords (nodeRoomIn (a .bs .now)) (childRoomIn (a .bs .now)) ≤ length (a .bs .now) = omega arith in
     let p = rw w at (c .before .places-sound .ensures) in
@@ -81,15 +91,19 @@ returns-5 : tie.Need-returns-5
 returns-5 c =
     let a = c .before .before .before .before .before .before .before .before .before .before .before .before .before .before .before .before .before .before .args in
     let e = chartIn (a .chart .now) (a .rule .now) (a .text .now) in
-    let w = c .before .before .before .before .before .before .before .before .before .before .before .room-of .ensures in
+    let room = c .before .before .before .before .before .before .before .before .before .before .before .room-of in
+    let w = room .ensures in
     let b = rw w at (c .before .before .before .before .before .before .before .before .before .before .book-words .ensures) in
     let l : bookWords (nodeRoomIn (a .bs .now)) (childRoomIn (a .bs .now)) ≤ length (a .bs .now) = omega arith in
+    let x = c .before .before .before .before .before .before .before .before .before .before .before .before .read-header .ensures in
     let n = ap (λ (y : Room). y .nodes) w in
-    let m = ap (λ (y : Header). y .«node_room») (c .before .before .before .before .before .before .before .before .before .before .before .before .read-header .ensures) in
-    let c₁ = ap (λ (y : Room). y .children) w in
-    let d = ap (λ (y : Header). y .«child_room») (c .before .before .before .before .before .before .before .before .before .before .before .before .read-header .ensures) in
+    let m = ap (λ (y : Header). y .«node_room») x in
+    let k = ap (λ (y : Room). y .children) w in
+    let d = ap (λ (y : Header). y .«child_room») x in
+    let nodes = sym n ∙ (c .before .before .before .before .before .before .if2 .left ∙ m) in
+    let children = sym k ∙ (c .before .before .before .if3 .left ∙ d) in
     let p = rw w at (c .before .before .places-sound .ensures) in
-    c .names-differ .ensures ∙ sym (by-names e (roomAlone (a .h .now)) (a .bs .now) l (sym n ∙ (c .before .before .before .before .before .before .if2 .left ∙ m)) (sym c₁ ∙ (c .before .before .before .if3 .left ∙ d)) (passes p (c .before .if4 .left)))
+    c .names-differ .ensures ∙ sym (by-names e (roomAlone (a .h .now)) (a .bs .now) l nodes children (passes p (c .before .if4 .left)))
 
 pub book-sound-spec : {M : Type 1} → statement M
 book-sound-spec =

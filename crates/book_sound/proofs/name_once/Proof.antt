@@ -2,14 +2,12 @@
 -- Assumes nothing.
 use mathlib.Core.Path.{_≡_, refl, sym, ap, _∙_}
 use mathlib.Core.Bool.{not}
-use Prim.Native.Nat.{suc, _-_, _≤_}
+use Prim.Native.Nat.{suc, _-_}
 use native.Mathlib.Omega.{arith}
 use native.Mathlib.Numerals.{add-one}
 use Rattle.scope.specs.Base.{all, from}
 use Rattle.scope.specs.Limits.{MAX-STATES}
 use Rattle.clean.proofs.Laws.{run-step, run-stop, run-end}
-use Rattle.book.specs.Words.{nameIn}
-use Rattle.book.specs.Places.{heldUnder}
 use Rattle.book.proofs.Places.{book-lies}
 use Rattle.book.proofs.Names.{place-name}
 use Rattle.book_sound.proofs.NameLaws.{otherName, once-run}
@@ -33,26 +31,34 @@ loop-holds : tie.Need-loop-holds Inv-loop μ-loop
 loop-holds c = rw (add-one (c .before .before .args .i)) refl
 
 place-requires : tie.Need-place-requires Inv-loop μ-loop
-place-requires c κs = rw (c .before .before .room-of .ensures) (record { words = book-lies (c .before .before .before .before .args .bs .now) (c .before .before .before .before .pre .clean) .words; index = c .loop-test .taken })
+place-requires c κs =
+    let b = book-lies (c .before .before .before .before .args .bs .now) (c .before .before .before .before .pre .clean) in
+    rw (c .before .before .room-of .ensures) (record { words = b .words; index = c .loop-test .taken })
 
 place-requires-2 : tie.Need-place-requires-2 Inv-loop μ-loop
-place-requires-2 c κs = rw (c .before .before .before .room-of .ensures) (record { words = book-lies (c .before .before .before .before .before .args .bs .now) (c .before .before .before .before .before .pre .clean) .words; index = c .before .before .before .before .before .pre .index })
+place-requires-2 c κs =
+    let b = book-lies (c .before .before .before .before .before .args .bs .now) (c .before .before .before .before .before .pre .clean) in
+    rw (c .before .before .before .room-of .ensures) (record { words = b .words; index = c .before .before .before .before .before .pre .index })
 
 same-names-requires : tie.Need-same-names-requires Inv-loop μ-loop
 same-names-requires c κs =
+    let a = c .before .before .before .before .before .before .args in
     let w = rw (c .before .before .before .before .room-of .ensures) at (c .before .place .ensures) in
     let v = rw (c .before .before .before .before .room-of .ensures) at (c .place2 .ensures) in
-    (rw w (place-name (c .before .before .before .before .before .before .args .bs .now) (c .before .before .before .loop .j) (c .before .before .before .before .before .before .pre .clean) (c .before .before .loop-test .taken)), rw v (place-name (c .before .before .before .before .before .before .args .bs .now) (c .before .before .before .before .before .before .args .i) (c .before .before .before .before .before .before .pre .clean) (c .before .before .before .before .before .before .pre .index)))
+    let p = place-name (a .bs .now) (c .before .before .before .loop .j) (c .before .before .before .before .before .before .pre .clean) (c .before .before .loop-test .taken) in
+    let q = place-name (a .bs .now) (a .i) (c .before .before .before .before .before .before .pre .clean) (c .before .before .before .before .before .before .pre .index) in
+    (rw w p, rw v q)
 
 returns : tie.Need-returns Inv-loop μ-loop
 returns c =
+    let a = c .before .before .before .before .before .before .before .before .args in
     let w = rw (c .before .before .before .before .before .before .room-of .ensures) at (c .before .before .before .place .ensures) in
     let v = rw (c .before .before .before .before .before .before .room-of .ensures) at (c .before .before .place2 .ensures) in
-    let a = c .before .before .before .before .before .before .before .before .args in
     let o = c .before .before .before .before .before .loop in
     let f = rw (w, v) at (c .before .same-names .ensures) in
-    sym (once-run (a .bs .now) (c .before .before .before .before .before .before .before .before .pre .clean) (a .i) (c .before .before .before .before .before .before .before .before .pre .index)
-    ∙ (o .inv ∙ run-stop (otherName (a .bs .now) (a .i)) (o .j) MAX-STATES (c .before .before .before .before .loop-test .taken) (ap not (sym f ∙ c .if1 .taken))))
+    let pre = c .before .before .before .before .before .before .before .before .pre in
+    let once = once-run (a .bs .now) (pre .clean) (a .i) (pre .index) in
+    sym (once ∙ (o .inv ∙ run-stop (otherName (a .bs .now) (a .i)) (o .j) MAX-STATES (c .before .before .before .before .loop-test .taken) (ap not (sym f ∙ c .if1 .taken))))
 
 add-j-2 : tie.Need-add-j-2 Inv-loop μ-loop
 add-j-2 c = search needs
@@ -62,9 +68,9 @@ loop-less c = search needs
 
 loop-again : tie.Need-loop-again Inv-loop μ-loop
 loop-again c =
+    let a = c .before .before .before .before .before .before .before .before .args in
     let w = rw (c .before .before .before .before .before .before .room-of .ensures) at (c .before .before .before .place .ensures) in
     let v = rw (c .before .before .before .before .before .before .room-of .ensures) at (c .before .before .place2 .ensures) in
-    let a = c .before .before .before .before .before .before .before .before .args in
     let o = c .before .before .before .before .before .loop in
     let f = rw (w, v) at (c .before .same-names .ensures) in
     o .inv ∙ run-step (otherName (a .bs .now) (a .i)) (o .j) MAX-STATES (c .before .before .before .before .loop-test .taken) (ap not (sym f ∙ c .if1 .left))
@@ -73,8 +79,8 @@ returns-2 : tie.Need-returns-2 Inv-loop μ-loop
 returns-2 c =
     let a = c .before .before .before .before .args in
     let o = c .before .loop in
-    sym (once-run (a .bs .now) (c .before .before .before .before .pre .clean) (a .i) (c .before .before .before .before .pre .index)
-    ∙ (o .inv ∙ run-end (otherName (a .bs .now) (a .i)) (o .j) MAX-STATES (c .loop-test .left)))
+    let once = once-run (a .bs .now) (c .before .before .before .before .pre .clean) (a .i) (c .before .before .before .before .pre .index) in
+    sym (once ∙ (o .inv ∙ run-end (otherName (a .bs .now) (a .i)) (o .j) MAX-STATES (c .loop-test .left)))
 
 pub name-once-spec : {M : Type 1} → statement M
 name-once-spec =

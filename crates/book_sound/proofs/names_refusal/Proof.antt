@@ -14,7 +14,8 @@ returns : tie.Need-returns
 returns c =
     let a = c .before .before .before .before .before .before .before .before .before .args in
     let r = c .before .refusal in
-    names-back (a .chart .now) (a .beside) (a .rule .now) (a .text .now) (a .h .now) (a .ws .now) (a .ks .now) (lentBookOf (a .bs .now)) (r .result) (r .ensures) (c .if1 .taken)
+    let k = lentBookOf (a .bs .now) in
+    names-back (a .chart .now) (a .beside) (a .rule .now) (a .text .now) (a .h .now) (a .ws .now) (a .ks .now) k (r .result) (r .ensures) (c .if1 .taken)
 
 book-sound-requires : tie.Need-book-sound-requires
 book-sound-requires c κs = search needs
@@ -23,13 +24,17 @@ returns-2 : tie.Need-returns-2
 returns-2 c =
     let a = c .before .before .before .before .before .before .before .before .before .before .before .args in
     let r = c .before .before .before .refusal in
-    names-unsound (a .chart .now) (a .beside) (a .rule .now) (a .text .now) (a .h .now) (a .ws .now) (a .ks .now) (lentBookOf (a .bs .now)) (r .result) (r .ensures) (c .before .before .if1 .left) (fails (c .before .book-sound .ensures) (c .if2 .taken))
+    let k = lentBookOf (a .bs .now) in
+    let s = fails (c .before .book-sound .ensures) (c .if2 .taken) in
+    names-unsound (a .chart .now) (a .beside) (a .rule .now) (a .text .now) (a .h .now) (a .ws .now) (a .ks .now) k (r .result) (r .ensures) (c .before .before .if1 .left) s
 
 returns-3 : tie.Need-returns-3
 returns-3 c =
     let a = c .before .before .before .before .before .before .before .before .before .before .before .args in
     let r = c .before .before .before .refusal in
-    names-pass (a .chart .now) (a .beside) (a .rule .now) (a .text .now) (a .h .now) (a .ws .now) (a .ks .now) (lentBookOf (a .bs .now)) (r .result) (r .ensures) (c .before .before .if1 .left) (passes (c .before .book-sound .ensures) (c .if2 .left))
+    let k = lentBookOf (a .bs .now) in
+    let s = passes (c .before .book-sound .ensures) (c .if2 .left) in
+    names-pass (a .chart .now) (a .beside) (a .rule .now) (a .text .now) (a .h .now) (a .ws .now) (a .ks .now) k (r .result) (r .ensures) (c .before .before .if1 .left) s
 
 pub names-refusal-spec : {M : Type 1} → statement M
 names-refusal-spec =

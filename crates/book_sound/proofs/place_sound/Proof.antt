@@ -1,9 +1,10 @@
 -- `book_sound::place_sound` meets its contract: each way out has its law, and what is left at last is whether the store that is held is sound.
 -- Assumes nothing.
-use mathlib.Core.Path.{sym, ap, _∙_}
+use mathlib.Core.Path.{_≡_, sym, ap, _∙_}
 use Rattle.names.proofs.Tests.{passes, fails}
 use Rattle.chart.specs.Env.{chartIn}
 use Rattle.layout.specs.Meaning.{headerIn}
+use Rattle.book.specs.Words.{nameLengthIn}
 use Rattle.book_sound.proofs.PlaceLaws.{ok-free, ok-name, ok-nodes, ok-children, ok-node-count, ok-child-count, ok-sound}
 use borrow.Author.Needs.{needs}
 use Rattle.book_sound.proofs.place_sound.Statement.{statement}
@@ -27,21 +28,24 @@ returns-2 c =
     let a = c .before .before .before .before .before .before .before .before .args in
     let e = chartIn (a .chart .now) (a .rule .now) (a .text .now) in
     let l = c .before .before .before .name-length .ensures in
-    sym (ok-name e (a .nodes) (a .children) (a .ps .now) (λ q. c .before .before .if1 .left (l ∙ q)) (fails (c .before .name-clean .ensures) (c .if2 .taken)))
+    let held : nameLengthIn (a .ps .now) ≡ 0 → ⊥ = λ q. c .before .before .if1 .left (l ∙ q) in
+    sym (ok-name e (a .nodes) (a .children) (a .ps .now) held (fails (c .before .name-clean .ensures) (c .if2 .taken)))
 
 returns-3 : tie.Need-returns-3
 returns-3 c =
     let a = c .before .before .before .before .before .before .before .before .before .args in
     let e = chartIn (a .chart .now) (a .rule .now) (a .text .now) in
     let l = c .before .before .before .before .name-length .ensures in
-    sym (ok-nodes e (a .nodes) (a .children) (a .ps .now) (λ q. c .before .before .before .if1 .left (l ∙ q)) (c .if3 .taken))
+    let held : nameLengthIn (a .ps .now) ≡ 0 → ⊥ = λ q. c .before .before .before .if1 .left (l ∙ q) in
+    sym (ok-nodes e (a .nodes) (a .children) (a .ps .now) held (c .if3 .taken))
 
 returns-4 : tie.Need-returns-4
 returns-4 c =
     let a = c .before .before .before .before .before .before .before .before .before .before .args in
     let e = chartIn (a .chart .now) (a .rule .now) (a .text .now) in
     let l = c .before .before .before .before .before .name-length .ensures in
-    sym (ok-children e (a .nodes) (a .children) (a .ps .now) (λ q. c .before .before .before .before .if1 .left (l ∙ q)) (c .if4 .taken))
+    let held : nameLengthIn (a .ps .now) ≡ 0 → ⊥ = λ q. c .before .before .before .before .if1 .left (l ∙ q) in
+    sym (ok-children e (a .nodes) (a .children) (a .ps .now) held (c .if4 .taken))
 
 head-of-requires : tie.Need-head-of-requires
 head-of-requires c κs = search needs
@@ -54,16 +58,20 @@ returns-5 c =
     let a = c .before .before .before .before .before .before .before .before .before .before .before .before .before .before .args in
     let e = chartIn (a .chart .now) (a .rule .now) (a .text .now) in
     let l = c .before .before .before .before .before .before .before .before .before .name-length .ensures in
-    let g = c .before .before .read-header .ensures ∙ ap headerIn (c .before .before .before .head-of .ensures) in
-    sym (ok-node-count e (a .nodes) (a .children) (a .ps .now) (λ q. c .before .before .before .before .before .before .before .before .if1 .left (l ∙ q)) (c .before .before .read-header .result) g (c .if5 .taken))
+    let held : nameLengthIn (a .ps .now) ≡ 0 → ⊥ = λ q. c .before .before .before .before .before .before .before .before .if1 .left (l ∙ q) in
+    let x = c .before .before .read-header in
+    let g = x .ensures ∙ ap headerIn (c .before .before .before .head-of .ensures) in
+    sym (ok-node-count e (a .nodes) (a .children) (a .ps .now) held (x .result) g (c .if5 .taken))
 
 returns-6 : tie.Need-returns-6
 returns-6 c =
     let a = c .before .before .before .before .before .before .before .before .before .before .before .before .before .before .before .before .args in
     let e = chartIn (a .chart .now) (a .rule .now) (a .text .now) in
     let l = c .before .before .before .before .before .before .before .before .before .before .before .name-length .ensures in
-    let g = c .before .before .before .before .read-header .ensures ∙ ap headerIn (c .before .before .before .before .before .head-of .ensures) in
-    sym (ok-child-count e (a .nodes) (a .children) (a .ps .now) (λ q. c .before .before .before .before .before .before .before .before .before .before .if1 .left (l ∙ q)) (c .before .before .before .before .read-header .result) g (c .if6 .taken))
+    let held : nameLengthIn (a .ps .now) ≡ 0 → ⊥ = λ q. c .before .before .before .before .before .before .before .before .before .before .if1 .left (l ∙ q) in
+    let x = c .before .before .before .before .read-header in
+    let g = x .ensures ∙ ap headerIn (c .before .before .before .before .before .head-of .ensures) in
+    sym (ok-child-count e (a .nodes) (a .children) (a .ps .now) held (x .result) g (c .if6 .taken))
 
 head-of-requires-2 : tie.Need-head-of-requires-2
 head-of-requires-2 c κs = search needs
@@ -82,9 +90,20 @@ returns-7 c =
     let a = c .before .before .before .before .before .before .before .before .before .before .before .before .before .before .before .before .before .before .before .before .args in
     let e = chartIn (a .chart .now) (a .rule .now) (a .text .now) in
     let l = c .before .before .before .before .before .before .before .before .before .before .before .before .before .before .before .name-length .ensures in
-    let g = c .before .before .before .before .before .before .before .before .read-header .ensures ∙ ap headerIn (c .before .before .before .before .before .before .before .before .before .head-of .ensures) in
-    let s = rw (c .before .before .before .head-of2 .ensures, c .before .before .nodes-of .ensures, c .before .kids-of .ensures) at (c .store-sound .ensures) in
-    s ∙ sym (ok-sound e (a .nodes) (a .children) (a .ps .now) (λ q. c .before .before .before .before .before .before .before .before .before .before .before .before .before .before .if1 .left (l ∙ q)) (c .before .before .before .before .before .before .before .before .read-header .result) g (c .before .before .before .before .before .before .before .before .before .before .before .before .before .before .before .before .before .before .before .before .pre) (passes (c .before .before .before .before .before .before .before .before .before .before .before .before .before .name-clean .ensures) (c .before .before .before .before .before .before .before .before .before .before .before .before .if2 .left)) (c .before .before .before .before .before .before .before .before .before .before .before .if3 .left) (c .before .before .before .before .before .before .before .before .before .before .if4 .left) (c .before .before .before .before .before .before .if5 .left) (c .before .before .before .before .if6 .left))
+    let held : nameLengthIn (a .ps .now) ≡ 0 → ⊥ = λ q. c .before .before .before .before .before .before .before .before .before .before .before .before .before .before .if1 .left (l ∙ q) in
+    let x = c .before .before .before .before .before .before .before .before .read-header in
+    let g = x .ensures ∙ ap headerIn (c .before .before .before .before .before .before .before .before .before .head-of .ensures) in
+    let hd = c .before .before .before .head-of2 .ensures in
+    let ns = c .before .before .nodes-of .ensures in
+    let ks = c .before .kids-of .ensures in
+    let s = rw (hd, ns, ks) at (c .store-sound .ensures) in
+    let b = c .before .before .before .before .before .before .before .before .before .before .before .before in
+    let name = passes (b .before .name-clean .ensures) (b .if2 .left) in
+    let few = c .before .before .before .before .before .before .before .before .before .before .before .if3 .left in
+    let small = c .before .before .before .before .before .before .before .before .before .before .if4 .left in
+    let len = c .before .before .before .before .before .before .before .before .before .before .before .before .before .before .before .before .before .before .before .before .pre in
+    let counts = ok-sound e (a .nodes) (a .children) (a .ps .now) held (x .result) g len name few small in
+    s ∙ sym (counts (c .before .before .before .before .before .before .if5 .left) (c .before .before .before .before .if6 .left))
 
 pub place-sound-spec : {M : Type 1} → statement M
 place-sound-spec =

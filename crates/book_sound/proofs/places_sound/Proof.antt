@@ -16,7 +16,9 @@ use Rattle.book_sound.proofs.places_sound.Statement.{statement}
 use Rattle.book_sound.proofs.places_sound.Tie as tie
 
 abbrev Inv-loop : tie.InvT-loop
-Inv-loop chart rule text bs nodes children i₀ i = placesOk (chartIn chart rule text) nodes children bs ≡ all (λ j. placeOk (chartIn chart rule text) nodes children (placeAt bs nodes children j)) (from i (MAX-STATES - i))
+Inv-loop chart rule text bs nodes children i₀ i =
+    let e = chartIn chart rule text in
+    placesOk e nodes children bs ≡ all (λ j. placeOk e nodes children (placeAt bs nodes children j)) (from i (MAX-STATES - i))
 
 abbrev μ-loop : tie.MeasureT-loop
 μ-loop chart rule text bs nodes children i₀ i = MAX-STATES - i
@@ -30,7 +32,8 @@ place-requires c κs = record { words = c .before .before .before .before .befor
 place-sound-requires : tie.Need-place-sound-requires Inv-loop μ-loop
 place-sound-requires c κs =
     let a = c .before .before .before .before .before .before .before .args in
-    rw (c .place .ensures) (place-length (a .bs .now) (a .nodes) (a .children) (c .before .before .loop .i) (c .before .before .before .before .before .before .before .pre) (c .before .loop-test .taken))
+    let o = c .before .before .loop in
+    rw (c .place .ensures) (place-length (a .bs .now) (a .nodes) (a .children) (o .i) (c .before .before .before .before .before .before .before .pre) (c .before .loop-test .taken))
 
 returns : tie.Need-returns Inv-loop μ-loop
 returns c =
