@@ -150,15 +150,15 @@ pub fn same_names<'a>(ps: &'a [u32], other: &'a [u32]) -> bool
     requires { ⌜ NameLies (now ps) × NameLies (now other) ⌝ }
     ensures { λ r. ⌜ r ≡ heldUnder (nameIn (now (other .entry))) (now (ps .entry)) ⌝ }
 {
-    let n = name_length(ps) as usize;
-    if n == 0 {
+    let length = name_length(ps) as usize;
+    if length == 0 {
         return false;
     }
-    if n != name_length(other) as usize {
+    if length != name_length(other) as usize {
         return false;
     }
     let mut i = 0;
-    while i < n {
+    while i < length {
         if word(ps, i + 1) != word(other, i + 1) {
             return false;
         }

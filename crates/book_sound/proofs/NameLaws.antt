@@ -80,6 +80,10 @@ module _ (bs : List ℕ) (cl : bookClean bs ≡ true) (i : ℕ) where
   pub once-run : i < MAX-STATES → nameOnce bs i ≡ all (otherName bs i) (from (suc i) (MAX-STATES - suc i))
   once-run h = run-by (eqb (nameLengthIn (words bs i)) 0) refl h
 
+-- where the places behind place i begin
+pub once-start : (bs : List ℕ) (i j : ℕ) → j ≡ suc i → all (otherName bs i) (from (suc i) (MAX-STATES - suc i)) ≡ all (otherName bs i) (from j (MAX-STATES - j))
+once-start bs i j e = rw e refl
+
 -- from place i on
 abbrev pub differFrom : List ℕ → ℕ → Bool
 differFrom bs i = namesDiffer (map (placeOf bs) (from i (MAX-STATES - i)))

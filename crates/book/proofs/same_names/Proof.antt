@@ -19,8 +19,8 @@ abbrev μ-loop : tie.MeasureT-loop
 name-length-requires : tie.Need-name-length-requires Inv-loop μ-loop
 name-length-requires c κs = search needs
 
-cast-n : tie.Need-cast-n Inv-loop μ-loop
-cast-n c = search needs
+cast-length : tie.Need-cast-length Inv-loop μ-loop
+cast-length c = search needs
 
 returns : tie.Need-returns Inv-loop μ-loop
 returns c =
@@ -109,7 +109,7 @@ same-names-spec =
     Inv-loop
     μ-loop
     name-length-requires
-    cast-n
+    cast-length
     returns
     name-length-requires-2
     cast-if2

@@ -32,14 +32,14 @@ returns-2 c =
     let n = c .before .before .before .before .name-length in
     let f = c .before .before .below in
     let g = c .below2 in
-    name-last (c .before .before .before .before .before .before .args .ps .now) (n .result) (n .ensures) (c .before .before .before .if1 .left) (f .result)
+    name-last (c .before .before .before .before .before .before .args .ps .now) (n .result) (n .ensures) (omega arith) (f .result)
     (f .ensures) (c .before .if2 .taken) (g .result) (g .ensures)
 
 returns-3 : tie.Need-returns-3
 returns-3 c =
     let n = c .before .before .before .name-length in
     let f = c .before .below in
-    name-first (c .before .before .before .before .before .args .ps .now) (n .result) (n .ensures) (c .before .before .if1 .left) (f .result) (f .ensures)
+    name-first (c .before .before .before .before .before .args .ps .now) (n .result) (n .ensures) (omega arith) (f .result) (f .ensures)
     (c .if2 .left)
 
 pub name-clean-spec : {M : Type 1} → statement M

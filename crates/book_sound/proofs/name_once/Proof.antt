@@ -4,19 +4,19 @@ use mathlib.Core.Path.{_≡_, refl, sym, ap, _∙_}
 use mathlib.Core.Bool.{not}
 use Prim.Native.Nat.{suc, _-_}
 use native.Mathlib.Omega.{arith}
-use native.Mathlib.Numerals.{add-one}
 use Rattle.scope.specs.Base.{all, from}
 use Rattle.scope.specs.Limits.{MAX-STATES}
 use Rattle.clean.proofs.Laws.{run-step, run-stop, run-end}
 use Rattle.book.proofs.Places.{book-lies}
 use Rattle.book.proofs.Names.{place-name}
-use Rattle.book_sound.proofs.NameLaws.{otherName, once-run}
+use Rattle.book_sound.proofs.NameLaws.{otherName, once-start, once-run}
 use borrow.Author.Needs.{needs}
 use Rattle.book_sound.proofs.name_once.Statement.{statement}
 use Rattle.book_sound.proofs.name_once.Tie as tie
 
 abbrev Inv-loop : tie.InvT-loop
-Inv-loop bs i room j₀ j = all (otherName bs i) (from (suc i) (MAX-STATES - suc i)) ≡ all (otherName bs i) (from j (MAX-STATES - j))
+Inv-loop bs i room j₀ j =
+    (j₀ ≡ suc i) × (all (otherName bs i) (from j₀ (MAX-STATES - j₀)) ≡ all (otherName bs i) (from j (MAX-STATES - j)))
 
 abbrev μ-loop : tie.MeasureT-loop
 μ-loop bs i room j₀ j = MAX-STATES - j
@@ -28,7 +28,7 @@ add-j : tie.Need-add-j Inv-loop μ-loop
 add-j c = omega (arith, c .before .before .pre .index)
 
 loop-holds : tie.Need-loop-holds Inv-loop μ-loop
-loop-holds c = rw (add-one (c .before .before .args .i)) refl
+loop-holds c = (omega arith, refl)
 
 place-requires : tie.Need-place-requires Inv-loop μ-loop
 place-requires c κs =
@@ -57,8 +57,8 @@ returns c =
     let o = c .before .before .before .before .before .loop in
     let f = rw (w, v) at (c .before .same-names .ensures) in
     let pre = c .before .before .before .before .before .before .before .before .pre in
-    let once = once-run (a .bs .now) (pre .clean) (a .i) (pre .index) in
-    sym (once ∙ (o .inv ∙ run-stop (otherName (a .bs .now) (a .i)) (o .j) MAX-STATES (c .before .before .before .before .loop-test .taken) (ap not (sym f ∙ c .if1 .taken))))
+    let once = once-run (a .bs .now) (pre .clean) (a .i) (pre .index) ∙ once-start (a .bs .now) (a .i) _ (o .inv .0) in
+    sym (once ∙ (o .inv .1 ∙ run-stop (otherName (a .bs .now) (a .i)) (o .j) MAX-STATES (c .before .before .before .before .loop-test .taken) (ap not (sym f ∙ c .if1 .taken))))
 
 add-j-2 : tie.Need-add-j-2 Inv-loop μ-loop
 add-j-2 c = search needs
@@ -73,14 +73,14 @@ loop-again c =
     let v = rw (c .before .before .before .before .before .before .room-of .ensures) at (c .before .before .place2 .ensures) in
     let o = c .before .before .before .before .before .loop in
     let f = rw (w, v) at (c .before .same-names .ensures) in
-    o .inv ∙ run-step (otherName (a .bs .now) (a .i)) (o .j) MAX-STATES (c .before .before .before .before .loop-test .taken) (ap not (sym f ∙ c .if1 .left))
+    (o .inv .0, o .inv .1 ∙ run-step (otherName (a .bs .now) (a .i)) (o .j) MAX-STATES (c .before .before .before .before .loop-test .taken) (ap not (sym f ∙ c .if1 .left)))
 
 returns-2 : tie.Need-returns-2 Inv-loop μ-loop
 returns-2 c =
     let a = c .before .before .before .before .args in
     let o = c .before .loop in
-    let once = once-run (a .bs .now) (c .before .before .before .before .pre .clean) (a .i) (c .before .before .before .before .pre .index) in
-    sym (once ∙ (o .inv ∙ run-end (otherName (a .bs .now) (a .i)) (o .j) MAX-STATES (c .loop-test .left)))
+    let once = once-run (a .bs .now) (c .before .before .before .before .pre .clean) (a .i) (c .before .before .before .before .pre .index) ∙ once-start (a .bs .now) (a .i) _ (o .inv .0) in
+    sym (once ∙ (o .inv .1 ∙ run-end (otherName (a .bs .now) (a .i)) (o .j) MAX-STATES (c .loop-test .left)))
 
 pub name-once-spec : {M : Type 1} → statement M
 name-once-spec =
