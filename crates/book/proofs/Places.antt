@@ -16,7 +16,8 @@ use Rattle.scope.specs.Limits.{MAX-STATES}
 use Rattle.scope.specs.States.{withPlaces}
 use Rattle.layout.proofs.Lists.{and-both, and-left, and-right, part-here, part-other, drop-past, length-part, length-from, get-from, all-from, from-all}
 use Rattle.book.specs.Words.{BOOK-HEAD, placeFrom, placeWords, bookWords, placeAt, placeIn, placeClean, nodeRoomIn, childRoomIn, placesIn, bookIn, bookClean, BookBecame}
-use Rattle.book.specs.Places.{placeOf, putPlace}
+pub use Rattle.book.specs.Places.{placeOf}
+use Rattle.book.specs.Places.{putPlace}
 use Rattle.book.proofs.Geometry.{place-span, place-before, place-inside, place-ends, place-lower, place-higher, word-before, mid-within, put-within}
 
 -- a clean book as plain facts
