@@ -4,3 +4,4 @@ pub mod Parts
 pub mod Places
 pub mod Names
 pub mod Search
+pub mod Laws
