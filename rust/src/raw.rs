@@ -10,7 +10,7 @@
 //! nothing that is written overlaps anything else that is lent. Each pointer here is a slice's, and what is written is
 //! behind a `&mut`, so all of that holds.
 
-use std::sync::Arc;
+use std::{mem::MaybeUninit, sync::Arc};
 
 use crate::ty::Type;
 
@@ -375,28 +375,15 @@ macro_rules! methods {
 
     fn export_into(
       &self,
-      into: [&mut [u32]; 3],
+      into: [Place; 3],
       [nodes, children]: [u32; 2],
       types: &[u32],
       out: &mut [u32],
     ) -> u64 {
-      let [h, ws, ks] = into;
-      read!(
-        self,
-        $family::export,
-        h.as_mut_ptr(),
-        h.len(),
-        ws.as_mut_ptr(),
-        ws.len(),
-        ks.as_mut_ptr(),
-        ks.len(),
-        nodes,
-        children,
-        types.as_ptr(),
-        types.len(),
-        out.as_mut_ptr(),
-        out.len()
-      )
+      let [(h, h_len), (ws, ws_len), (ks, ks_len)] = into.map(lent);
+      let (ts, n) = (types.as_ptr(), types.len());
+      let (to, m) = (out.as_mut_ptr(), out.len());
+      read!(self, $family::export, h, h_len, ws, ws_len, ks, ks_len, nodes, children, ts, n, to, m)
     }
   };
 }
@@ -439,7 +426,7 @@ impl Lent<'_> {
   }
 
   pub fn open(&mut self, nodes: u32, children: u32) -> u64 {
-    open([self.h, self.ws, self.ks], nodes, children)
+    open([place(self.h), place(self.ws), place(self.ks)], nodes, children)
   }
 
   pub fn import(
@@ -459,25 +446,29 @@ impl Lent<'_> {
     types: &[u32],
     out: &mut [u32],
   ) -> u64 {
-    self.export_into(into, room, types, out)
+    self.export_into(into.map(place), room, types, out)
   }
 }
 
-/// Opens a store in these words, whatever they held.
-fn open([h, ws, ks]: [&mut [u32]; 3], nodes: u32, children: u32) -> u64 {
+/// Words that a call is to write, whatever they held, if they held any numbers at all.
+type Place<'a> = &'a mut [MaybeUninit<u32>];
+
+/// A slice's words as such a place.
+fn place(words: &mut [u32]) -> Place<'_> {
+  // SAFETY: the same words. Only the library writes them, and it writes numbers.
+  unsafe { std::slice::from_raw_parts_mut(words.as_mut_ptr().cast(), words.len()) }
+}
+
+/// A place as it is lent.
+fn lent(words: Place) -> (M, N) {
+  (words.as_mut_ptr().cast(), words.len())
+}
+
+/// Opens a store in these words.
+fn open(words: [Place; 3], nodes: u32, children: u32) -> u64 {
+  let [(h, h_len), (ws, ws_len), (ks, ks_len)] = words.map(lent);
   // SAFETY: pointers and lengths of three slices, each borrowed alone. The call tests what is left.
-  unsafe {
-    faroalder_open(
-      h.as_mut_ptr(),
-      h.len(),
-      ws.as_mut_ptr(),
-      ws.len(),
-      ks.as_mut_ptr(),
-      ks.len(),
-      nodes,
-      children,
-    )
-  }
+  unsafe { faroalder_open(h, h_len, ws, ws_len, ks, ks_len, nodes, children) }
 }
 
 /// Writes the words of a chart with these records to the front of `words`: 0, or 7 where there is too little room.
@@ -498,14 +489,24 @@ pub fn words_mut(types: &mut [Type]) -> &mut [u32] {
   unsafe { std::slice::from_raw_parts_mut(types.as_mut_ptr().cast(), types.len()) }
 }
 
-/// Words for a store of this room. A room above the limits gets no more than these: the opening refuses it.
-fn blank(nodes: u32, children: u32) -> Words {
-  let zeros = |words: N| vec![0; words];
-  Words {
-    h: zeros(faroalder_header_words()),
-    ws: zeros(faroalder_node_words(nodes.min(crate::MAX_NODES))),
-    ks: zeros(faroalder_child_words(children.min(crate::MAX_CHILDREN))),
+/// Words of a store of this room that a call opens, or the number that it refuses with. A room above the limits gets no
+/// more than these: the call refuses it.
+fn opened(nodes: u32, children: u32, open: impl FnOnce([Place; 3]) -> u64) -> Result<Words, u32> {
+  let lengths = [
+    faroalder_header_words(),
+    faroalder_node_words(nodes.min(crate::MAX_NODES)),
+    faroalder_child_words(children.min(crate::MAX_CHILDREN)),
+  ];
+  let [h_len, ws_len, ks_len] = lengths;
+  let [mut h, mut ws, mut ks] = lengths.map(Vec::with_capacity);
+  let places = [(&mut h, h_len), (&mut ws, ws_len), (&mut ks, ks_len)];
+  refused(open(places.map(|(words, len)| &mut words.spare_capacity_mut()[..len])))?;
+  for (words, len) in [(&mut h, h_len), (&mut ws, ws_len), (&mut ks, ks_len)] {
+    // SAFETY: an opening that is not refused leaves a store of this room, whose header, nodes and children take exactly
+    // these words; it has written each of them.
+    unsafe { words.set_len(len) };
   }
+  Ok(Words { h, ws, ks })
 }
 
 /// The number that an answer refuses with.
@@ -528,9 +529,7 @@ impl Words {
   }
 
   fn opened(nodes: u32, children: u32) -> Result<Words, u32> {
-    let mut words = blank(nodes, children);
-    refused(open(words.parts(), nodes, children))?;
-    Ok(words)
+    opened(nodes, children, |places| open(places, nodes, children))
   }
 }
 
@@ -701,8 +700,8 @@ impl Store {
     types: &[u32],
     out: &mut [u32],
   ) -> Result<Store, u32> {
-    let mut words = blank(nodes, children);
-    refused(self.export_into(words.parts(), [nodes, children], types, out))?;
+    let room = [nodes, children];
+    let words = opened(nodes, children, |places| self.export_into(places, room, types, out))?;
     Ok(Store::of(&self.rules, words))
   }
 }

@@ -1,6 +1,6 @@
 //! The type store.
 
-use std::{collections::HashSet, fmt};
+use std::{cell::RefCell, collections::HashSet, fmt};
 
 use crate::{
   answers::{Figures, Forced, Mod, Node, UnifyResult},
@@ -15,10 +15,11 @@ use crate::{
 /// A text longer than this isn't made by [`Types::show`]: shared types have texts that never end.
 pub const MAX_SHOWN: usize = 1 << 24;
 
-/// A text up to this length is written without a buffer on the heap.
-const SHORT_TEXT: usize = 512;
+/// A text up to this length is written to the thread's own buffer first. Where a buffer is full a call still goes through
+/// all of the type, so the first is long.
+const SHORT_TEXT: usize = 1 << 15;
 
-/// What a unify may remember: room for 16,381 pairs, made at a store's first unify.
+/// What a unify may remember: room for 16,381 pairs.
 const MEMORY_WORDS: usize = 2 + 4 * 16_381;
 
 /// How many fields of nodes follow one another where the library writes them out.
@@ -52,29 +53,30 @@ const INVERTED: usize = 2;
 #[derive(Clone)]
 pub struct Types {
   store: Store,
-  memory: Memory,
   /// Where the children of a kind that is made are laid out; what it holds between calls is of no account.
   entries: Vec<u32>,
 }
 
-/// Where a unify remembers pairs that did not succeed, so that types shared at every level take no longer than others.
-/// Nothing of it outlives the call, so a copy of a store has an empty one.
-#[derive(Default)]
-struct Memory(Vec<u32>);
+thread_local! {
+  /// Where a unify remembers pairs that did not succeed, so that types shared at every level take no longer than others.
+  /// Nothing of it outlives the call, so a thread's stores share one; it is made at the thread's first unify.
+  static MEMORY: RefCell<Vec<u32>> = const { RefCell::new(Vec::new()) };
 
-impl Clone for Memory {
-  fn clone(&self) -> Memory {
-    Memory::default()
-  }
+  /// Where a text is written before its length is known; made at the thread's first text.
+  static TEXT: RefCell<Vec<u8>> = const { RefCell::new(Vec::new()) };
 }
 
-impl Memory {
-  fn lend(&mut self) -> &mut [u32] {
-    if self.0.is_empty() {
-      self.0 = vec![0; MEMORY_WORDS];
+/// A unify with the thread's memory; without one where the thread is being torn down.
+fn remembering(mut unify: impl FnMut(&mut [u32]) -> u64) -> Result<UnifyResult, Refusal> {
+  let with = |memory: &RefCell<Vec<u32>>| {
+    let mut memory = memory.borrow_mut();
+    if memory.is_empty() {
+      *memory = vec![0; MEMORY_WORDS];
     }
-    &mut self.0
-  }
+    unify(&mut memory)
+  };
+  let answer = MEMORY.try_with(with);
+  unified(answer.unwrap_or_else(|_| unify(&mut [])))
 }
 
 /// The value of an answer.
@@ -116,24 +118,23 @@ fn parts(out: &[u32; OUT]) -> Parts {
 
 /// A text by a call that writes it into a buffer, into larger ones until one is long enough.
 fn shown(show: impl Fn(&mut [u8]) -> u64) -> Result<Vec<u8>, Refusal> {
-  let mut short = [0; SHORT_TEXT];
+  let short = |buf: &RefCell<Vec<u8>>| {
+    let mut buf = buf.borrow_mut();
+    buf.resize(SHORT_TEXT, 0);
+    value(show(&mut buf)).map(|len| buf[..len as usize].to_vec())
+  };
   let mut size = SHORT_TEXT;
-  match value(show(&mut short)) {
-    Err(Refusal::Short) => {}
-    answer => return answer.map(|len| short[..len as usize].to_vec()),
-  }
-  loop {
-    size = (16 * size).min(MAX_SHOWN);
+  let mut text = TEXT.try_with(short).unwrap_or(Err(Refusal::Short));
+  while text == Err(Refusal::Short) && size < MAX_SHOWN {
+    size = (4 * size).min(MAX_SHOWN);
     let mut buf = vec![0; size];
-    match value(show(&mut buf)) {
-      Err(Refusal::Short) if size < MAX_SHOWN => {}
-      answer => {
-        buf.truncate(answer? as usize);
-        buf.shrink_to_fit();
-        return Ok(buf);
-      }
-    }
+    text = value(show(&mut buf)).map(|len| {
+      buf.truncate(len as usize);
+      buf.shrink_to_fit();
+      buf
+    });
   }
+  text
 }
 
 /// Names need not be UTF-8; what isn't is replaced.
@@ -179,7 +180,7 @@ impl Types {
   }
 
   fn of(store: Store) -> Types {
-    Types { store, memory: Memory::default(), entries: Vec::new() }
+    Types { store, entries: Vec::new() }
   }
 
   /// Room for more, or for less, with every node as it is: every type stays what it was. [`Refusal::Unopenable`] above
@@ -313,7 +314,7 @@ impl Types {
   /// # Ok::<(), Refusal>(())
   /// ```
   pub fn unify(&mut self, a: Type, b: Type) -> Result<UnifyResult, Refusal> {
-    unified(self.store.unify(a.word(), b.word(), self.memory.lend()))
+    remembering(|memory| self.store.unify(a.word(), b.word(), memory))
   }
 
   /// Unifies pair by pair, the second of each inverted if `inv` says so. Lists of different lengths: Failure, and
@@ -324,7 +325,7 @@ impl Types {
     b: &[Type],
     inv: Inverted,
   ) -> Result<UnifyResult, Refusal> {
-    unified(self.store.unify_types(raw::words(a), raw::words(b), inv.0, self.memory.lend()))
+    remembering(|memory| self.store.unify_types(raw::words(a), raw::words(b), inv.0, memory))
   }
 
   /// Unifies field by field. Fields whose name is on one side alone: Failure, and the others are unified. Both lists are
@@ -340,7 +341,7 @@ impl Types {
     let first = self.entries.len();
     kind::fields(&mut self.entries, b);
     let (x, y) = self.entries.split_at(first);
-    unified(self.store.unify_objects(x, y, inv.0, self.memory.lend()))
+    remembering(|memory| self.store.unify_objects(x, y, inv.0, memory))
   }
 
   /// Unifies two signatures, each its parameters and its return.
@@ -350,12 +351,12 @@ impl Types {
     (b, b_ret): (&[Type], Type),
   ) -> Result<UnifyResult, Refusal> {
     let (a, b) = ((raw::words(a), a_ret.word()), (raw::words(b), b_ret.word()));
-    unified(self.store.unify_fn_sig(a, b, self.memory.lend()))
+    remembering(|memory| self.store.unify_fn_sig(a, b, memory))
   }
 
   /// Unifies two impl types: those of one trait type by type.
   pub fn unify_impl_type(&mut self, a: &ImplType, b: &ImplType) -> Result<UnifyResult, Refusal> {
-    unified(self.store.unify_impl_type(impl_words(a), impl_words(b), self.memory.lend()))
+    remembering(|memory| self.store.unify_impl_type(impl_words(a), impl_words(b), memory))
   }
 }
 

@@ -7,3 +7,4 @@ pub mod KindLaws
 pub mod HeldLaws
 pub mod LinkLaws
 pub mod StoreLaws
+pub mod HeadLaws

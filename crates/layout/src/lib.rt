@@ -1,6 +1,7 @@
 // A store in three lent slices of numbers: where each number lies, and how a node, a child and the header are read and written.
 // Nothing above this crate reads a word: it uses these functions and the laws of proofs/.
 mod encoding;
+pub mod heads;
 
 ghost use mathlib.Core.Path.{_≡_};
 ghost use Prim.Native.Nat.{_+_, _*_, _≤_};

@@ -5,8 +5,9 @@ use mathlib.Core.Path.{_≡_, refl, ap, sym, _∙_, subst}
 use mathlib.Core.Bool.{true, false}
 use mathlib.Core.Option.{Option, some}
 use mathlib.Core.List.{List}
-use Prim.Native.Nat.{ℕ, _+_, _≤_}
+use Prim.Native.Nat.{ℕ, _+_, _≤_, _<_}
 use native.Mathlib.Omega.{arith}
+use native.Mathlib.Nat.{add-zero}
 use lib.ListN.{length, getD, drop}
 use borrow.Author.Tests.{ne-eqb}
 use Rattle.scope.specs.Limits.{MAX-NODES, MAX-CHILDREN, NONE}
@@ -19,20 +20,23 @@ use Rattle.scope.specs.Calls.{nodesFor}
 use Rattle.types.specs.declared.«Type».{«Type»}
 use Rattle.types.proofs.Laws.{ty-plain}
 use Rattle.layout.specs.Words.{HEAD-WORDS, childWords, nodesMade, childrenMade, nodeRoom, childRoom, storeIn, clean}
-use Rattle.layout.specs.Meaning.{typeOf, headerIn, putHeader, stateMeans, stateFits, rememberedMeans, rememberedFits, Kept, Lies}
+use Rattle.layout.specs.Meaning.{HALF, typeOf, headerIn, putHeader, putAt, stateMeans, stateFits, rememberedMeans, rememberedFits, Kept, Lies}
+use Rattle.layout.specs.Heads.{putCounts}
 use Rattle.layout.specs.declared.Header.{Header}
 use Rattle.layout.specs.declared.Kind.{Kind}
 use Rattle.layout.specs.declared.Remembered.{Remembered}
 use Rattle.layout.specs.declared.Remembered.the-variants.{Is, Nothing}
 use Rattle.layout.specs.declared.TypeState.{TypeState}
 use Rattle.layout.specs.declared.TypeState.the-variants.{Known, Unknown}
+use Rattle.layout.specs.declared.TypeNode.the-variants.{Root}
 use Rattle.layout.proofs.ChildLaws.{kept-refl}
+use Rattle.layout.proofs.HeadLaws.{put-counts, next-unused}
 use Rattle.layout.proofs.StoreLaws.{length-put-header, tail-put-header, store-put, clean-lies, clean-unused, clean-nodes, clean-of, unused-grown}
 use Rattle.store.specs.Holds.{Became, Ready}
 use Rattle.store.specs.Bare.{bareKind}
 use Rattle.store.proofs.Laws.{store-count, beyond-refl, remembered-fits, error-is, nil-is, bare-means, bare-fits}
 use Rattle.make.specs.Made.{MadeIs, BlankMade, Rememberable}
-use Rattle.make.specs.Header.{Pushable, Pushed, OnceReady, OnceMade}
+use Rattle.make.specs.Header.{Pushable, Pushed, BlankReady, OnceReady, OnceMade}
 use Rattle.make.proofs.Laws.{push-holds, push-beyond}
 
 -- room, in the header's words
@@ -51,14 +55,49 @@ ready-room {h} {ws} {ks} r = record {
   children = r .room .children;
 }
 
-pushable-in : {h ws ks : List ℕ} {c : ℕ} → Ready h ws ks 1 c → Pushable h ws (headerIn h) c
+pub pushable-in : {h ws ks : List ℕ} {c : ℕ} → Ready h ws ks 1 c → Pushable h ws (headerIn h) c
 pushable-in {h} {ws} {ks} {c} r =
     let p : Lies h ws ks = clean-lies h ws ks (r .clean) in
     let o : RoomIn h 1 c = ready-room r in
     record { head = p .head; nodeLen = omega (arith, p .nodeSlots, o .nodes); nodes = omega arith; children = omega arith }
 
-pub pushable : {h ws ks : List ℕ} {c : ℕ} (x : Header) → Ready h ws ks 1 c → x ≡ headerIn h → Pushable h ws x c
-pushable x r e = rw e (pushable-in r)
+-- the next slot is not used
+pub blank-ready : {h ws ks : List ℕ} {c : ℕ} → Ready h ws ks 1 c → BlankReady h ws c
+blank-ready {h} {ws} {ks} {c} r =
+    let o : RoomIn h 1 c = ready-room r in
+    record { pushable = pushable-in r; slot = next-unused h ws ks (r .clean) (o .nodes) }
+
+-- one node more, m children, and the remembered types e and z
+abbrev countedBy : Header → ℕ → Remembered → Remembered → Header
+countedBy x m e z = record {
+  nodes = x .nodes + 1;
+  children = m;
+  «node_room» = x .«node_room»;
+  «child_room» = x .«child_room»;
+  error = e;
+  nil = z;
+  reports = x .reports;
+}
+
+-- a push that writes the counts alone
+pub counted-push : {h ws h′ ws′ : List ℕ} {n k c : ℕ} {st : TypeState} {t : «Type»} → HEAD-WORDS ≤ length h → getD h 6 0 < HALF → n ≡ nodesMade h → k ≡ childrenMade h
+    → t .0 ≡ n → ws′ ≡ putAt ws (n + 1) n (Root st 1) → h′ ≡ putCounts h (n + 1) (k + c)
+    → Pushed h ws h′ ws′ (headerIn h) c (headerIn h .error) (headerIn h .nil) st t
+counted-push {h} {n = n} {k = k} {c = c} l s p q e w g = record {
+  type = e ∙ p;
+  nodes = rw p at w;
+  head = rw (p, q) at (g ∙ put-counts h (n + 1) (k + c) l s);
+}
+
+-- a push of a kind without children, by a whole header
+pub bare-push : {h ws h′ ws′ : List ℕ} {x : Header} {e z : Remembered} {k : Kind} {c : ℕ} {t : «Type»} → t .0 ≡ x .nodes → k ≡ bareKind c
+    → ws′ ≡ putAt ws (x .nodes + 1) (x .nodes) (Root (Known (record { 0 = false }) k) 1) → h′ ≡ putHeader h (countedBy x (x .children) e z)
+    → Pushed h ws h′ ws′ x 0 e z (Known (record { 0 = false }) (bareKind c)) t
+bare-push {h} {x = x} {e = e} {z = z} p b w g = record {
+  type = p;
+  nodes = rw b at w;
+  head = g ∙ ap (λ (m : ℕ). putHeader h (countedBy x m e z)) (sym (add-zero (x .children)));
+}
 
 -- a push
 
@@ -97,17 +136,13 @@ module _ {h ws ks h′ ws′ : List ℕ} {c : ℕ} {st : TypeState} {t : «Type�
         (pushed-became r p ks′ len kept after fits (remembered-fits (getD h 4 0)) (remembered-fits (getD h 5 0)));
   }
 
-blank-in : {h ws ks h′ ws′ : List ℕ} {p c : ℕ} {t : «Type»} → Ready h ws ks 1 c
+pub blank-made : {h ws ks h′ ws′ : List ℕ} {p c : ℕ} {t : «Type»} → Ready h ws ks 1 c
     → Pushed h ws h′ ws′ (headerIn h) c (headerIn h .error) (headerIn h .nil) (Unknown p) t → BlankMade h ws ks h′ ws′ p c t
-blank-in {h} {ws} {ks} r o = record {
+blank-made {h} {ws} {ks} r o = record {
   made = pushed-made r o ks refl (kept-refl (childrenMade h) ks) refl refl;
   node = o .type;
   nodes = o .nodes;
 }
-
-pub blank-made : {h ws ks h′ ws′ : List ℕ} {x : Header} {p c : ℕ} {t : «Type»} → Ready h ws ks 1 c → x ≡ headerIn h
-    → Pushed h ws h′ ws′ x c (x .error) (x .nil) (Unknown p) t → BlankMade h ws ks h′ ws′ p c t
-blank-made r q o = blank-in r (rw q at o)
 
 pub var-made : {h ws ks h′ ws′ : List ℕ} {p : ℕ} {t : «Type»} → BlankMade h ws ks h′ ws′ p 0 t → MadeIs h ws ks h′ ws′ ks t (newVar (storeIn h ws ks) p)
 unfolding newVar
@@ -234,9 +269,9 @@ nil-row : rowOf TUPLE .names ≡ NO-NAMES
 unfolding rowOf rows
 nil-row = refl
 
-pub once-ready : {h ws ks : List ℕ} {x : Header} {was : Remembered} {o : Option Ty} → x ≡ headerIn h → rememberedMeans was ≡ o
-    → Ready h ws ks (nodesFor o) 0 → OnceReady h ws x was
-once-ready {x = x} q g r = record { pushable = λ e. pushable x (rw (← g, e) at r) q }
+pub once-ready : {h ws ks : List ℕ} {was : Remembered} {o : Option Ty} → clean h ws ks ≡ true → rememberedMeans was ≡ o
+    → Ready h ws ks (nodesFor o) 0 → OnceReady h ws (headerIn h) was
+once-ready {h} {ws} {ks} k g r = record { head = clean-lies h ws ks k .head; pushable = λ e. pushable-in (rw (← g, e) at r) }
 
 module _ (h ws ks : List ℕ) where
   abbrev next : Remembered
@@ -257,15 +292,13 @@ module _ (h ws ks : List ℕ) where
     pub head-nil : rememberedMeans (x .nil) ≡ storeIn h ws ks .nil
     head-nil = rw q (nil-is h ws ks)
 
-  module _ {h′ ws′ : List ℕ} {x : Header} {t : «Type»} (q : x ≡ headerIn h) where
-    pub error-made : Ready h ws ks (nodesFor (storeIn h ws ks .error)) 0 → OnceMade h ws h′ ws′ x (x .error) (Is (typeOf (x .nodes))) (x .nil) ERROR t
+  module _ {h′ ws′ : List ℕ} {t : «Type»} where
+    pub error-made : Ready h ws ks (nodesFor (storeIn h ws ks .error)) 0 → OnceMade h ws h′ ws′ (headerIn h) (headerIn h .error) next (headerIn h .nil) ERROR t
         → MadeIs h ws ks h′ ws′ ks t (makeError (storeIn h ws ks))
     unfolding makeError
-    error-made r o =
-        once-made h ws ks ERROR error-row rememberError next (headerIn h .nil) (headerIn h .error) (error-is h ws ks) r error-kept (rw q at o)
+    error-made r o = once-made h ws ks ERROR error-row rememberError next (headerIn h .nil) (headerIn h .error) (error-is h ws ks) r error-kept o
 
-    pub nil-made : Ready h ws ks (nodesFor (storeIn h ws ks .nil)) 0 → OnceMade h ws h′ ws′ x (x .nil) (x .error) (Is (typeOf (x .nodes))) TUPLE t
+    pub nil-made : Ready h ws ks (nodesFor (storeIn h ws ks .nil)) 0 → OnceMade h ws h′ ws′ (headerIn h) (headerIn h .nil) (headerIn h .error) next TUPLE t
         → MadeIs h ws ks h′ ws′ ks t (makeNil (storeIn h ws ks))
     unfolding makeNil
-    nil-made r o =
-        once-made h ws ks TUPLE nil-row rememberNil (headerIn h .error) next (headerIn h .nil) (nil-is h ws ks) r nil-kept (rw q at o)
+    nil-made r o = once-made h ws ks TUPLE nil-row rememberNil (headerIn h .error) next (headerIn h .nil) (nil-is h ws ks) r nil-kept o

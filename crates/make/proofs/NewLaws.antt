@@ -10,9 +10,8 @@ use borrow.Author.Count.{below-more}
 use Rattle.scope.specs.Sound.{namesClean}
 use Rattle.scope.specs.Make.{new}
 use Rattle.types.specs.declared.«Type».{«Type»}
-use Rattle.layout.specs.Words.{childWords, childrenMade, slotAt, storeIn}
+use Rattle.layout.specs.Words.{HEAD-WORDS, childWords, childrenMade, slotAt, storeIn}
 use Rattle.layout.specs.Meaning.{slotMeans, putSlot, headerIn, kindCell, kindMeans, kindFits, Lies}
-use Rattle.layout.specs.declared.Header.{Header}
 use Rattle.layout.specs.declared.Kind.{Kind}
 use Rattle.layout.specs.declared.Slot.{Slot}
 use Rattle.layout.specs.declared.TypeState.the-variants.{Known}
@@ -81,14 +80,14 @@ kind-ready k es r c = record { ready = r; fits = kind-fits es (kindOver k es) (e
 pub entries-ready : {h ws ks es : List ℕ} {k : Head} {n : ℕ} → KindReady h ws ks k es → n ≡ entryCount es → Ready h ws ks 1 n
 entries-ready r e = rw e (r .ready)
 
-children-in : {h ws ks : List ℕ} {n : ℕ} → Ready h ws ks 1 n → childWords (childrenMade h + n) ≤ length ks
-children-in {h} {ws} {ks} {n} r =
+pub kind-head : {h ws ks es : List ℕ} {k : Head} → KindReady h ws ks k es → HEAD-WORDS ≤ length h
+kind-head {h} {ws} {ks} r = clean-lies h ws ks (r .ready .clean) .head
+
+pub children-room : {h ws ks : List ℕ} {f n : ℕ} → Ready h ws ks 1 n → f ≡ childrenMade h → childWords (f + n) ≤ length ks
+children-room {h} {ws} {ks} {f} {n} r e =
     let p : Lies h ws ks = clean-lies h ws ks (r .clean) in
     let o : RoomIn h 1 n = ready-room r in
     omega (arith, p .childSlots, o .children)
-
-pub children-room : {h ws ks : List ℕ} {x : Header} {n : ℕ} → Ready h ws ks 1 n → x ≡ headerIn h → childWords (x .children + n) ≤ length ks
-children-room r e = rw e (children-in r)
 
 kind-in : {h ws ks h′ ws′ ks′ es : List ℕ} {k : Head} {t : «Type»} → KindReady h ws ks k es → Put es (childrenMade h) (entryCount es) ks ks′
     → length ks′ ≡ length ks
@@ -98,8 +97,8 @@ unfolding new
 kind-in {ks′ = ks′} {es = es} {k = k} r o l p =
     rw (given-kids k es, ← (put-means k es o)) (pushed-made (r .ready) p ks′ l (o .before) (o .after) (put-fits k es o (r .fits)))
 
-pub kind-made : {h ws ks h′ ws′ ks′ es : List ℕ} {k : Head} {x : Header} {y : Kind} {t : «Type»} {n : ℕ} → KindReady h ws ks k es → x ≡ headerIn h
-    → n ≡ entryCount es → Put es (x .children) n ks ks′ → length ks′ ≡ length ks → y ≡ kindAt k (x .children) n
-    → Pushed h ws h′ ws′ x n (x .error) (x .nil) (Known (record { 0 = false }) y) t
+pub kind-made : {h ws ks h′ ws′ ks′ es : List ℕ} {k : Head} {f : ℕ} {y : Kind} {t : «Type»} {n : ℕ} → KindReady h ws ks k es → f ≡ childrenMade h
+    → n ≡ entryCount es → Put es f n ks ks′ → length ks′ ≡ length ks → y ≡ kindAt k f n
+    → Pushed h ws h′ ws′ (headerIn h) n (headerIn h .error) (headerIn h .nil) (Known (record { 0 = false }) y) t
     → MadeIs h ws ks h′ ws′ ks′ t (new (storeIn h ws ks) (kindGiven k es))
 kind-made r e m o l q p = kind-in r (rw (e, m) at o) l (rw (q, e, m) at p)

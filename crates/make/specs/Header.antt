@@ -5,8 +5,9 @@ use mathlib.Core.Bool.{false}
 use Prim.Native.Nat.{ℕ, _+_, _<_, _≤_}
 use lib.ListN.{length, drop, replicate}
 use Rattle.types.specs.declared.«Type».{«Type»}
-use Rattle.layout.specs.Words.{HEAD-WORDS, nodeWords}
-use Rattle.layout.specs.Meaning.{HALF, putAt, putHeader}
+use Rattle.layout.specs.Words.{HEAD-WORDS, nodeWords, nodesMade}
+use Rattle.layout.specs.Meaning.{HALF, cellWords, headerIn, putAt, putHeader}
+use Rattle.layout.specs.Heads.{noWords}
 use Rattle.layout.specs.declared.Header.{Header}
 use Rattle.layout.specs.declared.Remembered.{Remembered}
 use Rattle.layout.specs.declared.Remembered.the-variants.{Is, Nothing}
@@ -50,6 +51,11 @@ pub record Pushable (h ws : List ℕ) (x : Header) (c : ℕ) : Type 0 where
   pub nodes : x .nodes + 1 < HALF
   pub children : x .children + c < HALF
 
+-- the same, and the next node's words are 0
+pub record BlankReady (h ws : List ℕ) (c : ℕ) : Type 0 where
+  pub pushable : Pushable h ws (headerIn h) c
+  pub slot : cellWords ws (nodesMade h) ≡ noWords
+
 -- the root with the state st is node x .nodes, and the header counts it
 pub record Pushed (h ws h′ ws′ : List ℕ) (x : Header) (c : ℕ) (e n : Remembered) (st : TypeState) (t : «Type») : Type 0 where
   pub type : t .0 ≡ x .nodes
@@ -58,6 +64,7 @@ pub record Pushed (h ws h′ ws′ : List ℕ) (x : Header) (c : ℕ) (e n : Rem
 
 -- a type that is made once: it is remembered, or there are the words for one node more
 pub record OnceReady (h ws : List ℕ) (x : Header) (was : Remembered) : Type 0 where
+  pub head : HEAD-WORDS ≤ length h
   pub pushable : was ≡ Nothing → Pushable h ws x 0
 
 -- the type that was remembered and every word as found, or a root more whose kind has no children

@@ -1,19 +1,23 @@
 // The makers: a store is opened or emptied, and gets one node more. Each does what scope's definition says of the store that three lent slices
 // hold. None tests: what it asks is in its `requires`. A maker's time does not grow with the store.
 ghost use mathlib.Core.Path.{_≡_};
-ghost use mathlib.Core.Bool.{true};
+ghost use mathlib.Core.Bool.{true, false};
 ghost use Prim.Native.Nat.{_+_, _≤_, _<_};
 ghost use lib.ListN.{length};
 ghost use Rattle.scope.specs.Nodes.{opened, remembering};
 ghost use Rattle.scope.specs.Make.{new, newVar, newVars, makeError, makeNil};
 ghost use Rattle.scope.specs.Force.{reset};
 ghost use Rattle.scope.specs.Calls.{nodesFor};
-ghost use Rattle.layout.specs.Words.{childWords, storeIn};
+ghost use Rattle.layout.specs.Words.{childWords, nodesMade, storeIn};
 ghost use Rattle.layout.specs.Words as words;
-ghost use Rattle.layout.specs.Meaning.{rememberedMeans};
+ghost use Rattle.layout.specs.Meaning.{typeOf, headerIn, rememberedMeans};
+ghost use Rattle.layout.specs.declared.TypeState.the-variants.{Unknown, Known};
+ghost use Rattle.layout.specs.declared.Remembered.the-variants.{Is};
+ghost use Rattle.scope.specs.Kinds as kind;
+ghost use Rattle.store.specs.Bare.{bareKind};
 ghost use Rattle.store.specs.Holds.{Became, Openable, Ready};
 ghost use Rattle.make.specs.Made.{MadeIs, MadeAllIs, BlankMade, Rememberable};
-ghost use Rattle.make.specs.Header.{Pushable, Pushed, OnceReady, OnceMade, cleared, fresh};
+ghost use Rattle.make.specs.Header.{Pushable, Pushed, BlankReady, OnceReady, OnceMade, cleared, fresh};
 ghost use Rattle.make.specs.Given.{KindReady, Put, kindAt, kindGiven};
 use kinds::ERROR;
 use kinds::TUPLE;
@@ -22,6 +26,7 @@ use layout::Kind;
 use layout::Remembered;
 use layout::TypeNode;
 use layout::TypeState;
+use layout::heads;
 use names::Name;
 use types::Inverted;
 use types::Type;
@@ -86,25 +91,52 @@ pub fn reset(h: &mut [u32], ws: &mut [u32], ks: &mut [u32])
     layout::write_header(h, no_nodes(x.node_room, x.child_room, x.reports));
 }
 
-// One root more, and what the header then says: `added` children more, and the remembered types.
-fn push(
+// One root more, with `added` children counted.
+fn push(h: &mut [u32], ws: &mut [u32], added: u32, state: TypeState) -> Type
+    requires { ⌜ Pushable (now h) (now ws) (headerIn (now h)) added ⌝ }
+    ensures { λ r. ⌜ Pushed (now (h .entry)) (now (ws .entry)) (now (h .exit)) (now (ws .exit)) (headerIn (now (h .entry))) added
+        (headerIn (now (h .entry)) .error) (headerIn (now (h .entry)) .nil) state r ⌝ }
+{
+    let n = heads::nodes_made(h);
+    let root = TypeNode::Root { state, size: 1 };
+    layout::put_node(ws, n + 1, TypeIdx(n), root);
+    let children = heads::children_made(h);
+    heads::put_counts(h, n + 1, children + added);
+    Type(n)
+}
+
+// The same for an Unknown: its slot is not used yet, so three words say it.
+pub fn push_unknown(h: &mut [u32], ws: &mut [u32], span: u32, added: u32) -> Type
+    requires { ⌜ BlankReady (now h) (now ws) added ⌝ }
+    ensures { λ r. ⌜ Pushed (now (h .entry)) (now (ws .entry)) (now (h .exit)) (now (ws .exit)) (headerIn (now (h .entry))) added
+        (headerIn (now (h .entry)) .error) (headerIn (now (h .entry)) .nil) (Unknown span) r ⌝ }
+{
+    let n = heads::nodes_made(h);
+    heads::put_unknown(ws, TypeIdx(n), span);
+    let children = heads::children_made(h);
+    heads::put_counts(h, n + 1, children + added);
+    Type(n)
+}
+
+// One root more whose kind has no children, and the types that are remembered then.
+fn push_bare(
     h: &mut [u32],
     ws: &mut [u32],
     x: Header,
-    added: u32,
     error: Remembered,
     nil: Remembered,
-    state: TypeState,
+    code: u32,
 ) -> Type
-    requires { ⌜ Pushable (now h) (now ws) x added ⌝ }
-    ensures { λ r. ⌜ Pushed (now (h .entry)) (now (ws .entry)) (now (h .exit)) (now (ws .exit)) x added error nil state r ⌝ }
+    requires { ⌜ Pushable (now h) (now ws) x 0 ⌝ }
+    ensures { λ r. ⌜ Pushed (now (h .entry)) (now (ws .entry)) (now (h .exit)) (now (ws .exit)) x 0 error nil (Known (record { 0 = false }) (bareKind code)) r ⌝ }
 {
     let n = x.nodes;
+    let state = TypeState::Known(Inverted(false), store::bare_kind(code));
     let root = TypeNode::Root { state, size: 1 };
     layout::put_node(ws, n + 1, TypeIdx(n), root);
     let y = Header {
         nodes: n + 1,
-        children: x.children + added,
+        children: x.children,
         node_room: x.node_room,
         child_room: x.child_room,
         error,
@@ -120,10 +152,7 @@ pub fn new_blank(h: &mut [u32], ws: &mut [u32], ks: &[u32], span: u32, added: u3
     requires { ⌜ Ready (now h) (now ws) (now ks) 1 added ⌝ }
     ensures { λ r. ⌜ BlankMade (now (h .entry)) (now (ws .entry)) (now (ks .entry)) (now (h .exit)) (now (ws .exit)) span added r ⌝ }
 {
-    let x = layout::read_header(h);
-    let error = x.error;
-    let nil = x.nil;
-    push(h, ws, x, added, error, nil, TypeState::Unknown(span))
+    push_unknown(h, ws, span, added)
 }
 
 pub fn new_var(h: &mut [u32], ws: &mut [u32], ks: &[u32], span: u32) -> Type
@@ -153,24 +182,38 @@ pub fn remember(h: &mut [u32], ws: &[u32], ks: &[u32], error: Remembered, nil: R
     layout::write_header(h, y);
 }
 
-// A type that is made once: the one remembered, or that of one node more, whose kind has no children.
-fn remembered_or_new(
-    h: &mut [u32],
-    ws: &mut [u32],
-    x: Header,
-    was: Remembered,
-    error: Remembered,
-    nil: Remembered,
-    code: u32,
-) -> Type
-    requires { ⌜ OnceReady (now h) (now ws) x was ⌝ }
-    ensures { λ r. ⌜ OnceMade (now (h .entry)) (now (ws .entry)) (now (h .exit)) (now (ws .exit)) x was error nil code r ⌝ }
+// The error type: the one remembered, or that of one node more.
+pub fn error_once(h: &mut [u32], ws: &mut [u32]) -> Type
+    requires { ⌜ OnceReady (now h) (now ws) (headerIn (now h)) (headerIn (now h) .error) ⌝ }
+    ensures { λ r. ⌜ OnceMade (now (h .entry)) (now (ws .entry)) (now (h .exit)) (now (ws .exit)) (headerIn (now (h .entry))) (headerIn (now (h .entry)) .error)
+        (Is (typeOf (nodesMade (now (h .entry))))) (headerIn (now (h .entry)) .nil) kind.ERROR r ⌝ }
 {
+    let was = heads::error_made(h);
     match was {
         Remembered::Is(t) => t,
         Remembered::Nothing => {
-            let state = TypeState::Known(Inverted(false), store::bare_kind(code));
-            push(h, ws, x, 0, error, nil, state)
+            let x = layout::read_header(h);
+            let nil = x.nil;
+            let next = Remembered::Is(Type(x.nodes));
+            push_bare(h, ws, x, next, nil, ERROR)
+        }
+    }
+}
+
+// The type of nothing, likewise: a Tuple.
+pub fn nil_once(h: &mut [u32], ws: &mut [u32]) -> Type
+    requires { ⌜ OnceReady (now h) (now ws) (headerIn (now h)) (headerIn (now h) .nil) ⌝ }
+    ensures { λ r. ⌜ OnceMade (now (h .entry)) (now (ws .entry)) (now (h .exit)) (now (ws .exit)) (headerIn (now (h .entry))) (headerIn (now (h .entry)) .nil)
+        (headerIn (now (h .entry)) .error) (Is (typeOf (nodesMade (now (h .entry))))) kind.TUPLE r ⌝ }
+{
+    let was = heads::nil_made(h);
+    match was {
+        Remembered::Is(t) => t,
+        Remembered::Nothing => {
+            let x = layout::read_header(h);
+            let error = x.error;
+            let next = Remembered::Is(Type(x.nodes));
+            push_bare(h, ws, x, error, next, TUPLE)
         }
     }
 }
@@ -181,24 +224,16 @@ pub fn error(h: &mut [u32], ws: &mut [u32], ks: &[u32]) -> Type
     ensures { λ r. ⌜ MadeIs (now (h .entry)) (now (ws .entry)) (now (ks .entry)) (now (h .exit)) (now (ws .exit)) (now (ks .entry)) r
         (makeError (storeIn (now (h .entry)) (now (ws .entry)) (now (ks .entry)))) ⌝ }
 {
-    let x = layout::read_header(h);
-    let was = x.error;
-    let nil = x.nil;
-    let next = Remembered::Is(Type(x.nodes));
-    remembered_or_new(h, ws, x, was, next, nil, ERROR)
+    error_once(h, ws)
 }
 
-// The type of nothing: a Tuple.
+// The type of nothing.
 pub fn nil(h: &mut [u32], ws: &mut [u32], ks: &[u32]) -> Type
     requires { ⌜ Ready (now h) (now ws) (now ks) (nodesFor (storeIn (now h) (now ws) (now ks) .nil)) 0 ⌝ }
     ensures { λ r. ⌜ MadeIs (now (h .entry)) (now (ws .entry)) (now (ks .entry)) (now (h .exit)) (now (ws .exit)) (now (ks .entry)) r
         (makeNil (storeIn (now (h .entry)) (now (ws .entry)) (now (ks .entry)))) ⌝ }
 {
-    let x = layout::read_header(h);
-    let was = x.nil;
-    let error = x.error;
-    let next = Remembered::Is(Type(x.nodes));
-    remembered_or_new(h, ws, x, was, error, next, TUPLE)
+    nil_once(h, ws)
 }
 
 // `count` variables; their types stand at the front of `out`.
@@ -252,12 +287,10 @@ pub fn new_kind(h: &mut [u32], ws: &mut [u32], ks: &mut [u32], k: Head, entries:
     ensures { λ r. ⌜ MadeIs (now (h .entry)) (now (ws .entry)) (now (ks .entry)) (now (h .exit)) (now (ws .exit)) (now (ks .exit)) r
         (new (storeIn (now (h .entry)) (now (ws .entry)) (now (ks .entry))) (kindGiven k (now (entries .entry)))) ⌝ }
 {
-    let x = layout::read_header(h);
-    let error = x.error;
-    let nil = x.nil;
     let n = store::entry_count(entries);
-    put_children(ks, x.children, entries, n);
+    let first = heads::children_made(h);
+    put_children(ks, first, entries, n);
     let count = n as u32;
-    let state = TypeState::Known(Inverted(false), kind_of(k, x.children, count));
-    push(h, ws, x, count, error, nil, state)
+    let state = TypeState::Known(Inverted(false), kind_of(k, first, count));
+    push(h, ws, count, state)
 }

@@ -1,7 +1,7 @@
 -- The walk so far, in the code's marks and sums, and what it asks and gives from one type on. What it gives holds for each parameter list of which
 -- it was told.
 use mathlib.Core.Path.{_≡_}
-use mathlib.Core.Bool.{false}
+use mathlib.Core.Bool.{Bool, true, false}
 use mathlib.Core.Option.{Option}
 use mathlib.Core.List.{List}
 use Prim.Native.Nat.{ℕ, _≤_}
@@ -41,6 +41,10 @@ pub record Countable (ws ks : List ℕ) (n : ℕ) (ms : List ℕ) (sum : Needs) 
 
 pub record CountedIs (ws ks : List ℕ) (n : ℕ) (p : Params) (ms : List ℕ) (sum : Needs) (t : «Type») (depth : ℕ) (ms′ : List ℕ) (r : Needs) : Type 0 where
   pub is : (ps : Option (List Ty)) → p ≡ paramsFor ps → walkAt ms′ r ≡ countF depth (decode ws ks n) ps (walkAt ms sum) (tyOf (t .0))
+
+-- whether the root of t is counted; if so, the walk from t changes nothing
+pub record Met (ws : List ℕ) (n : ℕ) (ms : List ℕ) (t : «Type») (b : Bool) : Type 0 where
+  pub is : b ≡ true → (ks : List ℕ) (p : Params) (sum : Needs) (depth : ℕ) → CountedIs ws ks n p ms sum t depth ms sum
 
 -- from each type of the list us
 pub record AllCounted (ws ks : List ℕ) (n : ℕ) (p : Params) (ms : List ℕ) (sum : Needs) (us : List Ty) (ms′ : List ℕ) (r : Needs) : Type 0 where

@@ -7,11 +7,11 @@ ghost use lib.Dec.{eqb};
 ghost use lib.ListN.{getD, set, length};
 ghost use Rattle.scope.specs.Needs.{listed, exported};
 ghost use Rattle.layout.specs.Words.{nodeWords, slotAt, nodesMade, storeIn};
-ghost use Rattle.layout.specs.Meaning.{heldIn, readAt, slotMeans, rememberedMeans};
+ghost use Rattle.layout.specs.Meaning.{heldIn, readAt, slotMeans, rememberedMeans, Linked};
 ghost use Rattle.store.specs.Entries.{typesIn};
 ghost use Rattle.needs.specs.declared.Params.the-variants as params;
 ghost use Rattle.needs.specs.Roots.{kindAsks, asksOf};
-ghost use Rattle.needs.specs.Sums.{noNeeds, Countable, CountedIs, AllCounted};
+ghost use Rattle.needs.specs.Sums.{noNeeds, Countable, CountedIs, Met, AllCounted};
 ghost use Rattle.needs.specs.Sources.{Importable, ImportNeeds, ExportNeeds};
 use layout::Held;
 use layout::Kind;
@@ -97,6 +97,14 @@ pub fn child(ks: &[u32], first: u32, j: u32) -> Slot
     layout::child_at(ks, first as usize + j as usize)
 }
 
+// Whether a type's root is counted: the walk from it then does nothing, however deep it may go.
+fn is_met(ws: &[u32], n: u32, marks: &[u8], t: Type) -> bool
+    requires { ⌜ Linked (now ws) n ⌝ }
+    ensures { λ r. ⌜ Met (now (ws .entry)) n (now (marks .entry)) t r ⌝ }
+{
+    is_counted(marks, roots::find(ws, n, t).idx())
+}
+
 // The walk from t: a root that is not counted is counted, then its children are walked from, one level less deep.
 fn count(
     ws: &[u32],
@@ -135,8 +143,10 @@ fn count(
             let mut j: u32 = 0;
             while j < kids {
                 let kid = child(ks, first, j).ty;
-                all = count(ws, ks, n, params, marks, all, kid, depth - 1);
                 j += 1;
+                if !is_met(ws, n, marks, kid) {
+                    all = count(ws, ks, n, params, marks, all, kid, depth - 1);
+                }
             }
             all
         }

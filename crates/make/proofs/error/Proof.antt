@@ -1,19 +1,16 @@
--- `make::error` meets its contract: what `remembered_or_new` makes of what the store remembers is what `makeError` makes.
+-- `make::error` meets its contract: what `error_once` makes of what the store remembers is what `makeError` makes.
 -- Assumes nothing.
+use Rattle.store.proofs.Laws.{error-is}
+use Rattle.make.proofs.MakeLaws.{once-ready, error-made}
 use borrow.Author.Needs.{needs}
-use Rattle.make.proofs.MakeLaws.{once-ready, head-error, error-made}
 use Rattle.make.proofs.error.Statement.{statement}
 use Rattle.make.proofs.error.Tie as tie
 
-read-header-requires : tie.Need-read-header-requires
-read-header-requires c κs = search needs
-
-remembered-or-new-requires : tie.Need-remembered-or-new-requires
-remembered-or-new-requires c κs =
-    let s = c .before .before .before .before .before .before .before in
-    let a = s .args in
-    let x = c .before .before .read-header in
-    once-ready (x .ensures) (head-error (a .h .now) (a .ws .now) (a .ks .now) (x .ensures)) (s .pre)
+error-once-requires : tie.Need-error-once-requires
+error-once-requires c κs =
+    let start = c .before .before .before .before .before in
+    let a = start .args in
+    once-ready (start .pre .clean) (error-is (a .h .now) (a .ws .now) (a .ks .now)) (start .pre)
 
 same-length : tie.Need-same-length
 same-length c = search needs
@@ -23,10 +20,10 @@ same-length-2 c = search needs
 
 returns : tie.Need-returns
 returns c =
-    let s = c .before .before .before .before .before .before .before .before .before .before .before .before in
-    let a = s .args in
-    let x = c .before .before .before .before .before .before .before .read-header in
-    error-made (a .h .now) (a .ws .now) (a .ks .now) (x .ensures) (s .pre) (c .before .before .before .before .remembered-or-new .ensures)
+    let atErrorOnce = c .before .before .before .before in
+    let start = atErrorOnce .before .before .before .before .before .before in
+    let a = start .args in
+    error-made (a .h .now) (a .ws .now) (a .ks .now) (start .pre) (atErrorOnce .error-once .ensures)
 
 pub error-spec : {M : Type 1} → statement M
-error-spec = tie.close (tie.spec read-header-requires remembered-or-new-requires same-length same-length-2 returns)
+error-spec = tie.close (tie.spec error-once-requires same-length same-length-2 returns)

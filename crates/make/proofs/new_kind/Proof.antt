@@ -1,22 +1,24 @@
 -- `make::new_kind` meets its contract. The entries are put behind the children made, where no node looks, and the kind that is pushed has them; so it
 -- means the kind that was given.
 -- Assumes nothing.
-use Rattle.make.proofs.MakeLaws.{pushable}
-use Rattle.make.proofs.NewLaws.{entries-ready, children-room, kind-made}
+use Rattle.make.proofs.MakeLaws.{pushable-in}
+use Rattle.make.proofs.NewLaws.{kind-head, entries-ready, children-room, kind-made}
 use borrow.Author.Needs.{needs}
 use Rattle.make.proofs.new_kind.Statement.{statement}
 use Rattle.make.proofs.new_kind.Tie as tie
 
-read-header-requires : tie.Need-read-header-requires
-read-header-requires c κs = search needs
-
 entry-count-requires : tie.Need-entry-count-requires
 entry-count-requires c κs = search needs
 
+children-made-requires : tie.Need-children-made-requires
+children-made-requires c κs = kind-head (c .before .before .before .before .before .before .pre)
+
 put-children-requires : tie.Need-put-children-requires
 put-children-requires c κs =
-    let s = c .before .before .before .before .before .before .before .before in
-    children-room (entries-ready (s .pre) (c .before .entry-count .ensures)) (c .before .before .read-header .ensures)
+    let atChildrenMade = c .before in
+    let atEntryCount = atChildrenMade .before .before in
+    let start = atEntryCount .before .before .before .before .before in
+    children-room (entries-ready (start .pre) (atEntryCount .entry-count .ensures)) (atChildrenMade .children-made .ensures)
 
 cast-count : tie.Need-cast-count
 cast-count c = search needs
@@ -26,10 +28,9 @@ kind-of-requires c κs = search needs
 
 push-requires : tie.Need-push-requires
 push-requires c κs =
-    let s = c .before .before .before .before .before .before .before .before .before .before .before .before .before .before in
-    let n = c .before .before .before .before .before .before .before in
-    let x = n .before .read-header in
-    pushable (x .result) (entries-ready (s .pre) (n .entry-count .ensures)) (x .ensures)
+    let atEntryCount = c .before .before .before .before .before .before .before .before .before in
+    let start = atEntryCount .before .before .before .before .before in
+    pushable-in (entries-ready (start .pre) (atEntryCount .entry-count .ensures))
 
 same-length : tie.Need-same-length
 same-length c = search needs
@@ -42,19 +43,21 @@ same-length-3 c = search needs
 
 returns : tie.Need-returns
 returns c =
-    let k = c .before .before .before .before .before .before .before in
-    let p = k .before .before .before in
-    let n = p .before .before in
-    let s = n .before .before .before .before .before .before .before in
-    kind-made (s .pre) (n .before .read-header .ensures) (n .entry-count .ensures) (p .put-children .ensures) (p .put-children .kept .0) (k .kind-of .ensures)
-    (c .before .before .before .before .push .ensures)
+    let atPush = c .before .before .before .before in
+    let atKindOf = atPush .before .before .before in
+    let atPutChildren = atKindOf .before .before .before in
+    let atChildrenMade = atPutChildren .before .before in
+    let atEntryCount = atChildrenMade .before .before in
+    let start = atEntryCount .before .before .before .before .before in
+    kind-made (start .pre) (atChildrenMade .children-made .ensures) (atEntryCount .entry-count .ensures) (atPutChildren .put-children .ensures)
+    (atPutChildren .put-children .kept .0) (atKindOf .kind-of .ensures) (atPush .push .ensures)
 
 pub new-kind-spec : {M : Type 1} → statement M
 new-kind-spec =
     tie.close
     (tie.spec
-    read-header-requires
     entry-count-requires
+    children-made-requires
     put-children-requires
     cast-count
     kind-of-requires

@@ -1,19 +1,16 @@
--- `make::nil` meets its contract: what `remembered_or_new` makes of what the store remembers is what `makeNil` makes.
+-- `make::nil` meets its contract: what `nil_once` makes of what the store remembers is what `makeNil` makes.
 -- Assumes nothing.
+use Rattle.store.proofs.Laws.{nil-is}
+use Rattle.make.proofs.MakeLaws.{once-ready, nil-made}
 use borrow.Author.Needs.{needs}
-use Rattle.make.proofs.MakeLaws.{once-ready, head-nil, nil-made}
 use Rattle.make.proofs.nil.Statement.{statement}
 use Rattle.make.proofs.nil.Tie as tie
 
-read-header-requires : tie.Need-read-header-requires
-read-header-requires c κs = search needs
-
-remembered-or-new-requires : tie.Need-remembered-or-new-requires
-remembered-or-new-requires c κs =
-    let s = c .before .before .before .before .before .before .before in
-    let a = s .args in
-    let x = c .before .before .read-header in
-    once-ready (x .ensures) (head-nil (a .h .now) (a .ws .now) (a .ks .now) (x .ensures)) (s .pre)
+nil-once-requires : tie.Need-nil-once-requires
+nil-once-requires c κs =
+    let start = c .before .before .before .before .before in
+    let a = start .args in
+    once-ready (start .pre .clean) (nil-is (a .h .now) (a .ws .now) (a .ks .now)) (start .pre)
 
 same-length : tie.Need-same-length
 same-length c = search needs
@@ -23,10 +20,10 @@ same-length-2 c = search needs
 
 returns : tie.Need-returns
 returns c =
-    let s = c .before .before .before .before .before .before .before .before .before .before .before .before in
-    let a = s .args in
-    let x = c .before .before .before .before .before .before .before .read-header in
-    nil-made (a .h .now) (a .ws .now) (a .ks .now) (x .ensures) (s .pre) (c .before .before .before .before .remembered-or-new .ensures)
+    let atNilOnce = c .before .before .before .before in
+    let start = atNilOnce .before .before .before .before .before .before in
+    let a = start .args in
+    nil-made (a .h .now) (a .ws .now) (a .ks .now) (start .pre) (atNilOnce .nil-once .ensures)
 
 pub nil-spec : {M : Type 1} → statement M
-nil-spec = tie.close (tie.spec read-header-requires remembered-or-new-requires same-length same-length-2 returns)
+nil-spec = tie.close (tie.spec nil-once-requires same-length same-length-2 returns)

@@ -1,9 +1,10 @@
 -- `needs::count` meets its contract. The measure is the depth. A root that is not counted is counted before its children are walked from; the loop's
 -- invariant: what is left of them gives what all of them give. Assumes nothing.
-use mathlib.Core.Path.{_∙_}
+use mathlib.Core.Path.{refl, _∙_}
 use Prim.Native.Nat.{ℕ, _-_, _<_}
 use native.Mathlib.Omega.{arith}
 use borrow.Author.Needs.{needs}
+use borrow.Author.Tests.{not-false}
 use Rattle.layout.proofs.LinkLaws.{clean-linked}
 use Rattle.needs.proofs.CountLaws.{Turn, turn-next, kid-next, root-is}
 use Rattle.needs.proofs.CountLaws.{count-shallow, count-met, count-replaced, count-lacking, node-fits, node-turn, count-node}
@@ -15,6 +16,7 @@ use Rattle.needs.proofs.count.Kinds as count-kinds
 use Rattle.needs.proofs.+count.Lts-count as count-lts
 use Rattle.needs.proofs.child.Reads as child-reads
 use Rattle.needs.proofs.is_counted.Reads as is-counted-reads
+use Rattle.needs.proofs.is_met.Reads as is-met-reads
 use Rattle.needs.proofs.mark.Reads as mark-reads
 use Rattle.needs.proofs.root_asks.Reads as root-asks-reads
 use Rattle.roots.proofs.find.Reads as find-reads
@@ -45,6 +47,8 @@ count-claims t = (
   mark-reads.Learnt,
   child-reads.Asked,
   child-reads.Learnt,
+  is-met-reads.Asked,
+  is-met-reads.Learnt,
   count-below t,
   count.Post,
 )
@@ -134,36 +138,58 @@ count-loop-holds t c =
 count-child-requires : (t : ℕ) → count-lts.Need-child-requires (count-claims t) (count-at t) count.Post count-Inv-loop count-μ-loop
 count-child-requires t c κs = search needs
 
+count-add-j : (t : ℕ) → count-lts.Need-add-j (count-claims t) (count-at t) count.Post count-Inv-loop count-μ-loop
+count-add-j t c = omega (arith, c .before .before .loop-test .taken)
+
+count-is-met-requires : (t : ℕ) → count-lts.Need-is-met-requires (count-claims t) (count-at t) count.Post count-Inv-loop count-μ-loop
+count-is-met-requires t c κs =
+    let atIdx = c .before .before .before .before .before .before .before .before .before .before .before .before .before .before .before .before .before .before in
+    let start = atIdx .before .before .before .before .before .before in
+    clean-linked _ _ _ _ (start .pre .1 .source .clean)
+
 count-sub-count : (t : ℕ) → count-lts.Need-sub-count (count-claims t) (count-at t) count.Post count-Inv-loop count-μ-loop
 count-sub-count t c =
-    let i = c .before .before .before .before .before .before .before .before .before .before .before .before .before .before .before .before .before .before .before .before in
-    omega (arith, i .if1 .left)
+    let atIf2 = c .before .before .before .before .before .before .before .before .before .before .before .before .before .before .before .before .before .before in
+    let atIf1 = atIf2 .before .before .before .before .before in
+    omega (arith, atIf1 .if1 .left)
 
 count-count-requires : (t : ℕ) → count-lts.Need-count-requires (count-claims t) (count-at t) count.Post count-Inv-loop count-μ-loop
 count-count-requires t c κs =
-    let l = c .before .before .before .before in
-    let m = l .before .before .before .before .before in
-    let i = m .before .before .before .before .before .before .before .before .before .before .before in
-    let s = i .before .before .before .before in (
-      omega (arith, s .pre .0, i .if1 .left),
-      record { source = s .pre .1 .source; long = omega (arith, s .pre .1 .long, m .mark .kept .0, l .loop .inv .long); small = l .loop .inv .small },
+    let atLoop = c .before .before .before .before .before .before .before in
+    let atMark = atLoop .before .before .before .before .before in
+    let atIf1 = atMark .before .before .before .before .before .before .before .before .before .before .before in
+    let start = atIf1 .before .before .before .before in (
+      omega (arith, start .pre .0, atIf1 .if1 .left),
+      record { source = start .pre .1 .source; long = omega (arith, start .pre .1 .long, atMark .mark .kept .0, atLoop .loop .inv .long); small = atLoop .loop .inv .small },
     )
 
-count-add-j : (t : ℕ) → count-lts.Need-add-j (count-claims t) (count-at t) count.Post count-Inv-loop count-μ-loop
-count-add-j t c = omega (arith, c .before .before .before .before .before .before .loop-test .taken)
-
 count-loop-less : (t : ℕ) → count-lts.Need-loop-less (count-claims t) (count-at t) count.Post count-Inv-loop count-μ-loop
-count-loop-less t c = omega (arith, c .before .before .before .before .before .before .loop-test .taken)
+count-loop-less t c = omega (arith, c .before .before .before .before .before .before .before .before .before .loop-test .taken)
 
 count-loop-again : (t : ℕ) → count-lts.Need-loop-again (count-claims t) (count-at t) count.Post count-Inv-loop count-μ-loop
 count-loop-again t c =
-    let o = c .before .before in
-    let h = o .before .before .before in
-    let l = h .before in
-    let p = l .before in
-    let s = p .before .before .before .before .before .before .before .before .before .before .before .before .before .before .before .before .before .before .before .before in
-    turn-next (p .loop .inv) (s .pre .1 .source) (kid-next (s .args .ks .now) _ _ _ (h .child .result) (l .loop-test .taken) (h .child .ensures)) (o .count .ensures)
-    (o .count .kept .1 .1 .1 .1 .0)
+    let atCount = c .before .before in
+    let atChild = atCount .before .before .before .before .before .before in
+    let atLoopTest = atChild .before in
+    let atLoop = atLoopTest .before in
+    let atSharedSliceKnown2 = atLoop .before .before .before .before .before .before .before .before .before .before .before .before .before .before .before .before .before .before in
+    let start = atSharedSliceKnown2 .before .before in
+    let next = kid-next (start .args .ks .now) _ _ _ (atChild .child .result) (atLoopTest .loop-test .taken) (atChild .child .ensures) in
+    turn-next (atLoop .loop .inv) (start .pre .1 .source) next (atCount .count .ensures) (atCount .count .kept .1 .1 .1 .1 .0)
+
+count-loop-less-2 : (t : ℕ) → count-lts.Need-loop-less-2 (count-claims t) (count-at t) count.Post count-Inv-loop count-μ-loop
+count-loop-less-2 t c = omega (arith, c .before .before .before .before .before .loop-test .taken)
+
+count-loop-again-2 : (t : ℕ) → count-lts.Need-loop-again-2 (count-claims t) (count-at t) count.Post count-Inv-loop count-μ-loop
+count-loop-again-2 t c =
+    let atIsMet = c .before in
+    let atChild = atIsMet .before .before .before in
+    let atLoopTest = atChild .before in
+    let atLoop = atLoopTest .before in
+    let atSharedSliceKnown2 = atLoop .before .before .before .before .before .before .before .before .before .before .before .before .before .before .before .before .before .before in
+    let start = atSharedSliceKnown2 .before .before in
+    let next = kid-next (start .args .ks .now) _ _ _ (atChild .child .result) (atLoopTest .loop-test .taken) (atChild .child .ensures) in
+    turn-next (atLoop .loop .inv) (start .pre .1 .source) next (atIsMet .is-met .ensures .is (not-false _ (c .if3 .left)) (start .args .ks .now) _ _ _) refl
 
 count-same-length-2 : (t : ℕ) → count-lts.Need-same-length-2 (count-claims t) (count-at t) count.Post count-Inv-loop count-μ-loop
 count-same-length-2 t c = search needs
@@ -216,7 +242,24 @@ count-returns-5 t c =
     (p .pre .1 .source) (i .if2 .left) (r .root-asks .ensures) (f .first .given .1) (m .mark .ensures) (a .if1 .left) (l .loop .inv) (c .loop-test .left)
 
 pub +count-spec : {M : Type 1} → statement M
-+count-spec = close μ-count λ t. count-lts.spec (count-claims t)
++count-spec = close μ-count λ t. count-lts.spec (
+  find-reads.Asked,
+  find-reads.Learnt,
+  idx-reads.Asked,
+  idx-reads.Learnt,
+  is-counted-reads.Asked,
+  is-counted-reads.Learnt,
+  root-asks-reads.Asked,
+  root-asks-reads.Learnt,
+  mark-reads.Asked,
+  mark-reads.Learnt,
+  child-reads.Asked,
+  child-reads.Learnt,
+  is-met-reads.Asked,
+  is-met-reads.Learnt,
+  count-below t,
+  count.Post,
+)
     (count-at t)
     count.Post
     count-Inv-loop
@@ -236,11 +279,14 @@ pub +count-spec : {M : Type 1} → statement M
     (count-add-t26 t)
     (count-loop-holds t)
     (count-child-requires t)
+    (count-add-j t)
+    (count-is-met-requires t)
     (count-sub-count t)
     (count-count-requires t)
-    (count-add-j t)
     (count-loop-less t)
     (count-loop-again t)
+    (count-loop-less-2 t)
+    (count-loop-again-2 t)
     (count-same-length-2 t)
     (count-returns-3 t)
     (count-same-length-3 t)
