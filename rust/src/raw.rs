@@ -224,8 +224,8 @@ pub struct Store {
 impl Clone for Store {
   fn clone(&self) -> Store {
     let Store { rules, h, ws, ks, .. } = self;
-    // A buffer that holds no name is not worth a copy.
-    let names = if held(&self.names).next().is_some() { self.names.clone() } else { Vec::new() };
+    let [nodes, children] = self.room();
+    let names = self.names_with_room(nodes, children);
     Store { rules: rules.clone(), h: h.clone(), ws: ws.clone(), ks: ks.clone(), names }
   }
 }
@@ -542,6 +542,15 @@ pub fn open_names(bs: &mut [u32], nodes: u32, children: u32) -> u64 {
   unsafe { faroalder_open_names(bs.as_mut_ptr(), bs.len(), nodes, children) }
 }
 
+/// A names buffer without a name, for a room within the limits. Its words are 0 as the system gives them, so that memory
+/// is taken up only where a state is held.
+fn fresh_names(nodes: u32, children: u32) -> Vec<u32> {
+  let mut names = vec![0; names_words(nodes, children)];
+  let answer = open_names(&mut names, nodes, children);
+  assert!(answer == 0, "a room within the limits");
+  names
+}
+
 /// The names that a names buffer holds and the states' words, by place: where a place begins, its name's length, and its
 /// state's counts of nodes and children.
 fn held(bs: &[u32]) -> impl Iterator<Item = Held<'_>> {
@@ -747,15 +756,12 @@ impl Store {
     [self.h[ROOM.start], self.h[ROOM.start + 1]]
   }
 
-  /// A call on the names buffer, which is made where there is none yet. Memory that is not written yet is not taken up:
-  /// words of 0 come from the system as they are.
+  /// A call on the names buffer, which is made where there is none yet.
   fn with_names<T>(&mut self, call: impl FnOnce(&mut Store, &mut Vec<u32>) -> T) -> T {
     let mut names = std::mem::take(&mut self.names);
     if names.is_empty() {
       let [nodes, children] = self.room();
-      names = vec![0; names_words(nodes, children)];
-      let opened = open_names(&mut names, nodes, children);
-      assert!(opened == 0, "a store's room is within the limits");
+      names = fresh_names(nodes, children);
     }
     let answer = call(self, &mut names);
     self.names = names;
@@ -789,19 +795,13 @@ impl Store {
     held(&self.names).map(|place| place.bytes()).collect()
   }
 
-  /// The names buffer for another room, with every state that is held; 10 or 11 where it is too small for one of them.
-  fn names_with_room(&self, nodes: u32, children: u32) -> Result<Vec<u32>, u32> {
+  /// A names buffer for a room that is enough for every state that is held, with these; none where no name is held.
+  fn names_with_room(&self, nodes: u32, children: u32) -> Vec<u32> {
     let mut names = Vec::new();
     let [old, _] = self.room();
     for (i, place) in held(&self.names).enumerate() {
-      for (made, room, number) in [(place.h[0], nodes, 10), (place.h[1], children, 11)] {
-        if made > room {
-          return Err(number);
-        }
-      }
       if names.is_empty() {
-        names = vec![0; names_words(nodes, children)];
-        refused(open_names(&mut names, nodes, children))?;
+        names = fresh_names(nodes, children);
       }
       let size = (names.len() - NAMES_HEAD) / PLACES;
       let new = &mut names[NAMES_HEAD + i * size..][..size];
@@ -813,7 +813,7 @@ impl Store {
         to[..from.len()].copy_from_slice(from);
       }
     }
-    Ok(names)
+    names
   }
 
   /// A store without a node: opened by the library, hence sound.
@@ -835,8 +835,9 @@ impl Store {
   /// them. The new words are tested.
   pub fn set_room(&mut self, nodes: u32, children: u32) -> Result<(), u32> {
     let mut words = Words::opened(nodes, children)?;
-    for (made, room, number) in [(self.h[0], nodes, 10), (self.h[1], children, 11)] {
-      if made > room {
+    let states = || held(&self.names).map(|place| place.h).chain([&self.h[..]]);
+    for (count, room, number) in [(COUNTS.start, nodes, 10), (COUNTS.start + 1, children, 11)] {
+      if states().any(|h| h[count] > room) {
         return Err(number);
       }
     }
@@ -848,7 +849,7 @@ impl Store {
     words.ws[..n].copy_from_slice(&self.ws[..n]);
     words.ks[..c].copy_from_slice(&self.ks[..c]);
     words.test(self.rules())?;
-    let names = self.names_with_room(room[0], room[1])?;
+    let names = self.names_with_room(room[0], room[1]);
     let [h, ws, ks] = words.parts();
     if !names.is_empty() {
       match (Lent { rules: self.rules(), h, ws, ks }).names_refusal(&names) {
