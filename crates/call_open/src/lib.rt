@@ -1,4 +1,4 @@
-// The call that opens a store, on any numbers at all: it is refused with 1 alone. Emptying a store drops its names too: `call_states` has it.
+// The call that opens a store, on any numbers at all: it is refused with 1 alone.
 ghost use Rattle.scope.specs.Calls.{openCall};
 ghost use Rattle.refusals.specs.Opening.{enough};
 ghost use Rattle.promise.specs.Promise.{doneReply, Promised};
