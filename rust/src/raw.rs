@@ -551,8 +551,7 @@ fn fresh_names(nodes: u32, children: u32) -> Vec<u32> {
   names
 }
 
-/// The names that a names buffer holds and the states' words, by place: where a place begins, its name's length, and its
-/// state's counts of nodes and children.
+/// The held places of a names buffer, one after another; none where there is no buffer.
 fn held(bs: &[u32]) -> impl Iterator<Item = Held<'_>> {
   let size = bs.len().saturating_sub(NAMES_HEAD) / PLACES;
   let places = bs.get(NAMES_HEAD..).unwrap_or(&[]).chunks_exact(size.max(1)).take(PLACES);
