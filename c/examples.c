@@ -564,7 +564,8 @@ static void names_by_hand(void) {
   number("words that are no part of it", faroalder_names_refusal(BOTH, NAMES(n)), 0);
   struct faroalder_rules bad = r;
   bad.chart_len -= 1;
-  refused("2: before 8", faroalder_name_state(FAROALDER_RULES(&bad), FAROALDER_STORE(&s), FAROALDER_EMPTY, 0, NAME("a")),
+  refused("2: before 8",
+          faroalder_name_state(FAROALDER_RULES(&bad), FAROALDER_STORE(&s), FAROALDER_EMPTY, 0, NAME("a")),
           FAROALDER_BAD_CHART);
   refused("8: before 12", faroalder_return_to(BOTH, FAROALDER_EMPTY, 0, NAME("z")), FAROALDER_UNSOUND);
   number("return_to", faroalder_return_to(BOTH, NAMES(n), NAME("bc")), 0);

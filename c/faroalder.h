@@ -36,8 +36,8 @@
  *
  * Limits
  *   4,096 nodes and 16,384 children a store, both chosen when it is opened; 255 children a kind; 255 listed types or
- *   parameters; texts of 65,535 bytes; 1,024 records; names and paths of 1 to 255 bytes; eight named states, under names
- *   of 1 to 255 bytes.
+ *   parameters; texts of 65,535 bytes; 1,024 records; names and paths of 1 to 255 bytes; eight named states, under
+ *   names of 1 to 255 bytes.
  */
 #ifndef FAROALDER_H
 #define FAROALDER_H
@@ -237,9 +237,9 @@ uint32_t faroalder_refusal(FAROALDER_THE_RULES, FAROALDER_READ_STORE);
 
 /* ---- Named states, and emptying ----
  *
- * A names buffer is one more buffer of yours, `bs`, beside a store. It holds up to eight states of the store, each under
- * a name of your choice: 1 to 255 bytes, any bytes, compared as bytes. Name the present state before you try something;
- * if it fails, return to it:
+ * A names buffer is one more buffer of yours, `bs`, beside a store. It holds up to eight states of the store, each
+ * under a name of your choice: 1 to 255 bytes, any bytes, compared as bytes. Name the present state before you try
+ * something; if it fails, return to it:
  *
  *     uint32_t *bs = ..;                               (faroalder_names_words(64, 256) words)
  *     faroalder_open_names(bs, bs_len, 64, 256);       (the capacities that the store was opened with)
@@ -247,10 +247,10 @@ uint32_t faroalder_refusal(FAROALDER_THE_RULES, FAROALDER_READ_STORE);
  *     ..                                               (a unify that fails has bound some variables)
  *     faroalder_return_to(FAROALDER_RULES(&r), FAROALDER_STORE(&s), bs, bs_len, (const uint8_t *)"before", 6);
  *
- * What it holds: two words, the capacities; then eight places of one size, each a name's length (0: the place is free),
- * 255 words for the name's bytes (a byte each, unused ones 0), and the words of a state: header, nodes, children, as much
- * of each as was in use. Words of a free place behind its length, words behind what a state uses, and words past the last
- * place are no part of it. A longer buffer does no harm.
+ * What it holds: two words, the capacities; then eight places of one size, each a name's length (0: the place is
+ * free), 255 words for the name's bytes (a byte each, unused ones 0), and the words of a state: header, nodes,
+ * children, as much of each as was in use. Words of a free place behind its length, words behind what a state uses, and
+ * words past the last place are no part of it. A longer buffer does no harm.
  *
  * Refusal 8 meets a names buffer that is too short, that was opened for other capacities than the store has, a word of
  * which is out of range, that holds one name twice, or a held state of which is unsound under the present rules: every
