@@ -163,7 +163,8 @@ fn charts(random: &mut Random, rules: &Rules, all: &mut All, count: &mut Count) 
     let was = changed.chart[i];
     for value in words::values(random, was, &rules.chart) {
       changed.chart[i] = value;
-      let broken = check(&changed, all, i).map_err(|what| format!("word {i} of the chart from {was} to {value}: {what}"))?;
+      let broken =
+        check(&changed, all, i).map_err(|what| format!("word {i} of the chart from {was} to {value}: {what}"))?;
       count.charts += 1;
       count.bad_charts += u64::from(broken);
     }
