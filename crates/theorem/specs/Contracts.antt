@@ -13,6 +13,8 @@ use denote.Triple.Clauses.{AtExit}
 use Rattle.scope.specs.Types.{tyOf}
 use Rattle.scope.specs.Demand.{Call}
 use Rattle.scope.specs.Demand as call
+use Rattle.scope.specs.StatesDemand.{StateCall, naming}
+use Rattle.scope.specs.StatesDemand as calls
 use Rattle.scope.specs.Replies.{Reply}
 use Rattle.scope.specs.Replies as says
 use Rattle.types.specs.Impls.{implMeans}
@@ -46,6 +48,7 @@ use Rattle.call_show_part.proofs as call_show_part
 use Rattle.copy_parts.specs.Places.{listOf}
 use Rattle.theorem.specs.Memory.{Memory, memoryOf, nodesNow, headNow, Fixed, lent, held, roomy, Opened}
 use Rattle.theorem.specs.Steps.{replied, Ran}
+use Rattle.theorem.specs.DeskSteps.{DeskMemory, deskOf, storeNow, namesNow, OpenedNames, DeskRan}
 
 -- of a function that asks A of its arguments and whose callers learn L: it asks nothing, so any numbers at all may be lent, and whatever is learnt is S
 pub record Allows {n : ℕ} (ps : List (PK n)) (r : RK n) (A : In n ps) (L S : Out n ps r) : Type 0 where
@@ -95,6 +98,13 @@ otherWords a = memoryOf (arg1 a .now) (arg2 a .now) (arg3 a .now)
 -- a step on what was lent: the call c answers r and leaves the words m
 abbrev pub RanOn : {R : Type 0} → Args R → Call → Reply → Memory → Type 0
 RanOn a c r m = Ran (fixedIn a) (wordsIn a) c r m
+
+-- with a names buffer behind these, and a step on both
+abbrev pub deskIn : {R : Type 0} → Args (Slice × R) → DeskMemory
+deskIn a = deskOf (wordsIn a) (arg1 a .now)
+
+abbrev pub DeskRanOn : {R : Type 0} → Args (Slice × R) → StateCall → Reply → DeskMemory → Type 0
+DeskRanOn a c r d = DeskRan (fixedIn a) (deskIn a) c r d
 
 -- the words at exit, of a call that writes the header and the nodes, and of one that writes the nodes alone
 abbrev pub headLeft : {R Q : Type 0} → Args R → Args Q → Memory
@@ -201,5 +211,3 @@ pub record Contracts : Type 0 where
       call_show_part.show_impl_type_part.Reads.Asked call_show_part.show_impl_type_part.Reads.Learnt
       (λ κs a r x. RanOn a (call.later (call.showImplType (implMeans (arg1 a) (arg2 a .now)) (arg3 a .now)))
       (replied (λ n. says.text (r .now)) (partReply (arg4 x .now) (r .now))) (wordsIn a))
-  pub reset : Allows opening.reset.Kinds.ps opening.reset.Kinds.r opening.reset.Reads.Asked opening.reset.Reads.Learnt
-      (λ κs a r x. RanOn a call.reset (replied (λ u. says.nothing) (doneReply r)) (wordsIn x))
