@@ -92,7 +92,7 @@ pub fn reset(h: &mut [u32], ws: &mut [u32], ks: &mut [u32])
 }
 
 // One root more, with `added` children counted.
-fn push(h: &mut [u32], ws: &mut [u32], added: u32, state: TypeState) -> Type
+pub fn push(h: &mut [u32], ws: &mut [u32], added: u32, state: TypeState) -> Type
     requires { ⌜ Pushable (now h) (now ws) (headerIn (now h)) added ⌝ }
     ensures { λ r. ⌜ Pushed (now (h .entry)) (now (ws .entry)) (now (h .exit)) (now (ws .exit)) (headerIn (now (h .entry))) added
         (headerIn (now (h .entry)) .error) (headerIn (now (h .entry)) .nil) state r ⌝ }
