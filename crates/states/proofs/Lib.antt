@@ -1,4 +1,3 @@
-pub mod PlaceLaws
 pub mod FreeLaws
 pub mod HoldLaws
 pub mod NameLaws

@@ -1,33 +1,24 @@
 -- Naming at a place: the words of that place are what `hold` asks for, and once it holds the state the book does.
 -- Assumes nothing.
-use mathlib.Core.Path.{_≡_, refl, ap, sym, _∙_}
-use mathlib.Core.Bool.{true, false, _&&_, not}
+use mathlib.Core.Path.{_≡_, refl, ap, _∙_}
+use mathlib.Core.Bool.{true}
 use mathlib.Core.List.{List}
-use Prim.Native.Nat.{ℕ, _+_, _-_, _<_, _≤_}
-use native.Mathlib.Omega.{arith}
+use Prim.Native.Nat.{ℕ, _+_, _-_, _≤_}
 use native.Mathlib.Numerals.{add-one}
-use lib.Dec.{eqb, leb}
+use lib.Dec.{eqb}
 use lib.ListN.{length}
 use borrow.Rule.Slice.PartMut.{midOf, putMid}
-use borrow.Author.Tests.{eqb-true, lt-leb, le-leb}
-use Rattle.scope.specs.Limits.{MAX-STATE-NAME}
+use borrow.Author.Tests.{eqb-true}
 use Rattle.scope.specs.Nodes.{Store}
-use Rattle.scope.specs.States.{Book, sameRoom, nameLength}
+use Rattle.scope.specs.States.{sameRoom}
 use Rattle.layout.specs.Words.{storeIn}
 use Rattle.layout.proofs.Lists.{and-left, and-right}
-use Rattle.book.specs.Words.{placeFrom, placeAt, nodeRoomIn, childRoomIn, placeIn, bookIn, BookBecame}
+use Rattle.book.specs.Words.{placeFrom, placeAt, nodeRoomIn, childRoomIn, bookIn, BookBecame}
 use Rattle.book.specs.Places.{roomIn, PlaceLies}
 use Rattle.book.specs.declared.Room.{Room}
 use Rattle.book.proofs.Places.{book-lies, place-length, became-put}
 use Rattle.states.specs.Ready.{holding, withPlace, AtPlace, NameReady, HoldReady, HeldPlace}
 use Rattle.states.proofs.FreeLaws.{place-order, place-fits, place-back}
-
--- a name's length, as the code tests it
-pub no-name : (name : List ℕ) → length name ≡ 0 → false ≡ nameLength name
-no-name name z = rw (lt-leb 1 (length name) (omega arith))
-
-pub some-name : (name : List ℕ) → (length name ≡ 0 → ⊥) → leb (length name) MAX-STATE-NAME ≡ nameLength name
-some-name name z = rw (le-leb 1 (length name) (omega arith))
 
 -- the same capacities
 

@@ -2,44 +2,20 @@
 // What each does is what scope's definitions say of the store and of the book that the buffer holds. None tests: what it asks is in its `requires`.
 // Of a state the used words are copied, once each way.
 ghost use mathlib.Core.Path.{_≡_};
-ghost use mathlib.Core.Bool.{true};
 ghost use mathlib.Core.Option.{none};
 ghost use Prim.Native.Nat.{_≤_};
 ghost use lib.ListN.{length};
-ghost use Rattle.scope.specs.States.{blank, placeFor, nameLength, keepReports};
+ghost use Rattle.scope.specs.States.{blank, keepReports};
 ghost use Rattle.layout.specs.Words.{storeIn};
 ghost use Rattle.store.specs.Holds.{Became};
 ghost use Rattle.scope.specs.Limits.{MAX-STATES};
-ghost use Rattle.book.specs.Words.{bookWords, bookIn, bookClean, placesIn, BookBecame};
+ghost use Rattle.book.specs.Words.{bookWords, bookIn, BookBecame};
 ghost use Rattle.book.specs.Places.{PlaceLies};
 ghost use Rattle.states.specs.Ready.{holding, withPlace, storeAt, NameReady, ReturnReady, HoldReady, HeldPlace};
 ghost use Rattle.states.specs.Free.{freedAt, FreeTo, DropReady, ResetReady, ResetLeft};
 use book::NAME_WORDS;
 use book::NODES_FROM;
-use scope::MAX_STATE_NAME;
 use scope::MAX_STATES;
-
-// "names of 1 to 255 bytes"
-pub fn name_fits(name: &[u8]) -> bool
-    ensures { λ r. ⌜ r ≡ nameLength (now (name .entry)) ⌝ }
-{
-    if name.len() == 0 {
-        return false;
-    }
-    name.len() <= MAX_STATE_NAME
-}
-
-// Where a name goes, "Naming again under a held name replaces it", and MAX_STATES where there is no place for it.
-pub fn place_for(bs: &[u32], name: &[u8]) -> usize
-    requires { ⌜ bookClean (now bs) ≡ true ⌝ }
-    ensures { λ r. ⌜ r ≡ placeFor (now (name .entry)) (placesIn (now (bs .entry))) ⌝ }
-{
-    let i = book::find_name(bs, name);
-    if i < MAX_STATES {
-        return i;
-    }
-    book::find_free(bs)
-}
 
 // A state in the words of a place, under a name.
 fn hold(h: &[u32], ws: &[u32], ks: &[u32], ps: &mut [u32], nodes: u32, children: u32, name: &[u8])

@@ -1,4 +1,4 @@
--- A search over a book's places says whether there is a place: it ends within them exactly where one passes its test. So where a name goes, and where it is
+-- A name's length, and its place: a search over a book's places ends within them exactly where one passes its test, so where a name goes, and where it is
 -- held, is told by one number.
 -- Assumes nothing.
 use mathlib.Core.Path.{_≡_, refl, ap, sym, _∙_}
@@ -11,10 +11,18 @@ use lib.Dec.{ltb, leb}
 use lib.ListN.{length, getD}
 use borrow.Author.Tests.{lt-ltb, le-ltb, ltb-true, lt-leb, le-leb}
 use Rattle.scope.specs.Base.{pick, any}
-use Rattle.scope.specs.Limits.{MAX-STATES}
-use Rattle.scope.specs.States.{Place, isFree, under, isHeld, placeWhere, placeFor, noPlace}
+use Rattle.scope.specs.Limits.{MAX-STATES, MAX-STATE-NAME}
+use Rattle.scope.specs.States.{Place, isFree, under, isHeld, placeWhere, placeFor, nameLength, noPlace}
+use Rattle.tested_states.specs.Places.{placeHeld}
 use Rattle.scope.proofs.TestLaws.{or-no}
 use Rattle.scope.proofs.PlaceLaws.{found}
+
+-- a name's length, as the code tests it
+pub no-name : (name : List ℕ) → length name ≡ 0 → false ≡ nameLength name
+no-name name z = rw (lt-leb 1 (length name) (omega arith))
+
+pub some-name : (name : List ℕ) → (length name ≡ 0 → ⊥) → leb (length name) MAX-STATE-NAME ≡ nameLength name
+some-name name z = rw (le-leb 1 (length name) (omega arith))
 
 -- where no place passes, the search ends behind the last
 nowhere : (p : Place → Bool) (ps : List Place) → any p ps ≡ false → placeWhere p ps ≡ length ps
@@ -66,3 +74,12 @@ under-held n (some h) e = refl
 
 pub found-held : (n : List ℕ) (ps : List Place) → isHeld n ps ≡ true → isFree (getD ps (placeWhere (under n) ps) none) ≡ false
 found-held n ps e = under-held n (getD ps (placeWhere (under n) ps) none) (found (under n) ps e .passes)
+
+-- the place that a name is held at, its length tested first
+
+module _ (n : List ℕ) (ps : List Place) where
+  pub wrong-nowhere : nameLength n ≡ false → MAX-STATES ≡ placeHeld n ps
+  wrong-nowhere e = rw e
+
+  pub right-found : {i : ℕ} → nameLength n ≡ true → i ≡ placeWhere (under n) ps → i ≡ placeHeld n ps
+  right-found e q = rw e q

@@ -1,11 +1,11 @@
--- `states::place_for` meets its contract: the place that is held under the name, or the first free one where none is.
+-- `tested_states::place_for` meets its contract: the place that is held under the name, or the first free one where none is.
 -- Assumes nothing.
 use Rattle.book.specs.Words.{placesIn}
 use Rattle.book.proofs.Places.{places-length}
-use Rattle.states.proofs.PlaceLaws.{for-held, for-free}
+use Rattle.tested_states.proofs.PlaceLaws.{for-held, for-free}
 use borrow.Author.Needs.{needs}
-use Rattle.states.proofs.place_for.Statement.{statement}
-use Rattle.states.proofs.place_for.Tie as tie
+use Rattle.tested_states.proofs.place_for.Statement.{statement}
+use Rattle.tested_states.proofs.place_for.Tie as tie
 
 find-name-requires : tie.Need-find-name-requires
 find-name-requires c κs = search needs

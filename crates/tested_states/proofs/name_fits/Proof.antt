@@ -1,8 +1,8 @@
--- `states::name_fits` meets its contract.
+-- `tested_states::name_fits` meets its contract.
 -- Assumes nothing.
-use Rattle.states.proofs.NameLaws.{no-name, some-name}
-use Rattle.states.proofs.name_fits.Statement.{statement}
-use Rattle.states.proofs.name_fits.Tie as tie
+use Rattle.tested_states.proofs.PlaceLaws.{no-name, some-name}
+use Rattle.tested_states.proofs.name_fits.Statement.{statement}
+use Rattle.tested_states.proofs.name_fits.Tie as tie
 
 returns : tie.Need-returns
 returns c = no-name (c .before .args .name .now) (c .if1 .taken)
