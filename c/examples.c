@@ -540,6 +540,8 @@ static void names_by_hand(void) {
   size_t place = (n.len - 2) / 8, state = 2 + 256, nodes = state + faroalder_header_words();
   uint32_t out[12];
   title("names buffers changed by hand");
+  memset(n.bs, 0, n.len * sizeof *n.bs); /* zeros behind what a state uses */
+  if (faroalder_open_names(NAMES(n), 16, 32) != 0) abort();
   tuple1(var(0)), nil();
   number("a", faroalder_name_state(BOTH, NAMES(n), NAME("a")), 0);
   number("bc", faroalder_name_state(BOTH, NAMES(n), NAME("bc")), 0);
@@ -547,7 +549,8 @@ static void names_by_hand(void) {
       {"a capacity for nodes", 0, 15},        {"a capacity for children", 1, 33},
       {"a name of 256 bytes", 2, 256},        {"a byte of 256", 3, 256},
       {"an unused byte", 4, 1},               {"a count of nodes", state, 2},
-      {"a capacity in a state", state + 2, 16}, {"a node's tag", nodes, 9},
+      {"a state's nodes' room", state + 2, 16}, {"a state's children's room", state + 3, 32},
+      {"a node's tag", nodes, 9},
   };
   for (size_t i = 0; i < sizeof changes / sizeof *changes; i++) {
     uint32_t was = n.bs[changes[i].at];
