@@ -3,26 +3,25 @@
 -- Assumes nothing.
 use mathlib.Core.Path.{_≡_, refl, ap, sym, _∙_}
 use mathlib.Core.Bool.{Bool, true, false, _&&_}
-use mathlib.Core.List.{List, [], _∷_, _++_, map}
+use mathlib.Core.List.{List, [], _∷_, _++_}
 use mathlib.Core.Option.{some}
 use Prim.Native.Nat.{ℕ, zero, suc, _+_, _-_, _<_, _≤_}
 use native.Mathlib.Omega.{arith}
 use native.Mathlib.Nat.{add-sub-cancel-left}
-use lib.Dec.{eqb, leb, ltb}
+use lib.Dec.{eqb, leb}
 use lib.ListN.{length, getD, take, drop, length-append, length-drop, List·getD-append, List·getD-eq-default}
-use lib.Seq.{drop-cons, drop-at, take-append-le, length-take-le, getD-take, ext-getD}
+use lib.Seq.{drop-cons, take-append-le, length-take-le, getD-take, ext-getD}
 use borrow.Author.Tests.{eq-eqb, ne-eqb, le-leb, leb-true, lt-ltb}
-use Rattle.scope.specs.Base.{pick, all, from}
+use Rattle.scope.specs.Base.{all, from}
 use Rattle.scope.specs.Limits.{MAX-STATE-NAME}
 use Rattle.scope.specs.Sound.{zeros}
-use Rattle.scope.specs.States.{Place}
 use Rattle.layout.specs.Words.{HEAD-WORDS, nodeWords, childWords, storeIn, between}
 use Rattle.layout.specs.Words as words
 use Rattle.layout.proofs.Lists.{and-both, length-from, get-from, from-all}
 use Rattle.book.specs.Words.{NAME-WORDS, nodesFrom, kidsFrom, placeWords, nameLengthIn, nameIn, headIn, nodesIn, kidsIn, withRoom, placeIn}
 use Rattle.book.specs.Words.{isByte, nameWordsClean, countsAreRoom, heldClean, placeClean}
 use Rattle.book.specs.Places.{putPart, putName}
-use Rattle.book.proofs.Parts.{put-length, put-here, put-after, put-before, put-first, between-take}
+use Rattle.book.proofs.Parts.{put-length, put-here, put-before, put-first, between-take}
 use Rattle.book.proofs.Names.{name-is, clean-held}
 use Rattle.book.proofs.Search.{bytesTo}
 

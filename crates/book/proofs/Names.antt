@@ -1,29 +1,26 @@
 -- The name in a place's words: what the code's comparisons of it say, what is read of a name that was written, and that a free place is no place held.
 -- Assumes nothing.
 use mathlib.Core.Path.{_≡_, refl, ap, sym, _∙_}
-use mathlib.Core.Bool.{Bool, true, false, _&&_}
-use mathlib.Core.List.{List, [], _∷_, _++_, map}
-use mathlib.Core.Option.{none, some}
-use Prim.Native.Nat.{ℕ, zero, suc, _+_, _-_, _<_, _≤_}
+use mathlib.Core.Bool.{Bool, true, false}
+use mathlib.Core.List.{List, [], _∷_}
+use mathlib.Core.Option.{none}
+use Prim.Native.Nat.{ℕ, suc, _+_, _-_, _<_, _≤_}
 use native.Mathlib.Omega.{arith}
 use native.Mathlib.Numerals.{add-one}
-use lib.Dec.{eqb, leb, ltb}
-use lib.ListN.{length, getD, set, take, drop, length-append, length-drop, List·getD-eq-default, drop-of-length-le}
-use lib.Seq.{drop-cons, take-at, drop-at, take-all, length-take-le, getD-take, getD-drop, ext-getD, take-append-le}
-use borrow.Rule.Slice.PartMut.{midOf, putMid}
-use borrow.Author.Tests.{eq-eqb, ne-eqb, eqb-true, eqb-false, le-leb, leb-true, lt-ltb}
-use Rattle.scope.specs.Base.{pick, all, from}
+use lib.Dec.{eqb, leb}
+use lib.ListN.{length, getD, set, take, drop, length-drop, drop-of-length-le}
+use lib.Seq.{drop-cons, length-take-le, getD-take, getD-drop}
+use borrow.Author.Tests.{eq-eqb, ne-eqb, eqb-true, leb-true}
+use Rattle.scope.specs.Base.{pick}
 use Rattle.scope.specs.Limits.{MAX-STATE-NAME, MAX-STATES}
 use Rattle.scope.specs.Names.{eqBytes}
-use Rattle.scope.specs.Sound.{zeros}
-use Rattle.scope.specs.States.{Place, under, isFree, placeWhere}
+use Rattle.scope.specs.States.{under, isFree}
 use Rattle.scope.proofs.NameLaws.{eq-bytes}
-use Rattle.layout.specs.Words.{between}
-use Rattle.layout.proofs.Lists.{and-both, and-left, length-from, get-from, from-all}
-use Rattle.book.specs.Words.{NAME-WORDS, nodesFrom, placeWords, placeAt, nameLengthIn, nameIn, placeIn, isByte, nameWordsClean, heldClean, placeClean}
+use Rattle.layout.proofs.Lists.{and-left}
+use Rattle.book.specs.Words.{placeWords, placeAt, nameLengthIn, nameIn, placeIn, nameWordsClean, heldClean, placeClean}
 use Rattle.book.specs.Words.{nodeRoomIn, childRoomIn, bookClean}
-use Rattle.book.specs.Places.{NameLies, heldUnder, nameBytes, putName}
-use Rattle.book.proofs.Places.{BookLies, book-lies, placeOf, place-length}
+use Rattle.book.specs.Places.{placeOf, NameLies, heldUnder}
+use Rattle.book.proofs.Places.{book-lies, place-length}
 
 -- what the code's tests say of a place
 

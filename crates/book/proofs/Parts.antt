@@ -1,17 +1,14 @@
--- A part of a list, words a to e, read and written: what was written is read there, and what lies before it and behind it is as it was. Then a place's
--- four parts, its name, its head, its nodes and its children: each that is written leaves the others.
+-- A part of a list, words a to e, read and written: what was written is read there, and what lies before it and behind it is as it was. These hold of any
+-- part that a function lends, `&s[a..e]` and `&mut s[a..e]`, in the shapes that these have.
 -- Assumes nothing.
-use mathlib.Core.Path.{_≡_, refl, ap, sym, _∙_}
-use mathlib.Core.List.{List, [], _∷_, _++_}
-use Prim.Native.Nat.{ℕ, suc, _+_, _-_, _<_, _≤_}
+use mathlib.Core.Path.{_≡_, refl, ap}
+use mathlib.Core.List.{List, _++_}
+use Prim.Native.Nat.{ℕ, _+_, _-_, _≤_}
 use native.Mathlib.Omega.{arith}
 use native.Mathlib.Decide.{decLe}
-use native.Mathlib.Nat.{add-sub-cancel-left}
 use lib.ListN.{length, take, drop}
-use borrow.Rule.Slice.PartMut.{midOf, putMid}
-use Rattle.layout.specs.Words.{HEAD-WORDS, nodeWords, childWords, between}
-use Rattle.layout.proofs.Lists.{part-here, part-after, part-before, drop-past, length-part}
-use Rattle.book.specs.Words.{NAME-WORDS, nodesFrom, kidsFrom, placeWords, headIn, nodesIn, kidsIn}
+use Rattle.layout.specs.Words.{between}
+use Rattle.layout.proofs.Lists.{part-here, part-before, drop-past, length-part}
 use Rattle.book.specs.Places.{putPart}
 use Rattle.book.proofs.Geometry.{mid-mid}
 

@@ -13,9 +13,10 @@ use borrow.Rule.Slice.PartMut.{midOf, putMid, mid-len}
 use borrow.Author.Tests.{le-leb, leb-true, eqb-true, eqb-false}
 use Rattle.scope.specs.Base.{all, from}
 use Rattle.scope.specs.Limits.{MAX-STATES}
-use Rattle.scope.specs.States.{Place, withPlaces}
+use Rattle.scope.specs.States.{withPlaces}
 use Rattle.layout.proofs.Lists.{and-both, and-left, and-right, part-here, part-other, drop-past, length-part, length-from, get-from, all-from, from-all}
 use Rattle.book.specs.Words.{BOOK-HEAD, placeFrom, placeWords, bookWords, placeAt, placeIn, placeClean, nodeRoomIn, childRoomIn, placesIn, bookIn, bookClean, BookBecame}
+pub use Rattle.book.specs.Places.{placeOf}
 use Rattle.book.specs.Places.{putPlace}
 use Rattle.book.proofs.Geometry.{place-span, place-before, place-inside, place-ends, place-lower, place-higher, word-before, mid-within, put-within}
 
@@ -46,9 +47,6 @@ lies-book bs b =
     (and-both _ _ (le-leb _ _ (b .words)) (from-all (cleanAt bs) 0 MAX-STATES (λ i a l. b .each i l)))
 
 -- the places of a book
-abbrev pub placeOf : List ℕ → ℕ → Place
-placeOf bs i = placeIn (nodeRoomIn bs) (childRoomIn bs) (placeAt bs (nodeRoomIn bs) (childRoomIn bs) i)
-
 pub places-length : (bs : List ℕ) → length (placesIn bs) ≡ MAX-STATES
 places-length bs = length-from (placeOf bs) 0 MAX-STATES
 

@@ -7,11 +7,16 @@ use lib.ListN.{length, getD, take, drop}
 use Rattle.scope.specs.Base.{pick, from}
 use Rattle.scope.specs.Limits.{MAX-STATES, MAX-STATE-NAME}
 use Rattle.scope.specs.Names.{eqBytes}
-use Rattle.book.specs.Words.{NAME-WORDS, placeFrom, bookWords, nameLengthIn, nameIn, nodeRoomIn, childRoomIn}
+use Rattle.scope.specs.States.{Place}
+use Rattle.book.specs.Words.{NAME-WORDS, placeFrom, bookWords, placeAt, nameLengthIn, nameIn, placeIn, nodeRoomIn, childRoomIn}
 use Rattle.book.specs.declared.Room.{Room}
 
 abbrev pub roomIn : List ℕ → Room
 roomIn bs = record { nodes = nodeRoomIn bs; children = childRoomIn bs }
+
+-- the place i of a book
+abbrev pub placeOf : List ℕ → ℕ → Place
+placeOf bs i = placeIn (nodeRoomIn bs) (childRoomIn bs) (placeAt bs (nodeRoomIn bs) (childRoomIn bs) i)
 
 -- there is a place i in a book for n nodes and c children
 pub record PlaceLies (bs : List ℕ) (n c i : ℕ) : Type 0 where

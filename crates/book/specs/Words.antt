@@ -4,11 +4,11 @@
 -- is used, and words past the last place are no part of the book.
 use mathlib.Core.Path.{_≡_}
 use mathlib.Core.List.{List, map}
-use mathlib.Core.Bool.{Bool, true, false, _&&_}
-use mathlib.Core.Option.{Option, none, some}
+use mathlib.Core.Bool.{Bool, true, _&&_}
+use mathlib.Core.Option.{none, some}
 use Prim.Native.Nat.{ℕ, suc, _+_, _*_}
 use lib.Dec.{eqb, leb, ltb}
-use lib.ListN.{length, getD, take, drop}
+use lib.ListN.{length, getD, drop}
 use Rattle.scope.specs.Base.{pick, all, from}
 use Rattle.scope.specs.Limits.{MAX-STATES, MAX-STATE-NAME}
 use Rattle.scope.specs.Nodes.{Store}

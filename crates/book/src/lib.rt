@@ -3,11 +3,10 @@
 ghost use mathlib.Core.Path.{_≡_};
 ghost use mathlib.Core.Bool.{true};
 ghost use Prim.Native.Nat.{_≤_, _<_};
-ghost use lib.Dec.{eqb};
 ghost use lib.ListN.{length, getD, set};
 ghost use Rattle.scope.specs.Limits.{MAX-STATES};
 ghost use Rattle.scope.specs.States.{under, isFree, placeWhere};
-ghost use Rattle.book.specs.Words.{NAME-WORDS, nodesFrom, kidsFrom, placeWords, bookWords, placeFrom, placeAt};
+ghost use Rattle.book.specs.Words.{nodesFrom, kidsFrom, placeWords, bookWords, placeFrom, placeAt};
 ghost use Rattle.book.specs.Words.{nameLengthIn, nameIn, headIn, nodesIn, kidsIn, placesIn, bookClean};
 ghost use Rattle.book.specs.Places.{roomIn, PlaceLies, NameLies, heldUnder, Nameable, putName};
 use layout::HEAD_WORDS;
@@ -151,15 +150,15 @@ pub fn same_names<'a>(ps: &'a [u32], other: &'a [u32]) -> bool
     requires { ⌜ NameLies (now ps) × NameLies (now other) ⌝ }
     ensures { λ r. ⌜ r ≡ heldUnder (nameIn (now (other .entry))) (now (ps .entry)) ⌝ }
 {
-    let n = name_length(ps) as usize;
-    if n == 0 {
+    let length = name_length(ps) as usize;
+    if length == 0 {
         return false;
     }
-    if n != name_length(other) as usize {
+    if length != name_length(other) as usize {
         return false;
     }
     let mut i = 0;
-    while i < n {
+    while i < length {
         if word(ps, i + 1) != word(other, i + 1) {
             return false;
         }

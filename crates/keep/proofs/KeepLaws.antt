@@ -74,5 +74,10 @@ module _ {h ws ks ph pn pk : List ℕ} (ok : clean h ws ks ≡ true) (k : Keeps 
   kept-store = store-header ph pn pk ∙ (ap (λ (x : Header). storeMeans x (decode pn pk (nodesMade ph))) (k .head)
       ∙ ap (storeMeans (keptHeader (headerIn h))) same-nodes)
 
-  pub keeps-store : withRoom (storeIn h ws ks .nodeRoom) (storeIn h ws ks .childRoom) (storeIn ph pn pk) ≡ storeIn h ws ks
-  keeps-store = rw (kept-store, store-header h ws ks) refl
+  same-store : withRoom (storeIn h ws ks .nodeRoom) (storeIn h ws ks .childRoom) (storeIn ph pn pk) ≡ storeIn h ws ks
+  same-store = rw (kept-store, store-header h ws ks) refl
+
+  pub keeps-store : {n c : ℕ} → storeIn h ws ks .nodeRoom ≡ n → storeIn h ws ks .childRoom ≡ c → withRoom n c (storeIn ph pn pk) ≡ storeIn h ws ks
+  keeps-store {n} {c} e f =
+      ap (λ (k : ℕ). withRoom k c (storeIn ph pn pk)) (sym e)
+      ∙ (ap (λ (k : ℕ). withRoom (storeIn h ws ks .nodeRoom) k (storeIn ph pn pk)) (sym f) ∙ same-store)

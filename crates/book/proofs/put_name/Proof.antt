@@ -1,6 +1,6 @@
 -- `book::put_name` meets its contract. The invariant: the first i bytes are written and the words behind them are as they were. The measure is what is left.
 -- Assumes nothing.
-use mathlib.Core.Path.{_≡_, refl, sym, ap, _∙_}
+use mathlib.Core.Path.{_≡_, ap, _∙_}
 use Prim.Native.Nat.{_-_, _≤_}
 use native.Mathlib.Omega.{arith}
 use lib.ListN.{length, set, length-set}
@@ -39,8 +39,11 @@ mul-ps c = search needs
 slice-write-ps-2 : tie.Need-slice-write-ps-2 Inv-loop μ-loop
 slice-write-ps-2 c =
     let a = c .before .before .before .before .before .args in
+    let o = c .before .before .loop in
+    let ps₁ = set (a .ps .now) 0 (length (a .name .now)) in
     let s = length-set (a .ps .now) 0 (length (a .name .now)) in
-    let l = ap length (c .before .before .loop .inv .1) ∙ put-bytes-length (set (a .ps .now) 0 (length (a .name .now))) (a .name .now) (c .before .before .loop .i) (omega (arith, c .before .before .before .before .before .pre .words)) in
+    let l = put-bytes-length ps₁ (a .name .now) (o .i) (omega (arith, c .before .before .before .before .before .pre .words)) in
+    let k = ap length (o .inv .1) in
     omega (arith, c .before .before .before .before .before .pre .words)
 
 add-i : tie.Need-add-i Inv-loop μ-loop
@@ -52,21 +55,25 @@ loop-less c = search needs
 loop-again : tie.Need-loop-again Inv-loop μ-loop
 loop-again c =
     let a = c .before .before .before .before .before .args in
-    let s = length-set (a .ps .now) 0 (length (a .name .now)) in (
-      omega arith,
-      rw (c .byte .ensures, c .before .before .loop .inv .1) (put-byte (set (a .ps .now) 0 (length (a .name .now))) (a .name .now) (c .before .before .loop .i) (omega (arith, c .before .before .before .before .before .pre .words))),
-    )
+    let o = c .before .before .loop in
+    let ps₁ = set (a .ps .now) 0 (length (a .name .now)) in
+    let s = length-set (a .ps .now) 0 (length (a .name .now)) in
+    (omega arith, rw (c .byte .ensures, o .inv .1) (put-byte ps₁ (a .name .now) (o .i) (omega (arith, c .before .before .before .before .before .pre .words))))
 
 same-length : tie.Need-same-length Inv-loop μ-loop
 same-length c =
     let a = c .before .before .before .before .args in
+    let o = c .before .loop in
+    let ps₁ = set (a .ps .now) 0 (length (a .name .now)) in
     let s = length-set (a .ps .now) 0 (length (a .name .now)) in
-    ap length (c .before .loop .inv .1) ∙ (put-bytes-length (set (a .ps .now) 0 (length (a .name .now))) (a .name .now) (c .before .loop .i) (omega (arith, c .before .before .before .before .pre .words)) ∙ s)
+    let l = put-bytes-length ps₁ (a .name .now) (o .i) (omega (arith, c .before .before .before .before .pre .words)) in
+    ap length (o .inv .1) ∙ (l ∙ s)
 
 returns : tie.Need-returns Inv-loop μ-loop
 returns c =
     let a = c .before .before .before .before .args in
-    c .before .loop .inv .1 ∙ put-bytes-end (a .ps .now) (a .name .now) (c .before .loop .i) (c .before .before .before .before .pre .words) (c .before .loop .inv .0) (omega arith)
+    let o = c .before .loop in
+    o .inv .1 ∙ put-bytes-end (a .ps .now) (a .name .now) (o .i) (c .before .before .before .before .pre .words) (o .inv .0) (omega arith)
 
 pub put-name-spec : {M : Type 1} → statement M
 put-name-spec =

@@ -1,9 +1,10 @@
 -- `book::same_names` meets its contract. The invariant is that of `same_name`, with the other place's name for the bytes.
 -- Assumes nothing.
 use mathlib.Core.Path.{_≡_, refl, sym, _∙_}
-use Prim.Native.Nat.{_-_, _≤_}
+use Prim.Native.Nat.{_+_, _-_, _≤_}
 use native.Mathlib.Omega.{arith}
-use Rattle.book.specs.Words.{nameIn}
+use lib.ListN.{getD}
+use Rattle.book.specs.Words.{nameLengthIn, nameIn}
 use Rattle.book.proofs.Names.{Same, name-length, name-word, compare-free, compare-length, compare-stop, compare-step, compare-end}
 use borrow.Author.Needs.{needs}
 use Rattle.book.proofs.same_names.Statement.{statement}
@@ -18,11 +19,13 @@ abbrev μ-loop : tie.MeasureT-loop
 name-length-requires : tie.Need-name-length-requires Inv-loop μ-loop
 name-length-requires c κs = search needs
 
-cast-n : tie.Need-cast-n Inv-loop μ-loop
-cast-n c = search needs
+cast-length : tie.Need-cast-length Inv-loop μ-loop
+cast-length c = search needs
 
 returns : tie.Need-returns Inv-loop μ-loop
-returns c = compare-free (c .before .before .before .before .args .ps .now) (nameIn (c .before .before .before .before .args .other .now)) (c .before .before .before .before .pre .0) (sym (c .before .name-length .ensures) ∙ c .if1 .taken)
+returns c =
+    let a = c .before .before .before .before .args in
+    compare-free (a .ps .now) (nameIn (a .other .now)) (c .before .before .before .before .pre .0) (sym (c .before .name-length .ensures) ∙ c .if1 .taken)
 
 name-length-requires-2 : tie.Need-name-length-requires-2 Inv-loop μ-loop
 name-length-requires-2 c κs = search needs
@@ -32,10 +35,12 @@ cast-if2 c = search needs
 
 returns-2 : tie.Need-returns-2 Inv-loop μ-loop
 returns-2 c =
-    let l = c .before .before .before .name-length .ensures in
+    let a = c .before .before .before .before .before .before .args in
+    let n = c .before .before .before .name-length .ensures in
     let m = c .before .name-length2 .ensures in
-    let k = name-length (c .before .before .before .before .before .before .args .other .now) (c .before .before .before .before .before .before .pre .1) in
-    compare-length (c .before .before .before .before .before .before .args .ps .now) (nameIn (c .before .before .before .before .before .before .args .other .now)) (c .before .before .before .before .before .before .pre .0) (λ e. c .before .before .if1 .left (l ∙ e)) (λ e. c .if2 .taken (l ∙ (e ∙ (k ∙ sym m))))
+    let held : nameLengthIn (a .ps .now) ≡ 0 → ⊥ = λ e. c .before .before .if1 .left (n ∙ e) in
+    let k = name-length (a .other .now) (c .before .before .before .before .before .before .pre .1) in
+    compare-length (a .ps .now) (nameIn (a .other .now)) (c .before .before .before .before .before .before .pre .0) held (λ e. c .if2 .taken (n ∙ (e ∙ (k ∙ sym m))))
 
 loop-holds : tie.Need-loop-holds Inv-loop μ-loop
 loop-holds c = (omega arith, refl)
@@ -54,13 +59,17 @@ word-requires-2 c κs = search needs
 
 returns-3 : tie.Need-returns-3 Inv-loop μ-loop
 returns-3 c =
-    let l = c .before .before .before .before .before .before .before .before .name-length .ensures in
+    let a = c .before .before .before .before .before .before .before .before .before .before .before .args in
+    let n = c .before .before .before .before .before .before .before .before .name-length .ensures in
     let m = c .before .before .before .before .before .before .name-length2 .ensures in
-    let k = name-length (c .before .before .before .before .before .before .before .before .before .before .before .args .other .now) (c .before .before .before .before .before .before .before .before .before .before .before .pre .1) in
+    let held : nameLengthIn (a .ps .now) ≡ 0 → ⊥ = λ e. c .before .before .before .before .before .before .before .if1 .left (n ∙ e) in
+    let k = name-length (a .other .now) (c .before .before .before .before .before .before .before .before .before .before .before .pre .1) in
+    let len = sym n ∙ (c .before .before .before .before .before .if2 .left ∙ (m ∙ sym k)) in
     let o = c .before .before .before .before .loop in
-    let w = name-word (c .before .before .before .before .before .before .before .before .before .before .before .args .other .now) (o .i) (omega (arith, c .before .before .before .before .before .if2 .left)) in
-    compare-stop (c .before .before .before .before .before .before .before .before .before .before .before .args .ps .now) (nameIn (c .before .before .before .before .before .before .before .before .before .before .before .args .other .now)) (c .before .before .before .before .before .before .before .before .before .before .before .pre .0) (λ e. c .before .before .before .before .before .before .before .if1 .left (l ∙ e)) (sym l ∙ (c .before .before .before .before .before .if2 .left ∙ (m ∙ sym k))) (o .i) (o .inv .1)
-    (omega arith) (λ e. c .if3 .taken (c .before .before .word .ensures ∙ (e ∙ (w ∙ sym (c .before .word2 .ensures)))))
+    let w = name-word (a .other .now) (o .i) (omega (arith, c .before .before .before .before .before .if2 .left)) in
+    let other : getD (a .ps .now) (o .i + 1) 0 ≡ getD (nameIn (a .other .now)) (o .i) 0 → ⊥ = λ e. c .if3 .taken (c .before .before .word .ensures ∙ (e ∙ (w ∙ sym (c .before .word2 .ensures)))) in
+    let lies = c .before .before .before .before .before .before .before .before .before .before .before .pre .0 in
+    compare-stop (a .ps .now) (nameIn (a .other .now)) lies held len (o .i) (o .inv .1) (omega arith) other
 
 add-i : tie.Need-add-i Inv-loop μ-loop
 add-i c = search needs
@@ -70,23 +79,28 @@ loop-less c = search needs
 
 loop-again : tie.Need-loop-again Inv-loop μ-loop
 loop-again c =
-    let l = c .before .before .before .before .before .before .before .before .name-length .ensures in
+    let a = c .before .before .before .before .before .before .before .before .before .before .before .args in
+    let n = c .before .before .before .before .before .before .before .before .name-length .ensures in
     let m = c .before .before .before .before .before .before .name-length2 .ensures in
-    let k = name-length (c .before .before .before .before .before .before .before .before .before .before .before .args .other .now) (c .before .before .before .before .before .before .before .before .before .before .before .pre .1) in
+    let held : nameLengthIn (a .ps .now) ≡ 0 → ⊥ = λ e. c .before .before .before .before .before .before .before .if1 .left (n ∙ e) in
+    let k = name-length (a .other .now) (c .before .before .before .before .before .before .before .before .before .before .before .pre .1) in
+    let len = sym n ∙ (c .before .before .before .before .before .if2 .left ∙ (m ∙ sym k)) in
     let o = c .before .before .before .before .loop in
-    let w = name-word (c .before .before .before .before .before .before .before .before .before .before .before .args .other .now) (o .i) (omega (arith, c .before .before .before .before .before .if2 .left)) in (
-      omega arith,
-      compare-step (c .before .before .before .before .before .before .before .before .before .before .before .args .ps .now) (nameIn (c .before .before .before .before .before .before .before .before .before .before .before .args .other .now)) (c .before .before .before .before .before .before .before .before .before .before .before .pre .0) (λ e. c .before .before .before .before .before .before .before .if1 .left (l ∙ e)) (sym l ∙ (c .before .before .before .before .before .if2 .left ∙ (m ∙ sym k))) (o .i) (o .inv .1)
-          (omega arith) (sym (c .before .before .word .ensures) ∙ (c .if3 .left ∙ (c .before .word2 .ensures ∙ sym w))),
-    )
+    let w = name-word (a .other .now) (o .i) (omega (arith, c .before .before .before .before .before .if2 .left)) in
+    let same = sym (c .before .before .word .ensures) ∙ (c .if3 .left ∙ (c .before .word2 .ensures ∙ sym w)) in
+    let lies = c .before .before .before .before .before .before .before .before .before .before .before .pre .0 in
+    (omega arith, compare-step (a .ps .now) (nameIn (a .other .now)) lies held len (o .i) (o .inv .1) (omega arith) same)
 
 returns-4 : tie.Need-returns-4 Inv-loop μ-loop
 returns-4 c =
-    let l = c .before .before .before .before .before .name-length .ensures in
+    let a = c .before .before .before .before .before .before .before .before .args in
+    let n = c .before .before .before .before .before .name-length .ensures in
     let m = c .before .before .before .name-length2 .ensures in
-    let k = name-length (c .before .before .before .before .before .before .before .before .args .other .now) (c .before .before .before .before .before .before .before .before .pre .1) in
+    let held : nameLengthIn (a .ps .now) ≡ 0 → ⊥ = λ e. c .before .before .before .before .if1 .left (n ∙ e) in
+    let k = name-length (a .other .now) (c .before .before .before .before .before .before .before .before .pre .1) in
+    let len = sym n ∙ (c .before .before .if2 .left ∙ (m ∙ sym k)) in
     let o = c .before .loop in
-    compare-end (c .before .before .before .before .before .before .before .before .args .ps .now) (nameIn (c .before .before .before .before .before .before .before .before .args .other .now)) (c .before .before .before .before .before .before .before .before .pre .0) (λ e. c .before .before .before .before .if1 .left (l ∙ e)) (sym l ∙ (c .before .before .if2 .left ∙ (m ∙ sym k))) (o .i) (o .inv .1) (omega arith)
+    compare-end (a .ps .now) (nameIn (a .other .now)) (c .before .before .before .before .before .before .before .before .pre .0) held len (o .i) (o .inv .1) (omega arith)
 
 pub same-names-spec : {M : Type 1} → statement M
 same-names-spec =
@@ -95,7 +109,7 @@ same-names-spec =
     Inv-loop
     μ-loop
     name-length-requires
-    cast-n
+    cast-length
     returns
     name-length-requires-2
     cast-if2

@@ -21,9 +21,13 @@ same-length c = search needs
 
 returns : tie.Need-returns
 returns c =
-    let made = c .before .before .before .kept-header in
-    let was = c .before .before .before .before .read-header in
-    c .before .before .write-header .ensures ∙ ap (putHeader (c .before .before .before .before .before .before .before .before .args .to .now)) (made .ensures ∙ ap keptHeader (was .ensures))
+    let atWriteHeader = c .before .before in
+    let atKeptHeader = atWriteHeader .before in
+    let atReadHeader = atKeptHeader .before in
+    let start = atReadHeader .before .before .before .before in
+    let made = atKeptHeader .kept-header in
+    let was = atReadHeader .read-header in
+    atWriteHeader .write-header .ensures ∙ ap (putHeader (start .args .to .now)) (made .ensures ∙ ap keptHeader (was .ensures))
 
 pub keep-head-spec : {M : Type 1} → statement M
 keep-head-spec =

@@ -19,8 +19,11 @@ node-words-requires-2 c κs = search needs
 
 replace-words-requires : tie.Need-replace-words-requires
 replace-words-requires c κs =
-    let start = c .before .before .before .before .before .before .before .before .before .before .before .before in
-    back-ready (start .pre) (c .before .before .before .before .read-header .ensures) (c .before .before .before .read-header2 .ensures) (c .before .node-words .ensures) (c .node-words2 .ensures)
+    let atNodeWords = c .before in
+    let atReadHeader2 = atNodeWords .before .before in
+    let atReadHeader = atReadHeader2 .before in
+    let start = atReadHeader .before .before .before .before .before .before .before .before in
+    back-ready (start .pre) (atReadHeader .read-header .ensures) (atReadHeader2 .read-header2 .ensures) (atNodeWords .node-words .ensures) (c .node-words2 .ensures)
 
 child-words-requires : tie.Need-child-words-requires
 child-words-requires c κs = search needs
@@ -30,15 +33,19 @@ child-words-requires-2 c κs = search needs
 
 replace-words-requires-2 : tie.Need-replace-words-requires-2
 replace-words-requires-2 c κs =
-    let start = c .before .before .before .before .before .before .before .before .before .before .before .before .before .before .before .before .before .before in
-    back-ready-kids (start .pre) (c .before .before .before .before .before .before .before .before .before .before .read-header .ensures) (c .before .before .before .before .before .before .before .before .before .read-header2 .ensures) (c .before .child-words .ensures) (c .child-words2 .ensures)
+    let atChildWords = c .before in
+    let atReadHeader2 = atChildWords .before .before .before .before .before .before .before .before in
+    let atReadHeader = atReadHeader2 .before in
+    let start = atReadHeader .before .before .before .before .before .before .before .before in
+    back-ready-kids (start .pre) (atReadHeader .read-header .ensures) (atReadHeader2 .read-header2 .ensures) (atChildWords .child-words .ensures) (c .child-words2 .ensures)
 
 header-back-requires : tie.Need-header-back-requires
 header-back-requires c κs = search needs
 
 write-header-requires : tie.Need-write-header-requires
 write-header-requires c κs =
-    let start = c .before .before .before .before .before .before .before .before .before .before .before .before .before .before .before .before .before .before .before .before .before .before .before in
+    let atReplaceWords2 = c .before .before .before .before in
+    let start = atReplaceWords2 .before .before .before .before .before .before .before .before .before .before .before .before .before .before .before .before .before .before .before in
     back-head (start .pre)
 
 same-length : tie.Need-same-length
@@ -52,12 +59,21 @@ same-length-3 c = search needs
 
 returns : tie.Need-returns
 returns c =
-    let start = c .before .before .before .before .before .before .before .before .before .before .before .before .before .before .before .before .before .before .before .before .before .before .before .before .before .before in
-    let nodes = c .before .before .before .before .before .before .before .before .before .before .before .before .before in
-    let kids = c .before .before .before .before .before .before .before in
-    back-became (start .pre) (nodes .before .before .before .before .before .read-header .ensures) (nodes .before .before .before .before .read-header2 .ensures) (nodes .before .before .node-words .ensures) (nodes .before .node-words2 .ensures) (nodes .replace-words .ensures)
-    (kids .before .before .child-words .ensures) (kids .before .child-words2 .ensures) (kids .replace-words2 .ensures)
-    (c .before .before .before .header-back .ensures) (c .before .before .write-header .ensures)
+    let atWriteHeader = c .before .before in
+    let atHeaderBack = atWriteHeader .before in
+    let atReplaceWords2 = atHeaderBack .before .before .before .before in
+    let atChildWords2 = atReplaceWords2 .before in
+    let atChildWords = atChildWords2 .before in
+    let atReplaceWords = atChildWords .before .before .before .before in
+    let atNodeWords2 = atReplaceWords .before in
+    let atNodeWords = atNodeWords2 .before in
+    let atReadHeader2 = atNodeWords .before .before in
+    let atReadHeader = atReadHeader2 .before in
+    let start = atReadHeader .before .before .before .before .before .before .before .before in
+    back-became (start .pre) (atReadHeader .read-header .ensures) (atReadHeader2 .read-header2 .ensures) (atNodeWords .node-words .ensures) (atNodeWords2 .node-words2 .ensures)
+    (atReplaceWords .replace-words .ensures)
+    (atChildWords .child-words .ensures) (atChildWords2 .child-words2 .ensures) (atReplaceWords2 .replace-words2 .ensures) (atHeaderBack .header-back .ensures)
+    (atWriteHeader .write-header .ensures)
 
 pub put-back-spec : {M : Type 1} → statement M
 put-back-spec =

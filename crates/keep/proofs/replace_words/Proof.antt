@@ -32,18 +32,23 @@ same-length c = search needs
 
 returns : tie.Need-returns
 returns c =
-    let start = c .before .before .before .before .before .before .before .before .before .before .before in
+    let atClear = c .before .before in
+    let atIf1 = atClear .before .before in
+    let atCopyWords = atIf1 .before .before .before in
+    let start = atCopyWords .before .before .before .before in
     let a = start .args in
-    part-replaced (a .used) (a .count) (a .from .now) (a .to .now) (start .pre) (c .before .before .before .before .if1 .taken) (c .before .before .before .before .before .before .before .copy-words .ensures)
-    (c .before .before .clear .ensures)
+    part-replaced (a .used) (a .count) (a .from .now) (a .to .now) (start .pre) (atIf1 .if1 .taken) (atCopyWords .copy-words .ensures)
+    (atClear .clear .ensures)
 
 same-length-2 : tie.Need-same-length-2
 same-length-2 c = search needs
 
 returns-2 : tie.Need-returns-2
 returns-2 c =
-    let a = c .before .before .before .before .before .before .before .args in
-    c .before .before .before .copy-words .ensures ∙ copied-replaced (a .used) (a .count) (a .from .now) (a .to .now) (c .if1 .left)
+    let atCopyWords = c .before .before .before in
+    let start = atCopyWords .before .before .before .before in
+    let a = start .args in
+    atCopyWords .copy-words .ensures ∙ copied-replaced (a .used) (a .count) (a .from .now) (a .to .now) (c .if1 .left)
 
 pub replace-words-spec : {M : Type 1} → statement M
 replace-words-spec =

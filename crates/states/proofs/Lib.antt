@@ -1,0 +1,5 @@
+pub mod PlaceLaws
+pub mod FreeLaws
+pub mod HoldLaws
+pub mod NameLaws
+pub mod ReturnLaws
