@@ -50,8 +50,7 @@ use Rattle.plan.specs.declared.Plan.{Plan}
 use Rattle.plan.proofs.Laws.{object-names}
 use Rattle.walk.specs.Asks.{Walks}
 use Rattle.meeting.specs.Asks.{SoundWords, Pair, Tops, Inside}
-use Rattle.meeting.specs.Steps.{Ascends, PlanSpans, Stepped}
-use Rattle.meeting.specs.declared.Steps.{Steps}
+use Rattle.meeting.specs.Steps.{Ascends}
 use Rattle.meeting.specs.Meets.{does, walks, walkedBy, Met, OneNode, Bare, WalkedTo, bareStates, bareNodes, bareRoots}
 use Rattle.meeting.specs.declared.Meeting.the-variants.{Walk, Kids}
 use Rattle.meeting.specs.declared.Walked.{Walked}
@@ -219,21 +218,21 @@ module _ {x : Texts} {ws ks : List ℕ} {n : ℕ} {a b : Ty} (pre : Tops x ws ks
       planned : planMeans ks x p ≡ scope.plan x (kindMeans ks k) (kindMeans ks m) (xor (xor (c .0) (a .inv)) (xor (d .0) (b .inv)))
       planned = pl .means ks ∙ ap (scope.plan x (kindMeans ks k) (kindMeans ks m)) crossed
 
-      pub met-spans : PlanSpans p
-      met-spans = plan-spans k m p (pl .over) (kind-spans a e eh ek refl) (kind-spans b f eg em refl)
-
-      pub met-kids : {g : Steps} → Stepped p g → Met x ws ks n a b (Kids g)
-      met-kids {g} st = record {
+      pub met-kids : Met x ws ks n a b (Kids p)
+      met-kids = record {
         same = λ u. apart u ∙ rw (kind-read a e eh ek, kind-read b f eg em)
-            (ap (λ (l : scope.Plan). settle (does u ns l .nodes) a b (does u ns l .answer)) (sym (st .same ks x ∙ planned)));
+            (ap (λ (l : scope.Plan). settle (does u ns l .nodes) a b (does u ns l .answer)) (sym planned));
         inside = λ q w.
-            let l = subst (λ (l : scope.Plan). List·Memᴰ q (l .pairs)) (st .same ks x ∙ pl .means ks) w in
+            let l = subst (λ (l : scope.Plan). List·Memᴰ q (l .pairs)) (pl .means ks) w in
             let y = plan-right x (kindMeans ks k) (kindMeans ks m) v q l in
             (kids-inside a e eh ek refl (q .0) (plan-left x (kindMeans ks k) (kindMeans ks m) v q l), rw (y .2) (kids-inside b f eg em refl (y .0) (y .1)));
         left = λ q w.
-            let l = subst (λ (l : scope.Plan). List·Memᴰ q (l .pairs)) (st .same ks x ∙ pl .means ks) w in
+            let l = subst (λ (l : scope.Plan). List·Memᴰ q (l .pairs)) (pl .means ks) w in
             kids-there a e eh ek refl (q .0) (plan-left x (kindMeans ks k) (kindMeans ks m) v q l);
-        ready = st .ready ks x (plan-ready k m x ks p (pl .over) (kind-lies a e eh ek refl) (kind-lies b f eg em refl) (kind-ascends b f eg em refl));
+        ready = (
+          plan-spans k m p (pl .over) (kind-spans a e eh ek refl) (kind-spans b f eg em refl),
+          plan-ready k m x ks p (pl .over) (kind-lies a e eh ek refl) (kind-lies b f eg em refl) (kind-ascends b f eg em refl),
+        );
       }
 
 -- `bare_roots`

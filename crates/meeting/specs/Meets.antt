@@ -19,8 +19,9 @@ use Rattle.layout.specs.declared.TypeState.{TypeState}
 use Rattle.layout.specs.declared.TypeState.the-variants.{Known, Unknown, InferenceFailed}
 use Rattle.layout.specs.declared.TypeNode.{TypeNode}
 use Rattle.layout.specs.declared.TypeNode.the-variants.{Root, Child}
+use Rattle.plan.specs.Meaning.{planMeans}
 use Rattle.meeting.specs.Asks.{Inside}
-use Rattle.meeting.specs.Steps.{stepsMean, Ready}
+use Rattle.meeting.specs.Steps.{PlanSpans, PlanReady}
 use Rattle.meeting.specs.declared.Meeting.{Meeting}
 use Rattle.meeting.specs.declared.Meeting.the-variants.{Walk, Kids}
 use Rattle.meeting.specs.declared.Walked.{Walked}
@@ -41,15 +42,15 @@ walkedBy ns a b Bind = out (bound ns a b) Success
 -- what a meeting of two roots asks, each pair of children by u
 abbrev pub metBy : (List Node → Ty → Ty → Out) → Texts → ℕ → List ℕ → List Node → Ty → Ty → Meeting → Out
 metBy u x n ks ns a b Walk = walks n ns a b
-metBy u x n ks ns a b (Kids p) = let o : Out = does u ns (stepsMean ks x p) in settle (o .nodes) a b (o .answer)
+metBy u x n ks ns a b (Kids p) = let o : Out = does u ns (planMeans ks x p) in settle (o .nodes) a b (o .answer)
 
 abbrev pub pairsOf : Texts → List ℕ → Meeting → List (Ty × Ty)
 pairsOf x ks Walk = []
-pairsOf x ks (Kids p) = stepsMean ks x p .pairs
+pairsOf x ks (Kids p) = planMeans ks x p .pairs
 
 abbrev pub MeetReady : Texts → List ℕ → Meeting → Type 0
 MeetReady x ks Walk = Unit {0}
-MeetReady x ks (Kids p) = Ready x ks p
+MeetReady x ks (Kids p) = PlanSpans p × PlanReady x ks p
 
 pub record Met (x : Texts) (ws ks : List ℕ) (n : ℕ) (a b : Ty) (m : Meeting) : Type 0 where
   pub same : (u : List Node → Ty → Ty → Out) → meet u x n (decode ws ks n) a b ≡ metBy u x n ks (decode ws ks n) a b m

@@ -22,7 +22,7 @@ use types::UnifyResult;
 // A walk, or their children first.
 pub enum Meeting {
     Walk,
-    Kids(Steps),
+    Kids(Plan),
 }
 
 // After a walk: nothing more, or a merge.
@@ -135,10 +135,10 @@ pub fn meet<'a>(
         return Meeting::Walk;
     };
     let inv = i.xor(a.inv()).xor(j.xor(b.inv()));
-    Meeting::Kids(in_steps(plan::plan_of(k, m, inv, rule, text)))
+    Meeting::Kids(plan::plan_of(k, m, inv, rule, text))
 }
 
-// A child of a run.
+// A child of a run that lies in the slice.
 fn place(a: u32, i: u32) -> usize
     ensures { λ r. ⌜ r ≡ a + i ⌝ }
 {
@@ -146,26 +146,13 @@ fn place(a: u32, i: u32) -> usize
 }
 
 pub fn kid(ks: &[u32], a: u32, i: u32) -> Type
-    ensures { λ r. ⌜ r .0 ≡ slotAt (now (ks .entry)) (a + i) .type ⌝ }
-{
-    layout::child_at(ks, place(a, i)).ty
-}
-
-pub fn kid_name(ks: &[u32], a: u32, i: u32) -> Name
-    ensures { λ r. ⌜ nameOf r ≡ slotPlace (slotAt (now (ks .entry)) (a + i)) ⌝ }
-{
-    layout::child_at(ks, place(a, i)).name
-}
-
-// The same of a child that lies in the slice.
-pub fn kid_there(ks: &[u32], a: u32, i: u32) -> Type
     requires { ⌜ childWords (a + i + 1) ≤ length (now ks) ⌝ }
     ensures { λ r. ⌜ r .0 ≡ slotAt (now (ks .entry)) (a + i) .type ⌝ }
 {
     layout::child_there(ks, place(a, i)).ty
 }
 
-pub fn name_there(ks: &[u32], a: u32, i: u32) -> Name
+pub fn kid_name(ks: &[u32], a: u32, i: u32) -> Name
     requires { ⌜ childWords (a + i + 1) ≤ length (now ks) ⌝ }
     ensures { λ r. ⌜ nameOf r ≡ slotPlace (slotAt (now (ks .entry)) (a + i)) ⌝ }
 {
@@ -181,6 +168,7 @@ pub fn seek<'a>(
     rule: &'a [u8],
     text: &'a [u8],
 ) -> Sought
+    requires { ⌜ childWords (b + count) ≤ length (now ks) ⌝ }
     ensures { λ r. ⌜ soughtMeans r ≡ soughtIn (texts (now (rule .entry)) (now (text .entry))) (now (ks .entry)) (nameOf name) b count ⌝ }
 {
     let mut j: u32 = 0;
@@ -207,8 +195,8 @@ pub fn seek_near<'a>(
     ensures { λ r. ⌜ soughtMeans r ≡ soughtIn (texts (now (rule .entry)) (now (text .entry))) (now (ks .entry)) (nameOf name) b count ⌝ }
 {
     if i < count {
-        if names::same_name(name, name_there(ks, b, i), rule, text) {
-            return Sought::Is(kid_there(ks, b, i));
+        if names::same_name(name, kid_name(ks, b, i), rule, text) {
+            return Sought::Is(kid(ks, b, i));
         }
     }
     seek(ks, name, b, count, rule, text)
@@ -246,7 +234,7 @@ fn signature(s: Runs) -> Steps
     Steps::Run(UnifyResult::Failure, returns(s))
 }
 
-fn in_steps(p: Plan) -> Steps
+pub fn in_steps(p: Plan) -> Steps
     requires { ⌜ PlanSpans p ⌝ }
     ensures { λ r. ⌜ Stepped p r ⌝ }
 {

@@ -14,6 +14,7 @@ use Rattle.scope.specs.Chart.{Env}
 use Rattle.scope.specs.Types.{Ty, tyOf}
 use Rattle.scope.specs.Nodes.{Node, Root, Child, at, isRoot, sizeOf, kidsOf, find, findMut}
 use Rattle.scope.specs.Answers as answers
+use Rattle.scope.specs.Unify as scope
 use Rattle.scope.specs.Unify.{Out, out, run, stateIn, settle, meet, unifyF}
 use Rattle.scope.proofs.Laws.{find-root, compress-root}
 use Rattle.scope.proofs.View.{View, view}
@@ -40,7 +41,8 @@ use Rattle.heed.specs.Told.{Moved, FoundTold, Settles, SettledTold}
 use Rattle.heed.proofs.Laws.{since-same, since-then, recalls-moved, moved-fewer, moved-forgot, moved-same}
 use Rattle.merge.specs.Meaning.{Adds, Bound}
 use Rattle.meeting.specs.Asks.{SoundWords, Pair, Tops, Inside}
-use Rattle.meeting.specs.Steps.{stepsMean, Ready}
+use Rattle.plan.specs.declared.Plan.{Plan}
+use Rattle.meeting.specs.Steps.{stepsMean, Ready, PlanSpans, PlanReady, Stepped}
 use Rattle.meeting.specs.Meets.{does, walkedBy, metBy, pairsOf, MeetReady, Met, WalkedTo}
 use Rattle.meeting.specs.declared.Steps.{Steps}
 use Rattle.meeting.specs.declared.Walked.{Walked}
@@ -321,20 +323,31 @@ module _ {x : Texts} {ws ks m ws₂ m₂ : List ℕ} {n d : ℕ} {p q : Ty} {a b
   way-known {r = r} f e = at-once (c .up .same ∙ (deep-enough ∙ c .up .recalls .true a b r (f .believed r e) .same))
 
   -- the children are asked for: what they ask, what settling asks after them, and the way out
-  module _ {l : Steps} (e : k ≡ Kids l) where
+  module _ {p′ : Plan} (e : k ≡ Kids p′) where
+    kids-ready : PlanSpans p′ × PlanReady x ks p′
+    kids-ready = subst (MeetReady x ks) e (c .met .ready)
+
+    pub kids-spans : PlanSpans p′
+    kids-spans = kids-ready .0
+
+  module _ {p′ : Plan} {l : Steps} (e : k ≡ Kids p′) (st : Stepped p′ l) where
+    -- what holds of the pairs that the meeting asks for holds of the steps'
+    of-met : (P : List (Ty × Ty) → Type 0) → P (pairsOf x ks k) → P (stepsMean ks x l .pairs)
+    of-met P h = subst (λ (o : scope.Plan). P (o .pairs)) (sym (st .same ks x)) (subst (λ (v : Meeting). P (pairsOf x ks v)) e h)
+
     kids-inside : Inside n (stepsMean ks x l .pairs)
-    kids-inside = subst (λ (v : Meeting). Inside n (pairsOf x ks v)) e (c .met .inside)
+    kids-inside = of-met (Inside n) (c .met .inside)
 
     kids-asked : Asked x ws₂ ks m₂ n (d - 1) (stepsMean ks x l .pairs)
     kids-asked = record {
       pairs = record { words = words; inside = kids-inside };
       enough = words-kids words (tyOf a) (tyOf b) (c .up .tops .pair .first) (c .up .tops .first) (c .up .enough) (c .up .deep) (stepsMean ks x l .pairs)
-          (subst (λ (v : Meeting). (p : Ty × Ty) → List·Memᴰ p (pairsOf x ks v) → List·Memᴰ (p .0) (kidsOf (stateIn (decode ws₂ ks n) (tyOf a)))) e (c .met .left));
+          (of-met (λ ps. (p : Ty × Ty) → List·Memᴰ p ps → List·Memᴰ (p .0) (kidsOf (stateIn (decode ws₂ ks n) (tyOf a)))) (c .met .left));
       recalls = c .up .recalls;
     }
 
     pub kids-asks : Asked x ws₂ ks m₂ n (d - 1) (stepsMean ks x l .pairs) × Ready x ks l
-    kids-asks = (kids-asked, subst (MeetReady x ks) e (c .met .ready))
+    kids-asks = (kids-asked, st .ready ks x (kids-ready e .1))
 
     module _ {ws₃ m₃ : List ℕ} {r : UnifyResult} (v : Unified x ws₂ ks m₂ ws₃ m₃ n (does (unifyF x n (d - 1)) (decode ws₂ ks n) (stepsMean ks x l)) r) where
       pub kids-settles : Settles ws₃ n m₃ (tyOf a) (tyOf b)
@@ -350,8 +363,9 @@ module _ {x : Texts} {ws ks m ws₂ m₂ : List ℕ} {n d : ℕ} {p q : Ty} {a b
       module _ {ws₄ m₄ : List ℕ} {s : UnifyResult} {began : ℕ} (eb : began ≡ clockOf m₂) (o : SettledTold ws₃ ws₄ n m₃ m₄ began a b r s) where
         ends : whole ≡ out (decode ws₄ ks n) (answerOf s)
         ends = went e
+            ∙ (ap (λ (o : scope.Plan). let t : Out = does (unifyF x n (d - 1)) (decode ws₂ ks n) o in settle (t .nodes) (tyOf a) (tyOf b) (t .answer)) (sym (st .same ks x))
             ∙ (ap (λ (t : Out). settle (t .nodes) (tyOf a) (tyOf b) (t .answer)) (v .leaves .same)
-            ∙ o .settled .nodes ks (words .children) (v .leaves .clean (words .children) (words .clean)))
+            ∙ o .settled .nodes ks (words .children) (v .leaves .clean (words .children) (words .clean))))
 
         -- what is believed now was believed after the children, or it is this visit's answer and no node changed in it
         believed-now : (a′ b′ : ℕ) (q′ : UnifyResult) → (Believed m₃ a′ b′ q′ ⊎ New m₃ began a b s a′ b′ q′) × (decode ws₄ ks n ≡ decode ws₃ ks n)

@@ -78,7 +78,16 @@ pub fn unify_pair<'a>(
                 Recalled::Is(r) => r,
                 Recalled::Nothing => {
                     let began = recall::clock(memory);
-                    let r = unify_kids(ws, ks, n, rule, text, memory, p, depth - 1);
+                    let r = unify_kids(
+                        ws,
+                        ks,
+                        n,
+                        rule,
+                        text,
+                        memory,
+                        meeting::in_steps(p),
+                        depth - 1,
+                    );
                     heed::settle(ws, n, memory, began, ra, rb, r)
                 }
             }
@@ -128,8 +137,8 @@ pub fn unify_kids<'a>(
 {
     match p {
         Steps::Answer(r) => r,
-        Steps::Run(q, s) => q.and(unify_types(ws, ks, n, rule, text, memory, s, depth)),
         Steps::Object(s) => unify_objects(ws, ks, n, rule, text, memory, s, depth),
+        Steps::Run(q, s) => q.and(unify_types(ws, ks, n, rule, text, memory, s, depth)),
     }
 }
 
@@ -157,8 +166,8 @@ pub fn unify_types<'a>(
     let mut r = UnifyResult::Success;
     let mut i: u32 = 0;
     while i < s.na {
-        let x = meeting::kid_there(ks, s.a, i);
-        let y = meeting::kid_there(ks, s.b, i).invert_if(inv);
+        let x = meeting::kid(ks, s.a, i);
+        let y = meeting::kid(ks, s.b, i).invert_if(inv);
         i += 1;
         if !heed::quick(ws, n, memory, x, y, depth) {
             r = r.and(unify_pair(ws, ks, n, rule, text, memory, x, y, depth));
@@ -188,16 +197,8 @@ pub fn unify_objects<'a>(
     let mut r = UnifyResult::from_bool(s.na == s.nb);
     let mut j: u32 = 0;
     while j < s.na {
-        let x = meeting::kid_there(ks, s.a, j);
-        let f = meeting::seek_near(
-            ks,
-            meeting::name_there(ks, s.a, j),
-            j,
-            s.b,
-            s.nb,
-            rule,
-            text,
-        );
+        let x = meeting::kid(ks, s.a, j);
+        let f = meeting::seek_near(ks, meeting::kid_name(ks, s.a, j), j, s.b, s.nb, rule, text);
         j += 1;
         match f {
             Sought::Is(t) => {

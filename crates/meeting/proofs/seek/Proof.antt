@@ -1,6 +1,7 @@
 -- `meeting::seek` meets its contract. The invariant: what the children from j on give is what all give. The measure is what is left of them.
 -- Assumes nothing.
 use Prim.Native.Nat.{_-_}
+use native.Mathlib.Omega.{arith}
 use Rattle.names.specs.Place.{texts, nameOf}
 use Rattle.meeting.proofs.KidLaws.{Seeking, seek-start, seek-here, seek-on, seek-over}
 use borrow.Author.Needs.{needs}
@@ -17,13 +18,13 @@ loop-holds : tie.Need-loop-holds Inv-loop μ-loop
 loop-holds c = seek-start
 
 kid-name-requires : tie.Need-kid-name-requires Inv-loop μ-loop
-kid-name-requires c κs = search needs
+kid-name-requires c κs = omega (arith, c .before .before .before .before .before .pre, c .loop-test .taken)
 
 same-name-requires : tie.Need-same-name-requires Inv-loop μ-loop
 same-name-requires c κs = search needs
 
 kid-requires : tie.Need-kid-requires Inv-loop μ-loop
-kid-requires c κs = search needs
+kid-requires c κs = omega (arith, c .before .before .before .before .before .before .before .before .pre, c .before .before .before .loop-test .taken)
 
 returns : tie.Need-returns Inv-loop μ-loop
 returns c =

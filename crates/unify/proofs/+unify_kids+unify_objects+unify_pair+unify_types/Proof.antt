@@ -12,7 +12,7 @@ use Rattle.names.specs.Place.{texts}
 use Rattle.meeting.specs.declared.Meeting.the-variants.{Walk}
 use Rattle.meeting.proofs.MeetLaws.{bare-tops, bare-meets}
 use Rattle.unify.proofs.Laws.{words-linked, asked-pair, Climbed, climbed, climbed-here, no-depth, walk-asks}
-use Rattle.unify.proofs.Laws.{AtRoots, way-walk, way-known, kids-asks, kids-settles, way-kids}
+use Rattle.unify.proofs.Laws.{AtRoots, way-walk, way-known, kids-spans, kids-asks, kids-settles, way-kids}
 use Rattle.unify.proofs.QuickLaws.{quick-adds, quick-merged, quick-asked, quick-not}
 use Rattle.unify.proofs.RunLaws.{RunLeft, RunNext, run-fails, run-start, run-pair, run-asks, run-next, run-ends}
 use Rattle.unify.proofs.RunLaws.{ObjectLeft, ObjectNext, stored-start, object-none, object-pair, object-asks, object-next, stored-ends}
@@ -36,9 +36,10 @@ use Rattle.heed.proofs.find.Reads as find-reads
 use Rattle.heed.proofs.quick.Reads as quick-reads
 use Rattle.heed.proofs.settle.Reads as settle-reads
 use Rattle.meeting.proofs.bare_roots.Reads as bare-roots-reads
-use Rattle.meeting.proofs.kid_there.Reads as kid-there-reads
+use Rattle.meeting.proofs.in_steps.Reads as in-steps-reads
+use Rattle.meeting.proofs.kid.Reads as kid-reads
+use Rattle.meeting.proofs.kid_name.Reads as kid-name-reads
 use Rattle.meeting.proofs.meet.Reads as meet-reads
-use Rattle.meeting.proofs.name_there.Reads as name-there-reads
 use Rattle.meeting.proofs.seek_near.Reads as seek-near-reads
 use Rattle.recall.proofs.clock.Reads as clock-reads
 use Rattle.recall.proofs.look.Reads as look-reads
@@ -99,16 +100,65 @@ unify-types-below t =
     and 4 unify-types-kinds.ps (falls 4 unify-types-kinds.ps _<_ μ-unify-types t) unify-types.Pre
 
 abbrev unify-kids-claims : ℕ → unify-kids-lts.Claims
-unify-kids-claims t = (unify-types-below t, unify-types.Post, and-reads.Asked, and-reads.Learnt, unify-objects-below t, unify-objects.Post)
+unify-kids-claims t = (unify-objects-below t, unify-objects.Post, unify-types-below t, unify-types.Post, and-reads.Asked, and-reads.Learnt)
 
 abbrev unify-objects-claims : ℕ → unify-objects-lts.Claims
-unify-objects-claims t = (from-bool-reads.Asked, from-bool-reads.Learnt, kid-there-reads.Asked, kid-there-reads.Learnt, name-there-reads.Asked, name-there-reads.Learnt, seek-near-reads.Asked, seek-near-reads.Learnt, invert-if-reads.Asked, invert-if-reads.Learnt, quick-reads.Asked, quick-reads.Learnt, unify-pair-below t, unify-pair.Post, and-reads.Asked, and-reads.Learnt)
+unify-objects-claims t = (
+  from-bool-reads.Asked,
+  from-bool-reads.Learnt,
+  kid-reads.Asked,
+  kid-reads.Learnt,
+  kid-name-reads.Asked,
+  kid-name-reads.Learnt,
+  seek-near-reads.Asked,
+  seek-near-reads.Learnt,
+  invert-if-reads.Asked,
+  invert-if-reads.Learnt,
+  quick-reads.Asked,
+  quick-reads.Learnt,
+  unify-pair-below t,
+  unify-pair.Post,
+  and-reads.Asked,
+  and-reads.Learnt,
+)
 
 abbrev unify-pair-claims : ℕ → unify-pair-lts.Claims
-unify-pair-claims t = (bare-roots-reads.Asked, bare-roots-reads.Learnt, walk-pair-reads.Asked, walk-pair-reads.Learnt, visited-reads.Asked, visited-reads.Learnt, find-reads.Asked, find-reads.Learnt, meet-reads.Asked, meet-reads.Learnt, look-reads.Asked, look-reads.Learnt, clock-reads.Asked, clock-reads.Learnt, unify-kids-below t, unify-kids.Post, settle-reads.Asked, settle-reads.Learnt)
+unify-pair-claims t = (
+  bare-roots-reads.Asked,
+  bare-roots-reads.Learnt,
+  walk-pair-reads.Asked,
+  walk-pair-reads.Learnt,
+  visited-reads.Asked,
+  visited-reads.Learnt,
+  find-reads.Asked,
+  find-reads.Learnt,
+  meet-reads.Asked,
+  meet-reads.Learnt,
+  look-reads.Asked,
+  look-reads.Learnt,
+  clock-reads.Asked,
+  clock-reads.Learnt,
+  in-steps-reads.Asked,
+  in-steps-reads.Learnt,
+  unify-kids-below t,
+  unify-kids.Post,
+  settle-reads.Asked,
+  settle-reads.Learnt,
+)
 
 abbrev unify-types-claims : ℕ → unify-types-lts.Claims
-unify-types-claims t = (kid-there-reads.Asked, kid-there-reads.Learnt, invert-if-reads.Asked, invert-if-reads.Learnt, quick-reads.Asked, quick-reads.Learnt, unify-pair-below t, unify-pair.Post, and-reads.Asked, and-reads.Learnt)
+unify-types-claims t = (
+  kid-reads.Asked,
+  kid-reads.Learnt,
+  invert-if-reads.Asked,
+  invert-if-reads.Learnt,
+  quick-reads.Asked,
+  quick-reads.Learnt,
+  unify-pair-below t,
+  unify-pair.Post,
+  and-reads.Asked,
+  and-reads.Learnt,
+)
 
 unify-kids-enum-known-p : (t : ℕ) → unify-kids-lts.Need-enum-known-p (unify-kids-claims t) (unify-kids-at t) unify-kids.Post
 unify-kids-enum-known-p t c = search needs
@@ -116,17 +166,23 @@ unify-kids-enum-known-p t c = search needs
 unify-kids-enum-known-p-2 : (t : ℕ) → unify-kids-lts.Need-enum-known-p-2 (unify-kids-claims t) (unify-kids-at t) unify-kids.Post
 unify-kids-enum-known-p-2 t c = search needs
 
-unify-kids-unify-types-requires : (t : ℕ) → unify-kids-lts.Need-unify-types-requires (unify-kids-claims t) (unify-kids-at t) unify-kids.Post
-unify-kids-unify-types-requires t c κs = (omega (arith, c .before .before .before .before .before .before .before .before .before .before .pre .0), steps-runs _ (c .before .before .before .p2 .given .1) (c .before .before .before .before .before .before .before .before .before .before .pre .1))
-
-unify-kids-and-requires : (t : ℕ) → unify-kids-lts.Need-and-requires (unify-kids-claims t) (unify-kids-at t) unify-kids.Post
-unify-kids-and-requires t c κs = search needs
+unify-kids-unify-objects-requires : (t : ℕ) → unify-kids-lts.Need-unify-objects-requires (unify-kids-claims t) (unify-kids-at t) unify-kids.Post
+unify-kids-unify-objects-requires t c κs =
+    let b3 = c .before .before .before in
+    let b10 = b3 .before .before .before .before .before .before .before in
+    (omega (arith, b10 .pre .0), steps-objects _ (b3 .p2 .given .1) (b10 .pre .1))
 
 unify-kids-enum-known-p-3 : (t : ℕ) → unify-kids-lts.Need-enum-known-p-3 (unify-kids-claims t) (unify-kids-at t) unify-kids.Post
 unify-kids-enum-known-p-3 t c = search needs
 
-unify-kids-unify-objects-requires : (t : ℕ) → unify-kids-lts.Need-unify-objects-requires (unify-kids-claims t) (unify-kids-at t) unify-kids.Post
-unify-kids-unify-objects-requires t c κs = (omega (arith, c .before .before .before .before .before .before .before .before .before .before .pre .0), steps-objects _ (c .before .before .before .p3 .given .1) (c .before .before .before .before .before .before .before .before .before .before .pre .1))
+unify-kids-unify-types-requires : (t : ℕ) → unify-kids-lts.Need-unify-types-requires (unify-kids-claims t) (unify-kids-at t) unify-kids.Post
+unify-kids-unify-types-requires t c κs =
+    let b3 = c .before .before .before in
+    let b10 = b3 .before .before .before .before .before .before .before in
+    (omega (arith, b10 .pre .0), steps-runs _ (b3 .p3 .given .1) (b10 .pre .1))
+
+unify-kids-and-requires : (t : ℕ) → unify-kids-lts.Need-and-requires (unify-kids-claims t) (unify-kids-at t) unify-kids.Post
+unify-kids-and-requires t c κs = search needs
 
 unify-kids-returns : (t : ℕ) → unify-kids-lts.Need-returns (unify-kids-claims t) (unify-kids-at t) unify-kids.Post
 unify-kids-returns t c = steps-answer _ (c .before .before .before .before .before .before .before .before .pre .1 .0) (c .before .p .given .1)
@@ -138,7 +194,7 @@ unify-kids-same-length-2 : (t : ℕ) → unify-kids-lts.Need-same-length-2 (unif
 unify-kids-same-length-2 t c = search needs
 
 unify-kids-returns-2 : (t : ℕ) → unify-kids-lts.Need-returns-2 (unify-kids-claims t) (unify-kids-at t) unify-kids.Post
-unify-kids-returns-2 t c = steps-run _ (c .before .before .before .before .before .before .before .before .before .p2 .given .1) (c .before .before .before .before .before .unify-types .ensures) (c .and .ensures)
+unify-kids-returns-2 t c = steps-object _ (c .before .before .before .before .before .before .before .before .p2 .given .1) (c .before .before .before .before .unify-objects .ensures)
 
 unify-kids-same-length-3 : (t : ℕ) → unify-kids-lts.Need-same-length-3 (unify-kids-claims t) (unify-kids-at t) unify-kids.Post
 unify-kids-same-length-3 t c = search needs
@@ -147,7 +203,10 @@ unify-kids-same-length-4 : (t : ℕ) → unify-kids-lts.Need-same-length-4 (unif
 unify-kids-same-length-4 t c = search needs
 
 unify-kids-returns-3 : (t : ℕ) → unify-kids-lts.Need-returns-3 (unify-kids-claims t) (unify-kids-at t) unify-kids.Post
-unify-kids-returns-3 t c = steps-object _ (c .before .before .before .before .before .before .before .before .p3 .given .1) (c .before .before .before .before .unify-objects .ensures)
+unify-kids-returns-3 t c =
+    let b5 = c .before .before .before .before .before in
+    let b9 = b5 .before .before .before .before in
+    steps-run _ (b9 .p3 .given .1) (b5 .unify-types .ensures) (c .and .ensures)
 
 abbrev unify-objects-Inv-loop : unify-objects-lts.InvT-loop
 unify-objects-Inv-loop ws₀ ks n rule text memory₀ s depth inv r₀ j₀ ws memory r j =
@@ -163,10 +222,16 @@ name-there : (t : ℕ)
     → let l = c .before .before .before .before .before .before .before .before .before in
     let a = l .before .before .before .before .before .before .before .before .before .args in
     ObjectNext (texts (a .rule .now) (a .text .now)) (a .ks .now) (a .ks .now) (a .ws .now) (a .ks .now) (a .memory .now) (a .n) (a .depth) (a .s)
-    (l .loop .ws) (l .loop .memory) (l .loop .r) (l .loop .j) (c .before .before .before .before .before .before .kid-there .result .0) (c .invert-if .result .0)
+    (l .loop .ws) (l .loop .memory) (l .loop .r) (l .loop .j) (c .before .before .before .before .before .before .kid .result .0) (c .invert-if .result .0)
 name-there t c =
-    object-pair (c .before .before .before .before .before .before .before .before .before .loop .inv .2) (c .before .before .before .before .before .before .before .if1 .taken) (c .before .before .before .before .before .name-there .ensures) (c .before .before .before .before .seek-near .ensures)
-    (c .before .before .f .given .1) (c .before .before .before .before .before .before .kid-there .ensures) (c .invert-if .ensures)
+    let b2 = c .before .before in
+    let b4 = b2 .before .before in
+    let b5 = b4 .before in
+    let b6 = b5 .before in
+    let b7 = b6 .before in
+    let b9 = b7 .before .before in
+    object-pair (b9 .loop .inv .2) (b7 .if1 .taken) (b5 .kid-name .ensures) (b4 .seek-near .ensures)
+    (b2 .f .given .1) (b6 .kid .ensures) (c .invert-if .ensures)
 
 unify-objects-from-bool-requires : (t : ℕ) → unify-objects-lts.Need-from-bool-requires (unify-objects-claims t) (unify-objects-at t) unify-objects.Post unify-objects-Inv-loop unify-objects-μ-loop
 unify-objects-from-bool-requires t c κs = search needs
@@ -174,14 +239,16 @@ unify-objects-from-bool-requires t c κs = search needs
 unify-objects-loop-holds : (t : ℕ) → unify-objects-lts.Need-loop-holds (unify-objects-claims t) (unify-objects-at t) unify-objects.Post unify-objects-Inv-loop unify-objects-μ-loop
 unify-objects-loop-holds t c = (refl, refl, stored-start (c .before .before .before .before .before .before .before .before .pre .1 .0) (c .from-bool .ensures))
 
-unify-objects-kid-there-requires : (t : ℕ) → unify-objects-lts.Need-kid-there-requires (unify-objects-claims t) (unify-objects-at t) unify-objects.Post unify-objects-Inv-loop unify-objects-μ-loop
-unify-objects-kid-there-requires t c κs = omega (arith, c .before .before .before .before .before .before .before .before .before .before .before .pre .1 .1 .0 .first, c .if1 .taken)
+unify-objects-kid-requires : (t : ℕ) → unify-objects-lts.Need-kid-requires (unify-objects-claims t) (unify-objects-at t) unify-objects.Post unify-objects-Inv-loop unify-objects-μ-loop
+unify-objects-kid-requires t c κs = omega (arith, c .before .before .before .before .before .before .before .before .before .before .before .pre .1 .1 .0 .first, c .if1 .taken)
 
-unify-objects-name-there-requires : (t : ℕ) → unify-objects-lts.Need-name-there-requires (unify-objects-claims t) (unify-objects-at t) unify-objects.Post unify-objects-Inv-loop unify-objects-μ-loop
-unify-objects-name-there-requires t c κs = omega (arith, c .before .before .before .before .before .before .before .before .before .before .before .before .pre .1 .1 .0 .first, c .before .if1 .taken)
+unify-objects-kid-name-requires : (t : ℕ) → unify-objects-lts.Need-kid-name-requires (unify-objects-claims t) (unify-objects-at t) unify-objects.Post unify-objects-Inv-loop unify-objects-μ-loop
+unify-objects-kid-name-requires t c κs = omega (arith, c .before .before .before .before .before .before .before .before .before .before .before .before .pre .1 .1 .0 .first, c .before .if1 .taken)
 
 unify-objects-seek-near-requires : (t : ℕ) → unify-objects-lts.Need-seek-near-requires (unify-objects-claims t) (unify-objects-at t) unify-objects.Post unify-objects-Inv-loop unify-objects-μ-loop
-unify-objects-seek-near-requires t c κs = (c .before .before .before .before .before .before .before .before .before .before .before .before .before .pre .1 .1 .0 .second, c .before .before .before .before .before .before .before .before .before .before .before .before .before .pre .1 .1 .1)
+unify-objects-seek-near-requires t c κs =
+    let b13 = c .before .before .before .before .before .before .before .before .before .before .before .before .before in
+    (b13 .pre .1 .1 .0 .second, b13 .pre .1 .1 .1)
 
 unify-objects-add-j : (t : ℕ) → unify-objects-lts.Need-add-j (unify-objects-claims t) (unify-objects-at t) unify-objects.Post unify-objects-Inv-loop unify-objects-μ-loop
 unify-objects-add-j t c = search needs
@@ -196,30 +263,46 @@ unify-objects-quick-requires : (t : ℕ) → unify-objects-lts.Need-quick-requir
 unify-objects-quick-requires t c κs = quick-adds (object-asks (name-there t (c .before .before)))
 
 unify-objects-unify-pair-requires : (t : ℕ) → unify-objects-lts.Need-unify-pair-requires (unify-objects-claims t) (unify-objects-at t) unify-objects.Post unify-objects-Inv-loop unify-objects-μ-loop
-unify-objects-unify-pair-requires t c κs = (omega (arith, c .before .before .before .before .before .before .before .before .before .before .before .before .before .before .before .before .before .before .before .before .before .before .before .before .before .before .before .before .pre .0), quick-asked (object-asks (name-there t (c .before .before .before .before .before .before .before .before .before .before))) (c .before .before .before .before .before .before .before .quick .ensures) (not-true _ (c .before .before .if2 .taken)))
+unify-objects-unify-pair-requires t c κs =
+    let b2 = c .before .before in
+    let b7 = b2 .before .before .before .before .before in
+    let b10 = b7 .before .before .before in
+    let b28 = b10 .before .before .before .before .before .before .before .before .before .before .before .before .before .before .before .before .before .before in
+    (omega (arith, b28 .pre .0), quick-asked (object-asks (name-there t b10)) (b7 .quick .ensures) (not-true _ (b2 .if2 .taken)))
 
 unify-objects-and-requires : (t : ℕ) → unify-objects-lts.Need-and-requires (unify-objects-claims t) (unify-objects-at t) unify-objects.Post unify-objects-Inv-loop unify-objects-μ-loop
 unify-objects-and-requires t c κs = search needs
 
 unify-objects-loop-less : (t : ℕ) → unify-objects-lts.Need-loop-less (unify-objects-claims t) (unify-objects-at t) unify-objects.Post unify-objects-Inv-loop unify-objects-μ-loop
-unify-objects-loop-less t c = omega (arith, c .before .before .before .before .before .before .before .before .before .before .before .before .before .before .before .before .before .before .before .before .before .before .before .if1 .taken)
+unify-objects-loop-less t c =
+    let b18 = c .before .before .before .before .before .before .before .before .before .before .before .before .before .before .before .before .before .before in
+    let b23 = b18 .before .before .before .before .before in
+    omega (arith, b23 .if1 .taken)
 
 unify-objects-loop-again : (t : ℕ) → unify-objects-lts.Need-loop-again (unify-objects-claims t) (unify-objects-at t) unify-objects.Post unify-objects-Inv-loop unify-objects-μ-loop
-unify-objects-loop-again t c = (
-  c .before .before .before .before .before .unify-pair .kept .0 ∙ (c .before .before .before .before .before .before .before .before .before .before .before .before .before .quick .kept .0 ∙ c .before .before .before .before .before .before .before .before .before .before .before .before .before .before .before .before .before .before .before .before .before .before .before .before .before .loop .inv .0),
-  c .before .before .before .before .before .unify-pair .kept .1 .1 .1 .1 .1 .0 ∙ (c .before .before .before .before .before .before .before .before .before .before .before .before .before .quick .kept .1 .1 .0 ∙ c .before .before .before .before .before .before .before .before .before .before .before .before .before .before .before .before .before .before .before .before .before .before .before .before .before .loop .inv .1),
-  object-next (name-there t (c .before .before .before .before .before .before .before .before .before .before .before .before .before .before .before .before)) (quick-not (c .before .before .before .before .before .before .before .before .before .before .before .before .before .quick .ensures) (not-true _ (c .before .before .before .before .before .before .before .before .if2 .taken)) (c .before .before .before .before .before .unify-pair .ensures)) (c .and .ensures),
-)
+unify-objects-loop-again t c =
+    let b5 = c .before .before .before .before .before in
+    let b8 = b5 .before .before .before in
+    let b13 = b8 .before .before .before .before .before in
+    let b16 = b13 .before .before .before in
+    let b25 = b16 .before .before .before .before .before .before .before .before .before in (
+      b5 .unify-pair .kept .0 ∙ (b13 .quick .kept .0 ∙ b25 .loop .inv .0),
+      b5 .unify-pair .kept .1 .1 .1 .1 .1 .0 ∙ (b13 .quick .kept .1 .1 .0 ∙ b25 .loop .inv .1),
+      object-next (name-there t b16) (quick-not (b13 .quick .ensures) (not-true _ (b8 .if2 .taken)) (b5 .unify-pair .ensures)) (c .and .ensures),
+    )
 
 unify-objects-loop-less-2 : (t : ℕ) → unify-objects-lts.Need-loop-less-2 (unify-objects-claims t) (unify-objects-at t) unify-objects.Post unify-objects-Inv-loop unify-objects-μ-loop
 unify-objects-loop-less-2 t c = omega (arith, c .before .before .before .before .before .before .before .before .before .before .before .before .before .before .before .if1 .taken)
 
 unify-objects-loop-again-2 : (t : ℕ) → unify-objects-lts.Need-loop-again-2 (unify-objects-claims t) (unify-objects-at t) unify-objects.Post unify-objects-Inv-loop unify-objects-μ-loop
 unify-objects-loop-again-2 t c =
-    let p = name-there t (c .before .before .before .before .before .before .before .before) in (
-      c .before .before .before .before .before .quick .kept .0 ∙ c .before .before .before .before .before .before .before .before .before .before .before .before .before .before .before .before .before .loop .inv .0,
-      c .before .before .before .before .before .quick .kept .1 .1 .0 ∙ c .before .before .before .before .before .before .before .before .before .before .before .before .before .before .before .before .before .loop .inv .1,
-      object-next p (quick-merged (object-asks p) (c .before .before .before .before .before .quick .ensures) (not-false _ (c .if2 .left))) (both-success _),
+    let b5 = c .before .before .before .before .before in
+    let b8 = b5 .before .before .before in
+    let b17 = b8 .before .before .before .before .before .before .before .before .before in
+    let p = name-there t b8 in (
+      b5 .quick .kept .0 ∙ b17 .loop .inv .0,
+      b5 .quick .kept .1 .1 .0 ∙ b17 .loop .inv .1,
+      object-next p (quick-merged (object-asks p) (b5 .quick .ensures) (not-false _ (c .if2 .left))) (both-success _),
     )
 
 unify-objects-enum-told : (t : ℕ) → unify-objects-lts.Need-enum-told (unify-objects-claims t) (unify-objects-at t) unify-objects.Post unify-objects-Inv-loop unify-objects-μ-loop
@@ -232,11 +315,16 @@ unify-objects-loop-less-3 : (t : ℕ) → unify-objects-lts.Need-loop-less-3 (un
 unify-objects-loop-less-3 t c = omega (arith, c .before .before .before .before .before .before .if1 .taken)
 
 unify-objects-loop-again-3 : (t : ℕ) → unify-objects-lts.Need-loop-again-3 (unify-objects-claims t) (unify-objects-at t) unify-objects.Post unify-objects-Inv-loop unify-objects-μ-loop
-unify-objects-loop-again-3 t c = (
-  c .before .before .before .before .before .before .before .before .loop .inv .0,
-  c .before .before .before .before .before .before .before .before .loop .inv .1,
-  object-none (c .before .before .before .before .before .before .before .before .loop .inv .2) (c .before .before .before .before .before .before .if1 .taken) (c .before .before .before .before .name-there .ensures) (c .before .before .before .seek-near .ensures) (c .before .enum-told .given .1) (c .and2 .ensures),
-)
+unify-objects-loop-again-3 t c =
+    let b1 = c .before in
+    let b3 = b1 .before .before in
+    let b4 = b3 .before in
+    let b6 = b4 .before .before in
+    let b8 = b6 .before .before in (
+      b8 .loop .inv .0,
+      b8 .loop .inv .1,
+      object-none (b8 .loop .inv .2) (b6 .if1 .taken) (b4 .kid-name .ensures) (b3 .seek-near .ensures) (b1 .enum-told .given .1) (c .and2 .ensures),
+    )
 
 unify-objects-same-length : (t : ℕ) → unify-objects-lts.Need-same-length (unify-objects-claims t) (unify-objects-at t) unify-objects.Post unify-objects-Inv-loop unify-objects-μ-loop
 unify-objects-same-length t c = c .before .before .loop .inv .0
@@ -283,7 +371,9 @@ module _ (t : ℕ) (c : unify-pair-lts.After-find2 (unify-pair-claims t) (unify-
       let a = start .args in
       Climbed (texts (a .rule .now) (a .text .now)) (a .ws .now) (a .ks .now) (a .memory .now) (c .find2 .last .0) (c .find2 .last .1 .1 .0) (a .n) (a .depth)
       (tyOf (a .a .0)) (tyOf (a .b .0)) (c .before .before .before .before .before .before .before .find .result .0) (c .find2 .result .0)
-  climbed-there = climbed (start .pre .1) (visit .before .before .before .before .before .if1 .left) (visit .visited .ensures) (c .before .before .before .before .before .before .before .find .ensures) (c .find2 .ensures)
+  climbed-there =
+      climbed (start .pre .1) (visit .before .before .before .before .before .if1 .left) (visit .visited .ensures)
+      (c .before .before .before .before .before .before .before .find .ensures) (c .find2 .ensures)
 
 -- the roots have met
 met-there : (t : ℕ) (c : unify-pair-lts.After-meet (unify-pair-claims t) (unify-pair-at t) unify-pair.Post)
@@ -315,10 +405,16 @@ unify-pair-visited-requires : (t : ℕ) → unify-pair-lts.Need-visited-requires
 unify-pair-visited-requires t c κs = c .before .before .before .before .before .before .before .before .before .before .pre .1 .recalls .tidy
 
 unify-pair-find-requires : (t : ℕ) → unify-pair-lts.Need-find-requires (unify-pair-claims t) (unify-pair-at t) unify-pair.Post
-unify-pair-find-requires t c κs = (words-linked (c .before .before .before .before .before .before .before .before .before .before .before .before .before .before .before .pre .1 .pairs .words), c .before .before .before .before .visited .ensures .tidy)
+unify-pair-find-requires t c κs =
+    let b4 = c .before .before .before .before in
+    let b15 = b4 .before .before .before .before .before .before .before .before .before .before .before in
+    (words-linked (b15 .pre .1 .pairs .words), b4 .visited .ensures .tidy)
 
 unify-pair-find-requires-2 : (t : ℕ) → unify-pair-lts.Need-find-requires-2 (unify-pair-claims t) (unify-pair-at t) unify-pair.Post
-unify-pair-find-requires-2 t c κs = (c .before .before .before .before .before .before .find .ensures .found .words .linked, c .before .before .before .before .before .before .find .ensures .told (c .before .before .before .before .before .before .before .before .before .before .before .before .before .before .before .before .before .before .before .before .before .before .args .ks .now) .tidy)
+unify-pair-find-requires-2 t c κs =
+    let b6 = c .before .before .before .before .before .before in
+    let b22 = b6 .before .before .before .before .before .before .before .before .before .before .before .before .before .before .before .before in
+    (b6 .find .ensures .found .words .linked, b6 .find .ensures .told (b22 .args .ks .now) .tidy)
 
 unify-pair-meet-requires : (t : ℕ) → unify-pair-lts.Need-meet-requires (unify-pair-claims t) (unify-pair-at t) unify-pair.Post
 unify-pair-meet-requires t c κs = climbed-there t (c .before .before .before .before .before) .tops
@@ -344,23 +440,48 @@ unify-pair-enum-told-2 t c = search needs
 unify-pair-clock-requires : (t : ℕ) → unify-pair-lts.Need-clock-requires (unify-pair-claims t) (unify-pair-at t) unify-pair.Post
 unify-pair-clock-requires t c κs = search needs
 
+unify-pair-in-steps-requires : (t : ℕ) → unify-pair-lts.Need-in-steps-requires (unify-pair-claims t) (unify-pair-at t) unify-pair.Post
+unify-pair-in-steps-requires t c κs =
+    let b9 = c .before .before .before .before .before .before .before .before .before in
+    let b11 = b9 .before .before in
+    kids-spans (met-there t b11) (b9 .m .given .1)
+
 unify-pair-sub-unify-kids : (t : ℕ) → unify-pair-lts.Need-sub-unify-kids (unify-pair-claims t) (unify-pair-at t) unify-pair.Post
-unify-pair-sub-unify-kids t c = deep-there t (c .before .before .before .before .before .before .before .before .before .before .before .before .before .before .before .before .before)
+unify-pair-sub-unify-kids t c = deep-there t (c .before .before .before .before .before .before .before .before .before .before .before .before .before .before .before .before .before .before)
 
 unify-pair-unify-kids-requires : (t : ℕ) → unify-pair-lts.Need-unify-kids-requires (unify-pair-claims t) (unify-pair-at t) unify-pair.Post
-unify-pair-unify-kids-requires t c κs = (falls-there t (c .before .before .before .before .before .before .before .before .before .before .before .before .before .before .before .before .before), kids-asks (met-there t (c .before .before .before .before .before .before .before .before .before .before .before)) (c .before .before .before .before .before .before .before .before .before .m .given .1))
+unify-pair-unify-kids-requires t c κs =
+    let b10 = c .before .before .before .before .before .before .before .before .before .before in
+    let b12 = b10 .before .before in
+    let b18 = b12 .before .before .before .before .before .before in
+    (falls-there t b18, kids-asks (met-there t b12) (b10 .m .given .1) (c .in-steps .ensures))
 
 unify-pair-settle-requires : (t : ℕ) → unify-pair-lts.Need-settle-requires (unify-pair-claims t) (unify-pair-at t) unify-pair.Post
-unify-pair-settle-requires t c κs = kids-settles (met-there t (c .before .before .before .before .before .before .before .before .before .before .before .before .before .before .before .before .before .before)) (c .before .before .before .before .before .before .before .before .before .before .before .before .before .before .before .before .m .given .1) (c .before .before .before .before .before .before .unify-kids .ensures)
+unify-pair-settle-requires t c κs =
+    let b6 = c .before .before .before .before .before .before in
+    let b7 = b6 .before in
+    let b17 = b7 .before .before .before .before .before .before .before .before .before .before in
+    let b19 = b17 .before .before in
+    kids-settles (met-there t b19) (b17 .m .given .1) (b7 .in-steps .ensures) (b6 .unify-kids .ensures)
 
 unify-pair-same-length-3 : (t : ℕ) → unify-pair-lts.Need-same-length-3 (unify-pair-claims t) (unify-pair-at t) unify-pair.Post
-unify-pair-same-length-3 t c = c .before .before .before .before .walk-pair2 .kept .0 ∙ long-there t (c .before .before .before .before .before .before .before .before .before .before .before .before .before .before .before)
+unify-pair-same-length-3 t c =
+    let b4 = c .before .before .before .before in
+    let b15 = b4 .before .before .before .before .before .before .before .before .before .before .before in
+    b4 .walk-pair2 .kept .0 ∙ long-there t b15
 
 unify-pair-same-length-4 : (t : ℕ) → unify-pair-lts.Need-same-length-4 (unify-pair-claims t) (unify-pair-at t) unify-pair.Post
-unify-pair-same-length-4 t c = c .before .before .before .before .walk-pair2 .kept .1 .1 .1 .0 ∙ kept-there t (c .before .before .before .before .before .before .before .before .before .before .before .before .before .before .before)
+unify-pair-same-length-4 t c =
+    let b4 = c .before .before .before .before in
+    let b15 = b4 .before .before .before .before .before .before .before .before .before .before .before in
+    b4 .walk-pair2 .kept .1 .1 .1 .0 ∙ kept-there t b15
 
 unify-pair-returns-3 : (t : ℕ) → unify-pair-lts.Need-returns-3 (unify-pair-claims t) (unify-pair-at t) unify-pair.Post
-unify-pair-returns-3 t c = way-walk (met-there t (c .before .before .before .before .before .before .before .before .before)) (c .before .before .before .before .before .before .before .enum-told .given .1) (c .before .before .before .before .walk-pair2 .ensures)
+unify-pair-returns-3 t c =
+    let b4 = c .before .before .before .before in
+    let b7 = b4 .before .before .before in
+    let b9 = b7 .before .before in
+    way-walk (met-there t b9) (b7 .enum-told .given .1) (b4 .walk-pair2 .ensures)
 
 unify-pair-same-length-5 : (t : ℕ) → unify-pair-lts.Need-same-length-5 (unify-pair-claims t) (unify-pair-at t) unify-pair.Post
 unify-pair-same-length-5 t c = long-there t (c .before .before .before .before .before .before .before .before .before .before .before .before .before .before)
@@ -372,13 +493,30 @@ unify-pair-returns-4 : (t : ℕ) → unify-pair-lts.Need-returns-4 (unify-pair-c
 unify-pair-returns-4 t c = way-known (met-there t (c .before .before .before .before .before .before .before .before)) (c .before .before .before .look .ensures) (c .before .known .given .1)
 
 unify-pair-same-length-7 : (t : ℕ) → unify-pair-lts.Need-same-length-7 (unify-pair-claims t) (unify-pair-at t) unify-pair.Post
-unify-pair-same-length-7 t c = c .before .before .before .before .settle .kept .0 ∙ (c .before .before .before .before .before .before .before .before .before .before .before .unify-kids .kept .0 ∙ long-there t (c .before .before .before .before .before .before .before .before .before .before .before .before .before .before .before .before .before .before .before .before .before .before .before .before .before .before .before .before .before))
+unify-pair-same-length-7 t c =
+    let b4 = c .before .before .before .before in
+    let b11 = b4 .before .before .before .before .before .before .before in
+    let b29 = b11 .before .before .before .before .before .before .before .before .before .before .before .before .before .before .before .before .before .before in
+    let b30 = b29 .before in
+    b4 .settle .kept .0 ∙ (b11 .unify-kids .kept .0 ∙ long-there t b30)
 
 unify-pair-same-length-8 : (t : ℕ) → unify-pair-lts.Need-same-length-8 (unify-pair-claims t) (unify-pair-at t) unify-pair.Post
-unify-pair-same-length-8 t c = c .before .before .before .before .settle .kept .1 .1 .0 ∙ (c .before .before .before .before .before .before .before .before .before .before .before .unify-kids .kept .1 .1 .1 .1 .1 .0 ∙ kept-there t (c .before .before .before .before .before .before .before .before .before .before .before .before .before .before .before .before .before .before .before .before .before .before .before .before .before .before .before .before .before))
+unify-pair-same-length-8 t c =
+    let b4 = c .before .before .before .before in
+    let b11 = b4 .before .before .before .before .before .before .before in
+    let b29 = b11 .before .before .before .before .before .before .before .before .before .before .before .before .before .before .before .before .before .before in
+    let b30 = b29 .before in
+    b4 .settle .kept .1 .1 .0 ∙ (b11 .unify-kids .kept .1 .1 .1 .1 .1 .0 ∙ kept-there t b30)
 
 unify-pair-returns-5 : (t : ℕ) → unify-pair-lts.Need-returns-5 (unify-pair-claims t) (unify-pair-at t) unify-pair.Post
-unify-pair-returns-5 t c = way-kids (met-there t (c .before .before .before .before .before .before .before .before .before .before .before .before .before .before .before .before .before .before .before .before .before .before .before)) (c .before .before .before .before .before .before .before .before .before .before .before .before .before .before .before .before .before .before .before .before .before .m .given .1) (c .before .before .before .before .before .before .before .before .before .before .before .unify-kids .ensures) (c .before .before .before .before .before .before .before .before .before .before .before .before .before .before .clock .ensures) (c .before .before .before .before .settle .ensures)
+unify-pair-returns-5 t c =
+    let b4 = c .before .before .before .before in
+    let b11 = b4 .before .before .before .before .before .before .before in
+    let b12 = b11 .before in
+    let b15 = b12 .before .before .before in
+    let b22 = b15 .before .before .before .before .before .before .before in
+    let b24 = b22 .before .before in
+    way-kids (met-there t b24) (b22 .m .given .1) (b12 .in-steps .ensures) (b11 .unify-kids .ensures) (b15 .clock .ensures) (b4 .settle .ensures)
 
 abbrev unify-types-Inv-loop : unify-types-lts.InvT-loop
 unify-types-Inv-loop ws₀ ks n rule text memory₀ s depth inv r₀ i₀ ws memory r i =
@@ -394,8 +532,13 @@ kids-there : (t : ℕ)
     → let l = c .before .before .before .before .before in
     let a = l .before .before .before .before .before .before .before .before .before .args in
     RunNext (texts (a .rule .now) (a .text .now)) (a .ws .now) (a .ks .now) (a .memory .now) (a .n) (a .depth) (a .s) (l .loop .ws) (l .loop .memory) (l .loop .r) (l .loop .i)
-    (c .before .before .kid-there .result .0) (c .invert-if .result .0)
-kids-there t c = run-pair (c .before .before .before .before .before .loop .inv .2) (c .before .before .before .if2 .taken) (c .before .before .kid-there .ensures) (c .before .kid-there2 .ensures) (c .invert-if .ensures)
+    (c .before .before .kid .result .0) (c .invert-if .result .0)
+kids-there t c =
+    let b1 = c .before in
+    let b2 = b1 .before in
+    let b3 = b2 .before in
+    let b5 = b3 .before .before in
+    run-pair (b5 .loop .inv .2) (b3 .if2 .taken) (b2 .kid .ensures) (b1 .kid2 .ensures) (c .invert-if .ensures)
 
 unify-types-returns : (t : ℕ) → unify-types-lts.Need-returns (unify-types-claims t) (unify-types-at t) unify-types.Post unify-types-Inv-loop unify-types-μ-loop
 unify-types-returns t c = run-fails _ (c .before .before .before .before .before .before .before .pre .1 .0) (c .if1 .taken)
@@ -403,11 +546,15 @@ unify-types-returns t c = run-fails _ (c .before .before .before .before .before
 unify-types-loop-holds : (t : ℕ) → unify-types-lts.Need-loop-holds (unify-types-claims t) (unify-types-at t) unify-types.Post unify-types-Inv-loop unify-types-μ-loop
 unify-types-loop-holds t c = (refl, refl, run-start (c .before .before .before .before .before .before .before .before .pre .1 .0) (c .before .if1 .left))
 
-unify-types-kid-there-requires : (t : ℕ) → unify-types-lts.Need-kid-there-requires (unify-types-claims t) (unify-types-at t) unify-types.Post unify-types-Inv-loop unify-types-μ-loop
-unify-types-kid-there-requires t c κs = omega (arith, c .before .before .before .before .before .before .before .before .before .before .before .pre .1 .1 .first, c .if2 .taken)
+unify-types-kid-requires : (t : ℕ) → unify-types-lts.Need-kid-requires (unify-types-claims t) (unify-types-at t) unify-types.Post unify-types-Inv-loop unify-types-μ-loop
+unify-types-kid-requires t c κs = omega (arith, c .before .before .before .before .before .before .before .before .before .before .before .pre .1 .1 .first, c .if2 .taken)
 
-unify-types-kid-there-requires-2 : (t : ℕ) → unify-types-lts.Need-kid-there-requires-2 (unify-types-claims t) (unify-types-at t) unify-types.Post unify-types-Inv-loop unify-types-μ-loop
-unify-types-kid-there-requires-2 t c κs = omega (arith, c .before .before .before .before .before .before .before .before .before .before .before .before .pre .1 .1 .second, c .before .before .before .before .before .if1 .left, c .before .if2 .taken)
+unify-types-kid-requires-2 : (t : ℕ) → unify-types-lts.Need-kid-requires-2 (unify-types-claims t) (unify-types-at t) unify-types.Post unify-types-Inv-loop unify-types-μ-loop
+unify-types-kid-requires-2 t c κs =
+    let b1 = c .before in
+    let b5 = b1 .before .before .before .before in
+    let b12 = b5 .before .before .before .before .before .before .before in
+    omega (arith, b12 .pre .1 .1 .second, b5 .if1 .left, b1 .if2 .taken)
 
 unify-types-invert-if-requires : (t : ℕ) → unify-types-lts.Need-invert-if-requires (unify-types-claims t) (unify-types-at t) unify-types.Post unify-types-Inv-loop unify-types-μ-loop
 unify-types-invert-if-requires t c κs = search needs
@@ -419,7 +566,12 @@ unify-types-quick-requires : (t : ℕ) → unify-types-lts.Need-quick-requires (
 unify-types-quick-requires t c κs = quick-adds (run-asks (kids-there t (c .before .before)))
 
 unify-types-unify-pair-requires : (t : ℕ) → unify-types-lts.Need-unify-pair-requires (unify-types-claims t) (unify-types-at t) unify-types.Post unify-types-Inv-loop unify-types-μ-loop
-unify-types-unify-pair-requires t c κs = (omega (arith, c .before .before .before .before .before .before .before .before .before .before .before .before .before .before .before .before .before .before .before .before .before .before .before .before .pre .0), quick-asked (run-asks (kids-there t (c .before .before .before .before .before .before .before .before .before .before))) (c .before .before .before .before .before .before .before .quick .ensures) (not-true _ (c .before .before .if3 .taken)))
+unify-types-unify-pair-requires t c κs =
+    let b2 = c .before .before in
+    let b7 = b2 .before .before .before .before .before in
+    let b10 = b7 .before .before .before in
+    let b24 = b10 .before .before .before .before .before .before .before .before .before .before .before .before .before .before in
+    (omega (arith, b24 .pre .0), quick-asked (run-asks (kids-there t b10)) (b7 .quick .ensures) (not-true _ (b2 .if3 .taken)))
 
 unify-types-and-requires : (t : ℕ) → unify-types-lts.Need-and-requires (unify-types-claims t) (unify-types-at t) unify-types.Post unify-types-Inv-loop unify-types-μ-loop
 unify-types-and-requires t c κs = search needs
@@ -428,21 +580,29 @@ unify-types-loop-less : (t : ℕ) → unify-types-lts.Need-loop-less (unify-type
 unify-types-loop-less t c = search needs
 
 unify-types-loop-again : (t : ℕ) → unify-types-lts.Need-loop-again (unify-types-claims t) (unify-types-at t) unify-types.Post unify-types-Inv-loop unify-types-μ-loop
-unify-types-loop-again t c = (
-  c .before .before .before .before .before .unify-pair .kept .0 ∙ (c .before .before .before .before .before .before .before .before .before .before .before .before .before .quick .kept .0 ∙ c .before .before .before .before .before .before .before .before .before .before .before .before .before .before .before .before .before .before .before .before .before .loop .inv .0),
-  c .before .before .before .before .before .unify-pair .kept .1 .1 .1 .1 .1 .0 ∙ (c .before .before .before .before .before .before .before .before .before .before .before .before .before .quick .kept .1 .1 .0 ∙ c .before .before .before .before .before .before .before .before .before .before .before .before .before .before .before .before .before .before .before .before .before .loop .inv .1),
-  run-next (kids-there t (c .before .before .before .before .before .before .before .before .before .before .before .before .before .before .before .before)) (quick-not (c .before .before .before .before .before .before .before .before .before .before .before .before .before .quick .ensures) (not-true _ (c .before .before .before .before .before .before .before .before .if3 .taken)) (c .before .before .before .before .before .unify-pair .ensures)) (c .and .ensures),
-)
+unify-types-loop-again t c =
+    let b5 = c .before .before .before .before .before in
+    let b8 = b5 .before .before .before in
+    let b13 = b8 .before .before .before .before .before in
+    let b16 = b13 .before .before .before in
+    let b21 = b16 .before .before .before .before .before in (
+      b5 .unify-pair .kept .0 ∙ (b13 .quick .kept .0 ∙ b21 .loop .inv .0),
+      b5 .unify-pair .kept .1 .1 .1 .1 .1 .0 ∙ (b13 .quick .kept .1 .1 .0 ∙ b21 .loop .inv .1),
+      run-next (kids-there t b16) (quick-not (b13 .quick .ensures) (not-true _ (b8 .if3 .taken)) (b5 .unify-pair .ensures)) (c .and .ensures),
+    )
 
 unify-types-loop-less-2 : (t : ℕ) → unify-types-lts.Need-loop-less-2 (unify-types-claims t) (unify-types-at t) unify-types.Post unify-types-Inv-loop unify-types-μ-loop
 unify-types-loop-less-2 t c = search needs
 
 unify-types-loop-again-2 : (t : ℕ) → unify-types-lts.Need-loop-again-2 (unify-types-claims t) (unify-types-at t) unify-types.Post unify-types-Inv-loop unify-types-μ-loop
 unify-types-loop-again-2 t c =
-    let p = kids-there t (c .before .before .before .before .before .before .before .before) in (
-      c .before .before .before .before .before .quick .kept .0 ∙ c .before .before .before .before .before .before .before .before .before .before .before .before .before .loop .inv .0,
-      c .before .before .before .before .before .quick .kept .1 .1 .0 ∙ c .before .before .before .before .before .before .before .before .before .before .before .before .before .loop .inv .1,
-      run-next p (quick-merged (run-asks p) (c .before .before .before .before .before .quick .ensures) (not-false _ (c .if3 .left))) (both-success _),
+    let b5 = c .before .before .before .before .before in
+    let b8 = b5 .before .before .before in
+    let b13 = b8 .before .before .before .before .before in
+    let p = kids-there t b8 in (
+      b5 .quick .kept .0 ∙ b13 .loop .inv .0,
+      b5 .quick .kept .1 .1 .0 ∙ b13 .loop .inv .1,
+      run-next p (quick-merged (run-asks p) (b5 .quick .ensures) (not-false _ (c .if3 .left))) (both-success _),
     )
 
 unify-types-same-length : (t : ℕ) → unify-types-lts.Need-same-length (unify-types-claims t) (unify-types-at t) unify-types.Post unify-types-Inv-loop unify-types-μ-loop
@@ -461,10 +621,10 @@ pub +unify-kids+unify-objects+unify-pair+unify-types-spec : {M : Type 1} → sta
     unify-kids.Post
     (unify-kids-enum-known-p t)
     (unify-kids-enum-known-p-2 t)
+    (unify-kids-unify-objects-requires t)
+    (unify-kids-enum-known-p-3 t)
     (unify-kids-unify-types-requires t)
     (unify-kids-and-requires t)
-    (unify-kids-enum-known-p-3 t)
-    (unify-kids-unify-objects-requires t)
     (unify-kids-returns t)
     (unify-kids-same-length t)
     (unify-kids-same-length-2 t)
@@ -479,8 +639,8 @@ pub +unify-kids+unify-objects+unify-pair+unify-types-spec : {M : Type 1} → sta
     unify-objects-μ-loop
     (unify-objects-from-bool-requires t)
     (unify-objects-loop-holds t)
-    (unify-objects-kid-there-requires t)
-    (unify-objects-name-there-requires t)
+    (unify-objects-kid-requires t)
+    (unify-objects-kid-name-requires t)
     (unify-objects-seek-near-requires t)
     (unify-objects-add-j t)
     (unify-objects-enum-known-f t)
@@ -519,6 +679,7 @@ pub +unify-kids+unify-objects+unify-pair+unify-types-spec : {M : Type 1} → sta
     (unify-pair-enum-known-known t)
     (unify-pair-enum-told-2 t)
     (unify-pair-clock-requires t)
+    (unify-pair-in-steps-requires t)
     (unify-pair-sub-unify-kids t)
     (unify-pair-unify-kids-requires t)
     (unify-pair-settle-requires t)
@@ -538,8 +699,8 @@ pub +unify-kids+unify-objects+unify-pair+unify-types-spec : {M : Type 1} → sta
     unify-types-μ-loop
     (unify-types-returns t)
     (unify-types-loop-holds t)
-    (unify-types-kid-there-requires t)
-    (unify-types-kid-there-requires-2 t)
+    (unify-types-kid-requires t)
+    (unify-types-kid-requires-2 t)
     (unify-types-invert-if-requires t)
     (unify-types-add-i t)
     (unify-types-quick-requires t)

@@ -16,10 +16,17 @@ same-length-2 : tie.Need-same-length-2
 same-length-2 c = search needs
 
 returns : tie.Need-returns
-returns c = quick-merged (c .before .before .before .before .before .before .before .before .before .before .before .before .before .pre) (c .before .before .before .before .before .quick .ensures) (c .if1 .taken)
+returns c =
+    let b5 = c .before .before .before .before .before in
+    let b13 = b5 .before .before .before .before .before .before .before .before in
+    quick-merged (b13 .pre) (b5 .quick .ensures) (c .if1 .taken)
 
 unify-pair-requires : tie.Need-unify-pair-requires
-unify-pair-requires c κs = quick-asked (c .before .before .before .before .before .before .before .before .before .before .before .before .before .before .before .pre) (c .before .before .before .before .before .before .before .quick .ensures) (c .before .before .if1 .left)
+unify-pair-requires c κs =
+    let b2 = c .before .before in
+    let b7 = b2 .before .before .before .before .before in
+    let b15 = b7 .before .before .before .before .before .before .before .before in
+    quick-asked (b15 .pre) (b7 .quick .ensures) (b2 .if1 .left)
 
 same-length-3 : tie.Need-same-length-3
 same-length-3 c = search needs
@@ -28,7 +35,11 @@ same-length-4 : tie.Need-same-length-4
 same-length-4 c = search needs
 
 returns-2 : tie.Need-returns-2
-returns-2 c = quick-not (c .before .before .before .before .before .before .before .before .before .before .before .before .quick .ensures) (c .before .before .before .before .before .before .before .if1 .left) (c .before .before .before .before .unify-pair .ensures)
+returns-2 c =
+    let b4 = c .before .before .before .before in
+    let b7 = b4 .before .before .before in
+    let b12 = b7 .before .before .before .before .before in
+    quick-not (b12 .quick .ensures) (b7 .if1 .left) (b4 .unify-pair .ensures)
 
 pub unify-spec : {M : Type 1} → statement M
 unify-spec =

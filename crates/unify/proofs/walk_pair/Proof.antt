@@ -33,7 +33,13 @@ same-length-3 : tie.Need-same-length-3
 same-length-3 c = search needs
 
 returns-2 : tie.Need-returns-2
-returns-2 c = walk-binds (c .before .before .before .before .before .before .before .before .before .before .before .before .before .before .before .pre) (c .before .before .before .before .before .before .before .before .before .before .walk-roots .ensures) (c .before .before .before .before .before .before .before .before .enum-told .given .1) (c .before .before .before .before .before .before .bind .ensures) (c .before .before .changed .ensures)
+returns-2 c =
+    let b2 = c .before .before in
+    let b6 = b2 .before .before .before .before in
+    let b8 = b6 .before .before in
+    let b10 = b8 .before .before in
+    let b15 = b10 .before .before .before .before .before in
+    walk-binds (b15 .pre) (b10 .walk-roots .ensures) (b8 .enum-told .given .1) (b6 .bind .ensures) (b2 .changed .ensures)
 
 pub walk-pair-spec : {M : Type 1} → statement M
 walk-pair-spec =

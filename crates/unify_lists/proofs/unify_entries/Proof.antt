@@ -8,6 +8,7 @@ use Rattle.names.specs.Place.{texts}
 use Rattle.unify_lists.specs.Lent.{fromFirst}
 use Rattle.unify.proofs.RunLaws.{ObjectLeft, ObjectNext, object-none, object-pair, object-asks, object-next}
 use Rattle.unify_lists.proofs.Laws.{entries-start, entries-end}
+use native.Mathlib.Omega.{arith}
 use borrow.Author.Needs.{needs}
 use Rattle.unify_lists.proofs.unify_entries.Statement.{statement}
 use Rattle.unify_lists.proofs.unify_entries.Tie as tie
@@ -48,13 +49,13 @@ loop-holds c =
     (refl, refl, entries-start (e .before .before .before .before .before .before .before .before .pre) (e .entries .ensures) (c .before .entries2 .ensures) (c .from-bool .ensures))
 
 kid-requires : tie.Need-kid-requires Inv-loop μ-loop
-kid-requires c κs = search needs
+kid-requires c κs = omega (arith, c .before .before .before .before .entries .ensures, c .loop-test .taken)
 
 kid-name-requires : tie.Need-kid-name-requires Inv-loop μ-loop
-kid-name-requires c κs = search needs
+kid-name-requires c κs = omega (arith, c .before .before .before .before .before .entries .ensures, c .before .loop-test .taken)
 
 seek-requires : tie.Need-seek-requires Inv-loop μ-loop
-seek-requires c κs = search needs
+seek-requires c κs = omega (arith, c .before .before .before .before .before .entries2 .ensures)
 
 add-j : tie.Need-add-j Inv-loop μ-loop
 add-j c = search needs
