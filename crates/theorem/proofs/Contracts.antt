@@ -71,4 +71,16 @@ contracts = record {
   show-impl-type = record { free = λ κs a. tt; is = λ κs a r x p. ran.show-impl-type (arg1 a) (arg2 a .now) (arg3 a .now) (arg3 x .now) r p };
   show-part = record { free = λ κs a. tt; is = λ κs a r x p. ran.show-part (arg1 a) (arg2 a .now) (r .now) (arg3 x .now) (p .0) };
   show-impl-type-part = record { free = λ κs a. tt; is = λ κs a r x p. ran.show-impl-type-part (arg1 a) (arg2 a .now) (arg3 a .now) (r .now) (arg4 x .now) (p .0) };
+  opens-names = record {
+    free = λ κs a. tt;
+    is = λ κs a r x p q.
+        let was : List ℕ = a .0 .now in
+        let n : ℕ = a .1 .0 in
+        let c : ℕ = a .1 .1 .0 in
+        record { found = was; left = subst (λ (y : DoneAnswer). NamesOpened (openNamesCall n c (leb (bookWords n c) (length was))) (doneReply y) was (x .0 .now)) q p };
+  };
+  name-state = record { free = λ κs a. tt; is = λ κs a r x p. desk.name-state (arg2 a .now) r p };
+  return-to = record { free = λ κs a. tt; is = λ κs a r x p. desk.return-to (arg2 a .now) r p };
+  drop-name = record { free = λ κs a. tt; is = λ κs a r x p. desk.drop-name (arg2 a .now) r p };
+  reset = record { free = λ κs a. tt; is = λ κs a r x p. desk.reset r p };
 }

@@ -72,6 +72,10 @@ tested-forms = record {
   show = record { asks = λ κs a t. t; is = λ κs a r x p. p };
   show-impl-type = record { asks = λ κs a t. t; is = λ κs a r x p. p };
   import = record { asks = λ κs a t. t; is = λ κs a r x p. p };
+  name-state = record { asks = λ κs a t. t; is = λ κs a r x p. p };
+  return-to = record { asks = λ κs a t. t; is = λ κs a r x p. p };
+  drop-name = record { asks = λ κs a t. t; is = λ κs a r x p. p };
+  reset = record { asks = λ κs a t. t; is = λ κs a r x p. p };
 }
 
 -- what passes: a good chart, and words that hold a sound store

@@ -38,6 +38,8 @@ use Rattle.call_impl.proofs as call_impl
 use Rattle.tested_impl.proofs as tested_impl
 use Rattle.call_import.proofs as call_import
 use Rattle.tested_import.proofs as tested_import
+use Rattle.call_states.proofs as call_states
+use Rattle.tested_states.proofs as tested_states
 use Rattle.theorem.specs.Memory.{Memory, Fixed, env, lent, held, roomy, Opened, TestedWords}
 use Rattle.theorem.specs.Runs.{Runs}
 use Rattle.theorem.specs.DeskSteps.{DeskMemory, TestedDesk, OpenedNames}
@@ -131,6 +133,15 @@ pub record TestedForms : Type 0 where
       tested_show.show.Reads.Asked tested_show.show.Reads.Learnt call_show.show.Reads.Learnt
   pub show-impl-type : Form tested_show.show_impl_type.Kinds.ps tested_show.show_impl_type.Kinds.r (λ κs a. OnTested a)
       tested_show.show_impl_type.Reads.Asked tested_show.show_impl_type.Reads.Learnt call_show.show_impl_type.Reads.Learnt
+  -- store and names buffer are tested
+  pub name-state : Form tested_states.name_state.Kinds.ps tested_states.name_state.Kinds.r (λ κs a. OnTestedDesk a)
+      tested_states.name_state.Reads.Asked tested_states.name_state.Reads.Learnt call_states.name_state.Reads.Learnt
+  pub return-to : Form tested_states.return_to.Kinds.ps tested_states.return_to.Kinds.r (λ κs a. OnTestedDesk a)
+      tested_states.return_to.Reads.Asked tested_states.return_to.Reads.Learnt call_states.return_to.Reads.Learnt
+  pub drop-name : Form tested_states.drop_name.Kinds.ps tested_states.drop_name.Kinds.r (λ κs a. OnTestedDesk a)
+      tested_states.drop_name.Reads.Asked tested_states.drop_name.Reads.Learnt call_states.drop_name.Reads.Learnt
+  pub reset : Form tested_states.reset.Kinds.ps tested_states.reset.Kinds.r (λ κs a. OnTestedDesk a)
+      tested_states.reset.Reads.Asked tested_states.reset.Reads.Learnt call_states.reset.Reads.Learnt
 
 pub record StaysTested : Type 0 where
   -- opening, with a chart and texts that 2 does not turn back
