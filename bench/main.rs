@@ -123,7 +123,7 @@ macro_rules! unify {
     let rust = unifying::<Vine>($shape, $count);
     let core = unifying::<Core>($shape, $count);
     line(concat!("unify ", $what, " core"), 4096, core, Some(core / rust));
-    let mut memory = shared::entries(shared::SHEET);
+    let mut memory = shared::entries(shared::FEW);
     let lent = |side: &mut Core, a, b| side.unify_recalling(&mut memory, a, b) as u64;
     let lent = unifying_by::<Core>($shape, $count, lent);
     line(concat!("unify ", $what, " core with a memory"), 4096, lent, Some(lent / rust));

@@ -6,7 +6,7 @@ use std::time::{Duration, Instant};
 use crate::{
   ours::{Core, INVERSE, NEVER},
   shapes::{Pair, Side},
-  shared::{SHEET, entries, full},
+  shared::{FEW, entries, full},
 };
 
 const STORES: usize = 3000;
@@ -104,7 +104,7 @@ fn litter(memory: &mut [u32], nodes: usize, random: &mut Random) {
 /// Seven lengths, not all of them whole entries.
 fn memories(nodes: usize) -> [Vec<u32>; 7] {
   let odd = [entries(2), vec![0; 3]].concat();
-  [vec![0; 5], entries(1), odd, entries(7), entries(100), entries(SHEET), full(nodes)]
+  [vec![0; 5], entries(1), odd, entries(7), entries(100), entries(FEW), full(nodes)]
 }
 
 #[derive(Default)]

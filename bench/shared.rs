@@ -29,8 +29,8 @@ pub fn full(nodes: usize) -> Vec<u32> {
   entries((2 * nodes).pow(2))
 }
 
-/// The entries that `sheet` has.
-pub const SHEET: usize = 2047;
+/// A small memory, in which pairs share entries.
+pub const FEW: usize = 2047;
 
 /// What the bottoms of two types answer.
 #[derive(Clone, Copy)]
@@ -149,7 +149,7 @@ fn visits() {
 }
 
 fn small(_: usize) -> Vec<u32> {
-  entries(SHEET)
+  entries(FEW)
 }
 
 fn one(_: usize) -> Vec<u32> {
@@ -162,7 +162,7 @@ fn deep() {
       let (time, nodes) = recalling(shape, LEVELS, bottom, full);
       line(&format!("{what}, {LEVELS} levels, {answer}, an entry for each pair"), nodes, time, None);
       let (time, nodes) = recalling(shape, LEVELS, bottom, small);
-      line(&format!("{what}, {LEVELS} levels, {answer}, {SHEET} entries"), nodes, time, None);
+      line(&format!("{what}, {LEVELS} levels, {answer}, {FEW} entries"), nodes, time, None);
     }
   }
   for (what, memory) in [("an entry for each pair", full as fn(usize) -> Vec<u32>), ("2047 entries", small)] {
@@ -186,7 +186,7 @@ fn growing() {
   }
   for levels in [16, 18, 20] {
     let (time, nodes) = recalling(clashing, levels, Failure, small);
-    line(&format!("clashing, {levels} levels, {SHEET} entries"), nodes, time, None);
+    line(&format!("clashing, {levels} levels, {FEW} entries"), nodes, time, None);
   }
 }
 
