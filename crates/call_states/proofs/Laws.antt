@@ -15,7 +15,7 @@ use Rattle.scope.specs.Chart.{Env}
 use Rattle.scope.specs.Force.{reset}
 use Rattle.scope.specs.Sound.{Lent}
 use Rattle.scope.specs.Refusals.{UNOPENABLE, Outcome, done, judged, firstBroken, storeOf, openTest}
-use Rattle.scope.specs.States.{Book, LentBook, bookOf, blank, storeUnder, bookTests, wrongLength, unheld, noPlace, Opening, opens, orUnopened, openNamesCall}
+use Rattle.scope.specs.States.{Book, LentBook, bookOf, blank, storeUnder, bookTests, wrongLength, unheld, noPlace, opens, orUnopened, openNamesCall}
 use Rattle.scope.specs.States.{named, nameStateCall, keepReports, returnToCall, dropped, dropNameCall, resetNamesCall}
 use Rattle.scope.proofs.TestLaws.{or-no}
 use Rattle.chart.specs.declared.Beside.{Beside}
@@ -24,7 +24,7 @@ use Rattle.refusals.specs.Codes.{codeOf}
 use Rattle.refusals.proofs.Laws.{code-none, code-some, code-first, judged-refused, test-passed}
 use Rattle.sound.specs.Tests.{envIn}
 use Rattle.promise.specs.Promise.{value, refusal}
-use Rattle.book.specs.Words.{bookWords, bookIn, lentBookOf, BookBecame}
+use Rattle.book.specs.Words.{bookWords, lentBookOf, BookBecame}
 use Rattle.tested_states.specs.Promise.{NamesPromised, NamesOpened, TestedNames}
 use Rattle.tested_states.proofs.Laws.{names-back}
 

@@ -1,17 +1,15 @@
 -- A kept store put back: the slices then hold it, with the capacities and the report count that stood there. Its words are the kept ones, so that its nodes
 -- are the same and clean; the words behind them are 0, since those in use before were cleared and the others were 0.
 -- Assumes nothing.
-use mathlib.Core.Path.{_≡_, refl, ap, sym, _∙_}
+use mathlib.Core.Path.{_≡_, refl, ap, _∙_}
 use mathlib.Core.Bool.{Bool, true, _&&_}
 use mathlib.Core.List.{List}
 use Prim.Native.Nat.{ℕ, _≤_}
 use native.Mathlib.Omega.{arith}
-use lib.ListN.{length, getD, take, drop}
-use Rattle.scope.specs.Nodes.{Store, Node}
+use lib.ListN.{length, getD, take}
 use Rattle.scope.specs.Sound.{zeros}
-use Rattle.layout.specs.Words.{HEAD-WORDS, nodeWords, childWords, nodesMade, childrenMade, nodeRoom, childRoom, decode, storeIn, between, unusedZero, clean}
-use Rattle.layout.specs.Words as words
-use Rattle.layout.specs.Meaning.{headerIn, putHeader, storeMeans, rememberedFits, Clean, Lies}
+use Rattle.layout.specs.Words.{HEAD-WORDS, nodeWords, childWords, nodesMade, childrenMade, nodeRoom, childRoom, storeIn, between, unusedZero, clean}
+use Rattle.layout.specs.Meaning.{headerIn, putHeader, storeMeans, Clean, Lies}
 use Rattle.layout.specs.declared.Header.{Header}
 use Rattle.layout.proofs.Lists.{and-both, and-left, and-right}
 use Rattle.layout.proofs.StoreLaws.{tail-put-header, length-put-header, store-header, store-put, clean-lies, clean-unused, clean-nodes, clean-of}

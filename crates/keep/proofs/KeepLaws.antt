@@ -1,15 +1,13 @@
 -- Slices with a store's used words, and with its counts as their capacities, are clean and hold that store but for its capacities.
 -- Assumes nothing.
 use mathlib.Core.Path.{_≡_, refl, ap, sym, _∙_}
-use mathlib.Core.Bool.{Bool, true, _&&_}
+use mathlib.Core.Bool.{true}
 use mathlib.Core.List.{List}
-use Prim.Native.Nat.{ℕ, _-_, _≤_}
+use Prim.Native.Nat.{ℕ, _-_}
 use native.Mathlib.Omega.{arith}
 use lib.Dec.{eqb}
-use lib.ListN.{length, drop, take}
 use borrow.Author.Tests.{eq-eqb}
 use Rattle.scope.specs.Sound.{zeros}
-use Rattle.scope.specs.Nodes.{Store, Node}
 use Rattle.layout.specs.Words.{nodeWords, childWords, nodesMade, childrenMade, nodeRoom, childRoom, decode, storeIn, between, unusedZero, clean}
 use Rattle.layout.specs.Meaning.{headerIn, storeMeans, Clean, Lies}
 use Rattle.layout.specs.declared.Header.{Header}

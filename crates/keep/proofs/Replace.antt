@@ -1,7 +1,7 @@
 -- Words copied over others: the first n are the source's and those behind are as they were, or 0 where they were in use before. So words that were 0 from
 -- the used ones on are 0 from the n-th on.
 -- Assumes nothing.
-use mathlib.Core.Path.{_≡_, refl, ap, sym, _∙_}
+use mathlib.Core.Path.{_≡_, ap, sym, _∙_}
 use mathlib.Core.List.{List, [], _∷_, _++_, append-assoc, append-nil}
 use Prim.Native.Nat.{ℕ, suc, _+_, _-_, _<_, _≤_}
 use native.Mathlib.Omega.{arith}

@@ -7,7 +7,7 @@ use Prim.Native.Nat.{ℕ, _≤_}
 use lib.ListN.{length, take, drop}
 use Rattle.scope.specs.Nodes.{Store}
 use Rattle.scope.specs.States.{keepReports}
-use Rattle.layout.specs.Words.{HEAD-WORDS, nodeWords, childWords, nodesMade, childrenMade, nodeRoom, childRoom, storeIn}
+use Rattle.layout.specs.Words.{HEAD-WORDS, nodeWords, childWords, nodesMade, childrenMade, nodeRoom, childRoom}
 use Rattle.layout.specs.Words as words
 use Rattle.layout.specs.Meaning.{headerIn}
 use Rattle.layout.specs.declared.Header.{Header}

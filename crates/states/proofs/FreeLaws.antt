@@ -4,7 +4,7 @@ use mathlib.Core.Path.{_≡_, refl, ap, sym, _∙_}
 use mathlib.Core.List.{List}
 use mathlib.Core.Bool.{Bool, true, false}
 use mathlib.Core.Option.{none}
-use Prim.Native.Nat.{ℕ, suc, _+_, _-_, _<_, _≤_}
+use Prim.Native.Nat.{ℕ, _+_, _-_, _<_, _≤_}
 use native.Mathlib.Omega.{arith}
 use native.Mathlib.Numerals.{add-one}
 use lib.Dec.{eqb}
@@ -13,12 +13,12 @@ use lib.Seq.{getD-set-same, getD-set-other, drop-set-lt, ext-getD}
 use borrow.Rule.Slice.PartMut.{midOf, putMid}
 use borrow.Author.Tests.{eqb-true, eqb-false}
 use Rattle.scope.specs.Limits.{MAX-STATES}
-use Rattle.scope.specs.States.{Place, Book, blank}
-use Rattle.book.specs.Words.{BOOK-HEAD, placeFrom, placeWords, bookWords, placeAt, nameLengthIn, nodeRoomIn, childRoomIn, placesIn, bookIn, bookClean, BookBecame}
+use Rattle.scope.specs.States.{blank}
+use Rattle.book.specs.Words.{placeFrom, placeWords, bookWords, placeAt, nameLengthIn, nodeRoomIn, childRoomIn, placesIn, bookIn, bookClean, BookBecame}
 use Rattle.book.specs.Places.{roomIn, PlaceLies, putPlace}
 use Rattle.book.specs.declared.Room.{Room}
 use Rattle.book.proofs.Geometry.{place-next, place-ends}
-use Rattle.book.proofs.Places.{BookLies, book-lies, lies-book, placeOf, places-length, places-at, place-length, put-length, place-here, place-there, beyond-put, node-room-put}
+use Rattle.book.proofs.Places.{BookLies, book-lies, lies-book, places-length, places-at, place-length, put-length, place-here, place-there, beyond-put, node-room-put}
 use Rattle.book.proofs.Places.{child-room-put, became-put}
 use Rattle.book.proofs.Names.{placeIn-free, clean-free, freed}
 use Rattle.states.specs.Ready.{withPlace}

@@ -10,7 +10,6 @@ use lib.ListN.{length, getD}
 use borrow.Rule.Slice.PartMut.{midOf, putMid, mid-len}
 use borrow.Author.Tests.{leb-true}
 use Rattle.scope.specs.Limits.{MAX-STATE-NAME}
-use Rattle.scope.specs.Nodes.{Store}
 use Rattle.scope.specs.States.{nameLength}
 use Rattle.layout.specs.Words.{HEAD-WORDS, nodeWords, childWords, nodesMade, childrenMade, nodeRoom, childRoom, storeIn}
 use Rattle.layout.specs.Meaning.{headerIn, putHeader, Lies}

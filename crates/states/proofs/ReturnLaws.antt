@@ -1,30 +1,28 @@
 -- Returning to a place: a held place's parts are a clean store within the capacities, and it is the store that the book has there.
 -- Assumes nothing.
 use mathlib.Core.Path.{_≡_, refl, ap, sym, subst, _∙_}
-use mathlib.Core.Bool.{Bool, true, false, _&&_}
+use mathlib.Core.Bool.{true}
 use mathlib.Core.List.{List}
 use mathlib.Core.Option.{none}
-use Prim.Native.Nat.{ℕ, _-_, _<_, _≤_}
+use Prim.Native.Nat.{ℕ, _-_}
 use native.Mathlib.Omega.{arith}
-use lib.Dec.{eqb}
 use lib.ListN.{length, getD}
 use borrow.Rule.Slice.PartMut.{mid-len}
 use borrow.Author.Tests.{eqb-false, ne-eqb}
-use Rattle.scope.specs.Nodes.{Store}
-use Rattle.scope.specs.States.{Place, heldStore, isFree, keepReports}
-use Rattle.layout.specs.Words.{nodeWords, childWords, nodesMade, childrenMade, nodeRoom, childRoom, storeIn, clean}
+use Rattle.scope.specs.States.{heldStore, isFree, keepReports}
+use Rattle.layout.specs.Words.{nodeRoom, childRoom, storeIn, clean}
 use Rattle.layout.specs.Meaning.{Lies}
-use Rattle.layout.proofs.Lists.{and-left, and-right}
+use Rattle.layout.proofs.Lists.{and-right}
 use Rattle.layout.proofs.StoreLaws.{clean-lies}
 use Rattle.store.specs.Holds.{Became}
-use Rattle.book.specs.Words.{nodesFrom, kidsFrom, placeWords, placeAt, nameLengthIn, headIn, nodesIn, kidsIn, withRoom, placeIn, nodeRoomIn, childRoomIn, placesIn, bookIn}
+use Rattle.book.specs.Words.{nodesFrom, kidsFrom, placeWords, placeAt, nameLengthIn, headIn, nodesIn, kidsIn, withRoom, placeIn, nodeRoomIn, childRoomIn, bookIn}
 use Rattle.book.specs.Words.{nameWordsClean, countsAreRoom, heldClean}
 use Rattle.book.specs.Places.{roomIn, PlaceLies}
 use Rattle.book.specs.declared.Room.{Room}
-use Rattle.book.proofs.Places.{book-lies, placeOf, places-at, place-length}
+use Rattle.book.proofs.Places.{book-lies, places-at, place-length}
 use Rattle.book.proofs.Names.{free-is, clean-held}
 use Rattle.keep.specs.Kept.{BackReady, storeBack}
-use Rattle.states.specs.Ready.{storeAt, AtPlace, ReturnReady}
+use Rattle.states.specs.Ready.{storeAt, ReturnReady}
 use Rattle.states.proofs.NameLaws.{at-lies, at-nodes, at-children}
 
 -- a held place's store

@@ -1,12 +1,11 @@
 -- One law for each way out of a call on a tested store and names buffer, from what its code finds.
 -- Assumes nothing.
-use mathlib.Core.Path.{_≡_, refl, ap, sym, _∙_}
+use mathlib.Core.Path.{_≡_, refl, ap, _∙_}
 use mathlib.Core.Bool.{Bool, true, false, not, _||_}
 use mathlib.Core.List.{List, [], _∷_}
 use mathlib.Core.Option.{none}
 use Prim.Native.Nat.{ℕ, _<_, _≤_}
 use native.Mathlib.Omega.{arith}
-use lib.ListN.{length}
 use borrow.Author.Tests.{le-leb, lt-leb}
 use Rattle.scope.specs.Base.{pick}
 use Rattle.scope.specs.Limits.{MAX-STATES}
@@ -26,7 +25,7 @@ use Rattle.states.specs.Ready.{holding, withPlace, storeAt, AtPlace, NameReady,
 use Rattle.states.specs.Free.{DropReady, ResetReady, ResetLeft}
 use Rattle.tested_states.specs.Promise.{NamesPromised, TestedNames}
 use Rattle.tested_states.specs.Places.{placeHeld}
-use Rattle.tested_states.proofs.PlaceLaws.{held-there, held-nowhere, no-place, found-held, wrong-nowhere}
+use Rattle.tested_states.proofs.PlaceLaws.{held-there, held-nowhere, no-place, found-held}
 use Rattle.tested_states.proofs.Laws.{names-clean, names-book-clean, names-room, names-eight, names-outcome, store-stays, book-stays, names-back, names-done}
 
 -- tests of a name

@@ -1,7 +1,7 @@
 -- A store and a names buffer that passed the tests of 2 and 8: both are clean, and what is lent is the store and the book that their words hold. So a call's
 -- tests are those of its arguments, asked of that book. Then one law for each way through a call: turned back, or done.
 -- Assumes nothing.
-use mathlib.Core.Path.{_≡_, refl, ap, sym, _∙_}
+use mathlib.Core.Path.{_≡_, refl, ap, _∙_}
 use mathlib.Core.Bool.{Bool, true, false, not}
 use mathlib.Core.List.{List, [], _∷_, _++_}
 use mathlib.Core.Option.{Option, none}
@@ -14,7 +14,7 @@ use Rattle.scope.specs.Chart.{Env}
 use Rattle.scope.specs.Nodes.{Store}
 use Rattle.scope.specs.Sound.{Lent}
 use Rattle.scope.specs.Refusals.{UNSOUND, Outcome, refused, done, orRefused, judged, firstBroken, storeOf, lentTests}
-use Rattle.scope.specs.States.{Place, Book, LentBook, strayBook, readsBook, bookOf, sameRoom, bookSound, lentBookSound, bookTests}
+use Rattle.scope.specs.States.{Place, Book, LentBook, readsBook, bookOf, sameRoom, bookSound, lentBookSound, bookTests}
 use Rattle.scope.proofs.BookLaws.{BookFacts, book-facts}
 use Rattle.chart.specs.declared.Beside.{Beside}
 use Rattle.layout.specs.Words.{storeIn, clean, lentOf}

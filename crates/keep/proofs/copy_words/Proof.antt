@@ -1,6 +1,6 @@
 -- `keep::copy_words` meets its contract. The loop's invariant: the first i words are the source's and the others are as they were. The measure is what is
 -- left. Assumes nothing.
-use mathlib.Core.Path.{_≡_, refl, ap}
+use mathlib.Core.Path.{_≡_, refl}
 use Prim.Native.Nat.{_≤_, _-_}
 use native.Mathlib.Omega.{arith}
 use borrow.Author.Needs.{needs}

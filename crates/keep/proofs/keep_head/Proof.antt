@@ -1,6 +1,6 @@
 -- `keep::keep_head` meets its contract: the head that was read, with its counts as its capacities, is written.
 -- Assumes nothing.
-use mathlib.Core.Path.{_≡_, ap, _∙_}
+use mathlib.Core.Path.{ap, _∙_}
 use borrow.Author.Needs.{needs}
 use Rattle.layout.specs.Meaning.{putHeader}
 use Rattle.keep.specs.Kept.{keptHeader}

@@ -1,6 +1,6 @@
 -- `states::free_at` meets its contract: the place's words are lent as a part, and come back with their first one 0.
 -- Assumes nothing.
-use mathlib.Core.Path.{_≡_, ap, _∙_}
+use mathlib.Core.Path.{ap, _∙_}
 use native.Mathlib.Omega.{arith}
 use Rattle.book.specs.Places.{putPlace}
 use Rattle.states.proofs.FreeLaws.{place-order, place-fits, place-freed, place-back}
