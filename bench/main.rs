@@ -138,10 +138,18 @@ fn unify() {
   unify!("chain of Refs", shapes::chains, shapes::CHAIN);
   unify!("wide tuples", shapes::tuples, shapes::TUPLES * shapes::WIDTH);
   unify!("objects of 64 names", shapes::objects, shapes::OBJECTS * shapes::NAMES);
+  unify!("a variable and a 3-tuple", shapes::triples, shapes::SMALL);
+  unify!("a variable and nil", shapes::nils, shapes::SMALL);
+  unify!("nil and its own inverse", shapes::inverses, shapes::SMALL);
   let time = unifying::<Core>(shapes::doublings, 1);
   line("unify a variable and 120 doublings core", 122, time, None);
   let time = unifying::<Public>(shapes::doublings, 1);
   line("unify a variable and 120 doublings public", 122, time, None);
+}
+
+/// Deep recursion wants more than a main thread may have.
+fn deep(work: fn()) {
+  std::thread::Builder::new().stack_size(256 << 20).spawn(work).unwrap().join().unwrap();
 }
 
 fn main() {
@@ -155,6 +163,9 @@ fn main() {
   if words.get(1).is_some_and(|word| word == "shared") {
     return shared::report();
   }
+  if words.get(1).is_some_and(|word| word == "unify") {
+    return deep(unify);
+  }
   if let [_, chain, bytes] = &words[..] {
     return stack::descend(chain, bytes.parse().expect("not a number"));
   }
@@ -162,8 +173,7 @@ fn main() {
   sound::report();
   makers();
   opening();
-  // Deep recursion wants more than a main thread may have.
-  std::thread::Builder::new().stack_size(256 << 20).spawn(unify).unwrap().join().unwrap();
+  deep(unify);
   texts::report();
   shared::report();
   stack::report();

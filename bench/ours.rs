@@ -44,9 +44,6 @@ pub const CLOSURE: u32 = 8;
 pub const REF: u32 = 9;
 pub const NEVER: u32 = 12;
 
-/// The bit of a type that says its inverse.
-pub const INVERSE: u32 = 1 << 31;
-
 const SPAN: u32 = 7;
 const CHART_TEXT: &[u8] = b"pointshape";
 

@@ -4,8 +4,8 @@
 use std::time::{Duration, Instant};
 
 use crate::{
-  ours::{Core, INVERSE, NEVER},
-  shapes::{Pair, Side},
+  ours::{Core, NEVER},
+  shapes::{INVERSE, Pair, Side},
   shared::{FEW, entries, full},
 };
 

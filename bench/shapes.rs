@@ -21,6 +21,9 @@ pub trait Side: Clone {
   fn makes(&mut self, maker: Maker);
 }
 
+/// The bit of a type that says its inverse.
+pub const INVERSE: u32 = 1 << 31;
+
 pub type Pair = (u32, u32);
 
 /// How many nodes a maker makes while it is timed.
@@ -184,6 +187,32 @@ pub fn objects<S: Side>(side: &mut S) -> Vec<Pair> {
     side.object(&kids)
   };
   (0..OBJECTS).map(|_| (object(()), object(()))).collect()
+}
+
+/// How many small pairs of a kind are timed.
+pub const SMALL: usize = 512;
+
+/// A variable and a tuple of three others, each pair its own.
+pub fn triples<S: Side>(side: &mut S) -> Vec<Pair> {
+  let mut triple = |_| {
+    let kids = vars(side, 3);
+    (side.var(), side.tuple(&kids))
+  };
+  (0..SMALL).map(&mut triple).collect()
+}
+
+/// A variable and an empty tuple, each pair its own.
+pub fn nils<S: Side>(side: &mut S) -> Vec<Pair> {
+  (0..SMALL).map(|_| (side.var(), side.tuple(&[]))).collect()
+}
+
+/// Empty tuples, each with its own inverse.
+pub fn inverses<S: Side>(side: &mut S) -> Vec<Pair> {
+  let mut pair = |_| {
+    let nil = side.tuple(&[]);
+    (nil, nil | INVERSE)
+  };
+  (0..SMALL).map(&mut pair).collect()
 }
 
 /// A variable, and 120 tuples over another, each with the one before as both children.

@@ -3,7 +3,7 @@
 use std::{hint::black_box, rc::Rc};
 
 use crate::{
-  shapes::{KIDS, Maker, Side, VARS, name},
+  shapes::{INVERSE, KIDS, Maker, Side, VARS, name},
   structures::{
     ast::{Ident, Span},
     chart::{Chart, DefId, StructDef, StructId, UnionDef, UnionId},
@@ -20,8 +20,8 @@ pub struct Vine {
   chart: Rc<Chart>,
 }
 
-fn ty(node: u32) -> Type {
-  view::make(node as usize, false)
+fn ty(word: u32) -> Type {
+  view::make((word & !INVERSE) as usize, word & INVERSE != 0)
 }
 
 fn tys(nodes: &[u32]) -> Vec<Type> {
