@@ -62,8 +62,9 @@ fn filled<S: Side>(size: usize, nodes: usize) -> S {
 }
 
 /// A maker's time a call, where the store ends with `size` nodes.
-fn making<S: Side>(size: usize, maker: Maker) -> f64 {
-  least(|| filled::<S>(size, size - MAKES), |side| side.makes(maker)) / maker.calls() as f64
+fn making<S: Side>(size: usize, maker: Maker, nodes: usize, mut makes: impl FnMut(&mut S, Maker, usize)) -> f64 {
+  let calls = maker.calls(nodes);
+  least(|| filled::<S>(size, size - nodes), |side| makes(side, maker, calls)) / calls as f64
 }
 
 fn makers() {
@@ -71,15 +72,18 @@ fn makers() {
     let name = maker.name();
     let mut core = Vec::new();
     for size in SIZES {
-      let rust = making::<Vine>(size, maker);
+      let nodes = maker.nodes(size);
+      let rust = making(size, maker, nodes, Vine::makes_called);
       if maker.has_core() {
-        let time = making::<Core>(size, maker);
+        let time = making(size, maker, nodes, Core::makes);
         core.push(time);
         line(&format!("{name} core"), size, time, Some(time / rust));
       }
-      let time = making::<Public>(size, maker);
+      let time = making(size, maker, MAKES, Public::makes);
       line(&format!("{name} public"), size, time, Some(time / rust));
       line(&format!("{name} Rust"), size, rust, Some(1.0));
+      let inlined = making(size, maker, nodes, Vine::makes);
+      line(&format!("{name} Rust, inlined"), size, inlined, Some(inlined / rust));
     }
     if let [small, .., large] = core[..] {
       let grew = large / small;
@@ -153,9 +157,13 @@ fn deep(work: fn()) {
 }
 
 fn main() {
+  shapes::warm();
   let words: Vec<String> = std::env::args().collect();
   if words.get(1).is_some_and(|word| word == "texts") {
     return texts::report();
+  }
+  if words.get(1).is_some_and(|word| word == "makers") {
+    return makers();
   }
   if words.get(1).is_some_and(|word| word == "sound") {
     return sound::report();

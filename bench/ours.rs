@@ -214,11 +214,10 @@ impl<const PUBLIC: bool> Ours<PUBLIC> {
     (end <= buf.len()).then_some(end)
   }
 
-  fn makes_public(&mut self, maker: Maker) {
+  fn makes_public(&mut self, maker: Maker, turns: usize) {
     let lent = KIDS.map(|kid| [kid, 0, 0, 0]);
     let lent = lent.as_flattened();
     let mut out = [0; VARS];
-    let turns = maker.calls();
     match maker {
       Maker::Var => repeat(turns, || public!(self, faroalder_new_var, SPAN)),
       Maker::Vars => repeat(turns, || {
@@ -238,11 +237,10 @@ impl<const PUBLIC: bool> Ours<PUBLIC> {
     }
   }
 
-  fn makes_core(&mut self, maker: Maker) {
+  fn makes_core(&mut self, maker: Maker, turns: usize) {
     let lent = KIDS.map(|kid| [kid, 0, 0, 0]);
     let lent = lent.as_flattened();
     let mut out = [0; VARS];
-    let turns = maker.calls();
     match maker {
       Maker::Var => repeat(turns, || core!(self, faroalder_direct_new_var, SPAN) as u64),
       Maker::Vars => repeat(turns, || {
@@ -299,7 +297,7 @@ impl<const PUBLIC: bool> Side for Ours<PUBLIC> {
     if PUBLIC { public!(self, faroalder_unify, a, b) } else { self.direct_unify(a, b) as u64 }
   }
 
-  fn makes(&mut self, maker: Maker) {
-    if PUBLIC { self.makes_public(maker) } else { self.makes_core(maker) }
+  fn makes(&mut self, maker: Maker, calls: usize) {
+    if PUBLIC { self.makes_public(maker, calls) } else { self.makes_core(maker, calls) }
   }
 }

@@ -17,8 +17,8 @@ pub trait Side: Clone {
   fn merge(&mut self, a: u32, b: u32);
   /// 0 Success, 1 Failure, 2 Indeterminate.
   fn unify(&mut self, a: u32, b: u32) -> u64;
-  /// What is timed: `MAKES` nodes by one maker.
-  fn makes(&mut self, maker: Maker);
+  /// What is timed: so many calls of one maker.
+  fn makes(&mut self, maker: Maker, calls: usize);
 }
 
 /// The bit of a type that says its inverse.
@@ -26,7 +26,13 @@ pub const INVERSE: u32 = 1 << 31;
 
 pub type Pair = (u32, u32);
 
-/// How many nodes a maker makes while it is timed.
+/// Once a large block was freed the allocator keeps such blocks at hand. Else each fresh store would be mapped anew, and its pages'
+/// first touch timed.
+pub fn warm() {
+  drop(std::hint::black_box(vec![1u8; 16 << 20]));
+}
+
+/// How many nodes a maker makes while it is timed, at the least.
 pub const MAKES: usize = 32;
 
 /// How many variables a call of `new_vars` makes.
@@ -62,8 +68,16 @@ impl Maker {
     }
   }
 
-  pub fn calls(self) -> usize {
-    if self == Maker::Vars { MAKES / VARS } else { MAKES }
+  /// How many nodes are made while it is timed, in a store that ends with `size`. What takes a nanosecond or two is called often, so
+  /// that the clock's own time is little of a turn; what allocates on the Rust's side is not, so that its allocator has the room of a
+  /// store that was dropped at hand.
+  pub fn nodes(self, size: usize) -> usize {
+    if matches!(self, Maker::Var | Maker::Error | Maker::Nil) { (size / 4).max(MAKES) } else { MAKES }
+  }
+
+  /// How many calls make them; `error` and `nil` make theirs at the first.
+  pub fn calls(self, nodes: usize) -> usize {
+    if self == Maker::Vars { nodes / VARS } else { nodes }
   }
 
   /// `new_struct` and `new_union` are `new` in the core.

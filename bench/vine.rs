@@ -104,17 +104,74 @@ impl Side for Vine {
     }
   }
 
-  fn makes(&mut self, maker: Maker) {
+  fn makes(&mut self, maker: Maker, calls: usize) {
     let Vine { types, chart } = self;
-    let turns = maker.calls();
     match maker {
-      Maker::Var => repeat(turns, || types.new_var(SPAN)),
-      Maker::Vars => repeat(turns, || types.new_vars(SPAN, VARS)),
-      Maker::Tuple => repeat(turns, || types.new(TypeKind::Tuple(tys(&KIDS)))),
-      Maker::Struct => repeat(turns, || types.new_struct(chart, StructId(0), tys(&KIDS))),
-      Maker::Union => repeat(turns, || types.new_union(chart, UnionId(0), tys(&KIDS))),
-      Maker::Error => repeat(turns, || types.error(ErrorGuaranteed::new_unchecked())),
-      Maker::Nil => repeat(turns, || types.nil()),
+      Maker::Var => repeat(calls, || types.new_var(SPAN)),
+      Maker::Vars => repeat(calls, || types.new_vars(SPAN, VARS)),
+      Maker::Tuple => repeat(calls, || types.new(TypeKind::Tuple(tys(&KIDS)))),
+      Maker::Struct => repeat(calls, || types.new_struct(chart, StructId(0), tys(&KIDS))),
+      Maker::Union => repeat(calls, || types.new_union(chart, UnionId(0), tys(&KIDS))),
+      Maker::Error => repeat(calls, || types.error(ErrorGuaranteed::new_unchecked())),
+      Maker::Nil => repeat(calls, || types.nil()),
+    }
+  }
+}
+
+/// The makers, each behind a function of its own.
+#[allow(dead_code)]
+mod called {
+  use super::*;
+
+  #[inline(never)]
+  pub fn new_var(types: &mut Types) -> Type {
+    types.new_var(SPAN)
+  }
+
+  #[inline(never)]
+  pub fn new_vars(types: &mut Types) -> Vec<Type> {
+    types.new_vars(SPAN, VARS)
+  }
+
+  #[inline(never)]
+  pub fn tuple(types: &mut Types, kids: &[u32]) -> Type {
+    types.new(TypeKind::Tuple(tys(kids)))
+  }
+
+  #[inline(never)]
+  pub fn structure(types: &mut Types, chart: &Chart, kids: &[u32]) -> Type {
+    types.new_struct(chart, StructId(0), tys(kids))
+  }
+
+  #[inline(never)]
+  pub fn union(types: &mut Types, chart: &Chart, kids: &[u32]) -> Type {
+    types.new_union(chart, UnionId(0), tys(kids))
+  }
+
+  #[inline(never)]
+  pub fn error(types: &mut Types) -> Type {
+    types.error(ErrorGuaranteed::new_unchecked())
+  }
+
+  #[inline(never)]
+  pub fn nil(types: &mut Types) -> Type {
+    types.nil()
+  }
+}
+
+#[allow(dead_code)]
+impl Vine {
+  /// The same by a function that is called, as ours are.
+  pub fn makes_called(&mut self, maker: Maker, calls: usize) {
+    let Vine { types, chart } = self;
+    match maker {
+      Maker::Var => repeat(calls, || called::new_var(types)),
+      Maker::Vars => repeat(calls, || called::new_vars(types)),
+      Maker::Tuple => repeat(calls, || called::tuple(types, &KIDS)),
+      Maker::Struct => repeat(calls, || called::structure(types, chart, &KIDS)),
+      Maker::Union => repeat(calls, || called::union(types, chart, &KIDS)),
+      Maker::Error => repeat(calls, || called::error(types)),
+      Maker::Nil => repeat(calls, || called::nil(types)),
     }
   }
 }

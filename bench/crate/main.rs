@@ -1,6 +1,7 @@
 //! Times the crate in rust/ beside Vine's own `types.rs`, in one run: what their users would see. README.md of bench/ says
 //! what each line is.
 
+mod floor;
 mod ours;
 #[allow(dead_code)]
 #[path = "../shapes.rs"]
@@ -32,7 +33,7 @@ use faroalder::{
   lent::{Lent, names_words, open_names},
 };
 use ours::Ours;
-use shapes::{MAKES, Maker, Pair, Side};
+use shapes::{Maker, Pair, Side};
 use structures::types::{TypeCtx, Types, view};
 use vine::Vine;
 
@@ -45,6 +46,11 @@ fn line(what: &str, ours: f64, rust: f64) {
   let ratio = ours / rust;
   let verdict = if ratio <= ALLOWED { "" } else { ", OVER" };
   println!("{what}, {ours:.1}, {rust:.1}, {ratio:.2}{verdict}");
+}
+
+/// A line of a time that the Rust has none of.
+fn alone(what: &str, ours: f64) {
+  println!("{what}, {ours:.1}, -, -");
 }
 
 /// The least time of `work` over many turns, each on a fresh copy. Whatever else runs on the machine only adds.
@@ -71,8 +77,10 @@ fn filled<S: Side>(nodes: usize) -> S {
 
 fn makers() {
   fn making<S: Side>(maker: Maker) -> f64 {
+    let nodes = maker.nodes(NODES);
+    let calls = maker.calls(nodes);
     // Filled anew each time: the Rust's vector has room then, as one that grew has.
-    least(|| filled::<S>(NODES - MAKES), |side| side.makes(maker)) / maker.calls() as f64
+    least(|| filled::<S>(NODES - nodes), |side| side.makes(maker, calls)) / calls as f64
   }
   for maker in Maker::ALL {
     line(maker.name(), making::<Ours>(maker), making::<Vine>(maker));
@@ -200,11 +208,13 @@ fn failing() {
     let what = format!("towers of {levels} that differ at the bottom, the whole call");
     line(&what, time::<Ours>(levels), time::<Vine>(levels));
   }
-  println!("towers of 120 that differ at the bottom, the whole call, {:.1}, -, -", time::<Ours>(120));
+  alone("towers of 120 that differ at the bottom, the whole call", time::<Ours>(120));
 }
 
 fn report() {
+  shapes::warm();
   println!("what, nanoseconds a call (unify: a pair) by the crate, by the Rust, ratio");
+  floor::report();
   makers();
   finding();
   unifying();

@@ -134,9 +134,8 @@ impl Side for Ours {
     }
   }
 
-  fn makes(&mut self, maker: Maker) {
+  fn makes(&mut self, maker: Maker, turns: usize) {
     let types = &mut self.types;
-    let turns = maker.calls();
     let kids = black_box(KIDS).map(ty);
     match maker {
       Maker::Var => repeat(turns, || types.new_var(SPAN)),

@@ -246,6 +246,7 @@ pub(crate) struct Parts {
 }
 
 impl<'t> Kind<'t> {
+  #[inline]
   pub(crate) fn of(types: &'t Types, node: TypeIdx, parts: Parts) -> Kind<'t> {
     let Parts { code, number, dual, flex, name, count } = parts;
     let all = Children { types, node, next: 0, end: count };
@@ -272,6 +273,7 @@ impl<'t> Kind<'t> {
   }
 
   /// Its children in order; a closure's return is the last.
+  #[inline]
   pub fn children(self) -> impl ExactSizeIterator<Item = Type> + 't {
     let two = |a, b, n| Listed::Two([a, b].into_iter().take(n));
     match self {
@@ -291,6 +293,7 @@ impl<'t> Kind<'t> {
   }
 
   /// Whether its inverse is the kind over its children's inverses.
+  #[inline]
   pub fn self_dual(self) -> bool {
     match self {
       Kind::Tuple(_) | Kind::Object(_) | Kind::IfConst(..) | Kind::Default | Kind::Error => true,
@@ -309,6 +312,7 @@ enum Listed<'t> {
 impl Iterator for Listed<'_> {
   type Item = Type;
 
+  #[inline]
   fn next(&mut self) -> Option<Type> {
     match self {
       Listed::None => None,
@@ -338,6 +342,7 @@ pub struct Children<'t> {
 }
 
 impl Children<'_> {
+  #[inline]
   fn at(&self, j: u32) -> Type {
     self.types.child(self.node, j).expect("the node has this child")
   }
@@ -346,6 +351,7 @@ impl Children<'_> {
 impl Iterator for Children<'_> {
   type Item = Type;
 
+  #[inline]
   fn next(&mut self) -> Option<Type> {
     (self.next < self.end).then(|| {
       self.next += 1;

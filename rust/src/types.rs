@@ -83,14 +83,17 @@ fn remembering(mut unify: impl FnMut(&mut [u32]) -> u64) -> Result<UnifyResult, 
 }
 
 /// The value of an answer.
+#[inline]
 fn value(answer: u64) -> Result<u32, Refusal> {
   if answer < REFUSED { Ok(answer as u32) } else { Err(refused((answer - REFUSED) as u32)) }
 }
 
+#[inline]
 fn ty(answer: u64) -> Result<Type, Refusal> {
   value(answer).map(Type::from_word)
 }
 
+#[inline]
 fn flag(answer: u64) -> Result<bool, Refusal> {
   value(answer).map(|word| word != 0)
 }
@@ -108,12 +111,14 @@ fn done(answer: u64) {
   assert!(answer < REFUSED, "a sound store is never turned back here");
 }
 
+#[inline]
 fn impl_words(a: &ImplType) -> (u32, &[u32]) {
   let (number, types) = a.parts();
   (number, raw::words(types))
 }
 
 /// The kind in a node's or force_kind's words.
+#[inline]
 fn parts(out: &[u32; OUT]) -> Parts {
   let [_, _, _, code, number, dual, flex, text, start, len, _, count] = *out;
   Parts { code, number, dual: dual != 0, flex, name: [text, start, len], count }
@@ -212,6 +217,7 @@ impl Types {
   }
 
   /// Counts, room, the remembered types and the report count.
+  #[inline]
   pub fn figures(&self) -> Figures {
     let mut out = [0; OUT];
     done(self.store.figures(&mut out));
@@ -230,6 +236,7 @@ impl Types {
   }
 
   /// How many nodes are made.
+  #[inline]
   pub fn len(&self) -> usize {
     self.figures().nodes as usize
   }
@@ -312,6 +319,7 @@ impl Types {
   }
 
   /// A new type variable; an inference error would be reported at the span.
+  #[inline]
   pub fn new_var(&mut self, span: Span) -> Result<Type, Refusal> {
     ty(self.store.new_var(span.0))
   }
@@ -326,21 +334,25 @@ impl Types {
   }
 
   /// A new struct type over parameters; it is self-dual as the chart says.
+  #[inline]
   pub fn new_struct(&mut self, id: StructId, type_params: &[Type]) -> Result<Type, Refusal> {
     ty(self.store.new_struct(id.place(), raw::words(type_params)))
   }
 
   /// A new union type over parameters; it is self-dual as the chart says.
+  #[inline]
   pub fn new_union(&mut self, id: UnionId, type_params: &[Type]) -> Result<Type, Refusal> {
     ty(self.store.new_union(id.place(), raw::words(type_params)))
   }
 
   /// The error type: made by the first call, returned by every later one until [`reset`](Types::reset).
+  #[inline]
   pub fn error(&mut self) -> Result<Type, Refusal> {
     ty(self.store.error())
   }
 
   /// The empty tuple: made by the first call, returned by every later one until [`reset`](Types::reset).
+  #[inline]
   pub fn nil(&mut self) -> Result<Type, Refusal> {
     ty(self.store.nil())
   }
@@ -462,11 +474,13 @@ impl Types {
 /// Reading.
 impl Types {
   /// The root of a type, with the inversions on the way.
+  #[inline]
   pub fn find(&self, t: Type) -> Result<Type, Refusal> {
     ty(self.store.find(t.word()))
   }
 
   /// The same; and every node on the way is pointed straight at the root.
+  #[inline]
   pub fn find_mut(&mut self, t: Type) -> Result<Type, Refusal> {
     ty(self.store.find_mut(t.word()))
   }
@@ -484,6 +498,7 @@ impl Types {
   /// assert_eq!(children.collect::<Vec<_>>(), [a, !a]);
   /// # Ok::<(), Refusal>(())
   /// ```
+  #[inline]
   pub fn kind(&self, t: Type) -> Result<Option<(Inverted, Kind<'_>)>, Refusal> {
     let root = self.find(t)?;
     Ok(match self.node(root.idx())? {
@@ -493,11 +508,13 @@ impl Types {
   }
 
   /// The children of a type's kind, as the kind has them; none where there is no kind.
+  #[inline]
   pub fn children(&self, t: Type) -> Result<impl Iterator<Item = Type> + '_, Refusal> {
     Ok(self.kind(t)?.into_iter().flat_map(|(_, kind)| kind.children()))
   }
 
   /// A node as it stands.
+  #[inline]
   pub fn node(&self, node: TypeIdx) -> Result<Node<'_>, Refusal> {
     let mut out = [0; OUT];
     let tag = value(self.store.node(Type::from(node).word(), &mut out))?;
@@ -518,12 +535,14 @@ impl Types {
     (0..self.len() as u16).map(|node| self.node(TypeIdx::new(node)).expect("the node is made"))
   }
 
+  #[inline]
   pub(crate) fn child(&self, node: TypeIdx, j: u32) -> Option<Type> {
     let mut out = [0];
     let there = value(self.store.child(Type::from(node).word(), j, &mut out));
     (there == Ok(1)).then_some(Type::from_word(out[0]))
   }
 
+  #[inline]
   pub(crate) fn child_name(&self, node: TypeIdx, j: u32) -> Option<Name> {
     let mut out = [0; 3];
     let there = value(self.store.child_name(Type::from(node).word(), j, &mut out));
@@ -541,6 +560,7 @@ impl Types {
   }
 
   /// Whether a type is the empty tuple.
+  #[inline]
   pub fn is_nil(&self, t: Type) -> Result<bool, Refusal> {
     flag(self.store.is_nil(t.word()))
   }
