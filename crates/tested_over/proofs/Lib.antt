@@ -1,3 +1,0 @@
-pub mod EntryLaws
-pub mod PlainLaws
-pub mod Laws
