@@ -285,14 +285,7 @@ fn turn(
 }
 
 // The calls one after the other, on these buffers.
-fn turns(
-    s: &[u32],
-    h: &mut [u32],
-    ws: &mut [u32],
-    ks: &mut [u32],
-    bs: &mut [u32],
-    o: &mut [u32],
-) {
+fn turns(s: &[u32], h: &mut [u32], ws: &mut [u32], ks: &mut [u32], bs: &mut [u32], o: &mut [u32]) {
     let mut l = nothing_lent();
     let mut at = 0;
     while at < s.len() {
