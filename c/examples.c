@@ -76,6 +76,24 @@ static struct faroalder_store s;
 
 #define BOTH FAROALDER_RULES(&r), FAROALDER_STORE(&s)
 
+/* A names buffer for a store of so many nodes and children, opened. */
+struct names {
+  uint32_t *bs;
+  size_t len;
+};
+
+static struct names names_for(uint32_t nodes, uint32_t children) {
+  struct names n = {NULL, faroalder_names_words(nodes, children)};
+  n.bs = malloc(n.len * sizeof *n.bs);
+  if (!n.bs) abort();
+  memset(n.bs, 0xff, n.len * sizeof *n.bs);
+  if (faroalder_open_names(n.bs, n.len, nodes, children) != 0) abort();
+  return n;
+}
+
+#define NAMES(n) (n).bs, (n).len
+#define NAME(word) (const uint8_t *)(word), strlen(word)
+
 /* ---- Comparing ---- */
 
 static const char *const RESULTS[] = {"Success", "Failure", "Indeterminate"};
@@ -392,7 +410,9 @@ static void finishing(void) {
   number("figures", CALL(figures)(BOTH, out), 0);
   const uint32_t expected[12] = {5, 1, 16, 32, 1, 4, 1, 3, 0, 0, 0, 0};
   yes("its words", memcmp(out, expected, sizeof out) == 0);
-  number("reset", CALL(reset)(BOTH), 0);
+  struct names n = names_for(16, 32);
+  number("reset", CALL(reset)(BOTH, NAMES(n)), 0);
+  free(n.bs);
   number("figures", CALL(figures)(BOTH, out), 0);
   yes("no node", out[FAROALDER_AT_NODES] == 0 && out[FAROALDER_AT_HAS_NIL] == 0);
 }
@@ -410,6 +430,152 @@ static void exporting(void) {
   yes("error 0, nil ~1", figures[FAROALDER_AT_ERROR] == 0 && figures[FAROALDER_AT_NIL] == inverse(1));
   closed(&from);
 }
+
+/* ---- Named states ---- */
+
+/* All words of the store in hand, and of a names buffer. */
+static uint32_t *copied(struct names n, size_t *len) {
+  *len = s.h_len + s.ws_len + s.ks_len + n.len;
+  uint32_t *all = malloc(*len * sizeof *all), *p = all;
+  if (!all) abort();
+  memcpy(p, s.h, s.h_len * sizeof *p), p += s.h_len;
+  memcpy(p, s.ws, s.ws_len * sizeof *p), p += s.ws_len;
+  memcpy(p, s.ks, s.ks_len * sizeof *p), p += s.ks_len;
+  memcpy(p, n.bs, n.len * sizeof *p);
+  return all;
+}
+
+/* An answer is a refusal, and every word is as `before` has it. */
+static void turned(const char *what, uint64_t got, uint32_t number, uint32_t *before, struct names n) {
+  size_t len;
+  uint32_t *now = copied(n, &len);
+  refused(what, got, number);
+  yes("  and every word is as found", memcmp(before, now, len * sizeof *now) == 0);
+  free(now);
+}
+
+static void returning(void) {
+  uint32_t out[12];
+  struct names n = names_for(16, 32);
+  title("a rule fails, and the planner returns to the state before it");
+  var(5), bare(FAROALDER_NEVER), nil(), tuple2(1, 0), tuple2(2, 1);
+  number("name_state", CALL(name_state)(BOTH, NAMES(n), NAME("before")), 0);
+  unify(3, 4, FAROALDER_FAILURE);
+  child_of(0, 1);
+  type(CALL(error)(BOTH)), var(6);
+  number("force_kind", CALL(force_kind)(BOTH, 6, out), FAROALDER_UNKNOWN);
+  number("return_to", CALL(return_to)(BOTH, NAMES(n), NAME("before")), 0);
+  root_of(0, FAROALDER_UNKNOWN, 1);
+  number("figures", CALL(figures)(BOTH, out), 0);
+  const uint32_t expected[12] = {5, 4, 16, 32, 0, 0, 1, 2, 1, 0, 0, 0};
+  yes("five nodes, no error type, nil again, and the report stays", memcmp(out, expected, sizeof out) == 0);
+  refused("3: a node that was made since", CALL(find)(BOTH, 5), FAROALDER_OUTSIDE);
+  number("the next node", var(7), 5);
+  number("return_to, a second time", CALL(return_to)(BOTH, NAMES(n), NAME("before")), 0);
+  refused("3: that node too", CALL(find)(BOTH, 5), FAROALDER_OUTSIDE);
+  number("its test", faroalder_names_refusal(BOTH, NAMES(n)), 0);
+  free(n.bs);
+}
+
+static void eight(void) {
+  size_t len;
+  uint8_t longest[256];
+  char word[2] = "a";
+  struct names n = names_for(16, 32);
+  title("eight names, a ninth, a held one again, dropping, reset");
+  memset(longest, 'x', sizeof longest);
+  for (int i = 0; i < 7; i++, word[0]++) {
+    var((uint32_t)i);
+    number(word, CALL(name_state)(BOTH, NAMES(n), NAME(word)), 0);
+  }
+  var(7);
+  number("a name of 255 bytes", CALL(name_state)(BOTH, NAMES(n), longest, 255), 0);
+  uint32_t *before = copied(n, &len);
+  turned("13: a ninth", CALL(name_state)(BOTH, NAMES(n), NAME("i")), FAROALDER_NO_PLACE, before, n);
+  turned("12: a name of 256 bytes", CALL(name_state)(BOTH, NAMES(n), longest, 256), FAROALDER_UNHELD, before, n);
+  turned("12: a name of nothing", CALL(name_state)(BOTH, NAMES(n), FAROALDER_EMPTY, 0), FAROALDER_UNHELD, before, n);
+  turned("12: returning to none", CALL(return_to)(BOTH, NAMES(n), NAME("i")), FAROALDER_UNHELD, before, n);
+  turned("12: to a name's first byte", CALL(return_to)(BOTH, NAMES(n), longest, 1), FAROALDER_UNHELD, before, n);
+  turned("12: to 256 bytes", CALL(return_to)(BOTH, NAMES(n), longest, 256), FAROALDER_UNHELD, before, n);
+  turned("12: dropping none", CALL(drop_name)(BOTH, NAMES(n), NAME("i")), FAROALDER_UNHELD, before, n);
+  turned("12: nothing", CALL(drop_name)(BOTH, NAMES(n), FAROALDER_EMPTY, 0), FAROALDER_UNHELD, before, n);
+  free(before);
+  number("a held name again, with eight held", CALL(name_state)(BOTH, NAMES(n), NAME("c")), 0);
+  number("return_to a", CALL(return_to)(BOTH, NAMES(n), NAME("a")), 0);
+  refused("3: node 1", CALL(find)(BOTH, 1), FAROALDER_OUTSIDE);
+  number("return_to c", CALL(return_to)(BOTH, NAMES(n), NAME("c")), 0);
+  number("find 7", CALL(find)(BOTH, 7), 7);
+  number("drop_name b", CALL(drop_name)(BOTH, NAMES(n), NAME("b")), 0);
+  refused("12: return_to b", CALL(return_to)(BOTH, NAMES(n), NAME("b")), FAROALDER_UNHELD);
+  refused("12: drop_name b again", CALL(drop_name)(BOTH, NAMES(n), NAME("b")), FAROALDER_UNHELD);
+  number("the ninth name", CALL(name_state)(BOTH, NAMES(n), NAME("i")), 0);
+  refused("13: a tenth", CALL(name_state)(BOTH, NAMES(n), NAME("b")), FAROALDER_NO_PLACE);
+  number("reset", CALL(reset)(BOTH, NAMES(n)), 0);
+  refused("12: return_to a", CALL(return_to)(BOTH, NAMES(n), NAME("a")), FAROALDER_UNHELD);
+  refused("12: drop_name i", CALL(drop_name)(BOTH, NAMES(n), NAME("i")), FAROALDER_UNHELD);
+  number("b once more", CALL(name_state)(BOTH, NAMES(n), NAME("b")), 0);
+  refused("1: 4,097 nodes", faroalder_open_names(NAMES(n), 4097, 0), FAROALDER_UNOPENABLE);
+  refused("1: 16,385 children", faroalder_open_names(NAMES(n), 0, 16385), FAROALDER_UNOPENABLE);
+  refused("1: a word too short", faroalder_open_names(n.bs, n.len - 1, 16, 32), FAROALDER_UNOPENABLE);
+  number("return_to b", CALL(return_to)(BOTH, NAMES(n), NAME("b")), 0);
+  free(n.bs);
+}
+
+#ifndef TESTED
+/* Each of the four calls refuses the names buffer with 8, and leaves every word as found. */
+static void unsound(const char *what, struct names n) {
+  size_t len;
+  uint32_t *before = copied(n, &len);
+  printf("  8: %s\n", what);
+  turned("name_state", faroalder_name_state(BOTH, NAMES(n), NAME("new")), FAROALDER_UNSOUND, before, n);
+  turned("return_to", faroalder_return_to(BOTH, NAMES(n), NAME("a")), FAROALDER_UNSOUND, before, n);
+  turned("drop_name", faroalder_drop_name(BOTH, NAMES(n), NAME("a")), FAROALDER_UNSOUND, before, n);
+  turned("reset", faroalder_reset(BOTH, NAMES(n)), FAROALDER_UNSOUND, before, n);
+  number("faroalder_names_refusal", faroalder_names_refusal(BOTH, NAMES(n)), FAROALDER_UNSOUND);
+  free(before);
+}
+
+static void names_by_hand(void) {
+  struct names n = names_for(16, 32);
+  size_t place = (n.len - 2) / 8, state = 2 + 256, nodes = state + faroalder_header_words();
+  uint32_t out[12];
+  title("names buffers changed by hand");
+  memset(n.bs, 0, n.len * sizeof *n.bs); /* zeros behind what a state uses */
+  if (faroalder_open_names(NAMES(n), 16, 32) != 0) abort();
+  tuple1(var(0)), nil();
+  number("a", faroalder_name_state(BOTH, NAMES(n), NAME("a")), 0);
+  number("bc", faroalder_name_state(BOTH, NAMES(n), NAME("bc")), 0);
+  struct { const char *what; size_t at; uint32_t word; } changes[] = {
+      {"a capacity for nodes", 0, 15},        {"a capacity for children", 1, 33},
+      {"a name of 256 bytes", 2, 256},        {"a byte of 256", 3, 256},
+      {"an unused byte", 4, 1},               {"a count of nodes", state, 2},
+      {"a state's nodes' room", state + 2, 16}, {"a state's children's room", state + 3, 32},
+      {"a node's tag", nodes, 9},
+  };
+  for (size_t i = 0; i < sizeof changes / sizeof *changes; i++) {
+    uint32_t was = n.bs[changes[i].at];
+    n.bs[changes[i].at] = changes[i].word;
+    unsound(changes[i].what, n);
+    n.bs[changes[i].at] = was;
+  }
+  n.bs[2 + place] = 1, n.bs[3 + place] = 'a', n.bs[4 + place] = 0;
+  unsound("one name twice", n);
+  n.bs[2 + place] = 2, n.bs[3 + place] = 'b', n.bs[4 + place] = 'c';
+  unsound("a word too short", (struct names){n.bs, n.len - 1});
+  unsound("nothing", (struct names){FAROALDER_EMPTY, 0});
+  n.bs[2 + 2 * place + 1] = 999, n.bs[2 + 2 * place + 300] = 999, n.bs[2 + place - 1] = 999;
+  number("words that are no part of it", faroalder_names_refusal(BOTH, NAMES(n)), 0);
+  struct faroalder_rules bad = r;
+  bad.chart_len -= 1;
+  refused("2: before 8",
+          faroalder_name_state(FAROALDER_RULES(&bad), FAROALDER_STORE(&s), FAROALDER_EMPTY, 0, NAME("a")),
+          FAROALDER_BAD_CHART);
+  refused("8: before 12", faroalder_return_to(BOTH, FAROALDER_EMPTY, 0, NAME("z")), FAROALDER_UNSOUND);
+  number("return_to", faroalder_return_to(BOTH, NAMES(n), NAME("bc")), 0);
+  number("figures", faroalder_figures(BOTH, out), 0);
+  free(n.bs);
+}
+#endif
 
 /* ---- Refusals ---- */
 
@@ -450,7 +616,11 @@ static void turned_back(void) {
 int main(void) {
   void (*cases[])(void) = {var_inverse, nil_inverse,   occurs,  defaults, error_never, var_error, three_vars,
                            failure_keeps, objects,     forced,  shown,    params,      room,      sheet,
-                           kinds,       lists,         remembering, finishing, exporting, turned_back};
+                           kinds,       lists,         remembering, finishing, exporting, returning, eight, turned_back,
+#ifndef TESTED
+                           names_by_hand,
+#endif
+  };
   r = rules();
   for (size_t i = 0; i < sizeof cases / sizeof *cases; i++) {
     s = opened(16, 32);

@@ -36,7 +36,8 @@
  *
  * Limits
  *   4,096 nodes and 16,384 children a store, both chosen when it is opened; 255 children a kind; 255 listed types or
- *   parameters; texts of 65,535 bytes; 1,024 records; names and paths of 1 to 255 bytes.
+ *   parameters; texts of 65,535 bytes; 1,024 records; names and paths of 1 to 255 bytes; eight named states, under
+ *   names of 1 to 255 bytes.
  */
 #ifndef FAROALDER_H
 #define FAROALDER_H
@@ -48,7 +49,8 @@
 extern "C" {
 #endif
 
-/* Refusal n is answered as FAROALDER_REFUSED + n. They are tested in the order 1, 2, 8, 9, 3, 4, 5, 6, 10, 11, 7. */
+/* Refusal n is answered as FAROALDER_REFUSED + n. They are tested in the order 1, 2, 8, 9, 3, 4, 5, 12,
+ * 13, 6, 10, 11, 7. */
 #define FAROALDER_REFUSED UINT64_C(4294967296)
 
 enum faroalder_refusal_number {
@@ -60,10 +62,12 @@ enum faroalder_refusal_number {
   FAROALDER_UNDEFINED = 5,      /* a definition is absent or of another sort */
   FAROALDER_NO_ENTRY = 6,       /* an import with a parameter list reaches a Param with no entry */
   FAROALDER_SHORT = 7,          /* the answer's buffer is too short */
-  FAROALDER_UNSOUND = 8,        /* the store is unsound */
+  FAROALDER_UNSOUND = 8,        /* the store is unsound; a names buffer is unsound, too short or for other capacities */
   FAROALDER_SOURCE_UNSOUND = 9, /* import's source is unsound */
   FAROALDER_NODES_FULL = 10,    /* nodes made plus those needed exceed the capacity */
-  FAROALDER_CHILDREN_FULL = 11  /* the same for children */
+  FAROALDER_CHILDREN_FULL = 11, /* the same for children */
+  FAROALDER_UNHELD = 12,        /* a name isn't held, or isn't 1 to 255 bytes long */
+  FAROALDER_NO_PLACE = 13       /* a ninth name: it isn't held, and eight others are */
 };
 
 /* A type is a node's number, from 0, and an inversion bit. */
@@ -214,6 +218,7 @@ size_t faroalder_header_words(void);
 size_t faroalder_node_words(uint32_t nodes);
 size_t faroalder_child_words(uint32_t children);
 size_t faroalder_record_words(uint32_t records); /* a chart */
+size_t faroalder_names_words(uint32_t nodes, uint32_t children); /* a names buffer: see Named states */
 size_t faroalder_memory_words(uint32_t nodes);   /* a memory with a place for every pair of types: see Remembering */
 
 /* ---- The chart ---- */
@@ -222,7 +227,7 @@ size_t faroalder_memory_words(uint32_t nodes);   /* a memory with a place for ev
  * there is too little room. What the records say is not tested here: the calls refuse a bad chart with 2. */
 uint32_t faroalder_load(const struct faroalder_record *records, size_t records_len, uint32_t *words, size_t words_len);
 
-/* ---- Opening, testing, emptying ---- */
+/* ---- Opening and testing ---- */
 
 /* A store without nodes, with room for so many nodes and children, whatever the buffers held. Done (0). Refusal 1. */
 uint64_t faroalder_open(FAROALDER_WHOLE_STORE, uint32_t nodes, uint32_t children);
@@ -230,8 +235,56 @@ uint64_t faroalder_open(FAROALDER_WHOLE_STORE, uint32_t nodes, uint32_t children
 /* The test alone: 2 if chart or texts are bad, 8 if the store is unsound, else 0. */
 uint32_t faroalder_refusal(FAROALDER_THE_RULES, FAROALDER_READ_STORE);
 
-/* Empties a store; its count of reports stays. Done (0). Refusals 2, 8. */
-FAROALDER_CALL(reset, FAROALDER_THE_RULES, FAROALDER_WHOLE_STORE);
+/* ---- Named states, and emptying ----
+ *
+ * A names buffer is one more buffer of yours, `bs`, beside a store. It holds up to eight states of the store, each
+ * under a name of your choice: 1 to 255 bytes, any bytes, compared as bytes. Name the present state before you try
+ * something; if it fails, return to it:
+ *
+ *     uint32_t *bs = ..;                               (faroalder_names_words(64, 256) words)
+ *     faroalder_open_names(bs, bs_len, 64, 256);       (the capacities that the store was opened with)
+ *     faroalder_name_state(FAROALDER_RULES(&r), FAROALDER_STORE(&s), bs, bs_len, (const uint8_t *)"before", 6);
+ *     ..                                               (a unify that fails has bound some variables)
+ *     faroalder_return_to(FAROALDER_RULES(&r), FAROALDER_STORE(&s), bs, bs_len, (const uint8_t *)"before", 6);
+ *
+ * What it holds: two words, the capacities; then eight places of one size, each a name's length (0: the place is
+ * free), 255 words for the name's bytes (a byte each, unused ones 0), and the words of a state: header, nodes,
+ * children, as much of each as was in use. Words of a free place behind its length, words behind what a state uses, and
+ * words past the last place are no part of it. A longer buffer does no harm.
+ *
+ * Refusal 8 meets a names buffer that is too short, that was opened for other capacities than the store has, a word of
+ * which is out of range, that holds one name twice, or a held state of which is unsound under the present rules: every
+ * held state is tested, not only the one asked for. So the rules must stay those under which its states were named.
+ *
+ * The second family asks for what it asks for elsewhere, and in the same way of the names buffer: either it was opened
+ * for this store's capacities or `faroalder_names_refusal` has answered 0 for it, and since then nothing but calls of
+ * this library, with these rules and this store, has written it. */
+#define FAROALDER_READ_NAMES const uint32_t *bs, size_t bs_len
+#define FAROALDER_WRITE_NAMES uint32_t *bs, size_t bs_len
+
+/* A names buffer without a name, for a store of so many nodes and children, whatever it held. Done (0). Refusal 1. */
+uint64_t faroalder_open_names(FAROALDER_WRITE_NAMES, uint32_t nodes, uint32_t children);
+
+/* The test alone: 2 if chart or texts are bad, 8 if the store or the names buffer is unsound, else 0. */
+uint32_t faroalder_names_refusal(FAROALDER_THE_RULES, FAROALDER_READ_STORE, FAROALDER_READ_NAMES);
+
+/* Holds the present state under a name. A name that is held already then holds this state in place of its old one, also
+ * where eight are held. The store is only read. Done (0). Refusals 2, 8, 12 (a wrong length), 13. */
+FAROALDER_CALL(name_state, FAROALDER_THE_RULES, FAROALDER_READ_STORE, FAROALDER_WRITE_NAMES, const uint8_t *name,
+               size_t name_len);
+
+/* The store is again as it was when it was named: every node and child, the remembered error and nil types, the counts.
+ * Types made since are no longer in it. The count of reports stays as it is. The name stays held; the names buffer is
+ * only read. Done (0). Refusals 2, 8, 12. */
+FAROALDER_CALL(return_to, FAROALDER_THE_RULES, FAROALDER_WHOLE_STORE, FAROALDER_READ_NAMES, const uint8_t *name,
+               size_t name_len);
+
+/* The name is no longer held, and its place is free. The store is only read. Done (0). Refusals 2, 8, 12. */
+FAROALDER_CALL(drop_name, FAROALDER_THE_RULES, FAROALDER_READ_STORE, FAROALDER_WRITE_NAMES, const uint8_t *name,
+               size_t name_len);
+
+/* Empties a store and drops all its names; its count of reports stays. Done (0). Refusals 2, 8. */
+FAROALDER_CALL(reset, FAROALDER_THE_RULES, FAROALDER_WHOLE_STORE, FAROALDER_WRITE_NAMES);
 
 /* ---- Making types: each answers a type. Refusals 2, 8, then as said ---- */
 

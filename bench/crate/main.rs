@@ -23,10 +23,15 @@ mod structures {
 }
 
 use std::{
+  cell::RefCell,
   hint::black_box,
   time::{Duration, Instant},
 };
 
+use faroalder::{
+  Types as Store, Words,
+  lent::{Lent, names_words, open_names},
+};
 use ours::Ours;
 use shapes::{Maker, Pair, Side};
 use structures::types::{TypeCtx, Types, view};
@@ -216,6 +221,44 @@ fn report() {
   importing();
   showing();
   failing();
+  naming();
+}
+
+/// Naming, returning and dropping: the crate's time, that of a plain copy of as many bytes, and that of the Rust's clone.
+/// The stores have room for 4,096 nodes. Then naming by the first family of C names, which tests store and names buffer.
+fn naming() {
+  for nodes in [64, 512, NODES] {
+    let ours = RefCell::new(filled::<Ours>(nodes).types);
+    let rust: Vine = filled(nodes);
+    let children = ours.borrow().figures().children as usize;
+    let from = vec![1u32; 8 + 12 * nodes + 4 * children];
+    let mut to = from.clone();
+    let copy = least(|| (), |()| black_box(&mut to).copy_from_slice(black_box(&from)));
+    let clone = least(|| (), |()| _ = black_box(rust.types.clone()));
+    let name = || ours.borrow_mut().name("state").unwrap();
+    let compared = |what: &str, time: f64| {
+      println!("{what} {nodes} nodes, {time:.1}, {copy:.1}, {:.2}, {clone:.1}", time / copy);
+    };
+    compared("name", least(|| (), |()| name()));
+    compared("return_to", least(|| (), |()| ours.borrow_mut().return_to("state").unwrap()));
+    let dropped = least(name, |()| ours.borrow_mut().drop_name("state").unwrap());
+    println!("drop_name {nodes} nodes, {dropped:.1}");
+    tested(&ours.borrow(), nodes);
+  }
+}
+
+/// Naming, by the first family, with one state held and with eight.
+fn tested(types: &Store, nodes: usize) {
+  let rules = types.chart();
+  let Words { mut h, mut ws, mut ks } = types.clone().into_words();
+  let mut names = vec![0; names_words(h[2], h[3])];
+  assert_eq!(open_names(&mut names, h[2], h[3]), 0);
+  let lent = Lent { rules: rules.rules(), h: &mut h, ws: &mut ws, ks: &mut ks };
+  for held in [1, 8] {
+    (0..held).for_each(|i| assert_eq!(lent.name_state(&mut names, &[i]), 0));
+    let time = least(|| (), |()| assert_eq!(lent.name_state(&mut names, &[0]), 0));
+    println!("name {nodes} nodes, with the tests, {held} held, {time:.1}");
+  }
 }
 
 fn main() {

@@ -1,13 +1,15 @@
-"""Calls that are turned back, with the number that document 01 gives for each: a list of calls for crates/run_calls, and what it must write.
+"""Calls that are turned back, with the number that documents 01 and 02 give for each: a list of calls for crates/run_calls, and what it must write.
 
 The chart is chart.json's: record 0 is a trait, 1 a struct without the flag, 4 a union with it, 5 a const, 6 a fn, 9 a struct with it."""
 
-from lib.script import INVERSE, line
+from lib.script import INVERSE, line, names_words
 
 PARAM, TUPLE, OBJECT, STRUCT, CLOSURE, REF, IF_CONST, NEVER = 0, 1, 2, 4, 8, 9, 11, 12
 A, AB, B = (0, 0, 1), (0, 2, 2), (0, 5, 1)  # names in the rule text: a, ab, b
 NONE = 2 ** 32 - 1
 NODES, CHILDREN = 6, 6
+NAMES = names_words(NODES, CHILDREN)
+LEND = ("lend", [8, NODES * 12, CHILDREN * 4, NAMES], None)
 
 
 def kind(code, *kids, number=0, flex=0, name=(0, 0, 0)):
@@ -162,13 +164,13 @@ def broken(chart):
         ("beside", [chart["fn_trait"], *sigils], None), ("find", [0], "=5"),
         ("lend", [8, NODES * 12 - 1, CHILDREN * 4], None), ("unify", [0, 5], "refused 8"),
         ("lend", [0, 0, 0], None), ("reset", [], "refused 8"),
-        ("lend", [8, NODES * 12, CHILDREN * 4], None),
+        LEND,
         ("poke", [1, 5 * 12 + 2, 1], None), ("unify", [0, 5], "refused 8"),   # a root's size
         ("poke", [1, 5 * 12 + 2, 2], None), ("poke", [1, 12 + 6, 0], None), ("find", [9], "refused 8"),  # a flag
         ("poke", [1, 12 + 6, 1], None), ("poke", [1, 12 + 1, 1], None), ("poke", [2, 2 * 4, 1], None),
         ("find", [0], "refused 8"),                                           # a child cycle
         ("poke", [2, 2 * 4, INVERSE], None), ("poke", [1, 12 + 1, 0], None), ("find", [0], "=5"),
-        ("reset", [], "done"), ("find", [0], "refused 3"), ("nil", [], "=0"),
+        ("open_names", [NODES, CHILDREN], "done"), ("reset", [], "done"), ("find", [0], "refused 3"), ("nil", [], "=0"),
     ]
 
 
@@ -194,8 +196,8 @@ def importing():
     enough = [1, 1, INVERSE]
     many = [3] * 256
     return [
-        ("lend", [8, NODES * 12, CHILDREN * 4], None),
-        ("open", [4, 3], "done"),
+        LEND,
+        ("open", [4, 3], "done"), ("open_names", [4, 3], "done"),
         ("import", [1, 1, 1, 3, 0], "refused 3"),
         ("new_vars", [7, 2, 2], "types 0 1"),
         ("import", [1, 0, 1, 5], "refused 3"),
@@ -244,6 +246,46 @@ def exporting():
     ]
 
 
+def naming():
+    """A names buffer: 1 at its opening; 12 and 13; 8 of the buffer, whichever name is asked for."""
+    a, b, c, ninth = [97], [98], [99], [105]
+    place = 2 + 256
+    rows = [
+        LEND, ("open", [NODES, CHILDREN], "done"), ("new_var", [5], "=0"),
+        ("open_names", [4097, 0], "refused 1"), ("open_names", [0, 16385], "refused 1"),
+        ("open_names", [NODES, CHILDREN + 1], "refused 1"),              # too short for it
+        ("open_names", [NODES - 1, CHILDREN], "done"), ("name_state", a, "refused 8"),  # other capacities
+        ("open_names", [NODES, CHILDREN - 1], "done"), ("reset", [], "refused 8"),
+        ("open_names", [NODES, CHILDREN], "done"),
+        ("return_to", a, "refused 12"), ("drop_name", a, "refused 12"),
+        ("name_state", [], "refused 12"), ("name_state", [97] * 256, "refused 12"), ("name_state", [97] * 255, "done"),
+        ("return_to", [97] * 254, "refused 12"), ("return_to", [97] * 256, "refused 12"), ("drop_name", [], "refused 12"),
+        ("drop_name", [97] * 255, "done"),
+        ("name_state", a, "done"),
+        ("new", kind(NEVER), "=1"), ("unify", [0, 1], "Success"), ("find", [0], "=1"),
+        ("return_to", a, "done"), ("find", [0], "=0"), ("find", [1], "refused 3"),
+        ("force_kind", [0], "known 14 0 0 0 reported 5"), ("return_to", a, "done"),  # the report stays
+    ]
+    rows += [("name_state", [name], "done") for name in range(98, 105)]
+    rows += [
+        ("name_state", ninth, "refused 13"), ("name_state", [97, 97], "refused 13"), ("name_state", [], "refused 12"),
+        ("new_var", [6], "=1"), ("name_state", b, "done"),                # held, with eight held
+        ("return_to", a, "done"), ("find", [1], "refused 3"), ("return_to", b, "done"), ("find", [1], "=1"),
+        ("drop_name", c, "done"), ("return_to", c, "refused 12"), ("drop_name", c, "refused 12"),
+        ("name_state", ninth, "done"), ("name_state", c, "refused 13"),
+    ]
+    # a capacity, a name's length, a byte, an unused byte, another's name, a count, a held state's tag
+    for word, bad, good in [(0, 7, NODES), (1, 0, CHILDREN), (2, 256, 1), (3, 256, 97), (4, 1, 0), (3, 98, 97),
+                            (place, 2, 1), (place + 8, 9, 1)]:
+        rows += [("poke", [3, word, bad], None), ("return_to", b, "refused 8"), ("name_state", [], "refused 8"),
+                 ("poke", [3, word, good], None)]
+    return rows + [
+        ("lend", [8, NODES * 12, CHILDREN * 4, NAMES - 1], None), ("drop_name", b, "refused 8"), ("reset", [], "refused 8"),
+        LEND, ("return_to", a, "done"), ("reset", [], "done"),
+        ("return_to", a, "refused 12"), ("name_state", ninth, "done"), ("new_var", [8], "=0"),
+    ]
+
+
 def place(n):
     return [n["text"], n["start"], n["len"]]
 
@@ -262,4 +304,6 @@ def refused(chart):
     two = said_and_wrote(9998, source() + importing() + exporting(),
                          "nodes 4 of 4, children 3 of 3, error none, nil none, reports 0\n  root 1 unknown 7\n  root 1 unknown 7\n"
                          f"  root 1 known 1 0 0 0 0 ~0 3\n  root 1 unknown {NONE}\n")
-    return one[0] + two[0], one[1] + two[1]
+    three = said_and_wrote(9997, naming(),
+                           "nodes 1 of 6, children 0 of 6, error none, nil none, reports 1\n  root 1 unknown 8\n")
+    return one[0] + two[0] + three[0], one[1] + two[1] + three[1]

@@ -12,11 +12,19 @@ LIST = 255                  # room for an answer's list
 OPS = {"rule": 0, "text": 1, "chart": 2, "beside": 3, "lend": 4, "poke": 5,
        "flip": 6, "case": 7, "words": 8, "swap": 9, "open": 10, "reset": 11, "new": 12,
        "new_struct": 13, "new_union": 14, "new_var": 15, "new_vars": 16, "error": 17, "nil": 18, "force_kind": 19,
-       "finish_inference": 20, "finish_inference_where": 21, "find": 30, "find_mut": 31, "node": 32, "child": 33,
+       "finish_inference": 20, "finish_inference_where": 21, "open_names": 22, "name_state": 23, "return_to": 24, "drop_name": 25, "find": 30, "find_mut": 31, "node": 32, "child": 33,
        "child_name": 34, "figures": 35, "is_nil": 36, "self_inverse_plain": 37, "self_inverse": 38, "get_mod": 39, "find_related": 40, "store": 41, "unify": 50, "unify_types": 51,
        "unify_objects": 52, "unify_fn_sig": 53, "unify_impl_type": 54, "approx_eq": 55, "import": 60, "export": 61, "flip_source": 62,
        "show": 70, "show_impl_type": 71, "show_part": 72, "show_impl_type_part": 73}
 HEAD_WORDS = 8
+
+
+def names_words(nodes, children):
+    """How long a names buffer is: two capacities, eight places, each a name, a header and a state's words."""
+    return 2 + 8 * (256 + HEAD_WORDS + 12 * nodes + 4 * children)
+
+
+NAMES = names_words(NODES, CHILDREN)
 NODE_ROOM, CHILD_ROOM = 2, 3  # the header's words for the capacities
 ERROR_KIND = "14 0 0 0"
 
@@ -209,12 +217,14 @@ def chart(c):
                [r["sort"], *place(r["name"]), *place(r["path"]), r["def"], r["flag"], r["trait"]]]
     sigils = [n for s in c["sigils"] for n in place(s)]
     return (line("rule", *c["texts"][0]) + line("text", *c["texts"][1]) + line("chart", *records)
-            + line("beside", c["fn_trait"], *sigils) + (line("lend", HEAD_WORDS, NODES * 12, CHILDREN * 4) + line("swap")) * 2)
+            + line("beside", c["fn_trait"], *sigils) + (line("lend", HEAD_WORDS, NODES * 12, CHILDREN * 4, NAMES) + line("swap")) * 2)
 
 
 def run(number, part, source):
     """One store's calls, and what they write; `source` is what imports read, as it is in the end."""
     said, wrote, made = line("case", number) + line("open", NODES, CHILDREN), f"case {number}\ndone\n", Made()
+    if any(call["call"] == "reset" for call in part["calls"]):
+        said, wrote = said + line("open_names", NODES, CHILDREN), wrote + "done\n"
     for call in part["calls"]:
         if call["call"] in ("show", "show_impl_type"):
             more = printed(call)

@@ -87,7 +87,6 @@ CALLS = {
     "show_impl_type": lambda a, s: f"later (showImplType {impl(a['impl'])} {BUFFER})",
     "import": lambda a, s: f"import (reads {s}) {tys(a['types'])} {option(a['params'], tys)} {LIST}",
     "export": lambda a, s: f"read (export {ROOM} true {tys(a['types'])} {LIST})",
-    "reset": lambda a, s: "reset",
 }
 
 

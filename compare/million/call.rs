@@ -97,6 +97,10 @@ pub enum Call<T> {
   SetRoom([u32; 2]),
   /// Its words, taken out and adopted again.
   Adopt,
+  /// The present state, held under a name; the state that is held under one, put back; a name, dropped.
+  NameState(Vec<u8>),
+  ReturnTo(Vec<u8>),
+  DropName(Vec<u8>),
 }
 
 /// A call on one of the stores.
@@ -175,6 +179,9 @@ impl<T: Copy> Op<T> {
       Call::Export(to, ts, room) => Call::Export(*to, all(ts, &f)?, *room),
       Call::SetRoom(room) => Call::SetRoom(*room),
       Call::Adopt => Call::Adopt,
+      Call::NameState(name) => Call::NameState(name.clone()),
+      Call::ReturnTo(name) => Call::ReturnTo(name.clone()),
+      Call::DropName(name) => Call::DropName(name.clone()),
     };
     Some(Op { store, call })
   }
@@ -212,6 +219,9 @@ impl<T: Copy> Op<T> {
       Call::Export(..) => "export",
       Call::SetRoom(_) => "set_room",
       Call::Adopt => "adopt",
+      Call::NameState(_) => "name",
+      Call::ReturnTo(_) => "return_to",
+      Call::DropName(_) => "drop_name",
     }
   }
 }

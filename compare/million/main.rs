@@ -4,6 +4,7 @@ mod answer;
 mod call;
 mod limits;
 mod make;
+mod names;
 mod ours;
 mod random;
 mod rules;
@@ -92,7 +93,7 @@ fn lists() {
     return count.report();
   }
   limits::run();
-  if let Err(what) = words::run(seed, stores) {
+  if let Err(what) = words::run(seed, stores).and_then(|()| names::run(seed, stores)) {
     println!("{what}");
     exit(1);
   }

@@ -28,6 +28,8 @@ struct Maker<'a> {
   random: &'a mut Random,
   world: &'a World,
   size: Size,
+  /// Naming, returning and dropping among all calls: one in so many.
+  naming: usize,
 }
 
 /// A list; with `small` a short one, on small stores.
@@ -38,7 +40,8 @@ pub fn list(random: &mut Random, world: &World, small: bool) -> List {
     1..6 => Size::Medium,
     _ => Size::Small,
   };
-  let mut maker = Maker { random, world, size };
+  let naming = if random.once_in(6) { 4 } else { 40 };
+  let mut maker = Maker { random, world, size, naming };
   let rooms = [(); STORES].map(|()| maker.room());
   let count = match size {
     Size::Small => maker.random.between(20, 160),
@@ -61,7 +64,7 @@ pub fn list(random: &mut Random, world: &World, small: bool) -> List {
 
 /// A call of a short list.
 pub fn one(random: &mut Random, world: &World) -> Op<Arg> {
-  Maker { random, world, size: Size::Small }.op()
+  Maker { random, world, size: Size::Small, naming: usize::MAX }.op()
 }
 
 impl Maker<'_> {
@@ -318,7 +321,32 @@ impl Maker<'_> {
     Call::Import(other, types, params)
   }
 
+  /// One of ten names: short ones, two of the longest length, some that begin alike. Seldom one of a wrong length.
+  fn state(&mut self) -> Vec<u8> {
+    if self.random.once_in(40) {
+      return vec![7; self.random.pick(&[0, 256, 300])];
+    }
+    match self.random.below(10) {
+      0 => vec![7; 255],
+      1 => [vec![7; 254], vec![8]].concat(),
+      2 => vec![7; 254],
+      i => b"aaaabcde"[..i - 2].iter().rev().copied().collect(),
+    }
+  }
+
+  fn names(&mut self) -> Call<Arg> {
+    let name = self.state();
+    match self.random.below(10) {
+      0..5 => Call::NameState(name),
+      5..9 => Call::ReturnTo(name),
+      _ => Call::DropName(name),
+    }
+  }
+
   fn call(&mut self) -> Call<Arg> {
+    if self.random.once_in(self.naming) {
+      return self.names();
+    }
     match self.random.below(1000) {
       0..440 => self.makes(),
       440..700 => self.unifies(),

@@ -155,6 +155,9 @@ impl Ours<'_> {
         both_forms(&text, |buf| types.show_impl_type_into(&a, buf).map(|part| part.len()));
         Ok(Answer::Text(text))
       }
+      Call::NameState(name) => types.name(name).map(|()| Answer::Done),
+      Call::ReturnTo(name) => types.return_to(name).map(|()| Answer::Done),
+      Call::DropName(name) => types.drop_name(name).map(|()| Answer::Done),
       Call::SetRoom([nodes, children]) => types.set_room(*nodes, *children).map(|()| Answer::Done),
       Call::Import(..) | Call::Export(..) | Call::Adopt => unreachable!(),
     }

@@ -1,4 +1,5 @@
-//! Which refusal document 01 gives a call, by rules of its own: on the Rust's store and the room that was chosen.
+//! Which refusal documents 01 and 02 give a call, by rules of its own: on the Rust's store, the room that was chosen and
+//! the names that are held.
 
 use std::collections::HashSet;
 
@@ -87,7 +88,8 @@ fn impls(world: &World, n: u32, all: &[&Impl<Ty>]) -> Option<u32> {
 /// What the call is refused with, if it is.
 pub fn refusal(world: &World, vine: &Vine<'_>, books: &[Book], op: &Op<Ty>) -> Option<u32> {
   let n = vine.nodes(op.store);
-  let Book { room: [node_room, child_room], children } = books[op.store];
+  let Book { room: [node_room, child_room], children, held } = &books[op.store];
+  let (node_room, child_room, children) = (*node_room, *child_room, *children);
   let outside = |ts: &[Ty]| ts.iter().any(|t| t.node >= n);
   let full = |more: usize| n as usize + more > node_room as usize;
   let filled = |more: usize| children as usize + more > child_room as usize;
@@ -157,8 +159,15 @@ pub fn refusal(world: &World, vine: &Vine<'_>, books: &[Book], op: &Op<Ty>) -> O
       first([(needs.nodes > *nodes, 10), (needs.children > *children, 11)])
     }
     Call::SetRoom([nodes, more]) => {
-      first([(*nodes > 4096 || *more > 16384, 1), (n > *nodes, 10), (children > *more, 11)])
+      let most_nodes = held.values().map(|state| state[0]).fold(n, u32::max);
+      let most_children = held.values().map(|state| state[1]).fold(children, u32::max);
+      first([(*nodes > 4096 || *more > 16384, 1), (most_nodes > *nodes, 10), (most_children > *more, 11)])
     }
+    // "An unheld name, or one of a wrong length, is refused with 12 and a ninth with 13", "12 first"
+    Call::NameState(name) => {
+      first([(!(1..=MAX).contains(&name.len()), 12), (!held.contains_key(name) && held.len() == 8, 13)])
+    }
+    Call::ReturnTo(name) | Call::DropName(name) => first([(!held.contains_key(name), 12)]),
     Call::FinishInference | Call::FinishInferenceWhere(_) | Call::Reset | Call::Adopt => None,
   }
 }

@@ -18,11 +18,13 @@ use crate::{
   world::World,
 };
 
-/// What only ours has: the room, and the children that were made.
-#[derive(Clone, Copy)]
+/// What only ours has: the room, and the children that were made; and by its name how many nodes and children a held state
+/// has.
+#[derive(Clone, Default)]
 pub struct Book {
   pub room: [u32; 2],
   pub children: u32,
+  pub held: BTreeMap<Vec<u8>, [u32; 2]>,
 }
 
 /// Types whose trees have more nodes than this, each counted as often as it is met, are left alone: the Rust would go
@@ -37,6 +39,7 @@ pub struct Count {
   pub too_large: u64,
   pub nodes: u64,
   pub most_nodes: u32,
+  pub states: u64,
   pub answers: BTreeMap<(&'static str, String), u64>,
   pub kinds: [u64; 15],
 }
@@ -113,7 +116,7 @@ impl<'w> Run<'w> {
       world,
       ours: Ours { world, stores: rooms.iter().map(open).collect() },
       vine: Vine { world, stores: (0..STORES).map(|_| vine::Store::default()).collect() },
-      books: rooms.map(|room| Book { room, children: 0 }),
+      books: rooms.map(|room| Book { room, ..Book::default() }),
       said: Vec::new(),
     }
   }
@@ -150,7 +153,7 @@ impl<'w> Run<'w> {
       return Err(format!("01 says refused {number}, ours says {answer:?}"));
     }
     for (was, is) in before.into_iter().zip(&self.ours.stores) {
-      if was.into_words() != is.clone().into_words() {
+      if was.names() != is.names() || was.into_words() != is.clone().into_words() {
         return Err(format!("refused {number}, and the store changed"));
       }
     }
@@ -159,13 +162,25 @@ impl<'w> Run<'w> {
 
   /// The room and the children after a call.
   fn note(&mut self, op: &Op<Ty>, needs: rules::Needs) {
+    let nodes = self.vine.nodes(op.store);
     let book = &mut self.books[op.store];
     match &op.call {
       Call::New(k) => book.children += k.kids.len() as u32,
       Call::NewStruct(_, ts) | Call::NewUnion(_, ts) => book.children += ts.len() as u32,
       Call::Import(..) => book.children += needs.children,
-      Call::Export(to, _, room) => self.books[*to] = Book { room: *room, children: needs.children },
-      Call::Reset => book.children = 0,
+      Call::Export(to, _, room) => self.books[*to] = Book { room: *room, children: needs.children, ..Book::default() },
+      Call::Reset => {
+        book.children = 0;
+        book.held.clear();
+      }
+      Call::Adopt => book.held.clear(),
+      Call::NameState(name) => {
+        book.held.insert(name.clone(), [nodes, book.children]);
+      }
+      Call::ReturnTo(name) => book.children = book.held[name][1],
+      Call::DropName(name) => {
+        book.held.remove(name);
+      }
       Call::SetRoom(room) => book.room = *room,
       _ => {}
     }
@@ -210,6 +225,18 @@ impl<'w> Run<'w> {
     Ok(())
   }
 
+  /// Every node of every state that is held, by returning to each.
+  fn states(&mut self, count: &mut Count) -> Result<(), String> {
+    for store in 0..STORES {
+      for name in self.books[store].held.keys().cloned().collect::<Vec<_>>() {
+        count.states += 1;
+        self.call(&Op { store, call: Call::ReturnTo(name) }, count)?;
+        self.stores(count)?;
+      }
+    }
+    Ok(())
+  }
+
   /// Every node of every store, and what only ours has.
   fn stores(&self, count: &mut Count) -> Result<(), String> {
     for at in 0..STORES {
@@ -224,7 +251,12 @@ impl<'w> Run<'w> {
         });
       }
       let figures = self.ours.stores[at].figures();
-      let Book { room: [node_room, child_room], children } = self.books[at];
+      let Book { room: [node_room, child_room], children, ref held } = self.books[at];
+      let mut names = self.ours.stores[at].names();
+      names.sort();
+      if !names.iter().eq(held.keys()) {
+        return Err(format!("store {at} holds {names:?}, expected {:?}", held.keys()));
+      }
       if [figures.node_room, figures.child_room, figures.children] != [node_room, child_room, children] {
         return Err(format!(
           "store {at}: {figures:?}, expected room {node_room}, {child_room} and {children} children"
@@ -245,7 +277,7 @@ pub fn run(world: &World, list: &List, count: &mut Count) -> Result<(), Differen
       return Err(Difference { done: run.said, what });
     }
   }
-  let result = catch_unwind(AssertUnwindSafe(|| run.stores(count)));
+  let result = catch_unwind(AssertUnwindSafe(|| run.stores(count).and_then(|()| run.states(count))));
   let result = result.unwrap_or_else(|panic| Err(format!("panicked: {}", words(panic))));
   result.map_err(|what| Difference { done: run.said, what })
 }
@@ -283,6 +315,7 @@ impl Count {
       "{} calls answered alike, {} refused as 01 says; {} nodes compared, stores of up to {} nodes",
       self.calls, self.refused, self.nodes, self.most_nodes
     );
+    println!("{} named states compared at the lists' ends, every node", self.states);
     println!("left out: {} that named no node, {} on types too large for the Rust", self.skipped, self.too_large);
     let mut calls: BTreeMap<&str, Vec<String>> = BTreeMap::new();
     for ((call, answer), n) in &self.answers {

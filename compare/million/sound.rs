@@ -1,6 +1,8 @@
 //! Document 01's refusals 2 and 8, read out of its text once more: what a chart and a store's words must be. It looks at
 //! numbers alone and shares nothing with the library.
 
+use std::collections::HashSet;
+
 use faroalder::lent::Rules;
 
 const NODE: usize = 12;
@@ -275,6 +277,47 @@ pub fn good_store(rules: &Rules, h: &[u32], ws: &[u32], ks: &[u32]) -> bool {
 }
 
 /// 2, 8 or 0.
+/// Words of a names buffer: two capacities, eight places, each a name's length, 255 bytes, a state's header and words.
+const NAME: usize = 256;
+const HEADER: usize = 8;
+
+/// A held place: a name of 1 to 255 bytes, "unused name words" zero, and a sound state, whose capacities are its counts.
+fn good_place(rules: &Rules, place: &[u32], nodes: usize) -> bool {
+  let (name, state) = place.split_at(NAME);
+  let (h, words) = state.split_at(HEADER);
+  let (ws, ks) = words.split_at(NODE * nodes);
+  let len = name[0] as usize;
+  len < NAME
+    && name[1..=len].iter().all(|&byte| byte < 256)
+    && name[len + 1..].iter().all(|&word| word == 0)
+    && [h[0], h[1]] == [h[2], h[3]]
+    && good_store(rules, h, ws, ks)
+}
+
+/// "unsound, too short or made for other capacities" where this is false, of a sound store with this header.
+fn good_names(rules: &Rules, h: &[u32], bs: &[u32]) -> bool {
+  if bs.len() < 2 || bs[..2] != h[2..4] {
+    return false;
+  }
+  let [nodes, children] = [bs[0] as usize, bs[1] as usize];
+  let size = NAME + HEADER + NODE * nodes + CHILD * children;
+  if bs.len() < 2 + 8 * size {
+    return false;
+  }
+  // "All held places are tested": a free one's other words are no part of it.
+  let held: Vec<&[u32]> = bs[2..].chunks_exact(size).take(8).filter(|place| place[0] != 0).collect();
+  let names: HashSet<&[u32]> = held.iter().map(|place| &place[..NAME]).collect();
+  names.len() == held.len() && held.iter().all(|place| good_place(rules, place, nodes))
+}
+
+/// 2, then 8 of the store or of its names buffer.
+pub fn names_refusal(rules: &Rules, h: &[u32], ws: &[u32], ks: &[u32], bs: &[u32]) -> u32 {
+  match refusal(rules, h, ws, ks) {
+    0 if !good_names(rules, h, bs) => 8,
+    number => number,
+  }
+}
+
 pub fn refusal(rules: &Rules, h: &[u32], ws: &[u32], ks: &[u32]) -> u32 {
   if !good_chart(rules) {
     2

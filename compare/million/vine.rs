@@ -22,6 +22,8 @@ use crate::{
 pub struct Store {
   pub types: Types,
   pub diags: Diags,
+  /// States by their names: clones, put back by cloning. The Rust has nothing for it.
+  pub held: BTreeMap<Vec<u8>, Types>,
 }
 
 pub struct Vine<'w> {
@@ -74,12 +76,12 @@ impl Vine<'_> {
       Call::Export(to, ts, _) => {
         let ts = tys(ts);
         let made = self.stores[at].types.export(|t: &mut TypeTransfer<'_>| t.transfer(&ts));
-        self.stores[*to] = Store { types: made.types, diags: Diags::default() };
+        self.stores[*to] = Store { types: made.types, ..Store::default() };
         return listed(&made.inner);
       }
       _ => {}
     }
-    let Store { types, diags } = &mut self.stores[at];
+    let Store { types, diags, held } = &mut self.stores[at];
     match call {
       Call::New(kind) => Answer::Type(seen(types.new(type_kind(world, kind)))),
       Call::NewVar(span) => Answer::Type(seen(types.new_var(Span(*span)))),
@@ -118,6 +120,7 @@ impl Vine<'_> {
       }
       Call::Reset => {
         types.reset();
+        held.clear();
         Answer::Done
       }
       Call::Find(t) => Answer::Type(seen(view::find(types, ty(*t)))),
@@ -141,8 +144,24 @@ impl Vine<'_> {
       }
       Call::Show(t) => Answer::Text(types.show(&world.vine, ty(*t)).into_bytes()),
       Call::ShowImplType(a) => Answer::Text(types.show_impl_type(&world.vine, &impl_type(world, a)).into_bytes()),
-      // The Rust has no room and no words: nothing happens.
-      Call::SetRoom(_) | Call::Adopt => Answer::Done,
+      // The Rust has no room and no words: nothing happens, but that words go without names.
+      Call::SetRoom(_) => Answer::Done,
+      Call::Adopt => {
+        held.clear();
+        Answer::Done
+      }
+      Call::NameState(name) => {
+        held.insert(name.clone(), types.clone());
+        Answer::Done
+      }
+      Call::ReturnTo(name) => {
+        *types = held[name].clone();
+        Answer::Done
+      }
+      Call::DropName(name) => {
+        held.remove(name);
+        Answer::Done
+      }
       Call::Import(..) | Call::Export(..) => unreachable!(),
     }
   }
@@ -152,7 +171,7 @@ impl Vine<'_> {
   }
 
   pub fn whole(&self, at: usize) -> Whole {
-    let Store { types, diags } = &self.stores[at];
+    let Store { types, diags, .. } = &self.stores[at];
     let (error, nil) = view::remembered(types);
     let nodes = view::nodes(types).map(|node| match node {
       view::Seen::Child(parent) => Node::Child(seen(parent)),

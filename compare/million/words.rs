@@ -41,7 +41,7 @@ fn store(random: &mut Random, world: &World) -> Words {
 }
 
 /// What a word becomes.
-fn values(random: &mut Random, was: u32, among: &[u32]) -> Vec<u32> {
+pub fn values(random: &mut Random, was: u32, among: &[u32]) -> Vec<u32> {
   let mut values = vec![
     was ^ 1,
     was.wrapping_add(1),
@@ -68,6 +68,9 @@ fn refused(answer: u64) -> u32 {
   if answer < REFUSED { 0 } else { (answer - REFUSED) as u32 }
 }
 
+/// How many of the calls.
+const CALLS: usize = 17;
+
 /// One of the calls: each must give the same number, and write nothing.
 fn called(rules: &Rules, words: &mut Words, which: usize) -> u32 {
   let Words { h, ws, ks } = words;
@@ -77,7 +80,7 @@ fn called(rules: &Rules, words: &mut Words, which: usize) -> u32 {
     assert!(free, "a refused call wrote its answer");
     refused(answer)
   };
-  match which % 16 {
+  match which % CALLS {
     0 => refused(lent.new_var(1)),
     1 => refused(lent.new_kind([1, 0, 0, 0, 0, 0], &[])),
     2 => refused(lent.error()),
@@ -99,7 +102,8 @@ fn called(rules: &Rules, words: &mut Words, which: usize) -> u32 {
       unwritten(answer, out == [0; 12])
     }
     11 => refused(lent.finish_inference()),
-    12 => refused(lent.reset()),
+    12 => refused(lent.reset(&mut [])),
+    15 => refused(lent.return_to(&[], b"a")),
     13 => {
       let answer = lent.show(9999, &mut buf);
       unwritten(answer, buf == [b'.'; 8])
@@ -133,7 +137,7 @@ fn check(rules: &Rules, words: &mut Words, which: usize) -> Result<bool, String>
   if says != 0 {
     let answer = called(rules, words, which);
     if answer != says {
-      return Err(format!("01 says {says}, call {} says {answer}", which % 16));
+      return Err(format!("01 says {says}, call {} says {answer}", which % CALLS));
     }
   }
   let wants = if says == 8 { 9 } else { says };

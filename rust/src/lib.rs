@@ -6,6 +6,7 @@
 //!   [`unify`](Types::unify), [`find_mut`](Types::find_mut), [`force_kind`](Types::force_kind), [`import`](Types::import),
 //!   [`export`](Types::export), [`show`](Types::show) and the others.
 //! - What can't be done is refused, with [`Refusal`], and changes nothing. Nothing panics, whatever numbers come in.
+//! - A state can be named and returned to: [`name`](Types::name), [`return_to`](Types::return_to).
 //! - [`lent`] has the calls that test everything, over words that the caller lends.
 //!
 //! ```
@@ -71,7 +72,9 @@ pub use types::{MAX_SHOWN, Types};
 /// assert_eq!(lent.find(5), REFUSED + 3);
 /// ```
 pub mod lent {
-  pub use crate::raw::{Lent, OUT, RECORD_WORDS, REFUSED, Record, Rules, load};
+  pub use crate::raw::{
+    Lent, OUT, RECORD_WORDS, REFUSED, Record, Rules, load, names_words, open_names,
+  };
 }
 
 /// How many nodes a store can have.
@@ -82,3 +85,9 @@ pub const MAX_CHILDREN: u32 = 16_384;
 
 /// How many children a kind can have, and how many types a list.
 pub const MAX_WIDTH: usize = 255;
+
+/// How many states a store can hold under names.
+pub const MAX_STATES: usize = 8;
+
+/// How many bytes such a name can have.
+pub const MAX_STATE_NAME: usize = 255;

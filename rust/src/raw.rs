@@ -4,7 +4,7 @@
 //! be lent to it: [`Lent`] has it. The second, which [`Store`] has, tests its arguments alone and asks for a chart and a
 //! store that passed the tests and that only the library's calls have written since. `Store` keeps that promise by
 //! keeping its words to itself: they come from an opening or passed the test, and nothing outside this module reaches
-//! them.
+//! them. The same goes for its names buffer, which is opened here for the store's capacities.
 //!
 //! What is asked of every pointer, in both families: it is aligned, points to as many numbers as its length says, and
 //! nothing that is written overlaps anything else that is lent. Each pointer here is a slice's, and what is written is
@@ -37,6 +37,9 @@ pub mod code {
 /// An answer from here on is a refusal: this and its number.
 pub const REFUSED: u64 = 1 << 32;
 
+/// The refusal of a name that isn't held.
+const UNHELD: u64 = 12;
+
 /// No fn trait, no remembered type, an impl type that is an error.
 pub const NONE: u32 = u32::MAX;
 
@@ -49,6 +52,11 @@ pub const OUT: usize = 12;
 /// Where a store's header has the nodes and children that are made, and the room for them.
 const COUNTS: std::ops::Range<usize> = 0..2;
 const ROOM: std::ops::Range<usize> = 2..4;
+
+/// A names buffer: two capacities, then eight places, each a name's length, a word for each byte, and a state's words.
+const NAMES_HEAD: usize = 2;
+const PLACES: usize = 8;
+const NAME_WORDS: usize = 256;
 
 /// A chart's record in plain numbers, any at all; a name is a text, a start and a length.
 #[derive(Debug, Clone, Copy, PartialEq, Eq)]
@@ -76,8 +84,10 @@ unsafe extern "C" {
   safe fn faroalder_header_words() -> N;
   safe fn faroalder_node_words(nodes: u32) -> N;
   safe fn faroalder_child_words(children: u32) -> N;
+  safe fn faroalder_names_words(nodes: u32, children: u32) -> N;
   fn faroalder_load(records: *const Record, len: N, words: M, words_len: N) -> u32;
   fn faroalder_open(h: M, _: N, ws: M, _: N, ks: M, _: N, nodes: u32, children: u32) -> u64;
+  fn faroalder_open_names(bs: M, _: N, nodes: u32, children: u32) -> u64;
 }
 
 /// Declares a family. Every call takes the rules, the store and then what stands here.
@@ -118,7 +128,10 @@ macro_rules! calls {
       force_kind(t: u32, out: M);
       finish_inference();
       finish_inference_where(bytes: *const u8, bytes_len: N);
-      reset();
+      name_state(bs: M, bs_len: N, name: *const u8, name_len: N);
+      return_to(bs: P, bs_len: N, name: *const u8, name_len: N);
+      drop_name(bs: M, bs_len: N, name: *const u8, name_len: N);
+      reset(bs: M, bs_len: N);
       approx_eq(a: u32, x: P, x_len: N, b: u32, y: P, y_len: N);
       show(t: u32, buf: *mut u8, buf_len: N);
       show_impl_type(a: u32, x: P, x_len: N, buf: *mut u8, buf_len: N);
@@ -132,7 +145,7 @@ macro_rules! calls {
 
 mod first {
   calls! { "faroalder_" }
-  family! { "faroalder_", u32; refusal(); }
+  family! { "faroalder_", u32; refusal(); names_refusal(bs: P, bs_len: N); }
   family! { "faroalder_", u64;
     unify(a: u32, b: u32);
     unify_types(a: P, a_len: N, b: P, b_len: N, inv: u32);
@@ -198,12 +211,23 @@ pub struct Words {
 
 /// A store that only the library's calls have written since it was opened or tested, with the rules that it was tested
 /// by.
-#[derive(Debug, Clone)]
+#[derive(Debug)]
 pub struct Store {
   rules: Tested,
   h: Vec<u32>,
   ws: Vec<u32>,
   ks: Vec<u32>,
+  /// Empty, or a names buffer for this store's room.
+  names: Vec<u32>,
+}
+
+impl Clone for Store {
+  fn clone(&self) -> Store {
+    let Store { rules, h, ws, ks, .. } = self;
+    let [nodes, children] = self.room();
+    let names = self.names_with_room(nodes, children);
+    Store { rules: rules.clone(), h: h.clone(), ws: ws.clone(), ks: ks.clone(), names }
+  }
 }
 
 /// A call that may write the store.
@@ -327,8 +351,23 @@ macro_rules! methods {
       change!(self, $family::finish_inference_where, bytes.as_ptr(), bytes.len())
     }
 
-    pub fn reset(&mut self) -> u64 {
-      change!(self, $family::reset)
+    fn name_state_in(&self, bs: &mut [u32], name: &[u8]) -> u64 {
+      let (words, n) = (bs.as_mut_ptr(), bs.len());
+      read!(self, $family::name_state, words, n, name.as_ptr(), name.len())
+    }
+
+    fn return_to_in(&mut self, bs: &[u32], name: &[u8]) -> u64 {
+      let (words, n) = (bs.as_ptr(), bs.len());
+      change!(self, $family::return_to, words, n, name.as_ptr(), name.len())
+    }
+
+    fn drop_name_in(&self, bs: &mut [u32], name: &[u8]) -> u64 {
+      let (words, n) = (bs.as_mut_ptr(), bs.len());
+      read!(self, $family::drop_name, words, n, name.as_ptr(), name.len())
+    }
+
+    fn reset_in(&mut self, bs: &mut [u32]) -> u64 {
+      change!(self, $family::reset, bs.as_mut_ptr(), bs.len())
     }
 
     pub fn approx_eq(&self, (a, x): (u32, &[u32]), (b, y): (u32, &[u32])) -> u64 {
@@ -425,6 +464,27 @@ impl Lent<'_> {
     read!(self, first::refusal)
   }
 
+  /// The test alone, with that of a names buffer: 0, 2 or 8.
+  pub fn names_refusal(&self, bs: &[u32]) -> u32 {
+    read!(self, first::names_refusal, bs.as_ptr(), bs.len())
+  }
+
+  pub fn name_state(&self, bs: &mut [u32], name: &[u8]) -> u64 {
+    self.name_state_in(bs, name)
+  }
+
+  pub fn return_to(&mut self, bs: &[u32], name: &[u8]) -> u64 {
+    self.return_to_in(bs, name)
+  }
+
+  pub fn drop_name(&self, bs: &mut [u32], name: &[u8]) -> u64 {
+    self.drop_name_in(bs, name)
+  }
+
+  pub fn reset(&mut self, bs: &mut [u32]) -> u64 {
+    self.reset_in(bs)
+  }
+
   pub fn open(&mut self, nodes: u32, children: u32) -> u64 {
     open([place(self.h), place(self.ws), place(self.ks)], nodes, children)
   }
@@ -469,6 +529,57 @@ fn open(words: [Place; 3], nodes: u32, children: u32) -> u64 {
   let [(h, h_len), (ws, ws_len), (ks, ks_len)] = words.map(lent);
   // SAFETY: pointers and lengths of three slices, each borrowed alone. The call tests what is left.
   unsafe { faroalder_open(h, h_len, ws, ws_len, ks, ks_len, nodes, children) }
+}
+
+/// How many words a names buffer takes beside a store of this room.
+pub fn names_words(nodes: u32, children: u32) -> usize {
+  faroalder_names_words(nodes, children)
+}
+
+/// Makes any words a names buffer without a name, for a store of this room.
+pub fn open_names(bs: &mut [u32], nodes: u32, children: u32) -> u64 {
+  // SAFETY: the pointer and length of a slice that is borrowed alone. The call tests what is left.
+  unsafe { faroalder_open_names(bs.as_mut_ptr(), bs.len(), nodes, children) }
+}
+
+/// A names buffer without a name, for a room within the limits. Its words are 0 as the system gives them, so that memory
+/// is taken up only where a state is held.
+fn fresh_names(nodes: u32, children: u32) -> Vec<u32> {
+  let mut names = vec![0; names_words(nodes, children)];
+  let answer = open_names(&mut names, nodes, children);
+  assert!(answer == 0, "a room within the limits");
+  names
+}
+
+/// The held places of a names buffer, one after another; none where there is no buffer.
+fn held(bs: &[u32]) -> impl Iterator<Item = Held<'_>> {
+  let size = bs.len().saturating_sub(NAMES_HEAD) / PLACES;
+  let places = bs.get(NAMES_HEAD..).unwrap_or(&[]).chunks_exact(size.max(1)).take(PLACES);
+  places.filter(|place| place[0] != 0).map(|place| {
+    let (name, state) = place.split_at(NAME_WORDS);
+    let (h, rest) = state.split_at(faroalder_header_words());
+    Held { name, h, rest }
+  })
+}
+
+/// A held place: a name's length and bytes, a state's header, and its nodes and children.
+struct Held<'a> {
+  name: &'a [u32],
+  h: &'a [u32],
+  rest: &'a [u32],
+}
+
+impl Held<'_> {
+  fn bytes(&self) -> Vec<u8> {
+    self.name[1..].iter().take(self.name[0] as usize).map(|byte| *byte as u8).collect()
+  }
+
+  /// The state's nodes' and children's words, as many as are in use; the place is one of a buffer for so many nodes.
+  fn used(&self, nodes: u32) -> [&[u32]; 2] {
+    let (ws, ks) = self.rest.split_at(faroalder_node_words(nodes));
+    let [n, c] = [self.h[COUNTS.start], self.h[COUNTS.start + 1]];
+    [&ws[..faroalder_node_words(n)], &ks[..faroalder_child_words(c)]]
+  }
 }
 
 /// Writes the words of a chart with these records to the front of `words`: 0, or 7 where there is too little room.
@@ -637,7 +748,71 @@ impl Store {
   }
 
   fn of(rules: &Tested, Words { h, ws, ks }: Words) -> Store {
-    Store { rules: rules.clone(), h, ws, ks }
+    Store { rules: rules.clone(), h, ws, ks, names: Vec::new() }
+  }
+
+  fn room(&self) -> [u32; 2] {
+    [self.h[ROOM.start], self.h[ROOM.start + 1]]
+  }
+
+  /// A call on the names buffer, which is made where there is none yet.
+  fn with_names<T>(&mut self, call: impl FnOnce(&mut Store, &mut Vec<u32>) -> T) -> T {
+    let mut names = std::mem::take(&mut self.names);
+    if names.is_empty() {
+      let [nodes, children] = self.room();
+      names = fresh_names(nodes, children);
+    }
+    let answer = call(self, &mut names);
+    self.names = names;
+    answer
+  }
+
+  pub fn name_state(&mut self, name: &[u8]) -> u64 {
+    self.with_names(|store, names| store.name_state_in(names, name))
+  }
+
+  pub fn return_to(&mut self, name: &[u8]) -> u64 {
+    if self.names.is_empty() {
+      return REFUSED + UNHELD;
+    }
+    self.with_names(|store, names| store.return_to_in(names, name))
+  }
+
+  pub fn drop_name(&mut self, name: &[u8]) -> u64 {
+    if self.names.is_empty() {
+      return REFUSED + UNHELD;
+    }
+    self.with_names(|store, names| store.drop_name_in(names, name))
+  }
+
+  pub fn reset(&mut self) -> u64 {
+    self.with_names(|store, names| store.reset_in(names))
+  }
+
+  /// The held names, by place.
+  pub fn names(&self) -> Vec<Vec<u8>> {
+    held(&self.names).map(|place| place.bytes()).collect()
+  }
+
+  /// A names buffer for a room that is enough for every state that is held, with these; none where no name is held.
+  fn names_with_room(&self, nodes: u32, children: u32) -> Vec<u32> {
+    let mut names = Vec::new();
+    let [old, _] = self.room();
+    for (i, place) in held(&self.names).enumerate() {
+      if names.is_empty() {
+        names = fresh_names(nodes, children);
+      }
+      let size = (names.len() - NAMES_HEAD) / PLACES;
+      let new = &mut names[NAMES_HEAD + i * size..][..size];
+      let (name, state) = new.split_at_mut(NAME_WORDS);
+      let (h, rest) = state.split_at_mut(place.h.len());
+      let (ws, ks) = rest.split_at_mut(faroalder_node_words(nodes));
+      let [used_ws, used_ks] = place.used(old);
+      for (to, from) in [(name, place.name), (h, place.h), (ws, used_ws), (ks, used_ks)] {
+        to[..from.len()].copy_from_slice(from);
+      }
+    }
+    names
   }
 
   /// A store without a node: opened by the library, hence sound.
@@ -655,11 +830,13 @@ impl Store {
     Words { h: self.h, ws: self.ws, ks: self.ks }
   }
 
-  /// The same nodes and children with another room; 10 or 11 where it is too small for them. The new words are tested.
+  /// The same nodes and children with another room, and the same states held; 10 or 11 where it is too small for one of
+  /// them. The new words are tested.
   pub fn set_room(&mut self, nodes: u32, children: u32) -> Result<(), u32> {
     let mut words = Words::opened(nodes, children)?;
-    for (made, room, number) in [(self.h[0], nodes, 10), (self.h[1], children, 11)] {
-      if made > room {
+    let states = || held(&self.names).map(|place| place.h).chain([&self.h[..]]);
+    for (count, room, number) in [(COUNTS.start, nodes, 10), (COUNTS.start + 1, children, 11)] {
+      if states().any(|h| h[count] > room) {
         return Err(number);
       }
     }
@@ -671,7 +848,15 @@ impl Store {
     words.ws[..n].copy_from_slice(&self.ws[..n]);
     words.ks[..c].copy_from_slice(&self.ks[..c]);
     words.test(self.rules())?;
-    *self = Store::of(&self.rules, words);
+    let names = self.names_with_room(room[0], room[1]);
+    let [h, ws, ks] = words.parts();
+    if !names.is_empty() {
+      match (Lent { rules: self.rules(), h, ws, ks }).names_refusal(&names) {
+        0 => {}
+        number => return Err(number),
+      }
+    }
+    *self = Store { names, ..Store::of(&self.rules, words) };
     Ok(())
   }
 
@@ -688,7 +873,7 @@ impl Store {
     if Arc::ptr_eq(&self.rules.0, &source.rules.0) || self.rules() == source.rules() {
       return self.import_from(from, types, params, out);
     }
-    let Store { rules, h, ws, ks } = self;
+    let Store { rules, h, ws, ks, .. } = self;
     Lent { rules: &rules.0, h, ws, ks }.import(from, types, params, out)
   }
 

@@ -5,7 +5,7 @@ use std::{error::Error, fmt};
 /// Why a call was turned back. It then left everything as it was, except that a printer which ran out of room has
 /// filled its buffer with the text's first bytes.
 ///
-/// Where several reasons stand, the answer is the first of: 1, 2, 8, 9, 3, 4, 5, 6, 10, 11, 7.
+/// Where several reasons stand, the answer is the first of: 1, 2, 8, 9, 3, 4, 5, 12, 13, 6, 10, 11, 7.
 ///
 /// ```
 /// use faroalder::Refusal;
@@ -32,7 +32,7 @@ pub enum Refusal {
   NoEntry = 6,
   /// The answer's buffer is too short.
   Short = 7,
-  /// The store is unsound.
+  /// The store is unsound, or its names buffer is.
   Unsound = 8,
   /// An import's source is unsound.
   SourceUnsound = 9,
@@ -40,11 +40,15 @@ pub enum Refusal {
   NodesFull = 10,
   /// The children made and those needed exceed the capacity.
   ChildrenFull = 11,
+  /// No state is held under the name, or the name isn't 1 to 255 bytes long.
+  Unheld = 12,
+  /// Eight states are held under other names.
+  NoPlace = 13,
 }
 
 impl Refusal {
   /// All of them, in the order of their numbers.
-  pub const ALL: [Refusal; 11] = [
+  pub const ALL: [Refusal; 13] = [
     Refusal::Unopenable,
     Refusal::BadChart,
     Refusal::Outside,
@@ -56,9 +60,11 @@ impl Refusal {
     Refusal::SourceUnsound,
     Refusal::NodesFull,
     Refusal::ChildrenFull,
+    Refusal::Unheld,
+    Refusal::NoPlace,
   ];
 
-  /// Its number, 1 to 11.
+  /// Its number, 1 to 13.
   pub const fn number(self) -> u32 {
     self as u32
   }
@@ -78,10 +84,12 @@ impl Refusal {
       Refusal::Undefined => "a definition is absent or of another sort",
       Refusal::NoEntry => "an import reached a Param with no entry",
       Refusal::Short => "the answer's buffer is too short",
-      Refusal::Unsound => "the store is unsound",
+      Refusal::Unsound => "the store or its names buffer is unsound",
       Refusal::SourceUnsound => "the import's source is unsound",
       Refusal::NodesFull => "there is no room for more nodes",
       Refusal::ChildrenFull => "there is no room for more children",
+      Refusal::Unheld => "no state is held under the name, or it isn't 1 to 255 bytes long",
+      Refusal::NoPlace => "eight states are held under other names",
     }
   }
 }
@@ -99,12 +107,12 @@ mod tests {
   use super::*;
 
   #[test]
-  fn numbers_are_one_to_eleven() {
-    assert_eq!(Refusal::ALL.map(Refusal::number), [1, 2, 3, 4, 5, 6, 7, 8, 9, 10, 11]);
+  fn numbers_are_one_to_thirteen() {
+    assert_eq!(Refusal::ALL.map(Refusal::number), [1, 2, 3, 4, 5, 6, 7, 8, 9, 10, 11, 12, 13]);
     for refusal in Refusal::ALL {
       assert_eq!(Refusal::from_number(refusal.number()), Some(refusal));
       assert!(refusal.to_string().ends_with(refusal.text()));
     }
-    assert_eq!((Refusal::from_number(0), Refusal::from_number(12)), (None, None));
+    assert_eq!((Refusal::from_number(0), Refusal::from_number(14)), (None, None));
   }
 }

@@ -33,6 +33,9 @@ const INVERTED: usize = 2;
 /// call that needs more is refused with [`Refusal::NodesFull`] or [`Refusal::ChildrenFull`]. A call that is refused has
 /// changed nothing.
 ///
+/// States can be held under names and returned to: [`name`](Types::name), [`return_to`](Types::return_to),
+/// [`drop_name`](Types::drop_name). A clone holds the same states under the same names, as its own.
+///
 /// Some calls walk down a type and take stack as they go: up to 740 bytes a level, so 3 MB at the very worst, a chain
 /// of 4,096 nodes. A thread with less should keep its stores smaller. Where the stack ends the program ends, as
 /// elsewhere in Rust: the library's code touches every page of what it takes.
@@ -179,7 +182,8 @@ impl Types {
     Store::adopt(&chart.0, words).map(Types::of).map_err(refused)
   }
 
-  /// The store's words, for [`adopt`](Types::adopt) or for a program in another language.
+  /// The store's words, for [`adopt`](Types::adopt) or for a program in another language. States that are held under
+  /// names do not go along.
   pub fn into_words(self) -> Words {
     self.store.into_words()
   }
@@ -188,8 +192,9 @@ impl Types {
     Types { store, entries: Vec::new() }
   }
 
-  /// Room for more, or for less, with every node as it is: every type stays what it was. [`Refusal::Unopenable`] above
-  /// the limits; [`Refusal::NodesFull`] or [`Refusal::ChildrenFull`] if what is made needs more.
+  /// Room for more, or for less, with every node as it is: every type stays what it was, and every name holds the state
+  /// that it held. [`Refusal::Unopenable`] above the limits; [`Refusal::NodesFull`] or [`Refusal::ChildrenFull`] if what
+  /// is made, now or in a state that is held, needs more.
   ///
   /// ```
   /// use faroalder::{Chart, Refusal, Span, TypeKind, Types};
@@ -241,9 +246,53 @@ impl Types {
     self.len() == 0
   }
 
-  /// Forgets every node and child. The report count stays.
+  /// Forgets every node and child, and drops every name. The report count stays.
   pub fn reset(&mut self) {
     done(self.store.reset());
+  }
+}
+
+/// Named states to come back to. A store holds up to eight of its states, each under a name of 1 to 255 bytes. A state
+/// is held by copying what is in use of the store, so a small one is cheap; a store that names nothing pays nothing.
+impl Types {
+  /// Holds the present state under a name. Under a name that is held already the present state takes the place of the old
+  /// one. [`Refusal::Unheld`] if the name is empty or over 255 bytes long; [`Refusal::NoPlace`] if eight others are held.
+  ///
+  /// ```
+  /// use faroalder::{Chart, Refusal, Span, TypeKind, Types, UnifyResult};
+  ///
+  /// let mut types = Types::open(&Chart::empty("")?, 16, 16)?;
+  /// let a = types.new_var(Span(1))?;
+  /// let never = types.new(TypeKind::Never)?;
+  /// let nil = types.nil()?;
+  /// let x = types.new(TypeKind::Tuple(&[a, never]))?;
+  /// let y = types.new(TypeKind::Tuple(&[nil, nil]))?;
+  /// types.name("before")?;
+  /// assert_eq!(types.unify(x, y)?, UnifyResult::Failure);
+  /// assert_eq!(types.show(x)?, "((), !)");
+  /// types.return_to("before")?;
+  /// assert_eq!(types.show(x)?, "(?0, !)");
+  /// # Ok::<(), Refusal>(())
+  /// ```
+  pub fn name(&mut self, name: impl AsRef<[u8]>) -> Result<(), Refusal> {
+    value(self.store.name_state(name.as_ref())).map(drop)
+  }
+
+  /// Returns to the state that is held under a name: every node is what it was, and so are the remembered error and nil
+  /// types and how many nodes and children are made. A type made since is no longer in the store, and its number goes to
+  /// the next that is made. The report count does not go back. The name stays held. [`Refusal::Unheld`] if it isn't.
+  pub fn return_to(&mut self, name: impl AsRef<[u8]>) -> Result<(), Refusal> {
+    value(self.store.return_to(name.as_ref())).map(drop)
+  }
+
+  /// Drops a name and the state held under it. [`Refusal::Unheld`] if it isn't held.
+  pub fn drop_name(&mut self, name: impl AsRef<[u8]>) -> Result<(), Refusal> {
+    value(self.store.drop_name(name.as_ref())).map(drop)
+  }
+
+  /// The names that are held, in no order of meaning.
+  pub fn names(&self) -> Vec<Vec<u8>> {
+    self.store.names()
   }
 }
 

@@ -1,7 +1,7 @@
 //! Any words at all, of any lengths, to the calls that test everything: an answer or a refusal comes out, and a refusal
 //! has written nothing. What makes this worth running is a tool that watches memory.
 
-use faroalder::lent::{Lent, OUT, REFUSED, Rules};
+use faroalder::lent::{Lent, OUT, REFUSED, Rules, names_words, open_names};
 
 /// Random numbers from a seed.
 struct Random(u64);
@@ -47,11 +47,11 @@ fn rules(random: &mut Random) -> Rules {
 }
 
 /// Every call once, with random arguments. What it answers isn't looked at, only that a refusal writes nothing.
-fn every_call(random: &mut Random, rules: &Rules, words: [&mut [u32]; 3]) {
-  let [h, ws, ks] = words;
+fn every_call(random: &mut Random, rules: &Rules, words: [&mut [u32]; 4]) {
+  let [h, ws, ks, bs] = words;
   let mut lent = Lent { rules, h, ws, ks };
-  for call in 0..31 {
-    let before = [lent.h.to_vec(), lent.ws.to_vec(), lent.ks.to_vec()];
+  for call in 0..34 {
+    let before = [lent.h.to_vec(), lent.ws.to_vec(), lent.ks.to_vec(), bs.to_vec()];
     let (a, b) = (random.word(), random.word());
     let (xs, ys) = (random.words(8), random.words(8));
     let mut out = random.words(8);
@@ -99,12 +99,16 @@ fn every_call(random: &mut Random, rules: &Rules, words: [&mut [u32]; 3]) {
         lent.export([fh, fw, fk], [a, b], &xs, &mut out)
       }
       29 if flag => lent.finish_inference(),
-      30 if random.below(8) == 0 => lent.reset(),
+      30 if random.below(8) == 0 => lent.reset(bs),
+      31 => lent.name_state(bs, &bytes[..bytes.len().min(2)]),
+      32 => lent.return_to(bs, &bytes[..bytes.len().min(2)]),
+      33 => lent.drop_name(bs, &bytes[..bytes.len().min(2)]),
       _ => 0,
     };
     if answer >= REFUSED {
-      assert!((1..=11).contains(&(answer - REFUSED)), "call {call} answers {answer}");
-      assert!(before == [lent.h.to_vec(), lent.ws.to_vec(), lent.ks.to_vec()], "call {call} wrote");
+      assert!((1..=13).contains(&(answer - REFUSED)), "call {call} answers {answer}");
+      let now = [lent.h.to_vec(), lent.ws.to_vec(), lent.ks.to_vec(), bs.to_vec()];
+      assert!(before == now, "call {call} wrote");
       assert!((one, three, twelve) == ([7], [7; 3], [7; OUT]), "call {call} wrote its answer");
     }
   }
@@ -116,7 +120,8 @@ fn words_of_any_sort() {
   for _ in 0..300 {
     let rules = rules(&mut random);
     let [mut h, mut ws, mut ks] = [random.words(10), random.words(60), random.words(30)];
-    every_call(&mut random, &rules, [&mut h, &mut ws, &mut ks]);
+    let mut bs = random.words(3000);
+    every_call(&mut random, &rules, [&mut h, &mut ws, &mut ks, &mut bs]);
   }
 }
 
@@ -133,15 +138,18 @@ fn stores_that_are_opened_and_one_word_of_which_is_changed() {
       Lent { rules: &rules, h: &mut h, ws: &mut ws, ks: &mut ks }.open(nodes, children),
       0
     );
+    let mut bs = vec![7; names_words(nodes, children)];
+    assert_eq!(open_names(&mut bs, nodes, children), 0);
     for _ in 0..4 {
-      every_call(&mut random, &rules, [&mut h, &mut ws, &mut ks]);
+      every_call(&mut random, &rules, [&mut h, &mut ws, &mut ks, &mut bs]);
     }
-    let part = [&mut h, &mut ws, &mut ks].into_iter().nth(random.below(3) as usize).unwrap();
+    let parts = [&mut h, &mut ws, &mut ks, &mut bs];
+    let part = parts.into_iter().nth(random.below(4) as usize).unwrap();
     if !part.is_empty() {
       let i = random.below(part.len() as u32) as usize;
       part[i] = random.word();
     }
-    every_call(&mut random, &rules, [&mut h, &mut ws, &mut ks]);
+    every_call(&mut random, &rules, [&mut h, &mut ws, &mut ks, &mut bs]);
   }
 }
 
@@ -149,7 +157,7 @@ fn stores_that_are_opened_and_one_word_of_which_is_changed() {
 fn nothing_is_lent() {
   let rules =
     Rules { chart: vec![], fn_trait: u32::MAX, sigils: [0; 12], rule: vec![], text: vec![] };
-  every_call(&mut Random(3), &rules, [&mut [], &mut [], &mut []]);
+  every_call(&mut Random(3), &rules, [&mut [], &mut [], &mut [], &mut []]);
   let mut lent = Lent { rules: &rules, h: &mut [0; 8], ws: &mut [], ks: &mut [] };
   assert_eq!(lent.open(0, 0), 0);
   assert_eq!(lent.refusal(), 0);

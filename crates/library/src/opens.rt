@@ -1,16 +1,20 @@
-// How large the buffers are, the chart from records, and opening, testing and emptying a store.
+// How large the buffers are, the chart from records, and opening and testing a store and a names buffer.
 ghost use mathlib.Core.Path.{_≡_};
 ghost use Prim.Native.Nat.{_*_};
 ghost use lib.Dec.{leb};
+ghost use lib.ListN.{length};
 ghost use Rattle.scope.specs.Base.{pick};
 ghost use Rattle.scope.specs.Limits.{«MAX-NODES»};
-ghost use Rattle.scope.specs.Calls.{firstBroken, lentTests, openCall, resetCall};
+ghost use Rattle.scope.specs.Calls.{firstBroken, lentTests, openCall};
+ghost use Rattle.scope.specs.States.{bookTests, openNamesCall};
 ghost use Rattle.chart.specs.Words.{«RECORD-WORDS»};
 ghost use Rattle.layout.specs.Words.{HEAD-WORDS, nodeWords, childWords, lentOf};
+ghost use Rattle.book.specs.Words.{bookWords, lentBookOf};
 ghost use Rattle.recall.specs.Memory.{wordsFor};
 ghost use Rattle.refusals.specs.Codes.{codeOf};
 ghost use Rattle.refusals.specs.Opening.{enough};
 ghost use Rattle.promise.specs.Promise.{Promised, doneReply};
+ghost use Rattle.tested_states.specs.Promise.{NamesOpened};
 ghost use Rattle.records.specs.Loaded.{LoadPromised};
 ghost use Rattle.c_words.specs.Numbers.{doneIn};
 ghost use Rattle.c_words.specs.Given.{lentEnv};
@@ -54,6 +58,14 @@ pub extern "C" fn faroalder_memory_words(nodes: u32) -> usize
     ensures { λ r. ⌜ r ≡ pick (leb nodes «MAX-NODES») (wordsFor nodes) 0 ⌝ }
 {
     call_unify::memory_words(nodes)
+}
+
+// The words of a names buffer for so many nodes and children.
+#[no_mangle]
+pub extern "C" fn faroalder_names_words(nodes: u32, children: u32) -> usize
+    ensures { λ r. ⌜ r ≡ bookWords nodes children ⌝ }
+{
+    book::book_words(nodes, children)
 }
 
 // The chart's words from records: 0, or 7 where there is too little room for them.
@@ -101,22 +113,33 @@ pub extern "C" fn faroalder_refusal<'a>(
     sound::refusal(chart, beside, rule, text, h, ws, ks)
 }
 
-// "`reset` frees all"; the report count "outlives `reset`".
+// A names buffer without a name, whatever the slice held: 1 where a capacity is above its limit or the slice is too short.
 #[no_mangle]
-pub extern "C" fn faroalder_reset<'a>(
+pub extern "C" fn faroalder_open_names(bs: &mut [u32], nodes: u32, children: u32) -> u64
+    ensures { λ r. ⌜ NamesOpened (openNamesCall nodes children (leb (bookWords nodes children) (length (now (bs .entry)))))
+        (doneReply (doneIn r)) (now (bs .entry)) (now (bs .exit)) ⌝ }
+{
+    c_words::done_number(call_states::open_names(bs, nodes, children))
+}
+
+// The test of chart, texts, store and names buffer: 2, 8, or 0 where they pass.
+#[no_mangle]
+pub extern "C" fn faroalder_names_refusal<'a>(
     chart: &[u32],
     fn_trait: u32,
     sigils: &[u32; 12],
     rule: &'a [u8],
     text: &'a [u8],
-    h: &mut [u32],
-    ws: &mut [u32],
-    ks: &mut [u32],
-) -> u64
-    ensures { λ r. ⌜ Promised
-        (resetCall (lentEnv (now (chart .entry)) «fn_trait» (now (sigils .entry)) (now (rule .entry)) (now (text .entry))) (lentOf (now (h .entry)) (now (ws .entry)) (now (ks .entry))))
-        (doneReply (doneIn r)) (now (h .entry)) (now (ws .entry)) (now (ks .entry)) (now (h .exit)) (now (ws .exit)) (now (ks .exit)) ⌝ }
+    h: &[u32],
+    ws: &[u32],
+    ks: &[u32],
+    bs: &[u32],
+) -> u32
+    ensures { λ r. ⌜ firstBroken
+        (bookTests (lentEnv (now (chart .entry)) «fn_trait» (now (sigils .entry)) (now (rule .entry)) (now (text .entry)))
+        (lentOf (now (h .entry)) (now (ws .entry)) (now (ks .entry))) (lentBookOf (now (bs .entry))))
+        ≡ codeOf r ⌝ }
 {
     let beside = c_words::beside_of(fn_trait, sigils);
-    c_words::done_number(call_open::reset(chart, beside, rule, text, h, ws, ks))
+    book_sound::names_refusal(chart, beside, rule, text, h, ws, ks, bs)
 }

@@ -43,7 +43,7 @@ pub struct Head {
 }
 
 // The first e words become 0.
-fn clear(s: &mut [u32], e: usize)
+pub fn clear(s: &mut [u32], e: usize)
     requires { ⌜ e ≤ length (now s) ⌝ }
     ensures { λ _. ⌜ now (s .exit) ≡ cleared (now (s .entry)) e ⌝ }
 {

@@ -55,6 +55,12 @@ pub const NODES_FULL: u32 = 10;
 // "the same for children"
 pub const CHILDREN_FULL: u32 = 11;
 
+// Of named states: "An unheld name, or one of a wrong length"
+pub const UNHELD: u32 = 12;
+
+// "and a ninth"
+pub const NO_PLACE: u32 = 13;
+
 // A type's node is one of n.
 pub fn type_inside(t: Type, n: u32) -> bool
     ensures { λ r. ⌜ ((ns : List Node) → length ns ≡ n → r ≡ inStore ns (tyOf (t .0))) ⌝ }

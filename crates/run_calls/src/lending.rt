@@ -1,4 +1,4 @@
-// What is lent to the calls: a chart and texts, by where they stand among the list's numbers, and how many words of two stores.
+// What is lent to the calls: a chart and texts, by where they stand among the list's numbers, and how many words of two stores and of the names buffer.
 use chart::Beside;
 use run_text::numbers::after;
 use run_text::numbers::first;
@@ -12,7 +12,7 @@ const CHART: u32 = 2;
 
 const BESIDE: u32 = 3;
 
-// Words of each slice of the store in hand.
+// Words of each slice of the store in hand, then of the names buffer.
 pub(crate) const LEND: u32 = 4;
 
 // The other store in hand.
@@ -24,11 +24,12 @@ pub(crate) struct Place {
     pub(crate) len: usize,
 }
 
-// How many words of each slice of a store.
+// How many words of each slice of a store, and of the names buffer beside it.
 pub(crate) struct Sizes {
     pub(crate) head: usize,
     pub(crate) nodes: usize,
     pub(crate) kids: usize,
+    pub(crate) names: usize,
 }
 
 // The chart's records and what stands beside them, the texts' bytes, and the words of the store in hand and of the other.
@@ -50,6 +51,7 @@ fn no_words() -> Sizes {
         head: 0,
         nodes: 0,
         kids: 0,
+        names: 0,
     }
 }
 
@@ -96,6 +98,7 @@ fn sizes_of(a: &[u32]) -> Sizes {
         head: word(a, 0) as usize,
         nodes: word(a, 1) as usize,
         kids: word(a, 2) as usize,
+        names: word(a, 3) as usize,
     }
 }
 

@@ -1,6 +1,6 @@
 // Runs a list of calls through the public calls and writes what each answers. The list is text on standard input: a call's number, how many numbers
 // follow, and these. What each number means stands in `lending`, in `run_change` and in `run_read`. There are two stores, one in hand and the other, which an
-// import reads.
+// import reads, and one names buffer.
 ghost use Prim.Native.Nat.{_<_};
 ghost use lib.ListN.{length};
 
@@ -17,6 +17,7 @@ use run_change::forcing;
 use run_change::importing;
 use run_change::joining;
 use run_change::making;
+use run_change::naming;
 use run_read::HEAD;
 use run_read::KIDS;
 use run_read::NODES;
@@ -30,7 +31,7 @@ use run_text::numbers::upto;
 use run_text::numbers::word;
 use run_text::writing;
 
-const POKE: u32 = 5; // slice 0 to 2, word, what it becomes
+const POKE: u32 = 5; // slice 0 to 2, or 3 for the names buffer, word, what it becomes
 
 // The other store's words stand behind one another: the header's, the nodes' from NODES_AT on, the children's from KIDS_AT on.
 const NODES_AT: usize = HEAD;
@@ -38,6 +39,9 @@ const NODES_AT: usize = HEAD;
 const KIDS_AT: usize = HEAD + NODES;
 
 const OTHER: usize = HEAD + NODES + KIDS;
+
+// A names buffer for stores of up to 256 nodes and 900 children.
+const BOOK: usize = 56_000;
 
 // Room for a text, and for the list as text and as numbers.
 const BYTES: usize = 4096;
@@ -47,13 +51,14 @@ const INPUT: usize = 131_072;
 const NUMBERS: usize = 32_768;
 
 // A word of a slice becomes another.
-fn poke(h: &mut [u32], ws: &mut [u32], ks: &mut [u32], a: &[u32]) {
+fn poke(h: &mut [u32], ws: &mut [u32], ks: &mut [u32], bs: &mut [u32], a: &[u32]) {
     let i = word(a, 1);
     let v = word(a, 2);
     match word(a, 0) {
         0 => set(h, i, v),
         1 => set(ws, i, v),
-        _ => set(ks, i, v),
+        2 => set(ks, i, v),
+        _ => set(bs, i, v),
     }
 }
 
@@ -102,7 +107,7 @@ fn adding<'a>(
     }
 }
 
-// And those that write all; sh, sw, sk are the other store's words.
+// And those that write all; sh, sw, sk are the other store's words, bs those of the names buffer.
 fn call<'a>(
     op: u32,
     chart: &[u32],
@@ -112,16 +117,19 @@ fn call<'a>(
     h: &mut [u32],
     ws: &mut [u32],
     ks: &mut [u32],
+    bs: &mut [u32],
     sh: &[u32],
     sw: &[u32],
     sk: &[u32],
     a: &[u32],
 ) {
+    if naming::is(op) {
+        writing::done(naming::call(op, chart, beside, rule, text, h, ws, ks, bs, a));
+        return;
+    }
     match op {
-        POKE => poke(h, ws, ks, a),
-        making::OPEN | making::RESET => {
-            writing::done(making::opened(op, chart, beside, rule, text, h, ws, ks, a));
-        }
+        POKE => poke(h, ws, ks, bs, a),
+        making::OPEN => writing::done(making::open(h, ws, ks, a)),
         making::NEW | making::NEW_STRUCT | making::NEW_UNION => {
             writing::type_answer(making::kind(op, chart, beside, rule, text, h, ws, ks, a));
         }
@@ -145,6 +153,7 @@ fn on<'a>(
     h: &mut [u32],
     ws: &mut [u32],
     ks: &mut [u32],
+    bs: &mut [u32],
     o: &[u32],
     a: &[u32],
 ) {
@@ -156,6 +165,7 @@ fn on<'a>(
     let x = upto(h, here.head);
     let y = upto(ws, here.nodes);
     let z = upto(ks, here.kids);
+    let b = upto(bs, here.names);
     call(
         op,
         chart,
@@ -165,6 +175,7 @@ fn on<'a>(
         &mut h[..x],
         &mut ws[..y],
         &mut ks[..z],
+        &mut bs[..b],
         sh,
         sw,
         sk,
@@ -180,6 +191,7 @@ fn act(
     h: &mut [u32],
     ws: &mut [u32],
     ks: &mut [u32],
+    bs: &mut [u32],
     o: &[u32],
     a: &[u32],
 ) {
@@ -196,6 +208,7 @@ fn act(
         h,
         ws,
         ks,
+        bs,
         o,
         a,
     );
@@ -252,6 +265,7 @@ fn turn(
     h: &mut [u32],
     ws: &mut [u32],
     ks: &mut [u32],
+    bs: &mut [u32],
     o: &mut [u32],
 ) -> Lent {
     let op = word(s, at);
@@ -266,16 +280,16 @@ fn turn(
         exchange(ks, o, KIDS_AT);
         return m;
     }
-    act(s, op, l, h, ws, ks, o, a);
+    act(s, op, l, h, ws, ks, bs, o, a);
     m
 }
 
 // The calls one after the other, on these buffers.
-fn turns(s: &[u32], h: &mut [u32], ws: &mut [u32], ks: &mut [u32], o: &mut [u32]) {
+fn turns(s: &[u32], h: &mut [u32], ws: &mut [u32], ks: &mut [u32], bs: &mut [u32], o: &mut [u32]) {
     let mut l = nothing_lent();
     let mut at = 0;
     while at < s.len() {
-        l = turn(s, at, l, h, ws, ks, o);
+        l = turn(s, at, l, h, ws, ks, bs, o);
         at = next(s, at);
     }
 }
@@ -284,8 +298,9 @@ fn run(s: &[u32]) {
     let mut h = [0u32; HEAD];
     let mut ws = [0u32; NODES];
     let mut ks = [0u32; KIDS];
+    let mut bs = [0u32; BOOK];
     let mut o = [0u32; OTHER];
-    turns(s, &mut h, &mut ws, &mut ks, &mut o);
+    turns(s, &mut h, &mut ws, &mut ks, &mut bs, &mut o);
 }
 
 fn main() {

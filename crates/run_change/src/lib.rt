@@ -2,4 +2,5 @@
 pub mod forcing; // forcing and finishing
 pub mod importing; // import
 pub mod joining; // find_mut, unify and its family
-pub mod making; // open, reset and the makers
+pub mod making; // open and the makers
+pub mod naming; // named states, and reset

@@ -12,8 +12,6 @@ use scope::MAX_NODES;
 
 pub const OPEN: u32 = 10; // nodes, children
 
-pub const RESET: u32 = 11;
-
 pub const NEW: u32 = 12; // code, number, flex, name (text, start, length), then four numbers for each child
 
 pub const NEW_STRUCT: u32 = 13; // number, then types
@@ -73,21 +71,8 @@ pub fn new_vars<'a>(
     new_vars_into(chart, beside, rule, text, h, ws, ks, a, &mut out[..room]);
 }
 
-pub fn opened<'a>(
-    op: u32,
-    chart: &[u32],
-    beside: Beside,
-    rule: &'a [u8],
-    text: &'a [u8],
-    h: &mut [u32],
-    ws: &mut [u32],
-    ks: &mut [u32],
-    a: &[u32],
-) -> DoneAnswer {
-    match op {
-        OPEN => call_open::open(h, ws, ks, word(a, 0), word(a, 1)),
-        _ => call_open::reset(chart, beside, rule, text, h, ws, ks),
-    }
+pub fn open(h: &mut [u32], ws: &mut [u32], ks: &mut [u32], a: &[u32]) -> DoneAnswer {
+    call_open::open(h, ws, ks, word(a, 0), word(a, 1))
 }
 
 // The makers that fill a kind.

@@ -14,7 +14,7 @@ use Rattle.scope.specs.Answers.{Answer, Success}
 use Rattle.scope.specs.Unify.{Out, unify}
 use Rattle.scope.specs.Sound.{reads}
 use Rattle.scope.specs.Calls.{Outcome, lentTests, outside, unified, unifyCall}
-use Rattle.scope.specs.Demand.{Call, given, step, next, after, Each, inSecondHalf}
+use Rattle.scope.specs.Demand.{Call, given, step, next, after}
 use Rattle.scope.specs.Demand as Demand
 use Rattle.scope.proofs.View.{View, view}
 use Rattle.scope.proofs.View as Seen
@@ -33,11 +33,11 @@ abbrev tests : Env → Store → Ty → Ty → List (Bool × ℕ)
 tests e s a b = lentTests e (reads s) ++ (outside s (a ∷ b ∷ []) ∷ [])
 
 -- what a Success says: the chart is sound, the two types are in the store, and the store left has joined them
-record Won (e : Env) (s : Store) (a b : Ty) (o : Outcome Answer) : Type 0 where
-  chart : chartOk e ≡ true
-  a-in : a .idx < length (s .nodes)
-  b-in : b .idx < length (s .nodes)
-  joined : Joined (view (step s o .store .nodes)) a b
+pub record Won (e : Env) (s : Store) (a b : Ty) (o : Outcome Answer) : Type 0 where
+  pub chart : chartOk e ≡ true
+  pub a-in : a .idx < length (s .nodes)
+  pub b-in : b .idx < length (s .nodes)
+  pub joined : Joined (view (step s o .store .nodes)) a b
 
 module _ (e : Env) (s : Store) (a b : Ty) (reached : Reached e s) where
   success-joined : a .idx < length (s .nodes) → b .idx < length (s .nodes) → unify (e .texts) (s .nodes) a b .answer ≡ Success
@@ -48,7 +48,7 @@ module _ (e : Env) (s : Store) (a b : Ty) (reached : Reached e s) where
       subst (λ (g : View). Joined g a b) (sym (m .views))
       (unify-spec e (length (s .nodes)) (length (s .nodes)) (view (s .nodes)) a b (ok .good) (stable-kinds (nodes-stable e ok)) .joined (sym (m .answers) ∙ q))
 
-  success-won : given (unifyCall e (reads s) a b) ≡ some Success → Won e s a b (unifyCall e (reads s) a b)
+  pub success-won : given (unifyCall e (reads s) a b) ≡ some Success → Won e s a b (unifyCall e (reads s) a b)
   unfolding unifyCall
   success-won = judged-cases (λ o. given o ≡ some Success → Won e s a b o) (tests e s a b) (unified s (unify (e .texts) (s .nodes) a b))
       (λ n q. let z : _≡_ {A = ℕ} 0 1 = cc in absurd (omega arith))
@@ -76,7 +76,7 @@ module _ (e : Env) (s : Store) (a b : Ty) (reached : Reached e s) where
           ∙ ap (λ (o : Seen.Out). o .answer) (joined-answer (e .texts) (length (s .nodes)) f (view (s .nodes)) a b (ok .good) (st .inside) ha j)
 
   -- and of a call on it
-  joined-success : chartOk e ≡ true → a .idx < length (s .nodes) → b .idx < length (s .nodes) → Joined (view (s .nodes)) a b
+  pub joined-success : chartOk e ≡ true → a .idx < length (s .nodes) → b .idx < length (s .nodes) → Joined (view (s .nodes)) a b
       → given (unifyCall e (reads s) a b) ≡ some Success
   unfolding unifyCall
   joined-success chart ha hb j =
@@ -88,21 +88,16 @@ unfolding after
 after-append e s [] ds = refl
 after-append e s (c ∷ cs) ds = after-append e (next e s c) cs ds
 
-each-append : (p : Call → Bool) (cs ds : List Call) → Each p (cs ++ ds) → Each p ds
-unfolding Each
-each-append p [] ds h = h
-each-append p (c ∷ cs) ds h = each-append p cs ds (h .1)
-
 -- a pair that once got Success gets it again
-pub success-again : (e : Env) (s : Store) → Reached e s → (cs : List Call) → Each inSecondHalf cs → (before later : List Call) (a b : Ty)
+pub success-again : (e : Env) (s : Store) → Reached e s → (cs before later : List Call) (a b : Ty)
     → cs ≡ before ++ (Demand.unify a b ∷ later)
     → given (unifyCall e (reads (after e s before)) a b) ≡ some Success
     → given (unifyCall e (reads (after e s cs)) a b) ≡ some Success
-unfolding after Each
-success-again e s r cs h before later a b q w =
+unfolding after
+success-again e s r cs before later a b q w =
     subst (λ (x : Store). given (unifyCall e (reads x) a b) ≡ some Success) (sym (ap (after e s) q ∙ after-append e s before (Demand.unify a b ∷ later)))
     (joined-success e end a b (after-reached e s₂ later r₂) (won .chart) (omega (arith, won .a-in, more)) (omega (arith, won .b-in, more))
-    (joined-grow (r₂ .facts .nodes .good) (after-grow e s₂ later r₂ (rest .1)) (won .joined)))
+    (joined-grow (r₂ .facts .nodes .good) (after-grow e s₂ later r₂) (won .joined)))
   where
     s₁ : Store
     s₁ = after e s before
@@ -119,11 +114,8 @@ success-again e s r cs h before later a b q w =
     end : Store
     end = after e s₂ later
 
-    rest : Each inSecondHalf (Demand.unify a b ∷ later)
-    rest = each-append inSecondHalf before (Demand.unify a b ∷ later) (subst (Each inSecondHalf) q h)
-
     won : Won e s₁ a b (unifyCall e (reads s₁) a b)
     won = success-won e s₁ a b r₁ w
 
     more : length (s₁ .nodes) ≤ length (end .nodes)
-    more = omega (arith, after-length e s₁ (Demand.unify a b ∷ later) r₁ rest)
+    more = omega (arith, after-length e s₁ (Demand.unify a b ∷ later) r₁)

@@ -152,6 +152,10 @@ module _ (e : Env) (s d : Store) (ts : List Ty) (ok : SoundFacts e s) (fresh : S
       child-room = subst (λ (w : Work). w .dest .children ≤ w .dest .childRoom) (sym work-same) (k .facts .child-room);
     };
     shallow = λ h. subst (λ (w : Work). Shallow (w .dest .nodes)) (sym work-same) (k .shallow h);
+    room = record {
+      nodes = subst (λ (w : Work). w .dest .nodeRoom ≡ d .nodeRoom) (sym work-same) (k .room .nodes);
+      children = subst (λ (w : Work). w .dest .childRoom ≡ d .childRoom) (sym work-same) (k .room .children);
+    };
   }
     where
       k : Kept e d (m .work .dest)

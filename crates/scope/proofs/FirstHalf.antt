@@ -16,7 +16,7 @@ use Rattle.scope.specs.Unify as Unify
 use Rattle.scope.specs.Sound.{Lent, reads}
 use Rattle.scope.specs.Calls.{unifyCall}
 use Rattle.scope.specs.Trees.{Val, NodeFits, Fits, PairFits}
-use Rattle.scope.specs.Demand.{Maker, Read, Call, make, import, forceKind, unify, read, later, reset, step, given, next, after, inFirstHalf}
+use Rattle.scope.specs.Demand.{Maker, Read, Call, make, import, forceKind, unify, read, later, step, given, next, after, inFirstHalf}
 use Rattle.scope.specs.Demand.{Each, StatesFit, statesMade, Asks, Asked, Answers, EveryAnswer, SelfInverseNode, FirstHalfHolds}
 use Rattle.scope.proofs.View.{unknown, seen, view}
 use Rattle.scope.proofs.ViewFits as Seen
@@ -100,7 +100,6 @@ module _ (e : Env) (s : Store) (r : Reached e s) (v : Val) where
   fits-next (unify x y) q a = unify-next x y a
   fits-next (read x) q a = both-units (read-next x)
   fits-next (later x) q a = let z : _≡_ {A = ℕ} 0 1 = cc in absurd (omega arith)
-  fits-next reset q a = let z : _≡_ {A = ℕ} 0 1 = cc in absurd (omega arith)
 
   -- whatever a unify answered
   keeps-next : (c : Call) → inFirstHalf c ≡ true → Fits e v (s .nodes) → Asks e v s c → Fits e v (next e s c .nodes)
@@ -111,7 +110,6 @@ module _ (e : Env) (s : Store) (r : Reached e s) (v : Val) where
       (λ n a. f) (λ hx hy a. unify-keeps x y hx hy f (a refl)) a
   keeps-next (read x) q f a = read-next x .1 f
   keeps-next (later x) q f a = let z : _≡_ {A = ℕ} 0 1 = cc in absurd (omega arith)
-  keeps-next reset q f a = let z : _≡_ {A = ℕ} 0 1 = cc in absurd (omega arith)
 
 -- a list
 fits-after : (e : Env) (v : Val) (s : Store) (cs : List Call) → Reached e s → Each inFirstHalf cs → EveryAnswer (λ x. x ≡ Success) e s cs

@@ -89,4 +89,5 @@ module _ (e : Env) where
         child-room = rw (import-leaves .rest .childRoom) hc;
       };
       shallow = ext-shallow (s .nodes) (d .nodes) (import-leaves .ext) (ok .nodes .forest);
+      room = record { nodes = import-leaves .rest .nodeRoom; children = import-leaves .rest .childRoom };
     }

@@ -1,6 +1,7 @@
 pub mod Acyclic
 pub mod Added
 pub mod Again
+pub mod BookLaws
 pub mod Chain
 pub mod Changes
 pub mod Copies
@@ -45,6 +46,7 @@ pub mod NodesMade
 pub mod Occurs
 pub mod PairLaws
 pub mod Paths
+pub mod PlaceLaws
 pub mod PlanLaws
 pub mod Push
 pub mod Reached
@@ -62,6 +64,11 @@ pub mod Sizes
 pub mod Sol
 pub mod SoundKept
 pub mod SoundLaws
+pub mod StatesHalf
+pub mod StatesKept
+pub mod StatesReturn
+pub mod StatesStood
+pub mod StatesTable
 pub mod Stay
 pub mod Steps
 pub mod Table

@@ -19,7 +19,7 @@ use Rattle.scope.proofs.ViewLaws.{same?, not-known, Fine}
 use Rattle.scope.proofs.Extend.{ext-forest, ext-shallow, ext-sized}
 use Rattle.scope.proofs.Push.{push-len, push-new, push-old, push-extends, push-good}
 use Rattle.scope.proofs.SoundLaws.{SoundNodes, nodes-held, SoundFacts}
-use Rattle.scope.proofs.SoundKept.{Kept, error-fine, nil-fine, fine-more, remembers-more}
+use Rattle.scope.proofs.SoundKept.{Kept, kept-same, error-fine, nil-fine, fine-more, remembers-more}
 
 module _ (e : Env) where
   -- a state whose kind, if any, may be made over n nodes
@@ -63,6 +63,7 @@ module _ (e : Env) where
       child-room = hc;
     };
     shallow = ext-shallow (s .nodes) (push (s .nodes) st) (push-extends (s .nodes) st) (ok .nodes .forest);
+    room = record { nodes = refl; children = refl };
   }
 
   -- `new`
@@ -79,11 +80,11 @@ module _ (e : Env) where
   -- `new_vars`
   pub new-vars-kept : (s : Store) (p n : ℕ) → SoundFacts e s → length (s .nodes) + n ≤ s .nodeRoom → Kept e s (newVars s p n .store)
   unfolding newVars newVar
-  new-vars-kept s p zero ok h = record { facts = ok; shallow = λ w. w }
+  new-vars-kept s p zero ok h = kept-same ok
   new-vars-kept s p (suc n) ok h =
       let k = pushed-kept s (Unknown p) 0 ok (unknown-fine (length (s .nodes)) p) (omega arith) (omega (arith, ok .child-room)) in
       let m = new-vars-kept (pushed s (Unknown p) 0) p n (k .facts) (omega (arith, push-len (s .nodes) (Unknown p))) in
-      record { facts = m .facts; shallow = λ w. m .shallow (k .shallow w) }
+      record { facts = m .facts; shallow = λ w. m .shallow (k .shallow w); room = record { nodes = m .room .nodes; children = m .room .children } }
 
   -- `error` and `nil`
   new-remembered : (ns : List Node) (st : State) (n : ℕ) → n ≡ length ns → (t u : Ty) → t .idx ≡ n → some t ≡ some u → u .idx < length (push ns st)
@@ -94,7 +95,7 @@ module _ (e : Env) where
   error-kept s ok h = go (s .error) h
     where
       go : (o : Option Ty) → length (s .nodes) + nodesFor o ≤ s .nodeRoom → Kept e s (again s o (rememberError (new s (bare ERROR))) .store)
-      go (some t) h = record { facts = ok; shallow = λ w. w }
+      go (some t) h = kept-same ok
       go none h =
           let k = new-kept s (bare ERROR) ok (error-fine e) h (omega (arith, ok .child-room)) in
           record {
@@ -108,6 +109,7 @@ module _ (e : Env) where
               child-room = k .facts .child-room;
             };
             shallow = k .shallow;
+            room = record { nodes = refl; children = refl };
           }
 
   pub nil-kept : (s : Store) → SoundFacts e s → length (s .nodes) + nodesFor (s .nil) ≤ s .nodeRoom → Kept e s (makeNil s .store)
@@ -115,7 +117,7 @@ module _ (e : Env) where
   nil-kept s ok h = go (s .nil) h
     where
       go : (o : Option Ty) → length (s .nodes) + nodesFor o ≤ s .nodeRoom → Kept e s (again s o (rememberNil (new s (bare TUPLE))) .store)
-      go (some t) h = record { facts = ok; shallow = λ w. w }
+      go (some t) h = kept-same ok
       go none h =
           let k = new-kept s (bare TUPLE) ok (nil-fine e) h (omega (arith, ok .child-room)) in
           record {
@@ -129,4 +131,5 @@ module _ (e : Env) where
               child-room = k .facts .child-room;
             };
             shallow = k .shallow;
+            room = record { nodes = refl; children = refl };
           }

@@ -13,7 +13,7 @@ use Rattle.scope.specs.Chart.{Env}
 use Rattle.scope.specs.Kinds.{DEFAULT}
 use Rattle.scope.specs.Nodes.{Kind, State, Node, Store, at, stateOf}
 use Rattle.scope.specs.Make.{push}
-use Rattle.scope.specs.Demand.{Call, make, import, forceKind, unify, read, later, reset, step, next, after, inFirstHalf, Each, statesMade, isDefault, MakesNoDefault, NoDefault}
+use Rattle.scope.specs.Demand.{Call, make, import, forceKind, unify, read, later, step, next, after, inFirstHalf, Each, statesMade, isDefault, MakesNoDefault, NoDefault}
 use Rattle.scope.proofs.View.{View, known, seen, view}
 use Rattle.scope.proofs.ViewLaws.{same?}
 use Rattle.scope.proofs.TestLaws.{or-no}
@@ -78,7 +78,6 @@ module _ (e : Env) (s : Store) (r : Reached e s) (h : Defaultless (view (s .node
   next-less (read x) q d = read-cases e s (r .facts) (λ u. Defaultless (view (u .store .nodes))) x h h
       (λ t. same-less (tidied-view (find-mut-tidied (r .facts .nodes .forest) t) (r .facts .nodes .forest)))
   next-less (later x) q d = let z : _≡_ {A = ℕ} 0 1 = cc in absurd (omega arith)
-  next-less reset q d = let z : _≡_ {A = ℕ} 0 1 = cc in absurd (omega arith)
 
 pub after-less : (e : Env) (s : Store) (cs : List Call) → Reached e s → Each inFirstHalf cs → NoDefault e s cs → Defaultless (view (s .nodes))
     → Defaultless (view (after e s cs .nodes))

@@ -1,24 +1,22 @@
--- Every call leaves a sound store sound. The stores that lists of calls reach are sound, and no node is deep under a small root. Assumes nothing.
+-- Every call leaves a sound store sound and its capacities as they are. The stores that lists of calls reach are sound, and no node is deep under a small
+-- root. Assumes nothing.
 use mathlib.Core.List.{List, [], _∷_}
 use Prim.Native.Nat.{ℕ, _≤_}
 use Rattle.scope.specs.Limits.{MAX-NODES, MAX-CHILDREN}
 use Rattle.scope.specs.Chart.{Env}
 use Rattle.scope.specs.Nodes.{Store, opened}
-use Rattle.scope.specs.Force as Force
-use Rattle.scope.specs.Calls.{done, resetCall}
-use Rattle.scope.specs.Demand.{Call, make, import, forceKind, unify, read, later, reset, step, next, after}
+use Rattle.scope.specs.Demand.{Call, make, import, forceKind, unify, read, later, step, next, after}
 use Rattle.scope.proofs.Merge.{Shallow}
 use Rattle.scope.proofs.SoundLaws.{SoundFacts}
-use Rattle.scope.proofs.SoundKept.{Kept, opened-facts, opened-shallow, find-mut-kept, unify-kept, carry-kept, restates-kept, force-kept, reset-kept}
-use Rattle.scope.proofs.Steps.{maker-cases, import-cases, force-cases, unify-cases, read-cases, step-cases}
+use Rattle.scope.proofs.SoundKept.{Kept, kept-same, opened-facts, opened-shallow, find-mut-kept, unify-kept, carry-kept, restates-kept, force-kept}
+use Rattle.scope.proofs.Steps.{maker-cases, import-cases, force-cases, unify-cases, read-cases}
 use Rattle.scope.proofs.LaterSteps.{later-cases}
 
 pub next-kept : (e : Env) (s : Store) (c : Call) → SoundFacts e s → Kept e s (next e s c)
-unfolding resetCall
 next-kept e s c ok = go c
   where
     same : Kept e s s
-    same = record { facts = ok; shallow = λ h. h }
+    same = kept-same ok
 
     go : (c : Call) → Kept e s (next e s c)
     go (make m) = maker-cases e s ok (λ t. Kept e s (t .store)) m same (λ s′ k. k .kept)
@@ -27,7 +25,6 @@ next-kept e s c ok = go c
     go (unify a b) = unify-cases e s ok (λ o. Kept e s (step s o .store)) a b (λ n. same) (unify-kept e s a b ok)
     go (read q) = read-cases e s ok (λ t. Kept e s (t .store)) q same same (λ t. find-mut-kept e s t ok)
     go (later q) = later-cases e s ok (λ t. Kept e s (t .store)) q same same (λ l h. carry-kept e s l ok h) (λ ns x. restates-kept e s ns x ok)
-    go reset = step-cases e s ok (λ t. Kept e s (t .store)) [] (done tt (Force.reset s)) same (λ t. reset-kept e s ok)
 
 -- a list of calls keeps a sound store sound
 pub after-sound : (e : Env) (s : Store) (cs : List Call) → SoundFacts e s → SoundFacts e (after e s cs)

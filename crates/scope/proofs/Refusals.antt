@@ -20,7 +20,7 @@ use Rattle.scope.specs.Replies.{Reply, number, type, types}
 use Rattle.scope.proofs.Run.{ran}
 
 -- a chart of one struct, with a flag, and beside it some sigils
-pub env : ℕ → ℕ → Env
+unfoldable pub env : ℕ → ℕ → Env
 env flag sigils = record {
   records = record { sort = STRUCT-SORT; name = name 0 0 1; path = name 0 0 1; def = 0; dual = flag; trait = 0 } ∷ [];
   fnTrait = NONE;

@@ -1,4 +1,4 @@
--- A list of calls run to its answers and its last store, with every definition open to computation: what a table of examples is computed by. Assumes nothing.
+-- A list of calls run to its answers and what it leaves, with every definition open to computation: what a table of examples is computed by. Assumes nothing.
 use mathlib.Core.List.{List}
 use Rattle.scope.specs.Chart.{Env}
 use Rattle.scope.specs.Nodes.{Store}
@@ -17,6 +17,8 @@ use Rattle.scope.specs.Show as Show
 use Rattle.scope.specs.Sound as Sound
 use Rattle.scope.specs.Calls as Calls
 use Rattle.scope.specs.Demand as Demand
+use Rattle.scope.specs.States as States
+use Rattle.scope.specs.StatesDemand.{Desk, StateCall, Ledgers, noLedger, stateReplies, afterDesk, afterLedgers}
 
 pub record Ran : Type 0 where
   pub replies : List Reply
@@ -34,6 +36,17 @@ unfolding replies Names.bytes Names.inText Names.nameOk Names.eqBytes Names.ltBy
     Sound.treeSize Sound.kindSound Sound.roomSound Sound.shapeSound Sound.soundStore Calls.findCall Calls.findMutCall Calls.nodeCall Calls.childCall
     Calls.nameCall Calls.figuresCall Calls.newCall Calls.newStructCall Calls.newUnionCall Calls.newVarCall Calls.newVarsCall Calls.errorCall Calls.nilCall
     Calls.unifyCall Calls.unifyTypesCall Calls.unifyObjectsCall Calls.unifyImplTypeCall Calls.approxEqCall Calls.unifyFnSigCall Calls.forceKindCall
-    Calls.finishInferenceCall Calls.finishWhereCall Calls.findRelatedCall Calls.selfInverseCall Calls.isNilCall Calls.getModCall Calls.resetCall
+    Calls.finishInferenceCall Calls.finishWhereCall Calls.findRelatedCall Calls.selfInverseCall Calls.isNilCall Calls.getModCall
     Calls.importCall Calls.exportCall Calls.showCall Calls.showImplTypeCall Demand.after
 ran e s cs = record { replies = replies e s cs; store = after e s cs }
+
+-- the same with a names buffer, and with the ledgers
+pub record RanStates : Type 0 where
+  pub replies : List Reply
+  pub desk : Desk
+  pub ledgers : Ledgers
+
+unfoldable pub ranStates : Env → Desk → List StateCall → RanStates
+unfolding ran stateReplies afterDesk afterLedgers States.placeWhere States.bookSound States.openNamesCall States.nameStateCall States.returnToCall
+    States.dropNameCall States.resetNamesCall Demand.statesMade Import.copies
+ranStates e d cs = record { replies = stateReplies e d cs; desk = afterDesk e d cs; ledgers = afterLedgers e d noLedger cs }

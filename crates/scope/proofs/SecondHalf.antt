@@ -11,9 +11,9 @@ use Rattle.scope.proofs.NodesMade.{sizes-made}
 use Rattle.scope.proofs.Again.{success-again}
 
 pub second-half : SecondHalfHolds
-second-half e n c hn hc cs h = record {
-  again = success-again e (opened n c) (opened-reached e n c hn hc) cs h;
-  added = sizes-made e n c hn hc cs h;
+second-half e n c hn hc cs = record {
+  again = success-again e (opened n c) (opened-reached e n c hn hc) cs;
+  added = sizes-made e n c hn hc cs;
   apart = contains-never ns (ok .forest) (ok .good);
   twelve = shallow-twelve ns (ok .forest) (end .shallow) (ok .sized) (omega (arith, end .facts .node-room, end .facts .node-limit));
 }

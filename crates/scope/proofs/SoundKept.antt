@@ -25,10 +25,19 @@ use Rattle.scope.proofs.SoundLaws.{SoundNodes, Remembers, SoundFacts}
 use Rattle.scope.proofs.Sim.{Inside}
 use Rattle.scope.proofs.UnifyKept.{unify-seen, unify-nodes, carry-seen, carry-nodes}
 
+-- the same capacities
+pub record Roomed (s s′ : Store) : Type 0 where
+  pub nodes : s′ .nodeRoom ≡ s .nodeRoom
+  pub children : s′ .childRoom ≡ s .childRoom
+
 -- what a definition leaves of a sound store s
 pub record Kept (e : Env) (s s′ : Store) : Type 0 where
   pub facts : SoundFacts e s′
   pub shallow : Shallow (s .nodes) → Shallow (s′ .nodes)
+  pub room : Roomed s s′
+
+pub kept-same : {e : Env} {s : Store} → SoundFacts e s → Kept e s s
+kept-same ok = record { facts = ok; shallow = λ w. w; room = record { nodes = refl; children = refl } }
 
 module _ (e : Env) where
   -- the kinds that are made of nothing
@@ -85,7 +94,7 @@ module _ (e : Env) where
     }
 
   -- another report count
-  reports-facts : {s : Store} {n : ℕ} → SoundFacts e s → SoundFacts e (withReports s n)
+  pub reports-facts : {s : Store} {n : ℕ} → SoundFacts e s → SoundFacts e (withReports s n)
   reports-facts ok = record {
     nodes = ok .nodes;
     error = ok .error;
@@ -120,26 +129,27 @@ module _ (e : Env) where
   pub find-mut-kept : (s : Store) (t : Ty) → SoundFacts e s → Kept e s (withNodes s (findMut (s .nodes) t))
   find-mut-kept s t ok =
       let d = find-mut-tidied (ok .nodes .forest) t in
-      record { facts = nodes-facts s (findMut (s .nodes) t) ok (d .len) (tidied-nodes d (ok .nodes)); shallow = tidied-shallow d }
+      record { facts = nodes-facts s (findMut (s .nodes) t) ok (d .len) (tidied-nodes d (ok .nodes)); shallow = tidied-shallow d; room = record { nodes = refl; children = refl } }
 
   -- `unify`, and what runs it over a plan's pairs
   pub unify-kept : (s : Store) (a b : Ty) → SoundFacts e s → a .idx < length (s .nodes) → b .idx < length (s .nodes)
       → Kept e s (withNodes s (unify (e .texts) (s .nodes) a b .nodes))
   unify-kept s a b ok ha hb =
       let m = unify-seen e (ok .nodes) a b ha hb in
-      record { facts = nodes-facts s (unify (e .texts) (s .nodes) a b .nodes) ok (m .len) (unify-nodes e (ok .nodes) a b ha hb); shallow = m .shallow }
+      record { facts = nodes-facts s (unify (e .texts) (s .nodes) a b .nodes) ok (m .len) (unify-nodes e (ok .nodes) a b ha hb); shallow = m .shallow; room = record { nodes = refl; children = refl } }
 
   pub carry-kept : (s : Store) (l : Plan) → SoundFacts e s → Inside (length (s .nodes)) (l .pairs)
       → Kept e s (withNodes s (carry (e .texts) (s .nodes) l .nodes))
   carry-kept s l ok h =
       let m = carry-seen e (ok .nodes) l h in
-      record { facts = nodes-facts s (carry (e .texts) (s .nodes) l .nodes) ok (m .len) (carry-nodes e (ok .nodes) l h); shallow = m .shallow }
+      record { facts = nodes-facts s (carry (e .texts) (s .nodes) l .nodes) ok (m .len) (carry-nodes e (ok .nodes) l h); shallow = m .shallow; room = record { nodes = refl; children = refl } }
 
   -- finishing
   pub restates-kept : (s : Store) (ns : List Node) → Restates (s .nodes) ns → SoundFacts e s → Kept e s (withNodes s ns)
   restates-kept s ns x ok = record {
     facts = nodes-facts s ns ok (x .len) (restates-nodes x (ok .nodes));
     shallow = restates-shallow (s .nodes) ns x;
+    room = record { nodes = refl; children = refl };
   }
 
   pub finish-kept : (s : Store) → SoundFacts e s → Kept e s (withNodes s (finishInference (s .nodes)))
@@ -192,7 +202,7 @@ module _ (e : Env) where
       go InferenceFailed q = k₁
       go (Unknown p) q =
           let k = restates-kept s₁ _ (marked (s .nodes) t (ok .nodes .forest) h p q) (k₁ .facts) in
-          record { facts = reports-facts (k .facts); shallow = λ w. k .shallow (k₁ .shallow w) }
+          record { facts = reports-facts (k .facts); shallow = λ w. k .shallow (k₁ .shallow w); room = record { nodes = refl; children = refl } }
 
   pub force-view : (s : Store) (t : Ty) → Forest (s .nodes) → t .idx < length (s .nodes) → view (forceKind s t .1 .nodes) ≡ view (s .nodes)
   unfolding forceKind
@@ -218,4 +228,5 @@ module _ (e : Env) where
   reset-kept s ok = record {
     facts = reports-facts (opened-facts (s .nodeRoom) (s .childRoom) (ok .node-limit) (ok .child-limit));
     shallow = λ w i h. absurd (omega arith);
+    room = record { nodes = refl; children = refl };
   }

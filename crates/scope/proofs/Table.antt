@@ -26,7 +26,7 @@ use Rattle.scope.specs.Sheet.{Line, bad, lines, words, typeWord, typeWor
 use Rattle.scope.specs.Sheet as Sheet
 
 -- a chart of one trait, which is the builtin fn trait; the rule text holds the names a and b
-pub env : Env
+unfoldable pub env : Env
 env = record {
   records = record { sort = TRAIT-SORT; name = name 0 0 1; path = name 0 0 1; def = 0; dual = 0; trait = 0 } ∷ [];
   fnTrait = 0;
@@ -46,31 +46,31 @@ done-by c =
     record { calls = c .calls; replies = r .replies; nodes = r .store .nodes }
 
 -- a type, its inverse, an answer to a maker, a variable, a Known root of size 1
-pub t : ℕ → Ty
+unfoldable pub t : ℕ → Ty
 t n = ty false n
 
 pub ~t : ℕ → Ty
 ~t n = ty true n
 
-pub made : ℕ → Reply
+unfoldable pub made : ℕ → Reply
 made n = type (t n)
 
-pub var : Call
+unfoldable pub var : Call
 var = make (newVar 7)
 
-pub a-var : Node
+unfoldable pub a-var : Node
 a-var = Root (Unknown 7) 1
 
-pub plain : ℕ → Call
+unfoldable pub plain : ℕ → Call
 plain c = make (new (over c 0 []))
 
-pub known : ℕ → Node
+unfoldable pub known : ℕ → Node
 known c = Root (Known false (bare c)) 1
 
-pub tuple : List Ty → Call
+unfoldable pub tuple : List Ty → Call
 tuple ts = make (new (over TUPLE 0 ts))
 
-pub a-tuple : List Ty → Node
+unfoldable pub a-tuple : List Ty → Node
 a-tuple ts = Root (Known false (record { head = bare TUPLE .head; kids = ts })) 1
 
 pub object : List (Option Name) → List Ty → Call

@@ -15,7 +15,7 @@ use Rattle.scope.specs.Nodes.{Kind, Known, Unknown, InferenceFailed, Nod
 use Rattle.scope.specs.Answers.{Answer}
 use Rattle.scope.specs.Unify.{Out, unify, unifyTypes, unifyObjects, ImplType, Trait, Error, unifyImplType, unifyFnSig, approxEq, selfInverseOf}
 use Rattle.scope.specs.Make.{Made, MadeAll, new, newVar, newVars, makeError, makeNil}
-use Rattle.scope.specs.Force.{Forced, forceKind, finishInference, finishWhere, findRelated, isNil, Mod, getMod, reset}
+use Rattle.scope.specs.Force.{Forced, forceKind, finishInference, finishWhere, findRelated, isNil, Mod, getMod}
 use Rattle.scope.specs.Import.{MovedAll, import, export}
 use Rattle.scope.specs.Show.{show, showImplType}
 use Rattle.scope.specs.Sound.{Lent, sound, inStore}
@@ -237,10 +237,6 @@ isNilCall e l t = readCall e l (t ∷ []) (isNil (storeOf l .nodes) t)
 
 unfoldable pub getModCall : Env → Lent → Ty → Outcome Mod
 getModCall e l t = readCall e l (t ∷ []) (getMod e (storeOf l .nodes) t)
-
--- `reset`
-unfoldable pub resetCall : Env → Lent → Outcome (Unit {0})
-resetCall e l = judged (lentTests e l) (done tt (reset (storeOf l)))
 
 -- the list and the parameter list; "Source and destination read the same chart and texts"
 abbrev pub importList : Option (List Ty) → List Ty

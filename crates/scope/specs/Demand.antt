@@ -22,7 +22,7 @@ use Rattle.scope.specs.Import.{copies}
 use Rattle.scope.specs.Sound.{Lent, reads, rooted}
 use Rattle.scope.specs.Calls.{Outcome, refused, done, storeOf, kindMade, NewKind, over, Entries, findCall, findMutCall, nodeCall, childCall, nameCall, figuresCall, newCall, newStructCall}
 use Rattle.scope.specs.Calls.{newUnionCall, newVarCall, newVarsCall, errorCall, nilCall, unifyCall, unifyTypesCall, unifyObjectsCall, unifyImplTypeCall, approxEqCall, unifyFnSigCall}
-use Rattle.scope.specs.Calls.{forceKindCall, finishInferenceCall, finishWhereCall, findRelatedCall, selfInverseCall, isNilCall, getModCall, resetCall, importCall, exportCall, showCall}
+use Rattle.scope.specs.Calls.{forceKindCall, finishInferenceCall, finishWhereCall, findRelatedCall, selfInverseCall, isNilCall, getModCall, importCall, exportCall, showCall}
 use Rattle.scope.specs.Calls.{showImplTypeCall}
 use Rattle.scope.specs.Trees.{invert, Val, Proper, StateFits, NodeFits, Fits, PairFits}
 
@@ -62,7 +62,7 @@ pub data Later : Type 0 where
   show : Ty → List ℕ → Later
   showImplType : ImplType → List ℕ → Later
 
--- a call and its arguments: "every other argument is free, import's source included"
+-- a call on a store and its arguments: "every other argument is free, import's source included". `reset` takes the names buffer too (States)
 pub data Call : Type 0 where
   make : Maker → Call
   import : Lent → List Ty → Option (List Ty) → ℕ → Call
@@ -70,7 +70,6 @@ pub data Call : Type 0 where
   unify : Ty → Ty → Call
   read : Read → Call
   later : Later → Call
-  reset : Call
 
 -- the answer that an outcome gives; a refused call gives none
 abbrev pub given : {A : Type 0} → Outcome A → Option A
@@ -126,7 +125,6 @@ stepOf e s (forceKind t) = step s (forceKindCall e (reads s) t)
 stepOf e s (unify a b) = step s (unifyCall e (reads s) a b)
 stepOf e s (read r) = stepRead e s r
 stepOf e s (later c) = stepLater e s c
-stepOf e s reset = step s (resetCall e (reads s))
 
 -- "Each call gets what the last one left"
 abbrev pub next : Env → Store → Call → Store
@@ -144,17 +142,6 @@ inFirstHalf (forceKind t) = true
 inFirstHalf (unify a b) = true
 inFirstHalf (read r) = true
 inFirstHalf (later c) = false
-inFirstHalf reset = false
-
--- "Second half: these and the next section's calls without `reset`"
-abbrev pub inSecondHalf : Call → Bool
-inSecondHalf (make m) = true
-inSecondHalf (import l ts ps h) = true
-inSecondHalf (forceKind t) = true
-inSecondHalf (unify a b) = true
-inSecondHalf (read r) = true
-inSecondHalf (later c) = true
-inSecondHalf reset = false
 
 unfoldable pub Each : (Call → Bool) → List Call → Type 0
 Each p [] = Unit {0}
@@ -188,7 +175,6 @@ Asks e v s (forceKind t) = Unit {0}
 Asks e v s (unify a b) = stepOf e s (unify a b) .taken ≡ true → PairFits e v a b
 Asks e v s (read r) = Unit {0}
 Asks e v s (later c) = Unit {0}
-Asks e v s reset = Unit {0}
 
 unfoldable pub Asked : Env → Val → Store → List Call → Type 0
 Asked e v s [] = Unit {0}
@@ -202,7 +188,6 @@ Answers P e s (forceKind t) = Unit {0}
 Answers P e s (unify a b) = (r : Answer) → given (unifyCall e (reads s) a b) ≡ some r → P r
 Answers P e s (read r) = Unit {0}
 Answers P e s (later c) = Unit {0}
-Answers P e s reset = Unit {0}
 
 unfoldable pub EveryAnswer : (Answer → Type 0) → Env → Store → List Call → Type 0
 EveryAnswer P e s [] = Unit {0}
@@ -222,7 +207,6 @@ MakesNoDefault e s (forceKind t) = Unit {0}
 MakesNoDefault e s (unify a b) = Unit {0}
 MakesNoDefault e s (read r) = Unit {0}
 MakesNoDefault e s (later c) = Unit {0}
-MakesNoDefault e s reset = Unit {0}
 
 unfoldable pub NoDefault : Env → Store → List Call → Type 0
 NoDefault e s [] = Unit {0}
@@ -261,7 +245,6 @@ madeBy e s (forceKind t) = 0
 madeBy e s (unify a b) = 0
 madeBy e s (read r) = 0
 madeBy e s (later c) = 0
-madeBy e s reset = 0
 
 unfoldable pub nodesMade : Env → Store → List Call → ℕ
 nodesMade e s [] = 0
@@ -302,6 +285,7 @@ abbrev pub FirstHalfHolds : Type 0
 FirstHalfHolds =
     (e : Env) (n c : ℕ) → n ≤ MAX-NODES → c ≤ MAX-CHILDREN → (cs : List Call) → Each inFirstHalf cs → FirstHalf e (opened n c) cs
 
+-- "Second half: these and the next section's calls without `reset`": every `Call` is one of them, so the list is any list. `reset` is a call on a store and its
+-- names buffer (States), and StatesDemand's `inStatesHalf` leaves it out
 abbrev pub SecondHalfHolds : Type 0
-SecondHalfHolds =
-    (e : Env) (n c : ℕ) → n ≤ MAX-NODES → c ≤ MAX-CHILDREN → (cs : List Call) → Each inSecondHalf cs → SecondHalf e (opened n c) cs
+SecondHalfHolds = (e : Env) (n c : ℕ) → n ≤ MAX-NODES → c ≤ MAX-CHILDREN → (cs : List Call) → SecondHalf e (opened n c) cs

@@ -18,7 +18,9 @@ pub mod Visits
 pub mod Show
 pub mod Refusals
 pub mod Calls
+pub mod States
 pub mod Trees
 pub mod Demand
 pub mod Sheet
 pub mod Replies
+pub mod StatesDemand

@@ -50,6 +50,13 @@ NONE = 4294967295
 abbrev pub MAX-REPORTS : ℕ
 MAX-REPORTS = 18446744073709551615
 
+-- of 02's named states: "at most eight names of 1 to 255 bytes"
+abbrev pub MAX-STATES : ℕ
+MAX-STATES = 8
+
+abbrev pub MAX-STATE-NAME : ℕ
+MAX-STATE-NAME = 255
+
 -- of program `sheet`: "one over 255 bytes is a bad line"
 abbrev pub MAX-LINE : ℕ
 MAX-LINE = 255

@@ -56,6 +56,13 @@ NODES-FULL = 10
 abbrev pub CHILDREN-FULL : ℕ
 CHILDREN-FULL = 11
 
+-- of 02's named states: "An unheld name, or one of a wrong length", "and a ninth", "both tested after 5, 12 first"
+abbrev pub UNHELD : ℕ
+UNHELD = 12
+
+abbrev pub NO-PLACE : ℕ
+NO-PLACE = 13
+
 -- what a call comes to: a refusal, which "returns only its number and leaves all memory as found", or the answer and the store afterwards
 pub data Outcome (A : Type 0) : Type 0 where
   refused : ℕ → Outcome A

@@ -12,10 +12,10 @@ use Rattle.scope.specs.Force.{Forced, Mod}
 use Rattle.scope.specs.Sound.{reads}
 use Rattle.scope.specs.Calls.{Outcome, refused, done, Exported, Printed, findCall, findMutCall, nodeCall, childCall, nameCall, figuresCall, newCall, newStructCall, newUnionCall}
 use Rattle.scope.specs.Calls.{newVarCall, newVarsCall, errorCall, nilCall, unifyCall, unifyTypesCall, unifyObjectsCall, unifyImplTypeCall, approxEqCall, unifyFnSigCall, forceKindCall}
-use Rattle.scope.specs.Calls.{finishInferenceCall, finishWhereCall, findRelatedCall, selfInverseCall, isNilCall, getModCall, resetCall, importCall, exportCall, showCall, showImplTypeCall}
+use Rattle.scope.specs.Calls.{finishInferenceCall, finishWhereCall, findRelatedCall, selfInverseCall, isNilCall, getModCall, importCall, exportCall, showCall, showImplTypeCall}
 use Rattle.scope.specs.Demand.{Maker, new, newVar, newStruct, newUnion, newVars, error, nil, Read, find, findMut, export, node, child, name, figures, Later, unifyTypes, unifyObjects}
 use Rattle.scope.specs.Demand.{unifyImplType, unifyFnSig, finishInference, finishWhere, findRelated, selfInverse, isNil, getMod, approxEq, show, showImplType, Call, make, import}
-use Rattle.scope.specs.Demand.{forceKind, unify, read, later, reset, next}
+use Rattle.scope.specs.Demand.{forceKind, unify, read, later, next}
 
 -- an answer of any call
 pub data Reply : Type 0 where
@@ -84,7 +84,6 @@ replyOf e s (forceKind t) = reply forced (forceKindCall e (reads s) t)
 replyOf e s (unify a b) = reply answer (unifyCall e (reads s) a b)
 replyOf e s (read r) = replyRead e s r
 replyOf e s (later c) = replyLater e s c
-replyOf e s reset = reply (λ u. nothing) (resetCall e (reads s))
 
 -- the answers of a list of calls, in order
 unfoldable pub replies : Env → Store → List Call → List Reply

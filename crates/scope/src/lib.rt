@@ -26,6 +26,10 @@ pub const NONE: u32 = 4294967295;
 
 pub const MAX_REPORTS: u64 = 18446744073709551615;
 
+pub const MAX_STATES: usize = 8;
+
+pub const MAX_STATE_NAME: usize = 255;
+
 pub const MAX_LINE: usize = 255;
 
 pub const MAX_DIGITS: usize = 4;

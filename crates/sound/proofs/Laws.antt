@@ -39,7 +39,7 @@ swap-and true true c d = refl
 swap-and true false c d = sym (and-false c)
 swap-and false b c d = refl
 
-all-both : {A : Type 0} (p q : A → Bool) (l : List A) → all (λ x. p x && q x) l ≡ (all p l && all q l)
+pub all-both : {A : Type 0} (p q : A → Bool) (l : List A) → all (λ x. p x && q x) l ≡ (all p l && all q l)
 all-both p q [] = refl
 all-both p q (x ∷ l) = ap (λ (b : Bool). (p x && q x) && b) (all-both p q l) ∙ swap-and (p x) (q x) (all p l) (all q l)
 

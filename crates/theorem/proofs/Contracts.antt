@@ -1,12 +1,19 @@
 -- Every public function's own contract is a step: by the step's own constructor.
 -- Assumes nothing.
 use mathlib.Core.Path.{subst}
+use mathlib.Core.List.{List}
 use Prim.Native.Nat.{ℕ}
+use lib.Dec.{leb}
+use lib.ListN.{length}
 use Rattle.scope.specs.Calls.{openCall}
+use Rattle.scope.specs.States.{openNamesCall}
+use Rattle.book.specs.Words.{bookWords}
 use Rattle.promise.specs.Promise.{doneReply}
 use Rattle.promise.specs.declared.DoneAnswer.{DoneAnswer}
+use Rattle.tested_states.specs.Promise.{NamesOpened}
 use Rattle.theorem.specs.Memory.{memoryOf, roomy, Did}
 use Rattle.theorem.specs.Steps as ran
+use Rattle.theorem.specs.DeskSteps as desk
 use Rattle.theorem.specs.Contracts.{Contracts, arg1, arg2, arg3, arg4, arg5, arg6, arg7, otherWords}
 
 pub contracts : Contracts
@@ -64,5 +71,16 @@ contracts = record {
   show-impl-type = record { free = λ κs a. tt; is = λ κs a r x p. ran.show-impl-type (arg1 a) (arg2 a .now) (arg3 a .now) (arg3 x .now) r p };
   show-part = record { free = λ κs a. tt; is = λ κs a r x p. ran.show-part (arg1 a) (arg2 a .now) (r .now) (arg3 x .now) (p .0) };
   show-impl-type-part = record { free = λ κs a. tt; is = λ κs a r x p. ran.show-impl-type-part (arg1 a) (arg2 a .now) (arg3 a .now) (r .now) (arg4 x .now) (p .0) };
-  reset = record { free = λ κs a. tt; is = λ κs a r x p. ran.reset r p };
+  opens-names = record {
+    free = λ κs a. tt;
+    is = λ κs a r x p q.
+        let was : List ℕ = a .0 .now in
+        let n : ℕ = a .1 .0 in
+        let c : ℕ = a .1 .1 .0 in
+        record { found = was; left = subst (λ (y : DoneAnswer). NamesOpened (openNamesCall n c (leb (bookWords n c) (length was))) (doneReply y) was (x .0 .now)) q p };
+  };
+  name-state = record { free = λ κs a. tt; is = λ κs a r x p. desk.name-state (arg2 a .now) r p };
+  return-to = record { free = λ κs a. tt; is = λ κs a r x p. desk.return-to (arg2 a .now) r p };
+  drop-name = record { free = λ κs a. tt; is = λ κs a r x p. desk.drop-name (arg2 a .now) r p };
+  reset = record { free = λ κs a. tt; is = λ κs a r x p. desk.reset r p };
 }

@@ -3,6 +3,12 @@ pub mod StepLaws
 pub mod PrintLaws
 pub mod Steps
 pub mod RunLaws
+pub mod DeskLaws
+pub mod DeskOpened
+pub mod DeskTested
+pub mod DeskStood
+pub mod StatesTheorem
 pub mod Tested
 pub mod Theorem
 pub mod Example
+pub mod StatesExample

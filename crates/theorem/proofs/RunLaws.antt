@@ -20,7 +20,7 @@ use Rattle.scope.specs.Calls.{Outcome, refused, done, openTest, openCall, unify
 use Rattle.scope.specs.Calls.{newCall, newStructCall, newUnionCall, newVarCall, newVarsCall, errorCall, nilCall, importCall}
 use Rattle.scope.specs.Import.{copies}
 use Rattle.scope.specs.Trees.{Val, NodeFits}
-use Rattle.scope.specs.Demand.{Maker, new, newVar, newStruct, newUnion, newVars, error, nil, Call, make, import, forceKind, unify, read, later, reset, given, step, stepMaker, next, after}
+use Rattle.scope.specs.Demand.{Maker, new, newVar, newStruct, newUnion, newVars, error, nil, Call, make, import, forceKind, unify, read, later, given, step, stepMaker, next, after}
 use Rattle.scope.specs.Demand.{statesMade, Asks, Asked, Answers, EveryAnswer, isDefault, MakesNoDefault, NoDefault, ifTaken, madeBy, nodesMade}
 use Rattle.scope.specs.Replies.{Reply, type, types, answer, reply, replyMaker, replyOf, replies}
 use Rattle.scope.proofs.Steps.{judged-cases}
@@ -122,7 +122,6 @@ module _ (e : Env) (m m′ : Memory) where
   asks-same v (unify a b) l = if-so (ap wasMade (l .answer) ∙ outcome-made s answer (λ x. refl) (unifyCall e (reads s) a b))
   asks-same v (read q) l = ((λ x. x), (λ x. x))
   asks-same v (later q) l = ((λ x. x), (λ x. x))
-  asks-same v reset l = ((λ x. x), (λ x. x))
 
   answers-same : (P : Answer → Type 0) (c : Call) {r : Reply} → Leaves (next e s c) (replyOf e s c) r m′ → unifyAnswers P m c r m′ → Answers P e s c
   answers-same P (make k) l h = tt
@@ -131,7 +130,6 @@ module _ (e : Env) (m m′ : Memory) where
   answers-same P (unify a b) l h = λ x q. h x (l .answer ∙ answer-given (unifyCall e (reads s) a b) x q)
   answers-same P (read q) l h = tt
   answers-same P (later q) l h = tt
-  answers-same P reset l h = tt
 
   default-same : (c : Call) {r : Reply} → Leaves (next e s c) (replyOf e s c) r m′ → noDefault e m c r m′ → MakesNoDefault e s c
   default-same (make k) l h = if-so (ap wasMade (l .answer) ∙ maker-made s e k) .0 h
@@ -141,9 +139,8 @@ module _ (e : Env) (m m′ : Memory) where
   default-same (unify a b) l h = tt
   default-same (read q) l h = tt
   default-same (later q) l h = tt
-  default-same reset l h = tt
 
-  nodes-same : (c : Call) {r : Reply} → Leaves (next e s c) (replyOf e s c) r m′ → nodesBy e m c r ≡ madeBy e s c
+  pub nodes-same : (c : Call) {r : Reply} → Leaves (next e s c) (replyOf e s c) r m′ → nodesBy e m c r ≡ madeBy e s c
   nodes-same (make k) l = ap (λ (b : Bool). ifTaken b (length (statesMade e s k))) (ap wasMade (l .answer) ∙ maker-made s e k)
   nodes-same (import x ts ps h) l =
       ap (λ (b : Bool). ifTaken b (copies (storeOf x .nodes) ps ts)) (ap wasMade (l .answer) ∙ outcome-made s types (λ t. refl) (importCall e (reads s) x ts ps h))
@@ -151,7 +148,6 @@ module _ (e : Env) (m m′ : Memory) where
   nodes-same (unify a b) l = refl
   nodes-same (read q) l = refl
   nodes-same (later q) l = refl
-  nodes-same reset l = refl
 
 -- and of a list
 

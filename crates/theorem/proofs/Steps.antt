@@ -5,7 +5,7 @@ use lib.ListN.{length, take}
 use Rattle.scope.specs.Types.{tyOf}
 use Rattle.scope.specs.Calls.{findCall, findMutCall, nodeCall, childCall, nameCall, figuresCall, newCall, newStructCall, newUnionCall, newVarCall, newVarsCall, errorCall, nilCall}
 use Rattle.scope.specs.Calls.{unifyCall, unifyTypesCall, unifyObjectsCall, unifyImplTypeCall, approxEqCall, unifyFnSigCall, forceKindCall, finishInferenceCall, finishWhereCall}
-use Rattle.scope.specs.Calls.{findRelatedCall, selfInverseCall, isNilCall, getModCall, resetCall, importCall, exportCall, showCall, showImplTypeCall}
+use Rattle.scope.specs.Calls.{findRelatedCall, selfInverseCall, isNilCall, getModCall, importCall, exportCall, showCall, showImplTypeCall}
 use Rattle.scope.specs.Demand.{Call}
 use Rattle.scope.specs.Replies.{Reply}
 use Rattle.scope.specs.Replies as says
@@ -67,4 +67,3 @@ stepped f h (ran.show-part t bs part n p) = parted (λ l. showCall (env f) l (ty
 stepped f h (ran.show-impl-type {m} a xs bs bs′ r p) =
     shown (λ l. showImplTypeCall (env f) l (implMeans a xs) bs) h (impl-tells (env f) (lent m) (implMeans a xs) bs) (countReply r) bs′ p
 stepped f h (ran.show-impl-type-part a xs bs part n p) = parted (λ l. showImplTypeCall (env f) l (implMeans a xs) bs) h n part p
-stepped f h (ran.reset r p) = did (λ u. says.nothing) (resetCall (env f)) h (doneReply r) p

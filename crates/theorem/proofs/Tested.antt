@@ -32,6 +32,7 @@ use Rattle.theorem.specs.Runs.{Runs}
 use Rattle.theorem.specs.Tested.{TestedForms, StaysTested}
 use Rattle.theorem.proofs.StepLaws.{CleanWords, clean-reads, not-done}
 use Rattle.theorem.proofs.RunLaws.{opened-clean, opened-fresh, ended}
+use Rattle.theorem.proofs.DeskTested.{tested-store, opened-tested, after-tested}
 
 pub tested-forms : TestedForms
 tested-forms = record {
@@ -71,6 +72,9 @@ tested-forms = record {
   show = record { asks = λ κs a t. t; is = λ κs a r x p. p };
   show-impl-type = record { asks = λ κs a t. t; is = λ κs a r x p. p };
   import = record { asks = λ κs a t. t; is = λ κs a r x p. p };
+  name-state = record { asks = λ κs a t. t; is = λ κs a r x p. p };
+  return-to = record { asks = λ κs a t. t; is = λ κs a r x p. p };
+  drop-name = record { asks = λ κs a t. t; is = λ κs a r x p. p };
   reset = record { asks = λ κs a t. t; is = λ κs a r x p. p };
 }
 
@@ -135,6 +139,9 @@ stays-tested = record {
   after = λ f m m′ t run.
       let end = ended f run (tested-words f m t) in
       words-tested f m′ (tested-chart f m t) (end .says) (subst (SoundFacts (env f)) (sym (end .store)) (after-sound (env f) (held m) _ (tested-facts f m t)));
+  opened-desk = opened-tested;
+  after-desk = after-tested;
+  desk-store = tested-store;
   exported = λ f n c m to to′ ts out out′ t p.
       let q : exportCall (env f) (reads (held m)) n c (roomy n c to) (typesIn ts) (length out) ≡ _ =
       ap (λ l. exportCall (env f) l n c (roomy n c to) (typesIn ts) (length out)) (sym (clean-reads (tested-words f m t))) ∙ p .outcome in

@@ -24,6 +24,8 @@ use Rattle.theorem.specs.Steps.{Ran}
 use Rattle.theorem.specs.Runs.{Runs, _then_, callsOf, joined, EachStep, asks}
 use Rattle.theorem.specs.Theorem.{FirstHalf, SecondHalf, ListHolds, Theorem}
 use Rattle.theorem.proofs.Contracts.{contracts}
+use Rattle.theorem.proofs.DeskStood.{desk-stood}
+use Rattle.theorem.proofs.StatesTheorem.{states-theorem}
 use Rattle.theorem.proofs.Tested.{tested-forms, stays-tested}
 use Rattle.theorem.proofs.StepLaws.{CleanWords, clean-reads}
 use Rattle.theorem.proofs.Steps.{stepped}
@@ -79,8 +81,8 @@ lists f n c m m′ o run = record {
   answers = t .answers ∙ ap (λ (s : Store). replies (env f) s (callsOf run)) (z .is);
   first = λ p. first f run k
       (subst (λ (s : Store). scope.FirstHalf (env f) s (callsOf run)) (sym (z .is)) (first-half (env f) n c (z .nodes) (z .children) (callsOf run) p));
-  second = λ p. second f run k
-      (subst (λ (s : Store). scope.SecondHalf (env f) s (callsOf run)) (sym (z .is)) (second-half (env f) n c (z .nodes) (z .children) (callsOf run) p));
+  second = second f run k
+      (subst (λ (s : Store). scope.SecondHalf (env f) s (callsOf run)) (sym (z .is)) (second-half (env f) n c (z .nodes) (z .children) (callsOf run)));
 }
   where
     k : CleanWords m
@@ -93,4 +95,4 @@ lists f n c m m′ o run = record {
     t = ended f run k
 
 pub theorem : Theorem
-theorem = record { contracts = contracts; lists = lists; forms = tested-forms; stays = stays-tested }
+theorem = record { contracts = contracts; lists = lists; states = states-theorem; stood = desk-stood; forms = tested-forms; stays = stays-tested }

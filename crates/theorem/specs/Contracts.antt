@@ -13,6 +13,8 @@ use denote.Triple.Clauses.{AtExit}
 use Rattle.scope.specs.Types.{tyOf}
 use Rattle.scope.specs.Demand.{Call}
 use Rattle.scope.specs.Demand as call
+use Rattle.scope.specs.StatesDemand.{StateCall, naming}
+use Rattle.scope.specs.StatesDemand as calls
 use Rattle.scope.specs.Replies.{Reply}
 use Rattle.scope.specs.Replies as says
 use Rattle.types.specs.Impls.{implMeans}
@@ -43,9 +45,11 @@ use Rattle.call_import.proofs as call_import
 use Rattle.call_export.proofs as call_export
 use Rattle.call_show.proofs as call_show
 use Rattle.call_show_part.proofs as call_show_part
+use Rattle.call_states.proofs as call_states
 use Rattle.copy_parts.specs.Places.{listOf}
 use Rattle.theorem.specs.Memory.{Memory, memoryOf, nodesNow, headNow, Fixed, lent, held, roomy, Opened}
 use Rattle.theorem.specs.Steps.{replied, Ran}
+use Rattle.theorem.specs.DeskSteps.{DeskMemory, deskOf, storeNow, namesNow, OpenedNames, DeskRan}
 
 -- of a function that asks A of its arguments and whose callers learn L: it asks nothing, so any numbers at all may be lent, and whatever is learnt is S
 pub record Allows {n : ℕ} (ps : List (PK n)) (r : RK n) (A : In n ps) (L S : Out n ps r) : Type 0 where
@@ -95,6 +99,13 @@ otherWords a = memoryOf (arg1 a .now) (arg2 a .now) (arg3 a .now)
 -- a step on what was lent: the call c answers r and leaves the words m
 abbrev pub RanOn : {R : Type 0} → Args R → Call → Reply → Memory → Type 0
 RanOn a c r m = Ran (fixedIn a) (wordsIn a) c r m
+
+-- with a names buffer behind these, and a step on both
+abbrev pub deskIn : {R : Type 0} → Args (Slice × R) → DeskMemory
+deskIn a = deskOf (wordsIn a) (arg1 a .now)
+
+abbrev pub DeskRanOn : {R : Type 0} → Args (Slice × R) → StateCall → Reply → DeskMemory → Type 0
+DeskRanOn a c r d = DeskRan (fixedIn a) (deskIn a) c r d
 
 -- the words at exit, of a call that writes the header and the nodes, and of one that writes the nodes alone
 abbrev pub headLeft : {R Q : Type 0} → Args R → Args Q → Memory
@@ -201,5 +212,15 @@ pub record Contracts : Type 0 where
       call_show_part.show_impl_type_part.Reads.Asked call_show_part.show_impl_type_part.Reads.Learnt
       (λ κs a r x. RanOn a (call.later (call.showImplType (implMeans (arg1 a) (arg2 a .now)) (arg3 a .now)))
       (replied (λ n. says.text (r .now)) (partReply (arg4 x .now) (r .now))) (wordsIn a))
-  pub reset : Allows opening.reset.Kinds.ps opening.reset.Kinds.r opening.reset.Reads.Asked opening.reset.Reads.Learnt
-      (λ κs a r x. RanOn a call.reset (replied (λ u. says.nothing) (doneReply r)) (wordsIn x))
+  -- the names buffer that `open_names` was lent, when it answered Done
+  pub opens-names : Allows call_states.open_names.Kinds.ps call_states.open_names.Kinds.r call_states.open_names.Reads.Asked call_states.open_names.Reads.Learnt
+      (λ κs a r x. r ≡ Done → OpenedNames (a .1 .0) (a .1 .1 .0) (x .0 .now))
+  -- the calls on a store and its names buffer
+  pub name-state : Allows call_states.name_state.Kinds.ps call_states.name_state.Kinds.r call_states.name_state.Reads.Asked call_states.name_state.Reads.Learnt
+      (λ κs a r x. DeskRanOn a (naming (calls.name (arg2 a .now))) (replied (λ u. says.nothing) (doneReply r)) (namesNow (deskIn a) (arg1 x .now)))
+  pub return-to : Allows call_states.return_to.Kinds.ps call_states.return_to.Kinds.r call_states.return_to.Reads.Asked call_states.return_to.Reads.Learnt
+      (λ κs a r x. DeskRanOn a (naming (calls.returnTo (arg2 a .now))) (replied (λ u. says.nothing) (doneReply r)) (storeNow (deskIn a) (wordsIn x)))
+  pub drop-name : Allows call_states.drop_name.Kinds.ps call_states.drop_name.Kinds.r call_states.drop_name.Reads.Asked call_states.drop_name.Reads.Learnt
+      (λ κs a r x. DeskRanOn a (naming (calls.drop (arg2 a .now))) (replied (λ u. says.nothing) (doneReply r)) (namesNow (deskIn a) (arg1 x .now)))
+  pub reset : Allows call_states.reset.Kinds.ps call_states.reset.Kinds.r call_states.reset.Reads.Asked call_states.reset.Reads.Learnt
+      (λ κs a r x. DeskRanOn a (naming calls.reset) (replied (λ u. says.nothing) (doneReply r)) (deskIn x))

@@ -1,6 +1,9 @@
 pub mod Memory
 pub mod Steps
 pub mod Runs
+pub mod DeskSteps
+pub mod DeskRuns
 pub mod Contracts
 pub mod Tested
+pub mod StatesTheorem
 pub mod Theorem

@@ -13,7 +13,7 @@ use Rattle.scope.specs.Answers.{Answer}
 use Rattle.scope.specs.Calls.{storeOf}
 use Rattle.scope.specs.Import.{copies}
 use Rattle.scope.specs.Trees.{Val, NodeFits, PairFits}
-use Rattle.scope.specs.Demand.{Call, make, import, forceKind, unify, read, later, reset, statesMade, StatesFit, isDefault, ifTaken}
+use Rattle.scope.specs.Demand.{Call, make, import, forceKind, unify, read, later, statesMade, StatesFit, isDefault, ifTaken}
 use Rattle.scope.specs.Replies.{Reply, number, type, types, answer, flag, forced, exported, a-node, a-child, a-name, a-store, marks, mod-is, text, nothing}
 use Rattle.theorem.specs.Memory.{Memory, Fixed, held}
 use Rattle.theorem.specs.Steps.{Ran}
@@ -74,7 +74,6 @@ asks e v m (forceKind t) r m′ = Unit {0}
 asks e v m (unify a b) r m′ = wasMade r ≡ true → PairFits e v a b
 asks e v m (read q) r m′ = Unit {0}
 asks e v m (later q) r m′ = Unit {0}
-asks e v m reset r m′ = Unit {0}
 
 -- the code's answer to a unify is one of these, or a refusal
 abbrev pub unifyAnswers : (Answer → Type 0) → Memory → Call → Reply → Memory → Type 0
@@ -84,7 +83,6 @@ unifyAnswers P m (forceKind t) r m′ = Unit {0}
 unifyAnswers P m (unify a b) r m′ = (x : Answer) → r ≡ answer x → P x
 unifyAnswers P m (read q) r m′ = Unit {0}
 unifyAnswers P m (later q) r m′ = Unit {0}
-unifyAnswers P m reset r m′ = Unit {0}
 
 -- no Default is made or imported
 abbrev pub noDefault : Env → Memory → Call → Reply → Memory → Type 0
@@ -94,7 +92,6 @@ noDefault e m (forceKind t) r m′ = Unit {0}
 noDefault e m (unify a b) r m′ = Unit {0}
 noDefault e m (read q) r m′ = Unit {0}
 noDefault e m (later q) r m′ = Unit {0}
-noDefault e m reset r m′ = Unit {0}
 
 -- "one for each node that a maker makes, and one for each source root that `import` copies"
 abbrev pub nodesBy : Env → Memory → Call → Reply → ℕ
@@ -104,4 +101,3 @@ nodesBy e m (forceKind t) r = 0
 nodesBy e m (unify a b) r = 0
 nodesBy e m (read q) r = 0
 nodesBy e m (later q) r = 0
-nodesBy e m reset r = 0

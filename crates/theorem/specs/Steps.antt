@@ -8,7 +8,7 @@ use lib.ListN.{length, take}
 use Rattle.scope.specs.Types.{tyOf}
 use Rattle.scope.specs.Calls.{findCall, findMutCall, nodeCall, childCall, nameCall, figuresCall, newCall, newStructCall, newUnionCall, newVarCall, newVarsCall, errorCall, nilCall}
 use Rattle.scope.specs.Calls.{unifyCall, unifyTypesCall, unifyObjectsCall, unifyImplTypeCall, approxEqCall, unifyFnSigCall, forceKindCall, finishInferenceCall, finishWhereCall}
-use Rattle.scope.specs.Calls.{findRelatedCall, selfInverseCall, isNilCall, getModCall, resetCall, importCall, exportCall, showCall, showImplTypeCall}
+use Rattle.scope.specs.Calls.{findRelatedCall, selfInverseCall, isNilCall, getModCall, importCall, exportCall, showCall, showImplTypeCall}
 use Rattle.scope.specs.Demand.{Call}
 use Rattle.scope.specs.Demand as call
 use Rattle.scope.specs.Replies.{Reply, number}
@@ -138,5 +138,3 @@ pub data Ran (f : Fixed) : Memory → Call → Reply → Memory → Type 0 where
   show-impl-type-part : {m : Memory} (a : Impl) (xs buffer part : List ℕ) (code : ℕ)
       → PartPromised (showImplTypeCall (env f) (lent m) (implMeans a xs) buffer) code part (held m)
       → Ran f m (call.later (call.showImplType (implMeans a xs) buffer)) (replied (λ n. says.text part) (partReply code part)) m
-  reset : {m m′ : Memory} (r : DoneAnswer) → Did (resetCall (env f) (lent m)) (doneReply r) m m′
-      → Ran f m call.reset (replied (λ u. says.nothing) (doneReply r)) m′

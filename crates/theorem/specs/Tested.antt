@@ -14,8 +14,6 @@ use Rattle.scope.specs.Calls.{exportCall}
 use Rattle.store.specs.Entries.{typesIn}
 use Rattle.promise.specs.Exports.{ExportPromised}
 use Rattle.promise.specs.declared.DoneAnswer.the-variants.{Done}
-use Rattle.call_open.proofs as opening
-use Rattle.tested_reset.proofs as tested_reset
 use Rattle.call_new.proofs as call_new
 use Rattle.tested_new.proofs as tested_new
 use Rattle.call_make.proofs as call_make
@@ -40,9 +38,13 @@ use Rattle.call_impl.proofs as call_impl
 use Rattle.tested_impl.proofs as tested_impl
 use Rattle.call_import.proofs as call_import
 use Rattle.tested_import.proofs as tested_import
+use Rattle.call_states.proofs as call_states
+use Rattle.tested_states.proofs as tested_states
 use Rattle.theorem.specs.Memory.{Memory, Fixed, env, lent, held, roomy, Opened, TestedWords}
 use Rattle.theorem.specs.Runs.{Runs}
-use Rattle.theorem.specs.Contracts.{Args, fixedIn, wordsIn, otherWords}
+use Rattle.theorem.specs.DeskSteps.{DeskMemory, TestedDesk, OpenedNames}
+use Rattle.theorem.specs.DeskRuns.{DeskRuns}
+use Rattle.theorem.specs.Contracts.{Slice, Args, fixedIn, wordsIn, otherWords, deskIn}
 
 -- of a form that asks A of its arguments and whose callers learn L: it asks no more than T, and whatever is learnt is S
 pub record Form {n : ℕ} (ps : List (PK n)) (r : RK n) (T A : In n ps) (L S : Out n ps r) : Type 0 where
@@ -52,6 +54,10 @@ pub record Form {n : ℕ} (ps : List (PK n)) (r : RK n) (T A : In n ps) (L S : O
 -- what was lent passes the tests
 abbrev pub OnTested : {R : Type 0} → Args R → Type 0
 OnTested a = TestedWords (fixedIn a) (wordsIn a)
+
+-- with its names buffer
+abbrev pub OnTestedDesk : {R : Type 0} → Args (Slice × R) → Type 0
+OnTestedDesk a = TestedDesk (fixedIn a) (deskIn a)
 
 pub record TestedForms : Type 0 where
   pub new : Form tested_new.new.Kinds.ps tested_new.new.Kinds.r (λ κs a. OnTested a)
@@ -127,14 +133,25 @@ pub record TestedForms : Type 0 where
       tested_show.show.Reads.Asked tested_show.show.Reads.Learnt call_show.show.Reads.Learnt
   pub show-impl-type : Form tested_show.show_impl_type.Kinds.ps tested_show.show_impl_type.Kinds.r (λ κs a. OnTested a)
       tested_show.show_impl_type.Reads.Asked tested_show.show_impl_type.Reads.Learnt call_show.show_impl_type.Reads.Learnt
-  pub reset : Form tested_reset.reset.Kinds.ps tested_reset.reset.Kinds.r (λ κs a. OnTested a)
-      tested_reset.reset.Reads.Asked tested_reset.reset.Reads.Learnt opening.reset.Reads.Learnt
+  -- store and names buffer are tested
+  pub name-state : Form tested_states.name_state.Kinds.ps tested_states.name_state.Kinds.r (λ κs a. OnTestedDesk a)
+      tested_states.name_state.Reads.Asked tested_states.name_state.Reads.Learnt call_states.name_state.Reads.Learnt
+  pub return-to : Form tested_states.return_to.Kinds.ps tested_states.return_to.Kinds.r (λ κs a. OnTestedDesk a)
+      tested_states.return_to.Reads.Asked tested_states.return_to.Reads.Learnt call_states.return_to.Reads.Learnt
+  pub drop-name : Form tested_states.drop_name.Kinds.ps tested_states.drop_name.Kinds.r (λ κs a. OnTestedDesk a)
+      tested_states.drop_name.Reads.Asked tested_states.drop_name.Reads.Learnt call_states.drop_name.Reads.Learnt
+  pub reset : Form tested_states.reset.Kinds.ps tested_states.reset.Kinds.r (λ κs a. OnTestedDesk a)
+      tested_states.reset.Reads.Asked tested_states.reset.Reads.Learnt call_states.reset.Reads.Learnt
 
 pub record StaysTested : Type 0 where
   -- opening, with a chart and texts that 2 does not turn back
   pub opened : (f : Fixed) (n c : ℕ) (m : Memory) → chartOk (env f) ≡ true → Opened n c m → TestedWords f m
   -- any list of calls
   pub after : (f : Fixed) (m m′ : Memory) → TestedWords f m → Runs f m m′ → TestedWords f m′
+  -- with a names buffer: opening both for the same capacities, and any list of calls; then the store passes its own tests too
+  pub opened-desk : (f : Fixed) (n c : ℕ) (d : DeskMemory) → chartOk (env f) ≡ true → Opened n c (d .store) → OpenedNames n c (d .names) → TestedDesk f d
+  pub after-desk : (f : Fixed) (d d′ : DeskMemory) → TestedDesk f d → DeskRuns f d d′ → TestedDesk f d′
+  pub desk-store : (f : Fixed) (d : DeskMemory) → TestedDesk f d → TestedWords f (d .store)
   -- the destination of an export that is done
   pub exported : (f : Fixed) (n c : ℕ) (m to to′ : Memory) (ts out out′ : List ℕ) → TestedWords f m
       → ExportPromised (exportCall (env f) (lent m) n c (roomy n c to) (typesIn ts) (length out)) Done (length ts) (held m)

@@ -3,6 +3,7 @@
 -- what every call reads of chart and texts. Answers are the code's. Demand 3's own sentences stand without quotation marks; what these mark is 01's.
 use mathlib.Core.Path.{_≡_}
 use mathlib.Core.Bool.{true}
+use mathlib.Core.List.{List}
 use mathlib.Core.Logic.{_↔_}
 use Prim.Native.Nat.{ℕ, _<_}
 use lib.ListN.{length}
@@ -11,12 +12,14 @@ use Rattle.scope.specs.Nodes.{opened}
 use Rattle.scope.specs.Answers.{Success, Failure}
 use Rattle.scope.specs.Sound.{reads, rooted}
 use Rattle.scope.specs.Trees.{Val, Proper, Fits, PairFits}
-use Rattle.scope.specs.Demand.{unify, after, Each, inFirstHalf, inSecondHalf, SelfInverseNode, sizes, Contains}
+use Rattle.scope.specs.Demand.{unify, after, Each, inFirstHalf, SelfInverseNode, sizes, Contains}
 use Rattle.scope.specs.Replies.{Reply, answer, replies}
 use Rattle.theorem.specs.Memory.{Memory, Fixed, env, lent, held, Opened}
 use Rattle.theorem.specs.Steps.{Ran}
 use Rattle.theorem.specs.Runs.{Runs, _then_, callsOf, repliesOf, joined, EachStep, summed, asks, unifyAnswers, noDefault, nodesBy}
+use Rattle.theorem.specs.DeskRuns.{beside}
 use Rattle.theorem.specs.Contracts.{Contracts}
+use Rattle.theorem.specs.StatesTheorem.{StatesHalf, StatesTheorem}
 use Rattle.theorem.specs.Tested.{TestedForms, StaysTested}
 
 -- the first half: "the makers, `import`, `force_kind`, `unify`", and the reads
@@ -33,7 +36,7 @@ pub record FirstHalf (f : Fixed) {m m′ : Memory} (run : Runs f m m′) : Type 
       → (v : Val) → Proper (env f) v → EachStep (asks (env f) v) before → PairFits (env f) v a b
       → SelfInverseNode (env f) v (held m₁ .nodes)
 
--- the second half: "these and the next section's calls without `reset`"
+-- the second half: "these and the next section's calls without `reset`", which is a call on store and names buffer (DeskSteps)
 pub record SecondHalf (f : Fixed) {m m′ : Memory} (run : Runs f m m′) : Type 0 where
   -- a pair that once got Success gets it again: "if `unify` of them, as the next call, answers so"; the code has no other answer
   pub again : {m₁ m₂ m₃ : Memory} {a b : Ty} {r : Reply} (before : Runs f m m₁) (call : Ran f m₁ (unify a b) (answer Success) m₂) (later : Runs f m₂ m′)
@@ -54,13 +57,17 @@ pub record ListHolds (f : Fixed) (n c : ℕ) {m m′ : Memory} (run : Runs f m m
   -- every code answer is the definitions' answer
   pub answers : repliesOf run ≡ replies (env f) (opened n c) (callsOf run)
   pub first : Each inFirstHalf (callsOf run) → FirstHalf f run
-  pub second : Each inSecondHalf (callsOf run) → SecondHalf f run
+  pub second : SecondHalf f run
 
 pub record Theorem : Type 0 where
   -- what each public function was proved to do, on any numbers at all, is a step
   pub contracts : Contracts
   -- all that holds of every list of steps, with slices opened for n nodes and c children: "Each list starts from a store just opened, with no node"
   pub lists : (f : Fixed) (n c : ℕ) (m m′ : Memory) → Opened n c m → (run : Runs f m m′) → ListHolds f n c run
+  -- with a names buffer beside the store, and the calls that name a state, return to it and drop it
+  pub states : StatesTheorem
+  -- whose second half is the one above on lists without these calls, whatever the buffer beside the store holds
+  pub stood : (f : Fixed) (bs : List ℕ) (m m′ : Memory) (run : Runs f m m′) → StatesHalf f (beside bs run) ↔ SecondHalf f run
   -- what each form for a tested store was proved to do, on words that pass the tests, is what the call itself was proved to do
   pub forms : TestedForms
   -- and after any list the words pass them, if they did before

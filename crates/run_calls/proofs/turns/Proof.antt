@@ -9,10 +9,11 @@ use Rattle.run_calls.proofs.turns.Statement.{statement}
 use Rattle.run_calls.proofs.turns.Tie as tie
 
 abbrev Inv-loop : tie.InvT-loop
-Inv-loop s h₀ ws₀ ks₀ o₀ l₀ at₀ h ws ks o l at = (length h ≡ length h₀) × (length ws ≡ length ws₀) × (length ks ≡ length ks₀) × (length o ≡ length o₀)
+Inv-loop s h₀ ws₀ ks₀ bs₀ o₀ l₀ at₀ h ws ks bs o l at =
+    (length h ≡ length h₀) × (length ws ≡ length ws₀) × (length ks ≡ length ks₀) × (length bs ≡ length bs₀) × (length o ≡ length o₀)
 
 abbrev μ-loop : tie.MeasureT-loop
-μ-loop s h₀ ws₀ ks₀ o₀ l₀ at₀ h ws ks o l at = length s - at
+μ-loop s h₀ ws₀ ks₀ bs₀ o₀ l₀ at₀ h ws ks bs o l at = length s - at
 
 nothing-lent-requires : tie.Need-nothing-lent-requires Inv-loop μ-loop
 nothing-lent-requires c κs = search needs
@@ -44,6 +45,9 @@ same-length-3 c = search needs
 same-length-4 : tie.Need-same-length-4 Inv-loop μ-loop
 same-length-4 c = search needs
 
+same-length-5 : tie.Need-same-length-5 Inv-loop μ-loop
+same-length-5 c = search needs
+
 returns : tie.Need-returns Inv-loop μ-loop
 returns c = search needs
 
@@ -63,4 +67,5 @@ turns-spec =
     same-length-2
     same-length-3
     same-length-4
+    same-length-5
     returns)

@@ -1,0 +1,4 @@
+pub mod Front
+pub mod Replace
+pub mod KeepLaws
+pub mod BackLaws

@@ -1,0 +1,4 @@
+pub mod FreeLaws
+pub mod HoldLaws
+pub mod NameLaws
+pub mod ReturnLaws
