@@ -430,6 +430,20 @@ FAROALDER_CALL(show, FAROALDER_THE_RULES, FAROALDER_READ_STORE, uint32_t type, u
 FAROALDER_CALL(show_impl_type, FAROALDER_THE_RULES, FAROALDER_READ_STORE, uint32_t trait, const uint32_t *types,
                size_t types_len, uint8_t *buf, size_t buf_len);
 
+/* ---- Lean forms of the second family's calls: lent no more of a tested store than they look at, with the same answers ----
+ * What the second family asks is asked here too, of the store that these words are of. */
+
+uint64_t faroalder_lean_new_var(uint32_t *h, size_t h_len, uint32_t *ws, size_t ws_len, uint32_t span);
+uint64_t faroalder_lean_error(uint32_t *h, size_t h_len, uint32_t *ws, size_t ws_len);
+uint64_t faroalder_lean_nil(uint32_t *h, size_t h_len, uint32_t *ws, size_t ws_len);
+uint64_t faroalder_lean_find(const uint32_t *h, size_t h_len, const uint32_t *ws, size_t ws_len, uint32_t type);
+uint64_t faroalder_lean_find_mut(const uint32_t *h, size_t h_len, uint32_t *ws, size_t ws_len, uint32_t type);
+
+/* `new` of a kind without names over a plain list of types, as a Tuple, a Struct or a Ref. A kind that has names is
+ * turned back with 4. 3, 4, 5, 10, 11. */
+uint64_t faroalder_lean_new_over(const uint32_t *chart, size_t chart_len, FAROALDER_WHOLE_STORE, uint32_t code,
+                                 uint32_t number, const uint32_t *types, size_t types_len);
+
 #ifdef __cplusplus
 }
 #endif

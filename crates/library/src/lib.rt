@@ -4,6 +4,7 @@
 pub mod asks;
 pub mod copies;
 pub mod forces;
+pub mod leans;
 pub mod makes;
 pub mod named;
 pub mod opens;
