@@ -42,7 +42,7 @@ pub struct FnSig<'a> {
   pub ret_ty: Type,
 }
 
-/// A kind, for [`Types::new`]. A struct's or union's self-duality is the chart's.
+/// A kind, for [`Types::new`](crate::Types::new). A struct's or union's self-duality is the chart's.
 #[derive(Debug, Clone, Copy, PartialEq, Eq)]
 pub enum TypeKind<'a> {
   /// A type parameter: its number, any at all, and its name.
@@ -200,7 +200,7 @@ impl TypeKind<'_> {
   }
 }
 
-/// A kind as a store has it. Its children are read as they are asked for.
+/// A kind as a store has it. Its children are a part of the store, borrowed.
 #[derive(Debug, Clone, Copy)]
 pub enum Kind<'t> {
   /// A type parameter: its number and its name.
