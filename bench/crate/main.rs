@@ -75,15 +75,24 @@ fn filled<S: Side>(nodes: usize) -> S {
   side
 }
 
+/// What is small: beside the Rust's behind a function that is not inlined, so that there is one call on each side, and
+/// beside the Rust's in the driver's loop.
+fn small(what: &str, called: [f64; 2], inlined: [f64; 2]) {
+  line(what, called[0], called[1]);
+  line(&format!("{what}, the Rust's inlined"), inlined[0], inlined[1]);
+}
+
 fn makers() {
-  fn making<S: Side>(maker: Maker) -> f64 {
+  fn making<S: Side>(maker: Maker, makes: fn(&mut S, Maker, usize)) -> f64 {
     let nodes = maker.nodes(NODES);
     let calls = maker.calls(nodes);
     // Filled anew each time: the Rust's vector has room then, as one that grew has.
-    least(|| filled::<S>(NODES - nodes), |side| side.makes(maker, calls)) / calls as f64
+    least(|| filled::<S>(NODES - nodes), |side| makes(side, maker, calls)) / calls as f64
   }
   for maker in Maker::ALL {
-    line(maker.name(), making::<Ours>(maker), making::<Vine>(maker));
+    let called = [making(maker, Ours::makes_called), making(maker, Vine::makes_called)];
+    let inlined = [making(maker, Ours::makes), making(maker, Vine::makes)];
+    small(maker.name(), called, inlined);
   }
 }
 
@@ -91,17 +100,22 @@ fn makers() {
 fn finding() {
   let ours: Ours = filled(NODES);
   let rust: Vine = filled(NODES);
-  let calls = NODES as f64;
-  let all = 0..NODES as u32;
-  let mine = least(|| (), |()| all.clone().for_each(|node| _ = black_box(ours.find(node)))) / calls;
-  let theirs = least(|| (), |()| all.clone().for_each(|node| _ = black_box(rust.find(node)))) / calls;
-  line("find", mine, theirs);
-  let mine = least(|| ours.clone(), |side| all.clone().for_each(|node| _ = black_box(side.find_mut(node)))) / calls;
-  let theirs = least(|| rust.clone(), |side| all.clone().for_each(|node| _ = black_box(side.find_mut(node)))) / calls;
-  line("find_mut", mine, theirs);
-  let mine = least(|| (), |()| all.clone().for_each(|node| _ = black_box(ours.kids(node)))) / calls;
-  let theirs = least(|| (), |()| all.clone().for_each(|node| _ = black_box(rust.kids(node)))) / calls;
-  line("kind and its children", mine, theirs);
+  macro_rules! each {
+    ($side:ident, $call:ident) => {
+      least(|| (), |()| (0..NODES as u32).for_each(|node| _ = black_box($side.$call(node)))) / NODES as f64
+    };
+    (mut $side:ident, $call:ident) => {
+      least(|| $side.clone(), |side| (0..NODES as u32).for_each(|node| _ = black_box(side.$call(node)))) / NODES as f64
+    };
+  }
+  let mine = each!(ours, find);
+  small("find", [mine, each!(rust, find_called)], [mine, each!(rust, find)]);
+  let mine = each!(mut ours, find_mut);
+  small("find_mut", [mine, each!(mut rust, find_mut_called)], [mine, each!(mut rust, find_mut)]);
+  let [mine, called, inlined] = [each!(ours, kids), each!(rust, kids_called), each!(rust, kids)];
+  small("kind and its children", [mine, called], [mine, inlined]);
+  let mine = each!(ours, children);
+  small("children", [mine, called], [mine, inlined]);
 }
 
 fn unifying() {
