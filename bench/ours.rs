@@ -29,6 +29,7 @@ unsafe extern "C" {
   fn faroalder_direct_new(h: M, _: N, ws: M, _: N, ks: M, _: N, code: u32, number: u32, entries: P, _: N) -> u32;
   fn faroalder_direct_error(h: M, _: N, ws: M, _: N, ks: P, _: N) -> u32;
   fn faroalder_direct_nil(h: M, _: N, ws: M, _: N, ks: P, _: N) -> u32;
+  fn faroalder_direct_import(sw: P, _: N, sk: P, _: N, n: u32, h: M, _: N, ws: M, _: N, ks: M, _: N, ts: P, _: N, out: M, _: N);
   fn faroalder_direct_show(_: P, _: N, _: B, _: N, _: B, _: N, ws: P, _: N, ks: P, _: N, n: u32, t: u32, buf: *mut u8, _: N) -> usize;
   fn faroalder_direct_unify(ws: M, _: N, ks: P, _: N, n: u32, rule: B, _: N, text: B, _: N, a: u32, b: u32) -> u32;
   fn faroalder_direct_unify_recalling(ws: M, _: N, ks: P, _: N, n: u32, rule: B, _: N, text: B, _: N, memory: M, _: N, a: u32, b: u32) -> u32;
@@ -170,6 +171,32 @@ impl<const PUBLIC: bool> Ours<PUBLIC> {
         memory.len(),
         a,
         b,
+      )
+    }
+  }
+
+  /// What the types of another store become here, by the core: this one has the room.
+  pub fn import(&mut self, from: &Self, types: &[u32], out: &mut [u32]) {
+    assert!(types.len() <= out.len());
+    let (sw, sk) = (&from.ws, &from.ks);
+    let Ours { h, ws, ks, .. } = self;
+    unsafe {
+      faroalder_direct_import(
+        sw.as_ptr(),
+        sw.len(),
+        sk.as_ptr(),
+        sk.len(),
+        from.h[0],
+        h.as_mut_ptr(),
+        h.len(),
+        ws.as_mut_ptr(),
+        ws.len(),
+        ks.as_mut_ptr(),
+        ks.len(),
+        types.as_ptr(),
+        types.len(),
+        out.as_mut_ptr(),
+        out.len(),
       )
     }
   }

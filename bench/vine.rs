@@ -8,7 +8,7 @@ use crate::{
     ast::{Ident, Span},
     chart::{Chart, DefId, StructDef, StructId, UnionDef, UnionId},
     diag::ErrorGuaranteed,
-    types::{Type, TypeKind, Types, UnifyResult, view},
+    types::{Type, TypeCtx, TypeKind, Types, UnifyResult, view},
   },
 };
 
@@ -47,6 +47,11 @@ impl Vine {
 
   pub fn show(&self, node: u32) -> String {
     self.types.show(&self.chart, ty(node))
+  }
+
+  /// Types of this store, as an import takes them.
+  pub fn lent(self, nodes: &[u32]) -> TypeCtx<Vec<Type>> {
+    TypeCtx { types: self.types, inner: tys(nodes) }
   }
 
   fn new(&mut self, kind: TypeKind) -> u32 {

@@ -143,18 +143,11 @@ fn mixed<S: Side>(side: &mut S) -> Vec<u32> {
 }
 
 fn chain<S: Side>(side: &mut S) -> Vec<u32> {
-  let bottom = side.var();
-  vec![(1..shapes::CHAIN).fold(bottom, |kid, _| side.reference(kid))]
-}
-
-fn wide<S: Side>(side: &mut S) -> Vec<u32> {
-  let kids: Vec<u32> = (0..shapes::WIDTH).map(|_| side.var()).collect();
-  (0..shapes::TUPLES).map(|_| side.tuple(&kids)).collect()
+  vec![shapes::chain(side, shapes::CHAIN)]
 }
 
 fn shared<S: Side>(side: &mut S) -> Vec<u32> {
-  let bottom = side.var();
-  vec![(0..120).fold(bottom, |kid, _| side.tuple(&[kid, kid]))]
+  vec![shapes::doubled(side)]
 }
 
 /// Into an empty store with room for all of it: the time a node of the source.
@@ -179,7 +172,7 @@ fn importing() {
   }
   both!("a mixed store", mixed);
   both!("a chain of Refs", chain);
-  both!("wide tuples over the same variables", wide);
+  both!("wide tuples over the same variables", shapes::alike);
   both!("a tree shared at every level", shared);
 }
 

@@ -1,11 +1,12 @@
 // A type's text into a lent buffer, straight from the store, the chart and the texts: no other buffer is used. One level after another is written, and
-// where the buffer is full work stops at once.
+// where the buffer is full work stops at once. A cache keeps the roots found.
 ghost use mathlib.Core.Path.{_≡_};
 ghost use Rattle.scope.specs.Types.{tyOf};
 ghost use Rattle.scope.specs.Force.{isNil};
 ghost use Rattle.scope.specs.Show.{showF, show};
 ghost use Rattle.chart.specs.Env.{envOf};
 ghost use Rattle.layout.specs.Words.{decode};
+ghost use Rattle.roots.specs.Kept.{Cached};
 ghost use Rattle.walk.specs.Asks.{Stands};
 ghost use Rattle.append.specs.Appended.{Appended};
 ghost use Rattle.show.specs.Level.{shownOf, innerOf};
@@ -17,6 +18,7 @@ use kinds::PARAM;
 use kinds::REF;
 use layout::Held;
 use layout::Kind;
+use scope::MAX_NODES;
 use show_names::put_unknown;
 use show_parts::put_close;
 use show_parts::put_gap;
@@ -71,6 +73,113 @@ fn inner(i: Inverted, k: Kind) -> Inverted
     Inverted(false)
 }
 
+// The text of a type, at most so many levels deep, with the roots that a cache keeps.
+fn show_by<'a>(
+    chart: &[u32],
+    beside: Beside,
+    rule: &'a [u8],
+    text: &'a [u8],
+    ws: &[u32],
+    ks: &[u32],
+    n: u32,
+    cache: &mut [u16],
+    buf: &mut [u8],
+    at: usize,
+    t: Type,
+    depth: u32,
+) -> usize
+    requires { ⌜ Stands (now ws) (now ks) n × Cached (now ws) n (now cache) ⌝ }
+    ensures { λ r. ⌜ Appended (now (buf .entry)) at (now (buf .exit)) r
+        (showF (envOf (now (chart .entry)) beside (now (rule .entry)) (now (text .entry))) depth
+        (decode (now (ws .entry)) (now (ks .entry)) n) (tyOf (t .0)))
+        × Cached (now (ws .entry)) n (now (cache .exit)) ⌝ }
+{
+    if depth == 0 {
+        return at;
+    }
+    if append::is_full(buf, at) {
+        return at;
+    }
+    let root = roots::find_by(ws, n, cache, t);
+    let Held::Is(inv, kind) = layout::held_at(ws, n, root.idx()) else {
+        return put_unknown(buf, at, root);
+    };
+    let i = inv.xor(root.inv());
+    let turned = put_tilde(buf, at, i, kind);
+    let mut p = put_lead(chart, beside, rule, text, buf, turned, kind);
+    let deep = inner(i, kind);
+    let count = shown(ws, ks, n, kind);
+    let mut j: u32 = 0;
+    while j < count {
+        let q = put_gap(rule, text, ks, buf, p, kind, j);
+        let kid = layout::child_of(ks, kind, j).ty;
+        p = show_by(
+            chart,
+            beside,
+            rule,
+            text,
+            ws,
+            ks,
+            n,
+            cache,
+            buf,
+            q,
+            kid.invert_if(deep),
+            depth - 1,
+        );
+        j += 1;
+    }
+    put_close(buf, p, kind, count)
+}
+
+// To clear a cache takes as long as to write a short text. Among so few nodes no path to a root is long, and so few bytes have few types.
+const FEW_NODES: u32 = 512;
+
+const FEW_BYTES: usize = 4096;
+
+fn wants_cache(n: u32, buf: &[u8]) -> bool {
+    if n <= FEW_NODES {
+        return false;
+    }
+    FEW_BYTES < buf.len()
+}
+
+// The same, with each path to a root followed once.
+fn show_cached<'a>(
+    chart: &[u32],
+    beside: Beside,
+    rule: &'a [u8],
+    text: &'a [u8],
+    ws: &[u32],
+    ks: &[u32],
+    n: u32,
+    buf: &mut [u8],
+    at: usize,
+    t: Type,
+    depth: u32,
+) -> usize
+    requires { ⌜ Stands (now ws) (now ks) n ⌝ }
+    ensures { λ r. ⌜ Appended (now (buf .entry)) at (now (buf .exit)) r
+        (showF (envOf (now (chart .entry)) beside (now (rule .entry)) (now (text .entry))) depth
+        (decode (now (ws .entry)) (now (ks .entry)) n) (tyOf (t .0))) ⌝ }
+{
+    let mut cache = [0u16; MAX_NODES];
+    show_by(
+        chart,
+        beside,
+        rule,
+        text,
+        ws,
+        ks,
+        n,
+        &mut cache,
+        buf,
+        at,
+        t,
+        depth,
+    )
+}
+
 // The text of a type, at most so many levels deep.
 pub fn show_type<'a>(
     chart: &[u32],
@@ -90,41 +199,24 @@ pub fn show_type<'a>(
         (showF (envOf (now (chart .entry)) beside (now (rule .entry)) (now (text .entry))) depth
         (decode (now (ws .entry)) (now (ks .entry)) n) (tyOf (t .0))) ⌝ }
 {
-    if depth == 0 {
-        return at;
+    if wants_cache(n, buf) {
+        return show_cached(chart, beside, rule, text, ws, ks, n, buf, at, t, depth);
     }
-    if append::is_full(buf, at) {
-        return at;
-    }
-    let root = roots::find(ws, n, t);
-    let Held::Is(inv, kind) = layout::held_at(ws, n, root.idx()) else {
-        return put_unknown(buf, at, root);
-    };
-    let i = inv.xor(root.inv());
-    let turned = put_tilde(buf, at, i, kind);
-    let mut p = put_lead(chart, beside, rule, text, buf, turned, kind);
-    let deep = inner(i, kind);
-    let count = shown(ws, ks, n, kind);
-    let mut j: u32 = 0;
-    while j < count {
-        let q = put_gap(rule, text, ks, buf, p, kind, j);
-        let kid = layout::child_of(ks, kind, j).ty;
-        p = show_type(
-            chart,
-            beside,
-            rule,
-            text,
-            ws,
-            ks,
-            n,
-            buf,
-            q,
-            kid.invert_if(deep),
-            depth - 1,
-        );
-        j += 1;
-    }
-    put_close(buf, p, kind, count)
+    let mut none = [0u16; 0];
+    show_by(
+        chart,
+        beside,
+        rule,
+        text,
+        ws,
+        ks,
+        n,
+        &mut none,
+        buf,
+        at,
+        t,
+        depth,
+    )
 }
 
 // The text of a type, as deep as there are nodes.
