@@ -9,7 +9,7 @@ ghost use Rattle.meeting.specs.Asks.{Tops, Roots};
 ghost use Rattle.meeting.specs.Meets.{OneNode, Bare, WalkedTo, bareRoots, Met};
 ghost use Rattle.plan.specs.declared.Plan.the-variants as plans;
 ghost use Rattle.meeting.specs.Steps.{Ascends, Spans, PlanSpans, Stepped, Lasts, Returns};
-ghost use Rattle.meeting.specs.Kids.{slotPlace, soughtMeans, soughtIn};
+ghost use Rattle.meeting.specs.Kids.{slotPlace, soughtMeans, soughtIn, Middle};
 use layout::Held;
 use layout::TypeNode;
 use layout::TypeState;
@@ -181,7 +181,24 @@ pub fn seek<'a>(
     Sought::Nothing
 }
 
-// The same where names ascend, and one may stand in the i-th place: that child is looked at first.
+// Where a name is looked for first among count that ascend, and then: between low and high.
+fn middle(low: u32, high: u32) -> u32
+    requires { ⌜ low ≤ high ⌝ }
+    ensures { λ r. ⌜ Middle low high r ⌝ }
+{
+    low + (high - low) / 2
+}
+
+fn first_look(i: u32, count: u32) -> u32
+    ensures { λ r. ⌜ Middle 0 count r ⌝ }
+{
+    if i < count {
+        return i;
+    }
+    middle(0, count)
+}
+
+// The same where names ascend, and one may stand in the i-th place: that child is looked at first, then those before it or behind it, by halves.
 pub fn seek_near<'a>(
     ks: &[u32],
     name: Name,
@@ -194,12 +211,23 @@ pub fn seek_near<'a>(
     requires { ⌜ (childWords (b + count) ≤ length (now ks)) × Ascends (texts (now rule) (now text)) (now ks) b count ⌝ }
     ensures { λ r. ⌜ soughtMeans r ≡ soughtIn (texts (now (rule .entry)) (now (text .entry))) (now (ks .entry)) (nameOf name) b count ⌝ }
 {
-    if i < count {
-        if names::same_name(name, kid_name(ks, b, i), rule, text) {
-            return Sought::Is(kid(ks, b, i));
+    let mut low: u32 = 0;
+    let mut high = count;
+    let mut at = first_look(i, count);
+    while low < high {
+        let other = kid_name(ks, b, at);
+        if names::same_name(name, other, rule, text) {
+            return Sought::Is(kid(ks, b, at));
+        }
+        if names::name_before(name, other, rule, text) {
+            high = at;
+            at = middle(low, high);
+        } else {
+            low = at + 1;
+            at = middle(low, high);
         }
     }
-    seek(ks, name, b, count, rule, text)
+    Sought::Nothing
 }
 
 // Two runs of a signature's returns alone, where both have one.

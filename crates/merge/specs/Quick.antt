@@ -18,6 +18,12 @@ use Rattle.merge.specs.Meaning.{stateAt, sizeAt, Adds, Bound}
 use Rattle.merge.specs.declared.Bare.{Bare}
 use Rattle.merge.specs.declared.Bare.the-variants.{Is, Nothing}
 
+-- a state without a kind
+abbrev pub bareState : TypeState → Bool
+bareState (Known i k) = false
+bareState (Unknown s) = true
+bareState InferenceFailed = true
+
 -- the size of a root without a kind
 
 abbrev pub bareBy : TypeState → ℕ → Bare

@@ -8,7 +8,7 @@ ghost use Rattle.layout.specs.Words.{NODE-WORDS, nodeWords};
 ghost use Rattle.layout.specs.Meaning.{cellWords, pasteAt};
 ghost use Rattle.merge.specs.Meaning.{sizeAt, stateAt, turned, firstKnown, keptOf};
 ghost use Rattle.merge.specs.Meaning.{Adds, Joined, Merged, Bound, Settled};
-ghost use Rattle.merge.specs.Quick.{bareWithin, Resized, Sums, Sized, Tried};
+ghost use Rattle.merge.specs.Quick.{bareState, bareWithin, Resized, Sums, Sized, Tried};
 use layout::NODE_WORDS;
 use layout::TypeNode;
 use layout::TypeState;
@@ -92,20 +92,6 @@ fn kept(inv: Inverted, sa: TypeState, sb: TypeState, own: TypeState) -> TypeStat
     turn(inv, first_known(sa, first_known(sb, own)))
 }
 
-// "They merge and keep the kind"; "The staying root keeps its own span or failed mark."
-pub fn bind(ws: &mut [u32], n: u32, a: Type, b: Type)
-    requires { ⌜ Adds (now ws) n (tyOf (a .0)) (tyOf (b .0)) ⌝ }
-    ensures { λ _. ⌜ Bound (now (ws .entry)) (now (ws .exit)) n (tyOf (a .0)) (tyOf (b .0)) ⌝ }
-{
-    let ia = a.inv();
-    let ib = b.inv();
-    let sa = turn(ia, state_at(ws, n, a));
-    let sb = turn(ib, state_at(ws, n, b));
-    let ka = kept(ia, sa, sb, sa);
-    let kb = kept(ib, sa, sb, sb);
-    merge(ws, n, a, b, ka, kb);
-}
-
 // The word of a root's size.
 fn put_size(ws: &mut [u32], i: TypeIdx, size: u32)
     requires { ⌜ i .0 * NODE-WORDS + NODE-WORDS ≤ length (now ws) ⌝ }
@@ -157,6 +143,54 @@ fn unite(ws: &mut [u32], n: u32, a: Type, b: Type, sa: u32, sb: u32)
         hang(ws, n, a, b, sa + sb);
     } else {
         hang(ws, n, b, a, sb + sa);
+    }
+}
+
+// A root that has no kind: nothing of it is kept where it becomes a child.
+fn is_bare(ws: &[u32], n: u32, t: Type) -> bool
+    requires { ⌜ nodeWords n ≤ length (now ws) ⌝ }
+    ensures { λ r. ⌜ r ≡ bareState (stateAt (now (ws .entry)) n (tyOf (t .0) .idx)) ⌝ }
+{
+    match state_at(ws, n, t) {
+        TypeState::Known(_, _) => false,
+        TypeState::Unknown(_) => true,
+        TypeState::InferenceFailed => true,
+    }
+}
+
+// The root that stays takes a kind, whichever has it.
+fn take(ws: &mut [u32], n: u32, a: Type, b: Type)
+    requires { ⌜ Adds (now ws) n (tyOf (a .0)) (tyOf (b .0)) ⌝ }
+    ensures { λ _. ⌜ Bound (now (ws .entry)) (now (ws .exit)) n (tyOf (a .0)) (tyOf (b .0)) ⌝ }
+{
+    let ia = a.inv();
+    let ib = b.inv();
+    let sa = turn(ia, state_at(ws, n, a));
+    let sb = turn(ib, state_at(ws, n, b));
+    let ka = kept(ia, sa, sb, sa);
+    let kb = kept(ib, sa, sb, sb);
+    merge(ws, n, a, b, ka, kb);
+}
+
+// "They merge and keep the kind"; "The staying root keeps its own span or failed mark." Where the other has no kind it keeps all its words but its size's.
+pub fn bind(ws: &mut [u32], n: u32, a: Type, b: Type)
+    requires { ⌜ Adds (now ws) n (tyOf (a .0)) (tyOf (b .0)) ⌝ }
+    ensures { λ _. ⌜ Bound (now (ws .entry)) (now (ws .exit)) n (tyOf (a .0)) (tyOf (b .0)) ⌝ }
+{
+    let sa = size_at(ws, n, a);
+    let sb = size_at(ws, n, b);
+    if sb < sa {
+        if is_bare(ws, n, b) {
+            hang(ws, n, a, b, sa + sb);
+        } else {
+            take(ws, n, a, b);
+        }
+    } else {
+        if is_bare(ws, n, a) {
+            hang(ws, n, b, a, sb + sa);
+        } else {
+            take(ws, n, a, b);
+        }
     }
 }
 
