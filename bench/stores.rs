@@ -205,7 +205,7 @@ fn windows(code: u32) -> Store {
   let top = s.windows(code, NODES - 2, 1, end);
   let var = s.var();
   s.asked = vec![top];
-  s.pairs = vec![(var, top), (top, top | INVERSE), (top, top - 1)];
+  s.pairs = vec![(var, top), (top, top | INVERSE)];
   if code == OBJECT { s.named().full() } else { s.full() }
 }
 
