@@ -1,4 +1,4 @@
-// The same without tests: each asks what the core function asks that it calls, and promises the same. Nothing holds a caller in another language to that, so
+// Core functions, without tests: each asks what the core function asks that it calls, and promises the same. Nothing holds a caller in another language to that, so
 // these are for bench/ alone, whose driver lends stores that the library has made.
 ghost use Prim.Native.Nat.{_≤_, _<_};
 ghost use mathlib.Core.Bool.{false};
