@@ -6,8 +6,9 @@ ghost use Rattle.scope.specs.Force.{isNil};
 ghost use Rattle.scope.specs.Show.{showF, show};
 ghost use Rattle.chart.specs.Env.{envOf};
 ghost use Rattle.layout.specs.Words.{decode};
+ghost use Rattle.layout.specs.Meaning.{Linked};
 ghost use Rattle.roots.specs.Kept.{Cached};
-ghost use Rattle.walk.specs.Asks.{Stands};
+ghost use Rattle.walk.specs.Asks.{Stands, Nil};
 ghost use Rattle.append.specs.Appended.{Appended};
 ghost use Rattle.show.specs.Level.{shownOf, innerOf};
 use chart::Beside;
@@ -16,6 +17,7 @@ use kinds::FN;
 use kinds::IF_CONST;
 use kinds::PARAM;
 use kinds::REF;
+use kinds::TUPLE;
 use layout::Held;
 use layout::Kind;
 use scope::MAX_NODES;
@@ -27,17 +29,33 @@ use show_parts::put_tilde;
 use types::Inverted;
 use types::Type;
 
+// `is_nil` with the roots that a cache keeps.
+fn is_nil(ws: &[u32], n: u32, cache: &mut [u16], t: Type) -> bool
+    requires { ⌜ Linked (now ws) n × Cached (now ws) n (now cache) ⌝ }
+    ensures { λ r. ⌜ Nil (now (ws .entry)) n (t .0) r × Cached (now (ws .entry)) n (now (cache .exit)) ⌝ }
+{
+    let root = roots::find_by(ws, n, cache, t).idx();
+    let Held::Is(_, kind) = layout::held_at(ws, n, root) else {
+        return false;
+    };
+    if kind.code == TUPLE {
+        return kind.count == 0;
+    }
+    false
+}
+
 // How many of a kind's children are shown.
-fn shown(ws: &[u32], ks: &[u32], n: u32, k: Kind) -> u32
-    requires { ⌜ Stands (now ws) (now ks) n ⌝ }
-    ensures { λ r. ⌜ r ≡ shownOf (isNil (decode (now (ws .entry)) (now (ks .entry)) n)) (now (ks .entry)) k ⌝ }
+fn shown(ws: &[u32], ks: &[u32], n: u32, cache: &mut [u16], k: Kind) -> u32
+    requires { ⌜ Stands (now ws) (now ks) n × Cached (now ws) n (now cache) ⌝ }
+    ensures { λ r. ⌜ (r ≡ shownOf (isNil (decode (now (ws .entry)) (now (ks .entry)) n)) (now (ks .entry)) k)
+        × Cached (now (ws .entry)) n (now (cache .exit)) ⌝ }
 {
     if k.code == CLOSURE {
         if k.count == 0 {
             return 0;
         }
         let before = k.count - 1;
-        if walk::is_nil(ws, n, layout::child_of(ks, k, before).ty) {
+        if is_nil(ws, n, cache, layout::child_of(ks, k, before).ty) {
             return before;
         }
         return k.count;
@@ -46,7 +64,7 @@ fn shown(ws: &[u32], ks: &[u32], n: u32, k: Kind) -> u32
         if k.count < 2 {
             return 0;
         }
-        if walk::is_nil(ws, n, layout::child_of(ks, k, 1).ty) {
+        if is_nil(ws, n, cache, layout::child_of(ks, k, 1).ty) {
             return 1;
         }
         return 2;
@@ -108,7 +126,7 @@ fn show_by<'a>(
     let turned = put_tilde(buf, at, i, kind);
     let mut p = put_lead(chart, beside, rule, text, buf, turned, kind);
     let deep = inner(i, kind);
-    let count = shown(ws, ks, n, kind);
+    let count = shown(ws, ks, n, cache, kind);
     let mut j: u32 = 0;
     while j < count {
         let q = put_gap(rule, text, ks, buf, p, kind, j);

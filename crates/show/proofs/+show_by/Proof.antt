@@ -177,15 +177,14 @@ show-by-inner-requires t c κs = search needs
 
 show-by-shown-requires : (t : ℕ) → show-by-lts.Need-shown-requires (show-by-claims t) (show-by-at t) show-by.Post show-by-Inv-loop show-by-μ-loop
 show-by-shown-requires t c κs =
-    let before-start = c .before .before .before .before .before .before .before .before .before .before .before .before .before .before .before .before .before .before in
-    let start = before-start .before .before .before .before .before .before .before .before .before .before .before .before .before in
-    start .pre .1 .0
+    let before-find-by = c .before .before .before .before .before .before .before .before .before .before .before .before .before .before .before .before .before .before in
+    let at-find-by = before-find-by .before in
+    let start = at-find-by .before .before .before .before .before .before .before .before .before .before .before .before .before in
+    (start .pre .1 .0, at-find-by .find-by .ensures .1)
 
 show-by-loop-holds : (t : ℕ) → show-by-lts.Need-loop-holds (show-by-claims t) (show-by-at t) show-by.Post show-by-Inv-loop show-by-μ-loop
 show-by-loop-holds t c =
-    let before-find-by = c .before .before .before .before .before .before .before .before .before .before .before .before .before .before .before .before .before .before in
-    let at-find-by = before-find-by .before in
-    (turn-start _ _ _ _ _ _, at-find-by .find-by .ensures .1, refl)
+    (turn-start _ _ _ _ _ _, c .before .before .shown .ensures .1, refl)
 
 show-by-put-gap-requires : (t : ℕ) → show-by-lts.Need-put-gap-requires (show-by-claims t) (show-by-at t) show-by.Post show-by-Inv-loop show-by-μ-loop
 show-by-put-gap-requires t c κs = search needs
@@ -199,21 +198,22 @@ show-by-invert-if-requires t c κs = search needs
 show-by-sub-show-by : (t : ℕ) → show-by-lts.Need-sub-show-by (show-by-claims t) (show-by-at t) show-by.Post show-by-Inv-loop show-by-μ-loop
 show-by-sub-show-by t c =
     let before-if1 = c .before .before .before .before .before .before .before .before .before .before .before .before .before .before .before .before .before .before in
-    let at-if1 = before-if1 .before .before .before .before .before .before .before .before .before .before .before .before .before .before .before .before .before in
+    let before-if1 = before-if1 .before .before .before .before .before .before .before .before .before .before .before .before .before .before .before .before .before .before in
+    let at-if1 = before-if1 .before .before in
     omega (arith, at-if1 .if1 .left)
 
 show-by-show-by-requires : (t : ℕ) → show-by-lts.Need-show-by-requires (show-by-claims t) (show-by-at t) show-by.Post show-by-Inv-loop show-by-μ-loop
 show-by-show-by-requires t c κs =
     let turn = c .before .before .before .before .before .before .before .before .before .before in
     let before-if1 = turn .before .before .before .before .before .before .before .before .before .before .before .before .before .before .before .before .before .before in
-    let at-if1 = before-if1 .before .before .before .before .before .before .before in
+    let at-if1 = before-if1 .before .before .before .before .before .before .before .before .before .before in
     let start = at-if1 .before .before .before .before .before .before .before .before in
     (omega (arith, start .pre .0, at-if1 .if1 .left), (start .pre .1 .0, turn .loop .inv .1))
 
 show-by-add-j : (t : ℕ) → show-by-lts.Need-add-j (show-by-claims t) (show-by-at t) show-by.Post show-by-Inv-loop show-by-μ-loop
 show-by-add-j t c =
     let at-loop-test = c .before .before .before .before .before .before .before .before .before .before .before .before .before .before in
-    let at-shown = at-loop-test .before .before in
+    let at-shown = at-loop-test .before .before .before .before in
     omega (arith, at-loop-test .loop-test .taken, at-shown .shown .ok)
 
 show-by-loop-less : (t : ℕ) → show-by-lts.Need-loop-less (show-by-claims t) (show-by-at t) show-by.Post show-by-Inv-loop show-by-μ-loop
@@ -229,7 +229,7 @@ show-by-loop-again t c =
     let at-put-gap = at-child-of .before .before .before in
     let at-loop-test = at-put-gap .before .before in
     let turn = at-loop-test .before in
-    let at-inner = turn .before .before in
+    let at-inner = turn .before .before .before .before .before in
     let at-inv = at-inner .before .before .before .before .before .before .before .before .before .before .before .before in
     let before-start = at-inv .before .before .before .before .before .before .before .before .before .before .before .before .before .before .before .before .before .before in
     let start = before-start .before in
@@ -256,15 +256,16 @@ show-by-put-close-requires t c κs = search needs
 show-by-same-length-4 : (t : ℕ) → show-by-lts.Need-same-length-4 (show-by-claims t) (show-by-at t) show-by.Post show-by-Inv-loop show-by-μ-loop
 show-by-same-length-4 t c =
     let turn = c .before .before .before .before .before in
-    let before-find-by = turn .before .before .before .before .before .before .before .before .before .before .before .before .before .before .before .before .before .before in
+    let at-shown = turn .before .before .before in
+    let before-find-by = at-shown .before .before .before .before .before .before .before .before .before .before .before .before .before .before .before .before .before .before in
     let at-find-by = before-find-by .before .before in
-    turn .loop .inv .2 ∙ at-find-by .find-by .kept .1 .1 .0
+    turn .loop .inv .2 ∙ (at-shown .shown .kept .1 .1 .1 .0 ∙ at-find-by .find-by .kept .1 .1 .0)
 
 show-by-same-length-5 : (t : ℕ) → show-by-lts.Need-same-length-5 (show-by-claims t) (show-by-at t) show-by.Post show-by-Inv-loop show-by-μ-loop
 show-by-same-length-5 t c =
     let at-put-close = c .before .before in
     let turn = at-put-close .before .before .before in
-    let at-put-lead = turn .before .before .before .before .before in
+    let at-put-lead = turn .before .before .before .before .before .before .before .before in
     let at-put-tilde = at-put-lead .before .before .before .before in
     at-put-close .put-close .kept .0 ∙ turn .loop .inv .0 .long ∙ at-put-lead .put-lead .kept .1 .1 .1 .1 .0 ∙ at-put-tilde .put-tilde .kept .0
 
@@ -273,8 +274,8 @@ show-by-returns-4 t c =
     let at-put-close = c .before .before in
     let at-loop-test = at-put-close .before .before in
     let turn = at-loop-test .before in
-    let at-shown = turn .before in
-    let at-inner = at-shown .before in
+    let at-shown = turn .before .before .before in
+    let at-inner = at-shown .before .before in
     let at-put-lead = at-inner .before .before .before in
     let at-put-tilde = at-put-lead .before .before .before .before in
     let at-xor = at-put-tilde .before .before in
@@ -303,7 +304,7 @@ show-by-returns-4 t c =
     let known =
     show-known st e (a .depth) (a .t .0) deep (root .result .0) (node .result .0) (root .ensures .0) (node .ensures) (held .result) (held .ensures)
     (is .0 .0) (is .0 .1 .0) (is .1) (turned .result .0) (within .result .0) (count .result)
-    (turned .ensures ∙ ap (xor (is .0 .0 .0)) (of-root .ensures)) (within .ensures) (count .ensures) in
+    (turned .ensures ∙ ap (xor (is .0 .0 .0)) (of-root .ensures)) (within .ensures) (count .ensures .0) in
     (rw known (append-then tilde (append-then lead (turn-end _ _ _ _ (l .inv .0) (at-loop-test .loop-test .left) (at-put-close .put-close .ensures)))), l .inv .1)
 
 pub +show-by-spec : {M : Type 1} → statement M
