@@ -198,7 +198,25 @@ fn first_look(i: u32, count: u32) -> u32
     middle(0, count)
 }
 
-// The same where names ascend, and one may stand in the i-th place: that child is looked at first, then those before it or behind it, by halves.
+// Where it is looked for then: beside the i-th place, as long as that alone was looked at, and by halves after that.
+fn next_look(low: u32, high: u32, i: u32) -> u32
+    requires { ⌜ low ≤ high ⌝ }
+    ensures { λ r. ⌜ Middle low high r ⌝ }
+{
+    if low < high {
+        if high == i {
+            return high - 1;
+        }
+        if low > 0 {
+            if low - 1 == i {
+                return low;
+            }
+        }
+    }
+    middle(low, high)
+}
+
+// The same where names ascend, and one may stand in the i-th place: that child is looked at first, then the one before it or behind it, then by halves.
 pub fn seek_near<'a>(
     ks: &[u32],
     name: Name,
@@ -221,10 +239,10 @@ pub fn seek_near<'a>(
         }
         if names::name_before(name, other, rule, text) {
             high = at;
-            at = middle(low, high);
+            at = next_look(low, high, i);
         } else {
             low = at + 1;
-            at = middle(low, high);
+            at = next_look(low, high, i);
         }
     }
     Sought::Nothing

@@ -48,8 +48,8 @@ returns c =
 name-before-requires : tie.Need-name-before-requires Inv-loop μ-loop
 name-before-requires c κs = search needs
 
-middle-requires : tie.Need-middle-requires Inv-loop μ-loop
-middle-requires c κs = c .before .before .before .before .before .before .loop .inv .look .above
+next-look-requires : tie.Need-next-look-requires Inv-loop μ-loop
+next-look-requires c κs = c .before .before .before .before .before .before .loop .inv .look .above
 
 loop-less : tie.Need-loop-less Inv-loop μ-loop
 loop-less c =
@@ -65,7 +65,7 @@ loop-again c =
     let b6 = b5 .before in
     let b7 = b6 .before in
     let b12 = b7 .before .before .before .before .before in
-    halving-before (b7 .loop .inv) (b6 .loop-test .taken) (b12 .pre .1) (b5 .kid-name .ensures) (b2 .name-before .ensures) (b1 .if2 .taken) (c .middle .ensures)
+    halving-before (b7 .loop .inv) (b6 .loop-test .taken) (b12 .pre .1) (b5 .kid-name .ensures) (b2 .name-before .ensures) (b1 .if2 .taken) (c .next-look .ensures)
 
 add-low : tie.Need-add-low Inv-loop μ-loop
 add-low c =
@@ -74,8 +74,8 @@ add-low c =
     let b11 = b6 .before .before .before .before .before in
     omega (arith, b6 .loop .inv .look .below (b5 .loop-test .taken), b6 .loop .inv .top, b11 .fits .count .fits)
 
-middle-requires-2 : tie.Need-middle-requires-2 Inv-loop μ-loop
-middle-requires-2 c κs = omega (arith, c .before .before .before .before .before .before .loop .inv .look .below (c .before .before .before .before .before .loop-test .taken))
+next-look-requires-2 : tie.Need-next-look-requires-2 Inv-loop μ-loop
+next-look-requires-2 c κs = omega (arith, c .before .before .before .before .before .before .loop .inv .look .below (c .before .before .before .before .before .loop-test .taken))
 
 loop-less-2 : tie.Need-loop-less-2 Inv-loop μ-loop
 loop-less-2 c =
@@ -93,7 +93,7 @@ loop-again-2 c =
     let b6 = b5 .before in
     let b7 = b6 .before in
     let b12 = b7 .before .before .before .before .before in
-    halving-behind (b7 .loop .inv) (b6 .loop-test .taken) (b12 .pre .1) (b5 .kid-name .ensures) (b4 .same-name .ensures) (b3 .if1 .left) (b2 .name-before .ensures) (b1 .if2 .left) (c .middle2 .ensures)
+    halving-behind (b7 .loop .inv) (b6 .loop-test .taken) (b12 .pre .1) (b5 .kid-name .ensures) (b4 .same-name .ensures) (b3 .if1 .left) (b2 .name-before .ensures) (b1 .if2 .left) (c .next-look2 .ensures)
 
 returns-2 : tie.Need-returns-2 Inv-loop μ-loop
 returns-2 c = halving-over (c .before .loop .inv) (c .loop-test .left)
@@ -111,11 +111,11 @@ seek-near-spec =
     kid-requires
     returns
     name-before-requires
-    middle-requires
+    next-look-requires
     loop-less
     loop-again
     add-low
-    middle-requires-2
+    next-look-requires-2
     loop-less-2
     loop-again-2
     returns-2)
