@@ -37,7 +37,12 @@ same-length-4 : tie.Need-same-length-4
 same-length-4 c = search needs
 
 returns-4 : tie.Need-returns-4
-returns-4 c = small-merges (c .before .before .before .before .before .before .before .before .before .before .before .before .if1 .left) (c .before .before .before .before .before .before .before .slight .ensures) (not-false _ (c .before .before .before .before .if3 .left)) (c .before .before .changed .ensures)
+returns-4 c =
+    let b2 = c .before .before in
+    let b4 = b2 .before .before in
+    let b7 = b4 .before .before .before in
+    let b12 = b7 .before .before .before .before .before in
+    small-merges (b12 .if1 .left) (b7 .slight .ensures) (not-false _ (b4 .if3 .left)) (b2 .changed .ensures)
 
 pub small-spec : {M : Type 1} → statement M
 small-spec =
