@@ -56,14 +56,18 @@ fn same_node(ws: &[u32], ks: &[u32], n: u32, a: Type, b: Type) -> UnifyResult
     UnifyResult::Success
 }
 
-// "If either has no kind: Failure if one occurs in the other, else they merge."
+// "If either has no kind: Failure if one occurs in the other, else they merge." In a root without a kind nothing else occurs.
 fn without_kind(ws: &[u32], ks: &[u32], n: u32, a: Type, b: Type) -> Walked
     requires { ⌜ Roots (now ws) (now ks) n (tyOf (a .0)) (tyOf (b .0)) ⌝ }
     ensures { λ r. ⌜ Bare (now (ws .entry)) (now (ks .entry)) n (tyOf (a .0)) (tyOf (b .0)) r ⌝ }
 {
-    if walk::occurs(ws, ks, n, a.idx(), b) {
+    let ia = a.idx();
+    if walk::occurs(ws, ks, n, ia, b) {
         return Walked::Done(UnifyResult::Failure);
     }
+    let Held::Is(_, _) = layout::held_at(ws, n, ia) else {
+        return Walked::Bind;
+    };
     if walk::occurs(ws, ks, n, b.idx(), a) {
         return Walked::Done(UnifyResult::Failure);
     }

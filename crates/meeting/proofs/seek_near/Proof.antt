@@ -93,7 +93,8 @@ loop-again-2 c =
     let b6 = b5 .before in
     let b7 = b6 .before in
     let b12 = b7 .before .before .before .before .before in
-    halving-behind (b7 .loop .inv) (b6 .loop-test .taken) (b12 .pre .1) (b5 .kid-name .ensures) (b4 .same-name .ensures) (b3 .if1 .left) (b2 .name-before .ensures) (b1 .if2 .left) (c .next-look2 .ensures)
+    halving-behind (b7 .loop .inv) (b6 .loop-test .taken) (b12 .pre .1) (b5 .kid-name .ensures) (b4 .same-name .ensures)
+    (b3 .if1 .left) (b2 .name-before .ensures) (b1 .if2 .left) (c .next-look2 .ensures)
 
 returns-2 : tie.Need-returns-2 Inv-loop μ-loop
 returns-2 c = halving-over (c .before .loop .inv) (c .loop-test .left)

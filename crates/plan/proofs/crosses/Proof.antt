@@ -27,7 +27,14 @@ unfolding rowOf rows
 returns-5 c = self-crosses (c .before .before .before .before .before .before .before .before .before .before .args .k) IF-CONST refl refl (c .if5 .taken)
 
 returns-6 : tie.Need-returns-6
-returns-6 c = other-crosses (c .before .before .before .before .before .before .before .before .before .before .before .args .k) (c .before .before .before .before .before .before .before .before .before .if1 .left) (c .before .before .before .before .before .before .before .if2 .left) (c .before .before .before .before .before .if3 .left) (c .before .before .before .if4 .left) (c .before .if5 .left)
+returns-6 c =
+    let b1 = c .before in
+    let b3 = b1 .before .before in
+    let b5 = b3 .before .before in
+    let b7 = b5 .before .before in
+    let b9 = b7 .before .before in
+    let b11 = b9 .before .before in
+    other-crosses (b11 .args .k) (b9 .if1 .left) (b7 .if2 .left) (b5 .if3 .left) (b3 .if4 .left) (b1 .if5 .left)
 
 pub crosses-spec : {M : Type 1} → statement M
 crosses-spec = tie.close (tie.spec returns returns-2 returns-3 returns-4 returns-5 returns-6)
