@@ -132,16 +132,30 @@ struct Stores {
 }
 
 impl Stores {
+  fn new(nodes: usize, ours: Ours, vine: Vine) -> Stores {
+    let Ours { types: ours } = ours;
+    let public = Public { chart: ours.chart(), words: ours.clone().into_words(), names: Vec::new() };
+    Stores { nodes, public, ours, vine }
+  }
+
   /// Room for so many nodes, all but a few of which are made.
-  fn new(nodes: usize, left: usize) -> Stores {
-    fn filled<S: Side>(room: usize, nodes: usize) -> S {
-      let mut side = S::opened(room);
-      shapes::fill(&mut side, nodes);
+  fn filled(nodes: usize, left: usize) -> Stores {
+    fn side<S: Side>(nodes: usize, left: usize) -> S {
+      let mut side = S::opened(nodes);
+      shapes::fill(&mut side, nodes - left);
       side
     }
-    let Ours { types: ours } = filled(nodes, nodes - left);
-    let public = Public { chart: ours.chart(), words: ours.clone().into_words(), names: Vec::new() };
-    Stores { nodes, public, ours, vine: filled(nodes, nodes - left) }
+    Stores::new(nodes, side(nodes, left), side(nodes, left))
+  }
+
+  /// A chain of so many nodes.
+  fn chain(nodes: usize) -> Stores {
+    fn side<S: Side>(nodes: usize) -> S {
+      let mut side = S::opened(nodes);
+      shapes::chain(&mut side, nodes);
+      side
+    }
+    Stores::new(nodes, side(nodes), side(nodes))
   }
 
   /// With its state under a name.
@@ -206,16 +220,18 @@ impl Row<'_> {
   }
 }
 
-/// The stores of one size: all nodes made, 32 left to make, a state held.
+/// The stores of one size: all nodes made, 32 left to make, a state held; all nodes in one chain.
 struct Size {
   full: Stores,
   left: Stores,
   held: Stores,
+  chain: Stores,
 }
 
 impl Size {
   fn new(nodes: usize) -> Size {
-    Size { full: Stores::new(nodes, 0), left: Stores::new(nodes, MAKES), held: Stores::new(nodes, 0).held() }
+    let held = Stores::filled(nodes, 0).held();
+    Size { full: Stores::filled(nodes, 0), left: Stores::filled(nodes, MAKES), held, chain: Stores::chain(nodes) }
   }
 
   /// The last tuple of four.
@@ -277,7 +293,8 @@ impl Size {
 
   fn reading(&self) -> Vec<Row<'_>> {
     let chart = &self.full.vine.chart;
-    let (nodes, last) = (self.full.nodes, self.last());
+    let nodes = self.full.nodes;
+    let (last, top) = (self.last(), nodes as u32 - 1);
     let triple = |at: u32| at & !7 | 2;
     let object = |at: u32| at & !7 | 3;
     let lent = |s: &mut Public, t| s.lent().find_related(&mut vec![0; nodes], t);
@@ -337,6 +354,14 @@ impl Size {
         .public(|s, _| lent(s, last))
         .tested(|s, _| marks(s, last))
         .rust(|s, _| related(s, last)),
+      (self.chain.call("find_related of a chain of all nodes", 1))
+        .public(|s, _| lent(s, top))
+        .tested(|s, _| set(s, top))
+        .rust(|s, _| related(s, top)),
+      (self.chain.call("the same by mark_related", 1))
+        .public(|s, _| lent(s, top))
+        .tested(|s, _| marks(s, top))
+        .rust(|s, _| related(s, top)),
       call("show of a 3-tuple", 64)
         .public(|s, _| s.lent().show(2, &mut [0; 64]))
         .tested(|s, _| s.show(ty(2)))
