@@ -1,6 +1,7 @@
 //! Times the crate in rust/ beside Vine's own `types.rs`, in one run: what their users would see. README.md of bench/ says
 //! what each line is.
 
+mod calls;
 mod floor;
 mod ours;
 #[allow(dead_code)]
@@ -53,20 +54,31 @@ fn alone(what: &str, ours: f64) {
   println!("{what}, {ours:.1}, -, -");
 }
 
-/// The least time of `work` over many turns, each on a fresh copy. Whatever else runs on the machine only adds.
-fn least<T>(mut fresh: impl FnMut() -> T, mut work: impl FnMut(&mut T)) -> f64 {
+/// The least of many turns. Whatever else runs on the machine only adds.
+fn least_turn(mut turn: impl FnMut() -> Duration) -> f64 {
   let begun = Instant::now();
   let mut least = Duration::MAX;
   let mut turns = 0;
   while turns < 9 || turns < 3000 && begun.elapsed() < Duration::from_millis(400) {
-    let mut copy = fresh();
-    let start = Instant::now();
-    work(&mut copy);
-    least = least.min(start.elapsed());
-    black_box(&copy);
+    least = least.min(turn());
     turns += 1;
   }
   least.as_nanos() as f64
+}
+
+/// The time of `work` on a fresh copy.
+fn once<T>(fresh: impl FnOnce() -> T, work: impl FnOnce(&mut T)) -> Duration {
+  let mut copy = fresh();
+  let start = Instant::now();
+  work(&mut copy);
+  let time = start.elapsed();
+  black_box(&copy);
+  time
+}
+
+/// The least time of `work` over many turns, each on a fresh copy.
+fn least<T>(mut fresh: impl FnMut() -> T, mut work: impl FnMut(&mut T)) -> f64 {
+  least_turn(|| once(&mut fresh, &mut work))
 }
 
 fn filled<S: Side>(nodes: usize) -> S {
@@ -270,5 +282,10 @@ fn tested(types: &Store, nodes: usize) {
 
 fn main() {
   // Deep recursion wants more than a main thread may have.
-  std::thread::Builder::new().stack_size(256 << 20).spawn(report).unwrap().join().unwrap();
+  let part = match std::env::args().nth(1).as_deref() {
+    None => report,
+    Some("calls") => calls::report,
+    Some(other) => panic!("no such part: {other}"),
+  };
+  std::thread::Builder::new().stack_size(256 << 20).spawn(part).unwrap().join().unwrap();
 }

@@ -29,11 +29,12 @@ fn node(t: Type) -> u32 {
   t.idx().get() as u32
 }
 
-/// A struct and a union.
+/// A struct, a union and a trait.
 fn chart(rule: String) -> Chart {
   let mut builder = Chart::builder();
   builder.structure("point", "point", DefId(0), false);
   builder.union("shape", "shape", DefId(1), false);
+  builder.trait_("blend", "blend", DefId(2));
   builder.rule(rule).build().unwrap()
 }
 
@@ -177,7 +178,7 @@ impl Side for Ours {
 
 /// `error` and `nil` call the library once; after that the crate answers by itself. So these are put behind functions where
 /// the Rust's are.
-mod called {
+pub mod called {
   use super::*;
 
   #[inline(never)]
