@@ -4,13 +4,14 @@
 mod stores;
 
 use std::{
+  cell::RefCell,
   env,
   hint::black_box,
   thread,
   time::{Duration, Instant},
 };
 
-use faroalder::lent::{Lent, OUT, REFUSED};
+use faroalder::lent::{Lent, OUT, REFUSED, names_words, open_names};
 use stores::{CHILDREN, NODES, Store, WIDTH};
 
 /// The most that a call may take.
@@ -85,6 +86,10 @@ const FULL: &[u64] = &[10, 11];
 /// Calls on a store as a whole.
 fn whole(report: &mut Report, store: &Store, test: Duration) {
   let mut take = |call, work: &dyn Fn(&mut Lent)| report.take(call, store, "", test, work);
+  let h = store.words.parts()[0];
+  let mut names = vec![0; names_words(h[2], h[3])];
+  assert_eq!(open_names(&mut names, h[2], h[3]), 0);
+  let names = RefCell::new(names);
   let types = [0; WIDTH];
   let entries = types.map(|t| [t, 0, 0, 0]);
   take("new_var", &|s| answered_or(FULL, s.new_var(7)));
@@ -97,7 +102,7 @@ fn whole(report: &mut Report, store: &Store, test: Duration) {
   take("figures", &|s| answered(s.figures(&mut [0; OUT])));
   take("finish_inference", &|s| answered(s.finish_inference()));
   take("finish_inference_where", &|s| answered(s.finish_inference_where(&[1; NODES])));
-  take("reset", &|s| answered(s.reset()));
+  take("reset", &|s| answered(s.reset(&mut names.borrow_mut())));
   take("approx_eq", &|s| answered(s.approx_eq((2, &types), (2, &types))));
   take("open", &|s| answered(s.open(NODES as u32, CHILDREN as u32)));
 }

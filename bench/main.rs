@@ -1,5 +1,6 @@
 //! Times crates/bench beside Vine's own `types.rs`, in one run. README.md says what each line is.
 
+mod imports;
 mod ours;
 mod recalled;
 mod shapes;
@@ -159,6 +160,9 @@ fn deep(work: fn()) {
 fn main() {
   shapes::warm();
   let words: Vec<String> = std::env::args().collect();
+  if let [_, chain, bytes] = &words[..] {
+    return stack::descend(chain, bytes.parse().expect("not a number"));
+  }
   if words.get(1).is_some_and(|word| word == "texts") {
     return texts::report();
   }
@@ -174,15 +178,18 @@ fn main() {
   if words.get(1).is_some_and(|word| word == "unify") {
     return deep(unify);
   }
-  if let [_, chain, bytes] = &words[..] {
-    return stack::descend(chain, bytes.parse().expect("not a number"));
+  if words.get(1).is_some_and(|word| word == "import") {
+    imports::report();
+    return stack::import();
   }
   println!("what, nodes of store, nanoseconds a call (unify: a pair), ratio to the Rust");
   sound::report();
   makers();
   opening();
   deep(unify);
+  imports::report();
   texts::report();
   shared::report();
   stack::report();
+  stack::import();
 }

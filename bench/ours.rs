@@ -1,5 +1,5 @@
-//! crates/bench, as it is linked, over a store in three vectors. A slice is lent as a pointer and a
-//! length.
+//! crates/library and crates/bench, as they are linked, over a store in three vectors. A slice is lent
+//! as a pointer and a length.
 
 use crate::shapes::{KIDS, Maker, NAMES, Side, VARS, name};
 
@@ -8,27 +8,28 @@ type B = *const u8;
 type M = *mut u32;
 type N = usize;
 
-// A public call takes the chart, the rule text, the chart text, then the store's header, nodes and
-// children; the core takes the last three.
+// A public call takes the chart, the fn trait, the sigils, the rule text, the chart text, then the
+// store's header, nodes and children; the core takes the last three.
 #[rustfmt::skip]
 unsafe extern "C" {
-  fn faroalder_refusal(_: P, _: N, _: B, _: N, _: B, _: N, h: P, _: N, ws: P, _: N, ks: P, _: N) -> u32;
+  fn faroalder_refusal(_: P, _: N, _: u32, _: P, _: B, _: N, _: B, _: N, h: P, _: N, ws: P, _: N, ks: P, _: N) -> u32;
   fn faroalder_open(h: M, _: N, ws: M, _: N, ks: M, _: N, nodes: u32, children: u32) -> u64;
-  fn faroalder_new_var(_: P, _: N, _: B, _: N, _: B, _: N, h: M, _: N, ws: M, _: N, ks: P, _: N, span: u32) -> u64;
-  fn faroalder_new_vars(_: P, _: N, _: B, _: N, _: B, _: N, h: M, _: N, ws: M, _: N, ks: P, _: N, span: u32, count: u32, out: M, _: N) -> u64;
-  fn faroalder_new(_: P, _: N, _: B, _: N, _: B, _: N, h: M, _: N, ws: M, _: N, ks: M, _: N, code: u32, number: u32, entries: P, _: N) -> u64;
-  fn faroalder_new_struct(_: P, _: N, _: B, _: N, _: B, _: N, h: M, _: N, ws: M, _: N, ks: M, _: N, number: u32, types: P, _: N) -> u64;
-  fn faroalder_new_union(_: P, _: N, _: B, _: N, _: B, _: N, h: M, _: N, ws: M, _: N, ks: M, _: N, number: u32, types: P, _: N) -> u64;
-  fn faroalder_error(_: P, _: N, _: B, _: N, _: B, _: N, h: M, _: N, ws: M, _: N, ks: P, _: N) -> u64;
-  fn faroalder_nil(_: P, _: N, _: B, _: N, _: B, _: N, h: M, _: N, ws: M, _: N, ks: P, _: N) -> u64;
-  fn faroalder_unify(_: P, _: N, _: B, _: N, _: B, _: N, h: P, _: N, ws: M, _: N, ks: P, _: N, a: u32, b: u32) -> u64;
-  fn faroalder_show(_: P, _: N, _: B, _: N, _: B, _: N, h: P, _: N, ws: P, _: N, ks: P, _: N, t: u32, buf: *mut u8, _: N, n: *mut u64) -> bool;
+  fn faroalder_new_var(_: P, _: N, _: u32, _: P, _: B, _: N, _: B, _: N, h: M, _: N, ws: M, _: N, ks: P, _: N, span: u32) -> u64;
+  fn faroalder_new_vars(_: P, _: N, _: u32, _: P, _: B, _: N, _: B, _: N, h: M, _: N, ws: M, _: N, ks: P, _: N, span: u32, count: u32, out: M, _: N) -> u64;
+  fn faroalder_new(_: P, _: N, _: u32, _: P, _: B, _: N, _: B, _: N, h: M, _: N, ws: M, _: N, ks: M, _: N, code: u32, number: u32, flex: u32, name: u32, _: u32, _: u32, entries: P, _: N) -> u64;
+  fn faroalder_new_struct(_: P, _: N, _: u32, _: P, _: B, _: N, _: B, _: N, h: M, _: N, ws: M, _: N, ks: M, _: N, number: u32, types: P, _: N) -> u64;
+  fn faroalder_new_union(_: P, _: N, _: u32, _: P, _: B, _: N, _: B, _: N, h: M, _: N, ws: M, _: N, ks: M, _: N, number: u32, types: P, _: N) -> u64;
+  fn faroalder_error(_: P, _: N, _: u32, _: P, _: B, _: N, _: B, _: N, h: M, _: N, ws: M, _: N, ks: P, _: N) -> u64;
+  fn faroalder_nil(_: P, _: N, _: u32, _: P, _: B, _: N, _: B, _: N, h: M, _: N, ws: M, _: N, ks: P, _: N) -> u64;
+  fn faroalder_unify(_: P, _: N, _: u32, _: P, _: B, _: N, _: B, _: N, h: P, _: N, ws: M, _: N, ks: P, _: N, a: u32, b: u32) -> u64;
+  fn faroalder_show(_: P, _: N, _: u32, _: P, _: B, _: N, _: B, _: N, h: P, _: N, ws: P, _: N, ks: P, _: N, t: u32, buf: *mut u8, _: N) -> u64;
   fn faroalder_direct_open(h: M, _: N, ws: M, _: N, ks: M, _: N, nodes: u32, children: u32);
   fn faroalder_direct_new_var(h: M, _: N, ws: M, _: N, ks: P, _: N, span: u32) -> u32;
   fn faroalder_direct_new_vars(h: M, _: N, ws: M, _: N, ks: P, _: N, span: u32, count: u32, out: M, _: N);
   fn faroalder_direct_new(h: M, _: N, ws: M, _: N, ks: M, _: N, code: u32, number: u32, entries: P, _: N) -> u32;
   fn faroalder_direct_error(h: M, _: N, ws: M, _: N, ks: P, _: N) -> u32;
   fn faroalder_direct_nil(h: M, _: N, ws: M, _: N, ks: P, _: N) -> u32;
+  fn faroalder_direct_import(sw: P, _: N, sk: P, _: N, n: u32, h: M, _: N, ws: M, _: N, ks: M, _: N, ts: P, _: N, out: M, _: N);
   fn faroalder_direct_show(_: P, _: N, _: B, _: N, _: B, _: N, ws: P, _: N, ks: P, _: N, n: u32, t: u32, buf: *mut u8, _: N) -> usize;
   fn faroalder_direct_unify(ws: M, _: N, ks: P, _: N, n: u32, rule: B, _: N, text: B, _: N, a: u32, b: u32) -> u32;
   fn faroalder_direct_unify_recalling(ws: M, _: N, ks: P, _: N, n: u32, rule: B, _: N, text: B, _: N, memory: M, _: N, a: u32, b: u32) -> u32;
@@ -49,6 +50,9 @@ const CHART_TEXT: &[u8] = b"pointshape";
 
 /// A struct and a union, ten words each: sort, name and path (text, start, length), def, flag, trait.
 const CHART: [u32; 20] = [1, 1, 0, 5, 1, 0, 5, 0, 0, 0, 3, 1, 5, 5, 1, 5, 5, 1, 0, 0];
+/// No fn trait, and four empty sigils.
+const NO_TRAIT: u32 = u32::MAX;
+const SIGILS: [u32; 12] = [0; 12];
 const STRUCT_RECORD: u32 = 0;
 const UNION_RECORD: u32 = 1;
 
@@ -68,7 +72,7 @@ macro_rules! public {
   ($s:expr, $f:ident $(, $more:expr)*) => {
     unsafe {
       $f(
-        CHART.as_ptr(), CHART.len(), $s.rule.as_ptr(), $s.rule.len(),
+        CHART.as_ptr(), CHART.len(), NO_TRAIT, SIGILS.as_ptr(), $s.rule.as_ptr(), $s.rule.len(),
         CHART_TEXT.as_ptr(), CHART_TEXT.len(), $s.h.as_mut_ptr(), $s.h.len(),
         $s.ws.as_mut_ptr(), $s.ws.len(), $s.ks.as_mut_ptr(), $s.ks.len() $(, $more)*
       )
@@ -174,6 +178,32 @@ impl<const PUBLIC: bool> Ours<PUBLIC> {
     }
   }
 
+  /// What the types of another store become here, by the core: this one has the room.
+  pub fn import(&mut self, from: &Self, types: &[u32], out: &mut [u32]) {
+    assert!(types.len() <= out.len());
+    let (sw, sk) = (&from.ws, &from.ks);
+    let Ours { h, ws, ks, .. } = self;
+    unsafe {
+      faroalder_direct_import(
+        sw.as_ptr(),
+        sw.len(),
+        sk.as_ptr(),
+        sk.len(),
+        from.h[0],
+        h.as_mut_ptr(),
+        h.len(),
+        ws.as_mut_ptr(),
+        ws.len(),
+        ks.as_mut_ptr(),
+        ks.len(),
+        types.as_ptr(),
+        types.len(),
+        out.as_mut_ptr(),
+        out.len(),
+      )
+    }
+  }
+
   /// How many nodes there are.
   pub fn count(&self) -> usize {
     self.h[0] as usize
@@ -187,10 +217,9 @@ impl<const PUBLIC: bool> Ours<PUBLIC> {
   /// A text's length, or none where the buffer is full.
   pub fn show(&mut self, t: u32, buf: &mut [u8]) -> Option<usize> {
     if PUBLIC {
-      let mut n = 0;
-      let fits = public!(self, faroalder_show, t, buf.as_mut_ptr(), buf.len(), &mut n);
-      assert!(fits || n == 7);
-      return fits.then_some(n as usize);
+      let n = public!(self, faroalder_show, t, buf.as_mut_ptr(), buf.len());
+      assert!(n < REFUSED || n == REFUSED + 7);
+      return (n < REFUSED).then_some(n as usize);
     }
     let Ours { rule, h, ws, ks } = self;
     let end = unsafe {
@@ -224,7 +253,7 @@ impl<const PUBLIC: bool> Ours<PUBLIC> {
         public!(self, faroalder_new_vars, SPAN, VARS as u32, out.as_mut_ptr(), VARS)
       }),
       Maker::Tuple => {
-        repeat(turns, || public!(self, faroalder_new, TUPLE, 0, lent.as_ptr(), lent.len()))
+        repeat(turns, || public!(self, faroalder_new, TUPLE, 0, 0, 0, 0, 0, lent.as_ptr(), lent.len()))
       }
       Maker::Struct => repeat(turns, || {
         public!(self, faroalder_new_struct, STRUCT_RECORD, KIDS.as_ptr(), KIDS.len())

@@ -165,14 +165,15 @@ pub fn variables<S: Side>(side: &mut S) -> Vec<Pair> {
 
 pub const CHAIN: usize = 2048;
 
-fn chain<S: Side>(side: &mut S) -> u32 {
+/// A chain of so many nodes: Refs down to a variable.
+pub fn chain<S: Side>(side: &mut S, nodes: usize) -> u32 {
   let end = side.var();
-  (1..CHAIN).fold(end, |kid, _| side.reference(kid))
+  (1..nodes).fold(end, |kid, _| side.reference(kid))
 }
 
 /// Two chains of Refs, each down to a variable.
 pub fn chains<S: Side>(side: &mut S) -> Vec<Pair> {
-  vec![(chain(side), chain(side))]
+  vec![(chain(side, CHAIN), chain(side, CHAIN))]
 }
 
 pub const TUPLES: usize = 8;
@@ -189,6 +190,12 @@ pub fn tuples<S: Side>(side: &mut S) -> Vec<Pair> {
     side.tuple(&kids)
   };
   (0..TUPLES).map(|_| (tuple(()), tuple(()))).collect()
+}
+
+/// Tuples over the same 255 variables.
+pub fn alike<S: Side>(side: &mut S) -> Vec<u32> {
+  let kids = vars(side, WIDTH);
+  (0..TUPLES).map(|_| side.tuple(&kids)).collect()
 }
 
 pub const OBJECTS: usize = 31;
@@ -229,9 +236,15 @@ pub fn inverses<S: Side>(side: &mut S) -> Vec<Pair> {
   (0..SMALL).map(&mut pair).collect()
 }
 
-/// A variable, and 120 tuples over another, each with the one before as both children.
-pub fn doublings<S: Side>(side: &mut S) -> Vec<Pair> {
-  let var = side.var();
+pub const DOUBLINGS: usize = 120;
+
+/// Tuples over a variable, each with the one before as both children.
+pub fn doubled<S: Side>(side: &mut S) -> u32 {
   let end = side.var();
-  vec![(var, (0..120).fold(end, |kid, _| side.tuple(&[kid, kid])))]
+  (0..DOUBLINGS).fold(end, |kid, _| side.tuple(&[kid, kid]))
+}
+
+/// A variable, and 120 doublings over another.
+pub fn doublings<S: Side>(side: &mut S) -> Vec<Pair> {
+  vec![(side.var(), doubled(side))]
 }

@@ -1,5 +1,5 @@
 //! The stack that the core unify takes at its deepest: each node of a chain with the next one, 4,095
-//! levels down. A program that runs out of stack dies, so each try is a process of its own.
+//! levels down; and the core import of such a chain. A program that runs out of stack dies, so each try is a process of its own.
 
 use std::{
   env,
@@ -9,11 +9,12 @@ use std::{
 
 use crate::{
   ours::{CLOSURE, Core, REF},
-  shapes::Side,
+  shapes::{self, Side},
 };
 
 const LEVELS: usize = 4095;
 const CHAINS: [&str; 3] = ["Refs", "objects", "closures"];
+const IMPORT: &str = "import";
 
 fn link(side: &mut Core, chain: &str, kid: u32) -> u32 {
   match chain {
@@ -25,13 +26,30 @@ fn link(side: &mut Core, chain: &str, kid: u32) -> u32 {
   }
 }
 
+fn within(bytes: usize, work: impl FnOnce() + Send + 'static) {
+  thread::Builder::new().stack_size(bytes).spawn(work).unwrap().join().unwrap();
+}
+
+/// A whole chain of Refs into another store.
+fn copy(bytes: usize) {
+  let mut from = Core::opened(LEVELS + 1);
+  let top = shapes::chain(&mut from, LEVELS + 1);
+  let mut to = Core::opened(LEVELS + 1);
+  within(bytes, move || {
+    to.import(&from, &[top], &mut [0]);
+    assert_eq!(to.count(), LEVELS + 1);
+  });
+}
+
 /// The whole chain in a thread with so many bytes of stack. At the end a variable meets what it occurs in: Failure.
 pub fn descend(chain: &str, bytes: usize) {
+  if chain == IMPORT {
+    return copy(bytes);
+  }
   let mut side = Core::opened(LEVELS + 1);
   let end = side.var();
   let top = (0..LEVELS).fold(end, |kid, _| link(&mut side, chain, kid));
-  let deep = move || assert_eq!(side.unify(top, top - 1), 1);
-  thread::Builder::new().stack_size(bytes).spawn(deep).unwrap().join().unwrap();
+  within(bytes, move || assert_eq!(side.unify(top, top - 1), 1));
 }
 
 fn passes(chain: &str, bytes: usize) -> bool {
@@ -51,12 +69,21 @@ fn enough(chain: &str) -> usize {
   enough
 }
 
+fn tell(chain: &str, what: &str) {
+  let bytes = enough(chain);
+  println!("{what}, {LEVELS}, {bytes}, {:.0}", bytes as f64 / LEVELS as f64);
+  let within = |megabytes: usize| if bytes <= megabytes << 20 { "enough" } else { "NOT enough" };
+  println!("  2 MB are {}, 8 MB are {}", within(2), within(8));
+}
+
 pub fn report() {
   println!("stack of the core unify, levels, bytes, bytes a level");
   for chain in CHAINS {
-    let bytes = enough(chain);
-    println!("chain of {chain}, {LEVELS}, {bytes}, {:.0}", bytes as f64 / LEVELS as f64);
-    let within = |megabytes: usize| if bytes <= megabytes << 20 { "enough" } else { "NOT enough" };
-    println!("  2 MB are {}, 8 MB are {}", within(2), within(8));
+    tell(chain, &format!("chain of {chain}"));
   }
+}
+
+pub fn import() {
+  println!("stack of the core import, levels, bytes, bytes a level");
+  tell(IMPORT, "chain of Refs");
 }

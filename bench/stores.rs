@@ -17,6 +17,7 @@ const KNOWN: u32 = 3;
 const PARAM: u32 = 0;
 const TUPLE: u32 = 1;
 const OBJECT: u32 = 2;
+const CLOSURE: u32 = 8;
 const REF: u32 = 9;
 const NEVER: u32 = 12;
 
@@ -205,7 +206,7 @@ fn windows(code: u32) -> Store {
   let top = s.windows(code, NODES - 2, 1, end);
   let var = s.var();
   s.asked = vec![top];
-  s.pairs = vec![(var, top), (top, top | INVERSE), (top, top - 1)];
+  s.pairs = vec![(var, top), (top, top | INVERSE)];
   if code == OBJECT { s.named().full() } else { s.full() }
 }
 
@@ -238,6 +239,22 @@ fn tuples_and_chain(root: &str) -> Store {
     kids
   };
   let top = (0..64).fold(end, |last, _| s.over(TUPLE, &kids(last)));
+  s.asked = vec![top];
+  s.full()
+}
+
+/// 62 tuples of 255, all over one closure, whose return is the end of a parent chain.
+fn closures_and_chain(root: &str) -> Store {
+  let mut s = Store::new(format!("closures over the end of a parent chain to {root}"));
+  let node = if root == "nil" { s.over(TUPLE, &[]) } else { s.var() };
+  let end = s.chain(node, NODES - 62 - 3);
+  let closure = s.over(CLOSURE, &[end]);
+  let kids = |last: u32| {
+    let mut kids = [closure; WIDTH];
+    kids[0] = last;
+    kids
+  };
+  let top = (0..62).fold(closure, |last, _| s.over(TUPLE, &kids(last)));
   s.asked = vec![top];
   s.full()
 }
@@ -345,6 +362,7 @@ fn long_names() -> Store {
 pub fn all() -> Vec<Store> {
   let mut all = vec![chain(true), chain(false), refs(), refs_and_chains(), doublings(), long_names(), strangers()];
   all.extend(["a Param", "a variable"].map(tuples_and_chain));
+  all.extend(["nil", "a variable"].map(closures_and_chain));
   for code in [TUPLE, OBJECT] {
     all.extend([one_run(code), windows(code), twice(code)]);
     all.extend(["nil", "never", "a variable", "a Param"].map(|root| half_and_half(code, root)));

@@ -6,9 +6,9 @@ use crate::{
   shapes::{INVERSE, KIDS, Maker, Side, VARS, name},
   structures::{
     ast::{Ident, Span},
-    chart::{Chart, DefId, StructDef, StructId, UnionDef, UnionId},
+    chart::{Chart, DefId, StructDef, StructId, TraitDef, UnionDef, UnionId},
     diag::ErrorGuaranteed,
-    types::{Type, TypeKind, Types, UnifyResult, view},
+    types::{Type, TypeCtx, TypeKind, Types, UnifyResult, view},
   },
 };
 
@@ -17,23 +17,24 @@ const SPAN: Span = Span(7);
 #[derive(Clone)]
 pub struct Vine {
   pub types: Types,
-  chart: Rc<Chart>,
+  pub chart: Rc<Chart>,
 }
 
-fn ty(word: u32) -> Type {
+pub fn ty(word: u32) -> Type {
   view::make((word & !INVERSE) as usize, word & INVERSE != 0)
 }
 
-fn tys(nodes: &[u32]) -> Vec<Type> {
+pub fn tys(nodes: &[u32]) -> Vec<Type> {
   nodes.iter().map(|&node| ty(node)).collect()
 }
 
-/// A struct and a union.
+/// A struct, a union and a trait.
 fn chart() -> Chart {
   let mut chart = Chart::default();
   let ident = |name: &str| Ident(name.into());
   _ = chart.structs.push(StructDef { def: DefId(0), name: ident("point"), self_dual: false });
   _ = chart.unions.push(UnionDef { def: DefId(1), name: ident("shape"), self_dual: false });
+  _ = chart.traits.push(TraitDef { def: DefId(2), name: ident("blend"), fns: Default::default() });
   chart
 }
 
@@ -47,6 +48,11 @@ impl Vine {
 
   pub fn show(&self, node: u32) -> String {
     self.types.show(&self.chart, ty(node))
+  }
+
+  /// Types of this store, as an import takes them.
+  pub fn lent(self, nodes: &[u32]) -> TypeCtx<Vec<Type>> {
+    TypeCtx { types: self.types, inner: tys(nodes) }
   }
 
   fn new(&mut self, kind: TypeKind) -> u32 {

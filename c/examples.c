@@ -613,10 +613,34 @@ static void turned_back(void) {
 #endif
 }
 
+/* ---- Lean forms ---- */
+
+#define LEAN s.h, s.h_len, s.ws, s.ws_len
+#define LEAN_OVER r.chart, r.chart_len, FAROALDER_STORE(&s)
+
+/* They answer as the others do. */
+static void lean(void) {
+  title("lean forms");
+  uint32_t a = type(faroalder_lean_new_var(LEAN, 7));
+  number("find", faroalder_lean_find(LEAN, inverse(a)), inverse(a));
+  number("find_mut", faroalder_lean_find_mut(LEAN, a), a);
+  refused("find outside", faroalder_lean_find(LEAN, 9), FAROALDER_OUTSIDE);
+  uint32_t nil = type(faroalder_lean_nil(LEAN));
+  number("nil again", CALL(nil)(BOTH), nil);
+  uint32_t error = type(faroalder_lean_error(LEAN));
+  number("error again", CALL(error)(BOTH), error);
+  uint32_t pair[] = {a, inverse(a)};
+  uint32_t two = type(faroalder_lean_new_over(LEAN_OVER, FAROALDER_TUPLE, 0, pair, 2));
+  yes("a tuple is sound", faroalder_refusal(BOTH) == 0);
+  number("and its own root", CALL(find)(BOTH, two), two);
+  refused("an object", faroalder_lean_new_over(LEAN_OVER, FAROALDER_OBJECT, 0, pair, 2), FAROALDER_UNMAKEABLE);
+  refused("a const's struct", faroalder_lean_new_over(LEAN_OVER, FAROALDER_STRUCT, CONST_K, pair, 2), FAROALDER_UNDEFINED);
+}
+
 int main(void) {
   void (*cases[])(void) = {var_inverse, nil_inverse,   occurs,  defaults, error_never, var_error, three_vars,
                            failure_keeps, objects,     forced,  shown,    params,      room,      sheet,
-                           kinds,       lists,         remembering, finishing, exporting, returning, eight, turned_back,
+                           kinds,       lists,         remembering, finishing, exporting, returning, eight, turned_back, lean,
 #ifndef TESTED
                            names_by_hand,
 #endif

@@ -124,8 +124,8 @@ enum faroalder_node_out {
   FAROALDER_AT_NAME_TEXT,  /* its own name; zeros for none */
   FAROALDER_AT_NAME_START,
   FAROALDER_AT_NAME_LEN,
-  FAROALDER_AT_FIRST,      /* where its children lie among the store's, and how many there are: ask `child` for them */
-  FAROALDER_AT_COUNT
+  FAROALDER_AT_FIRST,      /* where its children lie among the store's, and how many there are: ask `child` for them; */
+  FAROALDER_AT_COUNT       /* child i is the four words of `ks` from 4 * (first + i) on, its type and its name */
 };
 
 /* Where the figures stand in theirs. */
@@ -194,7 +194,8 @@ static const uint64_t faroalder_nothing = 0;
   uint32_t *h, size_t h_len, uint32_t *ws, size_t ws_len, const uint32_t *ks, size_t ks_len
 #define FAROALDER_WHOLE_STORE uint32_t *h, size_t h_len, uint32_t *ws, size_t ws_len, uint32_t *ks, size_t ks_len
 
-/* Two families, with the same arguments and the same answers.
+/* Two families, with the same arguments and the same answers. Some calls of the second have a third form that is lent
+ * less, at the end of this file.
  *
  * faroalder_X tests everything: the chart, the texts and the whole store, each time. On 4,096 nodes that takes some
  * 60 to 90 microseconds, and up to 160 milliseconds where 255-byte names lie in runs that overlap.
@@ -429,6 +430,23 @@ FAROALDER_CALL(export, FAROALDER_THE_RULES, FAROALDER_READ_STORE, uint32_t *to_h
 FAROALDER_CALL(show, FAROALDER_THE_RULES, FAROALDER_READ_STORE, uint32_t type, uint8_t *buf, size_t buf_len);
 FAROALDER_CALL(show_impl_type, FAROALDER_THE_RULES, FAROALDER_READ_STORE, uint32_t trait, const uint32_t *types,
                size_t types_len, uint8_t *buf, size_t buf_len);
+
+/* ---- Lean forms ----
+ *
+ * Calls of the second family, with the same answers, that are lent no more of a tested store than they look at: for
+ * callers to whom a call's arguments are much of its time. What the second family asks is asked here too, of the
+ * rules and the store that these words are of. */
+
+uint64_t faroalder_lean_new_var(uint32_t *h, size_t h_len, uint32_t *ws, size_t ws_len, uint32_t span);
+uint64_t faroalder_lean_error(uint32_t *h, size_t h_len, uint32_t *ws, size_t ws_len);
+uint64_t faroalder_lean_nil(uint32_t *h, size_t h_len, uint32_t *ws, size_t ws_len);
+uint64_t faroalder_lean_find(const uint32_t *h, size_t h_len, const uint32_t *ws, size_t ws_len, uint32_t type);
+uint64_t faroalder_lean_find_mut(const uint32_t *h, size_t h_len, uint32_t *ws, size_t ws_len, uint32_t type);
+
+/* `new` of a kind without names over a plain list of types, as a Tuple, a Struct or a Ref. A kind that has names is
+ * turned back with 4. 3, 4, 5, 10, 11. */
+uint64_t faroalder_lean_new_over(const uint32_t *chart, size_t chart_len, FAROALDER_WHOLE_STORE, uint32_t code,
+                                 uint32_t number, const uint32_t *types, size_t types_len);
 
 #ifdef __cplusplus
 }

@@ -1,6 +1,7 @@
 //! Times the crate in rust/ beside Vine's own `types.rs`, in one run: what their users would see. README.md of bench/ says
 //! what each line is.
 
+mod calls;
 mod floor;
 mod ours;
 #[allow(dead_code)]
@@ -53,20 +54,31 @@ fn alone(what: &str, ours: f64) {
   println!("{what}, {ours:.1}, -, -");
 }
 
-/// The least time of `work` over many turns, each on a fresh copy. Whatever else runs on the machine only adds.
-fn least<T>(mut fresh: impl FnMut() -> T, mut work: impl FnMut(&mut T)) -> f64 {
+/// The least of many turns. Whatever else runs on the machine only adds.
+fn least_turn(mut turn: impl FnMut() -> Duration) -> f64 {
   let begun = Instant::now();
   let mut least = Duration::MAX;
   let mut turns = 0;
   while turns < 9 || turns < 3000 && begun.elapsed() < Duration::from_millis(400) {
-    let mut copy = fresh();
-    let start = Instant::now();
-    work(&mut copy);
-    least = least.min(start.elapsed());
-    black_box(&copy);
+    least = least.min(turn());
     turns += 1;
   }
   least.as_nanos() as f64
+}
+
+/// The time of `work` on a fresh copy.
+fn once<T>(fresh: impl FnOnce() -> T, work: impl FnOnce(&mut T)) -> Duration {
+  let mut copy = fresh();
+  let start = Instant::now();
+  work(&mut copy);
+  let time = start.elapsed();
+  black_box(&copy);
+  time
+}
+
+/// The least time of `work` over many turns, each on a fresh copy.
+fn least<T>(mut fresh: impl FnMut() -> T, mut work: impl FnMut(&mut T)) -> f64 {
+  least_turn(|| once(&mut fresh, &mut work))
 }
 
 fn filled<S: Side>(nodes: usize) -> S {
@@ -75,15 +87,24 @@ fn filled<S: Side>(nodes: usize) -> S {
   side
 }
 
+/// What is small: beside the Rust's behind a function that is not inlined, so that there is one call on each side, and
+/// beside the Rust's in the driver's loop.
+fn small(what: &str, called: [f64; 2], inlined: [f64; 2]) {
+  line(what, called[0], called[1]);
+  line(&format!("{what}, the Rust's inlined"), inlined[0], inlined[1]);
+}
+
 fn makers() {
-  fn making<S: Side>(maker: Maker) -> f64 {
+  fn making<S: Side>(maker: Maker, makes: fn(&mut S, Maker, usize)) -> f64 {
     let nodes = maker.nodes(NODES);
     let calls = maker.calls(nodes);
     // Filled anew each time: the Rust's vector has room then, as one that grew has.
-    least(|| filled::<S>(NODES - nodes), |side| side.makes(maker, calls)) / calls as f64
+    least(|| filled::<S>(NODES - nodes), |side| makes(side, maker, calls)) / calls as f64
   }
   for maker in Maker::ALL {
-    line(maker.name(), making::<Ours>(maker), making::<Vine>(maker));
+    let called = [making(maker, Ours::makes_called), making(maker, Vine::makes_called)];
+    let inlined = [making(maker, Ours::makes), making(maker, Vine::makes)];
+    small(maker.name(), called, inlined);
   }
 }
 
@@ -91,17 +112,22 @@ fn makers() {
 fn finding() {
   let ours: Ours = filled(NODES);
   let rust: Vine = filled(NODES);
-  let calls = NODES as f64;
-  let all = 0..NODES as u32;
-  let mine = least(|| (), |()| all.clone().for_each(|node| _ = black_box(ours.find(node)))) / calls;
-  let theirs = least(|| (), |()| all.clone().for_each(|node| _ = black_box(rust.find(node)))) / calls;
-  line("find", mine, theirs);
-  let mine = least(|| ours.clone(), |side| all.clone().for_each(|node| _ = black_box(side.find_mut(node)))) / calls;
-  let theirs = least(|| rust.clone(), |side| all.clone().for_each(|node| _ = black_box(side.find_mut(node)))) / calls;
-  line("find_mut", mine, theirs);
-  let mine = least(|| (), |()| all.clone().for_each(|node| _ = black_box(ours.kids(node)))) / calls;
-  let theirs = least(|| (), |()| all.clone().for_each(|node| _ = black_box(rust.kids(node)))) / calls;
-  line("kind and its children", mine, theirs);
+  macro_rules! each {
+    ($side:ident, $call:ident) => {
+      least(|| (), |()| (0..NODES as u32).for_each(|node| _ = black_box($side.$call(node)))) / NODES as f64
+    };
+    (mut $side:ident, $call:ident) => {
+      least(|| $side.clone(), |side| (0..NODES as u32).for_each(|node| _ = black_box(side.$call(node)))) / NODES as f64
+    };
+  }
+  let mine = each!(ours, find);
+  small("find", [mine, each!(rust, find_called)], [mine, each!(rust, find)]);
+  let mine = each!(mut ours, find_mut);
+  small("find_mut", [mine, each!(mut rust, find_mut_called)], [mine, each!(mut rust, find_mut)]);
+  let [mine, called, inlined] = [each!(ours, kids), each!(rust, kids_called), each!(rust, kids)];
+  small("kind and its children", [mine, called], [mine, inlined]);
+  let mine = each!(ours, children);
+  small("children", [mine, called], [mine, inlined]);
 }
 
 fn unifying() {
@@ -129,18 +155,11 @@ fn mixed<S: Side>(side: &mut S) -> Vec<u32> {
 }
 
 fn chain<S: Side>(side: &mut S) -> Vec<u32> {
-  let bottom = side.var();
-  vec![(1..shapes::CHAIN).fold(bottom, |kid, _| side.reference(kid))]
-}
-
-fn wide<S: Side>(side: &mut S) -> Vec<u32> {
-  let kids: Vec<u32> = (0..shapes::WIDTH).map(|_| side.var()).collect();
-  (0..shapes::TUPLES).map(|_| side.tuple(&kids)).collect()
+  vec![shapes::chain(side, shapes::CHAIN)]
 }
 
 fn shared<S: Side>(side: &mut S) -> Vec<u32> {
-  let bottom = side.var();
-  vec![(0..120).fold(bottom, |kid, _| side.tuple(&[kid, kid]))]
+  vec![shapes::doubled(side)]
 }
 
 /// Into an empty store with room for all of it: the time a node of the source.
@@ -165,7 +184,7 @@ fn importing() {
   }
   both!("a mixed store", mixed);
   both!("a chain of Refs", chain);
-  both!("wide tuples over the same variables", wide);
+  both!("wide tuples over the same variables", shapes::alike);
   both!("a tree shared at every level", shared);
 }
 
@@ -263,5 +282,10 @@ fn tested(types: &Store, nodes: usize) {
 
 fn main() {
   // Deep recursion wants more than a main thread may have.
-  std::thread::Builder::new().stack_size(256 << 20).spawn(report).unwrap().join().unwrap();
+  let part = match std::env::args().nth(1).as_deref() {
+    None => report,
+    Some("calls") => calls::report,
+    Some(other) => panic!("no such part: {other}"),
+  };
+  std::thread::Builder::new().stack_size(256 << 20).spawn(part).unwrap().join().unwrap();
 }

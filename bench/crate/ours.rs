@@ -2,7 +2,7 @@
 
 use std::hint::black_box;
 
-use faroalder::{Chart, DefId, Name, Span, StructId, Type, TypeIdx, TypeKind, Types, UnifyResult, UnionId};
+use faroalder::{Chart, DefId, Name, Refusal, Span, StructId, Type, TypeIdx, TypeKind, Types, UnifyResult, UnionId};
 
 use crate::{
   shapes::{KIDS, Maker, NAMES, Side, VARS, name},
@@ -29,11 +29,12 @@ fn node(t: Type) -> u32 {
   t.idx().get() as u32
 }
 
-/// A struct and a union.
+/// A struct, a union and a trait.
 fn chart(rule: String) -> Chart {
   let mut builder = Chart::builder();
   builder.structure("point", "point", DefId(0), false);
   builder.union("shape", "shape", DefId(1), false);
+  builder.trait_("blend", "blend", DefId(2));
   builder.rule(rule).build().unwrap()
 }
 
@@ -70,23 +71,49 @@ impl Ours {
     self.types.find_mut(ty(node)).unwrap()
   }
 
-  /// Goes through a type's children.
+  /// Goes through the children of a type's kind.
   pub fn kids(&self, at: u32) -> u32 {
+    self.types.kind(ty(at)).unwrap().map_or(0, |(_, kind)| kind.children().map(node).sum())
+  }
+
+  /// Goes through a type's children; what its kind is isn't asked.
+  pub fn children(&self, at: u32) -> u32 {
     self.types.children(ty(at)).unwrap().map(node).sum()
   }
 }
 
 impl Vine {
+  #[inline(always)]
   pub fn find(&self, node: u32) -> usize {
     view::node(view::find(&self.types, view::make(node as usize, false)))
   }
 
+  #[inline(always)]
   pub fn find_mut(&mut self, node: u32) -> usize {
     view::node(view::find_mut(&mut self.types, view::make(node as usize, false)))
   }
 
+  #[inline(always)]
   pub fn kids(&self, node: u32) -> usize {
     view::sum(&self.types, view::make(node as usize, false))
+  }
+}
+
+/// The same by functions that are called, as the crate's end in a call of the library.
+impl Vine {
+  #[inline(never)]
+  pub fn find_called(&self, node: u32) -> usize {
+    self.find(node)
+  }
+
+  #[inline(never)]
+  pub fn find_mut_called(&mut self, node: u32) -> usize {
+    self.find_mut(node)
+  }
+
+  #[inline(never)]
+  pub fn kids_called(&self, node: u32) -> usize {
+    self.kids(node)
   }
 }
 
@@ -145,6 +172,34 @@ impl Side for Ours {
       Maker::Union => repeat(turns, || types.new_union(UnionId::at(1), &kids)),
       Maker::Error => repeat(turns, || types.error()),
       Maker::Nil => repeat(turns, || types.nil()),
+    }
+  }
+}
+
+/// `error` and `nil` call the library once; after that the crate answers by itself. So these are put behind functions where
+/// the Rust's are.
+pub mod called {
+  use super::*;
+
+  #[inline(never)]
+  pub fn error(types: &mut Types) -> Result<Type, Refusal> {
+    types.error()
+  }
+
+  #[inline(never)]
+  pub fn nil(types: &mut Types) -> Result<Type, Refusal> {
+    types.nil()
+  }
+}
+
+impl Ours {
+  /// `makes`, with one call in each.
+  pub fn makes_called(&mut self, maker: Maker, turns: usize) {
+    let types = &mut self.types;
+    match maker {
+      Maker::Error => repeat(turns, || called::error(types)),
+      Maker::Nil => repeat(turns, || called::nil(types)),
+      _ => self.makes(maker, turns),
     }
   }
 }

@@ -4,9 +4,8 @@ use std::fmt;
 
 use crate::{
   chart::{ConcreteConstId, EnumId, FnId, Name, OpaqueTypeId, StructId, TraitId, UnionId},
-  raw::{NONE, code},
-  ty::{Type, TypeIdx},
-  types::Types,
+  raw::{Child, NONE, code},
+  ty::Type,
 };
 
 /// A closure's number: any at all.
@@ -43,7 +42,7 @@ pub struct FnSig<'a> {
   pub ret_ty: Type,
 }
 
-/// A kind, for [`Types::new`]. A struct's or union's self-duality is the chart's.
+/// A kind, for [`Types::new`](crate::Types::new). A struct's or union's self-duality is the chart's.
 #[derive(Debug, Clone, Copy, PartialEq, Eq)]
 pub enum TypeKind<'a> {
   /// A type parameter: its number, any at all, and its name.
@@ -99,7 +98,8 @@ impl ImplType {
   }
 }
 
-/// What of a kind is neither child nor name of a child, and its children's words: type, name's text, start, length.
+/// What of a kind is neither child nor name of a child. Its children are laid out in words: type, name's text, start,
+/// length.
 pub(crate) struct Head {
   pub code: u32,
   pub number: u32,
@@ -142,65 +142,65 @@ fn signature(entries: &mut Vec<u32>, sig: FnSig<'_>) {
   plain(entries, &[sig.ret_ty]);
 }
 
+/// An object's head.
+fn object(entries: &mut Vec<u32>, given: &[(Name, Type)]) -> Head {
+  entries.clear();
+  fields(entries, given);
+  Head { code: code::OBJECT, number: 0, flex: 0, name: NO_NAME }
+}
+
+/// A closure's.
+fn closure(entries: &mut Vec<u32>, id: ClosureId, flex: Flex, sig: FnSig<'_>) -> Head {
+  entries.clear();
+  signature(entries, sig);
+  let name = if sig.names.len() > sig.param_tys.len() { BAD_NAME } else { NO_NAME };
+  Head { code: code::CLOSURE, number: id.0, flex: flex as u32, name }
+}
+
+/// That of one type or another.
+fn if_const(entries: &mut Vec<u32>, id: ConcreteConstId, types: [Type; 2]) -> Head {
+  entries.clear();
+  plain(entries, &types);
+  Head { code: code::IF_CONST, number: id.place(), flex: 0, name: NO_NAME }
+}
+
+/// That of a kind with a name of its own.
+fn own(entries: &mut Vec<u32>, code: u32, number: u32, name: Name) -> Head {
+  entries.clear();
+  Head { code, number, flex: 0, name: name.words() }
+}
+
+/// A kind as the library takes it: a code, a number and types without names; or a head, with the children laid out.
+pub(crate) enum Given<'a> {
+  Over(u32, u32, &'a [Type]),
+  Laid(Head),
+}
+
 impl TypeKind<'_> {
-  /// Writes the children's words.
-  pub(crate) fn head(self, entries: &mut Vec<u32>) -> Head {
-    entries.clear();
-    let mut head = Head { code: 0, number: 0, flex: 0, name: NO_NAME };
-    match self {
-      TypeKind::Param(number, name) => {
-        head = Head { code: code::PARAM, number, name: name.words(), ..head }
-      }
-      TypeKind::Tuple(types) => {
-        head.code = code::TUPLE;
-        plain(entries, types);
-      }
-      TypeKind::Object(given) => {
-        head.code = code::OBJECT;
-        fields(entries, given);
-      }
-      TypeKind::Opaque(id, types) => {
-        head = Head { code: code::OPAQUE, number: id.place(), ..head };
-        plain(entries, types);
-      }
-      TypeKind::Struct(id, types) => {
-        head = Head { code: code::STRUCT, number: id.place(), ..head };
-        plain(entries, types);
-      }
-      TypeKind::Enum(id, types) => {
-        head = Head { code: code::ENUM, number: id.place(), ..head };
-        plain(entries, types);
-      }
-      TypeKind::Union(id, types) => {
-        head = Head { code: code::UNION, number: id.place(), ..head };
-        plain(entries, types);
-      }
-      TypeKind::Fn(id) => head = Head { code: code::FN, number: id.place(), ..head },
-      TypeKind::Closure(id, flex, sig) => {
-        head = Head { code: code::CLOSURE, number: id.0, flex: flex as u32, ..head };
-        if sig.names.len() > sig.param_tys.len() {
-          head.name = BAD_NAME;
-        }
-        signature(entries, sig);
-      }
-      TypeKind::Ref(t) => {
-        head.code = code::REF;
-        plain(entries, &[t]);
-      }
-      TypeKind::Key(name) => head = Head { code: code::KEY, name: name.words(), ..head },
-      TypeKind::IfConst(id, then, else_) => {
-        head = Head { code: code::IF_CONST, number: id.place(), ..head };
-        plain(entries, &[then, else_]);
-      }
-      TypeKind::Never => head.code = code::NEVER,
-      TypeKind::Default => head.code = code::DEFAULT,
-      TypeKind::Error => head.code = code::ERROR,
+  /// Lays the children out where they have names, or don't stand in a row.
+  #[inline]
+  pub(crate) fn given(&self, entries: &mut Vec<u32>) -> Given<'_> {
+    match *self {
+      TypeKind::Param(number, name) => Given::Laid(own(entries, code::PARAM, number, name)),
+      TypeKind::Tuple(types) => Given::Over(code::TUPLE, 0, types),
+      TypeKind::Object(given) => Given::Laid(object(entries, given)),
+      TypeKind::Opaque(id, types) => Given::Over(code::OPAQUE, id.place(), types),
+      TypeKind::Struct(id, types) => Given::Over(code::STRUCT, id.place(), types),
+      TypeKind::Enum(id, types) => Given::Over(code::ENUM, id.place(), types),
+      TypeKind::Union(id, types) => Given::Over(code::UNION, id.place(), types),
+      TypeKind::Fn(id) => Given::Over(code::FN, id.place(), &[]),
+      TypeKind::Closure(id, flex, sig) => Given::Laid(closure(entries, id, flex, sig)),
+      TypeKind::Ref(ref t) => Given::Over(code::REF, 0, std::slice::from_ref(t)),
+      TypeKind::Key(name) => Given::Laid(own(entries, code::KEY, 0, name)),
+      TypeKind::IfConst(id, then, else_) => Given::Laid(if_const(entries, id, [then, else_])),
+      TypeKind::Never => Given::Over(code::NEVER, 0, &[]),
+      TypeKind::Default => Given::Over(code::DEFAULT, 0, &[]),
+      TypeKind::Error => Given::Over(code::ERROR, 0, &[]),
     }
-    head
   }
 }
 
-/// A kind as a store has it. Its children are read as they are asked for.
+/// A kind as a store has it. Its children are a part of the store, borrowed.
 #[derive(Debug, Clone, Copy)]
 pub enum Kind<'t> {
   /// A type parameter: its number and its name.
@@ -235,21 +235,19 @@ pub enum Kind<'t> {
   Error,
 }
 
-/// A node's words, as a store answers them: what the variants of [`Kind`] are made of.
+/// A node's words, as a store answers them: what the variants of [`Kind`] are made of, but for its children.
 pub(crate) struct Parts {
   pub code: u32,
   pub number: u32,
   pub dual: bool,
   pub flex: u32,
   pub name: [u32; 3],
-  pub count: u32,
 }
 
 impl<'t> Kind<'t> {
   #[inline]
-  pub(crate) fn of(types: &'t Types, node: TypeIdx, parts: Parts) -> Kind<'t> {
-    let Parts { code, number, dual, flex, name, count } = parts;
-    let all = Children { types, node, next: 0, end: count };
+  pub(crate) fn of(parts: Parts, all: Children<'t>) -> Kind<'t> {
+    let Parts { code, number, dual, flex, name } = parts;
     let own = Name::from_words(name);
     match code {
       code::PARAM => Kind::Param(number, own),
@@ -321,6 +319,15 @@ impl Iterator for Listed<'_> {
     }
   }
 
+  #[inline]
+  fn fold<B, F: FnMut(B, Type) -> B>(self, init: B, each: F) -> B {
+    match self {
+      Listed::None => init,
+      Listed::Two(types) => types.fold(init, each),
+      Listed::All(types) => types.fold(init, each),
+    }
+  }
+
   fn size_hint(&self) -> (usize, Option<usize>) {
     match self {
       Listed::None => (0, Some(0)),
@@ -334,18 +341,28 @@ impl ExactSizeIterator for Listed<'_> {}
 
 /// A kind's children, in order.
 #[derive(Clone, Copy)]
-pub struct Children<'t> {
-  types: &'t Types,
-  node: TypeIdx,
-  next: u32,
-  end: u32,
+pub struct Children<'t>(&'t [Child]);
+
+impl<'t> Children<'t> {
+  #[inline]
+  pub(crate) fn of(children: &'t [Child]) -> Children<'t> {
+    Children(children)
+  }
+
+  #[inline]
+  fn at(self, j: usize) -> Type {
+    type_of(&self.0[j])
+  }
 }
 
-impl Children<'_> {
-  #[inline]
-  fn at(&self, j: u32) -> Type {
-    self.types.child(self.node, j).expect("the node has this child")
-  }
+#[inline]
+fn type_of(&[word, ..]: &Child) -> Type {
+  Type::from_word(word)
+}
+
+/// A child's name; zeros for none.
+fn name_of(&[_, text, start, len]: &Child) -> Option<Name> {
+  (len != 0).then_some(Name::from_words([text, start, len]))
 }
 
 impl Iterator for Children<'_> {
@@ -353,15 +370,12 @@ impl Iterator for Children<'_> {
 
   #[inline]
   fn next(&mut self) -> Option<Type> {
-    (self.next < self.end).then(|| {
-      self.next += 1;
-      self.at(self.next - 1)
-    })
+    let child = self.0.split_off_first()?;
+    Some(type_of(child))
   }
 
   fn size_hint(&self) -> (usize, Option<usize>) {
-    let left = (self.end - self.next) as usize;
-    (left, Some(left))
+    (self.0.len(), Some(self.0.len()))
   }
 }
 
@@ -380,11 +394,10 @@ pub struct Fields<'t>(Children<'t>);
 impl Iterator for Fields<'_> {
   type Item = (Name, Type);
 
+  #[inline]
   fn next(&mut self) -> Option<(Name, Type)> {
-    let j = self.0.next;
-    let t = self.0.next()?;
-    let name = self.0.types.child_name(self.0.node, j).expect("an object's child has a name");
-    Some((name, t))
+    let child = self.0.0.split_off_first()?;
+    Some((name_of(child).expect("an object's child has a name"), type_of(child)))
   }
 
   fn size_hint(&self) -> (usize, Option<usize>) {
@@ -407,19 +420,23 @@ pub struct Signature<'t> {
 }
 
 impl<'t> Signature<'t> {
+  /// Its parameters; its return is the last child.
+  fn params(self) -> &'t [Child] {
+    &self.all.0[..self.all.0.len() - 1]
+  }
+
   /// The parameters' types.
   pub fn param_tys(self) -> impl ExactSizeIterator<Item = Type> + 't {
-    Children { end: self.all.end - 1, ..self.all }
+    Children(self.params())
   }
 
   /// The parameters' names, a name or none for each.
   pub fn names(self) -> impl ExactSizeIterator<Item = Option<Name>> + 't {
-    let Children { types, node, end, .. } = self.all;
-    (0..end - 1).map(move |j| types.child_name(node, j))
+    self.params().iter().map(name_of)
   }
 
   /// What it returns.
   pub fn ret_ty(self) -> Type {
-    self.all.at(self.all.end - 1)
+    self.all.at(self.params().len())
   }
 }

@@ -4,7 +4,8 @@
 //! be lent to it: [`Lent`] has it. The second, which [`Store`] has, tests its arguments alone and asks for a chart and a
 //! store that passed the tests and that only the library's calls have written since. `Store` keeps that promise by
 //! keeping its words to itself: they come from an opening or passed the test, and nothing outside this module reaches
-//! them. The same goes for its names buffer, which is opened here for the store's capacities.
+//! them. The same goes for its names buffer, which is opened here for the store's capacities. Some calls of the second
+//! family have a lean form, which is lent no more of the store than it looks at.
 //!
 //! What is asked of every pointer, in both families: it is aligned, points to as many numbers as its length says, and
 //! nothing that is written overlaps anything else that is lent. Each pointer here is a slice's, and what is written is
@@ -52,6 +53,9 @@ pub const OUT: usize = 12;
 /// Where a store's header has the nodes and children that are made, and the room for them.
 const COUNTS: std::ops::Range<usize> = 0..2;
 const ROOM: std::ops::Range<usize> = 2..4;
+
+/// A child's words: its type, then its name.
+pub type Child = [u32; 4];
 
 /// A names buffer: two capacities, then eight places, each a name's length, a word for each byte, and a state's words.
 const NAMES_HEAD: usize = 2;
@@ -108,18 +112,9 @@ macro_rules! calls {
   ($prefix:literal) => {
     use super::{M, N, P};
     family! { $prefix, u64;
-      new_var(span: u32);
       new_vars(span: u32, count: u32, out: M, out_len: N);
       new(code: u32, number: u32, flex: u32, text: u32, start: u32, len: u32, es: P, es_len: N);
-      new_struct(number: u32, ts: P, ts_len: N);
-      new_union(number: u32, ts: P, ts_len: N);
-      error();
-      nil();
-      find(t: u32);
-      find_mut(t: u32);
       node(t: u32, out: M);
-      child(t: u32, j: u32, out: M);
-      child_name(t: u32, j: u32, out: M);
       figures(out: M);
       is_nil(t: u32);
       self_inverse_param(t: u32, param: u32);
@@ -147,6 +142,15 @@ mod first {
   calls! { "faroalder_" }
   family! { "faroalder_", u32; refusal(); names_refusal(bs: P, bs_len: N); }
   family! { "faroalder_", u64;
+    new_var(span: u32);
+    new_struct(number: u32, ts: P, ts_len: N);
+    new_union(number: u32, ts: P, ts_len: N);
+    error();
+    nil();
+    find(t: u32);
+    find_mut(t: u32);
+    child(t: u32, j: u32, out: M);
+    child_name(t: u32, j: u32, out: M);
     unify(a: u32, b: u32);
     unify_types(a: P, a_len: N, b: P, b_len: N, inv: u32);
     unify_objects(a: P, a_len: N, b: P, b_len: N, inv: u32);
@@ -163,6 +167,28 @@ mod second {
     unify_objects_recalling(a: P, a_len: N, b: P, b_len: N, inv: u32, m: M, m_len: N);
     unify_fn_sig_recalling(a: P, a_len: N, a_ret: u32, b: P, b_len: N, b_ret: u32, m: M, m_len: N);
     unify_impl_type_recalling(a: u32, x: P, x_len: N, b: u32, y: P, y_len: N, m: M, m_len: N);
+  }
+}
+
+/// The lean forms: header and nodes, and of the rules and the children no more than stands here.
+mod lean {
+  use super::{M, N, P};
+  macro_rules! lean {
+    ($($name:ident($($arg:ident: $ty:ty),*);)*) => {
+      unsafe extern "C" {$(
+        #[link_name = concat!("faroalder_lean_", stringify!($name))]
+        pub fn $name($($arg: $ty),*) -> u64;
+      )*}
+    };
+  }
+  lean! {
+    new_var(h: M, h_len: N, ws: M, ws_len: N, span: u32);
+    error(h: M, h_len: N, ws: M, ws_len: N);
+    nil(h: M, h_len: N, ws: M, ws_len: N);
+    find(h: P, h_len: N, ws: P, ws_len: N, t: u32);
+    find_mut(h: P, h_len: N, ws: M, ws_len: N, t: u32);
+    new_over(chart: P, chart_len: N, h: M, h_len: N, ws: M, ws_len: N, ks: M, ks_len: N, code: u32, number: u32,
+      ts: P, ts_len: N);
   }
 }
 
@@ -268,10 +294,6 @@ macro_rules! read {
 /// The calls of a family, the same for both.
 macro_rules! methods {
   ($family:ident) => {
-    pub fn new_var(&mut self, span: u32) -> u64 {
-      change!(self, $family::new_var, span)
-    }
-
     pub fn new_vars(&mut self, span: u32, count: u32, out: &mut [u32]) -> u64 {
       change!(self, $family::new_vars, span, count, out.as_mut_ptr(), out.len())
     }
@@ -283,40 +305,8 @@ macro_rules! methods {
       change!(self, $family::new, code, number, flex, text, start, len, es, n)
     }
 
-    pub fn new_struct(&mut self, number: u32, types: &[u32]) -> u64 {
-      change!(self, $family::new_struct, number, types.as_ptr(), types.len())
-    }
-
-    pub fn new_union(&mut self, number: u32, types: &[u32]) -> u64 {
-      change!(self, $family::new_union, number, types.as_ptr(), types.len())
-    }
-
-    pub fn error(&mut self) -> u64 {
-      change!(self, $family::error)
-    }
-
-    pub fn nil(&mut self) -> u64 {
-      change!(self, $family::nil)
-    }
-
-    pub fn find(&self, t: u32) -> u64 {
-      read!(self, $family::find, t)
-    }
-
-    pub fn find_mut(&mut self, t: u32) -> u64 {
-      change!(self, $family::find_mut, t)
-    }
-
     pub fn node(&self, t: u32, out: &mut [u32; OUT]) -> u64 {
       read!(self, $family::node, t, out.as_mut_ptr())
-    }
-
-    pub fn child(&self, t: u32, j: u32, out: &mut [u32; 1]) -> u64 {
-      read!(self, $family::child, t, j, out.as_mut_ptr())
-    }
-
-    pub fn child_name(&self, t: u32, j: u32, out: &mut [u32; 3]) -> u64 {
-      read!(self, $family::child_name, t, j, out.as_mut_ptr())
     }
 
     pub fn figures(&self, out: &mut [u32; OUT]) -> u64 {
@@ -430,6 +420,42 @@ macro_rules! methods {
 #[allow(missing_docs)]
 impl Lent<'_> {
   methods! { first }
+
+  pub fn new_var(&mut self, span: u32) -> u64 {
+    change!(self, first::new_var, span)
+  }
+
+  pub fn new_struct(&mut self, number: u32, types: &[u32]) -> u64 {
+    change!(self, first::new_struct, number, types.as_ptr(), types.len())
+  }
+
+  pub fn new_union(&mut self, number: u32, types: &[u32]) -> u64 {
+    change!(self, first::new_union, number, types.as_ptr(), types.len())
+  }
+
+  pub fn error(&mut self) -> u64 {
+    change!(self, first::error)
+  }
+
+  pub fn nil(&mut self) -> u64 {
+    change!(self, first::nil)
+  }
+
+  pub fn find(&self, t: u32) -> u64 {
+    read!(self, first::find, t)
+  }
+
+  pub fn find_mut(&mut self, t: u32) -> u64 {
+    change!(self, first::find_mut, t)
+  }
+
+  pub fn child(&self, t: u32, j: u32, out: &mut [u32; 1]) -> u64 {
+    read!(self, first::child, t, j, out.as_mut_ptr())
+  }
+
+  pub fn child_name(&self, t: u32, j: u32, out: &mut [u32; 3]) -> u64 {
+    read!(self, first::child_name, t, j, out.as_mut_ptr())
+  }
 
   pub fn unify(&mut self, a: u32, b: u32) -> u64 {
     change!(self, first::unify, a, b)
@@ -659,8 +685,74 @@ impl Tested {
   }
 }
 
+/// A lean call that may write the store's header and nodes.
+macro_rules! change_nodes {
+  ($s:expr, $call:path $(, $arg:expr)*) => {
+    // SAFETY: the pointers and lengths are those of two slices of a `Store`, which is borrowed alone until the call is
+    // over. That they are those of a tested store is its invariant.
+    unsafe { $call($s.h.as_mut_ptr(), $s.h.len(), $s.ws.as_mut_ptr(), $s.ws.len() $(, $arg)*) }
+  };
+}
+
 impl Store {
   methods! { second }
+
+  #[inline]
+  pub fn new_var(&mut self, span: u32) -> u64 {
+    change_nodes!(self, lean::new_var, span)
+  }
+
+  #[inline]
+  pub fn error(&mut self) -> u64 {
+    change_nodes!(self, lean::error)
+  }
+
+  #[inline]
+  pub fn nil(&mut self) -> u64 {
+    change_nodes!(self, lean::nil)
+  }
+
+  #[inline]
+  pub fn find(&self, t: u32) -> u64 {
+    // SAFETY: as above; the call only reads, so a shared borrow is enough.
+    unsafe { lean::find(self.h.as_ptr(), self.h.len(), self.ws.as_ptr(), self.ws.len(), t) }
+  }
+
+  #[inline]
+  pub fn find_mut(&mut self, t: u32) -> u64 {
+    change_nodes!(self, lean::find_mut, t)
+  }
+
+  /// The children of a node, which lie where its words say: each a type and a name.
+  #[inline]
+  pub fn children(&self, first: u32, count: u32) -> &[Child] {
+    &self.ks.as_chunks().0[first as usize..][..count as usize]
+  }
+
+  /// A kind without names over listed types.
+  #[inline]
+  pub fn new_over(&mut self, code: u32, number: u32, types: &[u32]) -> u64 {
+    let Store { rules, h, ws, ks, .. } = self;
+    let chart = &rules.0.chart;
+    // SAFETY: pointers and lengths of slices; the store's three are borrowed alone until the call is over, and the
+    // others are only read. That chart and store are tested is the invariant of a `Store`.
+    unsafe {
+      lean::new_over(
+        chart.as_ptr(),
+        chart.len(),
+        h.as_mut_ptr(),
+        h.len(),
+        ws.as_mut_ptr(),
+        ws.len(),
+        ks.as_mut_ptr(),
+        ks.len(),
+        code,
+        number,
+        types.as_ptr(),
+        types.len(),
+      )
+    }
+  }
 
   /// Unifying with a memory, of any length and whatever it holds: what is remembered changes no answer.
   pub fn unify(&mut self, a: u32, b: u32, m: &mut [u32]) -> u64 {

@@ -5,7 +5,7 @@ use std::{cell::RefCell, collections::HashSet, fmt};
 use crate::{
   answers::{Figures, Forced, Mod, Node, UnifyResult},
   chart::{Chart, DefId, Name, StructId, UnionId, refused},
-  kind::{self, Head, ImplType, Kind, Parts, TypeKind},
+  kind::{self, Children, Given, Head, ImplType, Kind, Parts, TypeKind},
   raw::{self, OUT, REFUSED, Store, Words},
   refusal::Refusal,
   transfer::{TransferTypes, TypeCtx},
@@ -21,6 +21,10 @@ const SHORT_TEXT: usize = 1 << 15;
 
 /// What a unify may remember: room for 16,381 pairs.
 const MEMORY_WORDS: usize = 2 + 4 * 16_381;
+
+/// The answers of `node` for one that is its parent's child, and for a root whose kind is known.
+const CHILD: u32 = 0;
+const KNOWN: u32 = 3;
 
 /// How many fields of nodes follow one another where the library writes them out.
 const PARENT_OR_SPAN: usize = 0;
@@ -58,6 +62,15 @@ pub struct Types {
   store: Store,
   /// Where the children of a kind that is made are laid out; what it holds between calls is of no account.
   entries: Vec<u32>,
+  /// What the library answered to `error` and `nil`, which it answers until the store's words become others.
+  remembered: Remembered,
+}
+
+/// The error and nil types, each since it was first asked for.
+#[derive(Clone, Copy, Default)]
+struct Remembered {
+  error: Option<Type>,
+  nil: Option<Type>,
 }
 
 thread_local! {
@@ -115,13 +128,6 @@ fn done(answer: u64) {
 fn impl_words(a: &ImplType) -> (u32, &[u32]) {
   let (number, types) = a.parts();
   (number, raw::words(types))
-}
-
-/// The kind in a node's or force_kind's words.
-#[inline]
-fn parts(out: &[u32; OUT]) -> Parts {
-  let [_, _, _, code, number, dual, flex, text, start, len, _, count] = *out;
-  Parts { code, number, dual: dual != 0, flex, name: [text, start, len], count }
 }
 
 /// A text by a call that writes it into a buffer, into larger ones until one is long enough.
@@ -189,7 +195,7 @@ impl Types {
   }
 
   fn of(store: Store) -> Types {
-    Types { store, entries: Vec::new() }
+    Types { store, entries: Vec::new(), remembered: Remembered::default() }
   }
 
   /// Room for more, or for less, with every node as it is: every type stays what it was, and every name holds the state
@@ -208,6 +214,7 @@ impl Types {
   /// # Ok::<(), Refusal>(())
   /// ```
   pub fn set_room(&mut self, nodes: u32, children: u32) -> Result<(), Refusal> {
+    self.remembered = Remembered::default();
     self.store.set_room(nodes, children).map_err(refused)
   }
 
@@ -248,6 +255,7 @@ impl Types {
 
   /// Forgets every node and child, and drops every name. The report count stays.
   pub fn reset(&mut self) {
+    self.remembered = Remembered::default();
     done(self.store.reset());
   }
 }
@@ -282,6 +290,7 @@ impl Types {
   /// types and how many nodes and children are made. A type made since is no longer in the store, and its number goes to
   /// the next that is made. The report count does not go back. The name stays held. [`Refusal::Unheld`] if it isn't.
   pub fn return_to(&mut self, name: impl AsRef<[u8]>) -> Result<(), Refusal> {
+    self.remembered = Remembered::default();
     value(self.store.return_to(name.as_ref())).map(drop)
   }
 
@@ -313,9 +322,14 @@ impl Types {
   /// # Ok::<(), Refusal>(())
   /// ```
   #[allow(clippy::new_ret_no_self)]
+  #[inline]
   pub fn new(&mut self, kind: TypeKind<'_>) -> Result<Type, Refusal> {
-    let Head { code, number, flex, name: [text, start, len] } = kind.head(&mut self.entries);
-    ty(self.store.new_kind([code, number, flex, text, start, len], &self.entries))
+    match kind.given(&mut self.entries) {
+      Given::Over(code, number, types) => ty(self.store.new_over(code, number, raw::words(types))),
+      Given::Laid(Head { code, number, flex, name: [text, start, len] }) => {
+        ty(self.store.new_kind([code, number, flex, text, start, len], &self.entries))
+      }
+    }
   }
 
   /// A new type variable; an inference error would be reported at the span.
@@ -336,25 +350,31 @@ impl Types {
   /// A new struct type over parameters; it is self-dual as the chart says.
   #[inline]
   pub fn new_struct(&mut self, id: StructId, type_params: &[Type]) -> Result<Type, Refusal> {
-    ty(self.store.new_struct(id.place(), raw::words(type_params)))
+    self.new(TypeKind::Struct(id, type_params))
   }
 
   /// A new union type over parameters; it is self-dual as the chart says.
   #[inline]
   pub fn new_union(&mut self, id: UnionId, type_params: &[Type]) -> Result<Type, Refusal> {
-    ty(self.store.new_union(id.place(), raw::words(type_params)))
+    self.new(TypeKind::Union(id, type_params))
   }
 
   /// The error type: made by the first call, returned by every later one until [`reset`](Types::reset).
   #[inline]
   pub fn error(&mut self) -> Result<Type, Refusal> {
-    ty(self.store.error())
+    match self.remembered.error {
+      Some(error) => Ok(error),
+      None => ty(self.store.error()).inspect(|&error| self.remembered.error = Some(error)),
+    }
   }
 
   /// The empty tuple: made by the first call, returned by every later one until [`reset`](Types::reset).
   #[inline]
   pub fn nil(&mut self) -> Result<Type, Refusal> {
-    ty(self.store.nil())
+    match self.remembered.nil {
+      Some(nil) => Ok(nil),
+      None => ty(self.store.nil()).inspect(|&nil| self.remembered.nil = Some(nil)),
+    }
   }
 }
 
@@ -441,10 +461,7 @@ impl Types {
     Ok(match value(self.store.force_kind(t.word(), &mut out))? {
       1 => Forced::Reported(Span(out[PARENT_OR_SPAN])),
       2 => Forced::Failed,
-      _ => {
-        let root = self.find(t)?.idx();
-        Forced::Known(Inverted(out[INVERTED] != 0), Kind::of(self, root, parts(&out)))
-      }
+      _ => Forced::Known(Inverted(out[INVERTED] != 0), self.kind_in(&out)),
     })
   }
 
@@ -500,17 +517,28 @@ impl Types {
   /// ```
   #[inline]
   pub fn kind(&self, t: Type) -> Result<Option<(Inverted, Kind<'_>)>, Refusal> {
-    let root = self.find(t)?;
-    Ok(match self.node(root.idx())? {
-      Node::Known { inverted, kind, .. } => Some((inverted ^ root.inv(), kind)),
-      _ => None,
-    })
+    let Some((inv, out)) = self.known(t)? else { return Ok(None) };
+    Ok(Some((Inverted(out[INVERTED] != 0) ^ inv, self.kind_in(&out))))
   }
 
   /// The children of a type's kind, as the kind has them; none where there is no kind.
   #[inline]
-  pub fn children(&self, t: Type) -> Result<impl Iterator<Item = Type> + '_, Refusal> {
-    Ok(self.kind(t)?.into_iter().flat_map(|(_, kind)| kind.children()))
+  pub fn children(&self, t: Type) -> Result<impl ExactSizeIterator<Item = Type> + '_, Refusal> {
+    Ok(self.known(t)?.map_or(Children::of(&[]), |(_, out)| self.children_in(&out)))
+  }
+
+  /// The words of a type's root, if its kind is known, and the inversions on the way.
+  #[inline]
+  fn known(&self, t: Type) -> Result<Option<(Inverted, [u32; OUT])>, Refusal> {
+    let mut out = [0; OUT];
+    let mut root = t;
+    let mut tag = value(self.store.node(t.word(), &mut out))?;
+    // Most types that are asked for are roots.
+    if tag == CHILD {
+      root = self.find(t)?;
+      tag = value(self.store.node(root.word(), &mut out))?;
+    }
+    Ok((tag == KNOWN).then_some((root.inv(), out)))
   }
 
   /// A node as it stands.
@@ -520,12 +548,12 @@ impl Types {
     let tag = value(self.store.node(Type::from(node).word(), &mut out))?;
     let size = out[SIZE];
     Ok(match tag {
-      0 => Node::Child(Type::from_word(out[PARENT_OR_SPAN])),
+      CHILD => Node::Child(Type::from_word(out[PARENT_OR_SPAN])),
       1 => Node::Unknown { span: Span(out[PARENT_OR_SPAN]), size },
       2 => Node::InferenceFailed { size },
       _ => {
         let inverted = Inverted(out[INVERTED] != 0);
-        Node::Known { inverted, kind: Kind::of(self, node, parts(&out)), size }
+        Node::Known { inverted, kind: self.kind_in(&out), size }
       }
     })
   }
@@ -535,18 +563,19 @@ impl Types {
     (0..self.len() as u16).map(|node| self.node(TypeIdx::new(node)).expect("the node is made"))
   }
 
+  /// The kind in a node's or force_kind's words.
   #[inline]
-  pub(crate) fn child(&self, node: TypeIdx, j: u32) -> Option<Type> {
-    let mut out = [0];
-    let there = value(self.store.child(Type::from(node).word(), j, &mut out));
-    (there == Ok(1)).then_some(Type::from_word(out[0]))
+  fn kind_in(&self, out: &[u32; OUT]) -> Kind<'_> {
+    let [_, _, _, code, number, dual, flex, text, start, len, ..] = *out;
+    let parts = Parts { code, number, dual: dual != 0, flex, name: [text, start, len] };
+    Kind::of(parts, self.children_in(out))
   }
 
+  /// The children in them.
   #[inline]
-  pub(crate) fn child_name(&self, node: TypeIdx, j: u32) -> Option<Name> {
-    let mut out = [0; 3];
-    let there = value(self.store.child_name(Type::from(node).word(), j, &mut out));
-    (there == Ok(1)).then_some(Name::from_words(out))
+  fn children_in(&self, out: &[u32; OUT]) -> Children<'_> {
+    let [.., first, count] = *out;
+    Children::of(self.store.children(first, count))
   }
 
   /// Whether a type equals its inverse.

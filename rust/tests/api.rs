@@ -389,6 +389,23 @@ fn room_is_chosen_anew() {
   types.new_var(Span(1)).unwrap();
 }
 
+/// Error and nil are made once, in each store, until it is reset.
+#[test]
+fn remembered_types_go_with_the_store() {
+  let mut types = opened();
+  let [nil, error] = [types.nil().unwrap(), types.error().unwrap()];
+  let mut other = types.clone();
+  types.reset();
+  assert_eq!(types.len(), 0);
+  assert_eq!([types.error(), types.nil()], [Ok(nil), Ok(error)]);
+  assert_eq!((types.figures().error, types.figures().nil), (Some(nil), Some(error)));
+  assert_eq!([other.nil(), other.error()], [Ok(nil), Ok(error)]);
+  assert_eq!(other.len(), 2);
+  let chart = types.chart();
+  let mut adopted = Types::adopt(&chart, types.into_words()).unwrap();
+  assert_eq!([adopted.error(), adopted.nil()], [Ok(nil), Ok(error)]);
+}
+
 #[test]
 fn charts_are_tested() {
   assert_eq!(Chart::empty(vec![b' '; 65_536]).unwrap_err(), Refusal::BadChart);

@@ -163,3 +163,29 @@ fn nothing_is_lent() {
   assert_eq!(lent.refusal(), 0);
   assert_eq!(lent.new_var(1), REFUSED + 10);
 }
+
+/// A node's children are the words where its own words say, which is where the crate reads them.
+#[test]
+fn children_lie_where_a_node_says() {
+  const TUPLE: u32 = 1;
+  const OBJECT: u32 = 2;
+  let rules =
+    Rules { chart: vec![], fn_trait: u32::MAX, sigils: [0; 12], rule: b"xy".into(), text: vec![] };
+  let mut lent = Lent { rules: &rules, h: &mut [0; 8], ws: &mut [0; 48], ks: &mut [0; 16] };
+  assert_eq!(lent.open(4, 4), 0);
+  assert_eq!(lent.new_var(7), 0);
+  assert_eq!(lent.new_kind([TUPLE, 0, 0, 0, 0, 0], &[1 << 31, 0, 0, 0, 0, 0, 0, 0]), 1);
+  assert_eq!(lent.new_kind([OBJECT, 0, 0, 0, 0, 0], &[1, 0, 0, 1, 1 << 31, 0, 1, 1]), 2);
+  for t in 0..3 {
+    let mut out = [0; OUT];
+    assert_eq!(lent.node(t, &mut out), if t == 0 { 1 } else { 3 });
+    let [.., first, count] = out;
+    for j in 0..count {
+      let (mut ty, mut name) = ([0], [0; 3]);
+      assert_eq!(lent.child(t, j, &mut ty), 1);
+      assert_eq!(lent.child_name(t, j, &mut name), (t == 2).into());
+      assert_eq!(lent.ks[4 * (first + j) as usize..][..4], [ty[0], name[0], name[1], name[2]]);
+    }
+    assert_eq!(count, if t == 0 { 0 } else { 2 });
+  }
+}

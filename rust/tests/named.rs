@@ -76,6 +76,19 @@ fn remembered_types_come_back() {
   assert_eq!((types.figures().nil, types.figures().error, types.len()), (None, None, 0));
 }
 
+/// Asked for in the other order, error and nil have each other's place.
+#[test]
+fn remembered_types_are_made_anew() {
+  let mut types = opened();
+  types.name("none").unwrap();
+  let [nil, error] = [types.nil().unwrap(), types.error().unwrap()];
+  assert_eq!([types.nil(), types.error()], [Ok(nil), Ok(error)]);
+  types.return_to("none").unwrap();
+  assert_eq!([types.error(), types.nil()], [Ok(nil), Ok(error)]);
+  assert_eq!((types.figures().error, types.figures().nil), (Some(nil), Some(error)));
+  assert_eq!(types.is_nil(error), Ok(true));
+}
+
 #[test]
 fn eight_names_and_a_ninth() {
   let mut types = opened();

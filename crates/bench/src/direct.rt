@@ -1,23 +1,27 @@
-// The same without tests: each asks what the core function asks that it calls, and promises the same. Nothing holds a caller in another language to that, so
+// Core functions, without tests: each asks what the core function asks that it calls, and promises the same. Nothing holds a caller in another language to that, so
 // these are for bench/ alone, whose driver lends stores that the library has made.
 ghost use Prim.Native.Nat.{_≤_, _<_};
 ghost use mathlib.Core.Bool.{false};
+ghost use mathlib.Core.Option.{none};
 ghost use lib.ListN.{length};
 ghost use Rattle.scope.specs.Types.{tyOf};
 ghost use Rattle.scope.specs.Nodes.{opened};
 ghost use Rattle.scope.specs.Make.{new, newVar, newVars, makeError, makeNil};
 ghost use Rattle.scope.specs.Unify.{unify};
+ghost use Rattle.scope.specs.Import.{import};
 ghost use Rattle.scope.specs.Show.{show};
 ghost use Rattle.scope.specs.Calls.{nodesFor};
 ghost use Rattle.names.specs.Place.{texts};
 ghost use Rattle.chart.specs.Env.{envOf};
 ghost use Rattle.layout.specs.Words.{storeIn, decode};
+ghost use Rattle.store.specs.Entries.{typesIn};
 ghost use Rattle.store.specs.Holds.{Became, Openable, Ready};
 ghost use Rattle.make.specs.Made.{MadeIs, MadeAllIs};
 ghost use Rattle.make.specs.Given.{KindReady, kindGiven};
 ghost use Rattle.lent_kind.specs.Lent.{plainArgs, withFlag};
 ghost use Rattle.meeting.specs.Asks.{Pair};
 ghost use Rattle.unify.specs.Leaves.{Leaves};
+ghost use Rattle.copy.specs.Whole.{ImportReady, ImportedIs};
 ghost use Rattle.walk.specs.Asks.{Stands};
 ghost use Rattle.append.specs.Appended.{Appended};
 ghost use Rattle.bench.specs.Numbers.{typeWord, RESULTS, resultIn, bare};
@@ -151,6 +155,27 @@ pub extern "C" fn faroalder_direct_unify<'a>(
 {
     let mut memory = [0u32; 0];
     faroalder_direct_unify_recalling(ws, ks, n, rule, text, &mut memory, a, b)
+}
+
+// Out of n nodes, with no parameter list. This is the core alone, which the library's names do not have: there an import also counts what it needs. It asks and
+// promises what the core does, so that it costs this crate nothing to prove.
+#[no_mangle]
+pub extern "C" fn faroalder_direct_import(
+    sw: &[u32],
+    sk: &[u32],
+    n: u32,
+    h: &mut [u32],
+    ws: &mut [u32],
+    ks: &mut [u32],
+    ts: &[u32],
+    out: &mut [u32],
+)
+    requires { ⌜ ImportReady (now sw) (now sk) n none (now ts) (now h) (now ws) (now ks) (now out) ⌝ }
+    ensures { λ _. ⌜ ImportedIs (import (decode (now (sw .entry)) (now (sk .entry)) n) none (storeIn (now (h .entry)) (now (ws .entry)) (now (ks .entry)))
+        (typesIn (now (ts .entry)))) (length (now (ts .entry)))
+        (now (h .entry)) (now (ws .entry)) (now (ks .entry)) (now (h .exit)) (now (ws .exit)) (now (ks .exit)) (now (out .entry)) (now (out .exit)) ⌝ }
+{
+    copy::import(sw, sk, n, false, ts, h, ws, ks, ts, out);
 }
 
 // The place where the text ends; one past the buffer where it does not fit.

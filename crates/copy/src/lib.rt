@@ -10,6 +10,7 @@ ghost use Rattle.scope.proofs.CopyTable.{copyAll, copyF};
 ghost use Rattle.layout.specs.Words.{decode, storeIn};
 ghost use Rattle.layout.specs.Meaning.{rememberedMeans};
 ghost use Rattle.store.specs.Entries.{typesIn};
+ghost use Rattle.roots.specs.Kept.{Cached};
 ghost use Rattle.copy_parts.specs.Places.{listOf};
 ghost use Rattle.copy_type.specs.Words.{copyingAt};
 ghost use Rattle.copy.specs.Lists.{AllCopyable, AllCopied, RememberedCopied};
@@ -25,6 +26,7 @@ fn copy_all(
     n: u32,
     listed: bool,
     params: &[u32],
+    cache: &mut [u16],
     table: &mut [u32],
     h: &mut [u32],
     ws: &mut [u32],
@@ -34,15 +36,16 @@ fn copy_all(
 )
     requires { ⌜ AllCopyable (now sw) (now sk) n (listOf listed (now params)) (now h) (now ws) (now ks) (now table) (typesIn (now ts)) ⌝ }
     requires { ⌜ length (now ts) ≤ length (now out) ⌝ }
+    requires { ⌜ Cached (now sw) n (now cache) ⌝ }
     ensures { λ _. ⌜ AllCopied (copyAll (copyF n (decode (now (sw .entry)) (now (sk .entry)) n) (listOf listed (now (params .entry))))
         (copyingAt (now (h .entry)) (now (ws .entry)) (now (ks .entry)) (now (table .entry))) (typesIn (now (ts .entry)))) (length (now (ts .entry)))
         (now (h .entry)) (now (ws .entry)) (now (ks .entry)) (now (h .exit)) (now (ws .exit)) (now (ks .exit)) (now (table .exit))
-        (now (out .entry)) (now (out .exit)) ⌝ }
+        (now (out .entry)) (now (out .exit)) × Cached (now (sw .entry)) n (now (cache .exit)) ⌝ }
 {
     let mut i = 0;
     while i < ts.len() {
         let t = Type(ts[i]);
-        let next = copy_type::copy(sw, sk, n, listed, params, table, h, ws, ks, t, n);
+        let next = copy_type::copy(sw, sk, n, listed, params, cache, table, h, ws, ks, t, n);
         out[i] = next.0;
         i += 1;
     }
@@ -53,20 +56,22 @@ fn copy_remembered(
     sw: &[u32],
     sk: &[u32],
     n: u32,
+    cache: &mut [u16],
     table: &mut [u32],
     h: &mut [u32],
     ws: &mut [u32],
     ks: &mut [u32],
     was: Remembered,
 ) -> Remembered
-    requires { ⌜ AllCopyable (now sw) (now sk) n none (now h) (now ws) (now ks) (now table) (listed (rememberedMeans was)) ⌝ }
+    requires { ⌜ AllCopyable (now sw) (now sk) n none (now h) (now ws) (now ks) (now table) (listed (rememberedMeans was)) × Cached (now sw) n (now cache) ⌝ }
     ensures { λ r. ⌜ RememberedCopied (copyAll (copyF n (decode (now (sw .entry)) (now (sk .entry)) n) none)
         (copyingAt (now (h .entry)) (now (ws .entry)) (now (ks .entry)) (now (table .entry))) (listed (rememberedMeans was)))
-        (now (h .entry)) (now (ws .entry)) (now (ks .entry)) (now (h .exit)) (now (ws .exit)) (now (ks .exit)) (now (table .exit)) r ⌝ }
+        (now (h .entry)) (now (ws .entry)) (now (ks .entry)) (now (h .exit)) (now (ws .exit)) (now (ks .exit)) (now (table .exit)) r
+        × Cached (now (sw .entry)) n (now (cache .exit)) ⌝ }
 {
     match was {
         Remembered::Is(t) => {
-            Remembered::Is(copy_type::copy(sw, sk, n, false, sk, table, h, ws, ks, t, n))
+            Remembered::Is(copy_type::copy(sw, sk, n, false, sk, cache, table, h, ws, ks, t, n))
         }
         Remembered::Nothing => Remembered::Nothing,
     }
@@ -90,8 +95,22 @@ pub fn import(
         (storeIn (now (h .entry)) (now (ws .entry)) (now (ks .entry))) (typesIn (now (ts .entry)))) (length (now (ts .entry)))
         (now (h .entry)) (now (ws .entry)) (now (ks .entry)) (now (h .exit)) (now (ws .exit)) (now (ks .exit)) (now (out .entry)) (now (out .exit)) ⌝ }
 {
+    let mut cache = [0u16; MAX_NODES];
     let mut table = [0u32; MAX_NODES];
-    copy_all(sw, sk, n, listed, params, &mut table, h, ws, ks, ts, out);
+    copy_all(
+        sw,
+        sk,
+        n,
+        listed,
+        params,
+        &mut cache,
+        &mut table,
+        h,
+        ws,
+        ks,
+        ts,
+        out,
+    );
 }
 
 // "`export` is the same into a fresh store, .. error type first, nil next; it has no parameter list."
@@ -117,9 +136,23 @@ pub fn export(
     let was_error = x.error;
     let was_nil = x.nil;
     make::open(h, ws, ks, nodes, children);
+    let mut cache = [0u16; MAX_NODES];
     let mut table = [0u32; MAX_NODES];
-    let error = copy_remembered(sw, sk, n, &mut table, h, ws, ks, was_error);
-    let nil = copy_remembered(sw, sk, n, &mut table, h, ws, ks, was_nil);
-    copy_all(sw, sk, n, false, ts, &mut table, h, ws, ks, ts, out);
+    let error = copy_remembered(sw, sk, n, &mut cache, &mut table, h, ws, ks, was_error);
+    let nil = copy_remembered(sw, sk, n, &mut cache, &mut table, h, ws, ks, was_nil);
+    copy_all(
+        sw,
+        sk,
+        n,
+        false,
+        ts,
+        &mut cache,
+        &mut table,
+        h,
+        ws,
+        ks,
+        ts,
+        out,
+    );
     make::remember(h, ws, ks, error, nil);
 }

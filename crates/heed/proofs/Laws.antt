@@ -4,7 +4,7 @@
 use mathlib.Core.Path.{_≡_, refl, sym, subst, _∙_}
 use mathlib.Core.Bool.{Bool, true, false}
 use mathlib.Core.List.{List}
-use mathlib.Core.Logic.{inl}
+use mathlib.Core.Logic.{inl, inr}
 use Prim.Native.Nat.{ℕ}
 use native.Mathlib.Omega.{arith}
 use Rattle.scope.specs.Names.{Texts}
@@ -20,10 +20,10 @@ use Rattle.roots.specs.declared.Nearby.{Nearby}
 use Rattle.roots.specs.declared.Nearby.the-variants.{Is}
 use Rattle.roots.proofs.Laws.{relinked-refl}
 use Rattle.merge.specs.Meaning.{Settled}
-use Rattle.merge.specs.Quick.{Tried}
+use Rattle.merge.specs.Quick.{Tried, OneNil}
 use Rattle.recall.specs.Memory.{Running, Tidy, Begun, Fewer, Forgot, Noted}
 use Rattle.heed.specs.Recalls.{Meets, Recalls, Since}
-use Rattle.heed.specs.Told.{Moved, Closed, FoundTold, QuickTold, SettledTold}
+use Rattle.heed.specs.Told.{Moved, Closed, FoundTold, QuickTold, SmallTold, SettledTold}
 
 -- clocks
 
@@ -99,6 +99,36 @@ quick-stays t f = record {
 pub quick-merges : {ws ws′ : List ℕ} {n : ℕ} {m m′ : List ℕ} {a b : Ty} {d : ℕ} {r : Bool} → (d ≡ 0 → ⊥) → Tried ws ws′ n a b r → r ≡ true → Forgot m m′
     → QuickTold ws ws′ n m m′ a b d true
 quick-merges h t f g = record { deep = λ e. h; merged = λ e. t .merged f; forgot = λ e. g; words = λ e. cc; memory = λ e. cc }
+
+-- `small`
+
+pub small-not : {ws : List ℕ} {n : ℕ} {m : List ℕ} {a b : Ty} {d : ℕ} → SmallTold ws ws n m m a b d false
+small-not = record {
+  deep = λ e. let z : _≡_ {A = ℕ} 0 1 = cc in absurd (omega arith);
+  done = λ e. let z : _≡_ {A = ℕ} 0 1 = cc in absurd (omega arith);
+  words = λ e. refl;
+  memory = λ e. refl;
+}
+
+pub small-stays : {ws ws′ : List ℕ} {n : ℕ} {m : List ℕ} {a b : Ty} {d : ℕ} {r : Bool} → Tried ws ws′ n a b r → r ≡ false → SmallTold ws ws′ n m m a b d false
+small-stays t f = record {
+  deep = λ e. let z : _≡_ {A = ℕ} 0 1 = cc in absurd (omega arith);
+  done = λ e. let z : _≡_ {A = ℕ} 0 1 = cc in absurd (omega arith);
+  words = λ e. t .stays f;
+  memory = λ e. refl;
+}
+
+pub small-nil : {ws : List ℕ} {n : ℕ} {m : List ℕ} {a b : Ty} {d : ℕ} {r : Bool} → (d ≡ 0 → ⊥) → OneNil ws n a b r → r ≡ true → SmallTold ws ws n m m a b d true
+small-nil {ws} {n} {a = a} {b = b} h o f = record {
+  deep = λ e. h;
+  done = λ e. inr (subst (OneNil ws n a b) f o, (refl, refl));
+  words = λ e. cc;
+  memory = λ e. cc;
+}
+
+pub small-merges : {ws ws′ : List ℕ} {n : ℕ} {m m′ : List ℕ} {a b : Ty} {d : ℕ} {r : Bool} → (d ≡ 0 → ⊥) → Tried ws ws′ n a b r → r ≡ true → Forgot m m′
+    → SmallTold ws ws′ n m m′ a b d true
+small-merges h t f g = record { deep = λ e. h; done = λ e. inl (t .merged f, g); words = λ e. cc; memory = λ e. cc }
 
 -- `settle`
 

@@ -11,7 +11,7 @@ use Rattle.types.specs.declared.UnifyResult.{UnifyResult}
 use Rattle.layout.specs.Words.{decode}
 use Rattle.roots.specs.Found.{FoundMut}
 use Rattle.merge.specs.Meaning.{Adds, Settled}
-use Rattle.merge.specs.Quick.{Quick}
+use Rattle.merge.specs.Quick.{Quick, OneNil}
 use Rattle.recall.specs.Memory.{clockOf, Believed, Tidy, Forgot, New}
 use Rattle.heed.specs.Recalls.{Since}
 
@@ -31,11 +31,18 @@ pub record FoundTold (ws : List ℕ) (n : ℕ) (ws′ m m′ : List ℕ) (t r : 
   pub found : FoundMut ws n ws′ t r
   pub told : (ks : List ℕ) → Moved m m′ (decode ws ks n) (decode ws′ ks n)
 
--- told that two roots without kinds merged, they did; else nothing changed
+-- told that two roots merged, they did; else nothing changed
 pub record QuickTold (ws ws′ : List ℕ) (n : ℕ) (m m′ : List ℕ) (a b : Ty) (d : ℕ) (r : Bool) : Type 0 where
   pub deep : r ≡ true → d ≡ 0 → ⊥
   pub merged : r ≡ true → Quick ws ws′ n a b
   pub forgot : r ≡ true → Forgot m m′
+  pub words : r ≡ false → ws′ ≡ ws
+  pub memory : r ≡ false → m′ ≡ m
+
+-- told that two types are done with, they merged or are types of one nil; else nothing changed
+pub record SmallTold (ws ws′ : List ℕ) (n : ℕ) (m m′ : List ℕ) (a b : Ty) (d : ℕ) (r : Bool) : Type 0 where
+  pub deep : r ≡ true → d ≡ 0 → ⊥
+  pub done : r ≡ true → (Quick ws ws′ n a b × Forgot m m′) ⊎ (OneNil ws n a b true × ((ws′ ≡ ws) × (m′ ≡ m)))
   pub words : r ≡ false → ws′ ≡ ws
   pub memory : r ≡ false → m′ ≡ m
 

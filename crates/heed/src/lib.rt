@@ -4,7 +4,7 @@ ghost use Rattle.scope.specs.Types.{tyOf};
 ghost use Rattle.layout.specs.Meaning.{Linked};
 ghost use Rattle.recall.specs.Memory.{Tidy};
 ghost use Rattle.merge.specs.Meaning.{Adds};
-ghost use Rattle.heed.specs.Told.{Settles, FoundTold, QuickTold, SettledTold};
+ghost use Rattle.heed.specs.Told.{Settles, FoundTold, QuickTold, SmallTold, SettledTold};
 use roots::Nearby;
 use types::Type;
 use types::UnifyResult;
@@ -30,6 +30,24 @@ pub fn quick(ws: &mut [u32], n: u32, memory: &mut [u32], a: Type, b: Type, depth
         return false;
     }
     if !merge::quick(ws, n, a, b) {
+        return false;
+    }
+    recall::changed(memory);
+    true
+}
+
+// The same of two roots without children of which one has no kind, and of two types of one nil, where nothing is to be done.
+pub fn small(ws: &mut [u32], n: u32, memory: &mut [u32], a: Type, b: Type, depth: u32) -> bool
+    requires { ⌜ Adds (now ws) n (tyOf (a .0)) (tyOf (b .0)) × Tidy (now memory) ⌝ }
+    ensures { λ r. ⌜ SmallTold (now (ws .entry)) (now (ws .exit)) n (now (memory .entry)) (now (memory .exit)) (tyOf (a .0)) (tyOf (b .0)) depth r ⌝ }
+{
+    if depth == 0 {
+        return false;
+    }
+    if merge::one_nil(ws, n, a, b) {
+        return true;
+    }
+    if !merge::slight(ws, n, a, b) {
         return false;
     }
     recall::changed(memory);

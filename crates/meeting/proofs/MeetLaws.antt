@@ -6,7 +6,7 @@ use mathlib.Core.Bool.{Bool, true, false, not, _||_, false≢true}
 use mathlib.Core.List.{List, [], map, List·Memᴰ}
 use mathlib.Core.Option.{Option, none, some}
 use mathlib.Core.Logic.{_⊎_, inl, inr}
-use Prim.Native.Nat.{ℕ, _+_, _<_, _≤_}
+use Prim.Native.Nat.{ℕ, zero, suc, _+_, _<_, _≤_}
 use native.Mathlib.Omega.{arith}
 use lib.Dec.{eqb}
 use lib.ListN.{length}
@@ -73,6 +73,18 @@ crossed-by : (a b : Ty) {i j v : Bool} → i ≡ a .inv → j ≡ b .inv → v �
 crossed-by a b e f g = rw (← e, ← f) (sym g)
 
 -- what `bind` gives, where t says whether one root occurs in the other
+or-left : (p q : Bool) → (p || q) ≡ false → p ≡ false
+or-left true q e = e
+or-left false q e = refl
+
+-- what does not occur in another root has no other in it where it has no children
+occurs-back : (n : ℕ) (ns : List Node) (x y : ℕ) → 0 < n → occurs n ns x y ≡ false → kidsOf (nodes.stateOf (at ns x)) ≡ [] → occurs n ns y x ≡ false
+unfolding occurs
+occurs-back zero ns x y h o k = absurd (omega arith)
+occurs-back (suc f) ns x y h o k =
+    let q : eqb y x ≡ false = or-left (eqb y x) _ o in
+    rw (ne-eqb x y (λ g. false≢true (sym q ∙ eq-eqb y x (sym g))), k) refl
+
 abbrev bindIf : List Node → Ty → Ty → Bool → Out
 bindIf ns a b t = pick t (out ns answers.Failure) (out (bound ns a b) answers.Success)
 
@@ -113,6 +125,15 @@ module _ {ws ks : List ℕ} {n : ℕ} {a b : Ty} where
     bare-binds g =
         let ns : List Node = decode ws ks n in
         bare-by false Bind (rw (occurs-is n ns (a .idx) (b .idx) e f h, occurs-is n ns (b .idx) (a .idx) e′ f′ g) refl) refl
+
+  pub bare-alone : {x : Texts} {i : ℕ} {t : Bool} {h : Held} → Pair x ws ks n a b → i ≡ a .idx → t ≡ occurs n (decode ws ks n) i (b .idx) → t ≡ false
+      → h ≡ heldIn (readAt ws n i) → h ≡ Nothing → Bare ws ks n a b Bind
+  bare-alone {i = i} p e f g u v =
+      let ns : List Node = decode ws ks n in
+      let o : occurs n ns (a .idx) (b .idx) ≡ false = occurs-is n ns (a .idx) (b .idx) e f g in
+      let k : kidsOf (nodes.stateOf (at ns (a .idx))) ≡ [] =
+      subst (λ (j : ℕ). kidsOf (nodes.stateOf (at ns j)) ≡ []) e (held-kids ws ks (p .words .children) n (p .words .clean) i u v) in
+      bare-by false Bind (rw (o, occurs-back n ns (a .idx) (b .idx) (omega (arith, p .first)) o k) refl) refl
 
   -- `walk_roots`
 

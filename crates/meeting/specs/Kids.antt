@@ -2,7 +2,7 @@
 use mathlib.Core.Path.{_≡_}
 use mathlib.Core.List.{List}
 use mathlib.Core.Option.{Option, none, some}
-use Prim.Native.Nat.{ℕ}
+use Prim.Native.Nat.{ℕ, _<_, _≤_}
 use Rattle.scope.specs.Names.{Texts, Name, name, bytes}
 use Rattle.scope.specs.Types.{Ty, tyOf}
 use Rattle.scope.specs.Unify.{Plan, objectPlan, seek}
@@ -28,3 +28,8 @@ soughtIn x ks m b count = seek x (bytes x m) (namesFrom ks b count) (kidsFrom ks
 abbrev pub objectsOf : Texts → List ℕ → List ℕ → Runs → Plan
 objectsOf x xs ys s =
     objectPlan x (s .inv .0) (namesFrom xs (s .a) (s .na)) (kidsFrom xs (s .a) (s .na)) (namesFrom ys (s .b) (s .nb)) (kidsFrom ys (s .b) (s .nb))
+
+-- between two places, if there is any between them
+pub record Middle (low high r : ℕ) : Type 0 where
+  pub above : low ≤ r
+  pub below : low < high → r < high

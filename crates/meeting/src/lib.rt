@@ -9,7 +9,7 @@ ghost use Rattle.meeting.specs.Asks.{Tops, Roots};
 ghost use Rattle.meeting.specs.Meets.{OneNode, Bare, WalkedTo, bareRoots, Met};
 ghost use Rattle.plan.specs.declared.Plan.the-variants as plans;
 ghost use Rattle.meeting.specs.Steps.{Ascends, Spans, PlanSpans, Stepped, Lasts, Returns};
-ghost use Rattle.meeting.specs.Kids.{slotPlace, soughtMeans, soughtIn};
+ghost use Rattle.meeting.specs.Kids.{slotPlace, soughtMeans, soughtIn, Middle};
 use layout::Held;
 use layout::TypeNode;
 use layout::TypeState;
@@ -56,14 +56,18 @@ fn same_node(ws: &[u32], ks: &[u32], n: u32, a: Type, b: Type) -> UnifyResult
     UnifyResult::Success
 }
 
-// "If either has no kind: Failure if one occurs in the other, else they merge."
+// "If either has no kind: Failure if one occurs in the other, else they merge." In a root without a kind nothing else occurs.
 fn without_kind(ws: &[u32], ks: &[u32], n: u32, a: Type, b: Type) -> Walked
     requires { ⌜ Roots (now ws) (now ks) n (tyOf (a .0)) (tyOf (b .0)) ⌝ }
     ensures { λ r. ⌜ Bare (now (ws .entry)) (now (ks .entry)) n (tyOf (a .0)) (tyOf (b .0)) r ⌝ }
 {
-    if walk::occurs(ws, ks, n, a.idx(), b) {
+    let ia = a.idx();
+    if walk::occurs(ws, ks, n, ia, b) {
         return Walked::Done(UnifyResult::Failure);
     }
+    let Held::Is(_, _) = layout::held_at(ws, n, ia) else {
+        return Walked::Bind;
+    };
     if walk::occurs(ws, ks, n, b.idx(), a) {
         return Walked::Done(UnifyResult::Failure);
     }
@@ -181,7 +185,42 @@ pub fn seek<'a>(
     Sought::Nothing
 }
 
-// The same where names ascend, and one may stand in the i-th place: that child is looked at first.
+// Where a name is looked for first among count that ascend, and then: between low and high.
+fn middle(low: u32, high: u32) -> u32
+    requires { ⌜ low ≤ high ⌝ }
+    ensures { λ r. ⌜ Middle low high r ⌝ }
+{
+    low + (high - low) / 2
+}
+
+fn first_look(i: u32, count: u32) -> u32
+    ensures { λ r. ⌜ Middle 0 count r ⌝ }
+{
+    if i < count {
+        return i;
+    }
+    middle(0, count)
+}
+
+// Where it is looked for then: beside the i-th place, as long as that alone was looked at, and by halves after that.
+fn next_look(low: u32, high: u32, i: u32) -> u32
+    requires { ⌜ low ≤ high ⌝ }
+    ensures { λ r. ⌜ Middle low high r ⌝ }
+{
+    if low < high {
+        if high == i {
+            return high - 1;
+        }
+        if low > 0 {
+            if low - 1 == i {
+                return low;
+            }
+        }
+    }
+    middle(low, high)
+}
+
+// The same where names ascend, and one may stand in the i-th place: that child is looked at first, then the one before it or behind it, then by halves.
 pub fn seek_near<'a>(
     ks: &[u32],
     name: Name,
@@ -194,12 +233,23 @@ pub fn seek_near<'a>(
     requires { ⌜ (childWords (b + count) ≤ length (now ks)) × Ascends (texts (now rule) (now text)) (now ks) b count ⌝ }
     ensures { λ r. ⌜ soughtMeans r ≡ soughtIn (texts (now (rule .entry)) (now (text .entry))) (now (ks .entry)) (nameOf name) b count ⌝ }
 {
-    if i < count {
-        if names::same_name(name, kid_name(ks, b, i), rule, text) {
-            return Sought::Is(kid(ks, b, i));
+    let mut low: u32 = 0;
+    let mut high = count;
+    let mut at = first_look(i, count);
+    while low < high {
+        let other = kid_name(ks, b, at);
+        if names::same_name(name, other, rule, text) {
+            return Sought::Is(kid(ks, b, at));
+        }
+        if names::name_before(name, other, rule, text) {
+            high = at;
+            at = next_look(low, high, i);
+        } else {
+            low = at + 1;
+            at = next_look(low, high, i);
         }
     }
-    seek(ks, name, b, count, rule, text)
+    Sought::Nothing
 }
 
 // Two runs of a signature's returns alone, where both have one.

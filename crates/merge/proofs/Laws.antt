@@ -31,6 +31,7 @@ use Rattle.layout.specs.declared.TypeNode.the-variants.{Root, Child}
 use Rattle.layout.proofs.Laws.{length-put, tail-put, decode-put, clean-put}
 use Rattle.layout.proofs.HeldLaws.{state-read, size-read, state-fits}
 use Rattle.merge.specs.Meaning.{stateAt, sizeAt, turned, firstKnown, keptOf, Joined, Merged, Bound, Settled}
+use Rattle.merge.specs.Quick.{bareState}
 
 -- states
 
@@ -132,6 +133,26 @@ kept-fits : (ks : List ℕ) (c : ℕ) (i : Bool) (sa sb own : TypeState) → sta
 kept-fits ks c i sa sb own f g h =
     turned-fits ks c i (firstKnown sa (firstKnown sb own)) ∙ first-fits ks c sa (firstKnown sb own) f (first-fits ks c sb own g h)
 
+-- the state that stays is its own where the other has no kind
+
+pub keeps-first : (i j : Bool) (sa sb : TypeState) → bareState sb ≡ true → keptOf i (turned i sa) (turned j sb) (turned i sa) ≡ sa
+keeps-first i j (Known h k) sb e = turned-twice i (Known h k)
+keeps-first i j (Unknown s) (Known h k) e = cc
+keeps-first i j (Unknown s) (Unknown t) e = refl
+keeps-first i j (Unknown s) InferenceFailed e = refl
+keeps-first i j InferenceFailed (Known h k) e = cc
+keeps-first i j InferenceFailed (Unknown t) e = refl
+keeps-first i j InferenceFailed InferenceFailed e = refl
+
+pub keeps-second : (i j : Bool) (sa sb : TypeState) → bareState sa ≡ true → keptOf j (turned i sa) (turned j sb) (turned j sb) ≡ sb
+keeps-second i j (Known h k) sb e = cc
+keeps-second i j (Unknown s) (Known h k) e = turned-twice j (Known h k)
+keeps-second i j (Unknown s) (Unknown t) e = refl
+keeps-second i j (Unknown s) InferenceFailed e = refl
+keeps-second i j InferenceFailed (Known h k) e = turned-twice j (Known h k)
+keeps-second i j InferenceFailed (Unknown t) e = refl
+keeps-second i j InferenceFailed InferenceFailed e = refl
+
 -- what a type sees at its root
 abbrev seen : List ℕ → ℕ → Ty → TypeState
 seen ws n a = turned (a .inv) (stateAt ws n (a .idx))
@@ -163,6 +184,18 @@ module _ (ws ws′ : List ℕ) (n : ℕ) (a b : Ty) where
   pub bind-law : (i j : Bool) (ra rb sa sb ka kb : TypeState) → i ≡ a .inv → j ≡ b .inv → ra ≡ stateAt ws n (a .idx) → rb ≡ stateAt ws n (b .idx)
       → sa ≡ turned i ra → sb ≡ turned j rb → ka ≡ keptOf i sa sb sa → kb ≡ keptOf j sa sb sb → Merged ws ws′ n a b ka kb → Bound ws ws′ n a b
   bind-law i j ra rb sa sb ka kb ei ej ea eb ta tb ea′ eb′ m = bound (rw (ea′, eb′, ta, tb, ea, eb, ei, ej) at m)
+
+  -- the root that stays keeps its own state where the other has no kind
+
+  pub bind-first : {y z : ℕ} → y ≡ sizeAt ws n (b .idx) → z ≡ sizeAt ws n (a .idx) → y < z → {r : Bool} → r ≡ bareState (stateAt ws n (b .idx)) → r ≡ true
+      → Joined ws ws′ n a b (stateAt ws n (a .idx)) → Bound ws ws′ n a b
+  bind-first ey ez h e t j =
+      bound (merge-first ws ws′ n a b _ _ _ _ ey ez h (rw (keeps-first (a .inv) (b .inv) (stateAt ws n (a .idx)) (stateAt ws n (b .idx)) (sym e ∙ t)) j))
+
+  pub bind-second : {y z : ℕ} → y ≡ sizeAt ws n (b .idx) → z ≡ sizeAt ws n (a .idx) → z ≤ y → {r : Bool} → r ≡ bareState (stateAt ws n (a .idx)) → r ≡ true
+      → Joined ws ws′ n b a (stateAt ws n (b .idx)) → Bound ws ws′ n a b
+  bind-second ey ez h e t j =
+      bound (merge-second ws ws′ n a b _ _ _ _ ey ez h (rw (keeps-second (a .inv) (b .inv) (stateAt ws n (a .idx)) (stateAt ws n (b .idx)) (sym e ∙ t)) j))
 
   -- `settle`: "Only Success merges"
 

@@ -1,35 +1,41 @@
 -- Merging over words: in clean words another size word is another size, and two roots without kinds merge as scope's `bound` says. One law for each way out.
 -- Assumes nothing.
 use mathlib.Core.Path.{_≡_, refl, ap, ap₂, sym, subst, _∙_}
-use mathlib.Core.Bool.{Bool, true, false}
+use mathlib.Core.Bool.{Bool, true, false, _||_}
 use mathlib.Core.List.{List, _++_}
 use mathlib.Core.Option.{Option, none}
 use Prim.Native.Nat.{ℕ, _+_, _-_, _*_, _<_, _≤_}
 use native.Mathlib.Omega.{arith}
-use lib.Dec.{ltb}
-use lib.ListN.{length, take, drop, set, length-set, length-drop}
+use lib.Dec.{eqb, ltb}
+use lib.ListN.{length, take, drop, set, length-map, length-set, length-drop}
 use lib.Seq.{length-take-le}
-use borrow.Author.Tests.{lt-ltb, le-ltb}
+use borrow.Author.Tests.{eq-eqb, ne-eqb, lt-ltb, le-ltb}
 use Rattle.scope.specs.Base.{pick}
 use Rattle.scope.specs.Limits.{NONE}
+use Rattle.scope.specs.Kinds.{TUPLE}
 use Rattle.scope.specs.Types.{Ty, tyOf, flip}
 use Rattle.scope.specs.Nodes as nodes
 use Rattle.scope.specs.Unify as scope
+use Rattle.types.specs.declared.Inverted.{Inverted}
 use Rattle.types.specs.declared.«Type».{«Type»}
-use Rattle.layout.specs.Words.{nodeWords, decode}
-use Rattle.layout.specs.Meaning.{cellIn, wordsOf, cellOf, cellWords, pasteAt, readAt, putAt, nodeSize, nodeMeans, stateMeans, Clean}
+use Rattle.layout.specs.Words.{nodeWords, decode, slots}
+use Rattle.layout.specs.Meaning.{cellIn, wordsOf, cellOf, cellWords, pasteAt, readAt, putAt, nodeState, nodeSize, heldIn, kindMeans, nodeMeans, stateMeans, Clean}
+use Rattle.layout.specs.declared.Held.{Held}
+use Rattle.layout.specs.declared.Held.the-variants as held
+use Rattle.layout.specs.declared.Kind.{Kind}
 use Rattle.layout.specs.declared.TypeState.{TypeState}
 use Rattle.layout.specs.declared.TypeState.the-variants.{Known, Unknown, InferenceFailed}
 use Rattle.layout.specs.declared.TypeNode.{TypeNode}
 use Rattle.layout.specs.declared.TypeNode.the-variants.{Root, Child}
 use Rattle.layout.proofs.Lists.{drop-past}
+use Rattle.layout.proofs.ChildLaws.{length-slots}
 use Rattle.layout.proofs.Cells.{words-back, clean-words, says}
 use Rattle.layout.proofs.Laws.{tail-put, put-past, read-node}
 use Rattle.layout.proofs.HeldLaws.{state-read, state-fits}
 use Rattle.merge.specs.declared.Bare.{Bare}
 use Rattle.merge.specs.declared.Bare.the-variants.{Is, Nothing}
 use Rattle.merge.specs.Meaning.{stateAt, sizeAt, Adds, Joined, Merged, Bound}
-use Rattle.merge.specs.Quick.{bareBy, bareIn, bareWithin, bareNode, Resized, Sums, Sized, Quick, Tried}
+use Rattle.merge.specs.Quick.{bareState, bareBy, bareIn, bareWithin, bareNode, loneIn, loneNode, nilHeld, nilNode, Resized, Sums, Sized, Quick, Tried, OneNil}
 use Rattle.merge.proofs.Laws.{twice}
 
 -- a size alone
@@ -130,6 +136,12 @@ bare-means ks (Root (Unknown s) y) z e = refl
 bare-means ks (Root InferenceFailed y) z e = refl
 bare-means ks (Child t) z e = let f : _≡_ {A = ℕ} 0 1 = cc in absurd (omega arith)
 
+bare-lone : (v : nodes.Node) → bareNode v ≡ true → loneNode v ≡ true
+bare-lone (nodes.Root (nodes.Known i k) z) e = cc
+bare-lone (nodes.Root (nodes.Unknown s) z) e = refl
+bare-lone (nodes.Root nodes.InferenceFailed z) e = refl
+bare-lone (nodes.Child u) e = cc
+
 pub bare-none : (t : Ty) (v : nodes.Node) → bareNode v ≡ true → nodes.kindOf t (nodes.stateOf v) ≡ none
 bare-none t (nodes.Root (nodes.Known i k) z) e = cc
 bare-none t (nodes.Root (nodes.Unknown s) z) e = refl
@@ -160,8 +172,9 @@ module _ (ws : List ℕ) (n : ℕ) (a b : Ty) (y z : ℕ) (here : bareIn (readAt
   bare-quick : (ws′ : List ℕ) → (a .idx ≡ b .idx → ⊥) → Merged ws ws′ n a b (stateAt ws n (a .idx)) (stateAt ws n (b .idx)) → Quick ws ws′ n a b
   bare-quick ws′ h m = record {
     apart = h;
-    first = bare-first;
-    second = bare-second;
+    first = λ ks c cl. bare-lone (nodes.at (decode ws ks n) (a .idx)) (bare-first ks c cl);
+    second = λ ks c cl. bare-lone (nodes.at (decode ws ks n) (b .idx)) (bare-second ks c cl);
+    bare = λ ks c cl. rw (bare-first ks c cl) refl;
     bound = record {
       tail = m .tail;
       clean = λ ks c cl. m .clean ks c cl (state-fits ws ks c n cl (a .idx)) (state-fits ws ks c n cl (b .idx));
@@ -185,4 +198,106 @@ pub tried-merged : {ws ws′ : List ℕ} {n : ℕ} {a b : Ty} {i j y z : ℕ} {p
 tried-merged {ws} {ws′} {n} {a} {b} {i} {j} {y} {z} ei ej ep fp eq fq h m = record {
   merged = λ e. bare-quick ws n a b y z (read-bare ws n ei ep fp) (read-bare ws n ej eq fq) ws′ (λ f. h (ei ∙ (f ∙ sym ej))) m;
   stays = λ e. let f : _≡_ {A = ℕ} 0 1 = cc in absurd (omega arith);
+}
+
+-- `slight`: roots without children
+
+pub lone-root : (ws : List ℕ) (n i : ℕ) {v : TypeNode} {st st′ : TypeState} {z : ℕ} → v ≡ readAt ws n i → v ≡ Root st z → st ≡ st′ → loneIn (Root st′ z) ≡ loneIn (readAt ws n i)
+lone-root ws n i {z = z} e f g = ap (λ (s : TypeState). loneIn (Root s z)) (sym g) ∙ ap loneIn (sym f ∙ e)
+
+pub lone-child : (ws : List ℕ) (n i : ℕ) {v : TypeNode} {t : «Type»} → v ≡ readAt ws n i → v ≡ Child t → false ≡ loneIn (readAt ws n i)
+lone-child ws n i e f = ap loneIn (sym f ∙ e)
+
+no-kids : (ks : List ℕ) (k : Kind) → eqb (k .count) 0 ≡ true → eqb (length (kindMeans ks k .kids)) 0 ≡ true
+unfolding kindMeans
+no-kids ks k e = rw (length-map (slots ks (k .first) (k .count)) (λ s. tyOf (s .type)), length-slots ks (k .first) (k .count)) e
+
+lone-means : (ks : List ℕ) (v : TypeNode) → loneIn v ≡ true → loneNode (nodeMeans ks v) ≡ true
+lone-means ks (Root (Known i k) z) e = no-kids ks k e
+lone-means ks (Root (Unknown s) z) e = refl
+lone-means ks (Root InferenceFailed z) e = refl
+lone-means ks (Child t) e = cc
+
+lone-bare : (ks : List ℕ) (v : TypeNode) → loneIn v ≡ true → bareNode (nodeMeans ks v) ≡ bareState (nodeState v)
+lone-bare ks (Root (Known i k) z) e = refl
+lone-bare ks (Root (Unknown s) z) e = refl
+lone-bare ks (Root InferenceFailed z) e = refl
+lone-bare ks (Child t) e = cc
+
+pub tried-done : {ws ws₁ : List ℕ} {n : ℕ} {a b : Ty} {r : Bool} → Tried ws ws₁ n a b r → r ≡ true → Tried ws ws₁ n a b true
+tried-done t e = record { merged = λ f. t .merged e; stays = λ f. let z : _≡_ {A = ℕ} 0 1 = cc in absurd (omega arith) }
+
+pub or-first : (p q : Bool) {r : Bool} → r ≡ p → r ≡ true → true ≡ (p || q)
+or-first p q e f = rw (sym e ∙ f) refl
+
+pub or-second : (p q : Bool) {r s : Bool} → r ≡ p → r ≡ false → s ≡ q → s ≡ (p || q)
+or-second p q e f g = rw (sym e ∙ f) g
+
+pub adds-still : {ws ws₁ : List ℕ} {n : ℕ} {a b : Ty} {r : Bool} → Tried ws ws₁ n a b r → r ≡ false → Adds ws n a b → Adds ws₁ n a b
+adds-still t e w = rw (t .stays e) w
+
+pub tried-still : {ws ws₁ : List ℕ} {n : ℕ} {a b : Ty} {r : Bool} → Tried ws ws₁ n a b r → r ≡ false → Tried ws ws₁ n a b false
+tried-still t e = record { merged = λ f. let z : _≡_ {A = ℕ} 0 1 = cc in absurd (omega arith); stays = λ f. t .stays e }
+
+pub tried-slight : {ws ws₁ ws′ : List ℕ} {n : ℕ} {a b : Ty} {r : Bool} → Tried ws ws₁ n a b r → r ≡ false → {i j : ℕ} → i ≡ a .idx → j ≡ b .idx → (i ≡ j → ⊥)
+    → {p q s : Bool} → p ≡ loneIn (readAt ws₁ n i) → p ≡ true → q ≡ loneIn (readAt ws₁ n j) → q ≡ true
+    → s ≡ (bareState (stateAt ws₁ n (a .idx)) || bareState (stateAt ws₁ n (b .idx))) → s ≡ true → Bound ws₁ ws′ n a b → Tried ws ws′ n a b true
+tried-slight {ws} {ws₁} {ws′} {n} {a} {b} t f {i} {j} ei ej h ep fp eq fq es fs m = record {
+  merged = λ e. rw (← t .stays f) merges;
+  stays = λ e. let z : _≡_ {A = ℕ} 0 1 = cc in absurd (omega arith);
+}
+  where
+    la : loneIn (readAt ws₁ n (a .idx)) ≡ true
+    la = ap (λ (k : ℕ). loneIn (readAt ws₁ n k)) (sym ei) ∙ (sym ep ∙ fp)
+
+    lb : loneIn (readAt ws₁ n (b .idx)) ≡ true
+    lb = ap (λ (k : ℕ). loneIn (readAt ws₁ n k)) (sym ej) ∙ (sym eq ∙ fq)
+
+    lone : (ks : List ℕ) (c : ℕ) → Clean ws₁ ks c n → (k : ℕ) → loneIn (readAt ws₁ n k) ≡ true → loneNode (nodes.at (decode ws₁ ks n) k) ≡ true
+    lone ks c cl k l = ap loneNode (sym (read-node ws₁ ks c n cl k)) ∙ lone-means ks (readAt ws₁ n k) l
+
+    bare : (ks : List ℕ) (c : ℕ) → Clean ws₁ ks c n → (k : ℕ) → loneIn (readAt ws₁ n k) ≡ true → bareNode (nodes.at (decode ws₁ ks n) k) ≡ bareState (stateAt ws₁ n k)
+    bare ks c cl k l = ap bareNode (sym (read-node ws₁ ks c n cl k)) ∙ lone-bare ks (readAt ws₁ n k) l
+
+    merges : Quick ws₁ ws′ n a b
+    merges = record {
+      apart = λ e. h (ei ∙ (e ∙ sym ej));
+      first = λ ks c cl. lone ks c cl (a .idx) la;
+      second = λ ks c cl. lone ks c cl (b .idx) lb;
+      bare = λ ks c cl. rw (bare ks c cl (a .idx) la, bare ks c cl (b .idx) lb) (sym es ∙ fs);
+      bound = m;
+    }
+
+-- `one_nil`
+
+pub nil-none : (ws : List ℕ) (n i : ℕ) {h : Held} → h ≡ heldIn (readAt ws n i) → h ≡ held.Nothing → false ≡ nilHeld (heldIn (readAt ws n i))
+nil-none ws n i e f = ap nilHeld (sym f ∙ e)
+
+module _ (ws : List ℕ) (n i : ℕ) {h : Held} {j : Inverted} {k : Kind} (e : h ≡ heldIn (readAt ws n i)) (f : h ≡ held.Is j k) where
+  pub nil-tuple : k .code ≡ TUPLE → eqb (k .count) 0 ≡ nilHeld (heldIn (readAt ws n i))
+  nil-tuple g = rw (sym e ∙ f, eq-eqb (k .code) TUPLE g) refl
+
+  pub nil-other : (k .code ≡ TUPLE → ⊥) → false ≡ nilHeld (heldIn (readAt ws n i))
+  nil-other g = rw (sym e ∙ f, ne-eqb (k .code) TUPLE g) refl
+
+pub one-not : {ws : List ℕ} {n : ℕ} {a b : Ty} → OneNil ws n a b false
+one-not = record {
+  one = λ e. let z : _≡_ {A = ℕ} 0 1 = cc in absurd (omega arith);
+  nil = λ e. let z : _≡_ {A = ℕ} 0 1 = cc in absurd (omega arith);
+}
+
+nil-means : (ks : List ℕ) (v : TypeNode) → nilHeld (heldIn v) ≡ true → nilNode (nodeMeans ks v) ≡ true
+unfolding kindMeans
+nil-means ks (Root (Known i k) z) e =
+    rw (length-map (slots ks (k .first) (k .count)) (λ s. tyOf (s .type)), length-slots ks (k .first) (k .count)) e
+nil-means ks (Root (Unknown s) z) e = e
+nil-means ks (Root InferenceFailed z) e = e
+nil-means ks (Child t) e = e
+
+pub one-nil : {ws : List ℕ} {n : ℕ} {a b : Ty} {i j : ℕ} {r : Bool} → i ≡ a .idx → j ≡ b .idx → i ≡ j → r ≡ nilHeld (heldIn (readAt ws n i)) → OneNil ws n a b r
+one-nil {ws} {n} {a} {b} {i} {j} {r} ei ej h e = record {
+  one = λ f. sym ei ∙ (h ∙ ej);
+  nil = λ f ks c cl.
+      ap nilNode (sym (read-node ws ks c n cl (a .idx)))
+      ∙ nil-means ks (readAt ws n (a .idx)) (ap (λ (k : ℕ). nilHeld (heldIn (readAt ws n k))) (sym ei) ∙ (sym e ∙ f));
 }

@@ -1,22 +1,31 @@
 -- Merging over words: a root that stays keeps all its words but its size's, and two roots without kinds merge at once.
 use mathlib.Core.Path.{_≡_}
-use mathlib.Core.Bool.{Bool, true, false}
+use mathlib.Core.Bool.{Bool, true, false, _||_}
 use mathlib.Core.List.{List}
 use Prim.Native.Nat.{ℕ, _+_, _≤_}
-use lib.Dec.{ltb}
+use lib.Dec.{eqb, ltb}
 use lib.ListN.{length, drop}
 use Rattle.scope.specs.Base.{pick}
 use Rattle.scope.specs.Types.{Ty}
+use Rattle.scope.specs.Kinds.{TUPLE}
 use Rattle.scope.specs.Nodes as nodes
 use Rattle.layout.specs.Words.{nodeWords, decode}
 use Rattle.layout.specs.Meaning.{readAt, putAt, Clean}
 use Rattle.layout.specs.declared.TypeState.{TypeState}
 use Rattle.layout.specs.declared.TypeState.the-variants.{Known, Unknown, InferenceFailed}
+use Rattle.layout.specs.declared.Held.{Held}
+use Rattle.layout.specs.declared.Held.the-variants as held
 use Rattle.layout.specs.declared.TypeNode.{TypeNode}
 use Rattle.layout.specs.declared.TypeNode.the-variants.{Root, Child}
 use Rattle.merge.specs.Meaning.{stateAt, sizeAt, Adds, Bound}
 use Rattle.merge.specs.declared.Bare.{Bare}
 use Rattle.merge.specs.declared.Bare.the-variants.{Is, Nothing}
+
+-- a state without a kind
+abbrev pub bareState : TypeState → Bool
+bareState (Known i k) = false
+bareState (Unknown s) = true
+bareState InferenceFailed = true
 
 -- the size of a root without a kind
 
@@ -40,6 +49,32 @@ bareNode (nodes.Root (nodes.Unknown s) z) = true
 bareNode (nodes.Root nodes.InferenceFailed z) = true
 bareNode (nodes.Child t) = false
 
+-- a root without children, as the code reads it and as scope has it
+
+abbrev pub loneIn : TypeNode → Bool
+loneIn (Root (Known i k) z) = eqb (k .count) 0
+loneIn (Root (Unknown s) z) = true
+loneIn (Root InferenceFailed z) = true
+loneIn (Child t) = false
+
+abbrev pub loneNode : nodes.Node → Bool
+loneNode (nodes.Root (nodes.Known i k) z) = eqb (length (k .kids)) 0
+loneNode (nodes.Root (nodes.Unknown s) z) = true
+loneNode (nodes.Root nodes.InferenceFailed z) = true
+loneNode (nodes.Child t) = false
+
+-- a Tuple of nothing
+
+abbrev pub nilHeld : Held → Bool
+nilHeld (held.Is i k) = pick (eqb (k .code) TUPLE) (eqb (k .count) 0) false
+nilHeld held.Nothing = false
+
+abbrev pub nilNode : nodes.Node → Bool
+nilNode (nodes.Root (nodes.Known i k) z) = pick (eqb (k .head .code) TUPLE) (eqb (length (k .kids)) 0) false
+nilNode (nodes.Root (nodes.Unknown s) z) = false
+nilNode (nodes.Root nodes.InferenceFailed z) = false
+nilNode (nodes.Child t) = false
+
 -- ws′ after ws: in clean words node i alone has changed, and it has its state still and the size z
 pub record Resized (ws ws′ : List ℕ) (n i z : ℕ) : Type 0 where
   pub tail : drop (nodeWords n) ws′ ≡ drop (nodeWords n) ws
@@ -56,14 +91,21 @@ pub record Sized (ws : List ℕ) (n : ℕ) (a b : Ty) (y z : ℕ) : Type 0 where
   pub first : y ≡ sizeAt ws n (a .idx)
   pub second : z ≡ sizeAt ws n (b .idx)
 
--- ws′ after ws: two roots without kinds became one
+-- ws′ after ws: two roots without children, of which one has no kind, became one
 pub record Quick (ws ws′ : List ℕ) (n : ℕ) (a b : Ty) : Type 0 where
   pub apart : a .idx ≡ b .idx → ⊥
-  pub first : (ks : List ℕ) (c : ℕ) → Clean ws ks c n → bareNode (nodes.at (decode ws ks n) (a .idx)) ≡ true
-  pub second : (ks : List ℕ) (c : ℕ) → Clean ws ks c n → bareNode (nodes.at (decode ws ks n) (b .idx)) ≡ true
+  pub first : (ks : List ℕ) (c : ℕ) → Clean ws ks c n → loneNode (nodes.at (decode ws ks n) (a .idx)) ≡ true
+  pub second : (ks : List ℕ) (c : ℕ) → Clean ws ks c n → loneNode (nodes.at (decode ws ks n) (b .idx)) ≡ true
+  pub bare : (ks : List ℕ) (c : ℕ) → Clean ws ks c n
+      → (bareNode (nodes.at (decode ws ks n) (a .idx)) || bareNode (nodes.at (decode ws ks n) (b .idx))) ≡ true
   pub bound : Bound ws ws′ n a b
 
 -- told that they merged, they did; else nothing changed
 pub record Tried (ws ws′ : List ℕ) (n : ℕ) (a b : Ty) (r : Bool) : Type 0 where
   pub merged : r ≡ true → Quick ws ws′ n a b
   pub stays : r ≡ false → ws′ ≡ ws
+
+-- told so, a and b are types of one nil
+pub record OneNil (ws : List ℕ) (n : ℕ) (a b : Ty) (r : Bool) : Type 0 where
+  pub one : r ≡ true → a .idx ≡ b .idx
+  pub nil : r ≡ true → (ks : List ℕ) (c : ℕ) → Clean ws ks c n → nilNode (nodes.at (decode ws ks n) (a .idx)) ≡ true

@@ -1,14 +1,16 @@
 // Two roots become one: "The first root stays if its size is larger; on equal sizes it becomes the child." The node words change as scope's join, merge,
 // bind and settle say of the nodes that they hold. Nothing here reads a child's words.
 ghost use mathlib.Core.Path.{_≡_};
+ghost use mathlib.Core.Bool.{_||_};
 ghost use Prim.Native.Nat.{_+_, _*_, _≤_};
 ghost use lib.ListN.{length, set};
 ghost use Rattle.scope.specs.Types.{tyOf};
 ghost use Rattle.layout.specs.Words.{NODE-WORDS, nodeWords};
-ghost use Rattle.layout.specs.Meaning.{cellWords, pasteAt};
+ghost use Rattle.layout.specs.Meaning.{cellWords, pasteAt, readAt, heldIn};
 ghost use Rattle.merge.specs.Meaning.{sizeAt, stateAt, turned, firstKnown, keptOf};
 ghost use Rattle.merge.specs.Meaning.{Adds, Joined, Merged, Bound, Settled};
-ghost use Rattle.merge.specs.Quick.{bareWithin, Resized, Sums, Sized, Tried};
+ghost use Rattle.merge.specs.Quick.{bareState, bareWithin, loneIn, nilHeld, Resized, Sums, Sized, Tried, OneNil};
+use layout::Held;
 use layout::NODE_WORDS;
 use layout::TypeNode;
 use layout::TypeState;
@@ -92,20 +94,6 @@ fn kept(inv: Inverted, sa: TypeState, sb: TypeState, own: TypeState) -> TypeStat
     turn(inv, first_known(sa, first_known(sb, own)))
 }
 
-// "They merge and keep the kind"; "The staying root keeps its own span or failed mark."
-pub fn bind(ws: &mut [u32], n: u32, a: Type, b: Type)
-    requires { ⌜ Adds (now ws) n (tyOf (a .0)) (tyOf (b .0)) ⌝ }
-    ensures { λ _. ⌜ Bound (now (ws .entry)) (now (ws .exit)) n (tyOf (a .0)) (tyOf (b .0)) ⌝ }
-{
-    let ia = a.inv();
-    let ib = b.inv();
-    let sa = turn(ia, state_at(ws, n, a));
-    let sb = turn(ib, state_at(ws, n, b));
-    let ka = kept(ia, sa, sb, sa);
-    let kb = kept(ib, sa, sb, sb);
-    merge(ws, n, a, b, ka, kb);
-}
-
 // The word of a root's size.
 fn put_size(ws: &mut [u32], i: TypeIdx, size: u32)
     requires { ⌜ i .0 * NODE-WORDS + NODE-WORDS ≤ length (now ws) ⌝ }
@@ -160,6 +148,54 @@ fn unite(ws: &mut [u32], n: u32, a: Type, b: Type, sa: u32, sb: u32)
     }
 }
 
+// A root that has no kind: nothing of it is kept where it becomes a child.
+fn is_bare(ws: &[u32], n: u32, t: Type) -> bool
+    requires { ⌜ nodeWords n ≤ length (now ws) ⌝ }
+    ensures { λ r. ⌜ r ≡ bareState (stateAt (now (ws .entry)) n (tyOf (t .0) .idx)) ⌝ }
+{
+    match state_at(ws, n, t) {
+        TypeState::Known(_, _) => false,
+        TypeState::Unknown(_) => true,
+        TypeState::InferenceFailed => true,
+    }
+}
+
+// The root that stays takes a kind, whichever has it.
+fn take(ws: &mut [u32], n: u32, a: Type, b: Type)
+    requires { ⌜ Adds (now ws) n (tyOf (a .0)) (tyOf (b .0)) ⌝ }
+    ensures { λ _. ⌜ Bound (now (ws .entry)) (now (ws .exit)) n (tyOf (a .0)) (tyOf (b .0)) ⌝ }
+{
+    let ia = a.inv();
+    let ib = b.inv();
+    let sa = turn(ia, state_at(ws, n, a));
+    let sb = turn(ib, state_at(ws, n, b));
+    let ka = kept(ia, sa, sb, sa);
+    let kb = kept(ib, sa, sb, sb);
+    merge(ws, n, a, b, ka, kb);
+}
+
+// "They merge and keep the kind"; "The staying root keeps its own span or failed mark." Where the other has no kind it keeps all its words but its size's.
+pub fn bind(ws: &mut [u32], n: u32, a: Type, b: Type)
+    requires { ⌜ Adds (now ws) n (tyOf (a .0)) (tyOf (b .0)) ⌝ }
+    ensures { λ _. ⌜ Bound (now (ws .entry)) (now (ws .exit)) n (tyOf (a .0)) (tyOf (b .0)) ⌝ }
+{
+    let sa = size_at(ws, n, a);
+    let sb = size_at(ws, n, b);
+    if sb < sa {
+        if is_bare(ws, n, b) {
+            hang(ws, n, a, b, sa + sb);
+        } else {
+            take(ws, n, a, b);
+        }
+    } else {
+        if is_bare(ws, n, a) {
+            hang(ws, n, b, a, sb + sa);
+        } else {
+            take(ws, n, a, b);
+        }
+    }
+}
+
 // A node of the n, if it is such a root.
 fn bare_at(ws: &[u32], n: u32, i: TypeIdx) -> Bare
     requires { ⌜ nodeWords n ≤ length (now ws) ⌝ }
@@ -197,6 +233,85 @@ pub fn quick(ws: &mut [u32], n: u32, a: Type, b: Type) -> bool
     };
     unite(ws, n, a, b, sa, sb);
     true
+}
+
+// A root without children, with a kind or without.
+fn lone_at(ws: &[u32], n: u32, i: TypeIdx) -> bool
+    requires { ⌜ nodeWords n ≤ length (now ws) ⌝ }
+    ensures { λ r. ⌜ r ≡ loneIn (readAt (now (ws .entry)) n (i .0)) ⌝ }
+{
+    let node = layout::node_at(ws, n, i);
+    match node {
+        TypeNode::Root { state, size: _ } => match state {
+            TypeState::Known(_, kind) => kind.count == 0,
+            TypeState::Unknown(_) => true,
+            TypeState::InferenceFailed => true,
+        },
+        TypeNode::Child(_) => false,
+    }
+}
+
+fn either_bare(ws: &[u32], n: u32, a: Type, b: Type) -> bool
+    requires { ⌜ nodeWords n ≤ length (now ws) ⌝ }
+    ensures { λ r. ⌜ r ≡ (bareState (stateAt (now (ws .entry)) n (tyOf (a .0) .idx)) || bareState (stateAt (now (ws .entry)) n (tyOf (b .0) .idx))) ⌝ }
+{
+    if is_bare(ws, n, a) {
+        return true;
+    }
+    is_bare(ws, n, b)
+}
+
+// The same of any two roots without children of which one has no kind: neither can occur in the other.
+pub fn slight(ws: &mut [u32], n: u32, a: Type, b: Type) -> bool
+    requires { ⌜ Adds (now ws) n (tyOf (a .0)) (tyOf (b .0)) ⌝ }
+    ensures { λ r. ⌜ Tried (now (ws .entry)) (now (ws .exit)) n (tyOf (a .0)) (tyOf (b .0)) r ⌝ }
+{
+    if quick(ws, n, a, b) {
+        return true;
+    }
+    let ia = a.idx();
+    let ib = b.idx();
+    if ia.0 == ib.0 {
+        return false;
+    }
+    if !lone_at(ws, n, ia) {
+        return false;
+    }
+    if !lone_at(ws, n, ib) {
+        return false;
+    }
+    if !either_bare(ws, n, a, b) {
+        return false;
+    }
+    bind(ws, n, a, b);
+    true
+}
+
+// A Tuple of nothing.
+fn nil_at(ws: &[u32], n: u32, i: TypeIdx) -> bool
+    requires { ⌜ nodeWords n ≤ length (now ws) ⌝ }
+    ensures { λ r. ⌜ r ≡ nilHeld (heldIn (readAt (now (ws .entry)) n (i .0))) ⌝ }
+{
+    let Held::Is(_, kind) = layout::held_at(ws, n, i) else {
+        return false;
+    };
+    if kind.code == kinds::TUPLE {
+        return kind.count == 0;
+    }
+    false
+}
+
+// Two types of one nil, which is its own inverse.
+pub fn one_nil(ws: &[u32], n: u32, a: Type, b: Type) -> bool
+    requires { ⌜ nodeWords n ≤ length (now ws) ⌝ }
+    ensures { λ r. ⌜ OneNil (now (ws .entry)) n (tyOf (a .0)) (tyOf (b .0)) r ⌝ }
+{
+    let ia = a.idx();
+    let ib = b.idx();
+    if ia.0 != ib.0 {
+        return false;
+    }
+    nil_at(ws, n, ia)
 }
 
 // "Only Success merges."

@@ -9,6 +9,7 @@ ghost use Rattle.scope.specs.Needs.{listed, exported};
 ghost use Rattle.layout.specs.Words.{nodeWords, slotAt, nodesMade, storeIn};
 ghost use Rattle.layout.specs.Meaning.{heldIn, readAt, slotMeans, rememberedMeans, Linked};
 ghost use Rattle.store.specs.Entries.{typesIn};
+ghost use Rattle.roots.specs.Kept.{Cached};
 ghost use Rattle.needs.specs.declared.Params.the-variants as params;
 ghost use Rattle.needs.specs.Roots.{kindAsks, asksOf};
 ghost use Rattle.needs.specs.Sums.{noNeeds, Countable, CountedIs, Met, AllCounted};
@@ -98,11 +99,11 @@ pub fn child(ks: &[u32], first: u32, j: u32) -> Slot
 }
 
 // Whether a type's root is counted: the walk from it then does nothing, however deep it may go.
-fn is_met(ws: &[u32], n: u32, marks: &[u8], t: Type) -> bool
-    requires { ⌜ Linked (now ws) n ⌝ }
-    ensures { λ r. ⌜ Met (now (ws .entry)) n (now (marks .entry)) t r ⌝ }
+fn is_met(ws: &[u32], n: u32, cache: &mut [u16], marks: &[u8], t: Type) -> bool
+    requires { ⌜ Linked (now ws) n × Cached (now ws) n (now cache) ⌝ }
+    ensures { λ r. ⌜ Met (now (ws .entry)) n (now (marks .entry)) t r × Cached (now (ws .entry)) n (now (cache .exit)) ⌝ }
 {
-    is_counted(marks, roots::find(ws, n, t).idx())
+    is_counted(marks, roots::find_by(ws, n, cache, t).idx())
 }
 
 // The walk from t: a root that is not counted is counted, then its children are walked from, one level less deep.
@@ -111,18 +112,20 @@ fn count(
     ks: &[u32],
     n: u32,
     params: Params,
+    cache: &mut [u16],
     marks: &mut [u8],
     sum: Needs,
     t: Type,
     depth: u32,
 ) -> Needs
-    requires { ⌜ Countable (now ws) (now ks) n (now marks) sum ⌝ }
-    ensures { λ r. ⌜ CountedIs (now (ws .entry)) (now (ks .entry)) n params (now (marks .entry)) sum t depth (now (marks .exit)) r ⌝ }
+    requires { ⌜ Countable (now ws) (now ks) n (now marks) sum × Cached (now ws) n (now cache) ⌝ }
+    ensures { λ r. ⌜ CountedIs (now (ws .entry)) (now (ks .entry)) n params (now (marks .entry)) sum t depth (now (marks .exit)) r
+        × Cached (now (ws .entry)) n (now (cache .exit)) ⌝ }
 {
     if depth == 0 {
         return sum;
     }
-    let root = roots::find(ws, n, t).idx();
+    let root = roots::find_by(ws, n, cache, t).idx();
     if is_counted(marks, root) {
         return sum;
     }
@@ -144,8 +147,8 @@ fn count(
             while j < kids {
                 let kid = child(ks, first, j).ty;
                 j += 1;
-                if !is_met(ws, n, marks, kid) {
-                    all = count(ws, ks, n, params, marks, all, kid, depth - 1);
+                if !is_met(ws, n, cache, marks, kid) {
+                    all = count(ws, ks, n, params, cache, marks, all, kid, depth - 1);
                 }
             }
             all
@@ -159,17 +162,19 @@ fn count_all(
     ks: &[u32],
     n: u32,
     params: Params,
+    cache: &mut [u16],
     marks: &mut [u8],
     sum: Needs,
     ts: &[u32],
 ) -> Needs
-    requires { ⌜ Countable (now ws) (now ks) n (now marks) sum ⌝ }
-    ensures { λ r. ⌜ AllCounted (now (ws .entry)) (now (ks .entry)) n params (now (marks .entry)) sum (typesIn (now (ts .entry))) (now (marks .exit)) r ⌝ }
+    requires { ⌜ Countable (now ws) (now ks) n (now marks) sum × Cached (now ws) n (now cache) ⌝ }
+    ensures { λ r. ⌜ AllCounted (now (ws .entry)) (now (ks .entry)) n params (now (marks .entry)) sum (typesIn (now (ts .entry))) (now (marks .exit)) r
+        × Cached (now (ws .entry)) n (now (cache .exit)) ⌝ }
 {
     let mut all = sum;
     let mut i = 0;
     while i < ts.len() {
-        all = count(ws, ks, n, params, marks, all, Type(ts[i]), n);
+        all = count(ws, ks, n, params, cache, marks, all, Type(ts[i]), n);
         i += 1;
     }
     all
@@ -180,16 +185,17 @@ fn count_remembered(
     ws: &[u32],
     ks: &[u32],
     n: u32,
+    cache: &mut [u16],
     marks: &mut [u8],
     sum: Needs,
     was: Remembered,
 ) -> Needs
-    requires { ⌜ Countable (now ws) (now ks) n (now marks) sum ⌝ }
+    requires { ⌜ Countable (now ws) (now ks) n (now marks) sum × Cached (now ws) n (now cache) ⌝ }
     ensures { λ r. ⌜ AllCounted (now (ws .entry)) (now (ks .entry)) n params.None (now (marks .entry)) sum (listed (rememberedMeans was))
-        (now (marks .exit)) r ⌝ }
+        (now (marks .exit)) r × Cached (now (ws .entry)) n (now (cache .exit)) ⌝ }
 {
     match was {
-        Remembered::Is(t) => count(ws, ks, n, Params::None, marks, sum, t, n),
+        Remembered::Is(t) => count(ws, ks, n, Params::None, cache, marks, sum, t, n),
         Remembered::Nothing => sum,
     }
 }
@@ -209,8 +215,9 @@ pub fn of_import(ws: &[u32], ks: &[u32], n: u32, params: Params, ts: &[u32]) -> 
     requires { ⌜ Importable (now ws) (now ks) n (typesIn (now ts)) ⌝ }
     ensures { λ r. ⌜ ImportNeeds (now (ws .entry)) (now (ks .entry)) n params (now (ts .entry)) r ⌝ }
 {
+    let mut cache = [0u16; MAX_NODES];
     let mut marks = [0u8; MAX_NODES];
-    count_all(ws, ks, n, params, &mut marks, nothing(), ts)
+    count_all(ws, ks, n, params, &mut cache, &mut marks, nothing(), ts)
 }
 
 // What an export of a list needs: "error type first, nil next".
@@ -222,8 +229,9 @@ pub fn of_export(h: &[u32], ws: &[u32], ks: &[u32], ts: &[u32]) -> Needs
     let n = x.nodes;
     let error = x.error;
     let nil = x.nil;
+    let mut cache = [0u16; MAX_NODES];
     let mut marks = [0u8; MAX_NODES];
-    let first = count_remembered(ws, ks, n, &mut marks, nothing(), error);
-    let next = count_remembered(ws, ks, n, &mut marks, first, nil);
-    count_all(ws, ks, n, Params::None, &mut marks, next, ts)
+    let first = count_remembered(ws, ks, n, &mut cache, &mut marks, nothing(), error);
+    let next = count_remembered(ws, ks, n, &mut cache, &mut marks, first, nil);
+    count_all(ws, ks, n, Params::None, &mut cache, &mut marks, next, ts)
 }

@@ -2,17 +2,19 @@
 -- head says the code's numbers whatever the children are; its names matter for a Key, which has its own, and for an Object, which has its children's.
 -- Assumes nothing.
 use mathlib.Core.Path.{_≡_, refl, sym, _∙_}
-use mathlib.Core.Bool.{Bool, true, false, not, _||_, and-true, and-false, or-true}
+use mathlib.Core.Bool.{Bool, true, false, not, _||_, _&&_, and-true, and-false, or-true}
 use mathlib.Core.List.{List, []}
-use Prim.Native.Nat.{ℕ}
+use Prim.Native.Nat.{ℕ, zero, suc, _≤_}
+use native.Mathlib.Omega.{arith}
 use lib.Dec.{eqb}
 use borrow.Author.Tests.{eq-eqb, ne-eqb, eqb-true, not-true, not-false}
 use Rattle.scope.specs.Base.{pick}
 use Rattle.scope.specs.Names.{Texts, bytes, eqBytes}
-use Rattle.scope.specs.Kinds.{KEY, OBJECT, CLOSURE, ERROR, DEFAULT, rowOf, rows, dualBy, selfDual}
+use Rattle.scope.specs.Kinds.{TUPLE, OBJECT, STRUCT, UNION, CLOSURE, KEY, IF-CONST, DEFAULT, ERROR, DUAL, AS-CHART, rowOf, rows, dualBy, selfDual}
 use Rattle.scope.specs.Unify.{firstName, sameHead, kidsPlan}
 use Rattle.scope.specs.Unify as scope
 use Rattle.scope.specs.Sound.{namesIn}
+use Rattle.kinds.proofs.Laws.{row-past}
 use Rattle.names.specs.Place.{nameOf}
 use Rattle.names.proofs.InWords.{name-bytes}
 use Rattle.types.specs.declared.Inverted.{Inverted}
@@ -60,13 +62,41 @@ module _ (x : Texts) (k m : Kind) where
   unfolding sameHead kindMeans
   same-codes s = eqb-true (k .code) (m .code) (and-left (eqb (k .code) (m .code)) _ (sym (s .is [])))
 
--- `crosses`: Default does not, any other kind as it is self-dual
+-- `crosses`: what crosses by its code, what crosses by its flag, and that no other kind does
 
-pub default-stays : (k : Kind) → k .code ≡ DEFAULT → false ≡ crossesKind k
-default-stays k e = rw (eq-eqb (k .code) DEFAULT e) (sym (and-false (dualBy (rowOf (k .code) .dual) (k .dual))))
+pub flag-crosses : (k : Kind) (c : ℕ) → rowOf c .dual ≡ AS-CHART → eqb c DEFAULT ≡ false → k .code ≡ c → k .dual ≡ crossesKind k
+flag-crosses k c r n e = rw (e, r, n) (sym (and-true (k .dual)))
 
-pub other-crosses : (k : Kind) (r : Bool) → (k .code ≡ DEFAULT → ⊥) → r ≡ dualBy (rowOf (k .code) .dual) (k .dual) → r ≡ crossesKind k
-other-crosses k r h e = rw (ne-eqb (k .code) DEFAULT h) (e ∙ sym (and-true (dualBy (rowOf (k .code) .dual) (k .dual))))
+pub self-crosses : (k : Kind) (c : ℕ) → rowOf c .dual ≡ DUAL → eqb c DEFAULT ≡ false → k .code ≡ c → true ≡ crossesKind k
+self-crosses k c r n e = rw (e, r, n) refl
+
+past-crosses : (c : ℕ) (d : Bool) → 15 ≤ c → eqb c ERROR ≡ (dualBy (rowOf c .dual) d && not (eqb c DEFAULT))
+past-crosses c d h = rw (row-past c h, ne-eqb c ERROR (λ e. omega arith)) refl
+
+code-crosses : (c : ℕ) (d : Bool) → (c ≡ STRUCT → ⊥) → (c ≡ UNION → ⊥) → (c ≡ TUPLE → ⊥) → (c ≡ OBJECT → ⊥) → (c ≡ IF-CONST → ⊥)
+    → eqb c ERROR ≡ (dualBy (rowOf c .dual) d && not (eqb c DEFAULT))
+unfolding rowOf rows
+code-crosses zero d hs hu ht ho hi = refl
+code-crosses (suc zero) d hs hu ht ho hi = absurd (ht refl)
+code-crosses (suc (suc zero)) d hs hu ht ho hi = absurd (ho refl)
+code-crosses (suc (suc (suc zero))) d hs hu ht ho hi = refl
+code-crosses (suc (suc (suc (suc zero)))) d hs hu ht ho hi = absurd (hs refl)
+code-crosses (suc (suc (suc (suc (suc zero))))) d hs hu ht ho hi = refl
+code-crosses (suc (suc (suc (suc (suc (suc zero)))))) d hs hu ht ho hi = absurd (hu refl)
+code-crosses (suc (suc (suc (suc (suc (suc (suc zero))))))) d hs hu ht ho hi = refl
+code-crosses (suc (suc (suc (suc (suc (suc (suc (suc zero)))))))) d hs hu ht ho hi = refl
+code-crosses (suc (suc (suc (suc (suc (suc (suc (suc (suc zero))))))))) d hs hu ht ho hi = refl
+code-crosses (suc (suc (suc (suc (suc (suc (suc (suc (suc (suc zero)))))))))) d hs hu ht ho hi = refl
+code-crosses (suc (suc (suc (suc (suc (suc (suc (suc (suc (suc (suc zero))))))))))) d hs hu ht ho hi = absurd (hi refl)
+code-crosses (suc (suc (suc (suc (suc (suc (suc (suc (suc (suc (suc (suc zero)))))))))))) d hs hu ht ho hi = refl
+code-crosses (suc (suc (suc (suc (suc (suc (suc (suc (suc (suc (suc (suc (suc zero))))))))))))) d hs hu ht ho hi = refl
+code-crosses (suc (suc (suc (suc (suc (suc (suc (suc (suc (suc (suc (suc (suc (suc zero)))))))))))))) d hs hu ht ho hi = refl
+code-crosses (suc (suc (suc (suc (suc (suc (suc (suc (suc (suc (suc (suc (suc (suc (suc m))))))))))))))) d hs hu ht ho hi =
+    past-crosses (suc (suc (suc (suc (suc (suc (suc (suc (suc (suc (suc (suc (suc (suc (suc m))))))))))))))) d (omega arith)
+
+pub other-crosses : (k : Kind) → (k .code ≡ STRUCT → ⊥) → (k .code ≡ UNION → ⊥) → (k .code ≡ TUPLE → ⊥) → (k .code ≡ OBJECT → ⊥) → (k .code ≡ IF-CONST → ⊥)
+    → eqb (k .code) ERROR ≡ crossesKind k
+other-crosses k hs hu ht ho hi = code-crosses (k .code) (k .dual) hs hu ht ho hi
 
 -- `plan_of`
 

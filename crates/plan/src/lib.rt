@@ -4,10 +4,13 @@ ghost use mathlib.Core.Path.{_≡_};
 ghost use Rattle.names.specs.Place.{texts};
 ghost use Rattle.plan.specs.Meaning.{SameKinds, crossesKind, Planned};
 use kinds::CLOSURE;
-use kinds::DEFAULT;
 use kinds::ERROR;
+use kinds::IF_CONST;
 use kinds::KEY;
 use kinds::OBJECT;
+use kinds::STRUCT;
+use kinds::TUPLE;
+use kinds::UNION;
 use layout::Kind;
 use types::Inverted;
 use types::UnifyResult;
@@ -47,14 +50,26 @@ fn same_kinds<'a>(k: Kind, m: Kind, rule: &'a [u8], text: &'a [u8]) -> bool
     names::same_name(a, b, rule, text)
 }
 
-// May equal kinds meet where their inversions differ?
+// May equal kinds meet where their inversions differ? By codes alone: the table of rows would stand in the frame of whoever plans.
 fn crosses(k: Kind) -> bool
     ensures { λ r. ⌜ r ≡ crossesKind k ⌝ }
 {
-    if k.code == DEFAULT {
-        return false;
+    if k.code == STRUCT {
+        return k.dual;
     }
-    kinds::self_dual(k.code, k.dual)
+    if k.code == UNION {
+        return k.dual;
+    }
+    if k.code == TUPLE {
+        return true;
+    }
+    if k.code == OBJECT {
+        return true;
+    }
+    if k.code == IF_CONST {
+        return true;
+    }
+    k.code == kinds::ERROR
 }
 
 pub fn plan_of<'a>(k: Kind, m: Kind, inv: Inverted, rule: &'a [u8], text: &'a [u8]) -> Plan

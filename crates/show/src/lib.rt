@@ -1,12 +1,14 @@
 // A type's text into a lent buffer, straight from the store, the chart and the texts: no other buffer is used. One level after another is written, and
-// where the buffer is full work stops at once.
+// where the buffer is full work stops at once. A cache keeps the roots found.
 ghost use mathlib.Core.Path.{_≡_};
 ghost use Rattle.scope.specs.Types.{tyOf};
 ghost use Rattle.scope.specs.Force.{isNil};
 ghost use Rattle.scope.specs.Show.{showF, show};
 ghost use Rattle.chart.specs.Env.{envOf};
 ghost use Rattle.layout.specs.Words.{decode};
-ghost use Rattle.walk.specs.Asks.{Stands};
+ghost use Rattle.layout.specs.Meaning.{Linked};
+ghost use Rattle.roots.specs.Kept.{Cached};
+ghost use Rattle.walk.specs.Asks.{Stands, Nil};
 ghost use Rattle.append.specs.Appended.{Appended};
 ghost use Rattle.show.specs.Level.{shownOf, innerOf};
 use chart::Beside;
@@ -15,8 +17,10 @@ use kinds::FN;
 use kinds::IF_CONST;
 use kinds::PARAM;
 use kinds::REF;
+use kinds::TUPLE;
 use layout::Held;
 use layout::Kind;
+use scope::MAX_NODES;
 use show_names::put_unknown;
 use show_parts::put_close;
 use show_parts::put_gap;
@@ -25,17 +29,33 @@ use show_parts::put_tilde;
 use types::Inverted;
 use types::Type;
 
+// `is_nil` with the roots that a cache keeps.
+fn is_nil(ws: &[u32], n: u32, cache: &mut [u16], t: Type) -> bool
+    requires { ⌜ Linked (now ws) n × Cached (now ws) n (now cache) ⌝ }
+    ensures { λ r. ⌜ Nil (now (ws .entry)) n (t .0) r × Cached (now (ws .entry)) n (now (cache .exit)) ⌝ }
+{
+    let root = roots::find_by(ws, n, cache, t).idx();
+    let Held::Is(_, kind) = layout::held_at(ws, n, root) else {
+        return false;
+    };
+    if kind.code == TUPLE {
+        return kind.count == 0;
+    }
+    false
+}
+
 // How many of a kind's children are shown.
-fn shown(ws: &[u32], ks: &[u32], n: u32, k: Kind) -> u32
-    requires { ⌜ Stands (now ws) (now ks) n ⌝ }
-    ensures { λ r. ⌜ r ≡ shownOf (isNil (decode (now (ws .entry)) (now (ks .entry)) n)) (now (ks .entry)) k ⌝ }
+fn shown(ws: &[u32], ks: &[u32], n: u32, cache: &mut [u16], k: Kind) -> u32
+    requires { ⌜ Stands (now ws) (now ks) n × Cached (now ws) n (now cache) ⌝ }
+    ensures { λ r. ⌜ (r ≡ shownOf (isNil (decode (now (ws .entry)) (now (ks .entry)) n)) (now (ks .entry)) k)
+        × Cached (now (ws .entry)) n (now (cache .exit)) ⌝ }
 {
     if k.code == CLOSURE {
         if k.count == 0 {
             return 0;
         }
         let before = k.count - 1;
-        if walk::is_nil(ws, n, layout::child_of(ks, k, before).ty) {
+        if is_nil(ws, n, cache, layout::child_of(ks, k, before).ty) {
             return before;
         }
         return k.count;
@@ -44,7 +64,7 @@ fn shown(ws: &[u32], ks: &[u32], n: u32, k: Kind) -> u32
         if k.count < 2 {
             return 0;
         }
-        if walk::is_nil(ws, n, layout::child_of(ks, k, 1).ty) {
+        if is_nil(ws, n, cache, layout::child_of(ks, k, 1).ty) {
             return 1;
         }
         return 2;
@@ -71,6 +91,113 @@ fn inner(i: Inverted, k: Kind) -> Inverted
     Inverted(false)
 }
 
+// The text of a type, at most so many levels deep, with the roots that a cache keeps.
+fn show_by<'a>(
+    chart: &[u32],
+    beside: Beside,
+    rule: &'a [u8],
+    text: &'a [u8],
+    ws: &[u32],
+    ks: &[u32],
+    n: u32,
+    cache: &mut [u16],
+    buf: &mut [u8],
+    at: usize,
+    t: Type,
+    depth: u32,
+) -> usize
+    requires { ⌜ Stands (now ws) (now ks) n × Cached (now ws) n (now cache) ⌝ }
+    ensures { λ r. ⌜ Appended (now (buf .entry)) at (now (buf .exit)) r
+        (showF (envOf (now (chart .entry)) beside (now (rule .entry)) (now (text .entry))) depth
+        (decode (now (ws .entry)) (now (ks .entry)) n) (tyOf (t .0)))
+        × Cached (now (ws .entry)) n (now (cache .exit)) ⌝ }
+{
+    if depth == 0 {
+        return at;
+    }
+    if append::is_full(buf, at) {
+        return at;
+    }
+    let root = roots::find_by(ws, n, cache, t);
+    let Held::Is(inv, kind) = layout::held_at(ws, n, root.idx()) else {
+        return put_unknown(buf, at, root);
+    };
+    let i = inv.xor(root.inv());
+    let turned = put_tilde(buf, at, i, kind);
+    let mut p = put_lead(chart, beside, rule, text, buf, turned, kind);
+    let deep = inner(i, kind);
+    let count = shown(ws, ks, n, cache, kind);
+    let mut j: u32 = 0;
+    while j < count {
+        let q = put_gap(rule, text, ks, buf, p, kind, j);
+        let kid = layout::child_of(ks, kind, j).ty;
+        p = show_by(
+            chart,
+            beside,
+            rule,
+            text,
+            ws,
+            ks,
+            n,
+            cache,
+            buf,
+            q,
+            kid.invert_if(deep),
+            depth - 1,
+        );
+        j += 1;
+    }
+    put_close(buf, p, kind, count)
+}
+
+// To clear a cache takes as long as to write a short text. Among so few nodes no path to a root is long, and so few bytes have few types.
+const FEW_NODES: u32 = 512;
+
+const FEW_BYTES: usize = 4096;
+
+fn wants_cache(n: u32, buf: &[u8]) -> bool {
+    if n <= FEW_NODES {
+        return false;
+    }
+    FEW_BYTES < buf.len()
+}
+
+// The same, with each path to a root followed once.
+fn show_cached<'a>(
+    chart: &[u32],
+    beside: Beside,
+    rule: &'a [u8],
+    text: &'a [u8],
+    ws: &[u32],
+    ks: &[u32],
+    n: u32,
+    buf: &mut [u8],
+    at: usize,
+    t: Type,
+    depth: u32,
+) -> usize
+    requires { ⌜ Stands (now ws) (now ks) n ⌝ }
+    ensures { λ r. ⌜ Appended (now (buf .entry)) at (now (buf .exit)) r
+        (showF (envOf (now (chart .entry)) beside (now (rule .entry)) (now (text .entry))) depth
+        (decode (now (ws .entry)) (now (ks .entry)) n) (tyOf (t .0))) ⌝ }
+{
+    let mut cache = [0u16; MAX_NODES];
+    show_by(
+        chart,
+        beside,
+        rule,
+        text,
+        ws,
+        ks,
+        n,
+        &mut cache,
+        buf,
+        at,
+        t,
+        depth,
+    )
+}
+
 // The text of a type, at most so many levels deep.
 pub fn show_type<'a>(
     chart: &[u32],
@@ -90,41 +217,24 @@ pub fn show_type<'a>(
         (showF (envOf (now (chart .entry)) beside (now (rule .entry)) (now (text .entry))) depth
         (decode (now (ws .entry)) (now (ks .entry)) n) (tyOf (t .0))) ⌝ }
 {
-    if depth == 0 {
-        return at;
+    if wants_cache(n, buf) {
+        return show_cached(chart, beside, rule, text, ws, ks, n, buf, at, t, depth);
     }
-    if append::is_full(buf, at) {
-        return at;
-    }
-    let root = roots::find(ws, n, t);
-    let Held::Is(inv, kind) = layout::held_at(ws, n, root.idx()) else {
-        return put_unknown(buf, at, root);
-    };
-    let i = inv.xor(root.inv());
-    let turned = put_tilde(buf, at, i, kind);
-    let mut p = put_lead(chart, beside, rule, text, buf, turned, kind);
-    let deep = inner(i, kind);
-    let count = shown(ws, ks, n, kind);
-    let mut j: u32 = 0;
-    while j < count {
-        let q = put_gap(rule, text, ks, buf, p, kind, j);
-        let kid = layout::child_of(ks, kind, j).ty;
-        p = show_type(
-            chart,
-            beside,
-            rule,
-            text,
-            ws,
-            ks,
-            n,
-            buf,
-            q,
-            kid.invert_if(deep),
-            depth - 1,
-        );
-        j += 1;
-    }
-    put_close(buf, p, kind, count)
+    let mut none = [0u16; 0];
+    show_by(
+        chart,
+        beside,
+        rule,
+        text,
+        ws,
+        ks,
+        n,
+        &mut none,
+        buf,
+        at,
+        t,
+        depth,
+    )
 }
 
 // The text of a type, as deep as there are nodes.

@@ -38,7 +38,7 @@ pub fn unify<'a>(
     ensures { λ r. ⌜ Unified (texts (now (rule .entry)) (now (text .entry))) (now (ws .entry)) (now (ks .entry)) (now (memory .entry)) (now (ws .exit)) (now (memory .exit)) n
         (unifyF (texts (now (rule .entry)) (now (text .entry))) n depth (decode (now (ws .entry)) (now (ks .entry)) n) (tyOf (a .0)) (tyOf (b .0))) r ⌝ }
 {
-    if heed::quick(ws, n, memory, a, b, depth) {
+    if heed::small(ws, n, memory, a, b, depth) {
         return UnifyResult::Success;
     }
     unify_pair(ws, ks, n, rule, text, memory, a, b, depth)
@@ -96,14 +96,7 @@ pub fn unify_pair<'a>(
 }
 
 // Two roots, one node or one of them without a kind: no child is unified.
-fn walk_pair(
-    ws: &mut [u32],
-    ks: &[u32],
-    n: u32,
-    memory: &mut [u32],
-    a: Type,
-    b: Type,
-) -> UnifyResult
+fn walk_on(ws: &mut [u32], ks: &[u32], n: u32, memory: &mut [u32], a: Type, b: Type) -> UnifyResult
     requires { ⌜ WalkAsks (now ws) (now ks) (now memory) n (tyOf (a .0)) (tyOf (b .0)) ⌝ }
     ensures { λ r. ⌜ WalkTold (now (ws .entry)) (now (ks .entry)) (now (memory .entry)) (now (ws .exit)) (now (memory .exit)) n (tyOf (a .0)) (tyOf (b .0)) r ⌝ }
 {
@@ -116,6 +109,29 @@ fn walk_pair(
             UnifyResult::Success
         }
     }
+}
+
+// The same; one nil needs no walk.
+fn walk_pair(
+    ws: &mut [u32],
+    ks: &[u32],
+    n: u32,
+    memory: &mut [u32],
+    a: Type,
+    b: Type,
+) -> UnifyResult
+    requires { ⌜ WalkAsks (now ws) (now ks) (now memory) n (tyOf (a .0)) (tyOf (b .0)) ⌝ }
+    ensures { λ r. ⌜ WalkTold (now (ws .entry)) (now (ks .entry)) (now (memory .entry)) (now (ws .exit)) (now (memory .exit)) n (tyOf (a .0)) (tyOf (b .0)) r ⌝ }
+{
+    let ia = a.idx();
+    let ib = b.idx();
+    if ia.0 != ib.0 {
+        return walk_on(ws, ks, n, memory, a, b);
+    }
+    if heed::small(ws, n, memory, a, b, 1) {
+        return UnifyResult::Success;
+    }
+    walk_on(ws, ks, n, memory, a, b)
 }
 
 // The children of two kinds, step by step.

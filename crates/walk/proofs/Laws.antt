@@ -1,5 +1,5 @@
--- The laws of one node and of the walk. What scope's definitions take from a node's state they take from its kind alone, which is what the code
--- reads. A walk marks a root, and then what is left of the run of its children gives what the whole run gives.
+-- The laws of one node and of one step of the walk. What scope's definitions take from a node's state they take from its kind alone, which is what the
+-- code reads.
 -- Assumes nothing.
 use mathlib.Core.Path.{_≡_, refl, ap, sym, _∙_}
 use mathlib.Core.Bool.{Bool, true, false, not, _&&_}
@@ -10,7 +10,7 @@ use native.Mathlib.Numerals.{add-one}
 use lib.Dec.{eqb}
 use lib.ListN.{length, getD, set, drop, drop-of-length-le}
 use lib.Seq.{drop-cons}
-use borrow.Author.Tests.{eqb-true, eqb-false, not-true, not-false}
+use borrow.Author.Tests.{eqb-false, not-true}
 use Rattle.scope.specs.Chart.{Env}
 use Rattle.scope.specs.Types.{Ty, tyOf}
 use Rattle.scope.specs.Kinds.{TUPLE, selfDual}
@@ -22,17 +22,16 @@ use Rattle.scope.proofs.Marks.{related-new, related-old}
 use Rattle.scope.proofs.MarkLaws.{good}
 use Rattle.types.specs.declared.Inverted.{Inverted}
 use Rattle.layout.specs.Words.{slotAt, decode}
-use Rattle.layout.specs.Meaning.{slotMeans, kindMeans, readAt, heldIn, heldKids, Clean}
+use Rattle.layout.specs.Meaning.{slotMeans, kindMeans, readAt, heldIn, Clean}
 use Rattle.layout.specs.declared.Kind.{Kind}
 use Rattle.layout.specs.declared.Slot.{Slot}
 use Rattle.layout.specs.declared.Held.{Held}
 use Rattle.layout.specs.declared.Held.the-variants.{Is, Nothing}
 use Rattle.layout.proofs.Laws.{length-decode}
 use Rattle.layout.proofs.ChildLaws.{length-kids, kid-at}
-use Rattle.layout.proofs.HeldLaws.{held-by, held-kids}
+use Rattle.layout.proofs.HeldLaws.{held-by}
 use Rattle.roots.specs.Found.{Found}
 use Rattle.walk.specs.Read.{goodBy}
-use Rattle.walk.specs.Asks.{Stands}
 
 -- one node
 
@@ -87,40 +86,12 @@ pub mark-met : (depth : ℕ) (ns : List Node) (ms : List ℕ) (t : Ty) {i : ℕ}
 mark-met depth ns ms t {i} {b} r m e =
     sym (related-old depth ns ms t (λ z. eqb-false (getD ms i 0) 0 (not-true (eqb (getD ms i 0) 0) (sym m ∙ e)) (rw r z)))
 
-mark-new : (depth : ℕ) (ns : List Node) (ms : List ℕ) (t : Ty) {i : ℕ} → (depth ≡ 0 → ⊥) → i ≡ find ns t .idx → getD ms i 0 ≡ 0
+pub mark-new : (depth : ℕ) (ns : List Node) (ms : List ℕ) (t : Ty) {i : ℕ} → (depth ≡ 0 → ⊥) → i ≡ find ns t .idx → getD ms i 0 ≡ 0
     → relatedF depth ns ms t ≡ relatedKids (relatedF (depth - 1) ns) (set ms i 1) (kidsOf (stateOf (at ns i)))
 mark-new zero ns ms t h r e = absurd (h refl)
 mark-new (suc f) ns ms t h r e = let k : suc f - 1 ≡ f = omega arith in rw (k, r) (related-new f ns ms t (rw r at e))
-
--- the children of a root just marked
-pub mark-kids : {ws ks : List ℕ} {n i : ℕ} (depth : ℕ) (ms : List ℕ) (t : Ty) {ms′ : List ℕ} {b : Bool} {v q : Held} → Stands ws ks n
-    → (depth ≡ 0 → ⊥) → i ≡ find (decode ws ks n) t .idx → b ≡ not (eqb (getD ms i 0) 0) → b ≡ false → ms′ ≡ set ms i 1
-    → v ≡ heldIn (readAt ws n i) → v ≡ q
-    → relatedKids (relatedF (depth - 1) (decode ws ks n)) ms′ (heldKids ks q) ≡ relatedF depth (decode ws ks n) ms t
-mark-kids {ws} {ks} {n} {i} depth ms t s h r m e w v o =
-    let z : getD ms i 0 ≡ 0 = eqb-true (getD ms i 0) 0 (not-false (eqb (getD ms i 0) 0) (sym m ∙ e)) in
-    rw (w, ← held-kids ws ks (s .made) n (s .clean) i v o) (sym (mark-new depth (decode ws ks n) ms t h r z))
 
 -- a depth of n is what `find_related` walks
 pub mark-whole : (ws ks : List ℕ) (n : ℕ) (ms : List ℕ) (t : Ty) → relatedF n (decode ws ks n) ms t ≡ findRelated (decode ws ks n) t ms
 unfolding findRelated
 mark-whole ws ks n ms t = rw (length-decode ws ks n) refl
-
--- what is left of a kind's children, from j on, gives what all of them give
-pub record Turn (g : List ℕ → Ty → List ℕ) (ks : List ℕ) (k : Kind) (ms₀ ms : List ℕ) (j : ℕ) : Type 0 where
-  pub left : relatedKids g ms (drop j (kindMeans ks k .kids)) ≡ relatedKids g ms₀ (kindMeans ks k .kids)
-  pub long : length ms ≡ length ms₀
-
-pub turn-start : (g : List ℕ → Ty → List ℕ) (ks : List ℕ) (k : Kind) (ms : List ℕ) → Turn g ks k ms ms 0
-turn-start g ks k ms = record { left = refl; long = refl }
-
-module _ {g : List ℕ → Ty → List ℕ} {ks : List ℕ} {k : Kind} {ms₀ ms : List ℕ} {j : ℕ} (c : Turn g ks k ms₀ ms j) where
-  pub turn-next : {ms′ : List ℕ} (s : Slot) → j < k .count → slotMeans s ≡ slotAt ks (k .first + j) → ms′ ≡ g ms (tyOf (s .ty .0))
-      → length ms′ ≡ length ms → Turn g ks k ms₀ ms′ (j + 1)
-  turn-next s h e w l = record {
-    left = rw w (sym (ap (relatedKids g ms) (kid-next ks k j s h e)) ∙ c .left);
-    long = l ∙ c .long;
-  }
-
-  pub turn-end : k .count ≤ j → ms ≡ relatedKids g ms₀ (kindMeans ks k .kids)
-  turn-end h = sym (ap (relatedKids g ms) (kid-none ks k j h)) ∙ c .left

@@ -1,4 +1,6 @@
 -- The laws that belong to no one function
 pub mod Laws
+pub mod SkipLaws
+pub mod TurnLaws
 pub mod Answers
 pub mod LookLaws

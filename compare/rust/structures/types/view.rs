@@ -67,3 +67,8 @@ pub fn param(types: &Types, root: usize) -> Option<usize> {
 pub fn sum(types: &Types, ty: Type) -> usize {
   types.kind(ty).map_or(0, |(_, kind)| kind.children().map(|t| t.idx().0).sum())
 }
+
+/// Room for so many nodes more.
+pub fn reserve(types: &mut Types, nodes: usize) {
+  types.types.vec.reserve(nodes);
+}

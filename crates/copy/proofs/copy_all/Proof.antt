@@ -1,5 +1,6 @@
 -- `copy::copy_all` meets its contract. The loop's invariant: what is left of the list gives what the whole list gives, and the copies so far stand at the
--- front of the answer's list. The measure is what is left of its length. Assumes nothing.
+-- front of the answer's list. The measure is what is left of its length.
+-- Assumes nothing.
 use Prim.Native.Nat.{_-_}
 use native.Mathlib.Omega.{arith}
 use lib.ListN.{length, length-map}
@@ -9,102 +10,102 @@ use Rattle.store.proofs.EntryLaws.{listed-below}
 use Rattle.needs.proofs.SourceLaws.{listed-next}
 use Rattle.copy_parts.specs.Places.{listOf}
 use Rattle.copy.proofs.ListLaws.{Listing, listing-start, listing-copyable, listing-next, listing-end}
+use mathlib.Core.Path.{_≡_, refl, _∙_}
+use Rattle.roots.specs.Kept.{Cached}
+use borrow.Author.Needs.{needs}
 use Rattle.copy.proofs.copy_all.Statement.{statement}
 use Rattle.copy.proofs.copy_all.Tie as tie
 
 abbrev Inv-loop : tie.InvT-loop
-Inv-loop sw sk n listed params table₀ h₀ ws₀ ks₀ ts out₀ i₀ table h ws ks out i =
-    Listing sw sk n (listOf listed params) (typesIn ts) table₀ h₀ ws₀ ks₀ out₀ table h ws ks out i
+Inv-loop sw sk n listed params cache₀ table₀ h₀ ws₀ ks₀ ts out₀ i₀ cache table h ws ks out i =
+    Listing sw sk n (listOf listed params) (typesIn ts) table₀ h₀ ws₀ ks₀ out₀ table h ws ks out i × Cached sw n cache × (length cache ≡ length cache₀)
 
 abbrev μ-loop : tie.MeasureT-loop
-μ-loop sw sk n listed params table₀ h₀ ws₀ ks₀ ts out₀ i₀ table h ws ks out i =
+μ-loop sw sk n listed params cache₀ table₀ h₀ ws₀ ks₀ ts out₀ i₀ cache table h ws ks out i =
     length ts - i
 
 loop-holds : tie.Need-loop-holds Inv-loop μ-loop
 loop-holds c =
-    let s = c .before .before .before .before .before .before .before .before .before in
-    listing-start (s .pre .0)
+    let start = c .before .before .before .before .before .before .before .before .before .before in
+    (listing-start (start .pre .0), start .pre .1 .1, refl)
 
-mul-t15 : tie.Need-mul-t15 Inv-loop μ-loop
-mul-t15 c = omega arith
+mul-t16 : tie.Need-mul-t16 Inv-loop μ-loop
+mul-t16 c = omega arith
 
-shared-slice-read-t18 : tie.Need-shared-slice-read-t18 Inv-loop μ-loop
-shared-slice-read-t18 c = omega arith
+shared-slice-read-t19 : tie.Need-shared-slice-read-t19 Inv-loop μ-loop
+shared-slice-read-t19 c = omega arith
+
+copy-requires : tie.Need-copy-requires Inv-loop μ-loop
+copy-requires c κs =
+    let at-loop-test = c .before .before .before .before .before .before in
+    let turn = at-loop-test .before in
+    let start = turn .before .before .before .before .before .before .before .before .before .before .before in
+    (listing-copyable (turn .loop .inv .0) _ (listed-next (start .args .ts .now) (turn .loop .i) (at-loop-test .loop-test .taken)) (start .pre .0 .source), turn .loop .inv .1)
 
 mul-out : tie.Need-mul-out Inv-loop μ-loop
 mul-out c =
-    let w = c .before .before .before .before .before .before .before .before .before .before .before .before .before .before in
-    let s = w .before .before .before .before .before .before .before .before .before .before .before in
-    omega (arith, w .loop-test .taken, s .good .1 .1 .1 .1 .1 .1 .1 .1 .1 .0)
+    let at-loop-test = c .before .before .before .before .before .before .before .before .before .before .before .before .before .before .before .before .before in
+    let at-good = at-loop-test .before .before .before .before .before .before .before .before .before .before .before .before in
+    omega (arith, at-loop-test .loop-test .taken, at-good .good .1 .1 .1 .1 .1 .1 .1 .1 .1 .1 .0)
 
 slice-write-out : tie.Need-slice-write-out Inv-loop μ-loop
 slice-write-out c =
-    let w = c .before .before .before .before .before .before .before .before .before .before .before .before .before .before in
-    let l = w .before in
-    let s = l .before .before .before .before .before .before .before .before .before .before in
-    omega (arith, w .loop-test .taken, l .loop .inv .wide, s .pre .1)
+    let at-loop-test = c .before .before .before .before .before .before .before .before .before .before .before .before .before .before .before .before .before in
+    let turn = at-loop-test .before in
+    let start = turn .before .before .before .before .before .before .before .before .before .before .before in
+    omega (arith, at-loop-test .loop-test .taken, turn .loop .inv .0 .wide, start .pre .1)
 
 add-i : tie.Need-add-i Inv-loop μ-loop
 add-i c =
-    let w = c .before .before .before .before .before .before .before .before .before .before .before .before .before .before in
-    let s = w .before .before .before .before .before .before .before .before .before .before .before in
-    omega (arith, w .loop-test .taken, s .good .1 .1 .1 .1 .1 .1 .1 .1 .1 .0)
+    let at-loop-test = c .before .before .before .before .before .before .before .before .before .before .before .before .before .before .before .before .before in
+    let at-good = at-loop-test .before .before .before .before .before .before .before .before .before .before .before .before in
+    omega (arith, at-loop-test .loop-test .taken, at-good .good .1 .1 .1 .1 .1 .1 .1 .1 .1 .1 .0)
 
 loop-less : tie.Need-loop-less Inv-loop μ-loop
 loop-less c = omega arith
 
 loop-again : tie.Need-loop-again Inv-loop μ-loop
 loop-again c =
-    let o = c .before .before .before .before .before .before .before .before in
-    let w = o .before .before .before .before .before .before in
-    let l = w .before in
-    let s = l .before .before .before .before .before .before .before .before .before .before in
-    listing-next (l .loop .inv) _ (listed-next (s .args .ts .now) (l .loop .i) (w .loop-test .taken)) (o .copy .ensures) (listed-below (s .args .ts .now) (l .loop .i) (w .loop-test .taken))
-    (omega (arith, l .loop .inv .wide, s .pre .1))
-    (record {
-      tables = o .copy .kept .1 .1 .1 .1 .1 .0;
-      heads = o .copy .kept .1 .1 .1 .1 .1 .1 .0;
-      nodes = o .copy .kept .1 .1 .1 .1 .1 .1 .1 .0;
-      kids = o .copy .kept .1 .1 .1 .1 .1 .1 .1 .1 .0;
-    })
-
-copy-requires : tie.Need-copy-requires Inv-loop μ-loop
-copy-requires c κs =
-    let w = c .before .before .before .before .before in
-    let l = w .before in
-    let s = l .before .before .before .before .before .before .before .before .before .before in
-    listing-copyable (l .loop .inv) _ (listed-next (s .args .ts .now) (l .loop .i) (w .loop-test .taken)) (s .pre .0 .source)
+    let at-copy = c .before .before .before .before .before .before .before .before .before .before in
+    let at-loop-test = at-copy .before .before .before .before .before .before .before in
+    let turn = at-loop-test .before in
+    let start = turn .before .before .before .before .before .before .before .before .before .before .before in (
+      listing-next (turn .loop .inv .0) _ (listed-next (start .args .ts .now) (turn .loop .i) (at-loop-test .loop-test .taken)) (at-copy .copy .ensures .0)
+          (listed-below (start .args .ts .now) (turn .loop .i) (at-loop-test .loop-test .taken))
+          (omega (arith, turn .loop .inv .0 .wide, start .pre .1))
+          (record {
+            tables = at-copy .copy .kept .1 .1 .1 .1 .1 .1 .0;
+            heads = at-copy .copy .kept .1 .1 .1 .1 .1 .1 .1 .0;
+            nodes = at-copy .copy .kept .1 .1 .1 .1 .1 .1 .1 .1 .0;
+            kids = at-copy .copy .kept .1 .1 .1 .1 .1 .1 .1 .1 .1 .0;
+          }),
+      at-copy .copy .ensures .1,
+      at-copy .copy .kept .1 .1 .1 .1 .1 .0 ∙ turn .loop .inv .2,
+    )
 
 same-length : tie.Need-same-length Inv-loop μ-loop
-same-length c =
-    let l = c .before in
-    l .loop .inv .long .tables
+same-length c = c .before .loop .inv .2
 
 same-length-2 : tie.Need-same-length-2 Inv-loop μ-loop
-same-length-2 c =
-    let l = c .before in
-    l .loop .inv .long .heads
+same-length-2 c = c .before .loop .inv .0 .long .tables
 
 same-length-3 : tie.Need-same-length-3 Inv-loop μ-loop
-same-length-3 c =
-    let l = c .before in
-    l .loop .inv .long .nodes
+same-length-3 c = c .before .loop .inv .0 .long .heads
 
 same-length-4 : tie.Need-same-length-4 Inv-loop μ-loop
-same-length-4 c =
-    let l = c .before in
-    l .loop .inv .long .kids
+same-length-4 c = c .before .loop .inv .0 .long .nodes
 
 same-length-5 : tie.Need-same-length-5 Inv-loop μ-loop
-same-length-5 c =
-    let l = c .before in
-    l .loop .inv .wide
+same-length-5 c = c .before .loop .inv .0 .long .kids
+
+same-length-6 : tie.Need-same-length-6 Inv-loop μ-loop
+same-length-6 c = c .before .loop .inv .0 .wide
 
 returns : tie.Need-returns Inv-loop μ-loop
 returns c =
-    let l = c .before in
-    let s = l .before .before .before .before .before .before .before .before .before .before in
-    listing-end (l .loop .inv) (length (s .args .ts .now)) (length-map (s .args .ts .now) tyOf) (c .loop-test .left)
+    let turn = c .before in
+    let start = turn .before .before .before .before .before .before .before .before .before .before .before in
+    (listing-end (turn .loop .inv .0) (length (start .args .ts .now)) (length-map (start .args .ts .now) tyOf) (c .loop-test .left), turn .loop .inv .1)
 
 pub copy-all-spec : {M : Type 1} → statement M
 copy-all-spec =
@@ -113,8 +114,8 @@ copy-all-spec =
     Inv-loop
     μ-loop
     loop-holds
-    mul-t15
-    shared-slice-read-t18
+    mul-t16
+    shared-slice-read-t19
     copy-requires
     mul-out
     slice-write-out
@@ -126,4 +127,5 @@ copy-all-spec =
     same-length-3
     same-length-4
     same-length-5
+    same-length-6
     returns)

@@ -10,9 +10,9 @@ enum-known-was c = search needs
 
 copy-requires : tie.Need-copy-requires
 copy-requires c κs =
-    let was = c .before .before .before .before .before in
-    let s = was .before .before .before .before .before .before .before .before in
-    remembered-copyable _ (s .pre) (was .was .given .1)
+    let at-was = c .before .before .before .before .before .before in
+    let start = at-was .before .before .before .before .before .before .before .before .before in
+    (remembered-copyable _ (start .pre .0) (at-was .was .given .1), start .pre .1)
 
 enum-told : tie.Need-enum-told
 enum-told c = search needs
@@ -29,17 +29,20 @@ same-length-3 c = search needs
 same-length-4 : tie.Need-same-length-4
 same-length-4 c = search needs
 
+same-length-5 : tie.Need-same-length-5
+same-length-5 c = search needs
+
 returns : tie.Need-returns
 returns c =
-    let o = c .before .before .before .before .before .before .before .before in
-    let was = o .before .before .before .before .before .before in
-    let s = was .before .before .before .before .before .before .before .before in
-    remembered-one _ (s .pre) (was .was .given .1) (o .copy .ensures)
+    let at-copy = c .before .before .before .before .before .before .before .before .before .before in
+    let at-was = at-copy .before .before .before .before .before .before .before in
+    let start = at-was .before .before .before .before .before .before .before .before .before in
+    (remembered-one _ (start .pre .0) (at-was .was .given .1) (at-copy .copy .ensures .0), at-copy .copy .ensures .1)
 
 returns-2 : tie.Need-returns-2
 returns-2 c =
-    let s = c .before .before .before .before .before .before .before .before in
-    remembered-none _ (s .pre) (c .enum-told .given .1)
+    let start = c .before .before .before .before .before .before .before .before .before in
+    (remembered-none _ (start .pre .0) (c .enum-told .given .1), start .pre .1)
 
 pub copy-remembered-spec : {M : Type 1} → statement M
 copy-remembered-spec =
@@ -52,5 +55,6 @@ copy-remembered-spec =
     same-length-2
     same-length-3
     same-length-4
+    same-length-5
     returns
     returns-2)

@@ -2,6 +2,7 @@
 -- Assumes nothing.
 use Rattle.scope.specs.Limits.{MAX-NODES}
 use Rattle.copy.proofs.WholeLaws.{import-copyable, import-is}
+use Rattle.roots.proofs.KeptLaws.{cached-zeros}
 use borrow.Author.Needs.{needs}
 use Rattle.copy.proofs.import.Statement.{statement}
 use Rattle.copy.proofs.import.Tie as tie
@@ -9,10 +10,13 @@ use Rattle.copy.proofs.import.Tie as tie
 slice-aggregate-copy-all : tie.Need-slice-aggregate-copy-all
 slice-aggregate-copy-all c = search needs
 
+slice-aggregate-copy-all-2 : tie.Need-slice-aggregate-copy-all-2
+slice-aggregate-copy-all-2 c = search needs
+
 copy-all-requires : tie.Need-copy-all-requires
 copy-all-requires c κs =
-    let s = c .before .before .before .before .before .before .before .before .before .before .before .before .before in
-    (import-copyable MAX-NODES (s .pre) (s .pre .source .few), s .pre .long)
+    let start = c .before .before .before .before .before .before .before .before .before .before .before .before .before .before in
+    (import-copyable MAX-NODES (start .pre) (start .pre .source .few), (start .pre .long, cached-zeros _ _ MAX-NODES))
 
 same-length : tie.Need-same-length
 same-length c = search needs
@@ -28,15 +32,16 @@ same-length-4 c = search needs
 
 returns : tie.Need-returns
 returns c =
-    let copy-all = c .before .before .before .before .before .before .before .before .before in
-    let s = copy-all .before .before .before .before .before .before .before .before .before .before .before .before .before .before in
-    import-is MAX-NODES (s .pre) (s .pre .source .few) (copy-all .copy-all .ensures)
+    let at-copy-all = c .before .before .before .before .before .before .before .before .before .before in
+    let start = at-copy-all .before .before .before .before .before .before .before .before .before .before .before .before .before .before .before in
+    import-is MAX-NODES (start .pre) (start .pre .source .few) (at-copy-all .copy-all .ensures .0)
 
 pub import-spec : {M : Type 1} → statement M
 import-spec =
     tie.close
     (tie.spec
     slice-aggregate-copy-all
+    slice-aggregate-copy-all-2
     copy-all-requires
     same-length
     same-length-2

@@ -1,63 +1,97 @@
--- `merge::bind` meets its contract: the two states that go to `merge` are scope's `kept` of either root.
+-- `merge::bind` meets its contract: the test on the two sizes is scope's, and a root that stays keeps its own state where the other has no kind.
 -- Assumes nothing.
 use borrow.Author.Needs.{needs}
-use Rattle.merge.proofs.Laws.{bind-law}
+use Rattle.merge.proofs.Laws.{bind-first, bind-second}
 use Rattle.merge.proofs.bind.Statement.{statement}
 use Rattle.merge.proofs.bind.Tie as tie
 
-inv-requires : tie.Need-inv-requires
-inv-requires c κs = search needs
+size-at-requires : tie.Need-size-at-requires
+size-at-requires c κs = search needs
 
-inv-requires-2 : tie.Need-inv-requires-2
-inv-requires-2 c κs = search needs
+size-at-requires-2 : tie.Need-size-at-requires-2
+size-at-requires-2 c κs = search needs
 
-state-at-requires : tie.Need-state-at-requires
-state-at-requires c κs = search needs
+is-bare-requires : tie.Need-is-bare-requires
+is-bare-requires c κs = search needs
 
-turn-requires : tie.Need-turn-requires
-turn-requires c κs = search needs
+add-hang : tie.Need-add-hang
+add-hang c = search needs
 
-state-at-requires-2 : tie.Need-state-at-requires-2
-state-at-requires-2 c κs = search needs
+hang-requires : tie.Need-hang-requires
+hang-requires c κs = search needs
 
-turn-requires-2 : tie.Need-turn-requires-2
-turn-requires-2 c κs = search needs
+take-requires : tie.Need-take-requires
+take-requires c κs = search needs
 
-kept-requires : tie.Need-kept-requires
-kept-requires c κs = search needs
+is-bare-requires-2 : tie.Need-is-bare-requires-2
+is-bare-requires-2 c κs = search needs
 
-kept-requires-2 : tie.Need-kept-requires-2
-kept-requires-2 c κs = search needs
+add-hang-2 : tie.Need-add-hang-2
+add-hang-2 c = search needs
 
-merge-requires : tie.Need-merge-requires
-merge-requires c κs = search needs
+hang-requires-2 : tie.Need-hang-requires-2
+hang-requires-2 c κs = search needs
+
+take-requires-2 : tie.Need-take-requires-2
+take-requires-2 c κs = search needs
 
 same-length : tie.Need-same-length
 same-length c = search needs
 
 returns : tie.Need-returns
 returns c =
-    bind-law _ _ _ _ _ _ _ _ _ _ _ _ _
-    (c .before .before .before .before .before .before .before .before .before .before .before .before .before .inv .ensures)
-    (c .before .before .before .before .before .before .before .before .before .before .before .before .inv2 .ensures)
-    (c .before .before .before .before .before .before .before .before .before .before .state-at .ensures)
-    (c .before .before .before .before .before .before .before .state-at2 .ensures)
-    (c .before .before .before .before .before .before .before .before .before .turn .ensures)
-    (c .before .before .before .before .before .before .turn2 .ensures) (c .before .before .before .before .before .kept .ensures)
-    (c .before .before .before .before .kept2 .ensures) (c .before .before .merge .ensures)
+    let b2 = c .before .before in
+    let b4 = b2 .before .before in
+    let b5 = b4 .before in
+    let b7 = b5 .before .before in
+    let b8 = b7 .before in
+    let b10 = b8 .before .before in
+    bind-first _ _ _ _ _ (b8 .size-at2 .ensures) (b10 .size-at .ensures) (b7 .if1 .taken) (b5 .is-bare .ensures) (b4 .if2 .taken) (b2 .hang .ensures)
+
+same-length-2 : tie.Need-same-length-2
+same-length-2 c = search needs
+
+returns-2 : tie.Need-returns-2
+returns-2 c = search needs
+
+same-length-3 : tie.Need-same-length-3
+same-length-3 c = search needs
+
+returns-3 : tie.Need-returns-3
+returns-3 c =
+    let b2 = c .before .before in
+    let b4 = b2 .before .before in
+    let b5 = b4 .before in
+    let b7 = b5 .before .before in
+    let b8 = b7 .before in
+    let b10 = b8 .before .before in
+    bind-second _ _ _ _ _ (b8 .size-at2 .ensures) (b10 .size-at .ensures) (b7 .if1 .left) (b5 .is-bare2 .ensures) (b4 .if3 .taken) (b2 .hang2 .ensures)
+
+same-length-4 : tie.Need-same-length-4
+same-length-4 c = search needs
+
+returns-4 : tie.Need-returns-4
+returns-4 c = search needs
 
 pub bind-spec : {M : Type 1} → statement M
 bind-spec =
     tie.close
     (tie.spec
-    inv-requires
-    inv-requires-2
-    state-at-requires
-    turn-requires
-    state-at-requires-2
-    turn-requires-2
-    kept-requires
-    kept-requires-2
-    merge-requires
+    size-at-requires
+    size-at-requires-2
+    is-bare-requires
+    add-hang
+    hang-requires
+    take-requires
+    is-bare-requires-2
+    add-hang-2
+    hang-requires-2
+    take-requires-2
     same-length
-    returns)
+    returns
+    same-length-2
+    returns-2
+    same-length-3
+    returns-3
+    same-length-4
+    returns-4)

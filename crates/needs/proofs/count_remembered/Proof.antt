@@ -17,15 +17,18 @@ enum-told c = search needs
 same-length : tie.Need-same-length
 same-length c = search needs
 
+same-length-2 : tie.Need-same-length-2
+same-length-2 c = search needs
+
 returns : tie.Need-returns
 returns c =
-    let o = c .before .before in
-    let w = o .before .before .before in
-    remembered-one (w .was .given .1) (o .count .ensures)
+    let at-count = c .before .before .before .before in
+    let at-was = at-count .before .before .before .before in
+    (remembered-one (at-was .was .given .1) (at-count .count .ensures .0), at-count .count .ensures .1)
 
 returns-2 : tie.Need-returns-2
-returns-2 c = remembered-none (c .enum-told .given .1)
+returns-2 c = (remembered-none (c .enum-told .given .1), c .before .before .before .before .before .before .pre .1)
 
 pub count-remembered-spec : {M : Type 1} → statement M
 count-remembered-spec =
-    tie.close (tie.spec enum-known-was count-requires enum-told same-length returns returns-2)
+    tie.close (tie.spec enum-known-was count-requires enum-told same-length same-length-2 returns returns-2)

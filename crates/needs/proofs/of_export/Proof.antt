@@ -2,6 +2,7 @@
 -- Assumes nothing.
 use native.Mathlib.Omega.{arith}
 use Rattle.scope.specs.Limits.{MAX-NODES}
+use Rattle.roots.proofs.KeptLaws.{cached-zeros}
 use Rattle.needs.proofs.SourceLaws.{start-countable, all-countable, export-source, export-needs}
 use borrow.Author.Needs.{needs}
 use Rattle.needs.proofs.of_export.Statement.{statement}
@@ -13,62 +14,77 @@ read-header-requires c κs = search needs
 slice-aggregate-count-remembered : tie.Need-slice-aggregate-count-remembered
 slice-aggregate-count-remembered c = search needs
 
+slice-aggregate-count-remembered-2 : tie.Need-slice-aggregate-count-remembered-2
+slice-aggregate-count-remembered-2 c = search needs
+
 nothing-requires : tie.Need-nothing-requires
 nothing-requires c κs = search needs
 
 count-remembered-requires : tie.Need-count-remembered-requires
 count-remembered-requires c κs =
-    let r = c .before .before in
-    let s = r .before .before .before .before .before in
-    start-countable {m = MAX-NODES} (export-source (s .args .h .now) (s .args .ws .now) (s .args .ks .now) (s .args .ts .now) (r .read-header .ensures) (s .pre)) (omega arith) (c .nothing .ensures)
+    let at-read-header = c .before .before .before in
+    let start = at-read-header .before .before .before .before .before in (
+      start-countable {m = MAX-NODES}
+          (export-source (start .args .h .now) (start .args .ws .now) (start .args .ks .now) (start .args .ts .now) (at-read-header .read-header .ensures) (start .pre))
+          (omega arith) (c .nothing .ensures),
+      cached-zeros _ _ MAX-NODES,
+    )
 
-slice-aggregate-count-remembered-2 : tie.Need-slice-aggregate-count-remembered-2
-slice-aggregate-count-remembered-2 c = search needs
+slice-aggregate-count-remembered-3 : tie.Need-slice-aggregate-count-remembered-3
+slice-aggregate-count-remembered-3 c = search needs
+
+slice-aggregate-count-remembered-4 : tie.Need-slice-aggregate-count-remembered-4
+slice-aggregate-count-remembered-4 c = search needs
 
 count-remembered-requires-2 : tie.Need-count-remembered-requires-2
 count-remembered-requires-2 c κs =
-    let o = c .before .before in
-    let n = o .before in
-    let r = n .before .before in
-    let s = r .before .before .before .before .before in
-    let z = export-source (s .args .h .now) (s .args .ws .now) (s .args .ks .now) (s .args .ts .now) (r .read-header .ensures) (s .pre) in
-    let k = start-countable {m = MAX-NODES} z (omega arith) (n .nothing .ensures) in
-    all-countable k (o .count-remembered .ensures) (o .count-remembered .kept .1 .1 .1 .0)
+    let at-count-remembered = c .before .before .before .before in
+    let at-nothing = at-count-remembered .before in
+    let at-read-header = at-nothing .before .before .before in
+    let start = at-read-header .before .before .before .before .before in
+    let z = export-source (start .args .h .now) (start .args .ws .now) (start .args .ks .now) (start .args .ts .now) (at-read-header .read-header .ensures) (start .pre) in
+    let k = start-countable {m = MAX-NODES} z (omega arith) (at-nothing .nothing .ensures) in
+    (all-countable k (at-count-remembered .count-remembered .ensures .0) (at-count-remembered .count-remembered .kept .1 .1 .1 .1 .0), at-count-remembered .count-remembered .ensures .1)
 
 slice-aggregate-count-all : tie.Need-slice-aggregate-count-all
 slice-aggregate-count-all c = search needs
 
+slice-aggregate-count-all-2 : tie.Need-slice-aggregate-count-all-2
+slice-aggregate-count-all-2 c = search needs
+
 count-all-requires : tie.Need-count-all-requires
 count-all-requires c κs =
-    let o = c .before .before in
-    let u = o .before .before .before in
-    let n = u .before in
-    let r = n .before .before in
-    let s = r .before .before .before .before .before in
-    let z = export-source (s .args .h .now) (s .args .ws .now) (s .args .ks .now) (s .args .ts .now) (r .read-header .ensures) (s .pre) in
-    let k = start-countable {m = MAX-NODES} z (omega arith) (n .nothing .ensures) in
-    all-countable (all-countable k (u .count-remembered .ensures) (u .count-remembered .kept .1 .1 .1 .0))
-    (o .count-remembered2 .ensures) (o .count-remembered2 .kept .1 .1 .1 .0)
+    let at-count-remembered2 = c .before .before .before .before in
+    let at-count-remembered = at-count-remembered2 .before .before .before .before .before in
+    let at-nothing = at-count-remembered .before in
+    let at-read-header = at-nothing .before .before .before in
+    let start = at-read-header .before .before .before .before .before in
+    let z = export-source (start .args .h .now) (start .args .ws .now) (start .args .ks .now) (start .args .ts .now) (at-read-header .read-header .ensures) (start .pre) in
+    let k = start-countable {m = MAX-NODES} z (omega arith) (at-nothing .nothing .ensures) in (
+      all-countable (all-countable k (at-count-remembered .count-remembered .ensures .0) (at-count-remembered .count-remembered .kept .1 .1 .1 .1 .0))
+          (at-count-remembered2 .count-remembered2 .ensures .0) (at-count-remembered2 .count-remembered2 .kept .1 .1 .1 .1 .0),
+      at-count-remembered2 .count-remembered2 .ensures .1,
+    )
 
 returns : tie.Need-returns
 returns c =
-    let o = c .before in
-    let u = o .before .before .before in
-    let n = u .before .before .before in
-    let t = n .before in
-    let r = t .before .before in
-    let s = r .before .before .before .before .before in
-    export-needs (s .args .h .now) (s .args .ws .now) (s .args .ks .now) (s .args .ts .now) (r .read-header .ensures) (s .pre) MAX-NODES (s .pre .few)
-    (t .nothing .ensures)
+    let at-count-all = c .before .before in
+    let at-count-remembered2 = at-count-all .before .before .before .before .before in
+    let at-count-remembered = at-count-remembered2 .before .before .before .before .before in
+    let at-nothing = at-count-remembered .before in
+    let at-read-header = at-nothing .before .before .before in
+    let start = at-read-header .before .before .before .before .before in
+    export-needs (start .args .h .now) (start .args .ws .now) (start .args .ks .now) (start .args .ts .now) (at-read-header .read-header .ensures) (start .pre) MAX-NODES (start .pre .few)
+    (at-nothing .nothing .ensures)
     (record {
       ms₁ = _;
       ms₂ = _;
       ms₃ = _;
       r₁ = _;
       r₂ = _;
-      first = n .count-remembered .ensures;
-      next = u .count-remembered2 .ensures;
-      rest = o .count-all .ensures;
+      first = at-count-remembered .count-remembered .ensures .0;
+      next = at-count-remembered2 .count-remembered2 .ensures .0;
+      rest = at-count-all .count-all .ensures .0;
     })
 
 pub of-export-spec : {M : Type 1} → statement M
@@ -77,10 +93,13 @@ of-export-spec =
     (tie.spec
     read-header-requires
     slice-aggregate-count-remembered
+    slice-aggregate-count-remembered-2
     nothing-requires
     count-remembered-requires
-    slice-aggregate-count-remembered-2
+    slice-aggregate-count-remembered-3
+    slice-aggregate-count-remembered-4
     count-remembered-requires-2
     slice-aggregate-count-all
+    slice-aggregate-count-all-2
     count-all-requires
     returns)

@@ -1,13 +1,13 @@
--- `unify::unify` meets its contract: two roots without kinds merge at once, and anything else is `unify_pair`'s.
+-- `unify::unify` meets its contract: what needs no walk is done at once, and anything else is `unify_pair`'s.
 -- Assumes nothing.
 use mathlib.Core.Path.{_∙_}
-use Rattle.unify.proofs.QuickLaws.{quick-adds, quick-merged, quick-asked, quick-not}
+use Rattle.unify.proofs.QuickLaws.{quick-adds, small-merged, small-asked, small-not}
 use borrow.Author.Needs.{needs}
 use Rattle.unify.proofs.unify.Statement.{statement}
 use Rattle.unify.proofs.unify.Tie as tie
 
-quick-requires : tie.Need-quick-requires
-quick-requires c κs = quick-adds (c .before .before .before .before .before .before .before .pre)
+small-requires : tie.Need-small-requires
+small-requires c κs = quick-adds (c .before .before .before .before .before .before .before .pre)
 
 same-length : tie.Need-same-length
 same-length c = search needs
@@ -19,14 +19,14 @@ returns : tie.Need-returns
 returns c =
     let b5 = c .before .before .before .before .before in
     let b13 = b5 .before .before .before .before .before .before .before .before in
-    quick-merged (b13 .pre) (b5 .quick .ensures) (c .if1 .taken)
+    small-merged (b13 .pre) (b5 .small .ensures) (c .if1 .taken)
 
 unify-pair-requires : tie.Need-unify-pair-requires
 unify-pair-requires c κs =
     let b2 = c .before .before in
     let b7 = b2 .before .before .before .before .before in
     let b15 = b7 .before .before .before .before .before .before .before .before in
-    quick-asked (b15 .pre) (b7 .quick .ensures) (b2 .if1 .left)
+    small-asked (b15 .pre) (b7 .small .ensures) (b2 .if1 .left)
 
 same-length-3 : tie.Need-same-length-3
 same-length-3 c = search needs
@@ -39,13 +39,13 @@ returns-2 c =
     let b4 = c .before .before .before .before in
     let b7 = b4 .before .before .before in
     let b12 = b7 .before .before .before .before .before in
-    quick-not (b12 .quick .ensures) (b7 .if1 .left) (b4 .unify-pair .ensures)
+    small-not (b12 .small .ensures) (b7 .if1 .left) (b4 .unify-pair .ensures)
 
 pub unify-spec : {M : Type 1} → statement M
 unify-spec =
     tie.close
     (tie.spec
-    quick-requires
+    small-requires
     same-length
     same-length-2
     returns

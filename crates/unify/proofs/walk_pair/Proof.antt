@@ -1,57 +1,78 @@
--- `unify::walk_pair` meets its contract: an answer at once, or a merge of which the memory is told.
+-- `unify::walk_pair` meets its contract: of one nil nothing is to be done, and anything else is `walk_on`'s.
 -- Assumes nothing.
-use Rattle.unify.proofs.Laws.{walk-done, walk-binds}
+use Rattle.unify.proofs.QuickLaws.{small-walks, small-walk-asks, small-walk-not}
 use borrow.Author.Needs.{needs}
 use Rattle.unify.proofs.walk_pair.Statement.{statement}
 use Rattle.unify.proofs.walk_pair.Tie as tie
 
-walk-roots-requires : tie.Need-walk-roots-requires
-walk-roots-requires c κs = search needs
+idx-requires : tie.Need-idx-requires
+idx-requires c κs = search needs
 
-enum-known-w : tie.Need-enum-known-w
-enum-known-w c = search needs
+idx-requires-2 : tie.Need-idx-requires-2
+idx-requires-2 c κs = search needs
 
-enum-told : tie.Need-enum-told
-enum-told c = search needs
-
-bind-requires : tie.Need-bind-requires
-bind-requires c κs = search needs
-
-changed-requires : tie.Need-changed-requires
-changed-requires c κs = search needs
+walk-on-requires : tie.Need-walk-on-requires
+walk-on-requires c κs = search needs
 
 same-length : tie.Need-same-length
 same-length c = search needs
 
-returns : tie.Need-returns
-returns c = walk-done (c .before .before .before .before .before .before .before .before .pre) (c .before .before .before .walk-roots .ensures) (c .before .w .given .1)
-
 same-length-2 : tie.Need-same-length-2
 same-length-2 c = search needs
+
+returns : tie.Need-returns
+returns c = search needs
+
+small-requires : tie.Need-small-requires
+small-requires c κs = search needs
 
 same-length-3 : tie.Need-same-length-3
 same-length-3 c = search needs
 
+same-length-4 : tie.Need-same-length-4
+same-length-4 c = search needs
+
 returns-2 : tie.Need-returns-2
 returns-2 c =
+    let b5 = c .before .before .before .before .before in
+    let b16 = b5 .before .before .before .before .before .before .before .before .before .before .before in
+    small-walks (b16 .pre) (b5 .small .ensures) (c .if2 .taken)
+
+walk-on-requires-2 : tie.Need-walk-on-requires-2
+walk-on-requires-2 c κs =
     let b2 = c .before .before in
-    let b6 = b2 .before .before .before .before in
-    let b8 = b6 .before .before in
-    let b10 = b8 .before .before in
-    let b15 = b10 .before .before .before .before .before in
-    walk-binds (b15 .pre) (b10 .walk-roots .ensures) (b8 .enum-told .given .1) (b6 .bind .ensures) (b2 .changed .ensures)
+    let b7 = b2 .before .before .before .before .before in
+    let b18 = b7 .before .before .before .before .before .before .before .before .before .before .before in
+    small-walk-asks (b18 .pre) (b7 .small .ensures) (b2 .if2 .left)
+
+same-length-5 : tie.Need-same-length-5
+same-length-5 c = search needs
+
+same-length-6 : tie.Need-same-length-6
+same-length-6 c = search needs
+
+returns-3 : tie.Need-returns-3
+returns-3 c =
+    let b4 = c .before .before .before .before in
+    let b7 = b4 .before .before .before in
+    let b12 = b7 .before .before .before .before .before in
+    small-walk-not (b12 .small .ensures) (b7 .if2 .left) (b4 .walk-on2 .ensures)
 
 pub walk-pair-spec : {M : Type 1} → statement M
 walk-pair-spec =
     tie.close
     (tie.spec
-    walk-roots-requires
-    enum-known-w
-    enum-told
-    bind-requires
-    changed-requires
+    idx-requires
+    idx-requires-2
+    walk-on-requires
     same-length
-    returns
     same-length-2
+    returns
+    small-requires
     same-length-3
-    returns-2)
+    same-length-4
+    returns-2
+    walk-on-requires-2
+    same-length-5
+    same-length-6
+    returns-3)

@@ -1,0 +1,3 @@
+pub mod EntryLaws
+pub mod PlainLaws
+pub mod Laws
