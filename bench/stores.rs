@@ -304,12 +304,14 @@ fn twice(code: u32) -> Store {
 }
 
 /// Variables, 255 to a tuple, and as many tuples over the last of a set of windows: each variable meets it, so that each
-/// asks whether it occurs there.
-fn variables(sets: usize) -> Store {
-  let mut s = Store::new(format!("{} variables and windows", sets * WIDTH));
+/// asks whether it occurs there. The windows are near each other, or as far apart as there are slots.
+fn variables(sets: usize, apart: bool) -> Store {
+  let how = if apart { "windows apart" } else { "windows" };
+  let mut s = Store::new(format!("{} variables and {how}", sets * WIDTH));
   let end = s.kind(TUPLE, 0, 0);
   let count = NODES - 1 - sets * (WIDTH + 2) - 2;
-  let top = s.windows(TUPLE, count, 1, end);
+  let stride = if apart { (CHILDREN - (sets + 2) * WIDTH - 2 * sets) / count } else { 1 };
+  let top = s.windows(TUPLE, count, stride, end);
   let tops = s.run(&[top; WIDTH]);
   let [mut left, mut right] = [Vec::new(), Vec::new()];
   for _ in 0..sets {
@@ -367,6 +369,7 @@ pub fn all() -> Vec<Store> {
     all.extend([one_run(code), windows(code), twice(code)]);
     all.extend(["nil", "never", "a variable", "a Param"].map(|root| half_and_half(code, root)));
   }
-  all.extend([1, 4, 8, 12].map(variables));
+  all.extend([1, 4, 8, 12].map(|sets| variables(sets, false)));
+  all.extend([1, 4, 8, 12, 14].map(|sets| variables(sets, true)));
   all
 }
