@@ -342,7 +342,8 @@ impl Types {
   pub fn new_vars(&mut self, span: Span, len: usize) -> Result<Vec<Type>, Refusal> {
     // More than there can ever be room for are refused like the first that is too many.
     let count = len.min(crate::MAX_NODES as usize + 1);
-    let mut out = vec![Type::from_word(0); count];
+    // Every one is written over; zeros would be asked of the allocator, which takes longer for a few.
+    let mut out = vec![Type::from_word(u32::MAX); count];
     value(self.store.new_vars(span.0, count as u32, raw::words_mut(&mut out)))?;
     Ok(out)
   }
