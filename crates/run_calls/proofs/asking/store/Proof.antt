@@ -1,10 +1,10 @@
--- `run_read::asking::store` is safe and ends: the measure is what is left of the nodes.
+-- `run_calls::asking::store` is safe and ends: the measure is what is left of the nodes.
 -- Assumes nothing.
 use Prim.Native.Nat.{_-_}
 use native.Mathlib.Omega.{arith}
 use borrow.Author.Needs.{needs}
-use Rattle.run_read.proofs.asking.store.Statement.{statement}
-use Rattle.run_read.proofs.asking.store.Tie as tie
+use Rattle.run_calls.proofs.asking.store.Statement.{statement}
+use Rattle.run_calls.proofs.asking.store.Tie as tie
 
 abbrev Inv-loop : tie.InvT-loop
 Inv-loop chart beside rule text h ws ks x i₀ t12 i = Unit {0}

@@ -11,7 +11,7 @@ use run_text::numbers::word;
 use run_text::writing;
 use scope::MAX_LIST;
 
-pub const EXPORT: u32 = 61; // nodes, children, room for answers, words lent of each slice, then types
+pub(crate) const EXPORT: u32 = 61; // nodes, children, room for answers, words lent of each slice, then types
 
 // One more than a list may have.
 const ROOM: usize = MAX_LIST + 1;
@@ -95,7 +95,7 @@ fn export_lent<'a>(
     );
 }
 
-pub fn export<'a>(
+pub(crate) fn export<'a>(
     chart: &[u32],
     beside: Beside,
     rule: &'a [u8],

@@ -7,18 +7,18 @@ use run_text::writing;
 use scope::MAX_NODES;
 use types::Type;
 
-pub const FORCE_KIND: u32 = 19; // type
+pub(crate) const FORCE_KIND: u32 = 19; // type
 
 const FINISH: u32 = 20;
 
 const FINISH_WHERE: u32 = 21; // a byte for each node
 
 // Whether a number is one of the last two.
-pub fn finishes(op: u32) -> bool {
+pub(crate) fn finishes(op: u32) -> bool {
     op == FINISH || op == FINISH_WHERE
 }
 
-pub fn force<'a>(
+pub(crate) fn force<'a>(
     chart: &[u32],
     beside: Beside,
     rule: &'a [u8],
@@ -32,7 +32,7 @@ pub fn force<'a>(
     writing::forced_answer(r, ks, rule, text);
 }
 
-pub fn finish<'a>(
+pub(crate) fn finish<'a>(
     op: u32,
     chart: &[u32],
     beside: Beside,

@@ -9,7 +9,7 @@ use scope::MAX_NODES;
 use tested_read::FiguresAnswer;
 use types::Type;
 
-pub const FIND: u32 = 30; // type, here and below
+pub(crate) const FIND: u32 = 30; // type, here and below
 
 const NODE: u32 = 32;
 
@@ -29,7 +29,7 @@ const GET_MOD: u32 = 39;
 
 const FIND_RELATED: u32 = 40; // type, then a mark for each node
 // The figures, and every node.
-pub const STORE: u32 = 41;
+pub(crate) const STORE: u32 = 41;
 
 fn find_related_in<'a>(
     chart: &[u32],
@@ -74,7 +74,7 @@ fn find_related<'a>(
 }
 
 // Every node, after the figures.
-pub fn store<'a>(
+pub(crate) fn store<'a>(
     chart: &[u32],
     beside: Beside,
     rule: &'a [u8],
@@ -171,7 +171,7 @@ fn root<'a>(
     writing::mod_answer(call_ask::get_mod(chart, beside, rule, text, h, ws, ks, t));
 }
 
-pub fn call<'a>(
+pub(crate) fn call<'a>(
     op: u32,
     chart: &[u32],
     beside: Beside,

@@ -24,7 +24,7 @@ const UNIFY_IMPL_TYPE: u32 = 54; // 1 for an error and the trait's number, twice
 const APPROX_EQ: u32 = 55; // the same
 
 // Whether a number is one of these.
-pub fn is(op: u32) -> bool {
+pub(crate) fn is(op: u32) -> bool {
     op == FIND_MUT || UNIFY <= op && op <= APPROX_EQ
 }
 
@@ -116,7 +116,7 @@ fn pair<'a>(
     call_unify::unify(chart, beside, rule, text, h, ws, ks, x, y)
 }
 
-pub fn call<'a>(
+pub(crate) fn call<'a>(
     op: u32,
     chart: &[u32],
     beside: Beside,

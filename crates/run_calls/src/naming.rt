@@ -19,7 +19,7 @@ const DROP_NAME: u32 = 25; // a name's bytes
 const ROOM: usize = MAX_STATE_NAME + 1;
 
 // Whether a number is one of these.
-pub fn is(op: u32) -> bool {
+pub(crate) fn is(op: u32) -> bool {
     op == RESET || OPEN_NAMES <= op && op <= DROP_NAME
 }
 
@@ -43,7 +43,7 @@ fn named<'a>(
 }
 
 // bs is what is lent of the names buffer.
-pub fn call<'a>(
+pub(crate) fn call<'a>(
     op: u32,
     chart: &[u32],
     beside: Beside,

@@ -7,7 +7,7 @@ use run_text::numbers::word;
 use run_text::writing;
 use scope::MAX_LIST;
 
-pub const IMPORT: u32 = 60; // room for answers, 1 with a parameter list, how many types, these, then the entries
+pub(crate) const IMPORT: u32 = 60; // room for answers, 1 with a parameter list, how many types, these, then the entries
 
 // One more than a list may have.
 const ROOM: usize = MAX_LIST + 1;
@@ -49,7 +49,7 @@ fn import_into<'a>(
 }
 
 // Out of the words sh, sw, sk.
-pub fn import<'a>(
+pub(crate) fn import<'a>(
     chart: &[u32],
     beside: Beside,
     rule: &'a [u8],

@@ -10,21 +10,21 @@ use run_text::numbers::word;
 use run_text::writing;
 use scope::MAX_NODES;
 
-pub const OPEN: u32 = 10; // nodes, children
+pub(crate) const OPEN: u32 = 10; // nodes, children
 
-pub const NEW: u32 = 12; // code, number, flex, name (text, start, length), then four numbers for each child
+pub(crate) const NEW: u32 = 12; // code, number, flex, name (text, start, length), then four numbers for each child
 
-pub const NEW_STRUCT: u32 = 13; // number, then types
+pub(crate) const NEW_STRUCT: u32 = 13; // number, then types
 
-pub const NEW_UNION: u32 = 14; // number, then types
+pub(crate) const NEW_UNION: u32 = 14; // number, then types
 
-pub const NEW_VAR: u32 = 15; // span
+pub(crate) const NEW_VAR: u32 = 15; // span
 
-pub const NEW_VARS: u32 = 16; // span, count, room for answers
+pub(crate) const NEW_VARS: u32 = 16; // span, count, room for answers
 
-pub const ERROR: u32 = 17;
+pub(crate) const ERROR: u32 = 17;
 
-pub const NIL: u32 = 18;
+pub(crate) const NIL: u32 = 18;
 
 fn kind_args(a: &[u32]) -> KindArgs {
     let name = Name {
@@ -56,7 +56,7 @@ fn new_vars_into<'a>(
     writing::listed(r, out, n as usize);
 }
 
-pub fn new_vars<'a>(
+pub(crate) fn new_vars<'a>(
     chart: &[u32],
     beside: Beside,
     rule: &'a [u8],
@@ -71,12 +71,12 @@ pub fn new_vars<'a>(
     new_vars_into(chart, beside, rule, text, h, ws, ks, a, &mut out[..room]);
 }
 
-pub fn open(h: &mut [u32], ws: &mut [u32], ks: &mut [u32], a: &[u32]) -> DoneAnswer {
+pub(crate) fn open(h: &mut [u32], ws: &mut [u32], ks: &mut [u32], a: &[u32]) -> DoneAnswer {
     call_open::open(h, ws, ks, word(a, 0), word(a, 1))
 }
 
 // The makers that fill a kind.
-pub fn kind<'a>(
+pub(crate) fn kind<'a>(
     op: u32,
     chart: &[u32],
     beside: Beside,
@@ -107,7 +107,7 @@ pub fn kind<'a>(
 }
 
 // The makers without children.
-pub fn plain<'a>(
+pub(crate) fn plain<'a>(
     op: u32,
     chart: &[u32],
     beside: Beside,

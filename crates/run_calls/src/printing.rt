@@ -8,13 +8,13 @@ use run_text::writing;
 use types::Impl;
 use types::Type;
 
-pub const SHOW: u32 = 70; // how long the buffer is, type
+pub(crate) const SHOW: u32 = 70; // how long the buffer is, type
 
 const SHOW_IMPL_TYPE: u32 = 71; // how long the buffer is, 1 for an error, the trait's number, its types
 // Their second forms.
 const SHOW_PART: u32 = 72;
 
-pub const SHOW_IMPL_TYPE_PART: u32 = 73;
+pub(crate) const SHOW_IMPL_TYPE_PART: u32 = 73;
 
 const ROOM: usize = 4096;
 
@@ -118,7 +118,7 @@ fn part<'a>(
     bytes(p);
 }
 
-pub fn call<'a>(
+pub(crate) fn call<'a>(
     op: u32,
     chart: &[u32],
     beside: Beside,
