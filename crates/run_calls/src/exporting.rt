@@ -37,7 +37,7 @@ fn export_into<'a>(
     let ts = after(a, 6);
     let nodes = word(a, 0);
     let children = word(a, 1);
-    let r = call_export::export(
+    let r = call_copy::export(
         chart,
         beside,
         rule,

@@ -29,7 +29,7 @@ fn import_into<'a>(
     let given = after(a, 3);
     let ts = first(given, word(a, 2) as usize);
     let params = after(given, ts.len());
-    let r = call_import::import(
+    let r = call_copy::import(
         chart,
         beside,
         rule,

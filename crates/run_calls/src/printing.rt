@@ -94,14 +94,14 @@ fn part<'a>(
     let mut n: u32 = 0;
     if op == SHOW_PART {
         let t = Type(word(a, 1));
-        let p = call_show_part::show_part(chart, beside, rule, text, h, ws, ks, t, buf, &mut n);
+        let p = call_show::show_part(chart, beside, rule, text, h, ws, ks, t, buf, &mut n);
         code(n);
         bytes(p);
         return;
     }
     let i = impl_of(a);
     let xs = after(a, 3);
-    let p = call_show_part::show_impl_type_part(
+    let p = call_show::show_impl_type_part(
         chart,
         beside,
         rule,

@@ -1,10 +1,10 @@
--- `call_show_part::part_in` meets its contract: its test is that of partIn.
+-- `call_show::part_in` meets its contract: its test is that of partIn.
 -- Assumes nothing.
 use mathlib.Core.Path.{refl}
 use borrow.Author.Tests.{ne-eqb}
 use borrow.Author.Needs.{needs}
-use Rattle.call_show_part.proofs.part_in.Statement.{statement}
-use Rattle.call_show_part.proofs.part_in.Tie as tie
+use Rattle.call_show.proofs.part_in.Statement.{statement}
+use Rattle.call_show.proofs.part_in.Tie as tie
 
 enum-known-r : tie.Need-enum-known-r
 enum-known-r c = search needs

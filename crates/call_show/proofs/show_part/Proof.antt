@@ -1,12 +1,12 @@
--- `call_show_part::show_part` meets its contract: what the first form promises of the buffer, its part promises.
+-- `call_show::show_part` meets its contract: what the first form promises of the buffer, its part promises.
 -- Assumes nothing.
 use Rattle.scope.specs.Types.{tyOf}
 use borrow.Author.Needs.{needs}
 use Rattle.layout.specs.Words.{lentOf}
 use Rattle.sound.specs.Tests.{envIn}
-use Rattle.call_show_part.proofs.Laws.{show-hands, hand-promised}
-use Rattle.call_show_part.proofs.show_part.Statement.{statement}
-use Rattle.call_show_part.proofs.show_part.Tie as tie
+use Rattle.call_show.proofs.Laws.{show-hands, hand-promised}
+use Rattle.call_show.proofs.show_part.Statement.{statement}
+use Rattle.call_show.proofs.show_part.Tie as tie
 
 show-requires : tie.Need-show-requires
 show-requires c κs = search needs

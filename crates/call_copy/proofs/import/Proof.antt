@@ -1,10 +1,10 @@
--- `call_import::import` meets its contract: where 2, 8 and 9 do not stand both stores are tested, and the form for such stores answers.
+-- `call_copy::import` meets its contract: where 2, 8 and 9 do not stand both stores are tested, and the form for such stores answers.
 -- Assumes nothing.
 use borrow.Author.Needs.{needs}
 use Rattle.copy_parts.specs.Places.{listOf}
-use Rattle.call_import.proofs.Laws.{stores-back, both-tested}
-use Rattle.call_import.proofs.import.Statement.{statement}
-use Rattle.call_import.proofs.import.Tie as tie
+use Rattle.call_copy.proofs.Laws.{stores-back, both-tested}
+use Rattle.call_copy.proofs.import.Statement.{statement}
+use Rattle.call_copy.proofs.import.Tie as tie
 
 stores-requires : tie.Need-stores-requires
 stores-requires c κs = search needs

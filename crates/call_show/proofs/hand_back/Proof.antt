@@ -1,10 +1,10 @@
--- `call_show_part::hand_back` meets its contract: the part's length is partIn's, which the buffer has.
+-- `call_show::hand_back` meets its contract: the part's length is partIn's, which the buffer has.
 -- Assumes nothing.
 use mathlib.Core.Path.{refl, sym}
 use borrow.Table.Elements.{length-take-le}
 use borrow.Author.Needs.{needs}
-use Rattle.call_show_part.proofs.hand_back.Statement.{statement}
-use Rattle.call_show_part.proofs.hand_back.Tie as tie
+use Rattle.call_show.proofs.hand_back.Statement.{statement}
+use Rattle.call_show.proofs.hand_back.Tie as tie
 
 code-in-requires : tie.Need-code-in-requires
 code-in-requires c κs = search needs

@@ -1,11 +1,11 @@
--- `call_export::export` meets its contract: the opening is tested first; where 2 and 8 do not stand the source is tested, and the form for such a source
+-- `call_copy::export` meets its contract: the opening is tested first; where 2 and 8 do not stand the source is tested, and the form for such a source
 -- answers.
 -- Assumes nothing.
 use borrow.Author.Needs.{needs}
 use Rattle.promise.proofs.BackLaws.{tested}
 use Rattle.tested_export.proofs.Laws.{refused-opening, refused-source, export-back}
-use Rattle.call_export.proofs.export.Statement.{statement}
-use Rattle.call_export.proofs.export.Tie as tie
+use Rattle.call_copy.proofs.export.Statement.{statement}
+use Rattle.call_copy.proofs.export.Tie as tie
 
 opening-requires : tie.Need-opening-requires
 opening-requires c κs = search needs

@@ -1,9 +1,9 @@
--- `call_import::stores` meets its contract: 2 and 8 come first, and the source is asked with the chart that passed them.
+-- `call_copy::stores` meets its contract: 2 and 8 come first, and the source is asked with the chart that passed them.
 -- Assumes nothing.
 use borrow.Author.Needs.{needs}
-use Rattle.call_import.proofs.Laws.{stores-lent, stores-source, stores-pass}
-use Rattle.call_import.proofs.stores.Statement.{statement}
-use Rattle.call_import.proofs.stores.Tie as tie
+use Rattle.call_copy.proofs.Laws.{stores-lent, stores-source, stores-pass}
+use Rattle.call_copy.proofs.stores.Statement.{statement}
+use Rattle.call_copy.proofs.stores.Tie as tie
 
 refusal-requires : tie.Need-refusal-requires
 refusal-requires c κs = search needs

@@ -1,12 +1,12 @@
--- `call_show_part::show_impl_type_part` meets its contract: what the first form promises of the buffer, its part promises.
+-- `call_show::show_impl_type_part` meets its contract: what the first form promises of the buffer, its part promises.
 -- Assumes nothing.
 use Rattle.types.specs.Impls.{implMeans}
 use borrow.Author.Needs.{needs}
 use Rattle.layout.specs.Words.{lentOf}
 use Rattle.sound.specs.Tests.{envIn}
-use Rattle.call_show_part.proofs.Laws.{impl-hands, hand-promised}
-use Rattle.call_show_part.proofs.show_impl_type_part.Statement.{statement}
-use Rattle.call_show_part.proofs.show_impl_type_part.Tie as tie
+use Rattle.call_show.proofs.Laws.{impl-hands, hand-promised}
+use Rattle.call_show.proofs.show_impl_type_part.Statement.{statement}
+use Rattle.call_show.proofs.show_impl_type_part.Tie as tie
 
 show-impl-type-requires : tie.Need-show-impl-type-requires
 show-impl-type-requires c κs = search needs

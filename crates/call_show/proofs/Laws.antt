@@ -25,7 +25,7 @@ use Rattle.promise.specs.Promise.{refusal}
 use Rattle.promise.specs.Prints.{countReply, PrintPromised, partReply, PartPromised}
 use Rattle.promise.specs.declared.CountAnswer.{CountAnswer}
 use Rattle.promise.specs.declared.CountAnswer.the-variants.{Is, Refused}
-use Rattle.call_show_part.specs.Parts.{codeIn, partIn, Back}
+use Rattle.call_show.specs.Parts.{codeIn, partIn, Back}
 
 -- a refusal that is told as itself: not 0, and not 7
 
