@@ -40,7 +40,7 @@ pub fn find(ws: &[u32], n: u32, t: Type) -> Type
 }
 
 // The same; every node on the path becomes the root's child.
-pub fn find_mut(ws: &mut [u32], n: u32, t: Type) -> Type
+fn find_far(ws: &mut [u32], n: u32, t: Type) -> Type
     requires { ⌜ Linked (now ws) n ⌝ }
     ensures { λ r. ⌜ FoundMut (now (ws .entry)) n (now (ws .exit)) (t .0) (r .0) ⌝ }
 {
@@ -73,6 +73,17 @@ pub fn near(ws: &[u32], n: u32, t: Type) -> Nearby
         return Nearby::Is(parent.invert_if(inv));
     };
     Nearby::Far
+}
+
+// "`find_mut` also points every node on the path straight at the root": a type that is near has no such path.
+pub fn find_mut(ws: &mut [u32], n: u32, t: Type) -> Type
+    requires { ⌜ Linked (now ws) n ⌝ }
+    ensures { λ r. ⌜ FoundMut (now (ws .entry)) n (now (ws .exit)) (t .0) (r .0) ⌝ }
+{
+    let Nearby::Is(r) = near(ws, n, t) else {
+        return find_far(ws, n, t);
+    };
+    r
 }
 
 // A mark for each node is a lent byte: nonzero is a mark, "absent means no".
