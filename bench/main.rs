@@ -182,6 +182,10 @@ fn main() {
   if words.get(1).is_some_and(|word| word == "asks") {
     return asks::report();
   }
+  if words.get(1).is_some_and(|word| word == "stack") {
+    stack::report();
+    return stack::import();
+  }
   if words.get(1).is_some_and(|word| word == "import") {
     imports::report();
     return stack::import();
