@@ -25,7 +25,6 @@ use show_names::put_unknown;
 use show_parts::put_close;
 use show_parts::put_gap;
 use show_parts::put_lead;
-use show_parts::put_tilde;
 use types::Inverted;
 use types::Type;
 
@@ -81,16 +80,6 @@ fn shown(ws: &[u32], ks: &[u32], n: u32, cache: &mut [u16], k: Kind) -> u32
     0
 }
 
-// A self-dual kind is inverted in its children.
-fn inner(i: Inverted, k: Kind) -> Inverted
-    ensures { λ r. ⌜ r .0 ≡ innerOf (i .0) k ⌝ }
-{
-    if i.0 {
-        return Inverted(kinds::self_dual(k.code, k.dual));
-    }
-    Inverted(false)
-}
-
 // The text of a type, at most so many levels deep, with the roots that a cache keeps.
 fn show_by<'a>(
     chart: &[u32],
@@ -123,9 +112,9 @@ fn show_by<'a>(
         return put_unknown(buf, at, root);
     };
     let i = inv.xor(root.inv());
-    let turned = put_tilde(buf, at, i, kind);
-    let mut p = put_lead(chart, beside, rule, text, buf, turned, kind);
-    let deep = inner(i, kind);
+    let dual = kinds::self_dual(kind.code, kind.dual);
+    let mut p = put_lead(chart, beside, rule, text, buf, at, i.0 & !dual, kind);
+    let deep = Inverted(i.0 & dual);
     let count = shown(ws, ks, n, cache, kind);
     let mut j: u32 = 0;
     while j < count {
