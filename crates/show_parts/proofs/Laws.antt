@@ -1,12 +1,12 @@
 -- A kind up to its children is what it says before its name, its name, and what it says after it. Assumes nothing.
 use mathlib.Core.Path.{_≡_, refl, sym}
-use mathlib.Core.Bool.{Bool, true, false}
+use mathlib.Core.Bool.{Bool, true, false, not, _&&_, _||_}
 use mathlib.Core.List.{List, [], _++_, append-nil}
 use Prim.Native.Nat.{ℕ, zero, suc, _*_, _<_}
 use native.Mathlib.Omega.{arith}
 use mir.Val.{boolByte}
-use borrow.Author.Tests.{ne-eqb, le-ltb}
-use lib.Dec.{ltb}
+use borrow.Author.Tests.{ne-eqb, lt-ltb, le-ltb}
+use lib.Dec.{eqb, ltb}
 use Rattle.scope.specs.Base.{pick}
 use Rattle.scope.specs.Text.{text}
 use Rattle.scope.specs.Names.{Texts, Name, bytes}
@@ -38,6 +38,20 @@ if-const-by : (x : Texts) (b : Bool) (n : Name)
 unfolding bytes
 if-const-by x true n = refl
 if-const-by x false n = refl
+
+-- the tests of two conditions at once
+pub either-by : (a b v : Bool) (x : List ℕ) → (a || b) ≡ v → pick v x [] ≡ pick a x (pick b x [])
+either-by true b v x h = rw (← h) refl
+either-by false b v x h = rw (← h) refl
+
+pub some-by : (b : Bool) (n : ℕ) (v : Bool) (x : List ℕ) → (b && ltb 0 n) ≡ v → pick v x [] ≡ pick b (pick (eqb n 0) [] x) []
+some-by false n v x h = rw (← h) refl
+some-by true zero v x h = rw (← h) refl
+some-by true (suc n) v x h = rw (← h, lt-ltb 0 (suc n) (omega arith), ne-eqb (suc n) 0 (λ w. omega arith)) refl
+
+pub defined-by : (a b : Bool) (n : ℕ) (v : Bool) (x : List ℕ) → ((not a && b) && ltb 0 n) ≡ v → pick v x [] ≡ pick a [] (pick b (pick (eqb n 0) [] x) [])
+defined-by true b n v x h = rw (← h) refl
+defined-by false b n v x h = some-by b n v x h
 
 module _ (e : Env) (k : Kind) where
   abbrev of-code : ℕ → Kind
@@ -89,7 +103,7 @@ module _ (e : Env) (k : Kind) where
   plain-by (suc (suc (suc (suc (suc (suc (suc (suc (suc (suc (suc (suc zero)))))))))))) f g = refl
   plain-by (suc (suc (suc (suc (suc (suc (suc (suc (suc (suc (suc (suc (suc zero))))))))))))) f g = refl
   plain-by (suc (suc (suc (suc (suc (suc (suc (suc (suc (suc (suc (suc (suc (suc zero)))))))))))))) f g = refl
-  plain-by (suc (suc (suc (suc (suc (suc (suc (suc (suc (suc (suc (suc (suc (suc (suc c))))))))))))))) f g = 
+  plain-by (suc (suc (suc (suc (suc (suc (suc (suc (suc (suc (suc (suc (suc (suc (suc c))))))))))))))) f g =
       plain-other (suc (suc (suc (suc (suc (suc (suc (suc (suc (suc (suc (suc (suc (suc (suc c))))))))))))))) (omega arith)
 
 pub lead-plain : (e : Env) (k : Kind) → (k .code ≡ FN → ⊥) → (k .code ≡ CLOSURE → ⊥)

@@ -22,8 +22,8 @@ use kinds::PARAM;
 use kinds::REF;
 use kinds::TUPLE;
 use layout::Kind;
-use names::Name;
 use names::NO_NAME;
+use names::Name;
 use show_names::NEXT;
 use show_names::TILDE;
 use show_names::put_comma;
@@ -57,10 +57,15 @@ const NUMBER: u64 = b' ' as u64 + NEXT * b'<' as u64;
 const NUMBER_END: u64 = b'>' as u64 + NEXT * OPEN;
 
 // A bracket, and an arrow before the return.
-const RETURNS: u64 = CLOSE + NEXT * (b' ' as u64 + NEXT * (b'-' as u64 + NEXT * (b'>' as u64 + NEXT * b' ' as u64)));
+const RETURNS: u64 = CLOSE
+    + NEXT * (b' ' as u64 + NEXT * (b'-' as u64 + NEXT * (b'>' as u64 + NEXT * b' ' as u64)));
 
 // `if const` with a space after it.
-const SAID_CONST: u64 = b'c' as u64 + NEXT * (b'o' as u64 + NEXT * (b'n' as u64 + NEXT * (b's' as u64 + NEXT * (b't' as u64 + NEXT * b' ' as u64))));
+const SAID_CONST: u64 = b'c' as u64
+    + NEXT
+        * (b'o' as u64
+            + NEXT
+                * (b'n' as u64 + NEXT * (b's' as u64 + NEXT * (b't' as u64 + NEXT * b' ' as u64))));
 
 const SAID_IF: u64 = b'i' as u64 + NEXT * (b'f' as u64 + NEXT * (b' ' as u64 + NEXT * SAID_CONST));
 
@@ -68,7 +73,8 @@ const SAID_IF: u64 = b'i' as u64 + NEXT * (b'f' as u64 + NEXT * (b' ' as u64 + N
 const THEN: u64 = b' ' as u64 + NEXT * ENTRIES;
 
 // A brace, and `else` up to its own.
-const SAID_ELSE: u64 = b'e' as u64 + NEXT * (b'l' as u64 + NEXT * (b's' as u64 + NEXT * b'e' as u64));
+const SAID_ELSE: u64 = b'e' as u64
+    + NEXT * (b'l' as u64 + NEXT * (b's' as u64 + NEXT * b'e' as u64));
 
 const ELSE: u64 = b' ' as u64 + NEXT * (b'}' as u64 + NEXT * (b' ' as u64 + NEXT * SAID_ELSE));
 
@@ -76,40 +82,28 @@ const ELSE: u64 = b' ' as u64 + NEXT * (b'}' as u64 + NEXT * (b' ' as u64 + NEXT
 fn front(code: u32, count: u32) -> u64
     ensures { λ r. ⌜ spelled r ≡ frontOf code count ⌝ }
 {
-    if code == TUPLE {
-        return OPEN;
-    }
-    if code == OBJECT {
-        if count == 0 {
-            return NO_ENTRIES;
+    match code {
+        TUPLE => return OPEN,
+        OBJECT => {
+            if count == 0 {
+                return NO_ENTRIES;
+            }
+            return ENTRIES;
         }
-        return ENTRIES;
-    }
-    if code == CLOSURE {
-        return SAID_FN;
-    }
-    if code == REF {
-        return b'&' as u64;
-    }
-    if code == KEY {
-        return b'.' as u64;
-    }
-    if code == IF_CONST {
-        if count < 2 {
-            return 0;
+        CLOSURE => return SAID_FN,
+        REF => return b'&' as u64,
+        KEY => return b'.' as u64,
+        IF_CONST => {
+            if count < 2 {
+                return 0;
+            }
+            return SAID_IF;
         }
-        return SAID_IF;
+        NEVER => return b'!' as u64,
+        DEFAULT => return b'_' as u64,
+        ERROR => return QUESTIONS,
+        _ => return 0,
     }
-    if code == NEVER {
-        return b'!' as u64;
-    }
-    if code == DEFAULT {
-        return b'_' as u64;
-    }
-    if code == ERROR {
-        return QUESTIONS;
-    }
-    0
 }
 
 // A kind's name: its own, its definition's, a Closure's sigil. An if const without two children has none.
@@ -144,25 +138,21 @@ fn name_in(chart: &[u32], beside: Beside, k: Kind) -> Name
 fn back(code: u32, count: u32) -> u64
     ensures { λ r. ⌜ spelled r ≡ backOf code count ⌝ }
 {
-    if code == CLOSURE {
-        return NUMBER;
-    }
-    if code == IF_CONST {
-        if count < 2 {
+    match code {
+        CLOSURE => return NUMBER,
+        IF_CONST => {
+            if count < 2 {
+                return 0;
+            }
+            return THEN;
+        }
+        _ => {
+            if !(code < OPAQUE) & (code < FN) & (0 < count) {
+                return PARAMETERS;
+            }
             return 0;
         }
-        return THEN;
     }
-    if code < OPAQUE {
-        return 0;
-    }
-    if FN <= code {
-        return 0;
-    }
-    if count == 0 {
-        return 0;
-    }
-    PARAMETERS
 }
 
 // A kind up to its children, with a ~ or without.
@@ -238,43 +228,39 @@ pub fn put_gap<'a>(
 fn end(code: u32, count: u32, m: u32) -> u64
     ensures { λ r. ⌜ spelled r ≡ endOf code count m ⌝ }
 {
-    if code == PARAM {
-        return 0;
-    }
-    if code == TUPLE {
-        if count == 1 {
-            return ONE_AND_CLOSE;
-        }
-        return CLOSE;
-    }
-    if code == OBJECT {
-        if count == 0 {
-            return 0;
-        }
-        return END;
-    }
-    if code < FN {
-        if count == 0 {
-            return 0;
-        }
-        return PARAMETERS_END;
-    }
-    if code == CLOSURE {
-        if m < count {
+    match code {
+        PARAM => return 0,
+        TUPLE => {
+            if count == 1 {
+                return ONE_AND_CLOSE;
+            }
             return CLOSE;
         }
-        if count == 0 {
-            return CLOSE;
+        OBJECT => {
+            if count == 0 {
+                return 0;
+            }
+            return END;
         }
-        return 0;
+        CLOSURE => {
+            if (m < count) | (count == 0) {
+                return CLOSE;
+            }
+            return 0;
+        }
+        IF_CONST => {
+            if count < 2 {
+                return 0;
+            }
+            return END;
+        }
+        _ => {
+            if (code < FN) & (0 < count) {
+                return PARAMETERS_END;
+            }
+            return 0;
+        }
     }
-    if code != IF_CONST {
-        return 0;
-    }
-    if count < 2 {
-        return 0;
-    }
-    END
 }
 
 pub fn put_close(buf: &mut [u8], at: usize, k: Kind, m: u32) -> usize

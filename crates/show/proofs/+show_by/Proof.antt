@@ -60,28 +60,39 @@ show-by-Inv-loop chart beside rule text ws ks n cache₀ buf₀ at depth kind du
 abbrev show-by-μ-loop : show-by-lts.MeasureT-loop
 show-by-μ-loop chart beside rule text ws ks n cache₀ buf₀ at depth kind dual p₀ deep count j₀ cache buf p j =
     count - j
+
 show-by-returns : (t : ℕ) → show-by-lts.Need-returns (show-by-claims t) (show-by-at t) show-by.Post show-by-Inv-loop show-by-μ-loop
 show-by-returns t c = (show-shallow _ _ _ _ _ _ (c .if1 .taken), c .before .before .before .before .before .before .before .before .pre .1 .1)
+
 show-by-returns-2 : (t : ℕ) → show-by-lts.Need-returns-2 (show-by-claims t) (show-by-at t) show-by.Post show-by-Inv-loop show-by-μ-loop
 show-by-returns-2 t c = (append-full _ _ _ (c .if2 .taken), c .before .before .before .before .before .before .before .before .before .pre .1 .1)
+
 show-by-find-by-requires : (t : ℕ) → show-by-lts.Need-find-by-requires (show-by-claims t) (show-by-at t) show-by.Post show-by-Inv-loop show-by-μ-loop
 show-by-find-by-requires t c κs = (clean-linked _ _ _ _ (c .before .before .before .before .before .before .before .before .before .before .pre .1 .0 .clean), c .before .before .before .before .before .before .before .before .before .before .pre .1 .1)
+
 show-by-idx-requires : (t : ℕ) → show-by-lts.Need-idx-requires (show-by-claims t) (show-by-at t) show-by.Post show-by-Inv-loop show-by-μ-loop
 show-by-idx-requires t c κs = search needs
+
 show-by-held-at-requires : (t : ℕ) → show-by-lts.Need-held-at-requires (show-by-claims t) (show-by-at t) show-by.Post show-by-Inv-loop show-by-μ-loop
 show-by-held-at-requires t c κs = c .before .before .before .before .before .before .before .before .before .before .before .before .before .before .pre .1 .0 .clean .room
+
 show-by-enum-known-inv : (t : ℕ) → show-by-lts.Need-enum-known-inv (show-by-claims t) (show-by-at t) show-by.Post show-by-Inv-loop show-by-μ-loop
 show-by-enum-known-inv t c = search needs
+
 show-by-enum-told : (t : ℕ) → show-by-lts.Need-enum-told (show-by-claims t) (show-by-at t) show-by.Post show-by-Inv-loop show-by-μ-loop
 show-by-enum-told t c = search needs
+
 show-by-put-unknown-requires : (t : ℕ) → show-by-lts.Need-put-unknown-requires (show-by-claims t) (show-by-at t) show-by.Post show-by-Inv-loop show-by-μ-loop
 show-by-put-unknown-requires t c κs = search needs
+
 show-by-same-length : (t : ℕ) → show-by-lts.Need-same-length (show-by-claims t) (show-by-at t) show-by.Post show-by-Inv-loop show-by-μ-loop
 show-by-same-length t c = search needs
+
 show-by-same-length-2 : (t : ℕ) → show-by-lts.Need-same-length-2 (show-by-claims t) (show-by-at t) show-by.Post show-by-Inv-loop show-by-μ-loop
 show-by-same-length-2 t c = search needs
+
 show-by-returns-3 : (t : ℕ) → show-by-lts.Need-returns-3 (show-by-claims t) (show-by-at t) show-by.Post show-by-Inv-loop show-by-μ-loop
-show-by-returns-3 t c = 
+show-by-returns-3 t c =
     let a = c .before .before .before .before .before .before .before .before .before .before .before .before .before .before .before .before .before .before .before .before .before .args in
     let e = envOf (a .chart .now) (a .beside) (a .rule .now) (a .text .now) in
     let st = c .before .before .before .before .before .before .before .before .before .before .before .before .before .before .before .before .before .before .before .before .before .pre .1 .0 in
@@ -92,34 +103,48 @@ show-by-returns-3 t c =
     show-unknown st e (a .depth) (a .t .0) (c .before .before .before .before .before .before .before .before .before .before .before .before .before .if1 .left) (root .result .0) (node .result .0) (root .ensures .0) (node .ensures) (held .result) (held .ensures)
     (c .before .before .before .before .enum-told .given .1) in
     (rw unknown (c .before .before .put-unknown .ensures), root .ensures .1)
+
 show-by-inv-requires : (t : ℕ) → show-by-lts.Need-inv-requires (show-by-claims t) (show-by-at t) show-by.Post show-by-Inv-loop show-by-μ-loop
 show-by-inv-requires t c κs = search needs
+
 show-by-xor-requires : (t : ℕ) → show-by-lts.Need-xor-requires (show-by-claims t) (show-by-at t) show-by.Post show-by-Inv-loop show-by-μ-loop
 show-by-xor-requires t c κs = search needs
+
 show-by-self-dual-requires : (t : ℕ) → show-by-lts.Need-self-dual-requires (show-by-claims t) (show-by-at t) show-by.Post show-by-Inv-loop show-by-μ-loop
 show-by-self-dual-requires t c κs = search needs
+
 show-by-put-lead-requires : (t : ℕ) → show-by-lts.Need-put-lead-requires (show-by-claims t) (show-by-at t) show-by.Post show-by-Inv-loop show-by-μ-loop
 show-by-put-lead-requires t c κs = search needs
+
 show-by-shown-requires : (t : ℕ) → show-by-lts.Need-shown-requires (show-by-claims t) (show-by-at t) show-by.Post show-by-Inv-loop show-by-μ-loop
 show-by-shown-requires t c κs = (c .before .before .before .before .before .before .before .before .before .before .before .before .before .before .before .before .before .before .before .before .before .before .before .before .before .before .before .before .pre .1 .0, c .before .before .before .before .before .before .before .before .before .before .before .before .before .before .before .before .before .find-by .ensures .1)
+
 show-by-loop-holds : (t : ℕ) → show-by-lts.Need-loop-holds (show-by-claims t) (show-by-at t) show-by.Post show-by-Inv-loop show-by-μ-loop
 show-by-loop-holds t c = (turn-start _ _ _ _ _ _, c .before .before .shown .ensures .1, refl)
+
 show-by-put-gap-requires : (t : ℕ) → show-by-lts.Need-put-gap-requires (show-by-claims t) (show-by-at t) show-by.Post show-by-Inv-loop show-by-μ-loop
 show-by-put-gap-requires t c κs = search needs
+
 show-by-child-of-requires : (t : ℕ) → show-by-lts.Need-child-of-requires (show-by-claims t) (show-by-at t) show-by.Post show-by-Inv-loop show-by-μ-loop
 show-by-child-of-requires t c κs = search needs
+
 show-by-invert-if-requires : (t : ℕ) → show-by-lts.Need-invert-if-requires (show-by-claims t) (show-by-at t) show-by.Post show-by-Inv-loop show-by-μ-loop
 show-by-invert-if-requires t c κs = search needs
+
 show-by-sub-show-by : (t : ℕ) → show-by-lts.Need-sub-show-by (show-by-claims t) (show-by-at t) show-by.Post show-by-Inv-loop show-by-μ-loop
 show-by-sub-show-by t c = omega (arith, c .before .before .before .before .before .before .before .before .before .before .before .before .before .before .before .before .before .before .before .before .before .before .before .before .before .before .before .before .before .before .before .before .before .before .if1 .left)
+
 show-by-show-by-requires : (t : ℕ) → show-by-lts.Need-show-by-requires (show-by-claims t) (show-by-at t) show-by.Post show-by-Inv-loop show-by-μ-loop
 show-by-show-by-requires t c κs = (omega (arith, c .before .before .before .before .before .before .before .before .before .before .before .before .before .before .before .before .before .before .before .before .before .before .before .before .before .before .before .before .before .before .before .before .before .before .before .before .before .before .before .before .before .before .pre .0, c .before .before .before .before .before .before .before .before .before .before .before .before .before .before .before .before .before .before .before .before .before .before .before .before .before .before .before .before .before .before .before .before .before .before .if1 .left), (c .before .before .before .before .before .before .before .before .before .before .before .before .before .before .before .before .before .before .before .before .before .before .before .before .before .before .before .before .before .before .before .before .before .before .before .before .before .before .before .before .before .before .pre .1 .0, c .before .before .before .before .before .before .before .before .before .before .loop .inv .1))
+
 show-by-add-j : (t : ℕ) → show-by-lts.Need-add-j (show-by-claims t) (show-by-at t) show-by.Post show-by-Inv-loop show-by-μ-loop
 show-by-add-j t c = omega (arith, c .before .before .before .before .before .before .before .before .before .before .before .before .before .before .loop-test .taken, c .before .before .before .before .before .before .before .before .before .before .before .before .before .before .before .before .before .before .shown .ok)
+
 show-by-loop-less : (t : ℕ) → show-by-lts.Need-loop-less (show-by-claims t) (show-by-at t) show-by.Post show-by-Inv-loop show-by-μ-loop
 show-by-loop-less t c = omega (arith, c .before .before .before .before .before .before .before .before .before .before .before .before .before .before .loop-test .taken)
+
 show-by-loop-again : (t : ℕ) → show-by-lts.Need-loop-again (show-by-claims t) (show-by-at t) show-by.Post show-by-Inv-loop show-by-μ-loop
-show-by-loop-again t c = 
+show-by-loop-again t c =
     let a = c .before .before .before .before .before .before .before .before .before .before .before .before .before .before .before .before .before .before .before .before .before .before .before .before .before .before .before .before .before .before .before .before .before .before .before .before .before .before .before .before .before .before .before .before .before .before .before .args in
     let e = envOf (a .chart .now) (a .beside) (a .rule .now) (a .text .now) in
     let k = c .before .before .before .before .before .before .before .before .before .before .before .before .before .before .before .before .before .before .before .before .before .before .before .before .before .before .before .before .before .before .inv .given .0 .1 .0 in
@@ -135,14 +160,18 @@ show-by-loop-again t c =
       sub .ensures .1,
       sub .kept .1 .1 .1 .1 .1 .1 .1 .0 ∙ l .inv .2,
     )
+
 show-by-put-close-requires : (t : ℕ) → show-by-lts.Need-put-close-requires (show-by-claims t) (show-by-at t) show-by.Post show-by-Inv-loop show-by-μ-loop
 show-by-put-close-requires t c κs = search needs
+
 show-by-same-length-3 : (t : ℕ) → show-by-lts.Need-same-length-3 (show-by-claims t) (show-by-at t) show-by.Post show-by-Inv-loop show-by-μ-loop
 show-by-same-length-3 t c = c .before .before .before .before .before .loop .inv .2 ∙ (c .before .before .before .before .before .before .before .before .shown .kept .1 .1 .1 .0 ∙ c .before .before .before .before .before .before .before .before .before .before .before .before .before .before .before .before .before .before .before .before .before .before .before .before .before .before .find-by .kept .1 .1 .0)
+
 show-by-same-length-4 : (t : ℕ) → show-by-lts.Need-same-length-4 (show-by-claims t) (show-by-at t) show-by.Post show-by-Inv-loop show-by-μ-loop
 show-by-same-length-4 t c = c .before .before .put-close .kept .0 ∙ c .before .before .before .before .before .loop .inv .0 .long ∙ c .before .before .before .before .before .before .before .before .before .before .before .before .before .put-lead .kept .1 .1 .1 .1 .0
+
 show-by-returns-4 : (t : ℕ) → show-by-lts.Need-returns-4 (show-by-claims t) (show-by-at t) show-by.Post show-by-Inv-loop show-by-μ-loop
-show-by-returns-4 t c = 
+show-by-returns-4 t c =
     let a = c .before .before .before .before .before .before .before .before .before .before .before .before .before .before .before .before .before .before .before .before .before .before .before .before .before .before .before .before .before .before .before .before .before .before .before .before .before .args in
     let e = envOf (a .chart .now) (a .beside) (a .rule .now) (a .text .now) in
     let st = c .before .before .before .before .before .before .before .before .before .before .before .before .before .before .before .before .before .before .before .before .before .before .before .before .before .before .before .before .before .before .before .before .before .before .before .before .before .pre .1 .0 in

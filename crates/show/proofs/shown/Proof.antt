@@ -10,34 +10,43 @@ use borrow.Author.Needs.{needs}
 use Rattle.show.proofs.Laws.{nil-at, some-left, shown-whole, shown-last}
 use Rattle.show.proofs.shown.Statement.{statement}
 use Rattle.show.proofs.shown.Tie as tie
+
 most-requires : tie.Need-most-requires
 most-requires c κs = search needs
+
 returns : tie.Need-returns
-returns c = 
+returns c =
     let a = c .before .before .before .before .before .before .before .args in
     let nil = isNil (decode (a .ws .now) (a .ks .now) (a .n)) in
     (shown-whole nil (a .ks .now) (a .k) _ (c .before .before .before .most .ensures) (c .if1 .taken), c .before .before .before .before .before .before .before .pre .1)
+
 sub-before : tie.Need-sub-before
 sub-before c =
     let code = c .before .before .before .before .before .before .before .args .k .code in
     some-left (not (eqb code 8) && not (eqb code 11)) _ (c .if1 .left)
+
 child-of-requires : tie.Need-child-of-requires
 child-of-requires c κs = search needs
+
 is-nil-requires : tie.Need-is-nil-requires
 is-nil-requires c κs = (clean-linked _ _ _ _ (c .before .before .before .before .before .before .before .before .before .pre .0 .clean), c .before .before .before .before .before .before .before .before .before .pre .1)
+
 same-length : tie.Need-same-length
 same-length c = search needs
+
 returns-2 : tie.Need-returns-2
-returns-2 c = 
+returns-2 c =
     let a = c .before .before .before .before .before .before .before .before .before .before .before .before .before .args in
     let nil = isNil (decode (a .ws .now) (a .ks .now) (a .n)) in
     let child = c .before .before .before .before .child-of in
     let last = nil-at (child .result) (a .k .first + (c .before .before .before .before .before .before .before .before .before .most .result - 1)) (c .before .before .before .is-nil .ensures .0) (c .before .before .before .before .before .before .before .before .before .before .before .before .before .pre .0) (child .ensures) (c .if2 .taken) in
     (shown-last nil (a .ks .now) (a .k) _ (c .before .before .before .before .before .before .before .before .before .most .ensures) (c .before .before .before .before .before .before .if1 .left) _ last, c .before .before .before .is-nil .ensures .1)
+
 same-length-2 : tie.Need-same-length-2
 same-length-2 c = search needs
+
 returns-3 : tie.Need-returns-3
-returns-3 c = 
+returns-3 c =
     let a = c .before .before .before .before .before .before .before .before .before .before .before .before .before .args in
     let nil = isNil (decode (a .ws .now) (a .ks .now) (a .n)) in
     let child = c .before .before .before .before .child-of in

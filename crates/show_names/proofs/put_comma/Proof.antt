@@ -6,12 +6,16 @@ use Rattle.append.proofs.Laws.{append-none}
 use Rattle.show_names.specs.Names.{spelledF}
 use Rattle.show_names.proofs.put_comma.Statement.{statement}
 use Rattle.show_names.proofs.put_comma.Tie as tie
+
 returns : tie.Need-returns
 returns c = rw (eq-eqb _ _ (c .if1 .taken)) (append-none _ _)
+
 put-short-requires : tie.Need-put-short-requires
 put-short-requires c κs = search needs
+
 same-length : tie.Need-same-length
 same-length c = search needs
+
 returns-2 : tie.Need-returns-2
 unfolding spelledF
 returns-2 c = rw (ne-eqb _ _ (c .before .before .before .before .if1 .left)) (c .before .before .put-short .ensures)

@@ -8,30 +8,39 @@ use Rattle.show_names.specs.Names.{spelledF}
 use Rattle.show_names.proofs.Laws.{label-of}
 use Rattle.show_names.proofs.put_entry.Statement.{statement}
 use Rattle.show_names.proofs.put_entry.Tie as tie
+
 put-comma-requires : tie.Need-put-comma-requires
 put-comma-requires c κs = search needs
+
 child-of-requires : tie.Need-child-of-requires
 child-of-requires c κs = search needs
+
 put-short-requires : tie.Need-put-short-requires
 put-short-requires c κs = search needs
+
 same-length : tie.Need-same-length
 same-length c = search needs
+
 returns : tie.Need-returns
 unfolding spelledF
-returns c = 
+returns c =
     let a = c .before .before .before .before .before .before .before .before .before .before .before .before .before .before .before .before .args in
     let child = c .before .before .before .before .before .before .before .child-of in
     append-then (c .before .before .before .before .before .before .before .before .before .before .put-comma .ensures)
     (label-of (texts (a .rule .now) (a .text .now)) (child .result) (child .ensures) (rw (eq-eqb _ _ (c .before .before .before .before .if1 .taken)) (c .before .before .put-short .ensures)))
+
 put-name-requires : tie.Need-put-name-requires
 put-name-requires c κs = search needs
+
 put-short-requires-2 : tie.Need-put-short-requires-2
 put-short-requires-2 c κs = search needs
+
 same-length-2 : tie.Need-same-length-2
 same-length-2 c = search needs
+
 returns-2 : tie.Need-returns-2
 unfolding spelledF
-returns-2 c = 
+returns-2 c =
     let a = c .before .before .before .before .before .before .before .before .before .before .before .before .before .before .before .before .before .before .before .before .args in
     let child = c .before .before .before .before .before .before .before .before .before .before .before .child-of in
     append-then (c .before .before .before .before .before .before .before .before .before .before .before .before .before .before .put-comma .ensures)

@@ -5,24 +5,33 @@ use Rattle.append.proofs.Laws.{append-then}
 use Rattle.show_names.proofs.Laws.{tilde-fits, unknown-is}
 use Rattle.show_names.proofs.put_unknown.Statement.{statement}
 use Rattle.show_names.proofs.put_unknown.Tie as tie
+
 idx-requires : tie.Need-idx-requires
 idx-requires c κs = search needs
+
 inv-requires : tie.Need-inv-requires
 inv-requires c κs = search needs
+
 cast-put-short : tie.Need-cast-put-short
 cast-put-short c = search needs
+
 mul-put-short : tie.Need-mul-put-short
 mul-put-short c = tilde-fits (c .before .inv .result .0)
+
 put-short-requires : tie.Need-put-short-requires
 put-short-requires c κs = search needs
+
 put-byte-requires : tie.Need-put-byte-requires
 put-byte-requires c κs = search needs
+
 put-decimal-requires : tie.Need-put-decimal-requires
 put-decimal-requires c κs = search needs
+
 same-length : tie.Need-same-length
 same-length c = search needs
+
 returns : tie.Need-returns
-returns c = 
+returns c =
     rw (← c .before .before .before .before .before .before .before .before .before .before .before .before .inv .ensures, ← c .before .before .before .before .before .before .before .before .before .before .before .before .before .before .idx .ensures)
     (unknown-is (c .before .before .before .before .before .before .before .before .before .before .before .before .inv .result .0) _ (append-then (c .before .before .before .before .before .before .before .before .before .before .put-short .ensures) (append-then (c .before .before .before .before .before .before .put-byte .ensures) (c .before .before .put-decimal .ensures))))
 

@@ -6,33 +6,44 @@ use borrow.Author.Needs.{needs}
 use Rattle.show_parts.specs.Parts.{nameIn}
 use Rattle.show_parts.proofs.name_in.Statement.{statement}
 use Rattle.show_parts.proofs.name_in.Tie as tie
+
 returns : tie.Need-returns
 unfolding nameIn
 returns c = rw (c .before .if1 .taken) refl
+
 returns-2 : tie.Need-returns-2
 unfolding nameIn
 returns-2 c = rw (c .before .if2 .taken) refl
+
 sigil-at-requires : tie.Need-sigil-at-requires
 sigil-at-requires c κs = search needs
+
 returns-3 : tie.Need-returns-3
 unfolding nameIn
 returns-3 c = rw (c .before .if3 .taken) (c .sigil-at .ensures)
+
 returns-4 : tie.Need-returns-4
 unfolding nameIn
 returns-4 c = rw (ne-eqb _ _ (c .before .before .before .before .before .before .if1 .left), ne-eqb _ _ (c .before .before .before .before .if2 .left), ne-eqb _ _ (c .before .before .if3 .left), lt-ltb _ _ (c .if4 .taken)) refl
+
 name-at-requires : tie.Need-name-at-requires
 name-at-requires c κs = search needs
+
 returns-5 : tie.Need-returns-5
 unfolding nameIn
 returns-5 c = rw (ne-eqb _ _ (c .before .before .before .before .before .before .before .before .before .if1 .left), ne-eqb _ _ (c .before .before .before .before .before .before .before .if2 .left), ne-eqb _ _ (c .before .before .before .before .before .if3 .left), le-ltb _ _ (c .before .before .before .if4 .left), lt-ltb _ _ (c .before .if5 .taken)) (c .name-at .ensures)
+
 returns-6 : tie.Need-returns-6
 unfolding nameIn
 returns-6 c = rw (ne-eqb _ _ (c .before .before .before .before .before .before .before .before .before .before .if1 .left), ne-eqb _ _ (c .before .before .before .before .before .before .before .before .if2 .left), ne-eqb _ _ (c .before .before .before .before .before .before .if3 .left), le-ltb _ _ (c .before .before .before .before .if4 .left), le-ltb _ _ (c .before .before .if5 .left), ne-eqb _ _ (c .if6 .taken)) refl
+
 returns-7 : tie.Need-returns-7
 unfolding nameIn
 returns-7 c = rw (c .before .before .if6 .left, lt-ltb _ _ (c .if7 .taken)) refl
+
 path-at-requires : tie.Need-path-at-requires
 path-at-requires c κs = search needs
+
 returns-8 : tie.Need-returns-8
 unfolding nameIn
 returns-8 c = rw (c .before .before .before .if6 .left, le-ltb _ _ (c .before .if7 .left)) (c .path-at .ensures)

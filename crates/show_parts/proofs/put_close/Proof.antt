@@ -3,12 +3,16 @@
 use borrow.Author.Needs.{needs}
 use Rattle.show_parts.proofs.put_close.Statement.{statement}
 use Rattle.show_parts.proofs.put_close.Tie as tie
+
 end-requires : tie.Need-end-requires
 end-requires c κs = search needs
+
 put-short-requires : tie.Need-put-short-requires
 put-short-requires c κs = search needs
+
 same-length : tie.Need-same-length
 same-length c = search needs
+
 returns : tie.Need-returns
 returns c = rw (← c .before .before .before .end .ensures) (c .before .before .put-short .ensures)
 
