@@ -3,7 +3,7 @@
 -- Assumes nothing.
 use native.Mathlib.Omega.{arith}
 use Rattle.scope.specs.Limits.{MAX-NODES}
-use Rattle.copy.proofs.WholeLaws.{error-copyable, nil-copyable, list-copyable, export-is}
+use Rattle.copy.proofs.WholeLaws.{error-copyable, nil-copyable, list-copyable, remember-long, export-is}
 use Rattle.roots.proofs.KeptLaws.{cached-zeros}
 use borrow.Author.Needs.{needs}
 use Rattle.copy.proofs.export.Statement.{statement}
@@ -25,11 +25,9 @@ copy-remembered-requires : tie.Need-copy-remembered-requires
 copy-remembered-requires c κs =
     let at-open = c .before .before .before .before .before .before .before .before .before .before .before in
     let at-read-header = at-open .before .before .before .before in
-    let start = at-read-header .before .before .before .before .before .before .before .before .before in (
-      error-copyable (start .args .sh .now) (start .args .sw .now) (start .args .sk .now) (start .args .ts .now) MAX-NODES (start .pre) (at-read-header .read-header .ensures)
-          (start .pre .source .few) (at-open .«open» .ensures),
-      cached-zeros _ _ MAX-NODES,
-    )
+    let start = at-read-header .before .before .before .before .before .before .before .before .before in
+    (error-copyable (start .args .sh .now) (start .args .sw .now) (start .args .sk .now) (start .args .ts .now) MAX-NODES (start .pre) (at-read-header .read-header .ensures)
+    (start .pre .source .few) (at-open .«open» .ensures), cached-zeros _ _ MAX-NODES)
 
 slice-aggregate-copy-remembered-3 : tie.Need-slice-aggregate-copy-remembered-3
 slice-aggregate-copy-remembered-3 c = search needs
@@ -42,11 +40,9 @@ copy-remembered-requires-2 c κs =
     let at-copy-remembered = c .before .before .before .before .before .before .before .before .before .before .before .before .before in
     let at-open = at-copy-remembered .before .before .before .before .before .before .before .before .before .before .before .before in
     let at-read-header = at-open .before .before .before .before in
-    let start = at-read-header .before .before .before .before .before .before .before .before .before in (
-      nil-copyable (start .args .sh .now) (start .args .sw .now) (start .args .sk .now) (start .args .ts .now) MAX-NODES (start .pre) (at-read-header .read-header .ensures)
-          (start .pre .source .few) (at-open .«open» .ensures) (at-copy-remembered .copy-remembered .ensures .0),
-      at-copy-remembered .copy-remembered .ensures .1,
-    )
+    let start = at-read-header .before .before .before .before .before .before .before .before .before in
+    (nil-copyable (start .args .sh .now) (start .args .sw .now) (start .args .sk .now) (start .args .ts .now) MAX-NODES (start .pre) (at-read-header .read-header .ensures)
+    (start .pre .source .few) (at-open .«open» .ensures) (at-copy-remembered .copy-remembered .ensures .0), at-copy-remembered .copy-remembered .ensures .1)
 
 slice-aggregate-copy-all : tie.Need-slice-aggregate-copy-all
 slice-aggregate-copy-all c = search needs
@@ -60,27 +56,28 @@ copy-all-requires c κs =
     let at-copy-remembered = at-copy-remembered2 .before .before .before .before .before .before .before .before .before .before .before .before .before .before in
     let at-open = at-copy-remembered .before .before .before .before .before .before .before .before .before .before .before .before in
     let at-read-header = at-open .before .before .before .before in
-    let start = at-read-header .before .before .before .before .before .before .before .before .before in (
+    let start = at-read-header .before .before .before .before .before .before .before .before .before in
+    (
       list-copyable (start .args .sh .now) (start .args .sw .now) (start .args .sk .now) (start .args .ts .now) MAX-NODES (start .pre) (at-read-header .read-header .ensures)
-          (start .pre .source .few) (at-open .«open» .ensures) (at-copy-remembered .copy-remembered .ensures .0) (at-copy-remembered2 .copy-remembered2 .ensures .0),
+      (start .pre .source .few) (at-open .«open» .ensures) (at-copy-remembered .copy-remembered .ensures .0) (at-copy-remembered2 .copy-remembered2 .ensures .0),
       (start .pre .long, at-copy-remembered2 .copy-remembered2 .ensures .1),
     )
 
 remember-requires : tie.Need-remember-requires
 remember-requires c κs =
-    let at-copy-all = c .before .before .before .before .before .before .before .before .before .before .before .before .before in
+    let at-copy-all = c .before .before .before .before .before .before .before .before .before .before .before in
     let at-copy-remembered2 = at-copy-all .before .before .before .before .before .before .before .before .before .before .before .before .before .before .before in
     let at-copy-remembered = at-copy-remembered2 .before .before .before .before .before .before .before .before .before .before .before .before .before .before in
-    record {
-      clean = at-copy-all .copy-all .ensures .0 .spared .clean;
-      error = at-copy-remembered .copy-remembered .ensures .0 .fits;
-      nil = search (at-copy-remembered .copy-remembered .ensures .0 .fits, at-copy-remembered2 .copy-remembered2 .ensures .0 .fits);
-    }
+    let at-open = at-copy-remembered .before .before .before .before .before .before .before .before .before .before .before .before in
+    let at-read-header = at-open .before .before .before .before in
+    let start = at-read-header .before .before .before .before .before .before .before .before .before in
+    remember-long (start .args .sh .now) (start .args .sw .now) (start .args .sk .now) (start .args .ts .now) MAX-NODES (start .pre) (at-read-header .read-header .ensures)
+    (start .pre .source .few) (at-open .«open» .ensures) (at-copy-remembered .copy-remembered .ensures .0) (at-copy-remembered2 .copy-remembered2 .ensures .0) (at-copy-all .copy-all .ensures .0)
 
 same-length : tie.Need-same-length
 same-length c =
     let at-remember = c .before .before in
-    let at-copy-all = at-remember .before .before .before .before .before .before .before .before .before .before .before .before .before .before in
+    let at-copy-all = at-remember .before .before .before .before .before .before .before .before .before .before .before .before in
     let at-copy-remembered2 = at-copy-all .before .before .before .before .before .before .before .before .before .before .before .before .before .before .before in
     let at-copy-remembered = at-copy-remembered2 .before .before .before .before .before .before .before .before .before .before .before .before .before .before in
     let at-open = at-copy-remembered .before .before .before .before .before .before .before .before .before .before .before .before in
@@ -95,7 +92,7 @@ same-length c =
 
 same-length-2 : tie.Need-same-length-2
 same-length-2 c =
-    let at-copy-all = c .before .before .before .before .before .before .before .before .before .before .before .before .before .before .before .before in
+    let at-copy-all = c .before .before .before .before .before .before .before .before .before .before .before .before .before .before in
     let at-copy-remembered2 = at-copy-all .before .before .before .before .before .before .before .before .before .before .before .before .before .before .before in
     let at-copy-remembered = at-copy-remembered2 .before .before .before .before .before .before .before .before .before .before .before .before .before .before in
     let at-open = at-copy-remembered .before .before .before .before .before .before .before .before .before .before .before .before in
@@ -109,7 +106,7 @@ same-length-2 c =
 
 same-length-3 : tie.Need-same-length-3
 same-length-3 c =
-    let at-copy-all = c .before .before .before .before .before .before .before .before .before .before .before .before .before .before .before .before in
+    let at-copy-all = c .before .before .before .before .before .before .before .before .before .before .before .before .before .before in
     let at-copy-remembered2 = at-copy-all .before .before .before .before .before .before .before .before .before .before .before .before .before .before .before in
     let at-copy-remembered = at-copy-remembered2 .before .before .before .before .before .before .before .before .before .before .before .before .before .before in
     let at-open = at-copy-remembered .before .before .before .before .before .before .before .before .before .before .before .before in
@@ -122,20 +119,19 @@ same-length-3 c =
     )
 
 same-length-4 : tie.Need-same-length-4
-same-length-4 c = c .before .before .before .before .before .before .before .before .before .before .before .before .before .before .before .before .copy-all .kept .1 .1 .1 .1 .1 .1 .1 .1 .1 .1 .1 .0
+same-length-4 c = c .before .before .before .before .before .before .before .before .before .before .before .before .before .before .copy-all .kept .1 .1 .1 .1 .1 .1 .1 .1 .1 .1 .1 .0
 
 returns : tie.Need-returns
 returns c =
     let at-remember = c .before .before in
-    let at-copy-all = at-remember .before .before .before .before .before .before .before .before .before .before .before .before .before .before in
+    let at-copy-all = at-remember .before .before .before .before .before .before .before .before .before .before .before .before in
     let at-copy-remembered2 = at-copy-all .before .before .before .before .before .before .before .before .before .before .before .before .before .before .before in
     let at-copy-remembered = at-copy-remembered2 .before .before .before .before .before .before .before .before .before .before .before .before .before .before in
     let at-open = at-copy-remembered .before .before .before .before .before .before .before .before .before .before .before .before in
     let at-read-header = at-open .before .before .before .before in
     let start = at-read-header .before .before .before .before .before .before .before .before .before in
     export-is (start .args .sh .now) (start .args .sw .now) (start .args .sk .now) (start .args .ts .now) MAX-NODES (start .pre) (at-read-header .read-header .ensures)
-    (start .pre .source .few) (at-open .«open» .ensures) (at-copy-remembered .copy-remembered .ensures .0) (at-copy-remembered2 .copy-remembered2 .ensures .0)
-    (at-copy-all .copy-all .ensures .0) (at-remember .remember .ensures)
+    (start .pre .source .few) (at-open .«open» .ensures) (at-copy-remembered .copy-remembered .ensures .0) (at-copy-remembered2 .copy-remembered2 .ensures .0) (at-copy-all .copy-all .ensures .0) (at-remember .remember .ensures)
 
 pub export-spec : {M : Type 1} → statement M
 export-spec =
