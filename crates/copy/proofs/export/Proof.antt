@@ -25,9 +25,11 @@ copy-remembered-requires : tie.Need-copy-remembered-requires
 copy-remembered-requires c κs =
     let at-open = c .before .before .before .before .before .before .before .before .before .before .before in
     let at-read-header = at-open .before .before .before .before in
-    let start = at-read-header .before .before .before .before .before .before .before .before .before in
-    (error-copyable (start .args .sh .now) (start .args .sw .now) (start .args .sk .now) (start .args .ts .now) MAX-NODES (start .pre) (at-read-header .read-header .ensures)
-    (start .pre .source .few) (at-open .«open» .ensures), cached-zeros _ _ MAX-NODES)
+    let start = at-read-header .before .before .before .before .before .before .before .before .before in (
+      error-copyable (start .args .sh .now) (start .args .sw .now) (start .args .sk .now) (start .args .ts .now) MAX-NODES (start .pre) (at-read-header .read-header .ensures)
+          (start .pre .source .few) (at-open .«open» .ensures),
+      cached-zeros _ _ MAX-NODES,
+    )
 
 slice-aggregate-copy-remembered-3 : tie.Need-slice-aggregate-copy-remembered-3
 slice-aggregate-copy-remembered-3 c = search needs
@@ -40,9 +42,11 @@ copy-remembered-requires-2 c κs =
     let at-copy-remembered = c .before .before .before .before .before .before .before .before .before .before .before .before .before in
     let at-open = at-copy-remembered .before .before .before .before .before .before .before .before .before .before .before .before in
     let at-read-header = at-open .before .before .before .before in
-    let start = at-read-header .before .before .before .before .before .before .before .before .before in
-    (nil-copyable (start .args .sh .now) (start .args .sw .now) (start .args .sk .now) (start .args .ts .now) MAX-NODES (start .pre) (at-read-header .read-header .ensures)
-    (start .pre .source .few) (at-open .«open» .ensures) (at-copy-remembered .copy-remembered .ensures .0), at-copy-remembered .copy-remembered .ensures .1)
+    let start = at-read-header .before .before .before .before .before .before .before .before .before in (
+      nil-copyable (start .args .sh .now) (start .args .sw .now) (start .args .sk .now) (start .args .ts .now) MAX-NODES (start .pre) (at-read-header .read-header .ensures)
+          (start .pre .source .few) (at-open .«open» .ensures) (at-copy-remembered .copy-remembered .ensures .0),
+      at-copy-remembered .copy-remembered .ensures .1,
+    )
 
 slice-aggregate-copy-all : tie.Need-slice-aggregate-copy-all
 slice-aggregate-copy-all c = search needs
@@ -56,10 +60,9 @@ copy-all-requires c κs =
     let at-copy-remembered = at-copy-remembered2 .before .before .before .before .before .before .before .before .before .before .before .before .before .before in
     let at-open = at-copy-remembered .before .before .before .before .before .before .before .before .before .before .before .before in
     let at-read-header = at-open .before .before .before .before in
-    let start = at-read-header .before .before .before .before .before .before .before .before .before in
-    (
+    let start = at-read-header .before .before .before .before .before .before .before .before .before in (
       list-copyable (start .args .sh .now) (start .args .sw .now) (start .args .sk .now) (start .args .ts .now) MAX-NODES (start .pre) (at-read-header .read-header .ensures)
-      (start .pre .source .few) (at-open .«open» .ensures) (at-copy-remembered .copy-remembered .ensures .0) (at-copy-remembered2 .copy-remembered2 .ensures .0),
+          (start .pre .source .few) (at-open .«open» .ensures) (at-copy-remembered .copy-remembered .ensures .0) (at-copy-remembered2 .copy-remembered2 .ensures .0),
       (start .pre .long, at-copy-remembered2 .copy-remembered2 .ensures .1),
     )
 
@@ -131,7 +134,8 @@ returns c =
     let at-read-header = at-open .before .before .before .before in
     let start = at-read-header .before .before .before .before .before .before .before .before .before in
     export-is (start .args .sh .now) (start .args .sw .now) (start .args .sk .now) (start .args .ts .now) MAX-NODES (start .pre) (at-read-header .read-header .ensures)
-    (start .pre .source .few) (at-open .«open» .ensures) (at-copy-remembered .copy-remembered .ensures .0) (at-copy-remembered2 .copy-remembered2 .ensures .0) (at-copy-all .copy-all .ensures .0) (at-remember .remember .ensures)
+    (start .pre .source .few) (at-open .«open» .ensures) (at-copy-remembered .copy-remembered .ensures .0) (at-copy-remembered2 .copy-remembered2 .ensures .0)
+    (at-copy-all .copy-all .ensures .0) (at-remember .remember .ensures)
 
 pub export-spec : {M : Type 1} → statement M
 export-spec =

@@ -99,9 +99,12 @@ copy-loop-holds t c =
     let at-root-place = at-span .before .before in
     let at-find-by = at-root-place .before .before .before .before in
     let at-if1 = at-find-by .before .before in
-    let start = at-if1 .before .before .before .before .before .before .before .before .before in
-    (filling-start _ _ _ _ _ _ _ _ _ _ _ _ (start .pre .1 .0) (at-if1 .if1 .left) (at-find-by .find-by .ensures .0) (at-root-place .root-place .ensures) (at-span .span .given .1)
-    (at-begin .begin .ensures), at-find-by .find-by .ensures .1, refl)
+    let start = at-if1 .before .before .before .before .before .before .before .before .before in (
+      filling-start _ _ _ _ _ _ _ _ _ _ _ _ (start .pre .1 .0) (at-if1 .if1 .left) (at-find-by .find-by .ensures .0) (at-root-place .root-place .ensures) (at-span .span .given .1)
+          (at-begin .begin .ensures),
+      at-find-by .find-by .ensures .1,
+      refl,
+    )
 
 copy-child-requires : (t : ℕ) → copy-lts.Need-child-requires (copy-claims t) (copy-at t) copy.Post copy-Inv-loop copy-μ-loop
 copy-child-requires t c κs = search needs
@@ -119,12 +122,14 @@ copy-copy-requires t c κs =
     let turn = at-loop-test .before in
     let before-loop = turn .before .before .before .before .before .before .before .before .before .before .before .before .before .before .before .before .before .before in
     let at-if1 = before-loop .before .before in
-    let start = at-if1 .before .before .before .before .before .before .before .before .before in
-    (
+    let start = at-if1 .before .before .before .before .before .before .before .before .before in (
       omega (arith, start .pre .0, at-if1 .if1 .left),
-      (kid-copyable (turn .loop .inv .0) (at-loop-test .loop-test .taken) _
-      (kid-next (start .args .sk .now) _ _ _ (at-child .child .result) (at-loop-test .loop-test .taken) (at-child .child .ensures))
-      (start .pre .1 .0 .source), turn .loop .inv .1),
+      (
+        kid-copyable (turn .loop .inv .0) (at-loop-test .loop-test .taken) _
+            (kid-next (start .args .sk .now) _ _ _ (at-child .child .result) (at-loop-test .loop-test .taken) (at-child .child .ensures))
+            (start .pre .1 .0 .source),
+        turn .loop .inv .1,
+      ),
     )
 
 copy-move-child-requires : (t : ℕ) → copy-lts.Need-move-child-requires (copy-claims t) (copy-at t) copy.Post copy-Inv-loop copy-μ-loop
@@ -159,10 +164,9 @@ copy-loop-again t c =
     let at-loop-test = at-child .before in
     let turn = at-loop-test .before in
     let before-loop = turn .before .before .before .before .before .before .before .before .before .before .before .before .before .before .before .before .before .before in
-    let start = before-loop .before .before .before .before .before .before .before .before .before .before .before in
-    (
+    let start = before-loop .before .before .before .before .before .before .before .before .before .before .before in (
       filling-next (turn .loop .inv .0) (at-loop-test .loop-test .taken) _ (kid-next (start .args .sk .now) _ _ _ (at-child .child .result) (at-loop-test .loop-test .taken) (at-child .child .ensures))
-      (at-copy .copy .ensures .0) (at-move-child .move-child .ensures)
+          (at-copy .copy .ensures .0) (at-move-child .move-child .ensures)
           (record {
             tables = at-copy .copy .kept .1 .1 .1 .1 .1 .1 .0;
             heads = at-copy .copy .kept .1 .1 .1 .1 .1 .1 .1 .0;
@@ -182,10 +186,12 @@ copy-end-requires t c κs =
     let at-root-place = at-span .before .before in
     let at-find-by = at-root-place .before .before .before .before in
     let at-if1 = at-find-by .before .before in
-    let start = at-if1 .before .before .before .before .before .before .before .before .before in
-    (start .pre .1 .0 .source .room, end-ready _ _ _ _ _ _ _ _ _ _ _ _ (start .pre .1 .0) (at-if1 .if1 .left) (at-find-by .find-by .ensures .0) (at-root-place .root-place .ensures)
-    (at-span .span .given .1)
-    (at-begin .begin .ensures) (turn .loop .inv .0) (at-loop-test .loop-test .left))
+    let start = at-if1 .before .before .before .before .before .before .before .before .before in (
+      start .pre .1 .0 .source .room,
+      end-ready _ _ _ _ _ _ _ _ _ _ _ _ (start .pre .1 .0) (at-if1 .if1 .left) (at-find-by .find-by .ensures .0) (at-root-place .root-place .ensures)
+          (at-span .span .given .1)
+          (at-begin .begin .ensures) (turn .loop .inv .0) (at-loop-test .loop-test .left),
+    )
 
 copy-same-length : (t : ℕ) → copy-lts.Need-same-length (copy-claims t) (copy-at t) copy.Post copy-Inv-loop copy-μ-loop
 copy-same-length t c = search needs
@@ -199,9 +205,11 @@ copy-returns-2 t c =
     let at-root-place = at-u .before .before in
     let at-find-by = at-root-place .before .before .before .before in
     let at-if1 = at-find-by .before .before in
-    let start = at-if1 .before .before .before .before .before .before .before .before .before in
-    (copied-is _ _ _ _ _ _ _ _ _ _ _ _ (start .pre .1 .0) (at-if1 .if1 .left) (at-find-by .find-by .ensures .0) (at-root-place .root-place .ensures)
-    (at-u .u .given .1), at-find-by .find-by .ensures .1)
+    let start = at-if1 .before .before .before .before .before .before .before .before .before in (
+      copied-is _ _ _ _ _ _ _ _ _ _ _ _ (start .pre .1 .0) (at-if1 .if1 .left) (at-find-by .find-by .ensures .0) (at-root-place .root-place .ensures)
+          (at-u .u .given .1),
+      at-find-by .find-by .ensures .1,
+    )
 
 copy-same-length-3 : (t : ℕ) → copy-lts.Need-same-length-3 (copy-claims t) (copy-at t) copy.Post copy-Inv-loop copy-μ-loop
 copy-same-length-3 t c =
@@ -241,10 +249,12 @@ copy-returns-3 t c =
     let at-root-place = at-span .before .before in
     let at-find-by = at-root-place .before .before .before .before in
     let at-if1 = at-find-by .before .before in
-    let start = at-if1 .before .before .before .before .before .before .before .before .before in
-    (copied-node _ _ _ _ _ _ _ _ _ _ _ _ (start .pre .1 .0) (at-if1 .if1 .left) (at-find-by .find-by .ensures .0) (at-root-place .root-place .ensures) (at-span .span .given .1)
-    (at-begin .begin .ensures)
-    (turn .loop .inv .0) (at-loop-test .loop-test .left) (at-end .end .ensures), turn .loop .inv .1)
+    let start = at-if1 .before .before .before .before .before .before .before .before .before in (
+      copied-node _ _ _ _ _ _ _ _ _ _ _ _ (start .pre .1 .0) (at-if1 .if1 .left) (at-find-by .find-by .ensures .0) (at-root-place .root-place .ensures) (at-span .span .given .1)
+          (at-begin .begin .ensures)
+          (turn .loop .inv .0) (at-loop-test .loop-test .left) (at-end .end .ensures),
+      turn .loop .inv .1,
+    )
 
 pub +copy-spec : {M : Type 1} → statement M
 +copy-spec = close μ-copy λ t. copy-lts.spec (copy-claims t)
