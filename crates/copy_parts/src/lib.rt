@@ -157,6 +157,11 @@ pub fn end(sw: &[u32], n: u32, root: Type, ws: &mut [u32], new: Blank) -> Type
         count: kind.count,
     };
     let state = TypeState::Known(inv, moved);
-    layout::put_node(ws, ty.0 + 1, TypeIdx(ty.0), TypeNode::Root { state, size: 1 });
+    layout::put_node(
+        ws,
+        ty.0 + 1,
+        TypeIdx(ty.0),
+        TypeNode::Root { state, size: 1 },
+    );
     answer
 }

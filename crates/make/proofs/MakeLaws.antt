@@ -2,7 +2,7 @@
 -- `error` and `nil` a kind without children, which they remember unless one is remembered already: one law for both, over what is remembered.
 -- Assumes nothing.
 use mathlib.Core.Path.{_≡_, refl, ap, sym, _∙_, subst}
-use mathlib.Core.Bool.{Bool, true, false}
+use mathlib.Core.Bool.{true, false}
 use mathlib.Core.Option.{Option, some}
 use mathlib.Core.List.{List}
 use Prim.Native.Nat.{ℕ, _+_, _≤_, _<_}
@@ -36,7 +36,7 @@ use Rattle.store.specs.Holds.{Became, Ready}
 use Rattle.store.specs.Bare.{bareKind}
 use Rattle.store.proofs.Laws.{store-count, beyond-refl, remembered-fits, error-is, nil-is, bare-means, bare-fits}
 use Rattle.make.specs.Made.{MadeIs, BlankMade, Rememberable}
-use Rattle.make.specs.Header.{Pushable, Pushed, BlankReady, OnceReady, OnceMade, errorThen, nilThen, withRemembered}
+use Rattle.make.specs.Header.{Pushable, Pushed, BlankReady, OnceReady, OnceMade, withRemembered}
 use Rattle.make.proofs.Laws.{push-holds, push-beyond}
 
 -- room, in the header's words
@@ -204,7 +204,7 @@ module _ {h ws ks : List ℕ} {c : ℕ} (r : Ready h ws ks 1 c) where
       let o : RoomIn h 1 c = ready-room r in
       ap some (ty-plain (nodesMade h) (omega arith) ∙ ap (ty false) (sym (store-count h ws ks)))
 
--- `once`: its two ways out
+-- `remembered_or_new`: its two ways out
 
 clash : {A : Type 0} {was : Remembered} {u : «Type»} → was ≡ Is u → was ≡ Nothing → A
 clash p q = let v : _≡_ {A = ℕ} 0 1 = cc in absurd (omega arith)
@@ -212,17 +212,9 @@ clash p q = let v : _≡_ {A = ℕ} 0 1 = cc in absurd (omega arith)
 pub once-same : {h ws : List ℕ} {x : Header} {was e z : Remembered} {c : ℕ} {t : «Type»} → was ≡ Is t → OnceMade h ws h ws x was e z c t
 once-same {t = t} q = record { same = λ u p. let v : t ≡ u = cc in (v, (refl, refl)); new = λ p. clash q p }
 
--- the words for one node more, by the header that was read
-pub once-room : {h ws : List ℕ} {x : Header} {was : Remembered} → OnceReady h ws (headerIn h) was → was ≡ Nothing → x ≡ headerIn h → Pushable h ws x 0
-once-room o q r = rw r (o .pushable q)
-
-pub once-new : {h ws h′ ws′ : List ℕ} {x : Header} {was e z : Remembered} {c : ℕ} {k : Kind} {t : «Type»} (nil : Bool) → was ≡ Nothing → x ≡ headerIn h
-    → k ≡ bareKind c → ws′ ≡ putAt ws (x .nodes + 1) (x .nodes) (Root (Known (record { 0 = false }) k) 1) → e ≡ errorThen nil x → z ≡ nilThen nil x
-    → h′ ≡ putHeader h (countedBy x (x .children) e z) → t .0 ≡ x .nodes
-    → OnceMade h ws h′ ws′ (headerIn h) was (errorThen nil (headerIn h)) (nilThen nil (headerIn h)) c t
-once-new {h} {ws} {h′} {ws′} {x} {c = c} {t = t} nil q r b w e z g p =
-    let made : Pushed h ws h′ ws′ x 0 (errorThen nil x) (nilThen nil x) (Known (record { 0 = false }) (bareKind c)) t = rw (e, z) at (bare-push {x = x} p b w g) in
-    record { same = λ u v. clash v q; new = λ v. rw r at made }
+pub once-new : {h ws h′ ws′ : List ℕ} {x : Header} {was e z : Remembered} {c : ℕ} {k : Kind} {t : «Type»} → was ≡ Nothing → k ≡ bareKind c
+    → Pushed h ws h′ ws′ x 0 e z (Known (record { 0 = false }) k) t → OnceMade h ws h′ ws′ x was e z c t
+once-new q b o = record { same = λ u p. clash p q; new = λ p. rw b at o }
 
 -- what it makes, where remembering e and z is what `remember` does
 

@@ -1,13 +1,12 @@
 -- Headers that the makers write, the words that they zero, and the one step that all of them share: a root is put behind the others and counted.
 use mathlib.Core.Path.{_≡_}
 use mathlib.Core.List.{List, _++_}
-use mathlib.Core.Bool.{Bool, false}
+use mathlib.Core.Bool.{false}
 use Prim.Native.Nat.{ℕ, _+_, _<_, _≤_}
 use lib.ListN.{length, drop, replicate}
-use Rattle.scope.specs.Base.{pick}
 use Rattle.types.specs.declared.«Type».{«Type»}
 use Rattle.layout.specs.Words.{HEAD-WORDS, nodeWords, nodesMade}
-use Rattle.layout.specs.Meaning.{HALF, typeOf, cellWords, headerIn, putAt, putHeader}
+use Rattle.layout.specs.Meaning.{HALF, cellWords, headerIn, putAt, putHeader}
 use Rattle.layout.specs.Heads.{noWords}
 use Rattle.layout.specs.declared.Header.{Header}
 use Rattle.layout.specs.declared.Remembered.{Remembered}
@@ -44,14 +43,6 @@ grown x c e n = record {
   nil = n;
   reports = x .reports;
 }
-
--- what is remembered once the next node is, as nil or as the error type
-
-abbrev pub errorThen : Bool → Header → Remembered
-errorThen nil x = pick nil (x .error) (Is (typeOf (x .nodes)))
-
-abbrev pub nilThen : Bool → Header → Remembered
-nilThen nil x = pick nil (Is (typeOf (x .nodes))) (x .nil)
 
 -- other remembered types alone
 abbrev pub withRemembered : Header → Remembered → Remembered → Header

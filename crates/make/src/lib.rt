@@ -4,7 +4,6 @@ ghost use mathlib.Core.Path.{_≡_};
 ghost use mathlib.Core.Bool.{true, false};
 ghost use Prim.Native.Nat.{_+_, _≤_, _<_};
 ghost use lib.ListN.{length};
-ghost use Rattle.scope.specs.Base.{pick};
 ghost use Rattle.scope.specs.Nodes.{opened};
 ghost use Rattle.scope.specs.Make.{new, newVar, newVars, makeError, makeNil};
 ghost use Rattle.scope.specs.Force.{reset};
@@ -12,12 +11,13 @@ ghost use Rattle.scope.specs.Calls.{nodesFor};
 ghost use Rattle.layout.specs.Words.{HEAD-WORDS, childWords, nodesMade, storeIn};
 ghost use Rattle.layout.specs.Words as words;
 ghost use Rattle.layout.specs.Meaning.{typeOf, headerIn, putHeader};
-ghost use Rattle.layout.specs.declared.TypeState.the-variants.{Unknown};
+ghost use Rattle.layout.specs.declared.TypeState.the-variants.{Unknown, Known};
 ghost use Rattle.layout.specs.declared.Remembered.the-variants.{Is};
 ghost use Rattle.scope.specs.Kinds as kind;
+ghost use Rattle.store.specs.Bare.{bareKind};
 ghost use Rattle.store.specs.Holds.{Became, Openable, Ready};
 ghost use Rattle.make.specs.Made.{MadeIs, MadeAllIs};
-ghost use Rattle.make.specs.Header.{Pushable, Pushed, BlankReady, OnceReady, OnceMade, errorThen, nilThen, cleared, fresh, withRemembered};
+ghost use Rattle.make.specs.Header.{Pushable, Pushed, BlankReady, OnceReady, OnceMade, cleared, fresh, withRemembered};
 ghost use Rattle.make.specs.Given.{KindReady, Put, kindAt, kindGiven};
 use kinds::ERROR;
 use kinds::TUPLE;
@@ -119,6 +119,35 @@ pub fn push_unknown(h: &mut [u32], ws: &mut [u32], span: u32, added: u32) -> Typ
     Type(n)
 }
 
+// One root more whose kind has no children, and the types that are remembered then.
+fn push_bare(
+    h: &mut [u32],
+    ws: &mut [u32],
+    x: Header,
+    error: Remembered,
+    nil: Remembered,
+    code: u32,
+) -> Type
+    requires { ⌜ Pushable (now h) (now ws) x 0 ⌝ }
+    ensures { λ r. ⌜ Pushed (now (h .entry)) (now (ws .entry)) (now (h .exit)) (now (ws .exit)) x 0 error nil (Known (record { 0 = false }) (bareKind code)) r ⌝ }
+{
+    let n = x.nodes;
+    let state = TypeState::Known(Inverted(false), store::bare_kind(code));
+    let root = TypeNode::Root { state, size: 1 };
+    layout::put_node(ws, n + 1, TypeIdx(n), root);
+    let y = Header {
+        nodes: n + 1,
+        children: x.children,
+        node_room: x.node_room,
+        child_room: x.child_room,
+        error,
+        nil,
+        reports: x.reports,
+    };
+    layout::write_header(h, y);
+    Type(n)
+}
+
 pub fn new_var(h: &mut [u32], ws: &mut [u32], ks: &[u32], span: u32) -> Type
     requires { ⌜ Ready (now h) (now ws) (now ks) 1 0 ⌝ }
     ensures { λ r. ⌜ MadeIs (now (h .entry)) (now (ws .entry)) (now (ks .entry)) (now (h .exit)) (now (ws .exit)) (now (ks .entry)) r
@@ -145,56 +174,22 @@ pub fn remember(h: &mut [u32], error: Remembered, nil: Remembered)
     layout::write_header(h, y);
 }
 
-fn either(first: bool, a: Remembered, b: Remembered) -> Remembered
-    ensures { λ r. ⌜ r ≡ pick first a b ⌝ }
-{
-    if first {
-        return a;
-    }
-    b
-}
-
-// A type that is made once: the one remembered, or that of one root more, whose kind has no children. This one is then remembered, as nil or as the error type.
-fn once(h: &mut [u32], ws: &mut [u32], was: Remembered, is_nil: bool, code: u32) -> Type
-    requires { ⌜ OnceReady (now h) (now ws) (headerIn (now h)) was ⌝ }
-    ensures { λ r. ⌜ OnceMade (now (h .entry)) (now (ws .entry)) (now (h .exit)) (now (ws .exit)) (headerIn (now (h .entry))) was
-        (errorThen «is_nil» (headerIn (now (h .entry)))) (nilThen «is_nil» (headerIn (now (h .entry)))) code r ⌝ }
-{
-    match was {
-        Remembered::Is(t) => t,
-        Remembered::Nothing => {
-            let x = layout::read_header(h);
-            let n = x.nodes;
-            let state = TypeState::Known(Inverted(false), store::bare_kind(code));
-            let root = TypeNode::Root { state, size: 1 };
-            layout::put_node(ws, n + 1, TypeIdx(n), root);
-            let next = Remembered::Is(Type(n));
-            let was_error = x.error;
-            let was_nil = x.nil;
-            let error = either(is_nil, was_error, next);
-            let nil = either(is_nil, next, was_nil);
-            let y = Header {
-                nodes: n + 1,
-                children: x.children,
-                node_room: x.node_room,
-                child_room: x.child_room,
-                error,
-                nil,
-                reports: x.reports,
-            };
-            layout::write_header(h, y);
-            Type(n)
-        }
-    }
-}
-
+// The error type: the one remembered, or that of one node more.
 pub fn error_once(h: &mut [u32], ws: &mut [u32]) -> Type
     requires { ⌜ OnceReady (now h) (now ws) (headerIn (now h)) (headerIn (now h) .error) ⌝ }
     ensures { λ r. ⌜ OnceMade (now (h .entry)) (now (ws .entry)) (now (h .exit)) (now (ws .exit)) (headerIn (now (h .entry))) (headerIn (now (h .entry)) .error)
         (Is (typeOf (nodesMade (now (h .entry))))) (headerIn (now (h .entry)) .nil) kind.ERROR r ⌝ }
 {
     let was = heads::error_made(h);
-    once(h, ws, was, false, ERROR)
+    match was {
+        Remembered::Is(t) => t,
+        Remembered::Nothing => {
+            let x = layout::read_header(h);
+            let nil = x.nil;
+            let next = Remembered::Is(Type(x.nodes));
+            push_bare(h, ws, x, next, nil, ERROR)
+        }
+    }
 }
 
 // The type of nothing, likewise: a Tuple.
@@ -204,7 +199,15 @@ pub fn nil_once(h: &mut [u32], ws: &mut [u32]) -> Type
         (headerIn (now (h .entry)) .error) (Is (typeOf (nodesMade (now (h .entry))))) kind.TUPLE r ⌝ }
 {
     let was = heads::nil_made(h);
-    once(h, ws, was, true, TUPLE)
+    match was {
+        Remembered::Is(t) => t,
+        Remembered::Nothing => {
+            let x = layout::read_header(h);
+            let error = x.error;
+            let next = Remembered::Is(Type(x.nodes));
+            push_bare(h, ws, x, error, next, TUPLE)
+        }
+    }
 }
 
 // The error type.

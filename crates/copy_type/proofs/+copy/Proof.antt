@@ -63,13 +63,19 @@ copy-μ-loop sw sk n listed params cache₀ table₀ h₀ ws₀ ks₀ depth root
     count - j
 
 copy-returns : (t : ℕ) → copy-lts.Need-returns (copy-claims t) (copy-at t) copy.Post copy-Inv-loop copy-μ-loop
-copy-returns t c = (copied-shallow (c .before .before .before .before .before .before .before .before .before .pre .1 .0) (c .if1 .taken), c .before .before .before .before .before .before .before .before .before .pre .1 .1)
+copy-returns t c =
+    let start = c .before .before .before .before .before .before .before .before .before in
+    (copied-shallow (start .pre .1 .0) (c .if1 .taken), start .pre .1 .1)
 
 copy-find-by-requires : (t : ℕ) → copy-lts.Need-find-by-requires (copy-claims t) (copy-at t) copy.Post copy-Inv-loop copy-μ-loop
-copy-find-by-requires t c κs = (clean-linked _ _ _ _ (c .before .before .before .before .before .before .before .before .before .before .pre .1 .0 .source), c .before .before .before .before .before .before .before .before .before .before .pre .1 .1)
+copy-find-by-requires t c κs =
+    let start = c .before .before .before .before .before .before .before .before .before .before in
+    (clean-linked _ _ _ _ (start .pre .1 .0 .source), start .pre .1 .1)
 
 copy-root-place-requires : (t : ℕ) → copy-lts.Need-root-place-requires (copy-claims t) (copy-at t) copy.Post copy-Inv-loop copy-μ-loop
-copy-root-place-requires t c κs = (c .before .before .before .before .before .before .before .before .before .before .before .before .before .before .pre .1 .0 .source .room, place-few (c .before .before .before .before .before .before .before .before .before .before .before .before .before .before .pre .1 .0) _)
+copy-root-place-requires t c κs =
+    let start = c .before .before .before .before .before .before .before .before .before .before .before .before .before .before in
+    (start .pre .1 .0 .source .room, place-few (start .pre .1 .0) _)
 
 copy-enum-known-u : (t : ℕ) → copy-lts.Need-enum-known-u (copy-claims t) (copy-at t) copy.Post copy-Inv-loop copy-μ-loop
 copy-enum-known-u t c = search needs
@@ -78,47 +84,114 @@ copy-enum-known-span : (t : ℕ) → copy-lts.Need-enum-known-span (copy-claims 
 copy-enum-known-span t c = search needs
 
 copy-begin-requires : (t : ℕ) → copy-lts.Need-begin-requires (copy-claims t) (copy-at t) copy.Post copy-Inv-loop copy-μ-loop
-copy-begin-requires t c κs = begin-ready _ _ _ _ _ _ _ _ _ _ _ _ (c .before .before .before .before .before .before .before .before .before .before .before .before .before .before .before .before .before .before .before .before .before .pre .1 .0) (c .before .before .before .before .before .before .before .before .before .before .before .before .if1 .left) (c .before .before .before .before .before .before .before .before .before .before .find-by .ensures .0) (c .before .before .before .before .before .before .root-place .ensures) (c .before .before .before .before .span .given .1)
+copy-begin-requires t c κs =
+    let at-span = c .before .before .before .before in
+    let at-root-place = at-span .before .before in
+    let at-find-by = at-root-place .before .before .before .before in
+    let at-if1 = at-find-by .before .before in
+    let start = at-if1 .before .before .before .before .before .before .before .before .before in
+    begin-ready _ _ _ _ _ _ _ _ _ _ _ _ (start .pre .1 .0) (at-if1 .if1 .left) (at-find-by .find-by .ensures .0) (at-root-place .root-place .ensures) (at-span .span .given .1)
 
 copy-loop-holds : (t : ℕ) → copy-lts.Need-loop-holds (copy-claims t) (copy-at t) copy.Post copy-Inv-loop copy-μ-loop
-copy-loop-holds t c = (filling-start _ _ _ _ _ _ _ _ _ _ _ _ (c .before .before .before .before .before .before .before .before .before .before .before .before .before .before .before .before .before .before .before .before .before .before .before .before .before .before .before .before .pre .1 .0) (c .before .before .before .before .before .before .before .before .before .before .before .before .before .before .before .before .before .before .before .if1 .left) (c .before .before .before .before .before .before .before .before .before .before .before .before .before .before .before .before .before .find-by .ensures .0) (c .before .before .before .before .before .before .before .before .before .before .before .before .before .root-place .ensures) (c .before .before .before .before .before .before .before .before .before .before .before .span .given .1) (c .before .before .before .before .before .before .begin .ensures), c .before .before .before .before .before .before .before .before .before .before .before .before .before .before .before .before .before .find-by .ensures .1, refl)
+copy-loop-holds t c =
+    let at-begin = c .before .before .before .before .before .before in
+    let at-span = at-begin .before .before .before .before .before in
+    let at-root-place = at-span .before .before in
+    let at-find-by = at-root-place .before .before .before .before in
+    let at-if1 = at-find-by .before .before in
+    let start = at-if1 .before .before .before .before .before .before .before .before .before in (
+      filling-start _ _ _ _ _ _ _ _ _ _ _ _ (start .pre .1 .0) (at-if1 .if1 .left) (at-find-by .find-by .ensures .0) (at-root-place .root-place .ensures) (at-span .span .given .1)
+          (at-begin .begin .ensures),
+      at-find-by .find-by .ensures .1,
+      refl,
+    )
 
 copy-child-requires : (t : ℕ) → copy-lts.Need-child-requires (copy-claims t) (copy-at t) copy.Post copy-Inv-loop copy-μ-loop
 copy-child-requires t c κs = search needs
 
 copy-sub-copy : (t : ℕ) → copy-lts.Need-sub-copy (copy-claims t) (copy-at t) copy.Post copy-Inv-loop copy-μ-loop
-copy-sub-copy t c = omega (arith, c .before .before .before .before .before .before .before .before .before .before .before .before .before .before .before .before .before .before .before .before .before .before .before .before .before .before .before .before .if1 .left)
+copy-sub-copy t c =
+    let before-loop = c .before .before .before .before .before .before .before .before .before .before .before .before .before .before .before .before .before .before in
+    let at-if1 = before-loop .before .before .before .before .before .before .before .before .before .before in
+    omega (arith, at-if1 .if1 .left)
 
 copy-copy-requires : (t : ℕ) → copy-lts.Need-copy-requires (copy-claims t) (copy-at t) copy.Post copy-Inv-loop copy-μ-loop
-copy-copy-requires t c κs = (
-      omega (arith, c .before .before .before .before .before .before .before .before .before .before .before .before .before .before .before .before .before .before .before .before .before .before .before .before .before .before .before .before .before .before .before .before .before .before .before .before .before .pre .0, c .before .before .before .before .before .before .before .before .before .before .before .before .before .before .before .before .before .before .before .before .before .before .before .before .before .before .before .before .if1 .left),
-      (kid-copyable (c .before .before .before .before .before .before .before .before .loop .inv .0) (c .before .before .before .before .before .before .before .loop-test .taken) _ (kid-next (c .before .before .before .before .before .before .before .before .before .before .before .before .before .before .before .before .before .before .before .before .before .before .before .before .before .before .before .before .before .before .before .before .before .before .before .before .before .args .sk .now) _ _ _ (c .before .before .before .before .before .before .child .result) (c .before .before .before .before .before .before .before .loop-test .taken) (c .before .before .before .before .before .before .child .ensures)) (c .before .before .before .before .before .before .before .before .before .before .before .before .before .before .before .before .before .before .before .before .before .before .before .before .before .before .before .before .before .before .before .before .before .before .before .before .before .pre .1 .0 .source), c .before .before .before .before .before .before .before .before .loop .inv .1),
+copy-copy-requires t c κs =
+    let at-child = c .before .before .before .before .before .before in
+    let at-loop-test = at-child .before in
+    let turn = at-loop-test .before in
+    let before-loop = turn .before .before .before .before .before .before .before .before .before .before .before .before .before .before .before .before .before .before in
+    let at-if1 = before-loop .before .before in
+    let start = at-if1 .before .before .before .before .before .before .before .before .before in (
+      omega (arith, start .pre .0, at-if1 .if1 .left),
+      (
+        kid-copyable (turn .loop .inv .0) (at-loop-test .loop-test .taken) _
+            (kid-next (start .args .sk .now) _ _ _ (at-child .child .result) (at-loop-test .loop-test .taken) (at-child .child .ensures))
+            (start .pre .1 .0 .source),
+        turn .loop .inv .1,
+      ),
     )
 
 copy-move-child-requires : (t : ℕ) → copy-lts.Need-move-child-requires (copy-claims t) (copy-at t) copy.Post copy-Inv-loop copy-μ-loop
-copy-move-child-requires t c κs = kid-room (c .before .before .before .before .before .before .before .before .before .before .before .before .before .before .before .before .before .before .before .before .loop .inv .0) (c .before .before .before .before .before .before .before .before .before .before .before .before .before .before .before .before .before .before .before .loop-test .taken) _ (kid-next (c .before .before .before .before .before .before .before .before .before .before .before .before .before .before .before .before .before .before .before .before .before .before .before .before .before .before .before .before .before .before .before .before .before .before .before .before .before .before .before .before .before .before .before .before .before .before .before .before .before .args .sk .now) _ _ _ (c .before .before .before .before .before .before .before .before .before .before .before .before .before .before .before .before .before .before .child .result) (c .before .before .before .before .before .before .before .before .before .before .before .before .before .before .before .before .before .before .before .loop-test .taken) (c .before .before .before .before .before .before .before .before .before .before .before .before .before .before .before .before .before .before .child .ensures)) (c .before .before .before .before .before .before .before .before .before .before .before .copy .ensures .0)
+copy-move-child-requires t c κs =
+    let at-copy = c .before .before .before .before .before .before .before .before .before .before .before in
+    let at-child = at-copy .before .before .before .before .before .before .before in
+    let at-loop-test = at-child .before in
+    let turn = at-loop-test .before in
+    let before-loop = turn .before .before .before .before .before .before .before .before .before .before .before .before .before .before .before .before .before .before in
+    let start = before-loop .before .before .before .before .before .before .before .before .before .before .before in
+    kid-room (turn .loop .inv .0) (at-loop-test .loop-test .taken) _
+    (kid-next (start .args .sk .now) _ _ _ (at-child .child .result) (at-loop-test .loop-test .taken) (at-child .child .ensures)) (at-copy .copy .ensures .0)
 
 copy-add-j : (t : ℕ) → copy-lts.Need-add-j (copy-claims t) (copy-at t) copy.Post copy-Inv-loop copy-μ-loop
-copy-add-j t c = omega (arith, c .before .before .before .before .before .before .before .before .before .before .before .before .before .before .before .before .before .before .before .before .before .before .loop-test .taken, kids-few (c .before .before .before .before .before .before .before .before .before .before .before .before .before .before .before .before .before .before .before .before .before .before .before .loop .inv .0))
+copy-add-j t c =
+    let before-loop = c .before .before .before .before .before .before .before .before .before .before .before .before .before .before .before .before .before .before in
+    let at-loop-test = before-loop .before .before .before .before in
+    let turn = at-loop-test .before in
+    omega (arith, at-loop-test .loop-test .taken, kids-few (turn .loop .inv .0))
 
 copy-loop-less : (t : ℕ) → copy-lts.Need-loop-less (copy-claims t) (copy-at t) copy.Post copy-Inv-loop copy-μ-loop
-copy-loop-less t c = omega (arith, c .before .before .before .before .before .before .before .before .before .before .before .before .before .before .before .before .before .before .before .before .before .before .loop-test .taken)
+copy-loop-less t c =
+    let before-loop = c .before .before .before .before .before .before .before .before .before .before .before .before .before .before .before .before .before .before in
+    let at-loop-test = before-loop .before .before .before .before in
+    omega (arith, at-loop-test .loop-test .taken)
 
 copy-loop-again : (t : ℕ) → copy-lts.Need-loop-again (copy-claims t) (copy-at t) copy.Post copy-Inv-loop copy-μ-loop
-copy-loop-again t c = (
-      filling-next (c .before .before .before .before .before .before .before .before .before .before .before .before .before .before .before .before .before .before .before .before .before .before .before .loop .inv .0) (c .before .before .before .before .before .before .before .before .before .before .before .before .before .before .before .before .before .before .before .before .before .before .loop-test .taken) _ (kid-next (c .before .before .before .before .before .before .before .before .before .before .before .before .before .before .before .before .before .before .before .before .before .before .before .before .before .before .before .before .before .before .before .before .before .before .before .before .before .before .before .before .before .before .before .before .before .before .before .before .before .before .before .before .args .sk .now) _ _ _ (c .before .before .before .before .before .before .before .before .before .before .before .before .before .before .before .before .before .before .before .before .before .child .result) (c .before .before .before .before .before .before .before .before .before .before .before .before .before .before .before .before .before .before .before .before .before .before .loop-test .taken) (c .before .before .before .before .before .before .before .before .before .before .before .before .before .before .before .before .before .before .before .before .before .child .ensures)) (c .before .before .before .before .before .before .before .before .before .before .before .before .before .before .copy .ensures .0) (c .before .before .move-child .ensures)
+copy-loop-again t c =
+    let at-move-child = c .before .before in
+    let at-copy = at-move-child .before .before .before .before .before .before .before .before .before .before .before .before in
+    let at-child = at-copy .before .before .before .before .before .before .before in
+    let at-loop-test = at-child .before in
+    let turn = at-loop-test .before in
+    let before-loop = turn .before .before .before .before .before .before .before .before .before .before .before .before .before .before .before .before .before .before in
+    let start = before-loop .before .before .before .before .before .before .before .before .before .before .before in (
+      filling-next (turn .loop .inv .0) (at-loop-test .loop-test .taken) _ (kid-next (start .args .sk .now) _ _ _ (at-child .child .result) (at-loop-test .loop-test .taken) (at-child .child .ensures))
+          (at-copy .copy .ensures .0) (at-move-child .move-child .ensures)
           (record {
-            tables = c .before .before .before .before .before .before .before .before .before .before .before .before .before .before .copy .kept .1 .1 .1 .1 .1 .1 .0;
-            heads = c .before .before .before .before .before .before .before .before .before .before .before .before .before .before .copy .kept .1 .1 .1 .1 .1 .1 .1 .0;
-            nodes = c .before .before .before .before .before .before .before .before .before .before .before .before .before .before .copy .kept .1 .1 .1 .1 .1 .1 .1 .1 .0;
-            kids = c .before .before .move-child .kept .1 .1 .0 ∙ c .before .before .before .before .before .before .before .before .before .before .before .before .before .before .copy .kept .1 .1 .1 .1 .1 .1 .1 .1 .1 .0;
+            tables = at-copy .copy .kept .1 .1 .1 .1 .1 .1 .0;
+            heads = at-copy .copy .kept .1 .1 .1 .1 .1 .1 .1 .0;
+            nodes = at-copy .copy .kept .1 .1 .1 .1 .1 .1 .1 .1 .0;
+            kids = at-move-child .move-child .kept .1 .1 .0 ∙ at-copy .copy .kept .1 .1 .1 .1 .1 .1 .1 .1 .1 .0;
           }),
-      c .before .before .before .before .before .before .before .before .before .before .before .before .before .before .copy .ensures .1,
-      c .before .before .before .before .before .before .before .before .before .before .before .before .before .before .copy .kept .1 .1 .1 .1 .1 .0 ∙ c .before .before .before .before .before .before .before .before .before .before .before .before .before .before .before .before .before .before .before .before .before .before .before .loop .inv .2,
+      at-copy .copy .ensures .1,
+      at-copy .copy .kept .1 .1 .1 .1 .1 .0 ∙ turn .loop .inv .2,
     )
 
 copy-end-requires : (t : ℕ) → copy-lts.Need-end-requires (copy-claims t) (copy-at t) copy.Post copy-Inv-loop copy-μ-loop
-copy-end-requires t c κs = (c .before .before .before .before .before .before .before .before .before .before .before .before .before .before .before .before .before .before .before .before .before .before .before .before .before .before .before .before .before .before .before .pre .1 .0 .source .room, end-ready _ _ _ _ _ _ _ _ _ _ _ _ (c .before .before .before .before .before .before .before .before .before .before .before .before .before .before .before .before .before .before .before .before .before .before .before .before .before .before .before .before .before .before .before .pre .1 .0) (c .before .before .before .before .before .before .before .before .before .before .before .before .before .before .before .before .before .before .before .before .before .before .if1 .left) (c .before .before .before .before .before .before .before .before .before .before .before .before .before .before .before .before .before .before .before .before .find-by .ensures .0) (c .before .before .before .before .before .before .before .before .before .before .before .before .before .before .before .before .root-place .ensures) (c .before .before .before .before .before .before .before .before .before .before .before .before .before .before .span .given .1) (c .before .before .before .before .before .before .before .before .before .begin .ensures) (c .before .before .loop .inv .0) (c .before .loop-test .left))
+copy-end-requires t c κs =
+    let at-loop-test = c .before in
+    let turn = at-loop-test .before in
+    let at-begin = turn .before .before .before .before .before .before .before in
+    let at-span = at-begin .before .before .before .before .before in
+    let at-root-place = at-span .before .before in
+    let at-find-by = at-root-place .before .before .before .before in
+    let at-if1 = at-find-by .before .before in
+    let start = at-if1 .before .before .before .before .before .before .before .before .before in (
+      start .pre .1 .0 .source .room,
+      end-ready _ _ _ _ _ _ _ _ _ _ _ _ (start .pre .1 .0) (at-if1 .if1 .left) (at-find-by .find-by .ensures .0) (at-root-place .root-place .ensures)
+          (at-span .span .given .1)
+          (at-begin .begin .ensures) (turn .loop .inv .0) (at-loop-test .loop-test .left),
+    )
 
 copy-same-length : (t : ℕ) → copy-lts.Need-same-length (copy-claims t) (copy-at t) copy.Post copy-Inv-loop copy-μ-loop
 copy-same-length t c = search needs
@@ -127,25 +200,61 @@ copy-same-length-2 : (t : ℕ) → copy-lts.Need-same-length-2 (copy-claims t) (
 copy-same-length-2 t c = search needs
 
 copy-returns-2 : (t : ℕ) → copy-lts.Need-returns-2 (copy-claims t) (copy-at t) copy.Post copy-Inv-loop copy-μ-loop
-copy-returns-2 t c = (copied-is _ _ _ _ _ _ _ _ _ _ _ _ (c .before .before .before .before .before .before .before .before .before .before .before .before .before .before .before .before .before .before .pre .1 .0) (c .before .before .before .before .before .before .before .before .before .if1 .left) (c .before .before .before .before .before .before .before .find-by .ensures .0) (c .before .before .before .root-place .ensures) (c .before .u .given .1), c .before .before .before .before .before .before .before .find-by .ensures .1)
+copy-returns-2 t c =
+    let at-u = c .before in
+    let at-root-place = at-u .before .before in
+    let at-find-by = at-root-place .before .before .before .before in
+    let at-if1 = at-find-by .before .before in
+    let start = at-if1 .before .before .before .before .before .before .before .before .before in (
+      copied-is _ _ _ _ _ _ _ _ _ _ _ _ (start .pre .1 .0) (at-if1 .if1 .left) (at-find-by .find-by .ensures .0) (at-root-place .root-place .ensures)
+          (at-u .u .given .1),
+      at-find-by .find-by .ensures .1,
+    )
 
 copy-same-length-3 : (t : ℕ) → copy-lts.Need-same-length-3 (copy-claims t) (copy-at t) copy.Post copy-Inv-loop copy-μ-loop
-copy-same-length-3 t c = c .before .before .before .before .before .loop .inv .2 ∙ c .before .before .before .before .before .before .before .before .before .before .before .before .before .before .before .before .before .before .before .before .before .before .before .find-by .kept .1 .1 .0
+copy-same-length-3 t c =
+    let turn = c .before .before .before .before .before in
+    let at-find-by = turn .before .before .before .before .before .before .before .before .before .before .before .before .before .before .before .before .before .before in
+    turn .loop .inv .2 ∙ at-find-by .find-by .kept .1 .1 .0
 
 copy-same-length-4 : (t : ℕ) → copy-lts.Need-same-length-4 (copy-claims t) (copy-at t) copy.Post copy-Inv-loop copy-μ-loop
-copy-same-length-4 t c = c .before .before .before .before .before .loop .inv .0 .long .tables ∙ c .before .before .before .before .before .before .before .before .before .before .before .before .begin .kept .0
+copy-same-length-4 t c =
+    let turn = c .before .before .before .before .before in
+    let at-begin = turn .before .before .before .before .before .before .before in
+    turn .loop .inv .0 .long .tables ∙ at-begin .begin .kept .0
 
 copy-same-length-5 : (t : ℕ) → copy-lts.Need-same-length-5 (copy-claims t) (copy-at t) copy.Post copy-Inv-loop copy-μ-loop
-copy-same-length-5 t c = c .before .before .before .before .before .loop .inv .0 .long .heads ∙ c .before .before .before .before .before .before .before .before .before .before .before .before .begin .kept .1 .0
+copy-same-length-5 t c =
+    let turn = c .before .before .before .before .before in
+    let at-begin = turn .before .before .before .before .before .before .before in
+    turn .loop .inv .0 .long .heads ∙ at-begin .begin .kept .1 .0
 
 copy-same-length-6 : (t : ℕ) → copy-lts.Need-same-length-6 (copy-claims t) (copy-at t) copy.Post copy-Inv-loop copy-μ-loop
-copy-same-length-6 t c = c .before .before .end .kept .1 .1 .1 .0 ∙ (c .before .before .before .before .before .loop .inv .0 .long .nodes ∙ c .before .before .before .before .before .before .before .before .before .before .before .before .begin .kept .1 .1 .0)
+copy-same-length-6 t c =
+    let at-end = c .before .before in
+    let turn = at-end .before .before .before in
+    let at-begin = turn .before .before .before .before .before .before .before in
+    at-end .end .kept .1 .1 .1 .0 ∙ (turn .loop .inv .0 .long .nodes ∙ at-begin .begin .kept .1 .1 .0)
 
 copy-same-length-7 : (t : ℕ) → copy-lts.Need-same-length-7 (copy-claims t) (copy-at t) copy.Post copy-Inv-loop copy-μ-loop
 copy-same-length-7 t c = c .before .before .before .before .before .loop .inv .0 .long .kids
 
 copy-returns-3 : (t : ℕ) → copy-lts.Need-returns-3 (copy-claims t) (copy-at t) copy.Post copy-Inv-loop copy-μ-loop
-copy-returns-3 t c = (copied-node _ _ _ _ _ _ _ _ _ _ _ _ (c .before .before .before .before .before .before .before .before .before .before .before .before .before .before .before .before .before .before .before .before .before .before .before .before .before .before .before .before .before .before .before .before .before .before .pre .1 .0) (c .before .before .before .before .before .before .before .before .before .before .before .before .before .before .before .before .before .before .before .before .before .before .before .before .before .if1 .left) (c .before .before .before .before .before .before .before .before .before .before .before .before .before .before .before .before .before .before .before .before .before .before .before .find-by .ensures .0) (c .before .before .before .before .before .before .before .before .before .before .before .before .before .before .before .before .before .before .before .root-place .ensures) (c .before .before .before .before .before .before .before .before .before .before .before .before .before .before .before .before .before .span .given .1) (c .before .before .before .before .before .before .before .before .before .before .before .before .begin .ensures) (c .before .before .before .before .before .loop .inv .0) (c .before .before .before .before .loop-test .left) (c .before .before .end .ensures), c .before .before .before .before .before .loop .inv .1)
+copy-returns-3 t c =
+    let at-end = c .before .before in
+    let at-loop-test = at-end .before .before in
+    let turn = at-loop-test .before in
+    let at-begin = turn .before .before .before .before .before .before .before in
+    let at-span = at-begin .before .before .before .before .before in
+    let at-root-place = at-span .before .before in
+    let at-find-by = at-root-place .before .before .before .before in
+    let at-if1 = at-find-by .before .before in
+    let start = at-if1 .before .before .before .before .before .before .before .before .before in (
+      copied-node _ _ _ _ _ _ _ _ _ _ _ _ (start .pre .1 .0) (at-if1 .if1 .left) (at-find-by .find-by .ensures .0) (at-root-place .root-place .ensures) (at-span .span .given .1)
+          (at-begin .begin .ensures)
+          (turn .loop .inv .0) (at-loop-test .loop-test .left) (at-end .end .ensures),
+      turn .loop .inv .1,
+    )
 
 pub +copy-spec : {M : Type 1} → statement M
 +copy-spec = close μ-copy λ t. copy-lts.spec (copy-claims t)
