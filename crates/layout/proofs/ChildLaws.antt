@@ -69,7 +69,7 @@ kid-at ks k j d h =
 
 -- put
 
-slot-words : (ks : List ℕ) (i : ℕ) → slotAt ks i ≡ slotMeans (slotIn (midOf (i * 4) 4 ks))
+pub slot-words : (ks : List ℕ) (i : ℕ) → slotAt ks i ≡ slotMeans (slotIn (midOf (i * 4) 4 ks))
 slot-words ks i = rw (
   getD-take 4 (drop (i * 4) ks) 0 0 (omega arith),
   getD-take 4 (drop (i * 4) ks) 1 0 (omega arith),

@@ -265,12 +265,14 @@ pub fn child_there(ks: &[u32], i: usize) -> Slot
     ensures { λ r. ⌜ slotMeans r ≡ slotAt (now (ks .entry)) i ⌝ }
 {
     let a = i * CHILD_WORDS;
+    let e = a + CHILD_WORDS;
+    let s = &ks[a..e];
     Slot {
-        ty: Type(ks[a]),
+        ty: Type(s[0]),
         name: Name {
-            text: ks[a + 1],
-            start: ks[a + 2],
-            len: ks[a + 3],
+            text: s[1],
+            start: s[2],
+            len: s[3],
         },
     }
 }
