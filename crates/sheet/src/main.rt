@@ -1,6 +1,6 @@
 // Program `sheet`: lines from standard input, and what each prints to standard output, in fixed memory: 4 MB are lent to its unify, in which each pair of types
-// has its own entry, so that no input takes long. Each line is answered before more is read, so that it can be used over a pipe or at a terminal. It only reads and writes: what a line is and what it prints is `sheet_run`'s. Where nobody takes the output
-// any more it ends; a read that fails is told on standard error.
+// has its own entry, so that no input takes long. Each line is answered before more is read, so that it can be used over a pipe or at a terminal. It only reads and
+// writes: what a line is and what it prints is `sheet_run`'s. Where nobody takes the output any more it ends; a read that fails is told on standard error.
 ghost use mathlib.Core.Path.{_≡_};
 ghost use Prim.Native.Nat.{_<_};
 ghost use lib.ListN.{length};
