@@ -1,7 +1,6 @@
 // Program `sheet`: lines from standard input, and what each prints to standard output, in fixed memory: 4 MB are lent to its unify, in which each pair of types
-// has its own entry, so that no input takes long. Each line is answered before more is read, so that
-// it can be used over a pipe or at a terminal. It only reads and writes: what a line is and what it prints is `sheet_run`'s. Where nobody takes the output
-// any more it ends; a read that fails is told on standard error.
+// has its own entry, so that no input takes long. Each line is answered before more is read, so that it can be used over a pipe or at a terminal. It only reads and
+// writes: what a line is and what it prints is `sheet_run`'s. Where nobody takes the output any more it ends; a read that fails is told on standard error.
 ghost use mathlib.Core.Path.{_≡_};
 ghost use Prim.Native.Nat.{_<_};
 ghost use lib.ListN.{length};
@@ -70,38 +69,8 @@ fn feed_all(
     Went::On(p)
 }
 
-// One read, and its lines; false where there is no more to do.
-fn turn(
-    h: &mut [u32],
-    ws: &mut [u32],
-    ks: &mut [u32],
-    memory: &mut [u32],
-    line: &mut [u8],
-    at: usize,
-    piece: &mut [u8],
-    text: &mut [u8],
-) -> Went
-    requires { ⌜ SheetStore (now h) (now ws) (now ks) ⌝ }
-    requires { ⌜ SHEET-TEXT < length (now text) ⌝ }
-    requires { ⌜ length (now line) ≡ LINE-KEPT ⌝ }
-    requires { ⌜ Holding (now line) at ⌝ }
-    ensures { λ r. ⌜ Kept (now (h .exit)) (now (ws .exit)) (now (ks .exit)) (now (line .exit)) r ⌝ }
-{
-    let got = libc::read(STDIN_FILENO, piece);
-    if got < 0 {
-        os::fail(b"sheet: standard input");
-        return Went::Closed;
-    }
-    if got == 0 {
-        let n = sheet_run::feed_end(h, ws, ks, memory, line, at, text);
-        io::write_all(STDOUT_FILENO, &text[..n]);
-        return Went::Closed;
-    }
-    let n = io::count(got, piece);
-    feed_all(h, ws, ks, memory, line, at, &piece[..n], text)
-}
-
-// A proved loop has to end, and nothing says that the input does: so turns are counted down, from a number that no run uses up.
+// Reads and answers until there is no more to do. A proved loop has to end, and nothing says that the input does: so reads are counted down, from a number that
+// no run uses up.
 fn serve(
     h: &mut [u32],
     ws: &mut [u32],
@@ -119,7 +88,18 @@ fn serve(
     let mut turns = u64::MAX;
     while turns > 0 {
         turns -= 1;
-        let w = turn(h, ws, ks, memory, line, at, piece, text);
+        let got = libc::read(STDIN_FILENO, piece);
+        if got < 0 {
+            os::fail(b"sheet: standard input");
+            return;
+        }
+        if got == 0 {
+            let n = sheet_run::feed_end(h, ws, ks, memory, line, at, text);
+            io::write_all(STDOUT_FILENO, &text[..n]);
+            return;
+        }
+        let n = io::count(got, piece);
+        let w = feed_all(h, ws, ks, memory, line, at, &piece[..n], text);
         let Went::On(p) = w else {
             return;
         };

@@ -107,9 +107,9 @@ pub record Counted (r : TypeCount) (out : List ℕ) (ts : Option (List Ty)) : Ty
   pub means : countMeans r out ≡ ts
   pub fits : countRoom r ≤ LINE-TYPES
 
--- a line that means the same beside any words
-pub record Always (r : Line) (l : sheet.Line) : Type 0 where
-  pub beside : (out : List ℕ) → Parsed r out l
+-- a line without types, read: it means the same beside any words
+pub record Always (r : asked.Plain) (l : sheet.Line) : Type 0 where
+  pub beside : (out : List ℕ) → Parsed (Plain r) out l
 
 -- the same, unless its command is `tuple`
 pub record Unless (r : Line) (w : List ℕ) (l : sheet.Line) : Type 0 where

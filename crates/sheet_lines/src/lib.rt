@@ -165,31 +165,31 @@ fn types_from(line: &[u8], from: usize, out: &mut [u32]) -> TypeCount
 }
 
 // A command without types
-fn plain_line(w: &[u8]) -> Line
+fn plain_line(w: &[u8]) -> Plain
     ensures { λ r. ⌜ Always r (plainLine (now (w .entry))) ⌝ }
 {
     if same_bytes(w, b"var") {
-        return Line::Plain(Plain::Make(Maker::Var));
+        return Plain::Make(Maker::Var);
     }
     if same_bytes(w, b"nil") {
-        return Line::Plain(Plain::Make(Maker::Nil));
+        return Plain::Make(Maker::Nil);
     }
     if same_bytes(w, b"never") {
-        return Line::Plain(Plain::Make(Maker::Over(NEVER, 0)));
+        return Plain::Make(Maker::Over(NEVER, 0));
     }
     if same_bytes(w, b"default") {
-        return Line::Plain(Plain::Make(Maker::Over(DEFAULT, 0)));
+        return Plain::Make(Maker::Over(DEFAULT, 0));
     }
     if same_bytes(w, b"error") {
-        return Line::Plain(Plain::Make(Maker::Error));
+        return Plain::Make(Maker::Error);
     }
     if same_bytes(w, b"finish") {
-        return Line::Plain(Plain::Finish);
+        return Plain::Finish;
     }
     if same_bytes(w, b"tuple") {
-        return Line::Plain(Plain::Make(Maker::Over(TUPLE, 0)));
+        return Plain::Make(Maker::Over(TUPLE, 0));
     }
-    Line::Plain(Plain::Bad)
+    Plain::Bad
 }
 
 // A command with one type, that is no tuple
@@ -221,7 +221,7 @@ fn line_of(w: &[u8], n: u32, out: &[u32]) -> Line
     ensures { λ r. ⌜ Parsed r (now (out .entry)) (withTypes (now (w .entry)) (some (map tyOf (take n (now (out .entry)))))) ⌝ }
 {
     if n == 0 {
-        return plain_line(w);
+        return Line::Plain(plain_line(w));
     }
     if same_bytes(w, b"tuple") {
         return Line::Plain(Plain::Make(Maker::Over(TUPLE, n)));

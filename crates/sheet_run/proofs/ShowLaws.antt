@@ -8,7 +8,7 @@ use Prim.Native.Nat.{ℕ, _≤_}
 use native.Mathlib.Omega.{arith}
 use borrow.Author.Tests.{leb-true}
 use lib.Dec.{leb}
-use lib.ListN.{length, take, drop, replicate, length-replicate}
+use lib.ListN.{length, take, drop}
 use lib.Seq.{length-take-le, drop-at}
 use Rattle.scope.specs.Base.{pick}
 use Rattle.scope.specs.Limits.{SHEET-TEXT}
@@ -16,7 +16,7 @@ use Rattle.scope.specs.Types.{Ty}
 use Rattle.scope.specs.Nodes.{Store}
 use Rattle.scope.specs.Sound.{reads}
 use Rattle.scope.specs.Show.{show}
-use Rattle.scope.specs.Calls.{Outcome, refused, done, firstBroken, lentTests, outside, Printed, printedText, orUnprinted, showCall}
+use Rattle.scope.specs.Calls.{Outcome, refused, done, firstBroken, lentTests, outside, Printed, orUnprinted, showCall}
 use Rattle.scope.specs.Sheet.{Line, sheetEnv, sheetBuffer, sayText, sheetLine}
 use Rattle.promise.specs.Promise.{value, refusal}
 use Rattle.promise.specs.Prints.{PrintPromised}

@@ -35,8 +35,8 @@ returns-2 c =
     let pre = c .before .before .before .before .before .before .pre in
     record { means = laws.with-tuple w (map tyOf (take (s .n) out)) t; fits = laws.tuple-fits (s .n) out (pre .0) }
 
-shared-slice-read-t12 : tie.Need-shared-slice-read-t12
-shared-slice-read-t12 c = search needs
+shared-slice-read-t13 : tie.Need-shared-slice-read-t13
+shared-slice-read-t13 c = search needs
 
 one-type-requires : tie.Need-one-type-requires
 one-type-requires c κs = search needs
@@ -49,11 +49,11 @@ returns-3 c =
     let nt = laws.said (c .before .before .before .before .same-bytes .ensures) (c .before .before .before .if2 .left) in
     laws.parsed-like (c .one-type .ensures .beside nt out (laws.take-first out (omega arith))) (laws.with-one w out (s .n) (c .before .before .if3 .taken) (omega arith))
 
-shared-slice-read-t15 : tie.Need-shared-slice-read-t15
-shared-slice-read-t15 c = search needs
+shared-slice-read-t16 : tie.Need-shared-slice-read-t16
+shared-slice-read-t16 c = search needs
 
-shared-slice-read-t18 : tie.Need-shared-slice-read-t18
-shared-slice-read-t18 c = search needs
+shared-slice-read-t19 : tie.Need-shared-slice-read-t19
+shared-slice-read-t19 c = search needs
 
 two-types-requires : tie.Need-two-types-requires
 two-types-requires c κs = search needs
@@ -85,11 +85,11 @@ line-of-spec =
     slice-aggregate-same-bytes
     same-bytes-requires
     returns-2
-    shared-slice-read-t12
+    shared-slice-read-t13
     one-type-requires
     returns-3
-    shared-slice-read-t15
-    shared-slice-read-t18
+    shared-slice-read-t16
+    shared-slice-read-t19
     two-types-requires
     returns-4
     returns-5)

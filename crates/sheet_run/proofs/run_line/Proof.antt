@@ -1,7 +1,7 @@
 -- `sheet_run::run_line` meets its contract: the line is read, and then run.
 -- Assumes nothing.
 use native.Mathlib.Omega.{arith}
-use Rattle.scope.specs.Sheet.{Line, sheetLine}
+use Rattle.scope.specs.Sheet.{Line}
 use Rattle.layout.specs.Words.{storeIn}
 use Rattle.sheet_calls.proofs.Laws.{ran, ran-like, same-store, show-store}
 use borrow.Author.Needs.{needs}
