@@ -172,13 +172,18 @@ fn rank(ws: &[u32], n: u32, t: Type) -> u32
     }
 }
 
-// The same of any two roots without children of which one has no kind: neither can occur in the other. Two nodes of which one has rank 1 and one rank 0 are two.
+// The same of any two roots without children of which one has no kind: neither can occur in the other.
 pub fn slight(ws: &mut [u32], n: u32, a: Type, b: Type) -> bool
     requires { ⌜ Adds (now ws) n (tyOf (a .0)) (tyOf (b .0)) ⌝ }
     ensures { λ r. ⌜ Tried (now (ws .entry)) (now (ws .exit)) n (tyOf (a .0)) (tyOf (b .0)) r ⌝ }
 {
     if quick(ws, n, a, b) {
         return true;
+    }
+    let ia = a.idx();
+    let ib = b.idx();
+    if ia.0 == ib.0 {
+        return false;
     }
     if rank(ws, n, a) + rank(ws, n, b) != 1 {
         return false;
