@@ -41,11 +41,17 @@ same-length-2 c = search needs
 returns-2 : tie.Need-returns-2
 unfolding spelledF
 returns-2 c =
-    let a = c .before .before .before .before .before .before .before .before .before .before .before .before .before .before .before .before .before .before .before .before .args in
-    let child = c .before .before .before .before .before .before .before .before .before .before .before .child-of in
-    append-then (c .before .before .before .before .before .before .before .before .before .before .before .before .before .before .put-comma .ensures)
+    let b2 = c .before .before in
+    let b6 = b2 .before .before .before .before in
+    let b8 = b6 .before .before in
+    let b11 = b8 .before .before .before in
+    let b14 = b11 .before .before .before in
+    let b20 = b14 .before .before .before .before .before .before in
+    let a = b20 .args in
+    let child = b11 .child-of in
+    append-then (b14 .put-comma .ensures)
     (label-of (texts (a .rule .now) (a .text .now)) (child .result) (child .ensures)
-    (rw (ne-eqb _ _ (c .before .before .before .before .before .before .before .before .if1 .left)) (append-then (c .before .before .before .before .before .before .put-name .ensures) (c .before .before .put-short2 .ensures))))
+    (rw (ne-eqb _ _ (b8 .if1 .left)) (append-then (b6 .put-name .ensures) (b2 .put-short2 .ensures))))
 
 pub put-entry-spec : {M : Type 1} → statement M
 put-entry-spec =

@@ -25,7 +25,12 @@ same-length c = search needs
 returns : tie.Need-returns
 unfolding spelledF
 returns c =
-    rw (← c .before .before .before .before .before .before .sort-at .ensures, ne-eqb _ _ (c .before .before .before .before .before .if1 .taken), ← c .before .before .before .path-at .ensures) (append-then (c .before .before .before .before .before .before .before .before .before .put-short .ensures) (c .before .before .put-name .ensures))
+    let b2 = c .before .before in
+    let b3 = b2 .before in
+    let b5 = b3 .before .before in
+    let b6 = b5 .before in
+    let b9 = b6 .before .before .before in
+    rw (← b6 .sort-at .ensures, ne-eqb _ _ (b5 .if1 .taken), ← b3 .path-at .ensures) (append-then (b9 .put-short .ensures) (b2 .put-name .ensures))
 
 trait-at-requires : tie.Need-trait-at-requires
 trait-at-requires c κs = search needs
@@ -51,9 +56,18 @@ same-length-2 c = search needs
 returns-2 : tie.Need-returns-2
 unfolding spelledF
 returns-2 c =
-    let joined = append-then (c .before .before .before .before .before .before .before .put-short2 .ensures) (c .before .before .put-name3 .ensures) in
-    rw (← c .before .before .before .before .before .before .before .before .before .before .before .before .before .before .before .before .sort-at .ensures, eq-eqb _ _ (c .before .before .before .before .before .before .before .before .before .before .before .before .before .before .before .if1 .left), ← c .before .before .before .before .before .before .before .before .before .before .before .before .before .before .trait-at .ensures, ← c .before .before .before .before .before .before .before .before .before .before .before .before .path-at2 .ensures, ← c .before .before .before .name-at .ensures)
-    (append-then (c .before .before .before .before .before .before .before .before .before .before .before .before .before .before .before .before .before .before .before .put-short .ensures) (append-then (c .before .before .before .before .before .before .before .before .before .before .before .put-name2 .ensures) joined))
+    let b2 = c .before .before in
+    let b3 = b2 .before in
+    let b7 = b3 .before .before .before .before in
+    let b11 = b7 .before .before .before .before in
+    let b12 = b11 .before in
+    let b14 = b12 .before .before in
+    let b15 = b14 .before in
+    let b16 = b15 .before in
+    let b19 = b16 .before .before .before in
+    let joined = append-then (b7 .put-short2 .ensures) (b2 .put-name3 .ensures) in
+    rw (← b16 .sort-at .ensures, eq-eqb _ _ (b15 .if1 .left), ← b14 .trait-at .ensures, ← b12 .path-at2 .ensures, ← b3 .name-at .ensures)
+    (append-then (b19 .put-short .ensures) (append-then (b11 .put-name2 .ensures) joined))
 
 pub put-function-spec : {M : Type 1} → statement M
 put-function-spec =

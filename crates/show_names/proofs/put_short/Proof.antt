@@ -26,7 +26,11 @@ loop-less : tie.Need-loop-less Inv-loop μ-loop
 loop-less c = search needs
 
 loop-again : tie.Need-loop-again Inv-loop μ-loop
-loop-again c = spelling-next (c .before .before .before .before .before .loop .inv) (c .before .before .before .before .loop-test .taken) (c .before .before .put-byte .ensures) (c .before .before .put-byte .kept .0 ∙ c .before .before .before .before .before .loop .inv .long)
+loop-again c =
+    let b2 = c .before .before in
+    let b4 = b2 .before .before in
+    let b5 = b4 .before in
+    spelling-next (b5 .loop .inv) (b4 .loop-test .taken) (b2 .put-byte .ensures) (b2 .put-byte .kept .0 ∙ b5 .loop .inv .long)
 
 same-length : tie.Need-same-length Inv-loop μ-loop
 same-length c = c .before .loop .inv .long

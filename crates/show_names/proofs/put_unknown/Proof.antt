@@ -32,8 +32,13 @@ same-length c = search needs
 
 returns : tie.Need-returns
 returns c =
-    rw (← c .before .before .before .before .before .before .before .before .before .before .before .before .inv .ensures, ← c .before .before .before .before .before .before .before .before .before .before .before .before .before .before .idx .ensures)
-    (unknown-is (c .before .before .before .before .before .before .before .before .before .before .before .before .inv .result .0) _ (append-then (c .before .before .before .before .before .before .before .before .before .before .put-short .ensures) (append-then (c .before .before .before .before .before .before .put-byte .ensures) (c .before .before .put-decimal .ensures))))
+    let b2 = c .before .before in
+    let b6 = b2 .before .before .before .before in
+    let b10 = b6 .before .before .before .before in
+    let b12 = b10 .before .before in
+    let b14 = b12 .before .before in
+    rw (← b12 .inv .ensures, ← b14 .idx .ensures)
+    (unknown-is (b12 .inv .result .0) _ (append-then (b10 .put-short .ensures) (append-then (b6 .put-byte .ensures) (b2 .put-decimal .ensures))))
 
 pub put-unknown-spec : {M : Type 1} → statement M
 put-unknown-spec =

@@ -30,7 +30,12 @@ same-length-2 c = search needs
 
 returns-3 : tie.Need-returns-3
 unfolding spelledF
-returns-3 c = rw (c .before .before .before .before .before .before .before .before .before .if1 .left, ne-eqb _ _ (c .before .before .before .before .before .before .before .before .if2 .left)) (append-then (c .before .before .before .before .before .before .put-short .ensures) (c .before .before .put-short2 .ensures))
+returns-3 c =
+    let b2 = c .before .before in
+    let b6 = b2 .before .before .before .before in
+    let b8 = b6 .before .before in
+    let b9 = b8 .before in
+    rw (b9 .if1 .left, ne-eqb _ _ (b8 .if2 .left)) (append-then (b6 .put-short .ensures) (b2 .put-short2 .ensures))
 
 pub put-between-spec : {M : Type 1} → statement M
 put-between-spec =

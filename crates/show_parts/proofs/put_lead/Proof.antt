@@ -29,8 +29,12 @@ same-length c = search needs
 returns : tie.Need-returns
 unfolding leadOf
 returns c =
-    let a = c .before .before .before .before .before .before .before .before .before .before .before .before .before .before .args in
-    append-then (sign-put (a .tilde) (c .before .before .before .before .before .before .before .before .put-short .ensures)) (rw (c .before .before .before .before .if1 .taken) (c .before .before .put-function .ensures))
+    let b2 = c .before .before in
+    let b4 = b2 .before .before in
+    let b8 = b4 .before .before .before .before in
+    let b14 = b8 .before .before .before .before .before .before in
+    let a = b14 .args in
+    append-then (sign-put (a .tilde) (b8 .put-short .ensures)) (rw (b4 .if1 .taken) (b2 .put-function .ensures))
 
 front-requires : tie.Need-front-requires
 front-requires c κs = search needs
@@ -43,9 +47,13 @@ same-length-2 c = search needs
 
 returns-2 : tie.Need-returns-2
 returns-2 c =
-    let a = c .before .before .before .before .before .before .before .before .before .before .before .before .before .before .before .before .before .args in
+    let b4 = c .before .before .before .before in
+    let b5 = b4 .before in
+    let b11 = b5 .before .before .before .before .before .before in
+    let b17 = b11 .before .before .before .before .before .before in
+    let a = b17 .args in
     let e = envOf (a .chart .now) (a .beside) (a .rule .now) (a .text .now) in
-    append-then (sign-put (a .tilde) (c .before .before .before .before .before .before .before .before .before .before .before .put-short .ensures)) (rw (lead-tuple e (a .k) (c .if2 .taken), ← c .before .before .before .before .before .front .ensures) (c .before .before .before .before .put-short2 .ensures))
+    append-then (sign-put (a .tilde) (b11 .put-short .ensures)) (rw (lead-tuple e (a .k) (c .if2 .taken), ← b5 .front .ensures) (b4 .put-short2 .ensures))
 
 name-in-requires : tie.Need-name-in-requires
 name-in-requires c κs = search needs
@@ -60,16 +68,30 @@ put-short-requires-3 : tie.Need-put-short-requires-3
 put-short-requires-3 c κs = search needs
 
 same-length-3 : tie.Need-same-length-3
-same-length-3 c = c .before .before .before .before .put-short3 .kept .0 ∙ c .before .before .before .before .before .before .before .before .before .put-name .kept .1 .1 .0 ∙ c .before .before .before .before .before .before .before .before .before .before .before .before .before .before .before .before .put-short2 .kept .0 ∙ c .before .before .before .before .before .before .before .before .before .before .before .before .before .before .before .before .before .before .before .before .before .before .before .put-short .kept .0
+same-length-3 c =
+    let b4 = c .before .before .before .before in
+    let b9 = b4 .before .before .before .before .before in
+    let b16 = b9 .before .before .before .before .before .before .before in
+    let b23 = b16 .before .before .before .before .before .before .before in
+    b4 .put-short3 .kept .0 ∙ b9 .put-name .kept .1 .1 .0 ∙ b16 .put-short2 .kept .0 ∙ b23 .put-short .kept .0
 
 returns-3 : tie.Need-returns-3
 unfolding nameIn
 returns-3 c =
-    let a = c .before .before .before .before .before .before .before .before .before .before .before .before .before .before .before .before .before .before .before .before .before .before .before .before .before .before .before .before .before .args in
+    let b4 = c .before .before .before .before in
+    let b5 = b4 .before in
+    let b9 = b5 .before .before .before .before in
+    let b10 = b9 .before in
+    let b16 = b10 .before .before .before .before .before .before in
+    let b17 = b16 .before in
+    let b19 = b17 .before .before in
+    let b23 = b19 .before .before .before .before in
+    let b29 = b23 .before .before .before .before .before .before in
+    let a = b29 .args in
     let e = envOf (a .chart .now) (a .beside) (a .rule .now) (a .text .now) in
-    let pieces = append-then (c .before .before .before .before .before .before .before .before .before .before .before .before .before .before .before .before .put-short2 .ensures) (append-then (c .before .before .before .before .before .before .before .before .before .put-name .ensures) (c .before .before .before .before .put-short3 .ensures)) in
-    append-then (sign-put (a .tilde) (c .before .before .before .before .before .before .before .before .before .before .before .before .before .before .before .before .before .before .before .before .before .before .before .put-short .ensures))
-    (rw (lead-plain e (a .k) (c .before .before .before .before .before .before .before .before .before .before .before .before .before .before .before .before .before .before .before .if1 .left) (c .if3 .taken), ← c .before .before .before .before .before .before .before .before .before .before .before .before .before .before .before .before .before .front .ensures, ← c .before .before .before .before .before .before .before .before .before .before .name-in .ensures, ← c .before .before .before .before .before .back .ensures) pieces)
+    let pieces = append-then (b16 .put-short2 .ensures) (append-then (b9 .put-name .ensures) (b4 .put-short3 .ensures)) in
+    append-then (sign-put (a .tilde) (b23 .put-short .ensures))
+    (rw (lead-plain e (a .k) (b19 .if1 .left) (c .if3 .taken), ← b17 .front .ensures, ← b10 .name-in .ensures, ← b5 .back .ensures) pieces)
 
 put-decimal-requires : tie.Need-put-decimal-requires
 put-decimal-requires c κs = search needs
@@ -78,17 +100,35 @@ put-short-requires-4 : tie.Need-put-short-requires-4
 put-short-requires-4 c κs = search needs
 
 same-length-4 : tie.Need-same-length-4
-same-length-4 c = c .before .before .put-short4 .kept .0 ∙ c .before .before .before .before .before .before .put-decimal .kept .0 ∙ c .before .before .before .before .before .before .before .before .before .before .before .before .put-short3 .kept .0 ∙ c .before .before .before .before .before .before .before .before .before .before .before .before .before .before .before .before .before .put-name .kept .1 .1 .0 ∙ c .before .before .before .before .before .before .before .before .before .before .before .before .before .before .before .before .before .before .before .before .before .before .before .before .put-short2 .kept .0 ∙ c .before .before .before .before .before .before .before .before .before .before .before .before .before .before .before .before .before .before .before .before .before .before .before .before .before .before .before .before .before .before .before .put-short .kept .0
+same-length-4 c =
+    let b2 = c .before .before in
+    let b6 = b2 .before .before .before .before in
+    let b12 = b6 .before .before .before .before .before .before in
+    let b17 = b12 .before .before .before .before .before in
+    let b24 = b17 .before .before .before .before .before .before .before in
+    let b31 = b24 .before .before .before .before .before .before .before in
+    b2 .put-short4 .kept .0 ∙ b6 .put-decimal .kept .0 ∙ b12 .put-short3 .kept .0 ∙ b17 .put-name .kept .1 .1 .0 ∙ b24 .put-short2 .kept .0 ∙ b31 .put-short .kept .0
 
 returns-4 : tie.Need-returns-4
 unfolding nameIn spelledF
 returns-4 c =
-    let a = c .before .before .before .before .before .before .before .before .before .before .before .before .before .before .before .before .before .before .before .before .before .before .before .before .before .before .before .before .before .before .before .before .before .before .before .before .before .args in
+    let b2 = c .before .before in
+    let b6 = b2 .before .before .before .before in
+    let b8 = b6 .before .before in
+    let b12 = b8 .before .before .before .before in
+    let b13 = b12 .before in
+    let b17 = b13 .before .before .before .before in
+    let b18 = b17 .before in
+    let b24 = b18 .before .before .before .before .before .before in
+    let b25 = b24 .before in
+    let b31 = b25 .before .before .before .before .before .before in
+    let b37 = b31 .before .before .before .before .before .before in
+    let a = b37 .args in
     let e = envOf (a .chart .now) (a .beside) (a .rule .now) (a .text .now) in
-    let numbered = append-then (c .before .before .before .before .before .before .put-decimal .ensures) (c .before .before .put-short4 .ensures) in
-    let pieces = append-then (c .before .before .before .before .before .before .before .before .before .before .before .before .before .before .before .before .before .before .before .before .before .before .before .before .put-short2 .ensures) (append-then (c .before .before .before .before .before .before .before .before .before .before .before .before .before .before .before .before .before .put-name .ensures) (append-then (c .before .before .before .before .before .before .before .before .before .before .before .before .put-short3 .ensures) numbered)) in
-    append-then (sign-put (a .tilde) (c .before .before .before .before .before .before .before .before .before .before .before .before .before .before .before .before .before .before .before .before .before .before .before .before .before .before .before .before .before .before .before .put-short .ensures))
-    (rw (lead-closure e (a .k) (c .before .before .before .before .before .before .before .before .if3 .left), ← c .before .before .before .before .before .before .before .before .before .before .before .before .before .before .before .before .before .before .before .before .before .before .before .before .before .front .ensures, ← c .before .before .before .before .before .before .before .before .before .before .before .before .before .before .before .before .before .before .name-in .ensures, ← c .before .before .before .before .before .before .before .before .before .before .before .before .before .back .ensures) pieces)
+    let numbered = append-then (b6 .put-decimal .ensures) (b2 .put-short4 .ensures) in
+    let pieces = append-then (b24 .put-short2 .ensures) (append-then (b17 .put-name .ensures) (append-then (b12 .put-short3 .ensures) numbered)) in
+    append-then (sign-put (a .tilde) (b31 .put-short .ensures))
+    (rw (lead-closure e (a .k) (b8 .if3 .left), ← b25 .front .ensures, ← b18 .name-in .ensures, ← b13 .back .ensures) pieces)
 
 pub put-lead-spec : {M : Type 1} → statement M
 put-lead-spec =
