@@ -1,10 +1,9 @@
--- `walk::self_inverse` meets its contract: a root that tells by itself, and else one walk from no marks, which marks the roots whose kinds are to be
--- looked at.
+-- `walk::self_inverse` meets its contract: a root that tells by itself, what a look at its children tells, and else what a walk does.
 -- Assumes nothing.
+use native.Mathlib.Omega.{arith}
 use borrow.Author.Tests.{not-true, not-false}
 use Rattle.layout.proofs.LinkLaws.{clean-linked}
-use Rattle.walk.proofs.Answers.{inverse-walk}
-use Rattle.walk.proofs.LookLaws.{self-nothing, self-bad, self-bare}
+use Rattle.walk.proofs.LookLaws.{self-nothing, self-bad, self-bare, self-kept, self-met, self-clear}
 use borrow.Author.Needs.{needs}
 use Rattle.walk.proofs.self_inverse.Statement.{statement}
 use Rattle.walk.proofs.self_inverse.Tie as tie
@@ -26,55 +25,59 @@ enum-told c = search needs
 
 returns : tie.Need-returns
 returns c =
-    let at-held-at = c .before .before in
-    let at-idx = at-held-at .before in
-    let at-find = at-idx .before in
-    let start = at-find .before .before .before in
-    self-nothing (start .pre) (start .args .param) (at-find .find .ensures) (at-idx .idx .ensures) (at-held-at .held-at .ensures) (c .enum-told .given .1)
+    self-nothing (c .before .before .before .before .before .before .before .pre) (c .before .before .before .before .before .before .before .args .param) (c .before .before .before .before .find .ensures) (c .before .before .before .idx .ensures) (c .before .before .held-at .ensures) (c .enum-told .given .1)
 
 good-kind-requires : tie.Need-good-kind-requires
 good-kind-requires c κs = search needs
 
 returns-2 : tie.Need-returns-2
 returns-2 c =
-    let at-good-kind = c .before in
-    let at-kind = at-good-kind .before .before in
-    let at-held-at = at-kind .before .before in
-    let at-idx = at-held-at .before in
-    let at-find = at-idx .before in
-    let start = at-find .before .before .before in
-    self-bad (start .pre) (start .args .param) (at-find .find .ensures) (at-idx .idx .ensures)
-    (at-held-at .held-at .ensures) (at-kind .kind .given .1) (at-good-kind .good-kind .ensures) (not-true _ (c .if1 .taken))
+    self-bad (c .before .before .before .before .before .before .before .before .before .before .pre) (c .before .before .before .before .before .before .before .before .before .before .args .param) (c .before .before .before .before .before .before .before .find .ensures) (c .before .before .before .before .before .before .idx .ensures) (c .before .before .before .before .before .held-at .ensures) (c .before .before .before .kind .given .1)
+    (c .before .good-kind .ensures) (not-true _ (c .if1 .taken))
 
 returns-3 : tie.Need-returns-3
 returns-3 c =
-    let at-if1 = c .before .before in
-    let at-good-kind = at-if1 .before in
-    let at-kind = at-good-kind .before .before in
-    let at-held-at = at-kind .before .before in
-    let at-idx = at-held-at .before in
-    let at-find = at-idx .before in
-    let start = at-find .before .before .before in
-    self-bare (start .pre) (start .args .param) (at-find .find .ensures) (at-idx .idx .ensures) (at-held-at .held-at .ensures) (at-kind .kind .given .1) (at-good-kind .good-kind .ensures)
-    (not-false _ (at-if1 .if1 .left)) (c .if2 .taken)
-
-slice-aggregate-find-related : tie.Need-slice-aggregate-find-related
-slice-aggregate-find-related c = search needs
-
-find-related-requires : tie.Need-find-related-requires
-find-related-requires c κs = search needs
-
-slice-aggregate-all-good : tie.Need-slice-aggregate-all-good
-slice-aggregate-all-good c = search needs
-
-all-good-requires : tie.Need-all-good-requires
-all-good-requires c κs = c .before .before .before .before .before .before .before .before .before .before .before .before .before .before .before .before .pre .walks .stands .clean .room
+    self-bare (c .before .before .before .before .before .before .before .before .before .before .before .before .pre) (c .before .before .before .before .before .before .before .before .before .before .before .before .args .param) (c .before .before .before .before .before .before .before .before .before .find .ensures) (c .before .before .before .before .before .before .before .before .idx .ensures) (c .before .before .before .before .before .before .before .held-at .ensures) (c .before .before .before .before .before .kind .given .1)
+    (c .before .before .before .good-kind .ensures) (not-false _ (c .before .before .if1 .left)) (c .if2 .taken)
 
 returns-4 : tie.Need-returns-4
 returns-4 c =
-    let at-find-related = c .before .before .before in
-    let start = at-find-related .before .before .before .before .before .before .before .before .before .before .before .before .before .before in
-    inverse-walk (start .pre) (start .args .param) (at-find-related .find-related .ensures) (c .all-good .ensures)
+    self-kept (c .before .before .before .before .before .before .before .before .before .before .before .before .before .before .pre) (c .before .before .before .before .before .before .before .before .before .before .before .before .before .before .args .param) (c .before .before .before .before .before .before .before .before .before .before .before .find .ensures) (c .before .before .before .before .before .before .before .before .before .before .idx .ensures) (c .before .before .before .before .before .before .before .before .before .held-at .ensures) (c .before .before .before .before .before .before .before .kind .given .1)
+    (c .before .before .before .before .before .good-kind .ensures) (not-false _ (c .before .before .before .before .if1 .left)) (c .if3 .taken)
+
+inverse-deep-requires : tie.Need-inverse-deep-requires
+inverse-deep-requires c κs = search needs
+
+returns-5 : tie.Need-returns-5
+returns-5 c = search needs
+
+inverse-children-requires : tie.Need-inverse-children-requires
+inverse-children-requires c κs = (c .before .before .before .before .before .before .before .before .before .before .before .before .before .before .before .pre .walks .stands, omega (arith, c .if4 .left))
+
+enum-told-2 : tie.Need-enum-told-2
+enum-told-2 c = search needs
+
+enum-told-3 : tie.Need-enum-told-3
+enum-told-3 c = search needs
+
+enum-told-4 : tie.Need-enum-told-4
+enum-told-4 c = search needs
+
+inverse-deep-requires-2 : tie.Need-inverse-deep-requires-2
+inverse-deep-requires-2 c κs = c .before .before .before .before .before .before .before .before .before .before .before .before .before .before .before .before .before .before .pre
+
+returns-6 : tie.Need-returns-6
+returns-6 c =
+    self-met (c .before .before .before .before .before .before .before .before .before .before .before .before .before .before .before .before .before .before .pre) (c .before .before .before .before .before .before .before .before .before .before .before .before .before .before .before .before .before .before .args .param) (c .before .before .before .before .before .before .before .before .before .before .before .before .before .before .before .find .ensures) (c .before .before .before .before .before .before .before .before .before .before .before .before .before .before .idx .ensures) (c .before .before .before .before .before .before .before .before .before .before .before .before .before .held-at .ensures) (c .before .before .before .before .before .before .before .before .before .before .before .kind .given .1)
+    (c .before .before .before .before .before .before .before .before .before .good-kind .ensures) (c .before .before .inverse-children .ensures) (c .before .before .before .before .if3 .left) (c .enum-told2 .given .1)
+
+returns-7 : tie.Need-returns-7
+returns-7 c =
+    self-clear (c .before .before .before .before .before .before .before .before .before .before .before .before .before .before .before .before .before .before .pre) (c .before .before .before .before .before .before .before .before .before .before .before .before .before .before .before .before .before .before .args .param) (c .before .before .before .before .before .before .before .before .before .before .before .before .before .before .before .find .ensures) (c .before .before .before .before .before .before .before .before .before .before .before .before .before .before .idx .ensures) (c .before .before .before .before .before .before .before .before .before .before .before .before .before .held-at .ensures) (c .before .before .before .before .before .before .before .before .before .before .before .kind .given .1)
+    (c .before .before .before .before .before .before .before .before .before .good-kind .ensures) (c .before .before .inverse-children .ensures) (not-false _ (c .before .before .before .before .before .before .before .before .if1 .left)) (c .enum-told3 .given .1)
+
+returns-8 : tie.Need-returns-8
+returns-8 c = search needs
 
 pub self-inverse-spec : {M : Type 1} → statement M
 self-inverse-spec =
@@ -89,8 +92,14 @@ self-inverse-spec =
     good-kind-requires
     returns-2
     returns-3
-    slice-aggregate-find-related
-    find-related-requires
-    slice-aggregate-all-good
-    all-good-requires
-    returns-4)
+    returns-4
+    inverse-deep-requires
+    returns-5
+    inverse-children-requires
+    enum-told-2
+    enum-told-3
+    enum-told-4
+    inverse-deep-requires-2
+    returns-6
+    returns-7
+    returns-8)
