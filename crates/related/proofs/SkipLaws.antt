@@ -36,7 +36,8 @@ same-root : (ns : List Node) (t u : Ty) → t .idx ≡ u .idx → find ns t .idx
 same-root ns t u e = find-idx ns t ∙ (ap (λ (i : ℕ). view ns .rep i .idx) e ∙ sym (find-idx ns u))
 
 -- the node of the child in a slot
-slot-seen : (ks seen : List ℕ) (s : ℕ) {j : ℕ} {b : Bool} (d : Slot) → slotMeans d ≡ slotAt ks s → j ≡ tyOf (d .ty .0) .idx → b ≡ marked seen j → b ≡ true → slotSeen ks seen s ≡ true
+slot-seen : (ks seen : List ℕ) (s : ℕ) {j : ℕ} {b : Bool} (d : Slot) → slotMeans d ≡ slotAt ks s → j ≡ tyOf (d .ty .0) .idx
+    → b ≡ marked seen j → b ≡ true → slotSeen ks seen s ≡ true
 slot-seen ks seen s d q o m z = ap (marked seen) (sym (o ∙ ap (λ x. tyOf (x .type) .idx) q)) ∙ (sym m ∙ z)
 
 -- a table of nothing

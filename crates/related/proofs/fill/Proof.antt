@@ -47,7 +47,10 @@ loop-less : tie.Need-loop-less Inv-loop μ-loop
 loop-less c = omega (arith, c .before .loop-test .taken)
 
 loop-again : tie.Need-loop-again Inv-loop μ-loop
-loop-again c = (filled-next (c .before .before .loop .inv .0) (c .before .before .loop .inv .1) (c .before .loop-test .taken) refl, omega (arith, c .before .before .loop .inv .1), rw length-set (c .before .before .loop .inv .2))
+loop-again c =
+    let b1 = c .before in
+    let b2 = b1 .before in
+    (filled-next (b2 .loop .inv .0) (b2 .loop .inv .1) (b1 .loop-test .taken) refl, omega (arith, b2 .loop .inv .1), rw length-set (b2 .loop .inv .2))
 
 same-length-2 : tie.Need-same-length-2 Inv-loop μ-loop
 same-length-2 c = c .before .loop .inv .2

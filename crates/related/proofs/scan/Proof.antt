@@ -43,7 +43,14 @@ loop-less : tie.Need-loop-less Inv-loop μ-loop
 loop-less c = omega (arith, c .before .before .before .before .before .before .loop-test .taken)
 
 loop-again : tie.Need-loop-again Inv-loop μ-loop
-loop-again c = scanned-next (c .before .before .before .before .before .child-at .result) (c .before .before .before .before .before .before .before .loop .inv) (c .before .before .before .before .before .before .loop-test .taken) (c .before .before .before .before .before .child-at .ensures) (c .before .before .before .before .idx .ensures) (c .before .before .before .is-marked .ensures) (not-false _ (c .before .before .if1 .left))
+loop-again c =
+    let b2 = c .before .before in
+    let b3 = b2 .before in
+    let b4 = b3 .before in
+    let b5 = b4 .before in
+    let b6 = b5 .before in
+    let b7 = b6 .before in
+    scanned-next (b5 .child-at .result) (b7 .loop .inv) (b6 .loop-test .taken) (b5 .child-at .ensures) (b4 .idx .ensures) (b3 .is-marked .ensures) (not-false _ (b2 .if1 .left))
 
 returns-3 : tie.Need-returns-3 Inv-loop μ-loop
 returns-3 c = c .before .loop .inv

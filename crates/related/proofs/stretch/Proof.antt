@@ -27,7 +27,14 @@ same-length : tie.Need-same-length
 same-length c = search needs
 
 returns : tie.Need-returns
-returns c = stretched-full (c .before .before .before .before .before .before .before .child-at .result) (c .before .before .before .before .before .before .before .before .scan .ensures) (c .before .before .fill .ensures) (c .before .before .before .before .before .before .before .child-at .ensures) (c .before .before .before .before .before .before .idx .ensures) (c .before .before .before .before .before .is-marked .ensures) (c .before .before .before .before .if1 .taken)
+returns c =
+    let b2 = c .before .before in
+    let b4 = b2 .before .before in
+    let b5 = b4 .before in
+    let b6 = b5 .before in
+    let b7 = b6 .before in
+    let b8 = b7 .before in
+    stretched-full (b7 .child-at .result) (b8 .scan .ensures) (b2 .fill .ensures) (b7 .child-at .ensures) (b6 .idx .ensures) (b5 .is-marked .ensures) (b4 .if1 .taken)
 
 same-length-2 : tie.Need-same-length-2
 same-length-2 c = search needs

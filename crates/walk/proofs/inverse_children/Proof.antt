@@ -34,8 +34,12 @@ enum-told c = search needs
 
 returns : tie.Need-returns Inv-loop μ-loop
 returns c =
-    judged-met (c .before .before .before .before .before .before .before .before .before .before .pre .0) (c .before .before .before .before .before .before .before .before .before .before .args .param) _ (c .before .before .before .before .child-of .result) (c .before .before .before .before .before .if1 .taken) (c .before .before .before .before .child-of .ensures)
-    (c .before .before .inverse-child .ensures) (c .enum-told .given .1)
+    let b2 = c .before .before in
+    let b4 = b2 .before .before in
+    let b5 = b4 .before in
+    let b10 = b5 .before .before .before .before .before in
+    judged-met (b10 .pre .0) (b10 .args .param) _ (b4 .child-of .result) (b5 .if1 .taken) (b4 .child-of .ensures)
+    (b2 .inverse-child .ensures) (c .enum-told .given .1)
 
 enum-told-2 : tie.Need-enum-told-2 Inv-loop μ-loop
 enum-told-2 c = search needs
@@ -45,8 +49,13 @@ loop-less c = omega (arith, c .before .before .before .before .before .if1 .take
 
 loop-again : tie.Need-loop-again Inv-loop μ-loop
 loop-again c =
-    rest-clear (c .before .before .before .before .before .before .before .before .before .before .pre .0) (c .before .before .before .before .before .before .before .before .before .before .args .param) _ (c .before .before .before .before .child-of .result) (c .before .before .before .before .before .if1 .taken) (c .before .before .before .before .child-of .ensures)
-    (c .before .before .inverse-child .ensures) (c .enum-told2 .given .1) (c .before .before .before .before .before .before .before .loop .inv)
+    let b2 = c .before .before in
+    let b4 = b2 .before .before in
+    let b5 = b4 .before in
+    let b7 = b5 .before .before in
+    let b10 = b7 .before .before .before in
+    rest-clear (b10 .pre .0) (b10 .args .param) _ (b4 .child-of .result) (b5 .if1 .taken) (b4 .child-of .ensures)
+    (b2 .inverse-child .ensures) (c .enum-told2 .given .1) (b7 .loop .inv)
 
 enum-told-3 : tie.Need-enum-told-3 Inv-loop μ-loop
 enum-told-3 c = search needs

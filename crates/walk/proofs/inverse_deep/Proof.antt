@@ -18,7 +18,10 @@ all-good-requires : tie.Need-all-good-requires
 all-good-requires c κs = search needs
 
 returns : tie.Need-returns
-returns c = inverse-walk (c .before .before .before .before .before .before .before .pre) (c .before .before .before .before .before .before .before .args .param) (c .before .before .before .find-related .ensures) (c .all-good .ensures)
+returns c =
+    let b3 = c .before .before .before in
+    let b7 = b3 .before .before .before .before in
+    inverse-walk (b7 .pre) (b7 .args .param) (b3 .find-related .ensures) (c .all-good .ensures)
 
 pub inverse-deep-spec : {M : Type 1} → statement M
 inverse-deep-spec =

@@ -25,25 +25,49 @@ enum-told c = search needs
 
 returns : tie.Need-returns
 returns c =
-    self-nothing (c .before .before .before .before .before .before .before .pre) (c .before .before .before .before .before .before .before .args .param) (c .before .before .before .before .find .ensures) (c .before .before .before .idx .ensures) (c .before .before .held-at .ensures) (c .enum-told .given .1)
+    let b2 = c .before .before in
+    let b3 = b2 .before in
+    let b4 = b3 .before in
+    let b7 = b4 .before .before .before in
+    self-nothing (b7 .pre) (b7 .args .param) (b4 .find .ensures) (b3 .idx .ensures) (b2 .held-at .ensures) (c .enum-told .given .1)
 
 good-kind-requires : tie.Need-good-kind-requires
 good-kind-requires c κs = search needs
 
 returns-2 : tie.Need-returns-2
 returns-2 c =
-    self-bad (c .before .before .before .before .before .before .before .before .before .before .pre) (c .before .before .before .before .before .before .before .before .before .before .args .param) (c .before .before .before .before .before .before .before .find .ensures) (c .before .before .before .before .before .before .idx .ensures) (c .before .before .before .before .before .held-at .ensures) (c .before .before .before .kind .given .1)
-    (c .before .good-kind .ensures) (not-true _ (c .if1 .taken))
+    let b1 = c .before in
+    let b3 = b1 .before .before in
+    let b5 = b3 .before .before in
+    let b6 = b5 .before in
+    let b7 = b6 .before in
+    let b10 = b7 .before .before .before in
+    self-bad (b10 .pre) (b10 .args .param) (b7 .find .ensures) (b6 .idx .ensures) (b5 .held-at .ensures) (b3 .kind .given .1)
+    (b1 .good-kind .ensures) (not-true _ (c .if1 .taken))
 
 returns-3 : tie.Need-returns-3
 returns-3 c =
-    self-bare (c .before .before .before .before .before .before .before .before .before .before .before .before .pre) (c .before .before .before .before .before .before .before .before .before .before .before .before .args .param) (c .before .before .before .before .before .before .before .before .before .find .ensures) (c .before .before .before .before .before .before .before .before .idx .ensures) (c .before .before .before .before .before .before .before .held-at .ensures) (c .before .before .before .before .before .kind .given .1)
-    (c .before .before .before .good-kind .ensures) (not-false _ (c .before .before .if1 .left)) (c .if2 .taken)
+    let b2 = c .before .before in
+    let b3 = b2 .before in
+    let b5 = b3 .before .before in
+    let b7 = b5 .before .before in
+    let b8 = b7 .before in
+    let b9 = b8 .before in
+    let b12 = b9 .before .before .before in
+    self-bare (b12 .pre) (b12 .args .param) (b9 .find .ensures) (b8 .idx .ensures) (b7 .held-at .ensures) (b5 .kind .given .1)
+    (b3 .good-kind .ensures) (not-false _ (b2 .if1 .left)) (c .if2 .taken)
 
 returns-4 : tie.Need-returns-4
 returns-4 c =
-    self-kept (c .before .before .before .before .before .before .before .before .before .before .before .before .before .before .pre) (c .before .before .before .before .before .before .before .before .before .before .before .before .before .before .args .param) (c .before .before .before .before .before .before .before .before .before .before .before .find .ensures) (c .before .before .before .before .before .before .before .before .before .before .idx .ensures) (c .before .before .before .before .before .before .before .before .before .held-at .ensures) (c .before .before .before .before .before .before .before .kind .given .1)
-    (c .before .before .before .before .before .good-kind .ensures) (not-false _ (c .before .before .before .before .if1 .left)) (c .if3 .taken)
+    let b4 = c .before .before .before .before in
+    let b5 = b4 .before in
+    let b7 = b5 .before .before in
+    let b9 = b7 .before .before in
+    let b10 = b9 .before in
+    let b11 = b10 .before in
+    let b14 = b11 .before .before .before in
+    self-kept (b14 .pre) (b14 .args .param) (b11 .find .ensures) (b10 .idx .ensures) (b9 .held-at .ensures) (b7 .kind .given .1)
+    (b5 .good-kind .ensures) (not-false _ (b4 .if1 .left)) (c .if3 .taken)
 
 inverse-deep-requires : tie.Need-inverse-deep-requires
 inverse-deep-requires c κs = search needs
@@ -52,7 +76,9 @@ returns-5 : tie.Need-returns-5
 returns-5 c = search needs
 
 inverse-children-requires : tie.Need-inverse-children-requires
-inverse-children-requires c κs = (c .before .before .before .before .before .before .before .before .before .before .before .before .before .before .before .pre .walks .stands, omega (arith, c .if4 .left))
+inverse-children-requires c κs =
+    let b15 = c .before .before .before .before .before .before .before .before .before .before .before .before .before .before .before in
+    (b15 .pre .walks .stands, omega (arith, c .if4 .left))
 
 enum-told-2 : tie.Need-enum-told-2
 enum-told-2 c = search needs
@@ -68,13 +94,29 @@ inverse-deep-requires-2 c κs = c .before .before .before .before .before .befor
 
 returns-6 : tie.Need-returns-6
 returns-6 c =
-    self-met (c .before .before .before .before .before .before .before .before .before .before .before .before .before .before .before .before .before .before .pre) (c .before .before .before .before .before .before .before .before .before .before .before .before .before .before .before .before .before .before .args .param) (c .before .before .before .before .before .before .before .before .before .before .before .before .before .before .before .find .ensures) (c .before .before .before .before .before .before .before .before .before .before .before .before .before .before .idx .ensures) (c .before .before .before .before .before .before .before .before .before .before .before .before .before .held-at .ensures) (c .before .before .before .before .before .before .before .before .before .before .before .kind .given .1)
-    (c .before .before .before .before .before .before .before .before .before .good-kind .ensures) (c .before .before .inverse-children .ensures) (c .before .before .before .before .if3 .left) (c .enum-told2 .given .1)
+    let b2 = c .before .before in
+    let b4 = b2 .before .before in
+    let b9 = b4 .before .before .before .before .before in
+    let b11 = b9 .before .before in
+    let b13 = b11 .before .before in
+    let b14 = b13 .before in
+    let b15 = b14 .before in
+    let b18 = b15 .before .before .before in
+    self-met (b18 .pre) (b18 .args .param) (b15 .find .ensures) (b14 .idx .ensures) (b13 .held-at .ensures) (b11 .kind .given .1)
+    (b9 .good-kind .ensures) (b2 .inverse-children .ensures) (b4 .if3 .left) (c .enum-told2 .given .1)
 
 returns-7 : tie.Need-returns-7
 returns-7 c =
-    self-clear (c .before .before .before .before .before .before .before .before .before .before .before .before .before .before .before .before .before .before .pre) (c .before .before .before .before .before .before .before .before .before .before .before .before .before .before .before .before .before .before .args .param) (c .before .before .before .before .before .before .before .before .before .before .before .before .before .before .before .find .ensures) (c .before .before .before .before .before .before .before .before .before .before .before .before .before .before .idx .ensures) (c .before .before .before .before .before .before .before .before .before .before .before .before .before .held-at .ensures) (c .before .before .before .before .before .before .before .before .before .before .before .kind .given .1)
-    (c .before .before .before .before .before .before .before .before .before .good-kind .ensures) (c .before .before .inverse-children .ensures) (not-false _ (c .before .before .before .before .before .before .before .before .if1 .left)) (c .enum-told3 .given .1)
+    let b2 = c .before .before in
+    let b8 = b2 .before .before .before .before .before .before in
+    let b9 = b8 .before in
+    let b11 = b9 .before .before in
+    let b13 = b11 .before .before in
+    let b14 = b13 .before in
+    let b15 = b14 .before in
+    let b18 = b15 .before .before .before in
+    self-clear (b18 .pre) (b18 .args .param) (b15 .find .ensures) (b14 .idx .ensures) (b13 .held-at .ensures) (b11 .kind .given .1)
+    (b9 .good-kind .ensures) (b2 .inverse-children .ensures) (not-false _ (b8 .if1 .left)) (c .enum-told3 .given .1)
 
 returns-8 : tie.Need-returns-8
 returns-8 c = search needs
