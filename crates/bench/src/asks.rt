@@ -69,5 +69,5 @@ pub extern "C" fn faroalder_direct_find_related(
     requires { ⌜ Stands (now ws) (now ks) n ⌝ }
     ensures { λ _. ⌜ now (marks .exit) ≡ findRelated (decode (now (ws .entry)) (now (ks .entry)) n) (tyOf t) (now (marks .entry)) ⌝ }
 {
-    walk::find_related(ws, ks, n, marks, Type(t));
+    related::find_related(ws, ks, n, marks, Type(t));
 }

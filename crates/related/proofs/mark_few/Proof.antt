@@ -1,9 +1,9 @@
--- `walk::mark_few` meets its contract: a walk from tables of nothing.
+-- `related::mark_few` meets its contract: a walk from tables of nothing.
 -- Assumes nothing.
-use Rattle.walk.proofs.SkipLaws.{keeps-zeros}
+use Rattle.related.proofs.SkipLaws.{keeps-zeros}
 use borrow.Author.Needs.{needs}
-use Rattle.walk.proofs.mark_few.Statement.{statement}
-use Rattle.walk.proofs.mark_few.Tie as tie
+use Rattle.related.proofs.mark_few.Statement.{statement}
+use Rattle.related.proofs.mark_few.Tie as tie
 
 slice-aggregate-mark-below : tie.Need-slice-aggregate-mark-below
 slice-aggregate-mark-below c = search needs
@@ -11,8 +11,11 @@ slice-aggregate-mark-below c = search needs
 slice-aggregate-mark-below-2 : tie.Need-slice-aggregate-mark-below-2
 slice-aggregate-mark-below-2 c = search needs
 
+slice-aggregate-mark-below-3 : tie.Need-slice-aggregate-mark-below-3
+slice-aggregate-mark-below-3 c = search needs
+
 mark-below-requires : tie.Need-mark-below-requires
-mark-below-requires c κs = (c .before .before .before .before .before .before .pre, keeps-zeros _ _ _ _ 256 1)
+mark-below-requires c κs = (c .before .before .before .before .before .before .before .pre, keeps-zeros _ _ _ _ 256 256 1)
 
 same-length : tie.Need-same-length
 same-length c = search needs
@@ -26,6 +29,7 @@ mark-few-spec =
     (tie.spec
     slice-aggregate-mark-below
     slice-aggregate-mark-below-2
+    slice-aggregate-mark-below-3
     mark-below-requires
     same-length
     returns)

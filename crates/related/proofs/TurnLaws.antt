@@ -9,7 +9,7 @@ use native.Mathlib.Omega.{arith}
 use native.Mathlib.Numerals.{add-one}
 use native.Mathlib.Decide.{decLt}
 use lib.Dec.{eqb}
-use lib.ListN.{length, getD, set}
+use lib.ListN.{length, getD, set, length-set}
 use borrow.Author.Tests.{eqb-true, not-false}
 use Rattle.scope.specs.Types.{Ty, tyOf}
 use Rattle.scope.specs.Nodes.{Node, at, stateOf, find, kidsOf}
@@ -22,9 +22,13 @@ use Rattle.layout.specs.declared.Slot.{Slot}
 use Rattle.layout.specs.declared.Held.{Held}
 use Rattle.layout.specs.declared.Held.the-variants.{Is, Nothing}
 use Rattle.layout.proofs.HeldLaws.{held-kids}
-use Rattle.walk.specs.Skips.{relatedBelow, slotMarked}
-use Rattle.walk.specs.Asks.{Stands}
-use Rattle.walk.proofs.Laws.{mark-met, mark-new}
+use Rattle.types.specs.declared.TypeIdx.{TypeIdx}
+use Rattle.related.specs.declared.Meeting.{Meeting}
+use Rattle.related.specs.declared.Meeting.the-variants.{Met, New}
+use Rattle.related.specs.Skips.{relatedBelow, slotMarked, Scanned, Meets, Keeps}
+use Rattle.related.specs.Stands.{Stands}
+use Rattle.related.proofs.Laws.{mark-met, mark-new}
+use Rattle.related.proofs.SkipLaws.{keeps-seen}
 
 -- the children in the slots from s on, up to e
 
@@ -115,3 +119,23 @@ module _ (d : ℕ) (ns : List Node) {ks : List ℕ} {s₀ e : ℕ} {ms₀ ms : L
   turn-pass {s} (suc r) c h =
       let z : s + suc r ≡ s + 1 + r = omega arith in
       rw z (turn-pass r (pass-one c (h s (omega arith) (omega arith))) (λ x l u. h x (omega arith) (omega arith)))
+
+-- a slot, and those after it whose children's nodes have been told
+pub turn-stretch : (d : ℕ) {ws ks : List ℕ} {n s₀ e r : ℕ} {ms₀ cache ms seen skip : List ℕ} (s : ℕ) → Turn (relatedF d (decode ws ks n)) ks s₀ e ms₀ ms (s + 1)
+    → Keeps ws ks n cache ms seen skip → Scanned ks seen (s + 1) e r → Turn (relatedF d (decode ws ks n)) ks s₀ e ms₀ ms r
+turn-stretch d {ws} {ks} {n} {r = r} s c k w =
+    let z : s + 1 + (r - (s + 1)) ≡ r = omega (arith, w .from) in
+    rw z at (turn-pass d (decode ws ks n) (r - (s + 1)) c (λ x l u. keeps-seen k x (w .over x l (omega (arith, w .from)))))
+
+-- a child whose root was marked, and one whose root is marked now and walked on from
+module _ (f : ℕ) {ws ks : List ℕ} {n s₀ e : ℕ} {ms₀ cache ms ms′ seen : List ℕ} {r : Meeting} {s : ℕ} (c : Turn (relatedF f (decode ws ks n)) ks s₀ e ms₀ ms s) (d : Slot)
+    (h : s < e) (q : slotMeans d ≡ slotAt ks s) (w : Meets ws n (d .ty .0) cache ms ms′ seen r) where
+  pub turn-met : r ≡ Met → Turn (relatedF f (decode ws ks n)) ks s₀ e ms₀ ms′ (s + 1)
+  turn-met z =
+      turn-next c d h q (w .same z ∙ mark-met f (decode ws ks n) ms (tyOf (d .ty .0)) refl refl (w .met z ks)) (ap (λ (m : List ℕ). length m) (w .same z))
+
+  pub turn-new : {i : TypeIdx} {ms″ : List ℕ} → (f ≡ 0 → ⊥) → r ≡ New i → ms″ ≡ relatedBelow (f - 1) (decode ws ks n) ms′ (i .0) → length ms″ ≡ length ms′
+      → Turn (relatedF f (decode ws ks n)) ks s₀ e ms₀ ms″ (s + 1)
+  turn-new {i} a z v l =
+      turn-next c d h q (mark-walked f (decode ws ks n) ms (tyOf (d .ty .0)) a (w .root i z ks) refl (w .fresh i z) (w .mark i z) v)
+      (l ∙ (ap (λ (m : List ℕ). length m) (w .mark i z) ∙ length-set ms (i .0) 1))

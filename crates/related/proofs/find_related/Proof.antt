@@ -1,12 +1,12 @@
--- `walk::find_related` meets its contract: a root's mark, and the walk on from it with a depth of as many roots as there are other nodes.
+-- `related::find_related` meets its contract: a root's mark, and the walk on from it with a depth of as many roots as there are other nodes.
 -- Assumes nothing.
 use mathlib.Core.Path.{_∙_}
 use Rattle.layout.proofs.LinkLaws.{clean-linked}
-use Rattle.walk.proofs.Laws.{root-is, mark-shallow, mark-met, mark-whole}
-use Rattle.walk.proofs.TurnLaws.{mark-walked}
+use Rattle.related.proofs.Laws.{root-is, mark-shallow, mark-met, mark-whole}
+use Rattle.related.proofs.TurnLaws.{mark-walked}
 use borrow.Author.Needs.{needs}
-use Rattle.walk.proofs.find_related.Statement.{statement}
-use Rattle.walk.proofs.find_related.Tie as tie
+use Rattle.related.proofs.find_related.Statement.{statement}
+use Rattle.related.proofs.find_related.Tie as tie
 
 returns : tie.Need-returns
 returns c =
