@@ -19,7 +19,8 @@ use Rattle.scope.specs.Nodes as nodes
 use Rattle.names.specs.Place.{nameFrom}
 use Rattle.scope.specs.Sound.{zeros, nodeIn, kindBare, namesClean, kindIn}
 use Rattle.layout.specs.Words.{nodeWords, nodeField, slotAt, cellAt, nodeAt, nodeClean}
-use Rattle.layout.specs.Meaning.{flagWord, cellBy, cellIn, wordsOf, nodeOf, plainCell, cellOf, cellKind, cellWords, pasteAt, readAt, putAt, heldIn, cellMeans, kindCell, kindMeans, nodeMeans, kindFits, nodeFits, typeOf, slotMeans}
+use Rattle.layout.specs.Meaning.{flagWord, cellBy, cellIn, wordsOf, nodeOf, plainCell, cellOf, cellKind, cellWords, pasteAt}
+use Rattle.layout.specs.Meaning.{readAt, putAt, heldIn, cellMeans, kindCell, kindMeans, nodeMeans, kindFits, nodeFits, typeOf, slotMeans}
 use Rattle.layout.specs.declared.Cell.{Cell}
 use Rattle.layout.specs.declared.Kind.{Kind}
 use Rattle.layout.specs.declared.Held.{Held}
