@@ -1,27 +1,23 @@
 -- The steps of copying a root, in words: it is begun, its children are moved one by one, and it takes its kind.
 use mathlib.Core.Path.{_≡_}
-use mathlib.Core.Bool.{Bool}
 use mathlib.Core.List.{List}
 use Prim.Native.Nat.{ℕ, _+_}
 use lib.ListN.{set}
-use Rattle.scope.specs.Types.{flip, tyOf}
 use Rattle.scope.specs.Sound as sound
 use Rattle.types.specs.declared.«Type».{«Type»}
-use Rattle.layout.specs.Words.{nodesMade, childrenMade, slotAt}
-use Rattle.layout.specs.Meaning.{headerIn, putAt, putSlot, slotMeans}
+use Rattle.layout.specs.Words.{nodesMade, slotAt}
+use Rattle.layout.specs.Meaning.{putAt, putSlot, slotMeans}
 use Rattle.layout.specs.declared.Slot.{Slot}
 use Rattle.layout.specs.declared.Held.{Held}
 use Rattle.layout.specs.declared.Held.the-variants.{Is, Nothing}
-use Rattle.layout.specs.declared.TypeState.the-variants.{Known, Unknown}
+use Rattle.layout.specs.declared.TypeState.the-variants.{Known}
 use Rattle.layout.specs.declared.TypeNode.the-variants.{Root}
 use Rattle.layout.proofs.KindLaws.{movedTo}
-use Rattle.make.specs.Header.{Pushed}
-use Rattle.copy_parts.specs.declared.Blank.{Blank}
+use Rattle.make.specs.Made.{BlankMade}
 
-pub record Begun (table h ws : List ℕ) (i span count : ℕ) (table′ h′ ws′ : List ℕ) (r : Blank) : Type 0 where
-  pub pushed : Pushed h ws h′ ws′ (headerIn h) count (headerIn h .error) (headerIn h .nil) (Unknown span) (r .ty)
+pub record Begun (table h ws ks : List ℕ) (i span count : ℕ) (table′ h′ ws′ : List ℕ) (t : «Type») : Type 0 where
+  pub blank : BlankMade h ws ks h′ ws′ span count t
   pub noted : table′ ≡ set table i (nodesMade h + 1)
-  pub first : r .first ≡ childrenMade h
 
 -- a child's numbers, with another type
 abbrev pub retyped : sound.Slot → ℕ → sound.Slot
@@ -36,8 +32,3 @@ pub record ChildMoved (sk : List ℕ) (from : ℕ) (ks : List ℕ) (first j t : 
 abbrev pub ended : List ℕ → ℕ → ℕ → ℕ → Held → List ℕ
 ended ws n i first (Is inv k) = putAt ws n i (Root (Known inv (movedTo k first)) 1)
 ended ws n i first Nothing = ws
-
--- node x takes what the source's root holds, and t is its type, inverted as the root is
-pub record Ended (ws : List ℕ) (x first : ℕ) (v : Held) (inv : Bool) (ws′ : List ℕ) (t : «Type») : Type 0 where
-  pub nodes : ws′ ≡ ended ws (x + 1) x first v
-  pub type : tyOf (t .0) ≡ flip inv (tyOf x)

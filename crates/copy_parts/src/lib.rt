@@ -1,21 +1,20 @@
 // The steps of copying types out of one store into another, by a table with a number for each node of the source: 0 where a root has no copy, else its
 // copy's number and 1. What a root becomes; its blank, a child moved, the kind taken. Nothing here can fail: what is asked for is room.
 ghost use mathlib.Core.Path.{_≡_};
-ghost use Prim.Native.Nat.{_+_, _*_, _<_, _≤_};
+ghost use Prim.Native.Nat.{_+_, _*_, _≤_};
 ghost use lib.ListN.{length, getD, set};
 ghost use Rattle.scope.specs.Limits.{MAX-NODES};
 ghost use Rattle.scope.specs.Types.{tyOf};
-ghost use Rattle.layout.specs.Words.{CHILD-WORDS, nodeWords};
+ghost use Rattle.layout.specs.Words.{CHILD-WORDS, nodeWords, nodesMade};
 ghost use Rattle.layout.specs.Meaning.{heldIn, readAt};
-ghost use Rattle.make.specs.Header.{BlankReady};
+ghost use Rattle.store.specs.Holds.{Ready};
 ghost use Rattle.copy_parts.specs.Places.{EntryPlace, KindPlace, StatePlace, RootPlace};
-ghost use Rattle.copy_parts.specs.Steps.{Begun, ChildMoved, Ended};
+ghost use Rattle.copy_parts.specs.Steps.{Begun, ChildMoved, ended};
 use layout::Held;
 use layout::Kind;
 use layout::Slot;
 use layout::TypeNode;
 use layout::TypeState;
-use layout::heads;
 use scope::NONE;
 use types::Inverted;
 use types::Type;
@@ -27,12 +26,6 @@ pub enum Place {
     Is(Type),
     // A new node: its span until it takes its kind, and the children that lie from a place on, so many.
     Node(u32, u32, u32),
-}
-
-// A copy that has no kind yet, and where its children are reserved.
-pub struct Blank {
-    pub ty: Type,
-    pub first: u32,
 }
 
 // A Param takes the entry's inversion, its own, and that of the type that led to it. One with no entry stays as it is: callers have tested for it.
@@ -106,23 +99,23 @@ fn note(table: &mut [u32], i: TypeIdx, number: u32)
     }
 }
 
-// A new Unknown for a source root, with `count` children reserved, and the table says so.
+// A new Unknown for the source root i, with `count` children reserved, and the table says so.
 pub fn begin(
     table: &mut [u32],
     h: &mut [u32],
     ws: &mut [u32],
-    root: Type,
+    ks: &[u32],
+    i: TypeIdx,
     span: u32,
     count: u32,
-) -> Blank
-    requires { ⌜ BlankReady (now h) (now ws) count ⌝ }
-    ensures { λ r. ⌜ Begun (now (table .entry)) (now (h .entry)) (now (ws .entry)) (tyOf (root .0) .idx) span count
+) -> Type
+    requires { ⌜ Ready (now h) (now ws) (now ks) 1 count ⌝ }
+    ensures { λ r. ⌜ Begun (now (table .entry)) (now (h .entry)) (now (ws .entry)) (now (ks .entry)) (i .0) span count
         (now (table .exit)) (now (h .exit)) (now (ws .exit)) r ⌝ }
 {
-    let first = heads::children_made(h);
-    let ty = make::push_unknown(h, ws, span, count);
-    note(table, root.idx(), ty.0 + 1);
-    Blank { ty, first }
+    let new = make::push_unknown(h, ws, span, count);
+    note(table, i, new.0 + 1);
+    new
 }
 
 // The type t stands in the reserved slot j, with the name of the source's child j.
@@ -134,17 +127,14 @@ pub fn move_child(sk: &[u32], from: u32, ks: &mut [u32], first: u32, j: u32, t: 
     layout::put_child(ks, first as usize + j as usize, Slot { ty: t, name });
 }
 
-// "Then takes its kind": the copy of a source root, with its children where they are reserved. What has no kind stays an Unknown. The answer is the type
-// that stands for the root.
-pub fn end(sw: &[u32], n: u32, root: Type, ws: &mut [u32], new: Blank) -> Type
-    requires { ⌜ (nodeWords n ≤ length (now sw)) × ((new .ty .0 < MAX-NODES) × (nodeWords (new .ty .0 + 1) ≤ length (now ws))) ⌝ }
-    ensures { λ r. ⌜ Ended (now (ws .entry)) (new .ty .0) (new .first) (heldIn (readAt (now (sw .entry)) n (tyOf (root .0) .idx))) (tyOf (root .0) .inv)
-        (now (ws .exit)) r ⌝ }
+// "Then takes its kind": the copy of the source root i, with its children from `first` on. What has no kind stays an Unknown.
+pub fn end(sw: &[u32], n: u32, i: TypeIdx, h: &[u32], ws: &mut [u32], new: TypeIdx, first: u32)
+    requires { ⌜ (nodeWords n ≤ length (now sw)) × (nodeWords (nodesMade (now h)) ≤ length (now ws)) ⌝ }
+    ensures { λ _. ⌜ now (ws .exit) ≡ ended (now (ws .entry)) (nodesMade (now (h .entry))) (new .0) first (heldIn (readAt (now (sw .entry)) n (i .0))) ⌝ }
 {
-    let ty = new.ty;
-    let answer = ty.invert_if(root.inv());
-    let Held::Is(inv, kind) = layout::held_at(sw, n, root.idx()) else {
-        return answer;
+    let made = layout::read_header(h).nodes;
+    let Held::Is(inv, kind) = layout::held_at(sw, n, i) else {
+        return;
     };
     let name = kind.name;
     let moved = Kind {
@@ -153,15 +143,9 @@ pub fn end(sw: &[u32], n: u32, root: Type, ws: &mut [u32], new: Blank) -> Type
         dual: kind.dual,
         flex: kind.flex,
         name,
-        first: new.first,
+        first,
         count: kind.count,
     };
     let state = TypeState::Known(inv, moved);
-    layout::put_node(
-        ws,
-        ty.0 + 1,
-        TypeIdx(ty.0),
-        TypeNode::Root { state, size: 1 },
-    );
-    answer
+    layout::put_node(ws, made, new, TypeNode::Root { state, size: 1 });
 }

@@ -7,9 +7,8 @@ use mathlib.Core.List.{List, [], _∷_}
 use Prim.Native.Nat.{ℕ, suc, _+_, _-_, _≤_, _<_}
 use native.Mathlib.Omega.{arith}
 use lib.ListN.{length, getD, set, length-append, length-set}
-use borrow.Author.Tests.{lt-ltb}
 use Rattle.scope.specs.Limits.{MAX-NODES}
-use Rattle.scope.specs.Types.{Ty, ty, flip, tyOf}
+use Rattle.scope.specs.Types.{Ty, ty, flip, INV-BIT, tyOf}
 use Rattle.scope.specs.Nodes as nodes
 use Rattle.scope.specs.Nodes.{Node, Store, at, stateOf, stateAt, find, kidsOf, isKnown}
 use Rattle.scope.specs.Make.{pushed}
@@ -18,9 +17,9 @@ use Rattle.scope.proofs.CopyTable.{Copying, Copied, CopiedAll, noted, filled, c
 use Rattle.scope.proofs.CopyTableLaws.{copy-end, left-start, grows-all, copy-grows, Placed, placed-noted}
 use Rattle.types.specs.declared.«Type».{«Type»}
 use Rattle.types.specs.declared.Inverted.{Inverted}
-use Rattle.types.proofs.Laws.{ty-new}
+use Rattle.types.proofs.Laws.{ty-plain, ty-new}
 use Rattle.layout.specs.Words as words
-use Rattle.layout.specs.Words.{nodeWords, nodesMade, childrenMade, slotAt, decode, storeIn}
+use Rattle.layout.specs.Words.{nodesMade, childrenMade, slotAt, decode, storeIn}
 use Rattle.layout.specs.Meaning.{readAt, heldIn, heldKids, kindMeans, kindFits, putAt}
 use Rattle.layout.specs.declared.Kind.{Kind}
 use Rattle.layout.specs.declared.Held.{Held}
@@ -28,20 +27,16 @@ use Rattle.layout.specs.declared.Held.the-variants.{Is, Nothing}
 use Rattle.layout.specs.declared.TypeState.the-variants.{Known}
 use Rattle.layout.specs.declared.TypeNode.the-variants.{Root}
 use Rattle.layout.proofs.KindLaws.{kind-kids, movedTo}
-use Rattle.layout.proofs.StoreLaws.{clean-nodes}
 use Rattle.layout.proofs.HeldLaws.{held-by, held-kids, held-known, held-fits}
 use Rattle.store.specs.Holds.{Room, Ready}
 use Rattle.store.proofs.Laws.{store-count}
 use Rattle.roots.specs.Found.{Found}
-use Rattle.make.specs.Made.{BlankMade}
-use Rattle.make.specs.Header.{BlankReady}
-use Rattle.make.proofs.MakeLaws.{RoomIn, ready-room, blank-ready, blank-made}
+use Rattle.make.proofs.MakeLaws.{RoomIn, ready-room}
 use Rattle.needs.proofs.RootLaws.{kidsIn, length-run}
 use Rattle.copy_parts.specs.declared.Place.{Place}
 use Rattle.copy_parts.specs.declared.Place.the-variants as place
 use Rattle.copy_parts.specs.Places.{listOf, heldFirst, heldCount, Runs, Goes, RootPlace}
-use Rattle.copy_parts.specs.declared.Blank.{Blank}
-use Rattle.copy_parts.specs.Steps.{Begun, ended, Ended}
+use Rattle.copy_parts.specs.Steps.{Begun, ended}
 use Rattle.copy_type.specs.Words.{copyingAt, Spared, Copyable, CopiedIs}
 use Rattle.copy_type.proofs.MovedLaws.{untyped, moved-kind, moved-fits}
 use Rattle.copy_type.proofs.SparedLaws.{spared-refl, spared-trans, spared-less, blank-children, blank-spared, blank-reserves, kind-store, kind-spared}
@@ -91,12 +86,6 @@ module _ (g : Copying → Ty → Copied) (c : Copying) (r : Ty) where
       record { nodeLimit = m .nodeLimit; childLimit = m .childLimit; nodes = omega (arith, l, m .nodes); children = m .children }
   new-room (nodes.Unknown p) m = m
   new-room nodes.InferenceFailed m = m
-
--- a node inside takes its kind, whatever number of nodes is said
-ended-any : (ws : List ℕ) (n m i first : ℕ) (w : Held) → i < n → i < m → ended ws n i first w ≡ ended ws m i first w
-unfolding putAt
-ended-any ws n m i first (Is inv k) a b = rw (lt-ltb i n a, lt-ltb i m b) refl
-ended-any ws n m i first Nothing a b = refl
 
 -- the table's numbers are small
 pub place-few : {sw sk h ws ks table : List ℕ} {n depth : ℕ} {ps : Option (List Ty)} {t : «Type»} → Copyable sw sk n ps depth h ws ks table t → (i : ℕ)
@@ -163,7 +152,7 @@ module _ (sw sk : List ℕ) (n : ℕ) (listed : Bool) (params : List ℕ) (depth
     all-room : Room (all .to .dest) 0 0
     all-room = new-room g c r st (subst (λ (d : Copied). Room (d .to .dest) 0 0) whole (pre .room))
 
-    node-ready : Ready h ws ks 1 count
+    pub node-ready : Ready h ws ks 1 count
     node-ready =
         let m = room-less (grows-all g (copy-grows ns (listOf listed params) (depth - 1)) (noted c (r .idx) st) (kidsOf st)) all-room in
         let l = length-append (storeIn h ws ks .nodes) (nodes.Root (nodes.Unknown (spanOf st)) 1 ∷ []) in
@@ -177,26 +166,15 @@ module _ (sw sk : List ℕ) (n : ℕ) (listed : Bool) (params : List ℕ) (depth
           };
         }
 
-    pub begin-ready : BlankReady h ws count
-    begin-ready = blank-ready node-ready
-
     -- it is begun
-    module _ {table₀ h₀ ws₀ : List ℕ} {new : Blank} (b : Begun table h ws (tyOf (root .0) .idx) span count table₀ h₀ ws₀ new) where
-      abbrev to : ℕ
-      to = new .first
-
-      abbrev x : ℕ
-      x = new .ty .0
-
-      blank : BlankMade h ws ks h₀ ws₀ span count (new .ty)
-      blank = blank-made node-ready (b .pushed)
-
-      root-here : tyOf (root .0) .idx ≡ r .idx
-      root-here = ap (λ (u : Ty). u .idx) (found .root sk)
+    module _ {i to : ℕ} {table₀ h₀ ws₀ : List ℕ} {new : «Type»} (here : i ≡ tyOf (root .0) .idx) (counted : to ≡ childrenMade h)
+        (b : Begun table h ws ks i span count table₀ h₀ ws₀ new) where
+      root-here : i ≡ r .idx
+      root-here = here ∙ ap (λ (u : Ty). u .idx) (found .root sk)
 
       noted-is : copyingAt h₀ ws₀ ks table₀ ≡ noted c (r .idx) st
       noted-is =
-          let p = blank .made .store .holds .is ∙ (λ k. pushed (storeIn h ws ks) (nodes.Unknown (sym (told .1 .1) k)) (sym kids-count k)) in
+          let p = b .blank .made .store .holds .is ∙ (λ k. pushed (storeIn h ws ks) (nodes.Unknown (sym (told .1 .1) k)) (sym kids-count k)) in
           let q = b .noted ∙ (λ k. set table (root-here k) (sym (store-count h ws ks) k + 1)) in
           λ k. record { dest = p k; table = q k }
 
@@ -205,9 +183,9 @@ module _ (sw sk : List ℕ) (n : ℕ) (listed : Bool) (params : List ℕ) (depth
         left = left-start g (copyingAt h₀ ws₀ ks table₀) (kidsIn sk first count);
         room = subst (λ (a : CopiedAll). Room (a .to .dest) 0 0) (λ k. copyAll g (sym noted-is k) (kids-are k)) all-room;
         placed = subst Placed (sym noted-is) (placed-noted c (r .idx) st (pre .placed));
-        spared = spared-refl h₀ ws₀ ks (blank .made .store .holds .clean);
-        apart = rw (b .first) (blank-reserves node-ready blank (childrenMade h + count));
-        made = omega (arith, b .first, blank-children node-ready blank);
+        spared = spared-refl h₀ ws₀ ks (b .blank .made .store .holds .clean);
+        apart = rw counted (blank-reserves node-ready (b .blank) (childrenMade h + count));
+        made = omega (arith, counted, blank-children node-ready (b .blank));
         named = λ x l. absurd (omega arith);
         few = omega arith;
         long = record { tables = refl; heads = refl; nodes = refl; kids = refl };
@@ -276,34 +254,23 @@ module _ (sw sk : List ℕ) (n : ℕ) (listed : Bool) (params : List ℕ) (depth
         )
 
         -- the node's number
-
-        small : nodesMade h < MAX-NODES
+        small : nodesMade h < INV-BIT
         small = let q : RoomIn h 1 count = ready-room node-ready in omega (arith, q .nodes, q .nodeLimit)
 
-        node-inside : x < nodesMade h′
-        node-inside =
-            let m = grows-all g (copy-grows ns (listOf listed params) (depth - 1)) (noted c (r .idx) st) (kidsOf st) in
-            let l = length-append (storeIn h ws ks .nodes) (nodes.Root (nodes.Unknown (spanOf st)) 1 ∷ []) in
-            let q = ap (λ (d : Copying). length (d .dest .nodes)) all-to in
-            omega (arith, b .pushed .type, store-count h ws ks, l, m .nodes, q, store-count h′ ws′ ks′)
-
-        pub end-ready : (x < MAX-NODES) × (nodeWords (x + 1) ≤ length ws′)
-        end-ready = (omega (arith, b .pushed .type, small), omega (arith, node-inside, clean-nodes h′ ws′ ks′ (o .spared .clean) .room))
-
-        pub copied-node : {ws″ : List ℕ} {u : «Type»} → Ended ws′ x to (heldIn (readAt sw n (tyOf (root .0) .idx))) (tyOf (root .0) .inv) ws″ u
+        pub copied-node : {ws″ : List ℕ} {x : ℕ} {u : «Type»} (turn : Inverted) → x ≡ tyOf (new .0) .idx
+            → ws″ ≡ ended ws′ (nodesMade h′) x to (heldIn (readAt sw n i)) → turn .0 ≡ tyOf (root .0) .inv → tyOf (u .0) ≡ flip (turn .0) (tyOf (new .0))
             → CopiedIs (copyF depth ns (listOf listed params) c (tyOf (t .0))) h ws ks h′ ws″ ks′ table′ u
-        copied-node {ws″} {u} e =
-            let y : x ≡ length (c .dest .nodes) = b .pushed .type ∙ sym (store-count h ws ks) in
+        copied-node {x = x} {u = u} turn number w side type =
+            let y : x ≡ length (c .dest .nodes) =
+            number
+            ∙ (ap (λ (m : ℕ). tyOf m .idx) (b .blank .node) ∙ (ap (λ (z : Ty). z .idx) (ty-plain (nodesMade h) small) ∙ sym (store-count h ws ks))) in
             let z = taken (heldIn (readAt sw n (r .idx))) refl x y in
-            let w : ws″ ≡ ended ws′ (nodesMade h′) x to (heldIn (readAt sw n (r .idx))) =
-            e .nodes
-            ∙ (ended-any ws′ (x + 1) (nodesMade h′) x to (heldIn (readAt sw n (tyOf (root .0) .idx))) (omega arith) node-inside
-            ∙ ap (λ (i : ℕ). ended ws′ (nodesMade h′) x to (heldIn (readAt sw n i))) root-here) in
-            rw w (record {
-              type = e .type
-                  ∙ (ap (λ (m : ℕ). flip (tyOf (root .0) .inv) (tyOf m)) (b .pushed .type)
-                  ∙ (ty-new (tyOf (root .0) .inv) (nodesMade h) (omega (arith, small))
-                  ∙ ((λ k. ty (found .root sk k .inv) (sym (store-count h ws ks) k)) ∙ (sym (new-type g c r st) ∙ ap (λ (d : Copied). d .type) (sym whole)))));
+            rw (w, root-here) (record {
+              type = type
+                  ∙ (ap (λ (m : ℕ). flip (turn .0) (tyOf m)) (b .blank .node)
+                  ∙ (ty-new (turn .0) (nodesMade h) small
+                  ∙ ((λ k. ty ((side ∙ ap (λ (q : Ty). q .inv) (found .root sk)) k) (sym (store-count h ws ks) k))
+                  ∙ (sym (new-type g c r st) ∙ ap (λ (d : Copied). d .type) (sym whole)))));
               to = z .0 ∙ ap (λ (d : Copied). d .to) (sym whole);
-              spared = spared-less (omega (arith, b .first)) (spared-trans (blank-spared node-ready blank to) (spared-trans (o .spared) (z .1)));
+              spared = spared-less (omega (arith, counted)) (spared-trans (blank-spared node-ready (b .blank) to) (spared-trans (o .spared) (z .1)));
             })

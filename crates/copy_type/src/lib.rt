@@ -38,7 +38,9 @@ pub fn copy(
     match copy_parts::root_place(sw, n, listed, params, table, root) {
         Place::Is(u) => u,
         Place::Node(span, first, count) => {
-            let new = copy_parts::begin(table, h, ws, root, span, count);
+            let at = root.idx();
+            let from = layout::read_header(h).children;
+            let new = copy_parts::begin(table, h, ws, ks, at, span, count);
             let mut j: u32 = 0;
             while j < count {
                 let kid = needs::child(sk, first, j).ty;
@@ -56,10 +58,11 @@ pub fn copy(
                     kid,
                     depth - 1,
                 );
-                copy_parts::move_child(sk, first, ks, new.first, j, next);
+                copy_parts::move_child(sk, first, ks, from, j, next);
                 j += 1;
             }
-            copy_parts::end(sw, n, root, ws, new)
+            copy_parts::end(sw, n, at, h, ws, new.idx(), from);
+            new.invert_if(root.inv())
         }
     }
 }

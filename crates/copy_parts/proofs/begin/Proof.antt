@@ -1,21 +1,20 @@
 -- `copy_parts::begin` meets its contract: the blank's number, and 1, is what the table gets.
 -- Assumes nothing.
-use Rattle.copy_parts.proofs.StepLaws.{begin-is}
+use native.Mathlib.Omega.{arith}
+use Rattle.make.proofs.MakeLaws.{blank-ready, blank-made}
+use Rattle.copy_parts.proofs.StepLaws.{begin-fits, begin-is}
 use borrow.Author.Needs.{needs}
 use Rattle.copy_parts.proofs.begin.Statement.{statement}
 use Rattle.copy_parts.proofs.begin.Tie as tie
 
-children-made-requires : tie.Need-children-made-requires
-children-made-requires c κs = search needs
-
 push-unknown-requires : tie.Need-push-unknown-requires
-push-unknown-requires c κs = search needs
-
-idx-requires : tie.Need-idx-requires
-idx-requires c κs = search needs
+push-unknown-requires c κs = blank-ready (c .before .before .before .before .before .before .pre)
 
 add-note : tie.Need-add-note
-add-note c = search needs
+add-note c =
+    let n = c .before .before .before .before .before .before in
+    let s = n .before .before .before .before .before .before .before in
+    omega (arith, begin-fits (s .pre) (blank-made (s .pre) (n .push-unknown .ensures)))
 
 note-requires : tie.Need-note-requires
 note-requires c κs = search needs
@@ -31,19 +30,16 @@ same-length-3 c = search needs
 
 returns : tie.Need-returns
 returns c =
-    let atNote = c .before .before in
-    let atIdx = atNote .before .before in
-    let atPush = atIdx .before .before .before .before .before .before in
-    let atChildren = atPush .before .before .before in
-    begin-is (atChildren .children-made .ensures) (atPush .push-unknown .ensures) (atIdx .idx .ensures) (atNote .note .ensures)
+    let n = c .before .before in
+    let e = n .before .before .before .before .before .before .before in
+    let s = e .before .before .before .before .before .before .before in
+    begin-is (blank-made (s .pre) (e .push-unknown .ensures)) (n .note .ensures)
 
 pub begin-spec : {M : Type 1} → statement M
 begin-spec =
     tie.close
     (tie.spec
-    children-made-requires
     push-unknown-requires
-    idx-requires
     add-note
     note-requires
     same-length

@@ -1,19 +1,15 @@
 -- `copy_parts::end` meets its contract: it goes by the cases of what the source holds.
 -- Assumes nothing.
-use Rattle.scope.specs.Types.{tyOf}
-use Rattle.copy_parts.proofs.StepLaws.{end-known, end-plain}
+use mathlib.Core.Path.{ap, sym, _∙_}
+use Rattle.layout.specs.Words.{nodesMade}
+use Rattle.copy_parts.specs.Steps.{ended}
+use Rattle.copy_parts.proofs.StepLaws.{end-room, end-known}
 use borrow.Author.Needs.{needs}
 use Rattle.copy_parts.proofs.end.Statement.{statement}
 use Rattle.copy_parts.proofs.end.Tie as tie
 
-inv-requires : tie.Need-inv-requires
-inv-requires c κs = search needs
-
-invert-if-requires : tie.Need-invert-if-requires
-invert-if-requires c κs = search needs
-
-idx-requires : tie.Need-idx-requires
-idx-requires c κs = search needs
+read-header-requires : tie.Need-read-header-requires
+read-header-requires c κs = search needs
 
 held-at-requires : tie.Need-held-at-requires
 held-at-requires c κs = search needs
@@ -26,47 +22,39 @@ enum-told c = search needs
 
 returns : tie.Need-returns
 returns c =
-    let atHeld = c .before .before in
-    let atIdx = atHeld .before in
-    let atInvert = atIdx .before in
-    let atInv = atInvert .before in
-    let a = atInv .before .before .before .before .args in
-    end-plain (a .sw .now) (a .n) (tyOf (a .root .0)) (atHeld .held-at .ensures) (atIdx .idx .ensures) (atInv .inv .ensures) (atInvert .invert-if .ensures)
-    (c .enum-told .given .1)
-
-add-put-node : tie.Need-add-put-node
-add-put-node c = search needs
+    let e = c .before .before in
+    let s = e .before .before .before .before .before in
+    ap (ended (s .args .ws .now) (nodesMade (s .args .h .now)) (s .args .new .0) (s .args .first))
+    (sym (c .enum-told .given .1) ∙ e .held-at .ensures)
 
 put-node-requires : tie.Need-put-node-requires
-put-node-requires c κs = search needs
+put-node-requires c κs =
+    let r = c .before .before .before .before .before .before in
+    let s = r .before .before .before .before in
+    end-room (s .args .h .now) (s .args .ws .now) (r .read-header .ensures) (s .pre .1)
 
 same-length : tie.Need-same-length
 same-length c = search needs
 
 returns-2 : tie.Need-returns-2
 returns-2 c =
-    let atPutNode = c .before .before in
-    let atKind = atPutNode .before .before .before .before .before in
-    let atHeld = atKind .before .before in
-    let atIdx = atHeld .before in
-    let atInvert = atIdx .before in
-    let atInv = atInvert .before in
-    let a = atInv .before .before .before .before .args in
-    end-known (a .sw .now) (a .n) (tyOf (a .root .0)) (atHeld .held-at .ensures) (atIdx .idx .ensures) (atInv .inv .ensures) (atInvert .invert-if .ensures)
-    (atKind .inv2 .given .1) (atPutNode .put-node .ensures)
+    let p = c .before .before in
+    let i = p .before .before .before .before in
+    let e = i .before .before in
+    let r = e .before in
+    let s = r .before .before .before .before in
+    end-known (s .args .h .now) (s .args .ws .now) (s .args .new .0) (s .args .first) (r .read-header .ensures) (e .held-at .ensures)
+    (i .inv .given .1) (p .put-node .ensures)
 
 pub end-spec : {M : Type 1} → statement M
 end-spec =
     tie.close
     (tie.spec
-    inv-requires
-    invert-if-requires
-    idx-requires
+    read-header-requires
     held-at-requires
     enum-known-inv
     enum-told
     returns
-    add-put-node
     put-node-requires
     same-length
     returns-2)
