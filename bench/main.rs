@@ -1,5 +1,6 @@
 //! Times crates/bench beside Vine's own `types.rs`, in one run. README.md says what each line is.
 
+mod asks;
 mod imports;
 mod ours;
 mod recalled;
@@ -178,6 +179,13 @@ fn main() {
   if words.get(1).is_some_and(|word| word == "unify") {
     return deep(unify);
   }
+  if words.get(1).is_some_and(|word| word == "asks") {
+    return asks::report();
+  }
+  if words.get(1).is_some_and(|word| word == "stack") {
+    stack::report();
+    return stack::import();
+  }
   if words.get(1).is_some_and(|word| word == "import") {
     imports::report();
     return stack::import();
@@ -186,6 +194,7 @@ fn main() {
   sound::report();
   makers();
   opening();
+  asks::report();
   deep(unify);
   imports::report();
   texts::report();

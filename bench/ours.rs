@@ -31,6 +31,12 @@ unsafe extern "C" {
   fn faroalder_direct_nil(h: M, _: N, ws: M, _: N, ks: P, _: N) -> u32;
   fn faroalder_direct_import(sw: P, _: N, sk: P, _: N, n: u32, h: M, _: N, ws: M, _: N, ks: M, _: N, ts: P, _: N, out: M, _: N);
   fn faroalder_direct_show(_: P, _: N, _: B, _: N, _: B, _: N, ws: P, _: N, ks: P, _: N, n: u32, t: u32, buf: *mut u8, _: N) -> usize;
+  fn faroalder_direct_find(ws: P, _: N, n: u32, t: u32) -> u32;
+  fn faroalder_direct_find_mut(ws: M, _: N, n: u32, t: u32) -> u32;
+  fn faroalder_direct_is_nil(ws: P, _: N, n: u32, t: u32) -> u32;
+  fn faroalder_direct_self_inverse(ws: P, _: N, ks: P, _: N, n: u32, t: u32) -> u32;
+  fn faroalder_direct_get_mod(ws: P, _: N, ks: P, _: N, n: u32, chart: P, _: N, t: u32) -> u32;
+  fn faroalder_direct_find_related(ws: P, _: N, ks: P, _: N, n: u32, marks: *mut u8, _: N, t: u32);
   fn faroalder_direct_unify(ws: M, _: N, ks: P, _: N, n: u32, rule: B, _: N, text: B, _: N, a: u32, b: u32) -> u32;
   fn faroalder_direct_unify_recalling(ws: M, _: N, ks: P, _: N, n: u32, rule: B, _: N, text: B, _: N, memory: M, _: N, a: u32, b: u32) -> u32;
 }
@@ -328,5 +334,37 @@ impl<const PUBLIC: bool> Side for Ours<PUBLIC> {
 
   fn makes(&mut self, maker: Maker, calls: usize) {
     if PUBLIC { self.makes_public(maker, calls) } else { self.makes_core(maker, calls) }
+  }
+}
+
+// The core functions that ask, of n nodes.
+
+pub fn find(s: &Core, n: u32, t: u32) -> u32 {
+  unsafe { faroalder_direct_find(s.ws.as_ptr(), s.ws.len(), n, t) }
+}
+
+pub fn find_mut(s: &mut Core, n: u32, t: u32) -> u32 {
+  unsafe { faroalder_direct_find_mut(s.ws.as_mut_ptr(), s.ws.len(), n, t) }
+}
+
+pub fn is_nil(s: &Core, n: u32, t: u32) -> u32 {
+  unsafe { faroalder_direct_is_nil(s.ws.as_ptr(), s.ws.len(), n, t) }
+}
+
+pub fn self_inverse(s: &Core, n: u32, t: u32) -> u32 {
+  unsafe { faroalder_direct_self_inverse(s.ws.as_ptr(), s.ws.len(), s.ks.as_ptr(), s.ks.len(), n, t) }
+}
+
+pub fn get_mod(s: &Core, n: u32, t: u32) -> u32 {
+  let (ws, ks) = (&s.ws, &s.ks);
+  unsafe { faroalder_direct_get_mod(ws.as_ptr(), ws.len(), ks.as_ptr(), ks.len(), n, CHART.as_ptr(), CHART.len(), t) }
+}
+
+/// Its marks are cleared first.
+pub fn find_related(s: &Core, n: u32, t: u32, marks: &mut [u8]) {
+  let (ws, ks) = (&s.ws, &s.ks);
+  marks.fill(0);
+  unsafe {
+    faroalder_direct_find_related(ws.as_ptr(), ws.len(), ks.as_ptr(), ks.len(), n, marks.as_mut_ptr(), marks.len(), t)
   }
 }

@@ -142,6 +142,18 @@ impl Store {
     last
   }
 
+  /// So many sets of 255 variables in a tuple, and as many tuples over one type: unified, each variable meets it.
+  fn meets(&mut self, sets: usize, top: u32) -> (u32, u32) {
+    let tops = self.run(&[top; WIDTH]);
+    let [mut left, mut right] = [Vec::new(), Vec::new()];
+    for _ in 0..sets {
+      let vars: Vec<u32> = (0..WIDTH).map(|_| self.var()).collect();
+      left.push(self.over(TUPLE, &vars));
+      right.push(self.kind(TUPLE, tops, WIDTH));
+    }
+    (self.over(TUPLE, &left), self.over(TUPLE, &right))
+  }
+
   /// Every slot gets a name of two bytes, in ascending order.
   fn named(mut self) -> Self {
     for (i, slot) in self.words.ks.chunks_mut(4).enumerate() {
@@ -312,15 +324,20 @@ fn variables(sets: usize, apart: bool) -> Store {
   let count = NODES - 1 - sets * (WIDTH + 2) - 2;
   let stride = if apart { (CHILDREN - (sets + 2) * WIDTH - 2 * sets) / count } else { 1 };
   let top = s.windows(TUPLE, count, stride, end);
-  let tops = s.run(&[top; WIDTH]);
-  let [mut left, mut right] = [Vec::new(), Vec::new()];
-  for _ in 0..sets {
-    let vars: Vec<u32> = (0..WIDTH).map(|_| s.var()).collect();
-    left.push(s.over(TUPLE, &vars));
-    right.push(s.kind(TUPLE, tops, WIDTH));
-  }
-  let pair = (s.over(TUPLE, &left), s.over(TUPLE, &right));
-  s.pairs = vec![pair];
+  s.pairs = vec![s.meets(sets, top)];
+  s.full()
+}
+
+/// The same, where each meets a tuple of tuples over every node of one parent chain.
+fn variables_and_chain(sets: usize) -> Store {
+  let mut s = Store::new(format!("{} variables and a parent chain", sets * WIDTH));
+  let end = s.kind(TUPLE, 0, 0);
+  let count = NODES - 1 - sets * (WIDTH + 2) - 3 - NODES / WIDTH;
+  s.chain(end, count);
+  let nodes: Vec<u32> = (1..=count as u32).collect();
+  let over: Vec<u32> = nodes.chunks(WIDTH).map(|part| s.over(TUPLE, part)).collect();
+  let top = s.over(TUPLE, &over);
+  s.pairs = vec![s.meets(sets, top)];
   s.full()
 }
 
@@ -371,5 +388,6 @@ pub fn all() -> Vec<Store> {
   }
   all.extend([1, 4, 8, 12].map(|sets| variables(sets, false)));
   all.extend([1, 4, 8, 12, 14].map(|sets| variables(sets, true)));
+  all.extend([1, 4].map(variables_and_chain));
   all
 }

@@ -10,11 +10,11 @@ LIST = 255                  # room for an answer's list
 
 # The calls' numbers in crates/run_calls.
 OPS = {"rule": 0, "text": 1, "chart": 2, "beside": 3, "lend": 4, "poke": 5,
-       "flip": 6, "case": 7, "words": 8, "swap": 9, "open": 10, "reset": 11, "new": 12,
+       "case": 7, "words": 8, "swap": 9, "open": 10, "reset": 11, "new": 12,
        "new_struct": 13, "new_union": 14, "new_var": 15, "new_vars": 16, "error": 17, "nil": 18, "force_kind": 19,
        "finish_inference": 20, "finish_inference_where": 21, "open_names": 22, "name_state": 23, "return_to": 24, "drop_name": 25, "find": 30, "find_mut": 31, "node": 32, "child": 33,
        "child_name": 34, "figures": 35, "is_nil": 36, "self_inverse_plain": 37, "self_inverse": 38, "get_mod": 39, "find_related": 40, "store": 41, "unify": 50, "unify_types": 51,
-       "unify_objects": 52, "unify_fn_sig": 53, "unify_impl_type": 54, "approx_eq": 55, "import": 60, "export": 61, "flip_source": 62,
+       "unify_objects": 52, "unify_fn_sig": 53, "unify_impl_type": 54, "approx_eq": 55, "import": 60, "export": 61,
        "show": 70, "show_impl_type": 71, "show_part": 72, "show_impl_type_part": 73}
 HEAD_WORDS = 8
 

@@ -11,8 +11,9 @@ use lib.Dec.{eqb, leb}
 use lib.ListN.{length, getD, drop, replicate, getD-replicate, length-replicate, List·getD-eq-default}
 use lib.Seq.{drop-drop, getD-drop}
 use Rattle.scope.specs.Base.{all, from}
-use Rattle.scope.specs.Limits.{MAX-RECORDS}
-use Rattle.scope.specs.Names.{name, textsOk}
+use borrow.Author.Tests.{lt-leb, le-leb}
+use Rattle.scope.specs.Limits.{MAX-NAME, MAX-RECORDS}
+use Rattle.scope.specs.Names.{Texts, Name, name, inText, textsOk}
 use Rattle.scope.specs.Chart.{Record, noRecord, NO-SORT, recordOk, fnTraitOk, sigilOk, chartOk}
 use Rattle.names.specs.Place.{texts}
 use Rattle.chart.specs.declared.Beside.{Beside}
@@ -83,6 +84,17 @@ sigils-length ws = runs-length NAME-WORDS (nameAt 0) 4 ws
 
 pub sigil-none : (ws : List ℕ) (n : ℕ) → 4 ≤ n → getD (sigilsOf ws) n (name 0 0 0) ≡ name 0 0 0
 sigil-none ws n h = List·getD-eq-default (sigilsOf ws) (name 0 0 0) (rw (sigils-length ws) h)
+
+-- a sigil outside its text, one that is too long, and one that fits
+
+pub sigil-strays : (x : Texts) (n : Name) → inText x n ≡ false → sigilOk x n ≡ false
+sigil-strays x n e = rw e
+
+pub sigil-long : (x : Texts) (n : Name) → inText x n ≡ true → MAX-NAME < n .len → sigilOk x n ≡ false
+sigil-long x n e h = rw (e, lt-leb (n .len) MAX-NAME h)
+
+pub sigil-fits : (x : Texts) (n : Name) → inText x n ≡ true → n .len ≤ MAX-NAME → sigilOk x n ≡ true
+sigil-fits x n e h = rw (e, le-leb (n .len) MAX-NAME h)
 
 -- the tests of chart and texts, one after the other; that of a record does not look at what stands beside the chart
 pub chart-tests :

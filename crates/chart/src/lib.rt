@@ -2,14 +2,12 @@
 // that the chart lacks reads as a record of no sort.
 ghost use mathlib.Core.Path.{_≡_};
 ghost use mathlib.Core.List.{[]};
-ghost use mathlib.Core.Bool.{_||_};
 ghost use Prim.Native.Nat.{_≤_, _<_, _+_};
-ghost use lib.Dec.{eqb};
 ghost use lib.ListN.{length, getD};
 ghost use Rattle.scope.specs.Base.{all};
 ghost use Rattle.scope.specs.Limits.{«MAX-RECORDS»};
 ghost use Rattle.scope.specs.Names.{textsOk};
-ghost use Rattle.scope.specs.Chart.{recordAt, sortAt, dualAt, isTrait, sigilAt, flagOk, traitOk, recordOk, sigilOk, fnTraitOk, «STRUCT-SORT», «UNION-SORT»};
+ghost use Rattle.scope.specs.Chart.{recordAt, sortAt, dualAt, isTrait, sigilAt, flagOk, traitOk, recordOk, sigilOk, fnTraitOk};
 ghost use Rattle.names.specs.Place.{nameOf, texts};
 ghost use Rattle.chart.specs.Words.{«RECORD-WORDS», nameAt, wordsOf, recordsOf};
 ghost use Rattle.chart.specs.Env.{sigilsOf, envOf, chartIn, chartAlone, chartWordsOk};
@@ -45,12 +43,6 @@ pub struct Beside {
     pub sigils: [u32; 12],
 }
 
-fn wide(x: u32) -> usize
-    ensures { λ r. ⌜ r ≡ x ⌝ }
-{
-    x as usize
-}
-
 pub fn record_count(chart: &[u32]) -> usize
     ensures { λ r. ⌜ r ≡ length (recordsOf (now (chart .entry))) ⌝ }
 {
@@ -62,7 +54,7 @@ fn word(chart: &[u32], n: u32, field: usize) -> u32
     requires { ⌜ field < «RECORD-WORDS» ⌝ }
     ensures { λ r. ⌜ r ≡ getD (wordsOf (recordAt (chartAlone (now (chart .entry))) n)) field 0 ⌝ }
 {
-    let i = wide(n);
+    let i = n as usize;
     if i < record_count(chart) {
         let at = i * RECORD_WORDS + field;
         return chart[at];
@@ -129,7 +121,7 @@ pub fn is_trait(chart: &[u32], n: u32) -> bool
 pub fn sigil_at(beside: Beside, flex: u32) -> Name
     ensures { λ r. ⌜ nameOf r ≡ sigilAt (envOf [] beside [] []) flex ⌝ }
 {
-    let i = wide(flex);
+    let i = flex as usize;
     if i < 4 {
         let s = beside.sigils;
         let at = i * 3;
@@ -145,21 +137,16 @@ pub fn sigil_at(beside: Beside, flex: u32) -> Name
     }
 }
 
-fn has_flag(sort: u32) -> bool
-    ensures { λ r. ⌜ r ≡ (eqb sort «STRUCT-SORT» || eqb sort «UNION-SORT») ⌝ }
-{
-    if sort == STRUCT_SORT {
-        return true;
-    }
-    sort == UNION_SORT
-}
-
 // "a flag or trait that its sort lacks is 0"
 fn flag_ok(chart: &[u32], n: u32) -> bool
     ensures { λ r. ⌜ r ≡ flagOk (recordAt (chartAlone (now (chart .entry))) n) ⌝ }
 {
     let dual = word(chart, n, DUAL_FIELD);
-    if has_flag(sort_at(chart, n)) {
+    let sort = sort_at(chart, n);
+    if sort == STRUCT_SORT {
+        return dual <= 1;
+    }
+    if sort == UNION_SORT {
         return dual <= 1;
     }
     dual == 0
@@ -198,7 +185,7 @@ fn records_ok(chart: &[u32], rule: &[u8], text: &[u8]) -> bool
     ensures { λ r. ⌜ r ≡ all (recordOk (chartIn (now (chart .entry)) (now (rule .entry)) (now (text .entry)))) (recordsOf (now (chart .entry))) ⌝ }
 {
     let mut n: u32 = 0;
-    while wide(n) < record_count(chart) {
+    while (n as usize) < record_count(chart) {
         if !record_ok(chart, n, rule, text) {
             return false;
         }
@@ -208,21 +195,16 @@ fn records_ok(chart: &[u32], rule: &[u8], text: &[u8]) -> bool
 }
 
 // "the four texts of `sigil` for `Flex`, which alone may be empty"
-fn sigil_ok(n: Name, rule: &[u8], text: &[u8]) -> bool
-    ensures { λ r. ⌜ r ≡ sigilOk (texts (now (rule .entry)) (now (text .entry))) (nameOf n) ⌝ }
-{
-    if !names::in_text(n, rule, text) {
-        return false;
-    }
-    wide(n.len) <= MAX_NAME
-}
-
 fn sigils_ok(beside: Beside, rule: &[u8], text: &[u8]) -> bool
     ensures { λ r. ⌜ r ≡ all (sigilOk (texts (now (rule .entry)) (now (text .entry)))) (sigilsOf (beside .sigils)) ⌝ }
 {
     let mut i: u32 = 0;
     while i < 4 {
-        if !sigil_ok(sigil_at(beside, i), rule, text) {
+        let sigil = sigil_at(beside, i);
+        if !names::in_text(sigil, rule, text) {
+            return false;
+        }
+        if sigil.len as usize > MAX_NAME {
             return false;
         }
         i += 1;

@@ -15,16 +15,18 @@ use Rattle.scope.proofs.Mapping.{Source}
 use Rattle.scope.proofs.CopyTable.{Copying, Copied, CopiedAll, copyAll, copyF, uncopied, copy-types, copy-dest, copy-nodes, copy-children}
 use Rattle.scope.proofs.CopyTable.{copyExport, copy-export-types, copy-export-dest, copy-export-nodes, copy-export-children}
 use Rattle.scope.proofs.CopyTableLaws.{Grows, grows-all, grows-trans, copy-grows, Placed, placed-start, placed-all, copy-placed}
-use Rattle.layout.specs.Words.{nodesMade, nodeRoom, childRoom, decode, storeIn}
+use Rattle.layout.specs.Words.{HEAD-WORDS, nodesMade, nodeRoom, childRoom, decode, storeIn}
 use Rattle.layout.specs.Words as words
-use Rattle.layout.specs.Meaning.{headerIn, rememberedMeans}
+use Rattle.layout.specs.Meaning.{headerIn, putHeader, rememberedMeans}
 use Rattle.layout.specs.declared.Header.{Header}
 use Rattle.layout.specs.declared.Remembered.{Remembered}
 use Rattle.layout.proofs.Laws.{length-decode}
 use Rattle.store.specs.Holds.{Became, Beyond, Room}
 use Rattle.store.specs.Entries.{typesIn}
 use Rattle.store.proofs.Laws.{store-nodes, store-count, beyond-trans}
-use Rattle.make.proofs.MakeLaws.{head-error, head-nil}
+use Rattle.make.specs.Made.{Rememberable}
+use Rattle.make.specs.Header.{withRemembered}
+use Rattle.make.proofs.MakeLaws.{head-error, head-nil, header-long, remembered-became}
 use Rattle.copy_type.specs.Words.{copyingAt, Spared}
 use Rattle.copy_type.proofs.SparedLaws.{spared-trans}
 use Rattle.copy_type.proofs.FillLaws.{room-less}
@@ -242,7 +244,17 @@ module _ (sh sw sk ts : List ℕ) {nodes children : ℕ} {h ws ks out : List ℕ
           spared : Spared 0 h₁ ws₁ ks₁ h₄ ws₄ ks₄
           spared = spared-trans (a .spared) (spared-trans (b .spared) (c .spared))
 
-          module _ {h₅ : List ℕ} (d : Became h₄ ws₄ ks₄ h₅ ws₄ ks₄ (remembering (storeIn h₄ ws₄ ks₄) (rememberedMeans r₁) (rememberedMeans r₂))) where
+          -- what is copied may be remembered
+          rememberable : Rememberable h₄ ws₄ ks₄ r₁ r₂
+          rememberable = record { clean = c .spared .clean; error = a .fits; nil = b .fits }
+
+          pub remember-long : HEAD-WORDS ≤ length h₄
+          remember-long = header-long rememberable
+
+          module _ {h₅ : List ℕ} (head : h₅ ≡ putHeader h₄ (withRemembered (headerIn h₄) r₁ r₂)) where
+            d : Became h₄ ws₄ ks₄ h₅ ws₄ ks₄ (remembering (storeIn h₄ ws₄ ks₄) (rememberedMeans r₁) (rememberedMeans r₂))
+            d = remembered-became rememberable head
+
             -- all that is remembered is what was copied
             dest-is : remembering (storeIn h₄ ws₄ ks₄) (rememberedMeans r₁) (rememberedMeans r₂) ≡ export source (opened nodes children) (typesIn ts) .work .dest
             dest-is =

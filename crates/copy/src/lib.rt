@@ -154,5 +154,5 @@ pub fn export(
         ts,
         out,
     );
-    make::remember(h, ws, ks, error, nil);
+    make::remember(h, error, nil);
 }

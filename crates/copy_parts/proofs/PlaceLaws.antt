@@ -27,7 +27,7 @@ use Rattle.store.specs.Entries.{typesIn}
 use Rattle.store.proofs.EntryLaws.{listed-below, listed-past, listed-at}
 use Rattle.copy_parts.specs.declared.Place.{Place}
 use Rattle.copy_parts.specs.declared.Place.the-variants.{Is, Node}
-use Rattle.copy_parts.specs.Places.{listOf, Becomes, Runs, KindPlace, StatePlace, Goes, RootPlace}
+use Rattle.copy_parts.specs.Places.{listOf, Becomes, Runs, EntryPlace, KindPlace, StatePlace, Goes, RootPlace}
 
 module _ {with : Bool} {ps : List ℕ} {root : «Type»} {i : Inverted} {k : Kind} where
   pub place-unlisted : with ≡ false → KindPlace with ps root i k (Node NONE (k .first) (k .count))
@@ -39,23 +39,31 @@ module _ {with : Bool} {ps : List ℕ} {root : «Type»} {i : Inverted} {k : Kin
     run = (refl, refl);
   }
 
-  module _ (on : with ≡ true) (param : k .code ≡ PARAM) where
-    pub place-missing : length ps ≤ k .number → KindPlace with ps root i k (Is root)
-    place-missing h = rw on (record {
-      becomes = λ ks g c.
-          rw (replaced-missing (typesIn ps) (i .0) (kindMeans ks k) (kind-code ks k ∙ param) (rw (kind-number ks k) (listed-past ps (k .number) h)));
-      run = tt;
-    })
+  pub place-param : with ≡ true → k .code ≡ PARAM → {r : Place} → EntryPlace ps root i (k .number) r → KindPlace with ps root i k r
+  place-param on param e = rw on (e .each k param refl)
 
-    pub place-entry : {u : «Type»} → k .number < length ps → tyOf (u .0) ≡ flip (tyOf (root .0) .inv) (flip (i .0) (tyOf (getD ps (k .number) 0)))
-        → KindPlace with ps root i k (Is u)
-    place-entry h e = rw on (record {
+-- a Param, by its number
+
+module _ {ps : List ℕ} {root : «Type»} {i : Inverted} {m : ℕ} where
+  pub place-missing : length ps ≤ m → EntryPlace ps root i m (Is root)
+  place-missing h = record {
+    each = λ k param n. record {
       becomes = λ ks g c.
-          let n : kindMeans ks k .head .number ≡ k .number = kind-number ks k in
-          let x : getD (typesIn ps) (k .number) (tyOf 0) ≡ tyOf (getD ps (k .number) 0) = listed-at ps (k .number) in
-          rw (replaced-entry (typesIn ps) (i .0) (kindMeans ks k) (kind-code ks k ∙ param) (tyOf 0) (rw n (listed-below ps (k .number) h)), n, x, e);
+          rw (replaced-missing (typesIn ps) (i .0) (kindMeans ks k) (kind-code ks k ∙ param) (rw (kind-number ks k, n) (listed-past ps m h)));
       run = tt;
-    })
+    };
+  }
+
+  pub place-entry : {u : «Type»} → m < length ps → tyOf (u .0) ≡ flip (tyOf (root .0) .inv) (flip (i .0) (tyOf (getD ps m 0))) → EntryPlace ps root i m (Is u)
+  place-entry h e = record {
+    each = λ k param n. record {
+      becomes = λ ks g c.
+          let q : kindMeans ks k .head .number ≡ m = kind-number ks k ∙ n in
+          let x : getD (typesIn ps) m (tyOf 0) ≡ tyOf (getD ps m 0) = listed-at ps m in
+          rw (replaced-entry (typesIn ps) (i .0) (kindMeans ks k) (kind-code ks k ∙ param) (tyOf 0) (rw q (listed-below ps m h)), q, x, e);
+      run = tt;
+    };
+  }
 
 -- by the state that is read
 

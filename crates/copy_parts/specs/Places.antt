@@ -1,12 +1,13 @@
 -- What becomes of a source root, as the code reads it: a type that stands for it, or a new node with so many children.
 use mathlib.Core.Path.{_≡_}
-use mathlib.Core.Bool.{Bool}
+use mathlib.Core.Bool.{Bool, true}
 use mathlib.Core.Option.{Option, none, some}
 use mathlib.Core.List.{List}
 use Prim.Native.Nat.{ℕ}
 use lib.ListN.{getD}
 use Rattle.scope.specs.Base.{pick}
 use Rattle.scope.specs.Types.{Ty, tyOf}
+use Rattle.scope.specs.Kinds.{PARAM}
 use Rattle.scope.specs.Nodes.{State, Known, at, stateOf}
 use Rattle.scope.specs.Import.{keep, replaced, spanOf}
 use Rattle.scope.proofs.CopyTable.{Copying, Copied, copyRoot, copyAt}
@@ -47,6 +48,10 @@ Runs v (Node span first m) = (heldFirst v ≡ first) × (heldCount v ≡ m)
 pub record KindPlace (with : Bool) (ps : List ℕ) (root : «Type») (i : Inverted) (k : Kind) (r : Place) : Type 0 where
   pub becomes : (ks : List ℕ) → Becomes (listOf with ps) (Known (i .0) (kindMeans ks k)) (tyOf (root .0)) r
   pub run : Runs (held.Is i k) r
+
+-- of a Param with that number, where there is a list
+pub record EntryPlace (ps : List ℕ) (root : «Type») (i : Inverted) (number : ℕ) (r : Place) : Type 0 where
+  pub each : (k : Kind) → k .code ≡ PARAM → k .number ≡ number → KindPlace true ps root i k r
 
 pub record StatePlace (ws : List ℕ) (n : ℕ) (with : Bool) (ps : List ℕ) (root : «Type») (r : Place) : Type 0 where
   pub becomes : (ks : List ℕ) (c : ℕ) → Clean ws ks c n → Becomes (listOf with ps) (stateOf (at (decode ws ks n) (tyOf (root .0) .idx))) (tyOf (root .0)) r

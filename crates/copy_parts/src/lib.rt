@@ -8,7 +8,7 @@ ghost use Rattle.scope.specs.Types.{tyOf};
 ghost use Rattle.layout.specs.Words.{CHILD-WORDS, nodeWords, nodesMade};
 ghost use Rattle.layout.specs.Meaning.{heldIn, readAt};
 ghost use Rattle.store.specs.Holds.{Ready};
-ghost use Rattle.copy_parts.specs.Places.{KindPlace, StatePlace, RootPlace};
+ghost use Rattle.copy_parts.specs.Places.{EntryPlace, KindPlace, StatePlace, RootPlace};
 ghost use Rattle.copy_parts.specs.Steps.{Begun, ChildMoved, ended};
 use layout::Held;
 use layout::Kind;
@@ -29,6 +29,16 @@ pub enum Place {
 }
 
 // A Param takes the entry's inversion, its own, and that of the type that led to it. One with no entry stays as it is: callers have tested for it.
+fn entry_place(params: &[u32], root: Type, inv: Inverted, number: u32) -> Place
+    ensures { λ r. ⌜ EntryPlace (now (params .entry)) root inv number r ⌝ }
+{
+    let at = number as usize;
+    if params.len() <= at {
+        return Place::Is(root);
+    }
+    Place::Is(Type(params[at]).invert_if(inv).invert_if(root.inv()))
+}
+
 fn kind_place(with: bool, params: &[u32], root: Type, inv: Inverted, kind: Kind) -> Place
     ensures { λ r. ⌜ KindPlace with (now (params .entry)) root inv kind r ⌝ }
 {
@@ -38,11 +48,7 @@ fn kind_place(with: bool, params: &[u32], root: Type, inv: Inverted, kind: Kind)
     if kind.code != kinds::PARAM {
         return Place::Node(NONE, kind.first, kind.count);
     }
-    let at = kind.number as usize;
-    if params.len() <= at {
-        return Place::Is(root);
-    }
-    Place::Is(Type(params[at]).invert_if(inv).invert_if(root.inv()))
+    entry_place(params, root, inv, kind.number)
 }
 
 // "InferenceFailed becomes Unknown with `Span::NONE`."
@@ -107,7 +113,7 @@ pub fn begin(
     ensures { λ r. ⌜ Begun (now (table .entry)) (now (h .entry)) (now (ws .entry)) (now (ks .entry)) (i .0) span count
         (now (table .exit)) (now (h .exit)) (now (ws .exit)) r ⌝ }
 {
-    let new = make::new_blank(h, ws, ks, span, count);
+    let new = make::push_unknown(h, ws, span, count);
     note(table, i, new.0 + 1);
     new
 }

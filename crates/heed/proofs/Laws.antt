@@ -102,33 +102,15 @@ quick-merges h t f g = record { deep = λ e. h; merged = λ e. t .merged f; forg
 
 -- `small`
 
-pub small-not : {ws : List ℕ} {n : ℕ} {m : List ℕ} {a b : Ty} {d : ℕ} → SmallTold ws ws n m m a b d false
-small-not = record {
-  deep = λ e. let z : _≡_ {A = ℕ} 0 1 = cc in absurd (omega arith);
-  done = λ e. let z : _≡_ {A = ℕ} 0 1 = cc in absurd (omega arith);
-  words = λ e. refl;
-  memory = λ e. refl;
-}
+pub small-merges : {ws ws′ : List ℕ} {n : ℕ} {m m′ : List ℕ} {a b : Ty} {r : Bool} → Tried ws ws′ n a b r → r ≡ true → Forgot m m′ → SmallTold ws ws′ n m m′ a b true
+small-merges t f g = record { done = λ e. inl (t .merged f, g); words = λ e. cc; memory = λ e. cc }
 
-pub small-stays : {ws ws′ : List ℕ} {n : ℕ} {m : List ℕ} {a b : Ty} {d : ℕ} {r : Bool} → Tried ws ws′ n a b r → r ≡ false → SmallTold ws ws′ n m m a b d false
-small-stays t f = record {
-  deep = λ e. let z : _≡_ {A = ℕ} 0 1 = cc in absurd (omega arith);
-  done = λ e. let z : _≡_ {A = ℕ} 0 1 = cc in absurd (omega arith);
+pub small-nil : {ws ws′ : List ℕ} {n : ℕ} {m : List ℕ} {a b : Ty} {r s : Bool} → Tried ws ws′ n a b r → r ≡ false → OneNil ws′ n a b s → SmallTold ws ws′ n m m a b s
+small-nil {ws} {ws′} {n} {m} {a} {b} {s = s} t f o = record {
+  done = λ e. inr (subst (OneNil ws n a b) e (subst (λ (vs : List ℕ). OneNil vs n a b s) (t .stays f) o), (t .stays f, refl));
   words = λ e. t .stays f;
   memory = λ e. refl;
 }
-
-pub small-nil : {ws : List ℕ} {n : ℕ} {m : List ℕ} {a b : Ty} {d : ℕ} {r : Bool} → (d ≡ 0 → ⊥) → OneNil ws n a b r → r ≡ true → SmallTold ws ws n m m a b d true
-small-nil {ws} {n} {a = a} {b = b} h o f = record {
-  deep = λ e. h;
-  done = λ e. inr (subst (OneNil ws n a b) f o, (refl, refl));
-  words = λ e. cc;
-  memory = λ e. cc;
-}
-
-pub small-merges : {ws ws′ : List ℕ} {n : ℕ} {m m′ : List ℕ} {a b : Ty} {d : ℕ} {r : Bool} → (d ≡ 0 → ⊥) → Tried ws ws′ n a b r → r ≡ true → Forgot m m′
-    → SmallTold ws ws′ n m m′ a b d true
-small-merges h t f g = record { deep = λ e. h; done = λ e. inl (t .merged f, g); words = λ e. cc; memory = λ e. cc }
 
 -- `settle`
 

@@ -40,8 +40,7 @@ pub record QuickTold (ws ws′ : List ℕ) (n : ℕ) (m m′ : List ℕ) (a b : 
   pub memory : r ≡ false → m′ ≡ m
 
 -- told that two types are done with, they merged or are types of one nil; else nothing changed
-pub record SmallTold (ws ws′ : List ℕ) (n : ℕ) (m m′ : List ℕ) (a b : Ty) (d : ℕ) (r : Bool) : Type 0 where
-  pub deep : r ≡ true → d ≡ 0 → ⊥
+pub record SmallTold (ws ws′ : List ℕ) (n : ℕ) (m m′ : List ℕ) (a b : Ty) (r : Bool) : Type 0 where
   pub done : r ≡ true → (Quick ws ws′ n a b × Forgot m m′) ⊎ (OneNil ws n a b true × ((ws′ ≡ ws) × (m′ ≡ m)))
   pub words : r ≡ false → ws′ ≡ ws
   pub memory : r ≡ false → m′ ≡ m

@@ -36,22 +36,16 @@ pub fn quick(ws: &mut [u32], n: u32, memory: &mut [u32], a: Type, b: Type, depth
     true
 }
 
-// The same of two roots without children of which one has no kind, and of two types of one nil, where nothing is to be done.
-pub fn small(ws: &mut [u32], n: u32, memory: &mut [u32], a: Type, b: Type, depth: u32) -> bool
+// The same at any depth but 0, of two roots without children of which one has no kind, and of two types of one nil, where nothing is to be done.
+pub fn small(ws: &mut [u32], n: u32, memory: &mut [u32], a: Type, b: Type) -> bool
     requires { ⌜ Adds (now ws) n (tyOf (a .0)) (tyOf (b .0)) × Tidy (now memory) ⌝ }
-    ensures { λ r. ⌜ SmallTold (now (ws .entry)) (now (ws .exit)) n (now (memory .entry)) (now (memory .exit)) (tyOf (a .0)) (tyOf (b .0)) depth r ⌝ }
+    ensures { λ r. ⌜ SmallTold (now (ws .entry)) (now (ws .exit)) n (now (memory .entry)) (now (memory .exit)) (tyOf (a .0)) (tyOf (b .0)) r ⌝ }
 {
-    if depth == 0 {
-        return false;
-    }
-    if merge::one_nil(ws, n, a, b) {
+    if merge::slight(ws, n, a, b) {
+        recall::changed(memory);
         return true;
     }
-    if !merge::slight(ws, n, a, b) {
-        return false;
-    }
-    recall::changed(memory);
-    true
+    merge::one_nil(ws, n, a, b)
 }
 
 // "Only Success merges." What the visit answered that began at that clock is noted.

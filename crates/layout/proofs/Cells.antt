@@ -4,29 +4,35 @@
 use mathlib.Core.Path.{_≡_, refl, ap, sym, _∙_, subst}
 use mathlib.Core.Bool.{Bool, true, false, _&&_}
 use mathlib.Core.Option.{none, some}
-use mathlib.Core.List.{List, [], _∷_}
+use mathlib.Core.List.{List, [], _∷_, _++_}
 use Prim.Native.Nat.{ℕ, zero, suc, _+_, _*_, _/_, _-_, _<_, _≤_}
 use native.Mathlib.Omega.{arith}
 use lib.Dec.{eqb, leb, leb·zero}
 use lib.ListN.{length, getD, take, drop, length-drop, List·getD-eq-default}
-use lib.Seq.{getD-take, getD-drop, take-all, ext-getD}
-use borrow.Author.Tests.{eqb-true, eqb-false, leb-true}
+use lib.Seq.{sets, getD-take, getD-drop, take-all, length-take-le, ext-getD}
+use mir.Val.{boolByte}
+use borrow.Author.Tests.{eq-eqb, ne-eqb, lt-ltb, eqb-true, eqb-false, leb-true}
 use Rattle.scope.specs.Base.{pick, isSome, orElse}
 use Rattle.scope.specs.Limits.{NONE}
 use Rattle.scope.specs.Types.{tyOf}
 use Rattle.scope.specs.Nodes as nodes
+use Rattle.names.specs.Place.{nameFrom}
 use Rattle.scope.specs.Sound.{zeros, nodeIn, kindBare, namesClean, kindIn}
-use Rattle.layout.specs.Words.{nodeField, slotAt, cellAt, nodeAt, nodeClean}
-use Rattle.layout.specs.Meaning.{flagWord, cellBy, cellIn, wordsOf, nodeOf, plainCell, cellOf, cellWords, cellMeans, kindCell, kindMeans, nodeMeans, kindFits, nodeFits, slotIn, slotMeans}
+use Rattle.layout.specs.Words.{nodeWords, nodeField, slotAt, cellAt, nodeAt, nodeClean}
+use Rattle.layout.specs.Meaning.{flagWord, cellBy, cellIn, wordsOf, nodeOf, plainCell, cellOf, cellKind, cellWords, pasteAt}
+use Rattle.layout.specs.Meaning.{readAt, putAt, heldIn, cellMeans, kindCell, kindMeans, nodeMeans, kindFits, nodeFits, typeOf, slotMeans}
 use Rattle.layout.specs.declared.Cell.{Cell}
+use Rattle.layout.specs.declared.Kind.{Kind}
+use Rattle.layout.specs.declared.Held.{Held}
+use Rattle.layout.specs.declared.Held.the-variants.{Is, Nothing}
 use Rattle.layout.specs.declared.TypeState.the-variants.{Known, Unknown, InferenceFailed}
 use Rattle.layout.specs.declared.TypeNode.{TypeNode}
 use Rattle.layout.specs.declared.TypeNode.the-variants.{Root, Child}
-use Rattle.layout.proofs.Lists.{and-both, and-left, and-right, length-from, get-from}
+use Rattle.layout.proofs.Lists.{sets-all, and-both, and-left, and-right, length-from, get-from}
 
 -- children: a part's words, and zeros past the end
 
-pub slot-past : (ks : List ℕ) (i : ℕ) → length ks / 4 < i → slotMeans (slotIn []) ≡ slotAt ks i
+pub slot-past : (ks : List ℕ) (i : ℕ) → length ks / 4 < i → slotMeans (record { ty = typeOf 0; name = nameFrom 0 0 0 }) ≡ slotAt ks i
 slot-past ks i h = rw (
   List·getD-eq-default ks 0 {n = i * 4 + 0} (omega arith),
   List·getD-eq-default ks 0 {n = i * 4 + 1} (omega arith),
@@ -34,10 +40,13 @@ slot-past ks i h = rw (
   List·getD-eq-default ks 0 {n = i * 4 + 3} (omega arith),
 )
 
-pub slot-part : (ks : List ℕ) (i : ℕ) → slotMeans (slotIn (take (length ks - i * 4) (drop (i * 4) ks))) ≡ slotAt ks i
-slot-part ks i =
-    rw (take-all (length ks - i * 4) (drop (i * 4) ks) (simp length-drop (omega arith)))
-    (rw (getD-drop (i * 4) ks 0 0, getD-drop (i * 4) ks 1 0, getD-drop (i * 4) ks 2 0, getD-drop (i * 4) ks 3 0))
+-- the last number lies past the end of a child that is not whole
+pub slot-part : (ks : List ℕ) (i : ℕ) {x y z : ℕ} → length ks / 4 ≤ i → x ≡ getD (take (length ks - i * 4) (drop (i * 4) ks)) 0 0
+    → y ≡ getD (take (length ks - i * 4) (drop (i * 4) ks)) 1 0 → z ≡ getD (take (length ks - i * 4) (drop (i * 4) ks)) 2 0
+    → slotMeans (record { ty = typeOf x; name = nameFrom y z 0 }) ≡ slotAt ks i
+slot-part ks i h ex ey ez =
+    rw (ex, ey, ez, take-all (length ks - i * 4) (drop (i * 4) ks) (simp length-drop (omega arith)))
+    (rw (getD-drop (i * 4) ks 0 0, getD-drop (i * 4) ks 1 0, getD-drop (i * 4) ks 2 0, List·getD-eq-default ks 0 {n = i * 4 + 3} (omega arith)))
 
 -- where node i's part starts, and how long it is
 pub cell-start : (i : ℕ) → (i + 1) * 12 - 12 ≡ i * 12
@@ -272,3 +281,66 @@ cell-room ks c (Root (Known i k) z) h = and-left (leb (k .first + k .count) c) (
 pub cell-clean : (ks : List ℕ) (c : ℕ) (v : TypeNode) → nodeFits ks c v ≡ true → cellClean ks c (cellOf v) ≡ true
 cell-clean ks c v h =
     and-both (leb (cellFirst (cellOf v) + cellOf v .count) c) (isSome (nodeIn (cellMeans ks (cellOf v)))) (cell-room ks c v h) (ap isSome (cell-says ks c v h))
+
+-- a flag's word is its byte
+pub flag-byte : (b : Bool) → boolByte b ≡ flagWord b
+flag-byte true = refl
+flag-byte false = refl
+
+-- `node_at` and `held_at`: what the words at i are read as, by their tag
+
+node-child : (c : Cell) → c .tag ≡ 0 → Child (typeOf (c .link)) ≡ nodeOf c
+unfolding nodeOf
+node-child c t = rw (eq-eqb (c .tag) 0 t)
+
+node-unknown : (c : Cell) → c .tag ≡ 1 → Root (Unknown (c .link)) (c .size) ≡ nodeOf c
+unfolding nodeOf
+node-unknown c t = rw t
+
+node-failed : (c : Cell) → c .tag ≡ 2 → Root InferenceFailed (c .size) ≡ nodeOf c
+unfolding nodeOf
+node-failed c t = rw t
+
+module _ (c : Cell) (zero : c .tag ≡ 0 → ⊥) (one : c .tag ≡ 1 → ⊥) (two : c .tag ≡ 2 → ⊥) where
+  node-known : Root (Known (record { 0 = eqb (c .inv) 1 }) (cellKind c)) (c .size) ≡ nodeOf c
+  unfolding nodeOf
+  node-known = rw (ne-eqb (c .tag) 0 zero, ne-eqb (c .tag) 1 one, ne-eqb (c .tag) 2 two)
+
+held-low : (c : Cell) (m : ℕ) → c .tag ≡ m → m ≤ 2 → Nothing ≡ heldIn (nodeOf c)
+held-low c zero t h = ap heldIn (node-child c t)
+held-low c (suc zero) t h = ap heldIn (node-unknown c t)
+held-low c (suc (suc zero)) t h = ap heldIn (node-failed c t)
+held-low c (suc (suc (suc m))) t h = absurd (omega arith)
+
+module _ (ws : List ℕ) (n i : ℕ) (h : i < n) {c : Cell} (e : c ≡ cellIn (cellWords ws i)) where
+  read-cell : nodeOf c ≡ readAt ws n i
+  unfolding readAt
+  read-cell = rw (lt-ltb i n h) (ap nodeOf e)
+
+  pub read-child : c .tag ≡ 0 → Child (typeOf (c .link)) ≡ readAt ws n i
+  read-child t = node-child c t ∙ read-cell
+
+  pub read-unknown : c .tag ≡ 1 → Root (Unknown (c .link)) (c .size) ≡ readAt ws n i
+  read-unknown t = node-unknown c t ∙ read-cell
+
+  pub read-failed : c .tag ≡ 2 → Root InferenceFailed (c .size) ≡ readAt ws n i
+  read-failed t = node-failed c t ∙ read-cell
+
+  pub read-known : {k : Kind} → (c .tag ≡ 0 → ⊥) → (c .tag ≡ 1 → ⊥) → (c .tag ≡ 2 → ⊥) → k ≡ cellKind c → Root (Known (record { 0 = eqb (c .inv) 1 }) k) (c .size) ≡ readAt ws n i
+  read-known x y z f = rw f (node-known c x y z ∙ read-cell)
+
+  pub held-none : c .tag ≤ 2 → Nothing ≡ heldIn (readAt ws n i)
+  held-none t = held-low c (c .tag) refl t ∙ ap heldIn read-cell
+
+  pub held-kind : {k : Kind} → 2 < c .tag → k ≡ cellKind c → Is (record { 0 = eqb (c .inv) 1 }) k ≡ heldIn (readAt ws n i)
+  held-kind t f = rw f (ap heldIn (node-known c (λ q. omega arith) (λ q. omega arith) (λ q. omega arith) ∙ read-cell))
+
+-- `put_node`: the words of a cell over the whole part of node i
+pub put-words : (ws : List ℕ) (n i : ℕ) → nodeWords n ≤ length ws → i < n → {c : Cell} (v : TypeNode) → c ≡ cellOf v
+    → take ((i + 1) * 12 - 12) ws
+    ++ (sets (take ((i + 1) * 12 - ((i + 1) * 12 - 12)) (drop ((i + 1) * 12 - 12) ws)) 0 (wordsOf c)
+    ++ drop ((i + 1) * 12 - ((i + 1) * 12 - 12)) (drop ((i + 1) * 12 - 12) ws)) ≡ putAt ws n i v
+unfolding putAt
+put-words ws n i room h {c} v e =
+    let k : length (cellWords ws i) ≡ 12 = length-take-le 12 (drop (i * 12) ws) (simp length-drop (omega arith)) in
+    rw (lt-ltb i n h, cell-length, cell-start) (ap (pasteAt ws i) (sets-all (cellWords ws i) (wordsOf c) k ∙ ap wordsOf e))

@@ -4,12 +4,12 @@
 use mathlib.Core.Path.{_≡_, refl, ap, sym, _∙_}
 use mathlib.Core.Bool.{true}
 use mathlib.Core.List.{List, [], _∷_, _++_}
-use Prim.Native.Nat.{ℕ, zero, suc, _+_, _*_, _<_, _≤_}
+use Prim.Native.Nat.{ℕ, zero, suc, _+_, _-_, _*_, _<_, _≤_}
 use native.Mathlib.Omega.{arith}
 use native.Mathlib.Numerals.{add-one}
 use lib.Dec.{leb}
-use lib.ListN.{length, getD, take, drop, length-map, List·getD-map}
-use lib.Seq.{getD-take, getD-drop}
+use lib.ListN.{length, getD, take, drop, length-map, length-drop, List·getD-map}
+use lib.Seq.{sets, getD-take, getD-drop, length-take-le}
 use borrow.Author.Tests.{leb-true, le-leb}
 use borrow.Rule.Slice.PartMut.{midOf}
 use Rattle.scope.specs.Base.{isSome}
@@ -23,7 +23,7 @@ use Rattle.layout.specs.declared.Kind.{Kind}
 use Rattle.layout.specs.declared.TypeState.the-variants.{Known, Unknown, InferenceFailed}
 use Rattle.layout.specs.declared.TypeNode.{TypeNode}
 use Rattle.layout.specs.declared.TypeNode.the-variants.{Root, Child}
-use Rattle.layout.proofs.Lists.{and-both, and-left, and-right, part-here, part-other, drop-past, length-part, length-from, get-from, map-snoc, same-from}
+use Rattle.layout.proofs.Lists.{sets-all, and-both, and-left, and-right, part-here, part-other, drop-past, length-part, length-from, get-from, map-snoc, same-from}
 use Rattle.layout.proofs.Laws.{decode-same}
 
 -- runs of children
@@ -69,7 +69,7 @@ kid-at ks k j d h =
 
 -- put
 
-slot-words : (ks : List ℕ) (i : ℕ) → slotAt ks i ≡ slotMeans (slotIn (midOf (i * 4) 4 ks))
+pub slot-words : (ks : List ℕ) (i : ℕ) → slotAt ks i ≡ slotMeans (slotIn (midOf (i * 4) 4 ks))
 slot-words ks i = rw (
   getD-take 4 (drop (i * 4) ks) 0 0 (omega arith),
   getD-take 4 (drop (i * 4) ks) 1 0 (omega arith),
@@ -78,6 +78,14 @@ slot-words ks i = rw (
 ) (rw (getD-drop (i * 4) ks 0 0, getD-drop (i * 4) ks 1 0, getD-drop (i * 4) ks 2 0, getD-drop (i * 4) ks 3 0))
 
 module _ (ks : List ℕ) (i : ℕ) (s : Slot) (room : i * 4 + 4 ≤ length ks) where
+  -- the words of a slot over the whole part of child i
+  pub put-slot : take (i * 4) ks ++ (sets (take (i * 4 + 4 - i * 4) (drop (i * 4) ks)) 0 (slotWords s) ++ drop (i * 4 + 4 - i * 4) (drop (i * 4) ks)) ≡ putSlot ks i s
+  unfolding putSlot
+  put-slot =
+      let k : length (midOf (i * 4) 4 ks) ≡ 4 = length-take-le 4 (drop (i * 4) ks) (simp length-drop (omega arith)) in
+      let z : i * 4 + 4 - i * 4 ≡ 4 = omega arith in
+      rw z (ap (λ (l : List ℕ). take (i * 4) ks ++ (l ++ drop 4 (drop (i * 4) ks))) (sets-all (midOf (i * 4) 4 ks) (slotWords s) k))
+
   pub slot-here : slotAt (putSlot ks i s) i ≡ slotMeans s
   unfolding putSlot
   slot-here = slot-words (putSlot ks i s) i ∙ ap (λ (l : List ℕ). slotMeans (slotIn l)) (part-here (i * 4) 4 ks (slotWords s) refl room)

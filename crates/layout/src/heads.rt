@@ -4,7 +4,7 @@ ghost use mathlib.Core.Path.{_≡_};
 ghost use Prim.Native.Nat.{_+_, _*_, _≤_};
 ghost use lib.ListN.{length, getD};
 ghost use Rattle.layout.specs.Words.{NODE-WORDS, HEAD-WORDS, nodesMade, childrenMade, nodeRoom, childRoom};
-ghost use Rattle.layout.specs.Meaning.{cellWords, wordsOf, plainCell, putAt, rememberedOf, UNKNOWN-TAG};
+ghost use Rattle.layout.specs.Meaning.{cellWords, putAt, rememberedOf};
 ghost use Rattle.layout.specs.Heads.{noWords, putCounts};
 ghost use Rattle.layout.specs.declared.TypeNode.the-variants.{Root};
 ghost use Rattle.layout.specs.declared.TypeState.the-variants.{Unknown};
@@ -66,17 +66,7 @@ pub fn put_counts(h: &mut [u32], nodes: u32, children: u32)
     h[1] = children;
 }
 
-// An Unknown root in twelve words that are 0: three of them say it.
-fn write_unknown(s: &mut [u32], span: u32)
-    requires { ⌜ now s ≡ noWords ⌝ }
-    ensures { λ _. ⌜ now (s .exit) ≡ wordsOf (plainCell UNKNOWN-TAG span 1) ⌝ }
-{
-    s[0] = UNKNOWN_TAG;
-    s[1] = span;
-    s[2] = 1;
-}
-
-// The same at node i, behind the others.
+// An Unknown root at node i, behind the others, in twelve words that are 0: three of them say it.
 pub fn put_unknown(ws: &mut [u32], i: TypeIdx, span: u32)
     requires { ⌜ i .0 * NODE-WORDS + NODE-WORDS ≤ length (now ws) ⌝ }
     requires { ⌜ cellWords (now ws) (i .0) ≡ noWords ⌝ }
@@ -84,5 +74,8 @@ pub fn put_unknown(ws: &mut [u32], i: TypeIdx, span: u32)
 {
     let a = i.0 as usize * NODE_WORDS;
     let e = a + NODE_WORDS;
-    write_unknown(&mut ws[a..e], span);
+    let s = &mut ws[a..e];
+    s[0] = UNKNOWN_TAG;
+    s[1] = span;
+    s[2] = 1;
 }

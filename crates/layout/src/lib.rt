@@ -8,7 +8,7 @@ ghost use Prim.Native.Nat.{_+_, _*_, _≤_};
 ghost use lib.ListN.{length, getD};
 ghost use Rattle.layout.specs.Words.{NODE-WORDS, CHILD-WORDS, HEAD-WORDS, nodeWords, childWords, slotAt};
 ghost use Rattle.layout.specs.Meaning.{cellIn, cellKind, cellWords, readAt, putAt, nodeState, nodeSize, heldIn};
-ghost use Rattle.layout.specs.Meaning.{slotIn, slotWords, slotMeans, putSlot, rememberedOf, rememberedWord, headerIn, putHeader};
+ghost use Rattle.layout.specs.Meaning.{slotMeans, putSlot, rememberedOf, rememberedWord, headerIn, putHeader};
 use names::NO_NAME;
 use names::Name;
 use scope::NONE;
@@ -146,7 +146,23 @@ pub fn cell_at(ws: &[u32], i: TypeIdx) -> Cell
 {
     let a = i.0 as usize * NODE_WORDS;
     let e = a + NODE_WORDS;
-    encoding::read_cell(&ws[a..e])
+    let s = &ws[a..e];
+    Cell {
+        tag: s[0],
+        link: s[1],
+        size: s[2],
+        inv: s[3],
+        code: s[4],
+        number: s[5],
+        dual: s[6],
+        flex: s[7],
+        name: Name {
+            text: s[8],
+            start: s[9],
+            len: s[10],
+        },
+        count: s[11],
+    }
 }
 
 // The node i of n; past them a root of no size.
@@ -160,7 +176,27 @@ pub fn node_at(ws: &[u32], n: u32, i: TypeIdx) -> TypeNode
             size: 0,
         };
     }
-    encoding::node_of(cell_at(ws, i))
+    let c = cell_at(ws, i);
+    if c.tag == CHILD_TAG {
+        return TypeNode::Child(Type(c.link));
+    }
+    let size = c.size;
+    if c.tag == UNKNOWN_TAG {
+        return TypeNode::Root {
+            state: TypeState::Unknown(c.link),
+            size,
+        };
+    }
+    if c.tag == FAILED_TAG {
+        return TypeNode::Root {
+            state: TypeState::InferenceFailed,
+            size,
+        };
+    }
+    TypeNode::Root {
+        state: TypeState::Known(Inverted(c.inv == 1), kind_in(c)),
+        size,
+    }
 }
 
 // A child has no state of its own, and no size.
@@ -187,11 +223,14 @@ pub fn held_at(ws: &[u32], n: u32, i: TypeIdx) -> Held
     requires { ⌜ nodeWords n ≤ length (now ws) ⌝ }
     ensures { λ r. ⌜ r ≡ heldIn (readAt (now (ws .entry)) n (i .0)) ⌝ }
 {
-    match state_of(node_at(ws, n, i)) {
-        TypeState::Known(inv, kind) => Held::Is(inv, kind),
-        TypeState::Unknown(_) => Held::Nothing,
-        TypeState::InferenceFailed => Held::Nothing,
+    if n <= i.0 {
+        return Held::Nothing;
     }
+    let c = cell_at(ws, i);
+    if c.tag <= FAILED_TAG {
+        return Held::Nothing;
+    }
+    Held::Is(Inverted(c.inv == 1), kind_in(c))
 }
 
 // Another node i of n; past them nothing changes.
@@ -202,32 +241,22 @@ pub fn put_node(ws: &mut [u32], n: u32, i: TypeIdx, node: TypeNode)
     if n <= i.0 {
         return;
     }
+    let c = encoding::cell_of(node);
     let end = (i.0 as usize + 1) * NODE_WORDS;
     let start = end - NODE_WORDS;
-    encoding::write_cell(&mut ws[start..end], encoding::cell_of(node));
-}
-
-fn read_slot(s: &[u32]) -> Slot
-    ensures { λ r. ⌜ r ≡ slotIn (now (s .entry)) ⌝ }
-{
-    Slot {
-        ty: Type(word(s, 0)),
-        name: Name {
-            text: word(s, 1),
-            start: word(s, 2),
-            len: word(s, 3),
-        },
-    }
-}
-
-fn write_slot(s: &mut [u32], c: Slot)
-    requires { ⌜ length (now s) ≡ CHILD-WORDS ⌝ }
-    ensures { λ _. ⌜ now (s .exit) ≡ slotWords c ⌝ }
-{
-    s[0] = c.ty.0;
-    s[1] = c.name.text;
-    s[2] = c.name.start;
-    s[3] = c.name.len;
+    let s = &mut ws[start..end];
+    s[0] = c.tag;
+    s[1] = c.link;
+    s[2] = c.size;
+    s[3] = c.inv;
+    s[4] = c.code;
+    s[5] = c.number;
+    s[6] = c.dual;
+    s[7] = c.flex;
+    s[8] = c.name.text;
+    s[9] = c.name.start;
+    s[10] = c.name.len;
+    s[11] = c.count;
 }
 
 // The child i, where all its words are.
@@ -236,17 +265,19 @@ pub fn child_there(ks: &[u32], i: usize) -> Slot
     ensures { λ r. ⌜ slotMeans r ≡ slotAt (now (ks .entry)) i ⌝ }
 {
     let a = i * CHILD_WORDS;
+    let e = a + CHILD_WORDS;
+    let s = &ks[a..e];
     Slot {
-        ty: Type(ks[a]),
+        ty: Type(s[0]),
         name: Name {
-            text: ks[a + 1],
-            start: ks[a + 2],
-            len: ks[a + 3],
+            text: s[1],
+            start: s[2],
+            len: s[3],
         },
     }
 }
 
-// The child i; past the end zeros.
+// The child i; past the end zeros, so that one which begins before it lacks its length at least.
 pub fn child_at(ks: &[u32], i: usize) -> Slot
     ensures { λ r. ⌜ slotMeans r ≡ slotAt (now (ks .entry)) i ⌝ }
 {
@@ -261,7 +292,15 @@ pub fn child_at(ks: &[u32], i: usize) -> Slot
         };
     }
     let a = i * CHILD_WORDS;
-    read_slot(&ks[a..])
+    let s = &ks[a..];
+    Slot {
+        ty: Type(word(s, 0)),
+        name: Name {
+            text: word(s, 1),
+            start: word(s, 2),
+            len: 0,
+        },
+    }
 }
 
 // Child j of a kind.
@@ -277,7 +316,11 @@ pub fn put_child(ks: &mut [u32], i: usize, c: Slot)
 {
     let a = i * CHILD_WORDS;
     let e = a + CHILD_WORDS;
-    write_slot(&mut ks[a..e], c);
+    let s = &mut ks[a..e];
+    s[0] = c.ty.0;
+    s[1] = c.name.text;
+    s[2] = c.name.start;
+    s[3] = c.name.len;
 }
 
 fn remembered_of(w: u32) -> Remembered

@@ -8,7 +8,7 @@ use lib.ListN.{length, take}
 use borrow.Author.Tests.{lt-ltb}
 use Rattle.promise.specs.declared.CountAnswer.{CountAnswer}
 use Rattle.promise.specs.declared.CountAnswer.the-variants.{Is, Refused}
-use Rattle.call_show_part.specs.Parts.{partIn}
+use Rattle.call_show.specs.Parts.{partIn}
 use Rattle.c_words.specs.Numbers.{REFUSED, countLow, counted}
 use Rattle.c_words.proofs.Laws.{counted-low, counted-long}
 

@@ -37,7 +37,7 @@ pub extern "C" fn faroalder_import<'a>(
         (now (out .entry)) (now (out .exit)) ⌝ }
 {
     let beside = c_words::beside_of(fn_trait, sigils);
-    c_words::done_number(call_import::import(
+    c_words::done_number(call_copy::import(
         chart,
         beside,
         rule,
@@ -82,7 +82,7 @@ pub extern "C" fn faroalder_export<'a>(
         (now (h .entry)) (now (ws .entry)) (now (ks .entry)) (now (h .exit)) (now (ws .exit)) (now (ks .exit)) (now (out .entry)) (now (out .exit)) ⌝ }
 {
     let beside = c_words::beside_of(fn_trait, sigils);
-    c_words::done_number(call_export::export(
+    c_words::done_number(call_copy::export(
         chart,
         beside,
         rule,

@@ -36,7 +36,7 @@ use Rattle.store.specs.Holds.{Became, Ready}
 use Rattle.store.specs.Bare.{bareKind}
 use Rattle.store.proofs.Laws.{store-count, beyond-refl, remembered-fits, error-is, nil-is, bare-means, bare-fits}
 use Rattle.make.specs.Made.{MadeIs, BlankMade, Rememberable}
-use Rattle.make.specs.Header.{Pushable, Pushed, BlankReady, OnceReady, OnceMade}
+use Rattle.make.specs.Header.{Pushable, Pushed, BlankReady, OnceReady, OnceMade, withRemembered}
 use Rattle.make.proofs.Laws.{push-holds, push-beyond}
 
 -- room, in the header's words
@@ -150,47 +150,36 @@ var-made o = o .made
 
 -- the header with other types remembered
 
-abbrev pub rememberingHeader : Header → Remembered → Remembered → Header
-rememberingHeader x e z = record {
-  nodes = x .nodes;
-  children = x .children;
-  «node_room» = x .«node_room»;
-  «child_room» = x .«child_room»;
-  error = e;
-  nil = z;
-  reports = x .reports;
-}
-
 module _ {h ws ks : List ℕ} {e z : Remembered} (r : Rememberable h ws ks e z) where
   pub header-long : HEAD-WORDS ≤ length h
   header-long = clean-lies h ws ks (r .clean) .head
 
-  remembered-lies : Lies (putHeader h (rememberingHeader (headerIn h) e z)) ws ks
+  remembered-lies : Lies (putHeader h (withRemembered (headerIn h) e z)) ws ks
   unfolding putHeader
   remembered-lies =
       let l : Lies h ws ks = clean-lies h ws ks (r .clean) in
       record {
-        head = omega (arith, length-put-header h (rememberingHeader (headerIn h) e z) (l .head), l .head);
+        head = omega (arith, length-put-header h (withRemembered (headerIn h) e z) (l .head), l .head);
         nodes = l .nodes;
         children = l .children;
         nodeSlots = l .nodeSlots;
         childSlots = l .childSlots;
       }
 
-  remembered-clean : clean (putHeader h (rememberingHeader (headerIn h) e z)) ws ks ≡ true
+  remembered-clean : clean (putHeader h (withRemembered (headerIn h) e z)) ws ks ≡ true
   unfolding putHeader
   remembered-clean =
-      clean-of (putHeader h (rememberingHeader (headerIn h) e z)) ws ks remembered-lies
-      (unused-grown h ws ks (putHeader h (rememberingHeader (headerIn h) e z)) ws ks
+      clean-of (putHeader h (withRemembered (headerIn h) e z)) ws ks remembered-lies
+      (unused-grown h ws ks (putHeader h (withRemembered (headerIn h) e z)) ws ks
       (record { nodeRooms = refl; childRooms = refl; nodes = omega arith; children = omega arith; nodeTail = refl; childTail = refl })
       (clean-unused h ws ks (r .clean))) (clean-nodes h ws ks (r .clean))
 
-  pub remembered-became : {x : Header} {h′ : List ℕ} → x ≡ headerIn h → h′ ≡ putHeader h (rememberingHeader x e z)
+  pub remembered-became : {h′ : List ℕ} → h′ ≡ putHeader h (withRemembered (headerIn h) e z)
       → Became h ws ks h′ ws ks (remembering (storeIn h ws ks) (rememberedMeans e) (rememberedMeans z))
   unfolding storeIn
-  remembered-became q w = rw (w, q) (record {
-    holds = record { clean = remembered-clean; is = store-put h (rememberingHeader (headerIn h) e z) (r .error) (r .nil) ws ks };
-    beyond = record { head = tail-put-header h (rememberingHeader (headerIn h) e z); nodes = refl; kids = refl };
+  remembered-became w = rw w (record {
+    holds = record { clean = remembered-clean; is = store-put h (withRemembered (headerIn h) e z) (r .error) (r .nil) ws ks };
+    beyond = record { head = tail-put-header h (withRemembered (headerIn h) e z); nodes = refl; kids = refl };
   })
 
 -- error and nil: a kind without children, and what is remembered then

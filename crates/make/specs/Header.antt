@@ -44,6 +44,18 @@ grown x c e n = record {
   reports = x .reports;
 }
 
+-- other remembered types alone
+abbrev pub withRemembered : Header → Remembered → Remembered → Header
+withRemembered x e n = record {
+  nodes = x .nodes;
+  children = x .children;
+  «node_room» = x .«node_room»;
+  «child_room» = x .«child_room»;
+  error = e;
+  nil = n;
+  reports = x .reports;
+}
+
 -- the slices have the words for it, and the counts stay within theirs
 pub record Pushable (h ws : List ℕ) (x : Header) (c : ℕ) : Type 0 where
   pub head : HEAD-WORDS ≤ length h

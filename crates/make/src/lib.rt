@@ -4,20 +4,20 @@ ghost use mathlib.Core.Path.{_≡_};
 ghost use mathlib.Core.Bool.{true, false};
 ghost use Prim.Native.Nat.{_+_, _≤_, _<_};
 ghost use lib.ListN.{length};
-ghost use Rattle.scope.specs.Nodes.{opened, remembering};
+ghost use Rattle.scope.specs.Nodes.{opened};
 ghost use Rattle.scope.specs.Make.{new, newVar, newVars, makeError, makeNil};
 ghost use Rattle.scope.specs.Force.{reset};
 ghost use Rattle.scope.specs.Calls.{nodesFor};
-ghost use Rattle.layout.specs.Words.{childWords, nodesMade, storeIn};
+ghost use Rattle.layout.specs.Words.{HEAD-WORDS, childWords, nodesMade, storeIn};
 ghost use Rattle.layout.specs.Words as words;
-ghost use Rattle.layout.specs.Meaning.{typeOf, headerIn, rememberedMeans};
+ghost use Rattle.layout.specs.Meaning.{typeOf, headerIn, putHeader};
 ghost use Rattle.layout.specs.declared.TypeState.the-variants.{Unknown, Known};
 ghost use Rattle.layout.specs.declared.Remembered.the-variants.{Is};
 ghost use Rattle.scope.specs.Kinds as kind;
 ghost use Rattle.store.specs.Bare.{bareKind};
 ghost use Rattle.store.specs.Holds.{Became, Openable, Ready};
-ghost use Rattle.make.specs.Made.{MadeIs, MadeAllIs, BlankMade, Rememberable};
-ghost use Rattle.make.specs.Header.{Pushable, Pushed, BlankReady, OnceReady, OnceMade, cleared, fresh};
+ghost use Rattle.make.specs.Made.{MadeIs, MadeAllIs};
+ghost use Rattle.make.specs.Header.{Pushable, Pushed, BlankReady, OnceReady, OnceMade, cleared, fresh, withRemembered};
 ghost use Rattle.make.specs.Given.{KindReady, Put, kindAt, kindGiven};
 use kinds::ERROR;
 use kinds::TUPLE;
@@ -105,7 +105,8 @@ pub fn push(h: &mut [u32], ws: &mut [u32], added: u32, state: TypeState) -> Type
     Type(n)
 }
 
-// The same for an Unknown: its slot is not used yet, so three words say it.
+// The same for an Unknown: its slot is not used yet, so three words say it. It is what a copy is until it takes its kind: its children are counted, and
+// their words are not written yet.
 pub fn push_unknown(h: &mut [u32], ws: &mut [u32], span: u32, added: u32) -> Type
     requires { ⌜ BlankReady (now h) (now ws) added ⌝ }
     ensures { λ r. ⌜ Pushed (now (h .entry)) (now (ws .entry)) (now (h .exit)) (now (ws .exit)) (headerIn (now (h .entry))) added
@@ -147,27 +148,18 @@ fn push_bare(
     Type(n)
 }
 
-// An Unknown, with `added` children counted whose words are not written yet: what a copy is until it takes its kind.
-pub fn new_blank(h: &mut [u32], ws: &mut [u32], ks: &[u32], span: u32, added: u32) -> Type
-    requires { ⌜ Ready (now h) (now ws) (now ks) 1 added ⌝ }
-    ensures { λ r. ⌜ BlankMade (now (h .entry)) (now (ws .entry)) (now (ks .entry)) (now (h .exit)) (now (ws .exit)) span added r ⌝ }
-{
-    push_unknown(h, ws, span, added)
-}
-
 pub fn new_var(h: &mut [u32], ws: &mut [u32], ks: &[u32], span: u32) -> Type
     requires { ⌜ Ready (now h) (now ws) (now ks) 1 0 ⌝ }
     ensures { λ r. ⌜ MadeIs (now (h .entry)) (now (ws .entry)) (now (ks .entry)) (now (h .exit)) (now (ws .exit)) (now (ks .entry)) r
         (newVar (storeIn (now (h .entry)) (now (ws .entry)) (now (ks .entry))) span) ⌝ }
 {
-    new_blank(h, ws, ks, span, 0)
+    push_unknown(h, ws, span, 0)
 }
 
 // Other remembered types, and nothing else changed.
-pub fn remember(h: &mut [u32], ws: &[u32], ks: &[u32], error: Remembered, nil: Remembered)
-    requires { ⌜ Rememberable (now h) (now ws) (now ks) error nil ⌝ }
-    ensures { λ _. ⌜ Became (now (h .entry)) (now (ws .entry)) (now (ks .entry)) (now (h .exit)) (now (ws .entry)) (now (ks .entry))
-        (remembering (storeIn (now (h .entry)) (now (ws .entry)) (now (ks .entry))) (rememberedMeans error) (rememberedMeans nil)) ⌝ }
+pub fn remember(h: &mut [u32], error: Remembered, nil: Remembered)
+    requires { ⌜ HEAD-WORDS ≤ length (now h) ⌝ }
+    ensures { λ _. ⌜ now (h .exit) ≡ putHeader (now (h .entry)) (withRemembered (headerIn (now (h .entry))) error nil) ⌝ }
 {
     let x = layout::read_header(h);
     let y = Header {

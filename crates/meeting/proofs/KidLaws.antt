@@ -1,4 +1,4 @@
--- Children read from their words: how many there are, the type beside a name, all but the last and the last. One law for each way out of `seek` and `seek_near`; `seek` goes on while
+-- Children read from their words: how many there are, the type beside a name, all but the last and the last. One law for each way out of `seek` and `seek_between`; `seek` goes on while
 -- what the children from a place on give is what all give.
 -- Assumes nothing.
 use mathlib.Core.Path.{_≡_, refl, ap, sym, subst, _∙_}
@@ -22,7 +22,7 @@ use Rattle.layout.specs.Words.{slotAt, slots}
 use Rattle.layout.proofs.ChildLaws.{length-slots}
 use Rattle.plan.specs.Meaning.{kidsFrom, namesFrom}
 use Rattle.names.proofs.InWords.{name-bytes}
-use Rattle.meeting.specs.Kids.{slotPlace, soughtIn, Middle}
+use Rattle.meeting.specs.Kids.{slotPlace, soughtIn, nth, Middle, Between}
 use Rattle.meeting.specs.Steps.{Ascends}
 
 -- numbers
@@ -137,9 +137,6 @@ seek-near {x} {ks} m {k} {b} {count} {i} a h e f g q =
 
 -- the names of other children come before the i-th or behind it
 
-abbrev nth : Texts → List ℕ → ℕ → ℕ → List ℕ
-nth x ks b j = bytesOr x (slotName (slotAt ks (b + j)))
-
 nth-later : (x : Texts) (ks : List ℕ) (b count i j : ℕ) → ascending (map (bytesOr x) (namesFrom ks b count)) ≡ true → i < j → j < count → ltBytes (nth x ks b i) (nth x ks b j) ≡ true
 nth-later x ks b zero i j a h l = absurd (omega arith)
 nth-later x ks b (suc c) zero zero a h l = absurd (omega arith)
@@ -162,19 +159,14 @@ seek-none x ks n b (suc c) h =
     let e : eqBytes n (bytesOr x (slotName (slotAt ks b))) ≡ false = rw p at (h 0 (omega arith)) in
     rw e (seek-none x ks n (suc b) c (λ j l. let q : b + suc j ≡ suc b + j = omega arith in rw q at (h (suc j) (omega arith))))
 
--- `seek_near`'s loop: names below low come before the name sought, names from high on behind it
-pub record Halving (x : Texts) (ks : List ℕ) (m : Name) (b count low high at : ℕ) : Type 0 where
-  pub top : high ≤ count
-  pub look : Middle low high at
-  pub under : (j : ℕ) → j < low → j < count → ltBytes (nth x ks b j) (bytes x m) ≡ true
-  pub over : (j : ℕ) → high ≤ j → j < count → ltBytes (bytes x m) (nth x ks b j) ≡ true
+-- `seek_between`: names below low come before the name sought, names from high on behind it
 
-pub halving-start : {x : Texts} {ks : List ℕ} {m : Name} {b count at : ℕ} → Middle 0 count at → Halving x ks m b count 0 count at
-halving-start l = record { top = omega arith; look = l; under = λ j h k. absurd (omega arith); over = λ j h k. absurd (omega arith) }
+pub between-start : {x : Texts} {ks : List ℕ} {m : Name} {b count at : ℕ} → Middle 0 count at → Between x ks m b count 0 count at
+between-start l = record { top = omega arith; look = l; under = λ j h k. absurd (omega arith); over = λ j h k. absurd (omega arith) }
 
-module _ {x : Texts} {ks : List ℕ} {m : Name} {b count low high at : ℕ} (w : Halving x ks m b count low high at) where
-  pub halving-over : high ≤ low → none ≡ soughtIn x ks m b count
-  halving-over h = sym (seek-none x ks (bytes x m) b count apart)
+module _ {x : Texts} {ks : List ℕ} {m : Name} {b count low high at : ℕ} (w : Between x ks m b count low high at) where
+  pub between-over : high ≤ low → none ≡ soughtIn x ks m b count
+  between-over h = sym (seek-none x ks (bytes x m) b count apart)
     where
       apart : (j : ℕ) → j < count → eqBytes (bytes x m) (nth x ks b j) ≡ false
       apart j l = go (decLt j low)
@@ -190,8 +182,8 @@ module _ {x : Texts} {ks : List ℕ} {m : Name} {b count low high at : ℕ} (w :
     other : bytes x k ≡ nth x ks b at
     other = ap (bytes x) e ∙ sym (slot-bytes x (slotAt ks (b + at)))
 
-    pub halving-before : {r : Bool} {at′ : ℕ} → r ≡ ltBytes (bytes x m) (bytes x k) → r ≡ true → Middle low at at′ → Halving x ks m b count low at at′
-    halving-before {r} f g q =
+    pub between-before : {r : Bool} {at′ : ℕ} → r ≡ ltBytes (bytes x m) (bytes x k) → r ≡ true → Middle low at at′ → Between x ks m b count low at at′
+    between-before {r} f g q =
         let h : ltBytes (bytes x m) (nth x ks b at) ≡ true = ap (ltBytes (bytes x m)) (sym other) ∙ (sym f ∙ g) in
         record {
           top = omega (arith, there);
@@ -204,9 +196,9 @@ module _ {x : Texts} {ks : List ℕ} {m : Name} {b count low high at : ℕ} (w :
         go j c h (yes i) p = subst (λ (y : ℕ). ltBytes (bytes x m) (nth x ks b y) ≡ true) i h
         go j c h (no i) p = lt-trans (bytes x m) (nth x ks b at) (nth x ks b j) h (nth-later x ks b count at j (a .names) (omega arith) c)
 
-    pub halving-behind : {r s : Bool} {at′ : ℕ} → s ≡ eqBytes (bytes x m) (bytes x k) → s ≡ false → r ≡ ltBytes (bytes x m) (bytes x k) → r ≡ false
-        → Middle (at + 1) high at′ → Halving x ks m b count (at + 1) high at′
-    halving-behind {r} {s} d t f g q =
+    pub between-behind : {r s : Bool} {at′ : ℕ} → s ≡ eqBytes (bytes x m) (bytes x k) → s ≡ false → r ≡ ltBytes (bytes x m) (bytes x k) → r ≡ false
+        → Middle (at + 1) high at′ → Between x ks m b count (at + 1) high at′
+    between-behind {r} {s} d t f g q =
         let h : ltBytes (nth x ks b at) (bytes x m) ≡ true =
         lt-other (bytes x m) (nth x ks b at) (ap (eqBytes (bytes x m)) (sym other) ∙ (sym d ∙ t)) (ap (ltBytes (bytes x m)) (sym other) ∙ (sym f ∙ g)) in
         record {

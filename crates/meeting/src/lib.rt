@@ -9,7 +9,7 @@ ghost use Rattle.meeting.specs.Asks.{Tops, Roots};
 ghost use Rattle.meeting.specs.Meets.{OneNode, Bare, WalkedTo, bareRoots, Met};
 ghost use Rattle.plan.specs.declared.Plan.the-variants as plans;
 ghost use Rattle.meeting.specs.Steps.{Ascends, Spans, PlanSpans, Stepped, Lasts, Returns};
-ghost use Rattle.meeting.specs.Kids.{slotPlace, soughtMeans, soughtIn, Middle};
+ghost use Rattle.meeting.specs.Kids.{slotPlace, soughtMeans, soughtIn, Middle, Between};
 use layout::Held;
 use layout::TypeNode;
 use layout::TypeState;
@@ -220,7 +220,60 @@ fn next_look(low: u32, high: u32, i: u32) -> u32
     middle(low, high)
 }
 
-// The same where names ascend, and one may stand in the i-th place: that child is looked at first, then the one before it or behind it, then by halves.
+// The type beside a name among count children from b on whose names ascend, where it stands between low and high, if anywhere: the child between them is looked at,
+// then the part before it or behind it. What calls itself is not inlined, and so a search stays out of the frames of whoever seeks.
+fn seek_between<'a>(
+    ks: &[u32],
+    name: Name,
+    i: u32,
+    b: u32,
+    count: u32,
+    low: u32,
+    high: u32,
+    at: u32,
+    rule: &'a [u8],
+    text: &'a [u8],
+) -> Sought
+    requires { ⌜ (childWords (b + count) ≤ length (now ks)) × (Ascends (texts (now rule) (now text)) (now ks) b count
+        × Between (texts (now rule) (now text)) (now ks) (nameOf name) b count low high at) ⌝ }
+    ensures { λ r. ⌜ soughtMeans r ≡ soughtIn (texts (now (rule .entry)) (now (text .entry))) (now (ks .entry)) (nameOf name) b count ⌝ }
+{
+    if low >= high {
+        return Sought::Nothing;
+    }
+    let other = kid_name(ks, b, at);
+    if names::same_name(name, other, rule, text) {
+        return Sought::Is(kid(ks, b, at));
+    }
+    if names::name_before(name, other, rule, text) {
+        return seek_between(
+            ks,
+            name,
+            i,
+            b,
+            count,
+            low,
+            at,
+            next_look(low, at, i),
+            rule,
+            text,
+        );
+    }
+    seek_between(
+        ks,
+        name,
+        i,
+        b,
+        count,
+        at + 1,
+        high,
+        next_look(at + 1, high, i),
+        rule,
+        text,
+    )
+}
+
+// The same where one may stand in the i-th place: that child is looked at first, then the one before it or behind it, then by halves.
 pub fn seek_near<'a>(
     ks: &[u32],
     name: Name,
@@ -233,23 +286,18 @@ pub fn seek_near<'a>(
     requires { ⌜ (childWords (b + count) ≤ length (now ks)) × Ascends (texts (now rule) (now text)) (now ks) b count ⌝ }
     ensures { λ r. ⌜ soughtMeans r ≡ soughtIn (texts (now (rule .entry)) (now (text .entry))) (now (ks .entry)) (nameOf name) b count ⌝ }
 {
-    let mut low: u32 = 0;
-    let mut high = count;
-    let mut at = first_look(i, count);
-    while low < high {
-        let other = kid_name(ks, b, at);
-        if names::same_name(name, other, rule, text) {
-            return Sought::Is(kid(ks, b, at));
-        }
-        if names::name_before(name, other, rule, text) {
-            high = at;
-            at = next_look(low, high, i);
-        } else {
-            low = at + 1;
-            at = next_look(low, high, i);
-        }
-    }
-    Sought::Nothing
+    seek_between(
+        ks,
+        name,
+        i,
+        b,
+        count,
+        0,
+        count,
+        first_look(i, count),
+        rule,
+        text,
+    )
 }
 
 // Two runs of a signature's returns alone, where both have one.

@@ -6,6 +6,7 @@ use mathlib.Core.Bool.{Bool, true, false}
 use mathlib.Core.List.{List}
 use mathlib.Core.Option.{none}
 use Prim.Native.Nat.{ℕ, _+_, _<_, _≤_}
+use native.Mathlib.Omega.{arith}
 use lib.Dec.{ltb}
 use lib.ListN.{length, set}
 use borrow.Author.Tests.{lt-ltb, le-ltb}
@@ -22,33 +23,47 @@ use Rattle.types.specs.declared.UnifyResult.{UnifyResult}
 use Rattle.types.specs.declared.UnifyResult.the-variants.{Success, Failure, Indeterminate}
 use Rattle.types.proofs.Laws.{inverted-eq}
 use Rattle.layout.specs.Words.{nodeWords, decode}
-use Rattle.layout.specs.Meaning.{readAt, putAt, stateMeans, stateFits, kindMeans, nodeMeans, nodeFits, Clean}
+use Rattle.layout.specs.Meaning.{readAt, putAt, heldBy, heldIn, stateMeans, stateFits, kindMeans, nodeMeans, nodeFits, Clean}
+use Rattle.layout.specs.declared.Held.{Held}
+use Rattle.layout.specs.declared.Held.the-variants.{Is, Nothing}
 use Rattle.layout.specs.declared.Kind.{Kind}
 use Rattle.layout.specs.declared.TypeState.{TypeState}
 use Rattle.layout.specs.declared.TypeState.the-variants.{Known, Unknown, InferenceFailed}
 use Rattle.layout.specs.declared.TypeNode.{TypeNode}
 use Rattle.layout.specs.declared.TypeNode.the-variants.{Root, Child}
 use Rattle.layout.proofs.Laws.{length-put, tail-put, decode-put, clean-put}
-use Rattle.layout.proofs.HeldLaws.{state-read, size-read, state-fits}
-use Rattle.merge.specs.Meaning.{stateAt, sizeAt, turned, firstKnown, keptOf, Joined, Merged, Bound, Settled}
-use Rattle.merge.specs.Quick.{bareState}
+use Rattle.layout.proofs.HeldLaws.{held-state, state-read, size-read, state-fits}
+use Rattle.merge.specs.Meaning.{stateAt, sizeAt, taken, Joined, Merged, Bound, Settled}
 
--- states
+-- states: as a type of its root sees it, and back; the first that has a kind, or else the second; what a staying root takes, from those that the two types see and its own
 
-pub turned-known : (r : Inverted) (i : Bool) (j : Inverted) (k : Kind) → r .0 ≡ xor i (j .0) → Known r k ≡ turned i (Known j k)
+abbrev turned : Bool → TypeState → TypeState
+turned i (Known j k) = Known (record { 0 = xor i (j .0) }) k
+turned i (Unknown s) = Unknown s
+turned i InferenceFailed = InferenceFailed
+
+abbrev firstKnown : TypeState → TypeState → TypeState
+firstKnown (Known i k) b = Known i k
+firstKnown (Unknown s) b = b
+firstKnown InferenceFailed b = b
+
+abbrev keptOf : Bool → TypeState → TypeState → TypeState → TypeState
+keptOf i sa sb own = turned i (firstKnown sa (firstKnown sb own))
+
+turned-known : (r : Inverted) (i : Bool) (j : Inverted) (k : Kind) → r .0 ≡ xor i (j .0) → Known r k ≡ turned i (Known j k)
 turned-known r i j k e = ap (λ (x : Inverted). Known x k) (inverted-eq r (record { 0 = xor i (j .0) }) e)
 
-pub turned-twice : (i : Bool) (st : TypeState) → turned i (turned i st) ≡ st
+turned-twice : (i : Bool) (st : TypeState) → turned i (turned i st) ≡ st
 turned-twice i (Known j k) = sym (turned-known j i (record { 0 = xor i (j .0) }) k (sym (xor-twice i (j .0))))
 turned-twice i (Unknown s) = refl
 turned-twice i InferenceFailed = refl
 
-pub turned-fits : (ks : List ℕ) (c : ℕ) (i : Bool) (st : TypeState) → stateFits ks c (turned i st) ≡ stateFits ks c st
+turned-fits : (ks : List ℕ) (c : ℕ) (i : Bool) (st : TypeState) → stateFits ks c (turned i st) ≡ stateFits ks c st
 turned-fits ks c i (Known j k) = refl
 turned-fits ks c i (Unknown s) = refl
 turned-fits ks c i InferenceFailed = refl
 
-pub first-fits : (ks : List ℕ) (c : ℕ) (a b : TypeState) → stateFits ks c a ≡ true → stateFits ks c b ≡ true → stateFits ks c (firstKnown a b) ≡ true
+first-fits : (ks : List ℕ) (c : ℕ) (a b : TypeState) → stateFits ks c a ≡ true → stateFits ks c b ≡ true → stateFits ks c (firstKnown a b) ≡ true
 first-fits ks c (Known i k) b f g = f
 first-fits ks c (Unknown s) b f g = g
 first-fits ks c InferenceFailed b f g = g
@@ -83,12 +98,6 @@ module _ (ws : List ℕ) (n : ℕ) (w l : Ty) (st : TypeState) (room : nodeWords
     clean = λ ks c cl f. clean-put once ks c n (clean-put ws ks c n cl (w .idx) stays f) (l .idx) (Child p) refl;
     nodes = twice-nodes;
   }
-
-pub join-law : (ws ws₁ ws₂ : List ℕ) (n : ℕ) (w l : Ty) (st : TypeState) (y z i j : ℕ) (b : Bool) (p : «Type») → nodeWords n ≤ length ws
-    → y ≡ sizeAt ws n (w .idx) → z ≡ sizeAt ws n (l .idx) → b ≡ l .inv → tyOf (p .0) ≡ flip b w → i ≡ w .idx → j ≡ l .idx
-    → ws₁ ≡ putAt ws n i (Root st (y + z)) → ws₂ ≡ putAt ws₁ n j (Child p) → Joined ws ws₂ n w l st
-join-law ws ws₁ ws₂ n w l st y z i j b p room ey ez eb ep ei ej e₁ e₂ =
-    rw (e₂, e₁, ei, ej, ey, ez) (twice ws n w l st room p (ep ∙ ap (λ (d : Bool). flip d w) eb))
 
 -- `merge`: which root stays
 
@@ -133,25 +142,61 @@ kept-fits : (ks : List ℕ) (c : ℕ) (i : Bool) (sa sb own : TypeState) → sta
 kept-fits ks c i sa sb own f g h =
     turned-fits ks c i (firstKnown sa (firstKnown sb own)) ∙ first-fits ks c sa (firstKnown sb own) f (first-fits ks c sb own g h)
 
--- the state that stays is its own where the other has no kind
+-- what is taken is what is kept: of a root with a kind that is first its own, of any other the other's kind or else its own state
 
-pub keeps-first : (i j : Bool) (sa sb : TypeState) → bareState sb ≡ true → keptOf i (turned i sa) (turned j sb) (turned i sa) ≡ sa
-keeps-first i j (Known h k) sb e = turned-twice i (Known h k)
-keeps-first i j (Unknown s) (Known h k) e = cc
-keeps-first i j (Unknown s) (Unknown t) e = refl
-keeps-first i j (Unknown s) InferenceFailed e = refl
-keeps-first i j InferenceFailed (Known h k) e = cc
-keeps-first i j InferenceFailed (Unknown t) e = refl
-keeps-first i j InferenceFailed InferenceFailed e = refl
+xor-between : (p q r : Bool) → xor q (xor p r) ≡ xor (xor p q) r
+xor-between false false r = refl
+xor-between false true r = refl
+xor-between true false r = refl
+xor-between true true false = refl
+xor-between true true true = refl
 
-pub keeps-second : (i j : Bool) (sa sb : TypeState) → bareState sa ≡ true → keptOf j (turned i sa) (turned j sb) (turned j sb) ≡ sb
-keeps-second i j (Known h k) sb e = cc
-keeps-second i j (Unknown s) (Known h k) e = turned-twice j (Known h k)
-keeps-second i j (Unknown s) (Unknown t) e = refl
-keeps-second i j (Unknown s) InferenceFailed e = refl
-keeps-second i j InferenceFailed (Known h k) e = turned-twice j (Known h k)
-keeps-second i j InferenceFailed (Unknown t) e = refl
-keeps-second i j InferenceFailed InferenceFailed e = refl
+keeps-own : (i : Bool) (st sb : TypeState) (j : Inverted) (k : Kind) → st ≡ Known j k → keptOf i (turned i st) sb (turned i st) ≡ st
+keeps-own i st sb j k e = rw e (turned-twice i (Known j k))
+
+takes-known : (i : Bool) (w l : Ty) (j : Inverted) (k : Kind) → i ≡ l .inv → turned (w .inv) (turned i (Known j k)) ≡ Known (record { 0 = xor (flip (l .inv) w .inv) (j .0) }) k
+takes-known i w l j k e = rw e (ap (λ (b : Bool). Known (record { 0 = b }) k) (xor-between (l .inv) (w .inv) (j .0)))
+
+takes-first : (a b : Ty) (sa sb : TypeState) → heldBy sa ≡ Nothing → keptOf (a .inv) (turned (a .inv) sa) (turned (b .inv) sb) (turned (a .inv) sa) ≡ taken a b sa sb
+takes-first a b (Known h k) sb e = let z : _≡_ {A = ℕ} 0 1 = cc in absurd (omega arith)
+takes-first a b (Unknown s) (Known j k) e = takes-known (b .inv) a b j k refl
+takes-first a b (Unknown s) (Unknown t) e = refl
+takes-first a b (Unknown s) InferenceFailed e = refl
+takes-first a b InferenceFailed (Known j k) e = takes-known (b .inv) a b j k refl
+takes-first a b InferenceFailed (Unknown t) e = refl
+takes-first a b InferenceFailed InferenceFailed e = refl
+
+takes-second : (a b : Ty) (sa sb : TypeState) → keptOf (b .inv) (turned (a .inv) sa) (turned (b .inv) sb) (turned (b .inv) sb) ≡ taken b a sb sa
+takes-second a b (Known j k) sb = takes-known (a .inv) b a j k refl
+takes-second a b (Unknown s) (Known h k) = turned-twice (b .inv) (Known h k)
+takes-second a b (Unknown s) (Unknown t) = refl
+takes-second a b (Unknown s) InferenceFailed = refl
+takes-second a b InferenceFailed (Known h k) = turned-twice (b .inv) (Known h k)
+takes-second a b InferenceFailed (Unknown t) = refl
+takes-second a b InferenceFailed InferenceFailed = refl
+
+taken-own : (w l : Ty) (own st : TypeState) → heldBy st ≡ Nothing → taken w l own st ≡ own
+taken-own w l own (Known j k) e = let z : _≡_ {A = ℕ} 0 1 = cc in absurd (omega arith)
+taken-own w l own (Unknown s) e = refl
+taken-own w l own InferenceFailed e = refl
+
+-- `take`: one put after the other, or its own state where the other has no kind
+
+pub take-known : {ws ws₁ ws₂ : List ℕ} {n : ℕ} {w l : Ty} {z i j m : ℕ} {b x : Bool} (p : «Type») {r v : Inverted} {k : Kind} {h : Held} → nodeWords n ≤ length ws
+    → z ≡ sizeAt ws n (w .idx) + sizeAt ws n (l .idx) → m ≡ l .idx → h ≡ heldIn (readAt ws n m) → h ≡ Is v k → b ≡ l .inv → tyOf (p .0) ≡ flip b w
+    → x ≡ tyOf (p .0) .inv → r .0 ≡ xor x (v .0) → i ≡ w .idx → j ≡ l .idx → ws₁ ≡ putAt ws n i (Root (Known r k) z) → ws₂ ≡ putAt ws₁ n j (Child p)
+    → Joined ws ws₂ n w l (taken w l (stateAt ws n (w .idx)) (stateAt ws n (l .idx)))
+take-known {ws} {ws₁} {ws₂} {n} {w} {l} {z} {i} {j} {m} {b} {x} p {r} {v} {k} room ez em eh fh eb ep ex er ei ej e₁ e₂ =
+    let t : stateAt ws n (l .idx) ≡ Known v k = held-state (stateAt ws n (l .idx)) v k (ap (λ (a : ℕ). heldIn (readAt ws n a)) (sym em) ∙ (sym eh ∙ fh)) in
+    let q : tyOf (p .0) ≡ flip (l .inv) w = ep ∙ ap (λ (d : Bool). flip d w) eb in
+    let u : r .0 ≡ xor (flip (l .inv) w .inv) (v .0) = er ∙ ap (λ (d : Bool). xor d (v .0)) (ex ∙ ap (λ (a : Ty). a .inv) q) in
+    let f : Known r k ≡ Known (record { 0 = xor (flip (l .inv) w .inv) (v .0) }) k = ap (λ (y : Inverted). Known y k) (inverted-eq r (record { 0 = xor (flip (l .inv) w .inv) (v .0) }) u) in
+    rw (e₂, e₁, ei, ej, ez, t, ← f) (twice ws n w l (Known r k) room p q)
+
+pub take-none : {ws ws₂ : List ℕ} {n : ℕ} {w l : Ty} {m : ℕ} {h : Held} → m ≡ l .idx → h ≡ heldIn (readAt ws n m) → h ≡ Nothing
+    → Joined ws ws₂ n w l (stateAt ws n (w .idx)) → Joined ws ws₂ n w l (taken w l (stateAt ws n (w .idx)) (stateAt ws n (l .idx)))
+take-none {ws} {ws₂} {n} {w} {l} em eh fh q =
+    rw (taken-own w l (stateAt ws n (w .idx)) (stateAt ws n (l .idx)) (ap (λ (a : ℕ). heldIn (readAt ws n a)) (sym em) ∙ (sym eh ∙ fh))) q
 
 -- what a type sees at its root
 abbrev seen : List ℕ → ℕ → Ty → TypeState
@@ -181,21 +226,24 @@ module _ (ws ws′ : List ℕ) (n : ℕ) (a b : Ty) where
         ∙ ap₂ (scope.merge (decode ws ks n) a b) (kept-read ws ks c n cl a a b) (kept-read ws ks c n cl b a b);
   }
 
-  pub bind-law : (i j : Bool) (ra rb sa sb ka kb : TypeState) → i ≡ a .inv → j ≡ b .inv → ra ≡ stateAt ws n (a .idx) → rb ≡ stateAt ws n (b .idx)
-      → sa ≡ turned i ra → sb ≡ turned j rb → ka ≡ keptOf i sa sb sa → kb ≡ keptOf j sa sb sb → Merged ws ws′ n a b ka kb → Bound ws ws′ n a b
-  bind-law i j ra rb sa sb ka kb ei ej ea eb ta tb ea′ eb′ m = bound (rw (ea′, eb′, ta, tb, ea, eb, ei, ej) at m)
+  -- `bind`: b stays, or a with a kind, or a without one
 
-  -- the root that stays keeps its own state where the other has no kind
+  pub bind-second : {y z : ℕ} → y ≡ sizeAt ws n (b .idx) → z ≡ sizeAt ws n (a .idx) → z ≤ y
+      → Joined ws ws′ n b a (taken b a (stateAt ws n (b .idx)) (stateAt ws n (a .idx))) → Bound ws ws′ n a b
+  bind-second ey ez h j = bound (merge-second ws ws′ n a b _ _ _ _ ey ez h (rw (takes-second a b (stateAt ws n (a .idx)) (stateAt ws n (b .idx))) j))
 
-  pub bind-first : {y z : ℕ} → y ≡ sizeAt ws n (b .idx) → z ≡ sizeAt ws n (a .idx) → y < z → {r : Bool} → r ≡ bareState (stateAt ws n (b .idx)) → r ≡ true
-      → Joined ws ws′ n a b (stateAt ws n (a .idx)) → Bound ws ws′ n a b
-  bind-first ey ez h e t j =
-      bound (merge-first ws ws′ n a b _ _ _ _ ey ez h (rw (keeps-first (a .inv) (b .inv) (stateAt ws n (a .idx)) (stateAt ws n (b .idx)) (sym e ∙ t)) j))
+  module _ {y z m : ℕ} {h : Held} (ey : y ≡ sizeAt ws n (b .idx)) (ez : z ≡ sizeAt ws n (a .idx)) (less : y < z) (em : m ≡ a .idx) (eh : h ≡ heldIn (readAt ws n m)) where
+    seen-held : {q : Held} → h ≡ q → heldIn (readAt ws n (a .idx)) ≡ q
+    seen-held f = ap (λ (i : ℕ). heldIn (readAt ws n i)) (sym em) ∙ (sym eh ∙ f)
 
-  pub bind-second : {y z : ℕ} → y ≡ sizeAt ws n (b .idx) → z ≡ sizeAt ws n (a .idx) → z ≤ y → {r : Bool} → r ≡ bareState (stateAt ws n (a .idx)) → r ≡ true
-      → Joined ws ws′ n b a (stateAt ws n (b .idx)) → Bound ws ws′ n a b
-  bind-second ey ez h e t j =
-      bound (merge-second ws ws′ n a b _ _ _ _ ey ez h (rw (keeps-second (a .inv) (b .inv) (stateAt ws n (a .idx)) (stateAt ws n (b .idx)) (sym e ∙ t)) j))
+    pub bind-known : {i : Inverted} {k : Kind} → h ≡ Is i k → Joined ws ws′ n a b (stateAt ws n (a .idx)) → Bound ws ws′ n a b
+    bind-known {i} {k} f j =
+        let e : stateAt ws n (a .idx) ≡ Known i k = held-state (stateAt ws n (a .idx)) i k (seen-held f) in
+        bound (merge-first ws ws′ n a b _ _ _ _ ey ez less (rw (keeps-own (a .inv) (stateAt ws n (a .idx)) (turned (b .inv) (stateAt ws n (b .idx))) i k e) j))
+
+    pub bind-first : h ≡ Nothing → Joined ws ws′ n a b (taken a b (stateAt ws n (a .idx)) (stateAt ws n (b .idx))) → Bound ws ws′ n a b
+    bind-first f j =
+        bound (merge-first ws ws′ n a b _ _ _ _ ey ez less (rw (takes-first a b (stateAt ws n (a .idx)) (stateAt ws n (b .idx)) (seen-held f)) j))
 
   -- `settle`: "Only Success merges"
 

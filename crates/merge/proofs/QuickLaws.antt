@@ -4,10 +4,10 @@ use mathlib.Core.Path.{_≡_, refl, ap, ap₂, sym, subst, _∙_}
 use mathlib.Core.Bool.{Bool, true, false, _||_}
 use mathlib.Core.List.{List, _++_}
 use mathlib.Core.Option.{Option, none}
-use Prim.Native.Nat.{ℕ, _+_, _-_, _*_, _<_, _≤_}
+use Prim.Native.Nat.{ℕ, zero, suc, _+_, _*_, _<_, _≤_}
 use native.Mathlib.Omega.{arith}
 use lib.Dec.{eqb, ltb}
-use lib.ListN.{length, take, drop, set, length-map, length-set, length-drop}
+use lib.ListN.{length, getD, drop, set, length-map, length-set, length-drop}
 use lib.Seq.{length-take-le}
 use borrow.Author.Tests.{eq-eqb, ne-eqb, lt-ltb, le-ltb}
 use Rattle.scope.specs.Base.{pick}
@@ -35,19 +35,10 @@ use Rattle.layout.proofs.HeldLaws.{state-read, state-fits}
 use Rattle.merge.specs.declared.Bare.{Bare}
 use Rattle.merge.specs.declared.Bare.the-variants.{Is, Nothing}
 use Rattle.merge.specs.Meaning.{stateAt, sizeAt, Adds, Joined, Merged, Bound}
-use Rattle.merge.specs.Quick.{bareState, bareBy, bareIn, bareWithin, bareNode, loneIn, loneNode, nilHeld, nilNode, Resized, Sums, Sized, Quick, Tried, OneNil}
+use Rattle.merge.specs.Quick.{bareBy, bareIn, bareWithin, bareNode, rankIn, Ranked, loneNode, nilHeld, nilNode, Resized, Sums, Sized, Quick, Tried, OneNil}
 use Rattle.merge.proofs.Laws.{twice}
 
 -- a size alone
-
-size-set : (st : TypeState) (y z : ℕ) → set (wordsOf (cellOf (Root st y))) 2 z ≡ wordsOf (cellOf (Root st z))
-size-set (Known i k) y z = refl
-size-set (Unknown p) y z = refl
-size-set InferenceFailed y z = refl
-
-pub put-size-law : (ws : List ℕ) (i z : ℕ)
-    → take (i * 12) ws ++ (set (take (i * 12 + 12 - i * 12) (drop (i * 12) ws)) 2 z ++ drop (i * 12 + 12 - i * 12) (drop (i * 12) ws)) ≡ pasteAt ws i (set (cellWords ws i) 2 z)
-put-size-law ws i z = let k : i * 12 + 12 - i * 12 ≡ 12 = omega arith in rw k
 
 cell-read : (ws ks : List ℕ) (c n : ℕ) → Clean ws ks c n → (i : ℕ) → i < n → cellWords ws i ≡ wordsOf (cellOf (readAt ws n i))
 unfolding readAt
@@ -62,31 +53,43 @@ module _ (ws : List ℕ) (n i z : ℕ) (room : nodeWords n ≤ length ws) where
   resized-past h = record { tail = refl; put = λ ks c cl. sym (put-past ws n room i (Root (stateAt ws n i) z) h) }
 
   module _ (h : i < n) where
-    size-tail : drop (nodeWords n) (pasteAt ws i (set (cellWords ws i) 2 z)) ≡ drop (nodeWords n) ws
-    size-tail =
-        let k : length (cellWords ws i) ≡ 12 = length-take-le 12 (drop (i * 12) ws) (simp length-drop (omega arith)) in
-        drop-past (i * 12) 12 ws (set (cellWords ws i) 2 z) (length-set (cellWords ws i) 2 z ∙ k) (omega arith) (n * 12) (omega arith)
+    cell-length : length (cellWords ws i) ≡ 12
+    cell-length = length-take-le 12 (drop (i * 12) ws) (simp length-drop (omega arith))
 
-    size-put : (ks : List ℕ) (c : ℕ) → Clean ws ks c n → (st : TypeState) (y : ℕ) → readAt ws n i ≡ Root st y
-        → pasteAt ws i (set (cellWords ws i) 2 z) ≡ putAt ws n i (Root (stateAt ws n i) z)
-    unfolding putAt
-    size-put ks c cl st y e =
-        rw (lt-ltb i n h, e)
-        (ap (λ (w : List ℕ). pasteAt ws i (set w 2 z)) (cell-read ws ks c n cl i h ∙ ap (λ (u : TypeNode). wordsOf (cellOf u)) e) ∙ ap (pasteAt ws i) (size-set st y z))
+    paste-tail : (p : List ℕ) → length p ≡ 12 → drop (nodeWords n) (pasteAt ws i p) ≡ drop (nodeWords n) ws
+    paste-tail p k = drop-past (i * 12) 12 ws p k (omega arith) (n * 12) (omega arith)
 
-    pub resized-root : {ws′ : List ℕ} {v : TypeNode} {st : TypeState} {y : ℕ} → v ≡ readAt ws n i → v ≡ Root st y → ws′ ≡ pasteAt ws i (set (cellWords ws i) 2 z) → Resized ws ws′ n i z
-    resized-root {st = st} {y = y} ev e q = record {
-      tail = ap (drop (nodeWords n)) q ∙ size-tail;
-      put = λ ks c cl. q ∙ size-put ks c cl st y (sym ev ∙ e);
-    }
+    -- the words p after a clean node's
+    module _ (p : List ℕ → List ℕ) (long : (s : List ℕ) → length (p s) ≡ length s) (ws′ : List ℕ) (q : ws′ ≡ pasteAt ws i (p (cellWords ws i))) where
+      resized-by : ((v : TypeNode) → cellWords ws i ≡ wordsOf (cellOf v) → p (wordsOf (cellOf v)) ≡ wordsOf (cellOf (Root (nodeState v) z))) → Resized ws ws′ n i z
+      unfolding putAt
+      resized-by f = record {
+        tail = ap (drop (nodeWords n)) q ∙ paste-tail (p (cellWords ws i)) (long (cellWords ws i) ∙ cell-length);
+        put = λ ks c cl.
+            let e = cell-read ws ks c n cl i h in
+            rw (lt-ltb i n h) (q ∙ ap (pasteAt ws i) (ap p e ∙ f (readAt ws n i) e));
+      }
 
-    pub resized-child : {ws′ : List ℕ} {v : TypeNode} {t : «Type»} → v ≡ readAt ws n i → v ≡ Child t → ws′ ≡ putAt ws n i (Root (Unknown NONE) z) → Resized ws ws′ n i z
-    resized-child {t = t} ev e q =
-        let s : readAt ws n i ≡ Child t = sym ev ∙ e in
-        record {
-          tail = ap (drop (nodeWords n)) q ∙ tail-put ws n room i (Root (Unknown NONE) z);
-          put = λ ks c cl. q ∙ rw s refl;
-        }
+    root-words : (v : TypeNode) → (getD (set (wordsOf (cellOf v)) 2 z) 0 0 ≡ 0 → ⊥) → set (wordsOf (cellOf v)) 2 z ≡ wordsOf (cellOf (Root (nodeState v) z))
+    root-words (Root (Known j k) y) f = refl
+    root-words (Root (Unknown s) y) f = refl
+    root-words (Root InferenceFailed y) f = refl
+    root-words (Child t) f = absurd (f refl)
+
+    child-words : (v : TypeNode) → getD (set (wordsOf (cellOf v)) 2 z) 0 0 ≡ 0 → set (set (set (wordsOf (cellOf v)) 2 z) 0 1) 1 NONE ≡ wordsOf (cellOf (Root (nodeState v) z))
+    child-words (Root (Known j k) y) f = absurd (omega arith)
+    child-words (Root (Unknown s) y) f = absurd (omega arith)
+    child-words (Root InferenceFailed y) f = absurd (omega arith)
+    child-words (Child t) f = refl
+
+    pub resized-root : {ws′ : List ℕ} → (getD (set (cellWords ws i) 2 z) 0 0 ≡ 0 → ⊥) → ws′ ≡ pasteAt ws i (set (cellWords ws i) 2 z) → Resized ws ws′ n i z
+    resized-root {ws′} t q =
+        resized-by (λ s. set s 2 z) (λ s. length-set s 2 z) ws′ q (λ v e. root-words v (λ g. t (ap (λ (s : List ℕ). getD (set s 2 z) 0 0) e ∙ g)))
+
+    pub resized-child : {ws′ : List ℕ} → getD (set (cellWords ws i) 2 z) 0 0 ≡ 0 → ws′ ≡ pasteAt ws i (set (set (set (cellWords ws i) 2 z) 0 1) 1 NONE) → Resized ws ws′ n i z
+    resized-child {ws′} t q =
+        resized-by (λ s. set (set (set s 2 z) 0 1) 1 NONE) (λ s. length-set (set (set s 2 z) 0 1) 1 NONE ∙ (length-set (set s 2 z) 0 1 ∙ length-set s 2 z)) ws′ q
+        (λ v e. child-words v (ap (λ (s : List ℕ). getD (set s 2 z) 0 0) (sym e) ∙ t))
 
 -- `hang`: as `join`, with the root's own state
 
@@ -200,38 +203,45 @@ tried-merged {ws} {ws′} {n} {a} {b} {i} {j} {y} {z} ei ej ep fp eq fq h m = re
   stays = λ e. let f : _≡_ {A = ℕ} 0 1 = cc in absurd (omega arith);
 }
 
--- `slight`: roots without children
+-- `slight`: one root has a kind without children, and one has no kind
 
-pub lone-root : (ws : List ℕ) (n i : ℕ) {v : TypeNode} {st st′ : TypeState} {z : ℕ} → v ≡ readAt ws n i → v ≡ Root st z → st ≡ st′ → loneIn (Root st′ z) ≡ loneIn (readAt ws n i)
-lone-root ws n i {z = z} e f g = ap (λ (s : TypeState). loneIn (Root s z)) (sym g) ∙ ap loneIn (sym f ∙ e)
-
-pub lone-child : (ws : List ℕ) (n i : ℕ) {v : TypeNode} {t : «Type»} → v ≡ readAt ws n i → v ≡ Child t → false ≡ loneIn (readAt ws n i)
-lone-child ws n i e f = ap loneIn (sym f ∙ e)
+or-true : (p : Bool) {q : Bool} → q ≡ true → (p || q) ≡ true
+or-true true e = refl
+or-true false e = e
 
 no-kids : (ks : List ℕ) (k : Kind) → eqb (k .count) 0 ≡ true → eqb (length (kindMeans ks k .kids)) 0 ≡ true
 unfolding kindMeans
 no-kids ks k e = rw (length-map (slots ks (k .first) (k .count)) (λ s. tyOf (s .type)), length-slots ks (k .first) (k .count)) e
 
-lone-means : (ks : List ℕ) (v : TypeNode) → loneIn v ≡ true → loneNode (nodeMeans ks v) ≡ true
-lone-means ks (Root (Known i k) z) e = no-kids ks k e
-lone-means ks (Root (Unknown s) z) e = refl
-lone-means ks (Root InferenceFailed z) e = refl
-lone-means ks (Child t) e = cc
+rank-lone : (ks : List ℕ) (v : TypeNode) → rankIn v ≤ 1 → loneNode (nodeMeans ks v) ≡ true
+rank-lone ks (Root (Known i k) z) e = by-count (eqb (k .count) 0) refl e
+  where
+    by-count : (t : Bool) → eqb (k .count) 0 ≡ t → pick t 1 2 ≤ 1 → eqb (length (kindMeans ks k .kids)) 0 ≡ true
+    by-count true t h = no-kids ks k t
+    by-count false t h = absurd (omega arith)
+rank-lone ks (Root (Unknown s) z) e = refl
+rank-lone ks (Root InferenceFailed z) e = refl
+rank-lone ks (Child t) e = absurd (omega arith)
 
-lone-bare : (ks : List ℕ) (v : TypeNode) → loneIn v ≡ true → bareNode (nodeMeans ks v) ≡ bareState (nodeState v)
-lone-bare ks (Root (Known i k) z) e = refl
-lone-bare ks (Root (Unknown s) z) e = refl
-lone-bare ks (Root InferenceFailed z) e = refl
-lone-bare ks (Child t) e = cc
+rank-bare : (ks : List ℕ) (v : TypeNode) → rankIn v ≡ 0 → bareNode (nodeMeans ks v) ≡ true
+rank-bare ks (Root (Known i k) z) e = by-count (eqb (k .count) 0) e
+  where
+    by-count : (t : Bool) → _≡_ {A = ℕ} (pick t 1 2) 0 → _≡_ {A = Bool} false true
+    by-count true h = absurd (omega arith)
+    by-count false h = absurd (omega arith)
+rank-bare ks (Root (Unknown s) z) e = refl
+rank-bare ks (Root InferenceFailed z) e = refl
+rank-bare ks (Child t) e = absurd (omega arith)
+
+rank-either : (ks : List ℕ) (v w : TypeNode) → rankIn v + rankIn w ≡ 1 → (bareNode (nodeMeans ks v) || bareNode (nodeMeans ks w)) ≡ true
+rank-either ks v w e = go (rankIn v) refl
+  where
+    go : (m : ℕ) → rankIn v ≡ m → (bareNode (nodeMeans ks v) || bareNode (nodeMeans ks w)) ≡ true
+    go zero f = rw (rank-bare ks v f) refl
+    go (suc m) f = or-true (bareNode (nodeMeans ks v)) (rank-bare ks w (omega arith))
 
 pub tried-done : {ws ws₁ : List ℕ} {n : ℕ} {a b : Ty} {r : Bool} → Tried ws ws₁ n a b r → r ≡ true → Tried ws ws₁ n a b true
 tried-done t e = record { merged = λ f. t .merged e; stays = λ f. let z : _≡_ {A = ℕ} 0 1 = cc in absurd (omega arith) }
-
-pub or-first : (p q : Bool) {r : Bool} → r ≡ p → r ≡ true → true ≡ (p || q)
-or-first p q e f = rw (sym e ∙ f) refl
-
-pub or-second : (p q : Bool) {r s : Bool} → r ≡ p → r ≡ false → s ≡ q → s ≡ (p || q)
-or-second p q e f g = rw (sym e ∙ f) g
 
 pub adds-still : {ws ws₁ : List ℕ} {n : ℕ} {a b : Ty} {r : Bool} → Tried ws ws₁ n a b r → r ≡ false → Adds ws n a b → Adds ws₁ n a b
 adds-still t e w = rw (t .stays e) w
@@ -239,46 +249,60 @@ adds-still t e w = rw (t .stays e) w
 pub tried-still : {ws ws₁ : List ℕ} {n : ℕ} {a b : Ty} {r : Bool} → Tried ws ws₁ n a b r → r ≡ false → Tried ws ws₁ n a b false
 tried-still t e = record { merged = λ f. let z : _≡_ {A = ℕ} 0 1 = cc in absurd (omega arith); stays = λ f. t .stays e }
 
-pub tried-slight : {ws ws₁ ws′ : List ℕ} {n : ℕ} {a b : Ty} {r : Bool} → Tried ws ws₁ n a b r → r ≡ false → {i j : ℕ} → i ≡ a .idx → j ≡ b .idx → (i ≡ j → ⊥)
-    → {p q s : Bool} → p ≡ loneIn (readAt ws₁ n i) → p ≡ true → q ≡ loneIn (readAt ws₁ n j) → q ≡ true
-    → s ≡ (bareState (stateAt ws₁ n (a .idx)) || bareState (stateAt ws₁ n (b .idx))) → s ≡ true → Bound ws₁ ws′ n a b → Tried ws ws′ n a b true
-tried-slight {ws} {ws₁} {ws′} {n} {a} {b} t f {i} {j} ei ej h ep fp eq fq es fs m = record {
+pub tried-slight : {ws ws₁ ws′ : List ℕ} {n : ℕ} {a b : Ty} {r : Bool} → Tried ws ws₁ n a b r → r ≡ false → {x y : ℕ} → x ≡ rankIn (readAt ws₁ n (a .idx))
+    → y ≡ rankIn (readAt ws₁ n (b .idx)) → x + y ≡ 1 → Bound ws₁ ws′ n a b → Tried ws ws′ n a b true
+tried-slight {ws} {ws₁} {ws′} {n} {a} {b} t f {x} {y} ex ey h m = record {
   merged = λ e. rw (← t .stays f) merges;
   stays = λ e. let z : _≡_ {A = ℕ} 0 1 = cc in absurd (omega arith);
 }
   where
-    la : loneIn (readAt ws₁ n (a .idx)) ≡ true
-    la = ap (λ (k : ℕ). loneIn (readAt ws₁ n k)) (sym ei) ∙ (sym ep ∙ fp)
+    sum : rankIn (readAt ws₁ n (a .idx)) + rankIn (readAt ws₁ n (b .idx)) ≡ 1
+    sum = rw (← ex, ← ey) h
 
-    lb : loneIn (readAt ws₁ n (b .idx)) ≡ true
-    lb = ap (λ (k : ℕ). loneIn (readAt ws₁ n k)) (sym ej) ∙ (sym eq ∙ fq)
-
-    lone : (ks : List ℕ) (c : ℕ) → Clean ws₁ ks c n → (k : ℕ) → loneIn (readAt ws₁ n k) ≡ true → loneNode (nodes.at (decode ws₁ ks n) k) ≡ true
-    lone ks c cl k l = ap loneNode (sym (read-node ws₁ ks c n cl k)) ∙ lone-means ks (readAt ws₁ n k) l
-
-    bare : (ks : List ℕ) (c : ℕ) → Clean ws₁ ks c n → (k : ℕ) → loneIn (readAt ws₁ n k) ≡ true → bareNode (nodes.at (decode ws₁ ks n) k) ≡ bareState (stateAt ws₁ n k)
-    bare ks c cl k l = ap bareNode (sym (read-node ws₁ ks c n cl k)) ∙ lone-bare ks (readAt ws₁ n k) l
+    lone : (ks : List ℕ) (c : ℕ) → Clean ws₁ ks c n → (i : ℕ) → rankIn (readAt ws₁ n i) ≤ 1 → loneNode (nodes.at (decode ws₁ ks n) i) ≡ true
+    lone ks c cl i e = ap loneNode (sym (read-node ws₁ ks c n cl i)) ∙ rank-lone ks (readAt ws₁ n i) e
 
     merges : Quick ws₁ ws′ n a b
     merges = record {
-      apart = λ e. h (ei ∙ (e ∙ sym ej));
-      first = λ ks c cl. lone ks c cl (a .idx) la;
-      second = λ ks c cl. lone ks c cl (b .idx) lb;
-      bare = λ ks c cl. rw (bare ks c cl (a .idx) la, bare ks c cl (b .idx) lb) (sym es ∙ fs);
+      apart = λ e.
+          let g : rankIn (readAt ws₁ n (a .idx)) ≡ rankIn (readAt ws₁ n (b .idx)) = ap (λ (i : ℕ). rankIn (readAt ws₁ n i)) e in
+          absurd (omega (arith, sum, g));
+      first = λ ks c cl. lone ks c cl (a .idx) (omega (arith, sum));
+      second = λ ks c cl. lone ks c cl (b .idx) (omega (arith, sum));
+      bare = λ ks c cl.
+          rw (← read-node ws₁ ks c n cl (a .idx), ← read-node ws₁ ks c n cl (b .idx)) (rank-either ks (readAt ws₁ n (a .idx)) (readAt ws₁ n (b .idx)) sum);
       bound = m;
     }
 
+-- `rank`
+
+rank-few : (v : TypeNode) → rankIn v ≤ 2
+rank-few (Root (Known i k) z) = by-count (eqb (k .count) 0)
+  where
+    by-count : (t : Bool) → pick t 1 2 ≤ 2
+    by-count true = omega arith
+    by-count false = omega arith
+rank-few (Root (Unknown s) z) = omega arith
+rank-few (Root InferenceFailed z) = omega arith
+rank-few (Child t) = omega arith
+
+module _ (ws : List ℕ) (n : ℕ) {i j : ℕ} {v : TypeNode} (ei : i ≡ j) (e : v ≡ readAt ws n i) where
+  pub rank-is : {r : ℕ} {w : TypeNode} → v ≡ w → r ≡ rankIn w → Ranked (readAt ws n j) r
+  rank-is {r} f g =
+      let h : r ≡ rankIn (readAt ws n j) = g ∙ (ap rankIn (sym f ∙ e) ∙ ap (λ (k : ℕ). rankIn (readAt ws n k)) ei) in
+      record { is = h; few = rw h (rank-few (readAt ws n j)) }
+
+  module _ {st : TypeState} {z : ℕ} (f : v ≡ Root st z) where
+    pub rank-bare-root : {st′ : TypeState} → st ≡ st′ → rankIn (Root st′ z) ≡ 0 → Ranked (readAt ws n j) 0
+    rank-bare-root g h = rank-is (f ∙ ap (λ (s : TypeState). Root s z) g) (sym h)
+
+    pub rank-lone-root : {y : Inverted} {k : Kind} → st ≡ Known y k → k .count ≡ 0 → Ranked (readAt ws n j) 1
+    rank-lone-root {y} {k} g h = rank-is (f ∙ ap (λ (s : TypeState). Root s z) g) (rw (eq-eqb (k .count) 0 h) refl)
+
+    pub rank-full-root : {y : Inverted} {k : Kind} → st ≡ Known y k → (k .count ≡ 0 → ⊥) → Ranked (readAt ws n j) 2
+    rank-full-root {y} {k} g h = rank-is (f ∙ ap (λ (s : TypeState). Root s z) g) (rw (ne-eqb (k .count) 0 h) refl)
+
 -- `one_nil`
-
-pub nil-none : (ws : List ℕ) (n i : ℕ) {h : Held} → h ≡ heldIn (readAt ws n i) → h ≡ held.Nothing → false ≡ nilHeld (heldIn (readAt ws n i))
-nil-none ws n i e f = ap nilHeld (sym f ∙ e)
-
-module _ (ws : List ℕ) (n i : ℕ) {h : Held} {j : Inverted} {k : Kind} (e : h ≡ heldIn (readAt ws n i)) (f : h ≡ held.Is j k) where
-  pub nil-tuple : k .code ≡ TUPLE → eqb (k .count) 0 ≡ nilHeld (heldIn (readAt ws n i))
-  nil-tuple g = rw (sym e ∙ f, eq-eqb (k .code) TUPLE g) refl
-
-  pub nil-other : (k .code ≡ TUPLE → ⊥) → false ≡ nilHeld (heldIn (readAt ws n i))
-  nil-other g = rw (sym e ∙ f, ne-eqb (k .code) TUPLE g) refl
 
 pub one-not : {ws : List ℕ} {n : ℕ} {a b : Ty} → OneNil ws n a b false
 one-not = record {
@@ -294,10 +318,14 @@ nil-means ks (Root (Unknown s) z) e = e
 nil-means ks (Root InferenceFailed z) e = e
 nil-means ks (Child t) e = e
 
-pub one-nil : {ws : List ℕ} {n : ℕ} {a b : Ty} {i j : ℕ} {r : Bool} → i ≡ a .idx → j ≡ b .idx → i ≡ j → r ≡ nilHeld (heldIn (readAt ws n i)) → OneNil ws n a b r
-one-nil {ws} {n} {a} {b} {i} {j} {r} ei ej h e = record {
-  one = λ f. sym ei ∙ (h ∙ ej);
-  nil = λ f ks c cl.
-      ap nilNode (sym (read-node ws ks c n cl (a .idx)))
-      ∙ nil-means ks (readAt ws n (a .idx)) (ap (λ (k : ℕ). nilHeld (heldIn (readAt ws n k))) (sym ei) ∙ (sym e ∙ f));
-}
+-- no kind, a Tuple with its count, or another kind
+module _ {ws : List ℕ} {n : ℕ} {a b : Ty} {i j : ℕ} {h : Held} {y : Inverted} {k : Kind} (ei : i ≡ a .idx) (ej : j ≡ b .idx) (same : i ≡ j)
+    (e : h ≡ heldIn (readAt ws n i)) (f : h ≡ held.Is y k) (g : k .code ≡ TUPLE) where
+  pub one-nil : OneNil ws n a b (eqb (k .count) 0)
+  one-nil = record {
+    one = λ q. sym ei ∙ (same ∙ ej);
+    nil = λ q ks c cl.
+        ap nilNode (sym (read-node ws ks c n cl (a .idx)))
+        ∙ nil-means ks (readAt ws n (a .idx))
+        (ap (λ (m : ℕ). nilHeld (heldIn (readAt ws n m))) (sym ei) ∙ (ap nilHeld (sym e ∙ f) ∙ rw (eq-eqb (k .code) TUPLE g) q));
+  }

@@ -6,7 +6,7 @@ use mathlib.Core.List.{List}
 use Prim.Native.Nat.{ℕ, _+_, _<_, _≤_}
 use lib.ListN.{length, drop}
 use Rattle.scope.specs.Base.{xor}
-use Rattle.scope.specs.Types.{Ty}
+use Rattle.scope.specs.Types.{Ty, flip}
 use Rattle.scope.specs.Unify as scope
 use Rattle.types.specs.Answers.{answerOf}
 use Rattle.types.specs.declared.UnifyResult.{UnifyResult}
@@ -22,21 +22,11 @@ stateAt ws n i = nodeState (readAt ws n i)
 abbrev pub sizeAt : List ℕ → ℕ → ℕ → ℕ
 sizeAt ws n i = nodeSize (readAt ws n i)
 
--- a state as a type of its root sees it, and back; the first that has a kind, or else the second
-
-abbrev pub turned : Bool → TypeState → TypeState
-turned i (Known j k) = Known (record { 0 = xor i (j .0) }) k
-turned i (Unknown s) = Unknown s
-turned i InferenceFailed = InferenceFailed
-
-abbrev pub firstKnown : TypeState → TypeState → TypeState
-firstKnown (Known i k) b = Known i k
-firstKnown (Unknown s) b = b
-firstKnown InferenceFailed b = b
-
--- the state that a staying root takes, from those that the two types see and its own
-abbrev pub keptOf : Bool → TypeState → TypeState → TypeState → TypeState
-keptOf i sa sb own = turned i (firstKnown sa (firstKnown sb own))
+-- the state of a root w that stays: the kind of the root l, as w's type sees it, or else its own state
+abbrev pub taken : Ty → Ty → TypeState → TypeState → TypeState
+taken w l own (Known j k) = Known (record { 0 = xor (flip (l .inv) w .inv) (j .0) }) k
+taken w l own (Unknown s) = own
+taken w l own InferenceFailed = own
 
 -- n nodes have room in ws, and the sizes of two of them add up to a number of 32 bits; in a sound store all sizes together do
 pub record Adds (ws : List ℕ) (n : ℕ) (a b : Ty) : Type 0 where

@@ -21,12 +21,6 @@ use Rattle.merge.specs.Meaning.{stateAt, sizeAt, Adds, Bound}
 use Rattle.merge.specs.declared.Bare.{Bare}
 use Rattle.merge.specs.declared.Bare.the-variants.{Is, Nothing}
 
--- a state without a kind
-abbrev pub bareState : TypeState → Bool
-bareState (Known i k) = false
-bareState (Unknown s) = true
-bareState InferenceFailed = true
-
 -- the size of a root without a kind
 
 abbrev pub bareBy : TypeState → ℕ → Bare
@@ -49,14 +43,18 @@ bareNode (nodes.Root (nodes.Unknown s) z) = true
 bareNode (nodes.Root nodes.InferenceFailed z) = true
 bareNode (nodes.Child t) = false
 
--- a root without children, as the code reads it and as scope has it
+-- how much there is of a node: 0 of a root without a kind, 1 of one without children, 2 of any other
+abbrev pub rankIn : TypeNode → ℕ
+rankIn (Root (Known i k) z) = pick (eqb (k .count) 0) 1 2
+rankIn (Root (Unknown s) z) = 0
+rankIn (Root InferenceFailed z) = 0
+rankIn (Child t) = 2
 
-abbrev pub loneIn : TypeNode → Bool
-loneIn (Root (Known i k) z) = eqb (k .count) 0
-loneIn (Root (Unknown s) z) = true
-loneIn (Root InferenceFailed z) = true
-loneIn (Child t) = false
+pub record Ranked (v : TypeNode) (r : ℕ) : Type 0 where
+  pub is : r ≡ rankIn v
+  pub few : r ≤ 2
 
+-- a root without children
 abbrev pub loneNode : nodes.Node → Bool
 loneNode (nodes.Root (nodes.Known i k) z) = eqb (length (k .kids)) 0
 loneNode (nodes.Root (nodes.Unknown s) z) = true

@@ -22,6 +22,7 @@ use Rattle.layout.specs.declared.TypeNode.the-variants as code
 use Rattle.layout.specs.declared.TypeState.{TypeState}
 use Rattle.layout.proofs.Laws.{length-decode, length-put, tail-put, decode-put, clean-put}
 use Rattle.layout.proofs.LinkLaws.{parent-same, read-child, read-root, child-below, child-field, link-put, linked-put}
+use Rattle.roots.specs.declared.Nearby.{Nearby}
 use Rattle.roots.specs.declared.Nearby.the-variants as near
 use Rattle.roots.specs.Found.{Found, Relinked, FoundMut, Near}
 
@@ -120,6 +121,10 @@ compress-out (suc f) ns r t h = absurd (omega arith)
 
 pub relinked-refl : {ws : List ℕ} {n : ℕ} → Linked ws n → Relinked ws n ws
 relinked-refl l = record { long = refl; tail = refl; others = λ p h. refl; linked = l; clean = λ ks c cl. cl }
+
+-- what is near has no path to point
+pub near-left : {ws : List ℕ} {n t : ℕ} {q : Nearby} (r : «Type») → Linked ws n → Near ws n t q → q ≡ near.Is r → FoundMut ws n ws t (r .0)
+near-left r l k e = record { root = k .found r e .root; nodes = λ ks. sym (k .stays r e ks); words = relinked-refl l }
 
 -- a child of the words now was one before
 tag-before : (ws ws′ : List ℕ) (n i : ℕ) → Relinked ws n ws′ → nodeField ws′ i 0 ≡ CHILD-TAG → nodeField ws i 0 ≡ CHILD-TAG

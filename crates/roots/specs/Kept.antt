@@ -6,8 +6,8 @@ use Prim.Native.Nat.{ℕ, _+_, _-_}
 use lib.Dec.{leb, ltb}
 use lib.ListN.{getD}
 use Rattle.scope.specs.Base.{pick}
-use Rattle.scope.specs.Types.{Ty, ty, flip, tyOf}
-use Rattle.scope.specs.Nodes.{find}
+use Rattle.scope.specs.Types.{Ty, ty, tyOf}
+use Rattle.scope.specs.Nodes.{at, isRoot, find}
 use Rattle.types.specs.declared.«Type».{«Type»}
 use Rattle.layout.specs.Words.{decode}
 use Rattle.roots.specs.declared.Nearby.{Nearby}
@@ -29,6 +29,15 @@ pub record Kept (k : ℕ) (q : Nearby) : Type 0 where
   pub there : (r : «Type») → q ≡ Is r → k ≡ 0 → ⊥
   pub type : (r : «Type») → q ≡ Is r → tyOf (r .0) ≡ keptType k
 
+-- "`find` follows parents": from the node i to r, which is a root. A path of children alone, a circle, has none
+pub record Rooted (ws : List ℕ) (n i : ℕ) (r : Ty) : Type 0 where
+  pub found : (ks : List ℕ) → find (decode ws ks n) (ty false i) ≡ r
+  pub top : (ks : List ℕ) → isRoot (at (decode ws ks n) (r .idx)) ≡ true
+
+-- told a root of the node i
+pub record Topped (ws : List ℕ) (n i : ℕ) (q : Nearby) : Type 0 where
+  pub told : (r : «Type») → q ≡ Is r → Rooted ws n i (tyOf (r .0))
+
 -- what is kept of a node is its root
 pub record Cached (ws : List ℕ) (n : ℕ) (cache : List ℕ) : Type 0 where
-  pub each : (t : Ty) → (getD cache (t .idx) 0 ≡ 0 → ⊥) → (ks : List ℕ) → find (decode ws ks n) t ≡ flip (t .inv) (keptType (getD cache (t .idx) 0))
+  pub each : (i : ℕ) → (getD cache i 0 ≡ 0 → ⊥) → Rooted ws n i (keptType (getD cache i 0))

@@ -6,11 +6,12 @@ ghost use mathlib.Core.Bool.{not};
 ghost use Prim.Native.Nat.{_<_};
 ghost use lib.Dec.{eqb};
 ghost use lib.ListN.{getD, set};
-ghost use Rattle.scope.specs.Types.{tyOf};
+ghost use Rattle.scope.specs.Types.{INV-BIT, tyOf};
 ghost use Rattle.layout.specs.Meaning.{Linked};
 ghost use Rattle.roots.specs.Found.{Found, FoundMut, Near};
-ghost use Rattle.roots.specs.Kept.{keptWord, Kept, Cached};
+ghost use Rattle.roots.specs.Kept.{keptWord, Kept, Rooted, Topped, Cached};
 use layout::TypeNode;
+use types::Inverted;
 use types::Type;
 use types::TypeIdx;
 
@@ -40,7 +41,7 @@ pub fn find(ws: &[u32], n: u32, t: Type) -> Type
 }
 
 // The same; every node on the path becomes the root's child.
-pub fn find_mut(ws: &mut [u32], n: u32, t: Type) -> Type
+fn find_far(ws: &mut [u32], n: u32, t: Type) -> Type
     requires { ⌜ Linked (now ws) n ⌝ }
     ensures { λ r. ⌜ FoundMut (now (ws .entry)) n (now (ws .exit)) (t .0) (r .0) ⌝ }
 {
@@ -73,6 +74,17 @@ pub fn near(ws: &[u32], n: u32, t: Type) -> Nearby
         return Nearby::Is(parent.invert_if(inv));
     };
     Nearby::Far
+}
+
+// "`find_mut` also points every node on the path straight at the root": a type that is near has no such path.
+pub fn find_mut(ws: &mut [u32], n: u32, t: Type) -> Type
+    requires { ⌜ Linked (now ws) n ⌝ }
+    ensures { λ r. ⌜ FoundMut (now (ws .entry)) n (now (ws .exit)) (t .0) (r .0) ⌝ }
+{
+    let Nearby::Is(r) = near(ws, n, t) else {
+        return find_far(ws, n, t);
+    };
+    r
 }
 
 // A mark for each node is a lent byte: nonzero is a mark, "absent means no".
@@ -146,26 +158,103 @@ fn keep(cache: &mut [u16], i: TypeIdx, root: Type)
     }
 }
 
-fn find_kept(ws: &[u32], n: u32, cache: &mut [u16], t: Type) -> Type
+// A node's root by the first node on its path that is kept or a root; none where n steps meet neither.
+fn top_by(ws: &[u32], n: u32, cache: &[u16], i: TypeIdx) -> Nearby
+    requires { ⌜ Linked (now ws) n × (Cached (now ws) n (now cache) × (i .0 < INV-BIT)) ⌝ }
+    ensures { λ r. ⌜ Topped (now (ws .entry)) n (i .0) r ⌝ }
+{
+    let mut inv = Inverted(false);
+    let mut cur = i;
+    let mut up = n;
+    while 0 < up {
+        if let Nearby::Is(known) = kept(cache, cur) {
+            return Nearby::Is(known.invert_if(inv));
+        }
+        let TypeNode::Child(parent) = layout::node_at(ws, n, cur) else {
+            return Nearby::Is(Type::new(inv, cur));
+        };
+        inv = inv.xor(parent.inv());
+        cur = parent.idx();
+        up -= 1;
+    }
+    Nearby::Far
+}
+
+// Keeps a node's root, and so that of each node on its path before the first that is kept or a root.
+fn keep_path(ws: &[u32], n: u32, cache: &mut [u16], i: TypeIdx, root: Type)
+    requires { ⌜ Linked (now ws) n × (Cached (now ws) n (now cache) × Rooted (now ws) n (i .0) (tyOf (root .0))) ⌝ }
+    ensures { λ _. ⌜ Cached (now (ws .entry)) n (now (cache .exit)) ⌝ }
+{
+    let mut cur = i;
+    let mut top = root;
+    let mut more = n;
+    while 0 < more {
+        let TypeNode::Child(parent) = layout::node_at(ws, n, cur) else {
+            return;
+        };
+        let Nearby::Far = kept(cache, cur) else {
+            return;
+        };
+        keep(cache, cur, top);
+        top = top.invert_if(parent.inv());
+        cur = parent.idx();
+        more -= 1;
+    }
+}
+
+// The root of a type, whose path is kept. A path that meets no root is followed as `find` does, and nothing is kept of it.
+fn find_path(ws: &[u32], n: u32, cache: &mut [u16], t: Type) -> Type
     requires { ⌜ Linked (now ws) n × Cached (now ws) n (now cache) ⌝ }
     ensures { λ r. ⌜ Found (now (ws .entry)) n (t .0) (r .0) × Cached (now (ws .entry)) n (now (cache .exit)) ⌝ }
 {
     let i = t.idx();
-    let Nearby::Is(known) = kept(cache, i) else {
-        let root = find(ws, n, Type(i.0));
-        keep(cache, i, root);
-        return root.invert_if(t.inv());
+    let Nearby::Is(root) = top_by(ws, n, cache, i) else {
+        return find(ws, n, t);
+    };
+    keep_path(ws, n, cache, i, root);
+    root.invert_if(t.inv())
+}
+
+// A root's child has no path but itself.
+fn find_new(ws: &[u32], n: u32, cache: &mut [u16], t: Type) -> Type
+    requires { ⌜ Linked (now ws) n × Cached (now ws) n (now cache) ⌝ }
+    ensures { λ r. ⌜ Found (now (ws .entry)) n (t .0) (r .0) × Cached (now (ws .entry)) n (now (cache .exit)) ⌝ }
+{
+    let i = t.idx();
+    let TypeNode::Child(parent) = layout::node_at(ws, n, i) else {
+        return t;
+    };
+    let TypeNode::Child(_) = layout::node_at(ws, n, parent.idx()) else {
+        keep(cache, i, parent);
+        return parent.invert_if(t.inv());
+    };
+    find_path(ws, n, cache, t)
+}
+
+// The root of a type by its node's entry in the cache, which is made where there is none.
+fn find_kept(ws: &[u32], n: u32, cache: &mut [u16], t: Type) -> Type
+    requires { ⌜ Linked (now ws) n × Cached (now ws) n (now cache) ⌝ }
+    ensures { λ r. ⌜ Found (now (ws .entry)) n (t .0) (r .0) × Cached (now (ws .entry)) n (now (cache .exit)) ⌝ }
+{
+    let Nearby::Is(known) = kept(cache, t.idx()) else {
+        return find_new(ws, n, cache, t);
     };
     known.invert_if(t.inv())
 }
 
-// The same as `find` where much is asked for and nothing changes: a node's path is followed once, whatever the cache's length.
+// The same as `find` where much is asked for and nothing changes: a path that is followed is kept, each of its nodes with its root, and a later one
+// ends where it meets it. A caller has the test for a root in its own code and `find_kept`, with its loops, behind a call: it stands here twice, since
+// the compiler inlines what is called once.
 pub fn find_by(ws: &[u32], n: u32, cache: &mut [u16], t: Type) -> Type
     requires { ⌜ Linked (now ws) n × Cached (now ws) n (now cache) ⌝ }
     ensures { λ r. ⌜ Found (now (ws .entry)) n (t .0) (r .0) × Cached (now (ws .entry)) n (now (cache .exit)) ⌝ }
 {
-    let TypeNode::Child(_) = layout::node_at(ws, n, t.idx()) else {
+    let i = t.idx();
+    let TypeNode::Child(_) = layout::node_at(ws, n, i) else {
         return t;
     };
-    find_kept(ws, n, cache, t)
+    if t.inv().0 {
+        return find_kept(ws, n, cache, t);
+    }
+    find_kept(ws, n, cache, Type(i.0))
 }

@@ -1,10 +1,18 @@
 // Runs a list of calls through the public calls and writes what each answers. The list is text on standard input: a call's number, how many numbers
-// follow, and these. What each number means stands in `lending`, in `run_change` and in `run_read`. There are two stores, one in hand and the other, which an
-// import reads, and one names buffer.
+// follow, and these. What each number means stands in the module that has the call. There are two stores, one in hand and the other, which an import
+// reads, and one names buffer.
 ghost use Prim.Native.Nat.{_<_};
 ghost use lib.ListN.{length};
 
+mod asking; // what a store, a node or a type tells
+mod exporting; // export
+mod forcing; // forcing and finishing
+mod importing; // import
+mod joining; // find_mut, unify and its family
 mod lending; // what is lent
+mod making; // open and the makers
+mod naming; // named states, and reset
+mod printing; // show and show_impl_type
 
 use crate::lending::LEND;
 use crate::lending::Lent;
@@ -13,15 +21,9 @@ use crate::lending::lend;
 use crate::lending::nothing_lent;
 use crate::lending::part;
 use chart::Beside;
-use run_change::forcing;
-use run_change::importing;
-use run_change::joining;
-use run_change::making;
-use run_change::naming;
-use run_read::HEAD;
-use run_read::KIDS;
-use run_read::NODES;
-use run_read::flipping;
+use layout::CHILD_WORDS;
+use layout::HEAD_WORDS;
+use layout::NODE_WORDS;
 use run_text::numbers::after;
 use run_text::numbers::first;
 use run_text::numbers::numbers;
@@ -30,8 +32,21 @@ use run_text::numbers::to_bytes;
 use run_text::numbers::upto;
 use run_text::numbers::word;
 use run_text::writing;
+use scope::MAX_CHILDREN;
+use scope::MAX_NODES;
 
 const POKE: u32 = 5; // slice 0 to 2, or 3 for the names buffer, word, what it becomes
+
+const CASE: u32 = 7;
+
+const WORDS: u32 = 8;
+
+// More words than the largest store needs, so that some are left over.
+pub(crate) const HEAD: usize = HEAD_WORDS + 2;
+
+pub(crate) const NODES: usize = (MAX_NODES + 1) * NODE_WORDS;
+
+pub(crate) const KIDS: usize = (MAX_CHILDREN + 2) * CHILD_WORDS;
 
 // The other store's words stand behind one another: the header's, the nodes' from NODES_AT on, the children's from KIDS_AT on.
 const NODES_AT: usize = HEAD;
@@ -62,7 +77,40 @@ fn poke(h: &mut [u32], ws: &mut [u32], ks: &mut [u32], bs: &mut [u32], a: &[u32]
     }
 }
 
-// The calls that write nodes alone, or nothing.
+// Every word that is lent.
+fn words(h: &[u32], ws: &[u32], ks: &[u32]) {
+    writing::words(h);
+    writing::words(ws);
+    writing::words(ks);
+}
+
+// The calls that write no word of a store.
+fn reading<'a>(
+    op: u32,
+    chart: &[u32],
+    beside: Beside,
+    rule: &'a [u8],
+    text: &'a [u8],
+    h: &[u32],
+    ws: &[u32],
+    ks: &[u32],
+    a: &[u32],
+) {
+    match op {
+        WORDS => words(h, ws, ks),
+        CASE => writing::case(word(a, 0)),
+        exporting::EXPORT => exporting::export(chart, beside, rule, text, h, ws, ks, a),
+        asking::FIND..=asking::STORE => {
+            asking::call(op, chart, beside, rule, text, h, ws, ks, a);
+        }
+        printing::SHOW..=printing::SHOW_IMPL_TYPE_PART => {
+            printing::call(op, chart, beside, rule, text, h, ws, ks, a);
+        }
+        _ => {}
+    }
+}
+
+// And those that write nodes alone.
 fn changing<'a>(
     op: u32,
     chart: &[u32],
@@ -82,7 +130,7 @@ fn changing<'a>(
         joining::call(op, chart, beside, rule, text, h, ws, ks, a);
         return;
     }
-    run_read::call(op, chart, beside, rule, text, h, ws, ks, a);
+    reading(op, chart, beside, rule, text, h, ws, ks, a);
 }
 
 // And those that write the header too.
@@ -136,9 +184,6 @@ fn call<'a>(
         importing::IMPORT => {
             importing::import(chart, beside, rule, text, h, ws, ks, sh, sw, sk, a);
         },
-        flipping::FLIP_SOURCE => {
-            flipping::source(chart, beside, rule, text, h, ws, ks, sh, sw, sk, a);
-        }
         _ => adding(op, chart, beside, rule, text, h, ws, ks, a),
     }
 }

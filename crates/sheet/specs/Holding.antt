@@ -2,7 +2,7 @@
 use mathlib.Core.List.{List}
 use Prim.Native.Nat.{ℕ}
 use Rattle.append.specs.Appended.{SoFar}
-use Rattle.sheet_calls.specs.Sheet.{SheetStore}
+use Rattle.sheet_calls.specs.Store.{SheetStore}
 use Rattle.sheet.specs.declared.Went.{Went}
 use Rattle.sheet.specs.declared.Went.the-variants.{On, Closed}
 

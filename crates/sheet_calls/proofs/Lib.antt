@@ -1,5 +1,4 @@
 -- The laws that belong to no one function
+pub mod StoreLaws
+pub mod SoundLines
 pub mod Laws
-pub mod NewLaws
-pub mod PlainLaws
-pub mod ShowLaws

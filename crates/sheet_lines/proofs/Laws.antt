@@ -17,14 +17,17 @@ use Rattle.scope.specs.Base.{pick, all}
 use Rattle.scope.specs.Text.{text}
 use Rattle.scope.specs.Names.{eqBytes}
 use Rattle.scope.specs.Types.{Ty, ty, tyOf}
+use Rattle.scope.specs.Kinds.{TUPLE, REF, NEVER, DEFAULT, rowOf}
 use Rattle.scope.specs.Sheet as sheet
-use Rattle.scope.specs.Sheet.{lines, words, isDigit, valueFrom, noLeadingZero, nodeWord, typeWord, typeWords, plainLine, oneType, twoTypes, withTypes, wordsLine, parse}
+use Rattle.scope.specs.Sheet.{lines, words, isDigit, valueFrom, noLeadingZero, nodeWord, typeWord, typeWords, plainLine, oneType, twoTypes, withTypes, wordsLine, parse, sheetLine}
 use Rattle.scope.proofs.NameLaws.{eq-bytes}
 use Rattle.names.proofs.Tests.{both}
 use Rattle.bytes.specs.Bytes.{slice, indexOf, indexAfter}
 use Rattle.scope.specs.Limits.{MAX-LINE, MAX-DIGITS}
 use Rattle.sheet_lines.specs.Places.{nextPlace, wordsFrom}
-use Rattle.sheet_lines.specs.Meaning.{Parsed}
+use Rattle.types.specs.declared.«Type».{«Type»}
+use Rattle.sheet_lines.specs.Limits.{LINE-TYPES}
+use Rattle.sheet_lines.specs.Meaning.{kindLine, Over, Parsed}
 use Rattle.sheet_lines.specs.declared.Line.{Line}
 
 -- what a call that answers a test says of the test
@@ -329,6 +332,33 @@ tuple-types (t ∷ u ∷ v ∷ ts) = refl
 
 pub with-tuple : (w : List ℕ) (ts : List Ty) → eqBytes w (text "tuple") ≡ true → sheet.Line.tuple ts ≡ withTypes w (some ts)
 with-tuple w ts h = rw (eq-bytes w (text "tuple") h) (sym (tuple-types ts))
+
+-- a kind's line and the call that makes it
+
+pub never-fits : (out : List ℕ) → Over NEVER 0 out
+unfolding sheetLine rowOf
+never-fits out = record { few = omega arith; names = refl; says = λ s. refl }
+
+pub default-fits : (out : List ℕ) → Over DEFAULT 0 out
+unfolding sheetLine rowOf
+default-fits out = record { few = omega arith; names = refl; says = λ s. refl }
+
+pub tuple-fits : (n : ℕ) (out : List ℕ) → n ≤ LINE-TYPES → Over TUPLE n out
+unfolding sheetLine rowOf
+tuple-fits n out l = record { few = l; names = refl; says = λ s. refl }
+
+module _ {t : «Type»} (out : List ℕ) (q : take 1 out ≡ t .0 ∷ []) where
+  pub ref-means : kindLine REF (map tyOf (take 1 out)) ≡ sheet.Line.ref (tyOf (t .0))
+  ref-means = rw q
+
+  pub ref-fits : Over REF 1 out
+  unfolding sheetLine rowOf
+  ref-fits = record { few = omega arith; names = refl; says = λ s. rw q }
+
+-- the first word is the first of them
+pub take-first : (out : List ℕ) → 1 ≤ length out → take 1 out ≡ getD out 0 0 ∷ []
+take-first [] h = absurd (omega arith)
+take-first (a ∷ out) h = refl
 
 pub with-none : (w out : List ℕ) (n : ℕ) → n ≡ 0 → plainLine w ≡ withTypes w (some (map tyOf (take n out)))
 with-none w out n e = rw e

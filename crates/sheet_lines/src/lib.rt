@@ -3,7 +3,7 @@ ghost use mathlib.Core.Path.{_≡_};
 ghost use mathlib.Core.Bool.{_&&_};
 ghost use mathlib.Core.List.{map};
 ghost use mathlib.Core.Option.{some};
-ghost use Prim.Native.Nat.{_-_, _≤_};
+ghost use Prim.Native.Nat.{_-_, _≤_, min};
 ghost use lib.Dec.{leb};
 ghost use lib.ListN.{length, take};
 ghost use Rattle.scope.specs.Limits.{«MAX-DIGITS»};
@@ -11,7 +11,11 @@ ghost use Rattle.scope.specs.Types.{tyOf};
 ghost use Rattle.scope.specs.Sheet.{noLeadingZero, nodeWord, typeWord, typeWords, plainLine, oneType, twoTypes, withTypes, parse};
 ghost use Rattle.sheet_lines.specs.Limits.{LINE-TYPES};
 ghost use Rattle.sheet_lines.specs.Places.{nextPlace, wordsFrom};
-ghost use Rattle.sheet_lines.specs.Meaning.{wordMeans, Room, Parsed, Counted, Always, Unless};
+ghost use Rattle.sheet_lines.specs.Meaning.{wordMeans, Room, Parsed, Counted, Always, Unless, OneBeside};
+use kinds::DEFAULT;
+use kinds::NEVER;
+use kinds::REF;
+use kinds::TUPLE;
 use names::same_bytes;
 use scope::MAX_DIGITS;
 use scope::MAX_LINE;
@@ -22,19 +26,25 @@ use types::TypeIdx;
 // A type takes a byte, and a space stands between two: no line has more types than this.
 pub const LINE_TYPES: usize = 128;
 
-// A Tuple holds how many types it has; they stand at the front of the words lent beside it.
-pub enum Line {
+// What a line makes. `never`, `default`, `tuple` and `ref` are a kind's code and how many types it is over; they stand at the front of the words lent beside it.
+pub enum Maker {
     Var,
     Nil,
-    Never,
-    Default,
     Error,
+    Over(u32, u32),
+}
+
+// A line that gives no types to unify or show.
+pub enum Plain {
+    Make(Maker),
     Finish,
-    Tuple(u32),
-    Ref(Type),
+    Bad,
+}
+
+pub enum Line {
+    Plain(Plain),
     Unify(Type, Type),
     Show(Type),
-    Bad,
 }
 
 // A word's type, if it is one.
@@ -65,6 +75,16 @@ fn next_place(s: &[u8], from: usize, byte: u8) -> usize
         return from;
     }
     bytes::scan::find(s, from, s.len(), byte)
+}
+
+// How many bytes of a line a buffer holds that has `at` of it: all, or as many as there is room for.
+pub fn kept(buffer: &[u8], at: usize) -> usize
+    ensures { λ r. ⌜ r ≡ min at (length (now (buffer .entry))) ⌝ }
+{
+    if buffer.len() < at {
+        return buffer.len();
+    }
+    at
 }
 
 // Where the line that starts at `from` ends: "a last line may lack its newline"
@@ -145,44 +165,44 @@ fn types_from(line: &[u8], from: usize, out: &mut [u32]) -> TypeCount
 }
 
 // A command without types
-fn plain_line(w: &[u8]) -> Line
+fn plain_line(w: &[u8]) -> Plain
     ensures { λ r. ⌜ Always r (plainLine (now (w .entry))) ⌝ }
 {
     if same_bytes(w, b"var") {
-        return Line::Var;
+        return Plain::Make(Maker::Var);
     }
     if same_bytes(w, b"nil") {
-        return Line::Nil;
+        return Plain::Make(Maker::Nil);
     }
     if same_bytes(w, b"never") {
-        return Line::Never;
+        return Plain::Make(Maker::Over(NEVER, 0));
     }
     if same_bytes(w, b"default") {
-        return Line::Default;
+        return Plain::Make(Maker::Over(DEFAULT, 0));
     }
     if same_bytes(w, b"error") {
-        return Line::Error;
+        return Plain::Make(Maker::Error);
     }
     if same_bytes(w, b"finish") {
-        return Line::Finish;
+        return Plain::Finish;
     }
     if same_bytes(w, b"tuple") {
-        return Line::Tuple(0);
+        return Plain::Make(Maker::Over(TUPLE, 0));
     }
-    Line::Bad
+    Plain::Bad
 }
 
 // A command with one type, that is no tuple
 fn one_type(w: &[u8], t: Type) -> Line
-    ensures { λ r. ⌜ Unless r (now (w .entry)) (oneType (now (w .entry)) (tyOf (t .0))) ⌝ }
+    ensures { λ r. ⌜ OneBeside r t (now (w .entry)) (oneType (now (w .entry)) (tyOf (t .0))) ⌝ }
 {
     if same_bytes(w, b"ref") {
-        return Line::Ref(t);
+        return Line::Plain(Plain::Make(Maker::Over(REF, 1)));
     }
     if same_bytes(w, b"show") {
         return Line::Show(t);
     }
-    Line::Bad
+    Line::Plain(Plain::Bad)
 }
 
 // A command with two types, that is no tuple
@@ -192,7 +212,7 @@ fn two_types(w: &[u8], t: Type, u: Type) -> Line
     if same_bytes(w, b"unify") {
         return Line::Unify(t, u);
     }
-    Line::Bad
+    Line::Plain(Plain::Bad)
 }
 
 // "`tuple` takes any number of types, none included; `ref` and `show` one; `unify` two; the rest none."
@@ -201,10 +221,10 @@ fn line_of(w: &[u8], n: u32, out: &[u32]) -> Line
     ensures { λ r. ⌜ Parsed r (now (out .entry)) (withTypes (now (w .entry)) (some (map tyOf (take n (now (out .entry)))))) ⌝ }
 {
     if n == 0 {
-        return plain_line(w);
+        return Line::Plain(plain_line(w));
     }
     if same_bytes(w, b"tuple") {
-        return Line::Tuple(n);
+        return Line::Plain(Plain::Make(Maker::Over(TUPLE, n)));
     }
     if n == 1 {
         return one_type(w, Type(out[0]));
@@ -212,7 +232,7 @@ fn line_of(w: &[u8], n: u32, out: &[u32]) -> Line
     if n == 2 {
         return two_types(w, Type(out[0]), Type(out[1]));
     }
-    Line::Bad
+    Line::Plain(Plain::Bad)
 }
 
 // The words lent have room for the types of any line. What else they hold afterwards is left free.
@@ -221,11 +241,11 @@ pub fn parse(line: &[u8], out: &mut [u32]) -> Line
     ensures { λ r. ⌜ Parsed r (now (out .exit)) (parse (now (line .entry))) ⌝ }
 {
     if line.len() > MAX_LINE {
-        return Line::Bad;
+        return Line::Plain(Plain::Bad);
     }
     let e = next_place(line, 0, b' ');
     let TypeCount::Are(n) = types_from(line, e + 1, out) else {
-        return Line::Bad;
+        return Line::Plain(Plain::Bad);
     };
     line_of(&line[..e], n, out)
 }

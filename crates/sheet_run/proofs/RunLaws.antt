@@ -9,28 +9,20 @@ use borrow.Author.Tests.{lt-ltb, le-ltb, le-leb, lt-leb}
 use lib.ListN.{length, take, drop, drop-of-length-le}
 use lib.Seq.{take-at}
 use Rattle.scope.specs.Limits.{SHEET-NODES, SHEET-CHILDREN, SHEET-TEXT}
-use Rattle.scope.specs.Nodes.{Store, opened}
+use Rattle.scope.specs.Nodes.{Store}
 use Rattle.scope.specs.Refusals.{SHORT}
 use Rattle.scope.specs.Calls.{printedText}
-use Rattle.scope.specs.Sheet.{Line, sheetEnv, sheetStore, lines, parse, sheetLine, sheetLines, sheet}
-use Rattle.scope.proofs.SoundKept.{opened-facts}
+use Rattle.scope.specs.Sheet.{Line, sheetStore, lines, parse, sheetLine, sheetLines, sheet}
 use Rattle.layout.specs.Words.{HEAD-WORDS, nodeWords, childWords, storeIn}
-use Rattle.store.specs.Holds.{Became}
 use Rattle.sheet_lines.specs.Places.{nextPlace}
 use Rattle.sheet_lines.proofs.Laws.{lines-turn, lines-end}
 use Rattle.append.specs.Appended.{Appended, SoFar}
 use Rattle.append.proofs.Laws.{so-far-start, so-far-length, so-far-fits, so-far-full}
 use Rattle.promise.specs.Promise.{value, refusal}
 use Rattle.promise.specs.Prints.{PrintPromised}
-use Rattle.sheet_calls.specs.Sheet.{SheetStore}
-use Rattle.sheet_say.specs.Front.{Front}
-use Rattle.sheet_line.specs.Ran.{lineLeaves, Ran}
-use Rattle.sheet_line.proofs.Laws.{held-sound}
+use Rattle.sheet_calls.specs.Store.{SheetStore}
+use Rattle.sheet_calls.specs.Ran.{lineLeaves, Ran}
 use Rattle.sheet_run.specs.Starts.{nextStart}
-
--- the store before the first line
-pub start-sound : {h₀ ws₀ ks₀ h ws ks : List ℕ} → Became h₀ ws₀ ks₀ h ws ks sheetStore → (storeIn h ws ks ≡ sheetStore) × SheetStore h ws ks
-start-sound b = (b .holds .is, held-sound (b .holds) (opened-facts sheetEnv SHEET-NODES SHEET-CHILDREN (omega arith) (omega arith)))
 
 -- where the next line starts
 start-inside : (s : List ℕ) (e : ℕ) → e < length s → nextStart s e ≡ e + 1

@@ -3,11 +3,11 @@
 ghost use Prim.Native.Nat.{_≤_};
 ghost use lib.ListN.{length};
 ghost use Rattle.scope.specs.Limits.{SHEET-TEXT};
+ghost use Rattle.scope.specs.Sheet.{answerText};
+ghost use Rattle.types.specs.Answers.{answerOf};
 ghost use Rattle.sheet_say.specs.Front.{Front};
-ghost use Rattle.sheet_say.specs.Texts.{refusedText, typeText, unifyText, doneText, badText};
-use promise::DoneAnswer;
+ghost use Rattle.sheet_say.specs.Texts.{refusedText, typeText};
 use promise::TypeAnswer;
-use tested_unify::UnifyAnswer;
 use types::UnifyResult;
 
 // "A refusal prints as `refused 3`."
@@ -34,35 +34,13 @@ pub fn put_type(out: &mut [u8], a: TypeAnswer) -> usize
 }
 
 // "unify's answer"
-pub fn put_unify(out: &mut [u8], a: UnifyAnswer) -> usize
+pub fn put_unify(out: &mut [u8], r: UnifyResult) -> usize
     requires { ⌜ SHEET-TEXT ≤ length (now out) ⌝ }
-    ensures { λ r. ⌜ Front (now (out .entry)) (now (out .exit)) r (unifyText a) ⌝ }
+    ensures { λ n. ⌜ Front (now (out .entry)) (now (out .exit)) n (answerText (answerOf r)) ⌝ }
 {
-    match a {
-        UnifyAnswer::Is(r) => match r {
-            UnifyResult::Success => append::put(out, 0, b"Success"),
-            UnifyResult::Failure => append::put(out, 0, b"Failure"),
-            UnifyResult::Indeterminate => append::put(out, 0, b"Indeterminate"),
-        },
-        UnifyAnswer::Refused(n) => put_refused(out, n),
+    match r {
+        UnifyResult::Success => append::put(out, 0, b"Success"),
+        UnifyResult::Failure => append::put(out, 0, b"Failure"),
+        UnifyResult::Indeterminate => append::put(out, 0, b"Indeterminate"),
     }
-}
-
-// "`done`"
-pub fn put_done(out: &mut [u8], a: DoneAnswer) -> usize
-    requires { ⌜ SHEET-TEXT ≤ length (now out) ⌝ }
-    ensures { λ r. ⌜ Front (now (out .entry)) (now (out .exit)) r (doneText a) ⌝ }
-{
-    match a {
-        DoneAnswer::Done => append::put(out, 0, b"done"),
-        DoneAnswer::Refused(n) => put_refused(out, n),
-    }
-}
-
-// "`bad line`"
-pub fn put_bad(out: &mut [u8]) -> usize
-    requires { ⌜ SHEET-TEXT ≤ length (now out) ⌝ }
-    ensures { λ r. ⌜ Front (now (out .entry)) (now (out .exit)) r badText ⌝ }
-{
-    append::put(out, 0, b"bad line")
 }

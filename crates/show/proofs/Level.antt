@@ -19,7 +19,7 @@ use Rattle.layout.specs.Meaning.{kindMeans}
 use Rattle.layout.specs.declared.Kind.{Kind}
 use Rattle.names.proofs.InWords.{name-bytes}
 use Rattle.show_names.specs.Names.{comma, entryText, definedText}
-use Rattle.show_parts.specs.Parts.{gapOf, leadOf, closeOf, fixedOf, dualOf}
+use Rattle.show_parts.specs.Parts.{gapOf, leadOf, endOf, closeOf, fixedOf, dualOf}
 use Rattle.show.specs.Level.{children, kidOf, shownOf, levelOf}
 use Rattle.show.proofs.Runs.{tys, kid, commas-run, params-run, tuple-run, object-run, signature-run, if-const-run}
 
@@ -49,7 +49,7 @@ module _ (g : Ty → List ℕ) (e : Env) (nil : Ty → Bool) (ks : List ℕ) (k 
   Level-of i c = Levelled g e nil ks i (of-code c)
 
   level-param : (i : Bool) → Level-of i PARAM
-  unfolding kindPieces kindMeans leadOf closeOf shownOf rowOf rows render children
+  unfolding kindPieces kindMeans leadOf endOf shownOf rowOf rows render children
   level-param i = rw name-bytes
 
   gap-tuple : (j : ℕ) → gap TUPLE j ≡ comma j
@@ -57,7 +57,7 @@ module _ (g : Ty → List ℕ) (e : Env) (nil : Ty → Bool) (ks : List ℕ) (k 
   gap-tuple j = refl
 
   level-tuple : (i : Bool) → Level-of i TUPLE
-  unfolding kindPieces kindMeans leadOf fixedOf closeOf shownOf rowOf rows
+  unfolding kindPieces kindMeans leadOf fixedOf endOf shownOf rowOf rows
   level-tuple i = tuple-run g (e .texts) i ks (k .first) (gap TUPLE) gap-tuple (k .count)
 
   gap-object : (j : ℕ) → j < k .count → gap OBJECT j ≡ entryText (e .texts) ks k j
@@ -65,7 +65,7 @@ module _ (g : Ty → List ℕ) (e : Env) (nil : Ty → Bool) (ks : List ℕ) (k 
   gap-object j h = refl
 
   level-object : (i : Bool) → Level-of i OBJECT
-  unfolding kindPieces kindMeans leadOf fixedOf closeOf shownOf rowOf rows
+  unfolding kindPieces kindMeans leadOf fixedOf endOf shownOf rowOf rows
   level-object i = object-run g (e .texts) i ks (k .first) (gap OBJECT) (k .count) gap-object (k .count) (omega arith)
 
   gap-defined : (c : ℕ) → eqb c OBJECT ≡ false → eqb c CLOSURE ≡ false → eqb c IF-CONST ≡ false → (j : ℕ) → gap c j ≡ comma j
@@ -82,19 +82,19 @@ module _ (g : Ty → List ℕ) (e : Env) (nil : Ty → Bool) (ks : List ℕ) (k 
       (params-run g (e .texts) i ks (k .first) (gap c) (gap-defined c p q r) (k .count)))
 
   level-opaque : (i : Bool) → Level-of i OPAQUE
-  unfolding kindPieces kindMeans leadOf closeOf shownOf
+  unfolding kindPieces kindMeans leadOf endOf shownOf
   level-opaque i = defined-run i OPAQUE refl refl refl
 
   level-struct : (i : Bool) → Level-of i STRUCT
-  unfolding kindPieces kindMeans leadOf closeOf shownOf
+  unfolding kindPieces kindMeans leadOf endOf shownOf
   level-struct i = defined-run i STRUCT refl refl refl
 
   level-enum : (i : Bool) → Level-of i ENUM
-  unfolding kindPieces kindMeans leadOf closeOf shownOf
+  unfolding kindPieces kindMeans leadOf endOf shownOf
   level-enum i = defined-run i ENUM refl refl refl
 
   level-union : (i : Bool) → Level-of i UNION
-  unfolding kindPieces kindMeans leadOf closeOf shownOf
+  unfolding kindPieces kindMeans leadOf endOf shownOf
   level-union i = defined-run i UNION refl refl refl
 
   function-by : (b : Bool) (x y z u v : List ℕ)
@@ -104,7 +104,7 @@ module _ (g : Ty → List ℕ) (e : Env) (nil : Ty → Bool) (ks : List ℕ) (k 
   function-by false x y z u v = simp append-nil
 
   level-fn : (i : Bool) → Level-of i FN
-  unfolding kindPieces kindMeans leadOf closeOf shownOf render children
+  unfolding kindPieces kindMeans leadOf endOf shownOf render children
   level-fn i = function-by (eqb (recordAt e (k .number) .sort) TRAIT-FN-SORT) _ _ _ _ _
 
   gap-parameter : (j : ℕ) → j + 1 < k .count → gap CLOSURE j ≡ entryText (e .texts) ks k j
@@ -116,7 +116,7 @@ module _ (g : Ty → List ℕ) (e : Env) (nil : Ty → Bool) (ks : List ℕ) (k 
   gap-return j h = rw (eq-eqb (j + 1) (k .count) h)
 
   level-closure : Level-of false CLOSURE
-  unfolding kindPieces kindMeans leadOf closeOf shownOf rowOf rows render
+  unfolding kindPieces kindMeans leadOf endOf shownOf rowOf rows render
   level-closure =
       let sigil : List ℕ = bytes (e .texts) (sigilAt e (k .flex)) in
       let b : Bool = nil (tyOf (slotAt ks (k .first + (k .count - 1)) .type)) in
@@ -127,14 +127,14 @@ module _ (g : Ty → List ℕ) (e : Env) (nil : Ty → Bool) (ks : List ℕ) (k 
       )
 
   level-ref : (i : Bool) → Level-of i REF
-  unfolding kindPieces kindMeans leadOf fixedOf closeOf shownOf render
+  unfolding kindPieces kindMeans leadOf fixedOf endOf shownOf render
   level-ref i =
       ap (λ (z : List ℕ). text "&" ++ z)
       (sym (append-nil (render g (commas i (tys g (e .texts) i ks (k .first) (k .count)))))
       ∙ commas-run g (e .texts) i ks (k .first) (gap REF) (gap-defined REF refl refl refl) [] (k .count))
 
   level-key : (i : Bool) → Level-of i KEY
-  unfolding kindPieces kindMeans leadOf closeOf shownOf rowOf rows render children
+  unfolding kindPieces kindMeans leadOf endOf shownOf rowOf rows render children
   level-key i = rw name-bytes
 
   gap-first : gap IF-CONST 0 ≡ []
@@ -146,21 +146,21 @@ module _ (g : Ty → List ℕ) (e : Env) (nil : Ty → Bool) (ks : List ℕ) (k 
   gap-second = refl
 
   level-if-const : (i : Bool) → Level-of i IF-CONST
-  unfolding kindPieces kindMeans leadOf closeOf shownOf
+  unfolding kindPieces kindMeans leadOf endOf shownOf
   level-if-const i =
       let second : Bool = nil (tyOf (slotAt ks (k .first + 1) .type)) in
       if-const-run g e nil i (kindMeans ks (of-code IF-CONST) .head) ks (k .first) (gap IF-CONST) gap-first gap-second (k .count) second refl
 
   level-never : (i : Bool) → Level-of i NEVER
-  unfolding kindPieces kindMeans leadOf fixedOf closeOf shownOf render children
+  unfolding kindPieces kindMeans leadOf fixedOf endOf shownOf render children
   level-never i = refl
 
   level-default : (i : Bool) → Level-of i DEFAULT
-  unfolding kindPieces kindMeans leadOf fixedOf closeOf shownOf render children
+  unfolding kindPieces kindMeans leadOf fixedOf endOf shownOf render children
   level-default i = refl
 
   level-error : (i : Bool) → Level-of i ERROR
-  unfolding kindPieces kindMeans leadOf fixedOf closeOf shownOf render children
+  unfolding kindPieces kindMeans leadOf fixedOf endOf shownOf render children
   level-error i = refl
 
   pieces-none : (i : Bool) (c : ℕ) → kindPieces e nil i (kindMeans ks (of-code (suc (suc (suc (suc (suc (suc (suc (suc (suc (suc (suc (suc (suc (suc (suc c))))))))))))))))) ≡ []
@@ -168,7 +168,7 @@ module _ (g : Ty → List ℕ) (e : Env) (nil : Ty → Bool) (ks : List ℕ) (k 
   pieces-none i c = refl
 
   level-other : (i : Bool) (c : ℕ) → ERROR < c → kindPieces e nil i (kindMeans ks (of-code c)) ≡ [] → Level-of i c
-  unfolding leadOf fixedOf closeOf shownOf render children
+  unfolding leadOf fixedOf endOf shownOf render children
   level-other i c h z = rw (
     z,
     ne-eqb c PARAM (λ w. omega arith),

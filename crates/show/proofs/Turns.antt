@@ -2,8 +2,8 @@
 -- root has, or its root's number.
 -- Assumes nothing.
 use mathlib.Core.Path.{_≡_, refl, ap, sym, _∙_, subst}
-use mathlib.Core.Bool.{Bool}
-use mathlib.Core.List.{List, _++_, append-nil}
+use mathlib.Core.Bool.{Bool, not, _&&_}
+use mathlib.Core.List.{List, _++_, append-assoc, append-nil}
 use Prim.Native.Nat.{ℕ, zero, suc, _+_, _-_, _≤_, _<_}
 use native.Mathlib.Omega.{arith}
 use lib.ListN.{length}
@@ -30,7 +30,7 @@ use Rattle.append.proofs.Laws.{append-none, append-then}
 use Rattle.layout.specs.declared.Held.{Held}
 use Rattle.layout.specs.declared.Held.the-variants.{Is, Nothing}
 use Rattle.show_names.specs.Names.{unknownText}
-use Rattle.show_parts.specs.Parts.{gapOf, leadOf, closeOf, tildeOf}
+use Rattle.show_parts.specs.Parts.{gapOf, leadOf, closeOf, dualOf, signOf, tildeOf}
 use Rattle.show.specs.Level.{children, kidOf, shownOf, innerOf, levelOf}
 use Rattle.layout.specs.Meaning.{heldIn}
 use Rattle.show.proofs.Level.{level-is}
@@ -128,6 +128,12 @@ module _ {ws ks : List ℕ} {n : ℕ} (st : Stands ws ks n) (e : Env) (depth : �
         ∙ ap (λ (c : Bool). levelOf below e (isNil ns) ks c k) (sym eb)
         ∙ ap (λ (c : Bool). written k b c (shownOf (isNil ns) ks k)) (sym ed)
         ∙ ap (λ (c : ℕ). written k b d c) (sym em)
+
+-- a ~ or none and what stands before the children, then the rest
+pub level-put : {buf buf₁ buf₂ : List ℕ} {at p r : ℕ} (lead rest : List ℕ) (k : Kind) (b d : Bool) → d ≡ dualOf k
+    → Appended buf at buf₁ p (signOf (b && not d) ++ lead) → Appended buf₁ p buf₂ r rest → Appended buf at buf₂ r (tildeOf b k ++ (lead ++ rest))
+level-put {buf} {buf₁} {buf₂} {at} {p} {r} lead rest k b d e x z =
+    subst (λ (c : Bool). Appended buf at buf₂ r (signOf (b && not c) ++ (lead ++ rest))) e (rw (← append-assoc (signOf (b && not d)) lead rest) (append-then x z))
 
 -- child j, as it was read and inverted
 pub kid-shown : {buf buf′ : List ℕ} {p r : ℕ} (e : Env) (depth : ℕ) (ns : List Node) (ks : List ℕ) (k : Kind) (d : Bool) (j : ℕ) (s : Slot) (u : ℕ)

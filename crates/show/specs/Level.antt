@@ -21,6 +21,12 @@ children gap item close (suc n) j = gap j ++ (item j ++ children gap item close 
 abbrev pub kidOf : List ℕ → Kind → Bool → ℕ → Ty
 kidOf ks k i j = flip i (tyOf (slotAt ks (k .first + j) .type))
 
+-- how many children are shown where none is nil
+unfoldable pub mostOf : ℕ → ℕ → ℕ
+mostOf c n =
+    pick (eqb c CLOSURE) n
+    (pick (eqb c IF-CONST) (pick (ltb n 2) 0 2) (pick (eqb c REF) n (pick (eqb c PARAM) 0 (pick (ltb c FN) n 0))))
+
 -- how many children are shown: of a Closure all but a return that is nil, of an if const one or both of two, of others all or none
 unfoldable pub shownOf : (Ty → Bool) → List ℕ → Kind → ℕ
 shownOf nil ks k =

@@ -10,7 +10,7 @@ ghost use Rattle.layout.specs.Meaning.{Linked};
 ghost use Rattle.roots.specs.Kept.{Cached};
 ghost use Rattle.walk.specs.Asks.{Stands, Nil};
 ghost use Rattle.append.specs.Appended.{Appended};
-ghost use Rattle.show.specs.Level.{shownOf, innerOf};
+ghost use Rattle.show.specs.Level.{mostOf, shownOf};
 use chart::Beside;
 use kinds::CLOSURE;
 use kinds::FN;
@@ -25,7 +25,6 @@ use show_names::put_unknown;
 use show_parts::put_close;
 use show_parts::put_gap;
 use show_parts::put_lead;
-use show_parts::put_tilde;
 use types::Inverted;
 use types::Type;
 
@@ -44,51 +43,45 @@ fn is_nil(ws: &[u32], n: u32, cache: &mut [u16], t: Type) -> bool
     false
 }
 
-// How many of a kind's children are shown.
+// How many of a kind's children are shown where none is nil.
+fn most(code: u32, count: u32) -> u32
+    ensures { λ r. ⌜ r ≡ mostOf code count ⌝ }
+{
+    match code {
+        PARAM => return 0,
+        CLOSURE => return count,
+        REF => return count,
+        IF_CONST => {
+            if count < 2 {
+                return 0;
+            }
+            return 2;
+        }
+        _ => {
+            if code < FN {
+                return count;
+            }
+            return 0;
+        }
+    }
+}
+
+// How many of a kind's children are shown: of a Closure and an if const not the last, if it is nil.
 fn shown(ws: &[u32], ks: &[u32], n: u32, cache: &mut [u16], k: Kind) -> u32
     requires { ⌜ Stands (now ws) (now ks) n × Cached (now ws) n (now cache) ⌝ }
     ensures { λ r. ⌜ (r ≡ shownOf (isNil (decode (now (ws .entry)) (now (ks .entry)) n)) (now (ks .entry)) k)
         × Cached (now (ws .entry)) n (now (cache .exit)) ⌝ }
 {
-    if k.code == CLOSURE {
-        if k.count == 0 {
-            return 0;
-        }
-        let before = k.count - 1;
-        if is_nil(ws, n, cache, layout::child_of(ks, k, before).ty) {
-            return before;
-        }
-        return k.count;
+    let all = most(k.code, k.count);
+    let whole = (k.code != CLOSURE) & (k.code != IF_CONST);
+    if whole | (all == 0) {
+        return all;
     }
-    if k.code == IF_CONST {
-        if k.count < 2 {
-            return 0;
-        }
-        if is_nil(ws, n, cache, layout::child_of(ks, k, 1).ty) {
-            return 1;
-        }
-        return 2;
+    let before = all - 1;
+    if is_nil(ws, n, cache, layout::child_of(ks, k, before).ty) {
+        return before;
     }
-    if k.code == REF {
-        return k.count;
-    }
-    if k.code == PARAM {
-        return 0;
-    }
-    if k.code < FN {
-        return k.count;
-    }
-    0
-}
-
-// A self-dual kind is inverted in its children.
-fn inner(i: Inverted, k: Kind) -> Inverted
-    ensures { λ r. ⌜ r .0 ≡ innerOf (i .0) k ⌝ }
-{
-    if i.0 {
-        return Inverted(kinds::self_dual(k.code, k.dual));
-    }
-    Inverted(false)
+    all
 }
 
 // The text of a type, at most so many levels deep, with the roots that a cache keeps.
@@ -115,7 +108,7 @@ fn show_by<'a>(
     if depth == 0 {
         return at;
     }
-    if append::is_full(buf, at) {
+    if buf.len() < at {
         return at;
     }
     let root = roots::find_by(ws, n, cache, t);
@@ -123,9 +116,9 @@ fn show_by<'a>(
         return put_unknown(buf, at, root);
     };
     let i = inv.xor(root.inv());
-    let turned = put_tilde(buf, at, i, kind);
-    let mut p = put_lead(chart, beside, rule, text, buf, turned, kind);
-    let deep = inner(i, kind);
+    let dual = kinds::self_dual(kind.code, kind.dual);
+    let mut p = put_lead(chart, beside, rule, text, buf, at, i.0 & !dual, kind);
+    let deep = Inverted(i.0 & dual);
     let count = shown(ws, ks, n, cache, kind);
     let mut j: u32 = 0;
     while j < count {
@@ -154,13 +147,6 @@ fn show_by<'a>(
 const FEW_NODES: u32 = 512;
 
 const FEW_BYTES: usize = 4096;
-
-fn wants_cache(n: u32, buf: &[u8]) -> bool {
-    if n <= FEW_NODES {
-        return false;
-    }
-    FEW_BYTES < buf.len()
-}
 
 // The same, with each path to a root followed once.
 fn show_cached<'a>(
@@ -217,7 +203,9 @@ pub fn show_type<'a>(
         (showF (envOf (now (chart .entry)) beside (now (rule .entry)) (now (text .entry))) depth
         (decode (now (ws .entry)) (now (ks .entry)) n) (tyOf (t .0))) ⌝ }
 {
-    if wants_cache(n, buf) {
+    let many = FEW_NODES < n;
+    let long = FEW_BYTES < buf.len();
+    if many & long {
         return show_cached(chart, beside, rule, text, ws, ks, n, buf, at, t, depth);
     }
     let mut none = [0u16; 0];

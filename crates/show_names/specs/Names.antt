@@ -1,6 +1,6 @@
 -- The texts that names and numbers make: what the code writes with one name or number in it. They add nothing to scope's pieces.
-use mathlib.Core.List.{List, [], _++_}
-use Prim.Native.Nat.{ℕ, _+_}
+use mathlib.Core.List.{List, [], _∷_, _++_}
+use Prim.Native.Nat.{ℕ, zero, suc, _+_, _/_, _%_}
 use lib.Dec.{eqb, ltb}
 use Rattle.scope.specs.Base.{pick}
 use Rattle.scope.specs.Text.{text}
@@ -11,6 +11,14 @@ use Rattle.scope.specs.Sound.{Slot, slotName}
 use Rattle.scope.specs.Show.{decimal, nameOrDots}
 use Rattle.layout.specs.Words.{slotAt}
 use Rattle.layout.specs.declared.Kind.{Kind}
+
+-- the bytes of a short text, which is one number: each takes seven bits, the first the lowest; ten say any number of 64 bits
+unfoldable pub spelledF : ℕ → ℕ → List ℕ
+spelledF zero w = []
+spelledF (suc d) w = pick (eqb w 0) [] (w % 128 ∷ spelledF d (w / 128))
+
+abbrev pub spelled : ℕ → List ℕ
+spelled w = spelledF 10 w
 
 -- between the items of a list
 abbrev pub comma : ℕ → List ℕ

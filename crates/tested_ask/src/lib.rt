@@ -140,6 +140,6 @@ pub fn find_related<'a>(
     if marks.len() < x.nodes as usize {
         return DoneAnswer::Refused(refusals::SHORT);
     }
-    walk::find_related(ws, ks, x.nodes, marks, t);
+    related::find_related(ws, ks, x.nodes, marks, t);
     DoneAnswer::Done
 }

@@ -41,10 +41,8 @@ use Rattle.call_unify.proofs as call_unify
 use Rattle.tested_unify.specs.Answers.{unifyReply}
 use Rattle.call_unify_lists.proofs as call_unify_lists
 use Rattle.call_impl.proofs as call_impl
-use Rattle.call_import.proofs as call_import
-use Rattle.call_export.proofs as call_export
+use Rattle.call_copy.proofs as call_copy
 use Rattle.call_show.proofs as call_show
-use Rattle.call_show_part.proofs as call_show_part
 use Rattle.call_states.proofs as call_states
 use Rattle.copy_parts.specs.Places.{listOf}
 use Rattle.theorem.specs.Memory.{Memory, memoryOf, nodesNow, headNow, Fixed, lent, held, roomy, Opened}
@@ -141,7 +139,7 @@ pub record Contracts : Type 0 where
   pub unify-recalling : Allows call_unify.unify_recalling.Kinds.ps call_unify.unify_recalling.Kinds.r call_unify.unify_recalling.Reads.Asked call_unify.unify_recalling.Reads.Learnt
       (λ κs a r x. RanOn a (call.unify (tyOf (arg2 a .0)) (tyOf (arg3 a .0))) (replied says.answer (unifyReply r)) (nodesLeft a x))
   -- `import`, whose source is any numbers
-  pub import : Allows call_import.import.Kinds.ps call_import.import.Kinds.r call_import.import.Reads.Asked call_import.import.Reads.Learnt
+  pub import : Allows call_copy.import.Kinds.ps call_copy.import.Kinds.r call_copy.import.Reads.Asked call_copy.import.Reads.Learnt
       (λ κs a r x. RanOn a (call.import (lent (otherWords a)) (typesIn (arg4 a .now)) (listOf (arg5 a) (arg6 a .now)) (length (arg7 a .now)))
       (replied says.types (listReply r (take (length (arg4 a .now)) (arg7 x .now)))) (wordsIn x))
   -- the reads
@@ -157,7 +155,7 @@ pub record Contracts : Type 0 where
       (λ κs a r x. RanOn a (call.read (call.name (tyOf (arg1 a .0)) (arg2 a))) (replied says.a-name (nameReply r)) (wordsIn a))
   pub figures : Allows call_read.figures.Kinds.ps call_read.figures.Kinds.r call_read.figures.Reads.Asked call_read.figures.Reads.Learnt
       (λ κs a r x. RanOn a (call.read call.figures) (replied says.a-store (figuresReply (wordsIn a .nodes) (wordsIn a .kids) r)) (wordsIn a))
-  pub export : Allows call_export.export.Kinds.ps call_export.export.Kinds.r call_export.export.Reads.Asked call_export.export.Reads.Learnt
+  pub export : Allows call_copy.export.Kinds.ps call_copy.export.Kinds.r call_copy.export.Reads.Asked call_copy.export.Reads.Learnt
       (λ κs a r x. RanOn a (call.read (call.export (arg4 a) (arg5 a) (roomy (arg4 a) (arg5 a) (otherWords a)) (typesIn (arg6 a .now)) (length (arg7 a .now))))
       (replied says.exported (exportReply r (take (length (arg6 a .now)) (arg7 x .now)) (held (otherWords x)))) (wordsIn a))
   -- the calls "Outside the theorem's first half"
@@ -206,10 +204,10 @@ pub record Contracts : Type 0 where
   pub show-impl-type : Allows call_show.show_impl_type.Kinds.ps call_show.show_impl_type.Kinds.r call_show.show_impl_type.Reads.Asked call_show.show_impl_type.Reads.Learnt
       (λ κs a r x. RanOn a (call.later (call.showImplType (implMeans (arg1 a) (arg2 a .now)) (arg3 a .now)))
       (replied (λ n. says.text (take n (arg3 x .now))) (countReply r)) (wordsIn a))
-  pub show-part : Allows call_show_part.show_part.Kinds.ps call_show_part.show_part.Kinds.r call_show_part.show_part.Reads.Asked call_show_part.show_part.Reads.Learnt
+  pub show-part : Allows call_show.show_part.Kinds.ps call_show.show_part.Kinds.r call_show.show_part.Reads.Asked call_show.show_part.Reads.Learnt
       (λ κs a r x. RanOn a (call.later (call.show (tyOf (arg1 a .0)) (arg2 a .now))) (replied (λ n. says.text (r .now)) (partReply (arg3 x .now) (r .now))) (wordsIn a))
-  pub show-impl-type-part : Allows call_show_part.show_impl_type_part.Kinds.ps call_show_part.show_impl_type_part.Kinds.r
-      call_show_part.show_impl_type_part.Reads.Asked call_show_part.show_impl_type_part.Reads.Learnt
+  pub show-impl-type-part : Allows call_show.show_impl_type_part.Kinds.ps call_show.show_impl_type_part.Kinds.r
+      call_show.show_impl_type_part.Reads.Asked call_show.show_impl_type_part.Reads.Learnt
       (λ κs a r x. RanOn a (call.later (call.showImplType (implMeans (arg1 a) (arg2 a .now)) (arg3 a .now)))
       (replied (λ n. says.text (r .now)) (partReply (arg4 x .now) (r .now))) (wordsIn a))
   -- the names buffer that `open_names` was lent, when it answered Done

@@ -24,7 +24,7 @@ use Rattle.call_find.proofs as call_find
 use Rattle.tested_find.proofs as tested_find
 use Rattle.call_read.proofs as call_read
 use Rattle.tested_read.proofs as tested_read
-use Rattle.call_export.proofs as call_export
+use Rattle.call_copy.proofs as call_copy
 use Rattle.tested_export.proofs as tested_export
 use Rattle.call_ask.proofs as call_ask
 use Rattle.tested_ask.proofs as tested_ask
@@ -36,7 +36,6 @@ use Rattle.call_unify_lists.proofs as call_unify_lists
 use Rattle.tested_unify_lists.proofs as tested_unify_lists
 use Rattle.call_impl.proofs as call_impl
 use Rattle.tested_impl.proofs as tested_impl
-use Rattle.call_import.proofs as call_import
 use Rattle.tested_import.proofs as tested_import
 use Rattle.call_states.proofs as call_states
 use Rattle.tested_states.proofs as tested_states
@@ -82,7 +81,7 @@ pub record TestedForms : Type 0 where
       tested_unify.unify_recalling.Reads.Asked tested_unify.unify_recalling.Reads.Learnt call_unify.unify_recalling.Reads.Learnt
   -- both stores are tested
   pub import : Form tested_import.import.Kinds.ps tested_import.import.Kinds.r (λ κs a. OnTested a × TestedWords (fixedIn a) (otherWords a))
-      tested_import.import.Reads.Asked tested_import.import.Reads.Learnt call_import.import.Reads.Learnt
+      tested_import.import.Reads.Asked tested_import.import.Reads.Learnt call_copy.import.Reads.Learnt
   pub find : Form tested_find.find.Kinds.ps tested_find.find.Kinds.r (λ κs a. OnTested a)
       tested_find.find.Reads.Asked tested_find.find.Reads.Learnt call_find.find.Reads.Learnt
   pub find-mut : Form tested_find.find_mut.Kinds.ps tested_find.find_mut.Kinds.r (λ κs a. OnTested a)
@@ -96,7 +95,7 @@ pub record TestedForms : Type 0 where
   pub figures : Form tested_read.figures.Kinds.ps tested_read.figures.Kinds.r (λ κs a. OnTested a)
       tested_read.figures.Reads.Asked tested_read.figures.Reads.Learnt call_read.figures.Reads.Learnt
   pub export : Form tested_export.export.Kinds.ps tested_export.export.Kinds.r (λ κs a. OnTested a)
-      tested_export.export.Reads.Asked tested_export.export.Reads.Learnt call_export.export.Reads.Learnt
+      tested_export.export.Reads.Asked tested_export.export.Reads.Learnt call_copy.export.Reads.Learnt
   pub unify-types : Form tested_unify_lists.unify_types.Kinds.ps tested_unify_lists.unify_types.Kinds.r (λ κs a. OnTested a)
       tested_unify_lists.unify_types.Reads.Asked tested_unify_lists.unify_types.Reads.Learnt call_unify_lists.unify_types.Reads.Learnt
   pub unify-types-recalling : Form tested_unify_lists.unify_types_recalling.Kinds.ps tested_unify_lists.unify_types_recalling.Kinds.r (λ κs a. OnTested a)

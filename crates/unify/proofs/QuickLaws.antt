@@ -178,26 +178,26 @@ module _ {x : Texts} {ws ks m ws′ m′ : List ℕ} {n d : ℕ} {p q : Ty} {r :
 
   -- `small`
 
-  pub small-merged : Asked x ws ks m n d ((p, q) ∷ []) → SmallTold ws ws′ n m m′ p q d r → r ≡ true
+  pub small-merged : Asked x ws ks m n d ((p, q) ∷ []) → (d ≡ 0 → ⊥) → SmallTold ws ws′ n m m′ p q r → r ≡ true
       → Unified x ws ks m ws′ m′ n (unifyF x n d (decode ws ks n) p q) Success
-  small-merged w t e = go (t .done e)
+  small-merged w h t e = go (t .done e)
     where
       go : (Quick ws ws′ n p q × Forgot m m′) ⊎ (OneNil ws n p q true × ((ws′ ≡ ws) × (m′ ≡ m)))
           → Unified x ws ks m ws′ m′ n (unifyF x n d (decode ws ks n) p q) Success
-      go (inl k) = merges w (t .deep e) (k .0) (k .1)
-      go (inr o) = rw (o .1 .0, o .1 .1) (nothing-done w (t .deep e) (o .0))
+      go (inl k) = merges w h (k .0) (k .1)
+      go (inr o) = rw (o .1 .0, o .1 .1) (nothing-done w h (o .0))
 
-  pub small-asked : {ps : List (Ty × Ty)} → Asked x ws ks m n d ps → SmallTold ws ws′ n m m′ p q d r → r ≡ false → Asked x ws′ ks m′ n d ps
+  pub small-asked : {ps : List (Ty × Ty)} → Asked x ws ks m n d ps → SmallTold ws ws′ n m m′ p q r → r ≡ false → Asked x ws′ ks m′ n d ps
   small-asked w t e = rw (t .words e, t .memory e) w
 
-  pub small-not : {ws₂ m₂ : List ℕ} {s : UnifyResult} → SmallTold ws ws′ n m m′ p q d r → r ≡ false
+  pub small-not : {ws₂ m₂ : List ℕ} {s : UnifyResult} → Asked x ws ks m n d ((p, q) ∷ []) → SmallTold ws ws′ n m m′ p q r → r ≡ false
       → Unified x ws′ ks m′ ws₂ m₂ n (unifyF x n d (decode ws′ ks n) p q) s → Unified x ws ks m ws₂ m₂ n (unifyF x n d (decode ws ks n) p q) s
-  small-not t e u = rw (← t .words e, ← t .memory e) u
+  small-not w t e u = rw (← t .words e, ← t .memory e) u
 
 -- `walk_pair`, by `small`
 
-module _ {ws ks m ws′ m′ : List ℕ} {n d : ℕ} {a b : Ty} {r : Bool} where
-  pub small-walks : WalkAsks ws ks m n a b → SmallTold ws ws′ n m m′ a b d r → r ≡ true → WalkTold ws ks m ws′ m′ n a b Success
+module _ {ws ks m ws′ m′ : List ℕ} {n : ℕ} {a b : Ty} {r : Bool} where
+  pub small-walks : WalkAsks ws ks m n a b → SmallTold ws ws′ n m m′ a b r → r ≡ true → WalkTold ws ks m ws′ m′ n a b Success
   small-walks w t e = go (t .done e)
     where
       h : Pair (w .roots .lent) ws ks n a b
@@ -226,9 +226,9 @@ module _ {ws ks m ws′ m′ : List ℕ} {n d : ℕ} {a b : Ty} {r : Bool} where
       }
       go (inr o) = rw (o .1 .0, o .1 .1) (still (o .0))
 
-  pub small-walk-asks : WalkAsks ws ks m n a b → SmallTold ws ws′ n m m′ a b d r → r ≡ false → WalkAsks ws′ ks m′ n a b
+  pub small-walk-asks : WalkAsks ws ks m n a b → SmallTold ws ws′ n m m′ a b r → r ≡ false → WalkAsks ws′ ks m′ n a b
   small-walk-asks w t e = rw (t .words e, t .memory e) w
 
-  pub small-walk-not : {ws₂ m₂ : List ℕ} {s : UnifyResult} → SmallTold ws ws′ n m m′ a b d r → r ≡ false → WalkTold ws′ ks m′ ws₂ m₂ n a b s
+  pub small-walk-not : {ws₂ m₂ : List ℕ} {s : UnifyResult} → SmallTold ws ws′ n m m′ a b r → r ≡ false → WalkTold ws′ ks m′ ws₂ m₂ n a b s
       → WalkTold ws ks m ws₂ m₂ n a b s
   small-walk-not t e u = rw (← t .words e, ← t .memory e) u

@@ -38,7 +38,10 @@ pub fn unify<'a>(
     ensures { λ r. ⌜ Unified (texts (now (rule .entry)) (now (text .entry))) (now (ws .entry)) (now (ks .entry)) (now (memory .entry)) (now (ws .exit)) (now (memory .exit)) n
         (unifyF (texts (now (rule .entry)) (now (text .entry))) n depth (decode (now (ws .entry)) (now (ks .entry)) n) (tyOf (a .0)) (tyOf (b .0))) r ⌝ }
 {
-    if heed::small(ws, n, memory, a, b, depth) {
+    if depth < 1 {
+        return UnifyResult::Failure;
+    }
+    if heed::small(ws, n, memory, a, b) {
         return UnifyResult::Success;
     }
     unify_pair(ws, ks, n, rule, text, memory, a, b, depth)
@@ -128,7 +131,7 @@ fn walk_pair(
     if ia.0 != ib.0 {
         return walk_on(ws, ks, n, memory, a, b);
     }
-    if heed::small(ws, n, memory, a, b, 1) {
+    if heed::small(ws, n, memory, a, b) {
         return UnifyResult::Success;
     }
     walk_on(ws, ks, n, memory, a, b)

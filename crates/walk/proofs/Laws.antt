@@ -1,24 +1,22 @@
--- The laws of one node and of one step of the walk. What scope's definitions take from a node's state they take from its kind alone, which is what the
+-- The laws of one node. What scope's definitions take from a node's state they take from its kind alone, which is what the
 -- code reads.
 -- Assumes nothing.
 use mathlib.Core.Path.{_≡_, refl, ap, sym, _∙_}
-use mathlib.Core.Bool.{Bool, true, false, not, _&&_}
+use mathlib.Core.Bool.{Bool, false, _&&_}
 use mathlib.Core.List.{List, [], _∷_}
-use Prim.Native.Nat.{ℕ, zero, suc, _+_, _-_, _≤_, _<_}
+use Prim.Native.Nat.{ℕ, _+_, _≤_, _<_}
 use native.Mathlib.Omega.{arith}
 use native.Mathlib.Numerals.{add-one}
 use lib.Dec.{eqb}
-use lib.ListN.{length, getD, set, drop, drop-of-length-le}
+use lib.ListN.{length, getD, drop, drop-of-length-le}
 use lib.Seq.{drop-cons}
-use borrow.Author.Tests.{eqb-false, not-true}
 use Rattle.scope.specs.Chart.{Env}
 use Rattle.scope.specs.Types.{Ty, tyOf}
 use Rattle.scope.specs.Kinds.{TUPLE, selfDual}
-use Rattle.scope.specs.Nodes.{Node, at, stateOf, find, kidsOf}
+use Rattle.scope.specs.Nodes.{at, stateOf}
 use Rattle.scope.specs.Nodes as nodes
-use Rattle.scope.specs.Force.{relatedKids, relatedF, findRelated, nilState, none-mod, modOfState}
+use Rattle.scope.specs.Force.{nilState, none-mod, modOfState}
 use Rattle.scope.specs.Force as force
-use Rattle.scope.proofs.Marks.{related-new, related-old}
 use Rattle.scope.proofs.MarkLaws.{good}
 use Rattle.types.specs.declared.Inverted.{Inverted}
 use Rattle.layout.specs.Words.{slotAt, decode}
@@ -27,10 +25,8 @@ use Rattle.layout.specs.declared.Kind.{Kind}
 use Rattle.layout.specs.declared.Slot.{Slot}
 use Rattle.layout.specs.declared.Held.{Held}
 use Rattle.layout.specs.declared.Held.the-variants.{Is, Nothing}
-use Rattle.layout.proofs.Laws.{length-decode}
 use Rattle.layout.proofs.ChildLaws.{length-kids, kid-at}
 use Rattle.layout.proofs.HeldLaws.{held-by}
-use Rattle.roots.specs.Found.{Found}
 use Rattle.walk.specs.Read.{goodBy}
 
 -- one node
@@ -59,10 +55,6 @@ module _ (i : ℕ) {ws ks : List ℕ} {c n : ℕ} (cl : Clean ws ks c n) {r q : 
   pub mod-read : (x : Env) (g : Ty → force.Mod) → modOfState x g (stateOf (at (decode ws ks n) i)) ≡ modIn x g ks q
   mod-read x g = held-by ws ks c n cl i e s (modOfState x g) (modIn x g ks) (λ j k. refl) (λ p. refl) refl
 
--- the root that the code finds
-pub root-is : {ws : List ℕ} {n t r i : ℕ} → Found ws n t r → i ≡ tyOf r .idx → (ks : List ℕ) → i ≡ find (decode ws ks n) (tyOf t) .idx
-root-is f e ks = e ∙ ap (λ (u : Ty). u .idx) (f .root ks)
-
 -- child j of a kind, and those after it
 pub kid-next : (ks : List ℕ) (k : Kind) (j : ℕ) (s : Slot) → j < k .count → slotMeans s ≡ slotAt ks (k .first + j)
     → drop j (kindMeans ks k .kids) ≡ tyOf (s .ty .0) ∷ drop (j + 1) (kindMeans ks k .kids)
@@ -74,24 +66,3 @@ kid-next ks k j s h e =
 
 pub kid-none : (ks : List ℕ) (k : Kind) (j : ℕ) → k .count ≤ j → drop j (kindMeans ks k .kids) ≡ []
 kid-none ks k j h = drop-of-length-le (kindMeans ks k .kids) {i = j} (omega (arith, length-kids ks k))
-
--- the walk: a depth of none, a root that is marked, a root that is not
-
-pub mark-shallow : (depth : ℕ) (ns : List Node) (ms : List ℕ) (t : Ty) → depth ≡ 0 → ms ≡ relatedF depth ns ms t
-unfolding relatedF
-mark-shallow depth ns ms t e = rw e refl
-
-pub mark-met : (depth : ℕ) (ns : List Node) (ms : List ℕ) (t : Ty) {i : ℕ} {b : Bool} → i ≡ find ns t .idx
-    → b ≡ not (eqb (getD ms i 0) 0) → b ≡ true → ms ≡ relatedF depth ns ms t
-mark-met depth ns ms t {i} {b} r m e =
-    sym (related-old depth ns ms t (λ z. eqb-false (getD ms i 0) 0 (not-true (eqb (getD ms i 0) 0) (sym m ∙ e)) (rw r z)))
-
-pub mark-new : (depth : ℕ) (ns : List Node) (ms : List ℕ) (t : Ty) {i : ℕ} → (depth ≡ 0 → ⊥) → i ≡ find ns t .idx → getD ms i 0 ≡ 0
-    → relatedF depth ns ms t ≡ relatedKids (relatedF (depth - 1) ns) (set ms i 1) (kidsOf (stateOf (at ns i)))
-mark-new zero ns ms t h r e = absurd (h refl)
-mark-new (suc f) ns ms t h r e = let k : suc f - 1 ≡ f = omega arith in rw (k, r) (related-new f ns ms t (rw r at e))
-
--- a depth of n is what `find_related` walks
-pub mark-whole : (ws ks : List ℕ) (n : ℕ) (ms : List ℕ) (t : Ty) → relatedF n (decode ws ks n) ms t ≡ findRelated (decode ws ks n) t ms
-unfolding findRelated
-mark-whole ws ks n ms t = rw (length-decode ws ks n) refl

@@ -1,6 +1,4 @@
 -- The laws that belong to no one function
 pub mod Laws
-pub mod SkipLaws
-pub mod TurnLaws
 pub mod Answers
 pub mod LookLaws

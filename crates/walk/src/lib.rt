@@ -1,5 +1,5 @@
-// One walk that marks each root it meets: `find_related`, and by it `occurs` and `self_inverse`. Beside it what one root tells: `is_nil`, and
-// `get_mod`, which looks through Refs. Each gives what scope's definition gives of the n nodes in ws, whose children lie in ks.
+// What a type leads to: `occurs` and `self_inverse`, by a look at a root's children where that tells, and else by a walk that marks each root it meets. Beside them
+// what one root tells: `is_nil`, and `get_mod`, which looks through Refs. Each gives what scope's definition gives of the n nodes in ws, whose children lie in ks.
 ghost use mathlib.Core.Path.{_≡_};
 ghost use mathlib.Core.Bool.{not};
 ghost use Prim.Native.Nat.{_≤_, _<_};
@@ -8,25 +8,21 @@ ghost use lib.ListN.{length, getD, set};
 ghost use Rattle.scope.specs.Base.{pick, all, from};
 ghost use Rattle.scope.specs.Types.{tyOf};
 ghost use Rattle.scope.specs.Unify.{occurs, selfInverseOf};
-ghost use Rattle.scope.specs.Force.{hasDef, findRelated};
+ghost use Rattle.scope.specs.Force.{hasDef};
 ghost use Rattle.layout.specs.Words.{nodeWords, decode};
 ghost use Rattle.layout.specs.Meaning.{readAt, heldIn, kindMeans, Linked};
 ghost use Rattle.chart.specs.Words.{recordsOf};
 ghost use Rattle.walk.specs.Read.{leafBy, goodKind, goodBy, goodAt, modMeans, modBy};
-ghost use Rattle.walk.specs.Skips.{SLOTS, Passed, Keeps, relatedBelow};
-ghost use Rattle.walk.specs.Asks.{Stands, Looked, Occurs, Inverses, Nil, Modded};
+ghost use Rattle.related.specs.Stands.{Stands};
+ghost use Rattle.walk.specs.Asks.{Looked, Occurs, Glanced, Judged, Inverses, Nil, Modded};
 use layout::Held;
 use layout::Kind;
 use roots::Nearby;
-use scope::MAX_CHILDREN;
 use scope::MAX_NODES;
 use types::Type;
 use types::TypeIdx;
 
-// As many nodes as a walk with small tables takes.
-const FEW: usize = 256;
-
-// What a look at a kind's children tells of a node: it is the root of one, or it is nowhere below, or only a walk can tell.
+// What a look at children tells of what is asked, whether a node is below or whether all are good: one of them decides it, or none does, or only a walk can tell.
 enum Glance {
     Met,
     Clear,
@@ -38,140 +34,6 @@ pub enum Mod {
     Nothing,
     Def(u32),
     Error,
-}
-
-fn wide(x: u8) -> usize
-    ensures { λ r. ⌜ (r ≡ x) × (r < 256) ⌝ }
-{
-    x as usize
-}
-
-// A byte for each child slot says over how many, from it on, a walk passes: the roots of their children are marked. Past the end it is none.
-fn skip_at(skip: &[u8], s: usize) -> usize
-    ensures { λ r. ⌜ (r ≡ getD (now (skip .entry)) s 0) × (r < 256) ⌝ }
-{
-    if s < skip.len() {
-        return wide(skip[s]);
-    }
-    0
-}
-
-fn put_skip(skip: &mut [u8], s: usize, far: u8)
-    ensures { λ _. ⌜ now (skip .exit) ≡ set (now (skip .entry)) s far ⌝ }
-{
-    if s < skip.len() {
-        skip[s] = far;
-    }
-}
-
-// How many slots from s on are passed over: those that s tells of, and those that the next one does. Both become one where a byte holds them, so that
-// runs of children that overlap are gone through once.
-fn pass(skip: &mut [u8], s: usize) -> usize
-    requires { ⌜ s < SLOTS ⌝ }
-    ensures { λ r. ⌜ Passed (now (skip .entry)) (now (skip .exit)) s r ⌝ }
-{
-    let near = skip_at(skip, s);
-    if near == 0 {
-        return 0;
-    }
-    let more = skip_at(skip, s + near);
-    let far = near + more;
-    if far < 256 {
-        put_skip(skip, s, far as u8);
-    }
-    far
-}
-
-// The slot s, whose child has this root, is passed over if the root is marked.
-fn note(marks: &[u8], skip: &mut [u8], s: usize, root: TypeIdx)
-    ensures { λ _. ⌜ now (skip .exit) ≡ pick (not (eqb (getD (now (marks .entry)) (root .0) 0) 0)) (set (now (skip .entry)) s 1) (now (skip .entry)) ⌝ }
-{
-    if roots::is_marked(marks, root) {
-        put_skip(skip, s, 1);
-    }
-}
-
-// The walk on from a marked root: each unmarked root of a child is marked and walked on from, one level less deep. Of a child whose root is marked
-// there is nothing to do.
-fn mark_below(
-    ws: &[u32],
-    ks: &[u32],
-    n: u32,
-    cache: &mut [u16],
-    marks: &mut [u8],
-    skip: &mut [u8],
-    root: TypeIdx,
-    depth: u32,
-)
-    requires { ⌜ Stands (now ws) (now ks) n × Keeps (now ws) (now ks) n (now cache) (now marks) (now skip) ⌝ }
-    ensures { λ _. ⌜ (now (marks .exit) ≡ relatedBelow depth (decode (now (ws .entry)) (now (ks .entry)) n) (now (marks .entry)) (root .0))
-        × Keeps (now (ws .entry)) (now (ks .entry)) n (now (cache .exit)) (now (marks .exit)) (now (skip .exit)) ⌝ }
-{
-    if depth == 0 {
-        return;
-    }
-    let Held::Is(_, kind) = layout::held_at(ws, n, root) else {
-        return;
-    };
-    let mut s = kind.first as usize;
-    let end = s + kind.count as usize;
-    while s < end {
-        let far = pass(skip, s);
-        if 0 < far {
-            s += far;
-        } else {
-            let kid = layout::child_at(ks, s).ty;
-            let at = s;
-            s += 1;
-            let next = roots::find_by(ws, n, cache, kid).idx();
-            if roots::is_marked(marks, next) {
-                put_skip(skip, at, 1);
-            } else {
-                roots::set_mark(marks, next);
-                mark_below(ws, ks, n, cache, marks, skip, next, depth - 1);
-                note(marks, skip, at, next);
-            }
-        }
-    }
-}
-
-// The walk over few nodes, with small tables: less to clear, and runs that overlap cost little.
-fn mark_few(ws: &[u32], ks: &[u32], n: u32, marks: &mut [u8], root: TypeIdx, depth: u32)
-    requires { ⌜ Stands (now ws) (now ks) n ⌝ }
-    ensures { λ _. ⌜ now (marks .exit) ≡ relatedBelow depth (decode (now (ws .entry)) (now (ks .entry)) n) (now (marks .entry)) (root .0) ⌝ }
-{
-    let mut cache = [0u16; FEW];
-    let mut skip = [0u8; 1];
-    mark_below(ws, ks, n, &mut cache, marks, &mut skip, root, depth);
-}
-
-fn mark_many(ws: &[u32], ks: &[u32], n: u32, marks: &mut [u8], root: TypeIdx, depth: u32)
-    requires { ⌜ Stands (now ws) (now ks) n ⌝ }
-    ensures { λ _. ⌜ now (marks .exit) ≡ relatedBelow depth (decode (now (ws .entry)) (now (ks .entry)) n) (now (marks .entry)) (root .0) ⌝ }
-{
-    let mut cache = [0u16; MAX_NODES];
-    let mut skip = [0u8; MAX_CHILDREN];
-    mark_below(ws, ks, n, &mut cache, marks, &mut skip, root, depth);
-}
-
-// "`find_related`: nonzero means already in the set, and 1 is written for each root added."
-pub fn find_related(ws: &[u32], ks: &[u32], n: u32, marks: &mut [u8], t: Type)
-    requires { ⌜ Stands (now ws) (now ks) n ⌝ }
-    ensures { λ _. ⌜ now (marks .exit) ≡ findRelated (decode (now (ws .entry)) (now (ks .entry)) n) (tyOf (t .0)) (now (marks .entry)) ⌝ }
-{
-    if n == 0 {
-        return;
-    }
-    let root = roots::find(ws, n, t).idx();
-    if roots::is_marked(marks, root) {
-        return;
-    }
-    roots::set_mark(marks, root);
-    if n <= FEW as u32 {
-        mark_few(ws, ks, n, marks, root, n - 1);
-    } else {
-        mark_many(ws, ks, n, marks, root, n - 1);
-    }
 }
 
 // A root without children.
@@ -213,7 +75,7 @@ fn occurs_deep(ws: &[u32], ks: &[u32], n: u32, x: TypeIdx, y: Type) -> bool
     ensures { λ r. ⌜ r ≡ occurs n (decode (now (ws .entry)) (now (ks .entry)) n) (x .0) (tyOf (y .0) .idx) ⌝ }
 {
     let mut marks = [0u8; MAX_NODES];
-    find_related(ws, ks, n, &mut marks, y);
+    related::find_related(ws, ks, n, &mut marks, y);
     roots::is_marked(&marks, x)
 }
 
@@ -277,7 +139,63 @@ fn all_good(ws: &[u32], n: u32, marks: &[u8], param: bool) -> bool
     true
 }
 
-// "Holds where the root has a self-dual kind and it holds of every child": where every root that the type leads to is good. What the root alone tells needs no walk.
+// What a child near its root tells: not good, or good and without children.
+fn inverse_child(ws: &[u32], n: u32, kid: Type, param: bool) -> Glance
+    requires { ⌜ Linked (now ws) n × (1 < n) ⌝ }
+    ensures { λ r. ⌜ Glanced (now (ws .entry)) n param (kid .0) r ⌝ }
+{
+    let Nearby::Is(root) = roots::near(ws, n, kid) else {
+        return Glance::Deep;
+    };
+    let Held::Is(_, kind) = layout::held_at(ws, n, root.idx()) else {
+        return Glance::Met;
+    };
+    if !good_kind(kind, param) {
+        return Glance::Met;
+    }
+    if kind.count < 1 {
+        return Glance::Clear;
+    }
+    Glance::Deep
+}
+
+// A look at a kind's children, which ends where one decides.
+fn inverse_children(ws: &[u32], ks: &[u32], n: u32, kind: Kind, param: bool) -> Glance
+    requires { ⌜ Stands (now ws) (now ks) n × (1 < n) ⌝ }
+    ensures { λ r. ⌜ Judged (decode (now (ws .entry)) (now (ks .entry)) n) n param (kindMeans (now (ks .entry)) kind .kids) r ⌝ }
+{
+    let mut j: u32 = 0;
+    let mut deep = false;
+    while j < kind.count {
+        let kid = layout::child_of(ks, kind, j).ty;
+        j += 1;
+        match inverse_child(ws, n, kid, param) {
+            Glance::Met => {
+                return Glance::Met;
+            }
+            Glance::Clear => {}
+            Glance::Deep => {
+                deep = true;
+            }
+        }
+    }
+    if deep {
+        return Glance::Deep;
+    }
+    Glance::Clear
+}
+
+// "Holds where the root has a self-dual kind and it holds of every child": where every root that the type leads to is good.
+fn inverse_deep(ws: &[u32], ks: &[u32], n: u32, t: Type, param: bool) -> bool
+    requires { ⌜ Inverses (now ws) (now ks) n (t .0) ⌝ }
+    ensures { λ r. ⌜ r ≡ selfInverseOf (decode (now (ws .entry)) (now (ks .entry)) n) (tyOf (t .0)) param ⌝ }
+{
+    let mut marks = [0u8; MAX_NODES];
+    related::find_related(ws, ks, n, &mut marks, t);
+    all_good(ws, n, &marks, param)
+}
+
+// What the root and a look at its children tell needs no walk.
 pub fn self_inverse(ws: &[u32], ks: &[u32], n: u32, t: Type, param: bool) -> bool
     requires { ⌜ Inverses (now ws) (now ks) n (t .0) ⌝ }
     ensures { λ r. ⌜ r ≡ selfInverseOf (decode (now (ws .entry)) (now (ks .entry)) n) (tyOf (t .0)) param ⌝ }
@@ -292,9 +210,17 @@ pub fn self_inverse(ws: &[u32], ks: &[u32], n: u32, t: Type, param: bool) -> boo
     if kind.count < 1 {
         return true;
     }
-    let mut marks = [0u8; MAX_NODES];
-    find_related(ws, ks, n, &mut marks, t);
-    all_good(ws, n, &marks, param)
+    if kind.code == kinds::PARAM {
+        return true;
+    }
+    if n < 2 {
+        return inverse_deep(ws, ks, n, t, param);
+    }
+    match inverse_children(ws, ks, n, kind, param) {
+        Glance::Met => false,
+        Glance::Clear => true,
+        Glance::Deep => inverse_deep(ws, ks, n, t, param),
+    }
 }
 
 // A Tuple of nothing.

@@ -25,8 +25,8 @@ abbrev μ-loop : tie.MeasureT-loop
 loop-holds : tie.Need-loop-holds Inv-loop μ-loop
 loop-holds c = (omega arith, refl)
 
-wide-requires : tie.Need-wide-requires Inv-loop μ-loop
-wide-requires c κs = search needs
+cast-if1 : tie.Need-cast-if1 Inv-loop μ-loop
+cast-if1 c = search needs
 
 record-count-requires : tie.Need-record-count-requires Inv-loop μ-loop
 record-count-requires c κs = search needs
@@ -36,8 +36,8 @@ record-ok-requires c κs = search needs
 
 returns : tie.Need-returns Inv-loop μ-loop
 returns c =
-    let s = c .before .before .before .before .before .before .before .before .before .args in
-    let l = c .before .before .before .before .before .loop in
+    let s = c .before .before .before .before .before .before .before .before .args in
+    let l = c .before .before .before .before .loop in
     let ok = recordOk (chartIn (s .chart .now) (s .rule .now) (s .text .now)) in
     sym (all-fails ok (recordsOf (s .chart .now)) noRecord (l .n) (omega arith) (fails (c .before .record-ok .ensures) (c .if2 .taken))) ∙ l .inv .1
 
@@ -49,16 +49,16 @@ loop-less c = omega arith
 
 loop-again : tie.Need-loop-again Inv-loop μ-loop
 loop-again c =
-    let s = c .before .before .before .before .before .before .before .before .before .args in
-    let l = c .before .before .before .before .before .loop in
+    let s = c .before .before .before .before .before .before .before .before .args in
+    let l = c .before .before .before .before .loop in
     let ok = recordOk (chartIn (s .chart .now) (s .rule .now) (s .text .now)) in
     let step = all-step ok (recordsOf (s .chart .now)) noRecord (l .n) (omega arith) (passes (c .before .record-ok .ensures) (c .if2 .left)) in
     (omega arith, sym step ∙ l .inv .1)
 
 returns-2 : tie.Need-returns-2 Inv-loop μ-loop
 returns-2 c =
-    let s = c .before .before .before .before .before .before .before .args in
-    let l = c .before .before .before .loop in
+    let s = c .before .before .before .before .before .before .args in
+    let l = c .before .before .loop in
     sym (all-end (recordOk (chartIn (s .chart .now) (s .rule .now) (s .text .now))) (recordsOf (s .chart .now)) noRecord (l .n) (omega arith)) ∙ l .inv .1
 
 pub records-ok-spec : {M : Type 1} → statement M
@@ -68,7 +68,7 @@ records-ok-spec =
     Inv-loop
     μ-loop
     loop-holds
-    wide-requires
+    cast-if1
     record-count-requires
     record-ok-requires
     returns

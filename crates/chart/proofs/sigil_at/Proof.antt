@@ -6,9 +6,6 @@ use Rattle.chart.proofs.Laws as laws
 use Rattle.chart.proofs.sigil_at.Statement.{statement}
 use Rattle.chart.proofs.sigil_at.Tie as tie
 
-wide-requires : tie.Need-wide-requires
-wide-requires c κs = search needs
-
 mul-at : tie.Need-mul-at
 mul-at c = search needs
 
@@ -38,19 +35,18 @@ array-read-len c = search needs
 
 returns : tie.Need-returns
 returns c =
-    let s = c .before .before .before .args in
-    rw (c .before .before .wide .ensures) (sym (laws.sigil-there (s .beside .sigils) (s .flex) (omega arith)))
+    let s = c .before .before .args in
+    sym (laws.sigil-there (s .beside .sigils) (s .flex) (omega arith))
 
 returns-2 : tie.Need-returns-2
 returns-2 c =
-    let s = c .before .before .args in
+    let s = c .before .args in
     sym (laws.sigil-none (s .beside .sigils) (s .flex) (omega arith))
 
 pub sigil-at-spec : {M : Type 1} → statement M
 sigil-at-spec =
     tie.close
     (tie.spec
-    wide-requires
     mul-at
     mul-text
     array-read-text

@@ -29,16 +29,34 @@ loop-holds c = (omega arith, refl)
 sigil-at-requires : tie.Need-sigil-at-requires Inv-loop μ-loop
 sigil-at-requires c κs = search needs
 
-sigil-ok-requires : tie.Need-sigil-ok-requires Inv-loop μ-loop
-sigil-ok-requires c κs = search needs
+in-text-requires : tie.Need-in-text-requires Inv-loop μ-loop
+in-text-requires c κs = search needs
 
 returns : tie.Need-returns Inv-loop μ-loop
 returns c =
     let s = c .before .before .before .before .before .before .before .args in
     let l = c .before .before .before .before .loop in
     let names = sigilsOf (s .beside .sigils) in
-    sym (all-fails (sigilOk (texts (s .rule .now) (s .text .now))) names (name 0 0 0) (l .i) (omega (arith, laws.sigils-length (s .beside .sigils)))
-    (rw (← c .before .before .sigil-at .ensures) (fails (c .before .sigil-ok .ensures) (c .if1 .taken)))) ∙ l .inv .1
+    let ok = sigilOk (texts (s .rule .now) (s .text .now)) in
+    sym (all-fails ok names (name 0 0 0) (l .i) (omega (arith, laws.sigils-length (s .beside .sigils)))
+    (rw (← c .before .before .sigil-at .ensures) (laws.sigil-strays _ _ (fails (c .before .in-text .ensures) (c .if1 .taken))))) ∙ l .inv .1
+
+cast-if2 : tie.Need-cast-if2 Inv-loop μ-loop
+cast-if2 c = search needs
+
+returns-2 : tie.Need-returns-2 Inv-loop μ-loop
+returns-2 c =
+    let b2 = c .before .before in
+    let b3 = b2 .before in
+    let b4 = b3 .before in
+    let b6 = b4 .before .before in
+    let b9 = b6 .before .before .before in
+    let s = b9 .args in
+    let l = b6 .loop in
+    let names = sigilsOf (s .beside .sigils) in
+    let ok = sigilOk (texts (s .rule .now) (s .text .now)) in
+    sym (all-fails ok names (name 0 0 0) (l .i) (omega (arith, laws.sigils-length (s .beside .sigils)))
+    (rw (← b4 .sigil-at .ensures) (laws.sigil-long _ _ (passes (b3 .in-text .ensures) (b2 .if1 .left)) (c .if2 .taken)))) ∙ l .inv .1
 
 add-i : tie.Need-add-i Inv-loop μ-loop
 add-i c = omega arith
@@ -48,16 +66,16 @@ loop-less c = omega arith
 
 loop-again : tie.Need-loop-again Inv-loop μ-loop
 loop-again c =
-    let s = c .before .before .before .before .before .before .before .args in
-    let l = c .before .before .before .before .loop in
-    let names = sigilsOf (s .beside .sigils) in (
-      omega arith,
-      sym (all-step (sigilOk (texts (s .rule .now) (s .text .now))) names (name 0 0 0) (l .i) (omega (arith, laws.sigils-length (s .beside .sigils)))
-          (rw (← c .before .before .sigil-at .ensures) (passes (c .before .sigil-ok .ensures) (c .if1 .left)))) ∙ l .inv .1,
-    )
+    let s = c .before .before .before .before .before .before .before .before .before .args in
+    let l = c .before .before .before .before .before .before .loop in
+    let names = sigilsOf (s .beside .sigils) in
+    let ok = sigilOk (texts (s .rule .now) (s .text .now)) in
+    let step = all-step ok names (name 0 0 0) (l .i) (omega (arith, laws.sigils-length (s .beside .sigils)))
+    (rw (← c .before .before .before .before .sigil-at .ensures) (laws.sigil-fits _ _ (passes (c .before .before .before .in-text .ensures) (c .before .before .if1 .left)) (c .if2 .left))) in
+    (omega arith, sym step ∙ l .inv .1)
 
-returns-2 : tie.Need-returns-2 Inv-loop μ-loop
-returns-2 c =
+returns-3 : tie.Need-returns-3 Inv-loop μ-loop
+returns-3 c =
     let s = c .before .before .before .before .args in
     let l = c .before .loop in
     sym (all-end (sigilOk (texts (s .rule .now) (s .text .now))) (sigilsOf (s .beside .sigils)) (name 0 0 0) (l .i) (omega (arith, laws.sigils-length (s .beside .sigils)))) ∙ l .inv .1
@@ -70,9 +88,11 @@ sigils-ok-spec =
     μ-loop
     loop-holds
     sigil-at-requires
-    sigil-ok-requires
+    in-text-requires
     returns
+    cast-if2
+    returns-2
     add-i
     loop-less
     loop-again
-    returns-2)
+    returns-3)

@@ -3,7 +3,7 @@
 -- Assumes nothing.
 use native.Mathlib.Omega.{arith}
 use Rattle.scope.specs.Limits.{MAX-NODES}
-use Rattle.copy.proofs.WholeLaws.{error-copyable, nil-copyable, list-copyable, export-is}
+use Rattle.copy.proofs.WholeLaws.{error-copyable, nil-copyable, list-copyable, remember-long, export-is}
 use Rattle.roots.proofs.KeptLaws.{cached-zeros}
 use borrow.Author.Needs.{needs}
 use Rattle.copy.proofs.export.Statement.{statement}
@@ -68,19 +68,19 @@ copy-all-requires c κs =
 
 remember-requires : tie.Need-remember-requires
 remember-requires c κs =
-    let at-copy-all = c .before .before .before .before .before .before .before .before .before .before .before .before .before in
+    let at-copy-all = c .before .before .before .before .before .before .before .before .before .before .before in
     let at-copy-remembered2 = at-copy-all .before .before .before .before .before .before .before .before .before .before .before .before .before .before .before in
     let at-copy-remembered = at-copy-remembered2 .before .before .before .before .before .before .before .before .before .before .before .before .before .before in
-    record {
-      clean = at-copy-all .copy-all .ensures .0 .spared .clean;
-      error = at-copy-remembered .copy-remembered .ensures .0 .fits;
-      nil = search (at-copy-remembered .copy-remembered .ensures .0 .fits, at-copy-remembered2 .copy-remembered2 .ensures .0 .fits);
-    }
+    let at-open = at-copy-remembered .before .before .before .before .before .before .before .before .before .before .before .before in
+    let at-read-header = at-open .before .before .before .before in
+    let start = at-read-header .before .before .before .before .before .before .before .before .before in
+    remember-long (start .args .sh .now) (start .args .sw .now) (start .args .sk .now) (start .args .ts .now) MAX-NODES (start .pre) (at-read-header .read-header .ensures)
+    (start .pre .source .few) (at-open .«open» .ensures) (at-copy-remembered .copy-remembered .ensures .0) (at-copy-remembered2 .copy-remembered2 .ensures .0) (at-copy-all .copy-all .ensures .0)
 
 same-length : tie.Need-same-length
 same-length c =
     let at-remember = c .before .before in
-    let at-copy-all = at-remember .before .before .before .before .before .before .before .before .before .before .before .before .before .before in
+    let at-copy-all = at-remember .before .before .before .before .before .before .before .before .before .before .before .before in
     let at-copy-remembered2 = at-copy-all .before .before .before .before .before .before .before .before .before .before .before .before .before .before .before in
     let at-copy-remembered = at-copy-remembered2 .before .before .before .before .before .before .before .before .before .before .before .before .before .before in
     let at-open = at-copy-remembered .before .before .before .before .before .before .before .before .before .before .before .before in
@@ -95,7 +95,7 @@ same-length c =
 
 same-length-2 : tie.Need-same-length-2
 same-length-2 c =
-    let at-copy-all = c .before .before .before .before .before .before .before .before .before .before .before .before .before .before .before .before in
+    let at-copy-all = c .before .before .before .before .before .before .before .before .before .before .before .before .before .before in
     let at-copy-remembered2 = at-copy-all .before .before .before .before .before .before .before .before .before .before .before .before .before .before .before in
     let at-copy-remembered = at-copy-remembered2 .before .before .before .before .before .before .before .before .before .before .before .before .before .before in
     let at-open = at-copy-remembered .before .before .before .before .before .before .before .before .before .before .before .before in
@@ -109,7 +109,7 @@ same-length-2 c =
 
 same-length-3 : tie.Need-same-length-3
 same-length-3 c =
-    let at-copy-all = c .before .before .before .before .before .before .before .before .before .before .before .before .before .before .before .before in
+    let at-copy-all = c .before .before .before .before .before .before .before .before .before .before .before .before .before .before in
     let at-copy-remembered2 = at-copy-all .before .before .before .before .before .before .before .before .before .before .before .before .before .before .before in
     let at-copy-remembered = at-copy-remembered2 .before .before .before .before .before .before .before .before .before .before .before .before .before .before in
     let at-open = at-copy-remembered .before .before .before .before .before .before .before .before .before .before .before .before in
@@ -122,12 +122,12 @@ same-length-3 c =
     )
 
 same-length-4 : tie.Need-same-length-4
-same-length-4 c = c .before .before .before .before .before .before .before .before .before .before .before .before .before .before .before .before .copy-all .kept .1 .1 .1 .1 .1 .1 .1 .1 .1 .1 .1 .0
+same-length-4 c = c .before .before .before .before .before .before .before .before .before .before .before .before .before .before .copy-all .kept .1 .1 .1 .1 .1 .1 .1 .1 .1 .1 .1 .0
 
 returns : tie.Need-returns
 returns c =
     let at-remember = c .before .before in
-    let at-copy-all = at-remember .before .before .before .before .before .before .before .before .before .before .before .before .before .before in
+    let at-copy-all = at-remember .before .before .before .before .before .before .before .before .before .before .before .before in
     let at-copy-remembered2 = at-copy-all .before .before .before .before .before .before .before .before .before .before .before .before .before .before .before in
     let at-copy-remembered = at-copy-remembered2 .before .before .before .before .before .before .before .before .before .before .before .before .before .before in
     let at-open = at-copy-remembered .before .before .before .before .before .before .before .before .before .before .before .before in

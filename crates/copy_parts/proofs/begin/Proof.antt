@@ -1,19 +1,20 @@
 -- `copy_parts::begin` meets its contract: the blank's number, and 1, is what the table gets.
 -- Assumes nothing.
 use native.Mathlib.Omega.{arith}
+use Rattle.make.proofs.MakeLaws.{blank-ready, blank-made}
 use Rattle.copy_parts.proofs.StepLaws.{begin-fits, begin-is}
 use borrow.Author.Needs.{needs}
 use Rattle.copy_parts.proofs.begin.Statement.{statement}
 use Rattle.copy_parts.proofs.begin.Tie as tie
 
-new-blank-requires : tie.Need-new-blank-requires
-new-blank-requires c κs = search needs
+push-unknown-requires : tie.Need-push-unknown-requires
+push-unknown-requires c κs = blank-ready (c .before .before .before .before .before .before .pre)
 
 add-note : tie.Need-add-note
 add-note c =
     let n = c .before .before .before .before .before .before in
     let s = n .before .before .before .before .before .before .before in
-    omega (arith, begin-fits (s .pre) (n .new-blank .ensures))
+    omega (arith, begin-fits (s .pre) (blank-made (s .pre) (n .push-unknown .ensures)))
 
 note-requires : tie.Need-note-requires
 note-requires c κs = search needs
@@ -31,13 +32,14 @@ returns : tie.Need-returns
 returns c =
     let n = c .before .before in
     let e = n .before .before .before .before .before .before .before in
-    begin-is (e .new-blank .ensures) (n .note .ensures)
+    let s = e .before .before .before .before .before .before .before in
+    begin-is (blank-made (s .pre) (e .push-unknown .ensures)) (n .note .ensures)
 
 pub begin-spec : {M : Type 1} → statement M
 begin-spec =
     tie.close
     (tie.spec
-    new-blank-requires
+    push-unknown-requires
     add-note
     note-requires
     same-length

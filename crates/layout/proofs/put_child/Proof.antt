@@ -1,7 +1,8 @@
 -- `layout::put_child` meets its contract. The part that is lent comes back as putSlot pastes it.
 -- Assumes nothing.
-use native.Mathlib.Nat.{add-sub-cancel-left}
-use Rattle.layout.specs.Meaning.{putSlot}
+use lib.ListN.{length-set}
+use native.Mathlib.Omega.{arith}
+use Rattle.layout.proofs.ChildLaws.{put-slot}
 use borrow.Author.Needs.{needs}
 use Rattle.layout.proofs.put_child.Statement.{statement}
 use Rattle.layout.proofs.put_child.Tie as tie
@@ -12,27 +13,35 @@ mul-a c = search needs
 add-e : tie.Need-add-e
 add-e c = search needs
 
-mul-write-slot : tie.Need-mul-write-slot
-mul-write-slot c = search needs
+mul-s : tie.Need-mul-s
+mul-s c = search needs
 
-sub-write-slot : tie.Need-sub-write-slot
-sub-write-slot c = search needs
+sub-s : tie.Need-sub-s
+sub-s c = search needs
 
-part-write-slot-start : tie.Need-part-write-slot-start
-part-write-slot-start c = search needs
+part-s-start : tie.Need-part-s-start
+part-s-start c = search needs
 
-part-write-slot-end : tie.Need-part-write-slot-end
-part-write-slot-end c = search needs
+part-s-end : tie.Need-part-s-end
+part-s-end c = search needs
 
-write-slot-requires : tie.Need-write-slot-requires
-write-slot-requires c κs = search needs
+slice-write-s : tie.Need-slice-write-s
+slice-write-s c = search needs
+
+slice-write-s-2 : tie.Need-slice-write-s-2
+slice-write-s-2 c = simp length-set (omega arith)
+
+slice-write-s-3 : tie.Need-slice-write-s-3
+slice-write-s-3 c = simp length-set (omega arith)
+
+slice-write-s-4 : tie.Need-slice-write-s-4
+slice-write-s-4 c = simp length-set (omega arith)
 
 same-length : tie.Need-same-length
 same-length c = search needs
 
 returns : tie.Need-returns
-unfolding putSlot
-returns c = rw (add-sub-cancel-left, c .before .before .write-slot .ensures)
+returns c = put-slot (c .before .before .before .args .ks .now) (c .before .before .before .args .i) (c .before .before .before .args .c) (c .before .before .before .pre)
 
 pub put-child-spec : {M : Type 1} → statement M
 put-child-spec =
@@ -40,10 +49,13 @@ put-child-spec =
     (tie.spec
     mul-a
     add-e
-    mul-write-slot
-    sub-write-slot
-    part-write-slot-start
-    part-write-slot-end
-    write-slot-requires
+    mul-s
+    sub-s
+    part-s-start
+    part-s-end
+    slice-write-s
+    slice-write-s-2
+    slice-write-s-3
+    slice-write-s-4
     same-length
     returns)

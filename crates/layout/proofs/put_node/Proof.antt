@@ -1,8 +1,10 @@
--- `layout::put_node` meets its contract. The part that is lent comes back as putAt pastes it; past the nodes nothing is written.
+-- `layout::put_node` meets its contract. Past the nodes nothing is written; the part that is lent is one node's, and the cell's words come back in it.
 -- Assumes nothing.
-use borrow.Author.Tests.{lt-ltb, le-ltb}
+use lib.ListN.{length-set}
+use native.Mathlib.Omega.{arith}
+use borrow.Author.Tests.{le-ltb}
 use Rattle.layout.specs.Meaning.{putAt}
-use Rattle.layout.proofs.Cells.{cell-start, cell-length}
+use Rattle.layout.proofs.Cells.{put-words}
 use borrow.Author.Needs.{needs}
 use Rattle.layout.proofs.put_node.Statement.{statement}
 use Rattle.layout.proofs.put_node.Tie as tie
@@ -10,6 +12,9 @@ use Rattle.layout.proofs.put_node.Tie as tie
 returns : tie.Need-returns
 unfolding putAt
 returns c = rw (le-ltb _ _ (c .if1 .taken))
+
+cell-of-requires : tie.Need-cell-of-requires
+cell-of-requires c κs = search needs
 
 cast-end : tie.Need-cast-end
 cast-end c = search needs
@@ -23,47 +28,89 @@ mul-end c = search needs
 sub-start : tie.Need-sub-start
 sub-start c = search needs
 
-mul-write-cell : tie.Need-mul-write-cell
-mul-write-cell c = search needs
+mul-s : tie.Need-mul-s
+mul-s c = search needs
 
-sub-write-cell : tie.Need-sub-write-cell
-sub-write-cell c = search needs
+sub-s : tie.Need-sub-s
+sub-s c = search needs
 
-part-write-cell-start : tie.Need-part-write-cell-start
-part-write-cell-start c = search needs
+part-s-start : tie.Need-part-s-start
+part-s-start c = search needs
 
-part-write-cell-end : tie.Need-part-write-cell-end
-part-write-cell-end c = search needs
+part-s-end : tie.Need-part-s-end
+part-s-end c = search needs
 
-cell-of-requires : tie.Need-cell-of-requires
-cell-of-requires c κs = search needs
+slice-write-s : tie.Need-slice-write-s
+slice-write-s c = search needs
 
-write-cell-requires : tie.Need-write-cell-requires
-write-cell-requires c κs = search needs
+slice-write-s-2 : tie.Need-slice-write-s-2
+slice-write-s-2 c = simp length-set (omega arith)
+
+slice-write-s-3 : tie.Need-slice-write-s-3
+slice-write-s-3 c = simp length-set (omega arith)
+
+slice-write-s-4 : tie.Need-slice-write-s-4
+slice-write-s-4 c = simp length-set (omega arith)
+
+slice-write-s-5 : tie.Need-slice-write-s-5
+slice-write-s-5 c = simp length-set (omega arith)
+
+slice-write-s-6 : tie.Need-slice-write-s-6
+slice-write-s-6 c = simp length-set (omega arith)
+
+slice-write-s-7 : tie.Need-slice-write-s-7
+slice-write-s-7 c = simp length-set (omega arith)
+
+slice-write-s-8 : tie.Need-slice-write-s-8
+slice-write-s-8 c = simp length-set (omega arith)
+
+slice-write-s-9 : tie.Need-slice-write-s-9
+slice-write-s-9 c = simp length-set (omega arith)
+
+slice-write-s-10 : tie.Need-slice-write-s-10
+slice-write-s-10 c = simp length-set (omega arith)
+
+slice-write-s-11 : tie.Need-slice-write-s-11
+slice-write-s-11 c = simp length-set (omega arith)
+
+slice-write-s-12 : tie.Need-slice-write-s-12
+slice-write-s-12 c = simp length-set (omega arith)
 
 same-length : tie.Need-same-length
 same-length c = search needs
 
 returns-2 : tie.Need-returns-2
-unfolding putAt
 returns-2 c =
-    let w = c .before .before in
-    rw (lt-ltb _ _ (w .before .before .before .before .if1 .left), cell-length, cell-start, w .write-cell .ensures, w .before .cell-of .ensures)
+    let b4 = c .before .before .before .before in
+    let b5 = b4 .before in
+    let b8 = b5 .before .before .before in
+    put-words _ _ _ (b8 .pre) (b5 .if1 .left) (b8 .args .node) (b4 .cell-of .ensures)
 
 pub put-node-spec : {M : Type 1} → statement M
 put-node-spec =
     tie.close
     (tie.spec
     returns
+    cell-of-requires
     cast-end
     add-end
     mul-end
     sub-start
-    mul-write-cell
-    sub-write-cell
-    part-write-cell-start
-    part-write-cell-end
-    cell-of-requires
-    write-cell-requires
+    mul-s
+    sub-s
+    part-s-start
+    part-s-end
+    slice-write-s
+    slice-write-s-2
+    slice-write-s-3
+    slice-write-s-4
+    slice-write-s-5
+    slice-write-s-6
+    slice-write-s-7
+    slice-write-s-8
+    slice-write-s-9
+    slice-write-s-10
+    slice-write-s-11
+    slice-write-s-12
     same-length
     returns-2)

@@ -1,27 +1,48 @@
 -- `merge::resize` meets its contract: past the nodes nothing changes, a root has another size word, and a child becomes a root without a kind.
 -- Assumes nothing.
+use lib.ListN.{length-set}
+use native.Mathlib.Omega.{arith}
+use native.Mathlib.Nat.{add-sub-cancel-left}
 use Rattle.merge.proofs.QuickLaws.{resized-past, resized-root, resized-child}
 use borrow.Author.Needs.{needs}
 use Rattle.merge.proofs.resize.Statement.{statement}
 use Rattle.merge.proofs.resize.Tie as tie
 
 returns : tie.Need-returns
-returns c = resized-past _ _ _ _ (c .before .before .before .pre) (c .if1 .taken)
+returns c = resized-past _ _ _ _ (c .before .before .pre) (c .if1 .taken)
 
-node-at-requires : tie.Need-node-at-requires
-node-at-requires c κs = search needs
+cast-a : tie.Need-cast-a
+cast-a c = search needs
 
-enum-told : tie.Need-enum-told
-enum-told c = search needs
+mul-a : tie.Need-mul-a
+mul-a c = search needs
 
-put-size-requires : tie.Need-put-size-requires
-put-size-requires c κs = search needs
+add-e : tie.Need-add-e
+add-e c = search needs
 
-enum-told-2 : tie.Need-enum-told-2
-enum-told-2 c = search needs
+mul-s : tie.Need-mul-s
+mul-s c = search needs
 
-put-node-requires : tie.Need-put-node-requires
-put-node-requires c κs = search needs
+sub-s : tie.Need-sub-s
+sub-s c = search needs
+
+part-s-start : tie.Need-part-s-start
+part-s-start c = search needs
+
+part-s-end : tie.Need-part-s-end
+part-s-end c = search needs
+
+slice-write-s : tie.Need-slice-write-s
+slice-write-s c = search needs
+
+slice-read-if2 : tie.Need-slice-read-if2
+slice-read-if2 c = simp length-set (omega arith)
+
+slice-write-s-2 : tie.Need-slice-write-s-2
+slice-write-s-2 c = simp length-set (omega arith)
+
+slice-write-s-3 : tie.Need-slice-write-s-3
+slice-write-s-3 c = simp length-set (omega arith)
 
 same-length : tie.Need-same-length
 same-length c = search needs
@@ -29,11 +50,9 @@ same-length c = search needs
 returns-2 : tie.Need-returns-2
 returns-2 c =
     let b2 = c .before .before in
-    let b4 = b2 .before .before in
-    let b6 = b4 .before .before in
+    let b6 = b2 .before .before .before .before in
     let b8 = b6 .before .before in
-    let b11 = b8 .before .before .before in
-    resized-root _ _ _ _ (b11 .pre) (b8 .if1 .left) (b6 .node-at .ensures) (b4 .enum-told .given .1) (b2 .put-size .ensures)
+    resized-child _ _ _ _ (b8 .pre) (b6 .if1 .left) (rw add-sub-cancel-left at (b2 .if2 .taken)) (rw add-sub-cancel-left)
 
 same-length-2 : tie.Need-same-length-2
 same-length-2 c = search needs
@@ -41,22 +60,26 @@ same-length-2 c = search needs
 returns-3 : tie.Need-returns-3
 returns-3 c =
     let b2 = c .before .before in
-    let b4 = b2 .before .before in
-    let b6 = b4 .before .before in
+    let b6 = b2 .before .before .before .before in
     let b8 = b6 .before .before in
-    let b11 = b8 .before .before .before in
-    resized-child _ _ _ _ (b11 .pre) (b8 .if1 .left) (b6 .node-at .ensures) (b4 .enum-told2 .given .1) (b2 .put-node .ensures)
+    resized-root _ _ _ _ (b8 .pre) (b6 .if1 .left) (rw add-sub-cancel-left at (b2 .if2 .left)) (rw add-sub-cancel-left)
 
 pub resize-spec : {M : Type 1} → statement M
 resize-spec =
     tie.close
     (tie.spec
     returns
-    node-at-requires
-    enum-told
-    put-size-requires
-    enum-told-2
-    put-node-requires
+    cast-a
+    mul-a
+    add-e
+    mul-s
+    sub-s
+    part-s-start
+    part-s-end
+    slice-write-s
+    slice-read-if2
+    slice-write-s-2
+    slice-write-s-3
     same-length
     returns-2
     same-length-2

@@ -33,10 +33,10 @@ returns-2 c =
     let out = s .out .now in
     let t = laws.said (c .before .same-bytes .ensures) (c .if2 .taken) in
     let pre = c .before .before .before .before .before .before .pre in
-    record { means = laws.with-tuple w (map tyOf (take (s .n) out)) t; fits = pre .0 }
+    record { means = laws.with-tuple w (map tyOf (take (s .n) out)) t; fits = laws.tuple-fits (s .n) out (pre .0) }
 
-shared-slice-read-t10 : tie.Need-shared-slice-read-t10
-shared-slice-read-t10 c = search needs
+shared-slice-read-t13 : tie.Need-shared-slice-read-t13
+shared-slice-read-t13 c = search needs
 
 one-type-requires : tie.Need-one-type-requires
 one-type-requires c κs = search needs
@@ -47,13 +47,13 @@ returns-3 c =
     let w = s .w .now in
     let out = s .out .now in
     let nt = laws.said (c .before .before .before .before .same-bytes .ensures) (c .before .before .before .if2 .left) in
-    laws.parsed-like (c .one-type .ensures .beside nt out) (laws.with-one w out (s .n) (c .before .before .if3 .taken) (omega arith))
-
-shared-slice-read-t13 : tie.Need-shared-slice-read-t13
-shared-slice-read-t13 c = search needs
+    laws.parsed-like (c .one-type .ensures .beside nt out (laws.take-first out (omega arith))) (laws.with-one w out (s .n) (c .before .before .if3 .taken) (omega arith))
 
 shared-slice-read-t16 : tie.Need-shared-slice-read-t16
 shared-slice-read-t16 c = search needs
+
+shared-slice-read-t19 : tie.Need-shared-slice-read-t19
+shared-slice-read-t19 c = search needs
 
 two-types-requires : tie.Need-two-types-requires
 two-types-requires c κs = search needs
@@ -74,7 +74,7 @@ returns-5 c =
     let out = s .out .now in
     let nt = laws.said (c .before .before .before .same-bytes .ensures) (c .before .before .if2 .left) in
     let many : 3 ≤ s .n = omega (arith, c .before .before .before .before .before .if1 .left, c .before .if3 .left, c .if4 .left) in
-    record { means = laws.with-more w (s .n) out many (omega arith) nt; fits = omega arith }
+    record { means = laws.with-more w (s .n) out many (omega arith) nt; fits = tt }
 
 pub line-of-spec : {M : Type 1} → statement M
 line-of-spec =
@@ -85,11 +85,11 @@ line-of-spec =
     slice-aggregate-same-bytes
     same-bytes-requires
     returns-2
-    shared-slice-read-t10
+    shared-slice-read-t13
     one-type-requires
     returns-3
-    shared-slice-read-t13
     shared-slice-read-t16
+    shared-slice-read-t19
     two-types-requires
     returns-4
     returns-5)

@@ -15,7 +15,7 @@ use Rattle.sheet_lines.proofs.parse.Statement.{statement}
 use Rattle.sheet_lines.proofs.parse.Tie as tie
 
 returns : tie.Need-returns
-returns c = record { means = laws.parse-long (c .before .before .before .args .line .now) (c .if1 .taken); fits = omega arith }
+returns c = record { means = laws.parse-long (c .before .before .before .args .line .now) (c .if1 .taken); fits = tt }
 
 next-place-requires : tie.Need-next-place-requires
 next-place-requires c κs = search needs
@@ -46,7 +46,7 @@ returns-2 c =
     let out = c .before .before .before .before .types-from .last .1 .1 .0 in
     let ts = c .before .before .before .before .types-from .ensures .means in
     let t = ap (λ (r : TypeCount). countMeans r out) (sym (c .enum-told .given .1)) ∙ ts in
-    record { means = laws.parse-of line e none h p t; fits = omega arith }
+    record { means = laws.parse-of line e none h p t; fits = tt }
 
 slice-aggregate-line-of : tie.Need-slice-aggregate-line-of
 slice-aggregate-line-of c =

@@ -19,7 +19,7 @@ unfolding eqBytes
 returns c =
     let w = c .before .before .before .before .args .w .now in
     let is = laws.word-is w (text "var") (c .before .same-bytes .ensures) (c .if1 .taken) in
-    record { beside = λ out. record { means = rw is; fits = omega arith } }
+    record { beside = λ out. record { means = rw is; fits = tt } }
 
 slice-aggregate-same-bytes-2 : tie.Need-slice-aggregate-same-bytes-2
 slice-aggregate-same-bytes-2 c = search needs
@@ -32,7 +32,7 @@ unfolding eqBytes
 returns-2 c =
     let w = c .before .before .before .before .before .before .before .args .w .now in
     let is = laws.word-is w (text "nil") (c .before .same-bytes2 .ensures) (c .if2 .taken) in
-    record { beside = λ out. record { means = rw is; fits = omega arith } }
+    record { beside = λ out. record { means = rw is; fits = tt } }
 
 slice-aggregate-same-bytes-3 : tie.Need-slice-aggregate-same-bytes-3
 slice-aggregate-same-bytes-3 c = search needs
@@ -45,7 +45,7 @@ unfolding eqBytes
 returns-3 c =
     let w = c .before .before .before .before .before .before .before .before .before .before .args .w .now in
     let is = laws.word-is w (text "never") (c .before .same-bytes3 .ensures) (c .if3 .taken) in
-    record { beside = λ out. record { means = rw is; fits = omega arith } }
+    record { beside = λ out. record { means = rw is; fits = laws.never-fits out } }
 
 slice-aggregate-same-bytes-4 : tie.Need-slice-aggregate-same-bytes-4
 slice-aggregate-same-bytes-4 c = search needs
@@ -58,7 +58,7 @@ unfolding eqBytes
 returns-4 c =
     let w = c .before .before .before .before .before .before .before .before .before .before .before .before .before .args .w .now in
     let is = laws.word-is w (text "default") (c .before .same-bytes4 .ensures) (c .if4 .taken) in
-    record { beside = λ out. record { means = rw is; fits = omega arith } }
+    record { beside = λ out. record { means = rw is; fits = laws.default-fits out } }
 
 slice-aggregate-same-bytes-5 : tie.Need-slice-aggregate-same-bytes-5
 slice-aggregate-same-bytes-5 c = search needs
@@ -71,7 +71,7 @@ unfolding eqBytes
 returns-5 c =
     let w = c .before .before .before .before .before .before .before .before .before .before .before .before .before .before .before .before .args .w .now in
     let is = laws.word-is w (text "error") (c .before .same-bytes5 .ensures) (c .if5 .taken) in
-    record { beside = λ out. record { means = rw is; fits = omega arith } }
+    record { beside = λ out. record { means = rw is; fits = tt } }
 
 slice-aggregate-same-bytes-6 : tie.Need-slice-aggregate-same-bytes-6
 slice-aggregate-same-bytes-6 c = search needs
@@ -84,7 +84,7 @@ unfolding eqBytes
 returns-6 c =
     let w = c .before .before .before .before .before .before .before .before .before .before .before .before .before .before .before .before .before .before .before .args .w .now in
     let is = laws.word-is w (text "finish") (c .before .same-bytes6 .ensures) (c .if6 .taken) in
-    record { beside = λ out. record { means = rw is; fits = omega arith } }
+    record { beside = λ out. record { means = rw is; fits = tt } }
 
 slice-aggregate-same-bytes-7 : tie.Need-slice-aggregate-same-bytes-7
 slice-aggregate-same-bytes-7 c = search needs
@@ -99,7 +99,7 @@ returns-7 c =
     c .before .before .before .before .before .before .before .before .before .before .before .before .before .before .before .before .before .before .before .before
     .before .before .args .w .now in
     let is = laws.word-is w (text "tuple") (c .before .same-bytes7 .ensures) (c .if7 .taken) in
-    record { beside = λ out. record { means = rw is; fits = omega arith } }
+    record { beside = λ out. record { means = rw is; fits = laws.tuple-fits 0 out (omega arith) } }
 
 returns-8 : tie.Need-returns-8
 returns-8 c =
@@ -117,7 +117,7 @@ returns-8 c =
     let e6 = laws.said said6 (c .before .before .before .if6 .left) in
     let said7 = c .before .same-bytes7 .ensures in
     let e7 = laws.said said7 (c .if7 .left) in
-    record { beside = λ out. record { means = rw (e1, e2, e3, e4, e5, e6, e7); fits = omega arith } }
+    record { beside = λ out. record { means = rw (e1, e2, e3, e4, e5, e6, e7); fits = tt } }
 
 pub plain-line-spec : {M : Type 1} → statement M
 plain-line-spec =

@@ -14,11 +14,11 @@ same-bytes-requires c κs = search needs
 
 returns : tie.Need-returns
 returns c =
-    record { beside = λ nt out. record { means = rw (nt, laws.said (c .before .same-bytes .ensures) (c .if1 .taken)); fits = omega arith } }
+    record { beside = λ nt out. record { means = rw (nt, laws.said (c .before .same-bytes .ensures) (c .if1 .taken)); fits = tt } }
 
 returns-2 : tie.Need-returns-2
 returns-2 c =
-    record { beside = λ nt out. record { means = rw (nt, laws.said (c .before .same-bytes .ensures) (c .if1 .left)); fits = omega arith } }
+    record { beside = λ nt out. record { means = rw (nt, laws.said (c .before .same-bytes .ensures) (c .if1 .left)); fits = tt } }
 
 pub two-types-spec : {M : Type 1} → statement M
 two-types-spec =

@@ -1,6 +1,5 @@
 -- `sheet_run::next_start` meets its contract.
 -- Assumes nothing.
-use mathlib.Core.Path.{sym}
 use lib.ListN.{length}
 use borrow.Author.Tests.{lt-ltb, le-ltb}
 use borrow.Author.Needs.{needs}

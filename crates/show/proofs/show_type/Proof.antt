@@ -5,9 +5,6 @@ use borrow.Author.Needs.{needs}
 use Rattle.show.proofs.show_type.Statement.{statement}
 use Rattle.show.proofs.show_type.Tie as tie
 
-wants-cache-requires : tie.Need-wants-cache-requires
-wants-cache-requires c κs = search needs
-
 show-cached-requires : tie.Need-show-cached-requires
 show-cached-requires c κs = search needs
 
@@ -15,25 +12,24 @@ same-length : tie.Need-same-length
 same-length c = search needs
 
 returns : tie.Need-returns
-returns c = c .before .before .show-cached .ensures
+returns c = search needs
 
 slice-aggregate-show-by : tie.Need-slice-aggregate-show-by
 slice-aggregate-show-by c = search needs
 
 show-by-requires : tie.Need-show-by-requires
-show-by-requires c κs = (c .before .before .before .before .before .before .before .before .before .before .before .pre, cached-zeros _ _ 0)
+show-by-requires c κs = (c .before .before .before .before .before .before .before .before .before .pre, cached-zeros _ _ 0)
 
 same-length-2 : tie.Need-same-length-2
 same-length-2 c = search needs
 
 returns-2 : tie.Need-returns-2
-returns-2 c = c .before .before .before .show-by .ensures .0
+returns-2 c = search needs
 
 pub show-type-spec : {M : Type 1} → statement M
 show-type-spec =
     tie.close
     (tie.spec
-    wants-cache-requires
     show-cached-requires
     same-length
     returns

@@ -3,14 +3,12 @@
 use borrow.Author.Tests.{eq-eqb, ne-eqb}
 use borrow.Author.Needs.{needs}
 use Rattle.append.proofs.Laws.{append-then}
+use Rattle.show_names.specs.Names.{spelledF}
 use Rattle.show_names.proofs.put_function.Statement.{statement}
 use Rattle.show_names.proofs.put_function.Tie as tie
 
-slice-aggregate-put : tie.Need-slice-aggregate-put
-slice-aggregate-put c = search needs
-
-put-requires : tie.Need-put-requires
-put-requires c κs = search needs
+put-short-requires : tie.Need-put-short-requires
+put-short-requires c κs = search needs
 
 sort-at-requires : tie.Need-sort-at-requires
 sort-at-requires c κs = search needs
@@ -25,11 +23,14 @@ same-length : tie.Need-same-length
 same-length c = search needs
 
 returns : tie.Need-returns
+unfolding spelledF
 returns c =
-    let sort = c .before .before .before .before .before .before .sort-at in
-    let concrete = c .before .before .before .before .before .if1 .taken in
-    let said = c .before .before .before .before .before .before .before .before .before .put .ensures in
-    rw (← sort .ensures, ne-eqb _ _ concrete, ← c .before .before .before .path-at .ensures) (append-then said (c .before .before .put-name .ensures))
+    let b2 = c .before .before in
+    let b3 = b2 .before in
+    let b5 = b3 .before .before in
+    let b6 = b5 .before in
+    let b9 = b6 .before .before .before in
+    rw (← b6 .sort-at .ensures, ne-eqb _ _ (b5 .if1 .taken), ← b3 .path-at .ensures) (append-then (b9 .put-short .ensures) (b2 .put-name .ensures))
 
 trait-at-requires : tie.Need-trait-at-requires
 trait-at-requires c κs = search needs
@@ -40,11 +41,8 @@ path-at-requires-2 c κs = search needs
 put-name-requires-2 : tie.Need-put-name-requires-2
 put-name-requires-2 c κs = search needs
 
-slice-aggregate-put-2 : tie.Need-slice-aggregate-put-2
-slice-aggregate-put-2 c = search needs
-
-put-requires-2 : tie.Need-put-requires-2
-put-requires-2 c κs = search needs
+put-short-requires-2 : tie.Need-put-short-requires-2
+put-short-requires-2 c κs = search needs
 
 name-at-requires : tie.Need-name-at-requires
 name-at-requires c κs = search needs
@@ -56,23 +54,26 @@ same-length-2 : tie.Need-same-length-2
 same-length-2 c = search needs
 
 returns-2 : tie.Need-returns-2
+unfolding spelledF
 returns-2 c =
-    let sort = c .before .before .before .before .before .before .before .before .before .before .before .before .before .before .before .before .before .sort-at in
-    let method = c .before .before .before .before .before .before .before .before .before .before .before .before .before .before .before .before .if1 .left in
-    let owner = c .before .before .before .before .before .before .before .before .before .before .before .before .before .before .before .trait-at in
-    let path = c .before .before .before .before .before .before .before .before .before .before .before .before .before .path-at2 in
-    let said = c .before .before .before .before .before .before .before .before .before .before .before .before .before .before .before .before .before .before .before .before .put .ensures in
-    let within = c .before .before .before .before .before .before .before .before .before .before .before .before .put-name2 .ensures in
-    let joined = c .before .before .before .before .before .before .before .put2 .ensures in
-    rw (← sort .ensures, eq-eqb _ _ method, ← owner .ensures, ← path .ensures, ← c .before .before .before .name-at .ensures)
-    (append-then said (append-then within (append-then joined (c .before .before .put-name3 .ensures))))
+    let b2 = c .before .before in
+    let b3 = b2 .before in
+    let b7 = b3 .before .before .before .before in
+    let b11 = b7 .before .before .before .before in
+    let b12 = b11 .before in
+    let b14 = b12 .before .before in
+    let b15 = b14 .before in
+    let b16 = b15 .before in
+    let b19 = b16 .before .before .before in
+    let joined = append-then (b7 .put-short2 .ensures) (b2 .put-name3 .ensures) in
+    rw (← b16 .sort-at .ensures, eq-eqb _ _ (b15 .if1 .left), ← b14 .trait-at .ensures, ← b12 .path-at2 .ensures, ← b3 .name-at .ensures)
+    (append-then (b19 .put-short .ensures) (append-then (b11 .put-name2 .ensures) joined))
 
 pub put-function-spec : {M : Type 1} → statement M
 put-function-spec =
     tie.close
     (tie.spec
-    slice-aggregate-put
-    put-requires
+    put-short-requires
     sort-at-requires
     path-at-requires
     put-name-requires
@@ -81,8 +82,7 @@ put-function-spec =
     trait-at-requires
     path-at-requires-2
     put-name-requires-2
-    slice-aggregate-put-2
-    put-requires-2
+    put-short-requires-2
     name-at-requires
     put-name-requires-3
     same-length-2

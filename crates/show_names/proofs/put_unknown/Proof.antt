@@ -2,6 +2,7 @@
 -- Assumes nothing.
 use borrow.Author.Needs.{needs}
 use Rattle.append.proofs.Laws.{append-then}
+use Rattle.show_names.proofs.Laws.{tilde-fits, unknown-is}
 use Rattle.show_names.proofs.put_unknown.Statement.{statement}
 use Rattle.show_names.proofs.put_unknown.Tie as tie
 
@@ -11,11 +12,17 @@ idx-requires c κs = search needs
 inv-requires : tie.Need-inv-requires
 inv-requires c κs = search needs
 
-slice-aggregate-put : tie.Need-slice-aggregate-put
-slice-aggregate-put c = search needs
+cast-put-short : tie.Need-cast-put-short
+cast-put-short c = search needs
 
-put-requires : tie.Need-put-requires
-put-requires c κs = search needs
+mul-put-short : tie.Need-mul-put-short
+mul-put-short c = tilde-fits (c .before .inv .result .0)
+
+put-short-requires : tie.Need-put-short-requires
+put-short-requires c κs = search needs
+
+put-byte-requires : tie.Need-put-byte-requires
+put-byte-requires c κs = search needs
 
 put-decimal-requires : tie.Need-put-decimal-requires
 put-decimal-requires c κs = search needs
@@ -25,26 +32,13 @@ same-length c = search needs
 
 returns : tie.Need-returns
 returns c =
-    let number = c .before .before .before .before .before .before .before .before .before .before .before .idx in
-    let turned = c .before .before .before .before .before .before .before .before .before .before .inv in
-    let said = c .before .before .before .before .before .before .put .ensures in
-    rw (← turned .ensures, c .before .before .before .before .before .before .before .before .before .if1 .taken, ← number .ensures) (append-then said (c .before .before .put-decimal .ensures))
-
-put-byte-requires : tie.Need-put-byte-requires
-put-byte-requires c κs = search needs
-
-put-decimal-requires-2 : tie.Need-put-decimal-requires-2
-put-decimal-requires-2 c κs = search needs
-
-same-length-2 : tie.Need-same-length-2
-same-length-2 c = search needs
-
-returns-2 : tie.Need-returns-2
-returns-2 c =
-    let number = c .before .before .before .before .before .before .before .before .before .before .idx in
-    let turned = c .before .before .before .before .before .before .before .before .before .inv in
-    let said = c .before .before .before .before .before .before .put-byte .ensures in
-    rw (← turned .ensures, c .before .before .before .before .before .before .before .before .if1 .left, ← number .ensures) (append-then said (c .before .before .put-decimal2 .ensures))
+    let b2 = c .before .before in
+    let b6 = b2 .before .before .before .before in
+    let b10 = b6 .before .before .before .before in
+    let b12 = b10 .before .before in
+    let b14 = b12 .before .before in
+    rw (← b12 .inv .ensures, ← b14 .idx .ensures)
+    (unknown-is (b12 .inv .result .0) _ (append-then (b10 .put-short .ensures) (append-then (b6 .put-byte .ensures) (b2 .put-decimal .ensures))))
 
 pub put-unknown-spec : {M : Type 1} → statement M
 put-unknown-spec =
@@ -52,12 +46,10 @@ put-unknown-spec =
     (tie.spec
     idx-requires
     inv-requires
-    slice-aggregate-put
-    put-requires
+    cast-put-short
+    mul-put-short
+    put-short-requires
+    put-byte-requires
     put-decimal-requires
     same-length
-    returns
-    put-byte-requires
-    put-decimal-requires-2
-    same-length-2
-    returns-2)
+    returns)

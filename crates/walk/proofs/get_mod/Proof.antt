@@ -3,7 +3,7 @@
 use native.Mathlib.Omega.{arith}
 use borrow.Author.Needs.{needs}
 use Rattle.layout.proofs.LinkLaws.{clean-linked}
-use Rattle.walk.proofs.Laws.{root-is}
+use Rattle.related.proofs.Laws.{root-is}
 use Rattle.walk.proofs.Answers.{Looks, looks-start, looks-out, looks-none, looks-kind, looks-bare, looks-on}
 use Rattle.walk.proofs.get_mod.Statement.{statement}
 use Rattle.walk.proofs.get_mod.Tie as tie

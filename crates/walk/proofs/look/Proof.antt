@@ -10,7 +10,7 @@ use Rattle.scope.specs.Nodes.{find}
 use Rattle.scope.specs.Unify.{occurs}
 use Rattle.layout.specs.Words.{decode}
 use Rattle.layout.proofs.LinkLaws.{clean-linked}
-use Rattle.walk.proofs.Laws.{root-is}
+use Rattle.related.proofs.Laws.{root-is}
 use Rattle.walk.proofs.LookLaws.{looked-met, looked-clear, looked-deep, Left, left-start, left-end, left-yes, left-no, kid-met, kid-leaf}
 use Rattle.walk.proofs.look.Statement.{statement}
 use Rattle.walk.proofs.look.Tie as tie

@@ -1,5 +1,6 @@
--- `layout::encoding::cell_of` meets its contract. Each arm returns what the function that it calls ensures, at the node that the arm is for.
+-- `layout::encoding::cell_of` meets its contract. Each arm returns the words of the node that the arm is for, and a flag is its byte.
 -- Assumes nothing.
+use Rattle.layout.proofs.Cells.{flag-byte}
 use borrow.Author.Needs.{needs}
 use Rattle.layout.proofs.encoding.cell_of.Statement.{statement}
 use Rattle.layout.proofs.encoding.cell_of.Tie as tie
@@ -28,8 +29,11 @@ plain-cell-requires-3 c κs = search needs
 enum-known-state-2 : tie.Need-enum-known-state-2
 enum-known-state-2 c = search needs
 
-known-cell-requires : tie.Need-known-cell-requires
-known-cell-requires c κs = search needs
+cast-t11 : tie.Need-cast-t11
+cast-t11 c = search needs
+
+cast-t12 : tie.Need-cast-t12
+cast-t12 c = search needs
 
 returns : tie.Need-returns
 returns c = rw (c .before .before .n .given .1, c .plain-cell .ensures)
@@ -41,7 +45,10 @@ returns-3 : tie.Need-returns-3
 returns-3 c = rw (c .before .before .before .before .n2 .given .1, c .before .enum-told .given .1, c .plain-cell3 .ensures)
 
 returns-4 : tie.Need-returns-4
-returns-4 c = rw (c .before .before .before .before .before .n2 .given .1, c .before .before .state2 .given .1, c .known-cell .ensures)
+returns-4 c =
+    let b4 = c .before .before .before .before in
+    let b7 = b4 .before .before .before in
+    rw (b7 .n2 .given .1, b4 .state2 .given .1, flag-byte (b4 .state2 .given .0 .0 .0), flag-byte (b4 .state2 .given .0 .1 .0 .dual))
 
 pub cell-of-spec : {M : Type 1} → statement M
 cell-of-spec =
@@ -55,7 +62,8 @@ cell-of-spec =
     enum-told
     plain-cell-requires-3
     enum-known-state-2
-    known-cell-requires
+    cast-t11
+    cast-t12
     returns
     returns-2
     returns-3

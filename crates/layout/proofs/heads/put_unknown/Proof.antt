@@ -1,6 +1,7 @@
 -- `layout::heads::put_unknown` meets its contract. The part that is lent is the unused slot, and comes back as putAt pastes it.
 -- Assumes nothing.
 use Prim.Native.Nat.{_+_}
+use lib.ListN.{length-set}
 use native.Mathlib.Omega.{arith}
 use native.Mathlib.Nat.{add-sub-cancel-left}
 use borrow.Author.Tests.{lt-ltb}
@@ -18,20 +19,26 @@ mul-a c = search needs
 add-e : tie.Need-add-e
 add-e c = search needs
 
-mul-write-unknown : tie.Need-mul-write-unknown
-mul-write-unknown c = search needs
+mul-s : tie.Need-mul-s
+mul-s c = search needs
 
-sub-write-unknown : tie.Need-sub-write-unknown
-sub-write-unknown c = search needs
+sub-s : tie.Need-sub-s
+sub-s c = search needs
 
-part-write-unknown-start : tie.Need-part-write-unknown-start
-part-write-unknown-start c = search needs
+part-s-start : tie.Need-part-s-start
+part-s-start c = search needs
 
-part-write-unknown-end : tie.Need-part-write-unknown-end
-part-write-unknown-end c = search needs
+part-s-end : tie.Need-part-s-end
+part-s-end c = search needs
 
-write-unknown-requires : tie.Need-write-unknown-requires
-write-unknown-requires c κs = rw add-sub-cancel-left (c .before .before .before .pre .1)
+slice-write-s : tie.Need-slice-write-s
+slice-write-s c = search needs
+
+slice-write-s-2 : tie.Need-slice-write-s-2
+slice-write-s-2 c = simp length-set (omega arith)
+
+slice-write-s-3 : tie.Need-slice-write-s-3
+slice-write-s-3 c = simp length-set (omega arith)
 
 same-length : tie.Need-same-length
 same-length c = search needs
@@ -39,8 +46,8 @@ same-length c = search needs
 returns : tie.Need-returns
 unfolding putAt
 returns c =
-    let i = c .before .before .before .before .before .before .args .i .0 in
-    rw (lt-ltb i (i + 1) (omega arith), add-sub-cancel-left, c .before .before .write-unknown .ensures)
+    let i = c .before .before .before .before .args .i .0 in
+    rw (lt-ltb i (i + 1) (omega arith), add-sub-cancel-left, c .before .before .before .before .pre .1)
 
 pub put-unknown-spec : {M : Type 1} → statement M
 put-unknown-spec =
@@ -49,10 +56,12 @@ put-unknown-spec =
     cast-a
     mul-a
     add-e
-    mul-write-unknown
-    sub-write-unknown
-    part-write-unknown-start
-    part-write-unknown-end
-    write-unknown-requires
+    mul-s
+    sub-s
+    part-s-start
+    part-s-end
+    slice-write-s
+    slice-write-s-2
+    slice-write-s-3
     same-length
     returns)

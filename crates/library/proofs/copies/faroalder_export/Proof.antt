@@ -1,4 +1,4 @@
--- `library::copies::faroalder_export` meets its contract: it is `call_export::export`, and its number gives its answer back. Assumes nothing.
+-- `library::copies::faroalder_export` meets its contract: it is `call_copy::export`, and its number gives its answer back. Assumes nothing.
 use borrow.Author.Needs.{needs}
 use Rattle.library.proofs.copies.faroalder_export.Statement.{statement}
 use Rattle.library.proofs.copies.faroalder_export.Tie as tie

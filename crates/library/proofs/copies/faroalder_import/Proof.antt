@@ -1,4 +1,4 @@
--- `library::copies::faroalder_import` meets its contract: it is `call_import::import`, and its number gives its answer back. Assumes nothing.
+-- `library::copies::faroalder_import` meets its contract: it is `call_copy::import`, and its number gives its answer back. Assumes nothing.
 use borrow.Author.Needs.{needs}
 use Rattle.library.proofs.copies.faroalder_import.Statement.{statement}
 use Rattle.library.proofs.copies.faroalder_import.Tie as tie
