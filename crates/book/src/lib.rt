@@ -12,6 +12,7 @@ ghost use Rattle.book.specs.Places.{roomIn, PlaceLies, NameLies, heldUnd
 use layout::HEAD_WORDS;
 use layout::child_words;
 use layout::node_words;
+use layout::word;
 use scope::MAX_STATE_NAME;
 use scope::MAX_STATES;
 
@@ -56,13 +57,6 @@ pub fn place_from(nodes: u32, children: u32, i: usize) -> usize
     ensures { λ r. ⌜ r ≡ placeFrom nodes children i ⌝ }
 {
     BOOK_HEAD + i * place_words(nodes, children)
-}
-
-// The i-th word, and 0 past the end.
-fn word(s: &[u32], i: usize) -> u32
-    ensures { λ r. ⌜ r ≡ getD (now (s .entry)) i 0 ⌝ }
-{
-    if i < s.len() { s[i] } else { 0 }
 }
 
 // The i-th byte, and 0 past the end.

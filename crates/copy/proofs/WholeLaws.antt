@@ -30,7 +30,7 @@ use Rattle.make.proofs.MakeLaws.{head-error, head-nil, header-long, remembered-
 use Rattle.copy_type.specs.Words.{copyingAt, Spared}
 use Rattle.copy_type.proofs.SparedLaws.{spared-trans}
 use Rattle.copy_type.proofs.FillLaws.{room-less}
-use Rattle.copy.specs.Lists.{AllCopyable, AllCopied, RememberedCopied}
+use Rattle.copy_lists.specs.Lists.{AllCopyable, AllCopied, RememberedCopied}
 use Rattle.copy.specs.Whole.{ImportReady, ExportReady, ImportedIs}
 
 -- slices that were spared hold the store

@@ -1,81 +1,13 @@
 // `import` and `export`: "a list of at most 255 types, one shared mapping". The mapping is a table with a number for each node of the source, which one
 // list after another goes through. Callers have tested the source and the room, so nothing here can fail.
-ghost use mathlib.Core.Option.{none};
-ghost use Prim.Native.Nat.{_≤_};
 ghost use lib.ListN.{length};
 ghost use Rattle.scope.specs.Nodes.{opened};
 ghost use Rattle.scope.specs.Import.{import, export};
-ghost use Rattle.scope.specs.Needs.{listed};
-ghost use Rattle.scope.proofs.CopyTable.{copyAll, copyF};
 ghost use Rattle.layout.specs.Words.{decode, storeIn};
-ghost use Rattle.layout.specs.Meaning.{rememberedMeans};
 ghost use Rattle.store.specs.Entries.{typesIn};
-ghost use Rattle.roots.specs.Kept.{Cached};
 ghost use Rattle.copy_parts.specs.Places.{listOf};
-ghost use Rattle.copy_type.specs.Words.{copyingAt};
-ghost use Rattle.copy.specs.Lists.{AllCopyable, AllCopied, RememberedCopied};
 ghost use Rattle.copy.specs.Whole.{ImportReady, ExportReady, ImportedIs};
-use layout::Remembered;
 use scope::MAX_NODES;
-use types::Type;
-
-// The copies of a list's types stand at the front of `out`.
-fn copy_all(
-    sw: &[u32],
-    sk: &[u32],
-    n: u32,
-    listed: bool,
-    params: &[u32],
-    cache: &mut [u16],
-    table: &mut [u32],
-    h: &mut [u32],
-    ws: &mut [u32],
-    ks: &mut [u32],
-    ts: &[u32],
-    out: &mut [u32],
-)
-    requires { ⌜ AllCopyable (now sw) (now sk) n (listOf listed (now params)) (now h) (now ws) (now ks) (now table) (typesIn (now ts)) ⌝ }
-    requires { ⌜ length (now ts) ≤ length (now out) ⌝ }
-    requires { ⌜ Cached (now sw) n (now cache) ⌝ }
-    ensures { λ _. ⌜ AllCopied (copyAll (copyF n (decode (now (sw .entry)) (now (sk .entry)) n) (listOf listed (now (params .entry))))
-        (copyingAt (now (h .entry)) (now (ws .entry)) (now (ks .entry)) (now (table .entry))) (typesIn (now (ts .entry)))) (length (now (ts .entry)))
-        (now (h .entry)) (now (ws .entry)) (now (ks .entry)) (now (h .exit)) (now (ws .exit)) (now (ks .exit)) (now (table .exit))
-        (now (out .entry)) (now (out .exit)) × Cached (now (sw .entry)) n (now (cache .exit)) ⌝ }
-{
-    let mut i = 0;
-    while i < ts.len() {
-        let t = Type(ts[i]);
-        let next = copy_type::copy(sw, sk, n, listed, params, cache, table, h, ws, ks, t, n);
-        out[i] = next.0;
-        i += 1;
-    }
-}
-
-// The copy of a type that the source remembers, if any. There is no parameter list, so that any words stand for it.
-fn copy_remembered(
-    sw: &[u32],
-    sk: &[u32],
-    n: u32,
-    cache: &mut [u16],
-    table: &mut [u32],
-    h: &mut [u32],
-    ws: &mut [u32],
-    ks: &mut [u32],
-    was: Remembered,
-) -> Remembered
-    requires { ⌜ AllCopyable (now sw) (now sk) n none (now h) (now ws) (now ks) (now table) (listed (rememberedMeans was)) × Cached (now sw) n (now cache) ⌝ }
-    ensures { λ r. ⌜ RememberedCopied (copyAll (copyF n (decode (now (sw .entry)) (now (sk .entry)) n) none)
-        (copyingAt (now (h .entry)) (now (ws .entry)) (now (ks .entry)) (now (table .entry))) (listed (rememberedMeans was)))
-        (now (h .entry)) (now (ws .entry)) (now (ks .entry)) (now (h .exit)) (now (ws .exit)) (now (ks .exit)) (now (table .exit)) r
-        × Cached (now (sw .entry)) n (now (cache .exit)) ⌝ }
-{
-    match was {
-        Remembered::Is(t) => {
-            Remembered::Is(copy_type::copy(sw, sk, n, false, sk, cache, table, h, ws, ks, t, n))
-        }
-        Remembered::Nothing => Remembered::Nothing,
-    }
-}
 
 // Out of n nodes; with `listed` the words of `params` are the parameter list.
 pub fn import(
@@ -97,7 +29,7 @@ pub fn import(
 {
     let mut cache = [0u16; MAX_NODES];
     let mut table = [0u32; MAX_NODES];
-    copy_all(
+    copy_lists::copy_all(
         sw,
         sk,
         n,
@@ -138,9 +70,19 @@ pub fn export(
     make::open(h, ws, ks, nodes, children);
     let mut cache = [0u16; MAX_NODES];
     let mut table = [0u32; MAX_NODES];
-    let error = copy_remembered(sw, sk, n, &mut cache, &mut table, h, ws, ks, was_error);
-    let nil = copy_remembered(sw, sk, n, &mut cache, &mut table, h, ws, ks, was_nil);
-    copy_all(
+    let error = copy_lists::copy_remembered(
+        sw,
+        sk,
+        n,
+        &mut cache,
+        &mut table,
+        h,
+        ws,
+        ks,
+        was_error,
+    );
+    let nil = copy_lists::copy_remembered(sw, sk, n, &mut cache, &mut table, h, ws, ks, was_nil);
+    copy_lists::copy_all(
         sw,
         sk,
         n,

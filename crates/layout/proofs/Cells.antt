@@ -7,7 +7,7 @@ use mathlib.Core.Option.{none, some}
 use mathlib.Core.List.{List, [], _∷_, _++_}
 use Prim.Native.Nat.{ℕ, zero, suc, _+_, _*_, _/_, _-_, _<_, _≤_}
 use native.Mathlib.Omega.{arith}
-use lib.Dec.{eqb, leb, leb·zero}
+use lib.Dec.{eqb, ltb, leb, leb·zero}
 use lib.ListN.{length, getD, take, drop, length-drop, List·getD-eq-default}
 use lib.Seq.{sets, getD-take, getD-drop, take-all, length-take-le, ext-getD}
 use mir.Val.{boolByte}
@@ -28,7 +28,7 @@ use Rattle.layout.specs.declared.Held.the-variants.{Is, Nothing}
 use Rattle.layout.specs.declared.TypeState.the-variants.{Known, Unknown, InferenceFailed}
 use Rattle.layout.specs.declared.TypeNode.{TypeNode}
 use Rattle.layout.specs.declared.TypeNode.the-variants.{Root, Child}
-use Rattle.layout.proofs.Lists.{sets-all, and-both, and-left, and-right, length-from, get-from}
+use Rattle.layout.proofs.Lists.{sets-all, place-in, and-both, and-left, and-right, length-from, get-from}
 
 -- children: a part's words, and zeros past the end
 
@@ -334,6 +334,12 @@ module _ (ws : List ℕ) (n i : ℕ) (h : i < n) {c : Cell} (e : c ≡ cellIn (c
 
   pub held-kind : {k : Kind} → 2 < c .tag → k ≡ cellKind c → Is (record { 0 = eqb (c .inv) 1 }) k ≡ heldIn (readAt ws n i)
   held-kind t f = rw f (ap heldIn (node-known c (λ q. omega arith) (λ q. omega arith) (λ q. omega arith) ∙ read-cell))
+
+-- `put_node`: place k of node i's part, after the words before it
+pub cell-place : (ws : List ℕ) (i : ℕ) (c : Cell) (k : ℕ)
+    → (i + 1) * 12 - ((i + 1) * 12 - 12) ≡ length (take ((i + 1) * 12 - ((i + 1) * 12 - 12)) (drop ((i + 1) * 12 - 12) ws)) → ltb k 12 ≡ true
+    → k < length (sets (take ((i + 1) * 12 - ((i + 1) * 12 - 12)) (drop ((i + 1) * 12 - 12) ws)) 0 (take k (wordsOf c)))
+cell-place ws i c k p h = place-in ((i + 1) * 12 - 12) ((i + 1) * 12) 12 ws (wordsOf c) k p (cell-length i) h
 
 -- `put_node`: the words of a cell over the whole part of node i
 pub put-words : (ws : List ℕ) (n i : ℕ) → nodeWords n ≤ length ws → i < n → {c : Cell} (v : TypeNode) → c ≡ cellOf v

@@ -7,4 +7,3 @@ pub mod KindLaws
 pub mod HeldLaws
 pub mod LinkLaws
 pub mod StoreLaws
-pub mod HeadLaws

@@ -8,7 +8,7 @@ use Prim.Native.Nat.{ℕ, zero, suc, _+_, _-_, _<_, _≤_}
 use native.Mathlib.Omega.{arith}
 use native.Mathlib.Nat.{add-sub-cancel-left}
 use lib.ListN.{length, getD, take, drop, take-append-drop, length-drop, drop-of-length-le}
-use lib.Seq.{sets, sets-eq, take-at, drop-at, take-append-le, drop-append-le, drop-drop, length-take-le}
+use lib.Seq.{sets, sets-eq, lt-length-sets, take-at, drop-at, take-append-le, drop-append-le, drop-drop, length-take-le}
 use borrow.Rule.Slice.PartMut.{midOf, putMid, drop-put, same-len-mid}
 use lib.Dec.{eqb, ltb}
 use borrow.Author.Tests.{eqb-true, eqb-false, ltb-true, ltb-false}
@@ -33,6 +33,11 @@ pub sets-all : (l vs : List ℕ) → length l ≡ length vs → sets l 0 vs ≡ 
 sets-all l vs h =
     let z : drop (0 + length vs) l ≡ [] = drop-of-length-le l {i = 0 + length vs} (omega arith) in
     sets-eq vs l 0 (omega arith) ∙ rw z (append-nil vs)
+
+-- place k of the part from a to e, which is n words long, after the words before it were stored
+pub place-in : (a e n : ℕ) (xs vs : List ℕ) (k : ℕ) → e - a ≡ length (take (e - a) (drop a xs)) → e - a ≡ n → ltb k n ≡ true
+    → k < length (sets (take (e - a) (drop a xs)) 0 (take k vs))
+place-in a e n xs vs k p q h = let b : k < n = ltb-true k n h in lt-length-sets (take (e - a) (drop a xs)) 0 (take k vs) (omega arith)
 
 -- parts
 

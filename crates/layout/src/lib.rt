@@ -1,7 +1,6 @@
 // A store in three lent slices of numbers: where each number lies, and how a node, a child and the header are read and written.
 // Nothing above this crate reads a word: it uses these functions and the laws of proofs/.
 mod encoding;
-pub mod heads;
 
 ghost use mathlib.Core.Path.{_≡_};
 ghost use Prim.Native.Nat.{_+_, _*_, _≤_};
@@ -117,7 +116,7 @@ pub fn child_words(n: u32) -> usize
 }
 
 // The i-th word, and 0 past the end.
-fn word(s: &[u32], i: usize) -> u32
+pub fn word(s: &[u32], i: usize) -> u32
     ensures { λ r. ⌜ r ≡ getD (now (s .entry)) i 0 ⌝ }
 {
     if i < s.len() { s[i] } else { 0 }
@@ -323,7 +322,7 @@ pub fn put_child(ks: &mut [u32], i: usize, c: Slot)
     s[3] = c.name.len;
 }
 
-fn remembered_of(w: u32) -> Remembered
+pub fn remembered_of(w: u32) -> Remembered
     ensures { λ r. ⌜ r ≡ rememberedOf w ⌝ }
 {
     if w == NONE {

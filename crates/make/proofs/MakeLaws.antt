@@ -21,7 +21,7 @@ use Rattle.types.specs.declared.«Type».{«Type»}
 use Rattle.types.proofs.Laws.{ty-plain}
 use Rattle.layout.specs.Words.{HEAD-WORDS, childWords, nodesMade, childrenMade, nodeRoom, childRoom, storeIn, clean}
 use Rattle.layout.specs.Meaning.{HALF, typeOf, headerIn, putHeader, putAt, stateMeans, stateFits, rememberedMeans, rememberedFits, Kept, Lies}
-use Rattle.layout.specs.Heads.{putCounts}
+use Rattle.heads.specs.Heads.{putCounts}
 use Rattle.layout.specs.declared.Header.{Header}
 use Rattle.layout.specs.declared.Kind.{Kind}
 use Rattle.layout.specs.declared.Remembered.{Remembered}
@@ -30,7 +30,7 @@ use Rattle.layout.specs.declared.TypeState.{TypeState}
 use Rattle.layout.specs.declared.TypeState.the-variants.{Known, Unknown}
 use Rattle.layout.specs.declared.TypeNode.the-variants.{Root}
 use Rattle.layout.proofs.ChildLaws.{kept-refl}
-use Rattle.layout.proofs.HeadLaws.{put-counts, next-unused}
+use Rattle.heads.proofs.HeadLaws.{put-counts, next-unused}
 use Rattle.layout.proofs.StoreLaws.{length-put-header, tail-put-header, store-put, clean-lies, clean-unused, clean-nodes, clean-of, unused-grown}
 use Rattle.store.specs.Holds.{Became, Ready}
 use Rattle.store.specs.Bare.{bareKind}

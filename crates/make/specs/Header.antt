@@ -7,7 +7,7 @@ use lib.ListN.{length, drop, replicate}
 use Rattle.types.specs.declared.«Type».{«Type»}
 use Rattle.layout.specs.Words.{HEAD-WORDS, nodeWords, nodesMade}
 use Rattle.layout.specs.Meaning.{HALF, cellWords, headerIn, putAt, putHeader}
-use Rattle.layout.specs.Heads.{noWords}
+use Rattle.heads.specs.Heads.{noWords}
 use Rattle.layout.specs.declared.Header.{Header}
 use Rattle.layout.specs.declared.Remembered.{Remembered}
 use Rattle.layout.specs.declared.Remembered.the-variants.{Is, Nothing}

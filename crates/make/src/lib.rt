@@ -26,7 +26,6 @@ use layout::Kind;
 use layout::Remembered;
 use layout::TypeNode;
 use layout::TypeState;
-use layout::heads;
 use names::Name;
 use types::Inverted;
 use types::Type;

@@ -13,7 +13,6 @@ ghost use Rattle.refusals.specs.Codes.{codeOf};
 ghost use Rattle.promise.specs.Promise.{typeReply, TypesInside};
 ghost use Rattle.tested_lean.specs.Each.{Passed, EachPromised, EachAnswered, Within};
 use layout::Remembered;
-use layout::heads;
 use promise::TypeAnswer;
 use refusals::NO_REFUSAL;
 use refusals::NODES_FULL;

@@ -23,7 +23,6 @@ use kinds::ERROR;
 use kinds::NO_NAMES;
 use layout::Slot;
 use layout::TypeState;
-use layout::heads;
 use lent_kind::flagged;
 use lent_kind::list_refusal;
 use lent_kind::plain_args;

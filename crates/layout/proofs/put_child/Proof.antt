@@ -1,7 +1,10 @@
 -- `layout::put_child` meets its contract. The part that is lent comes back as putSlot pastes it.
 -- Assumes nothing.
-use lib.ListN.{length-set}
-use native.Mathlib.Omega.{arith}
+use mathlib.Core.Path.{refl}
+use Prim.Native.Nat.{_+_, _*_}
+use native.Mathlib.Nat.{add-sub-cancel-left}
+use Rattle.layout.specs.Meaning.{slotWords}
+use Rattle.layout.proofs.Lists.{place-in}
 use Rattle.layout.proofs.ChildLaws.{put-slot}
 use borrow.Author.Needs.{needs}
 use Rattle.layout.proofs.put_child.Statement.{statement}
@@ -29,13 +32,13 @@ slice-write-s : tie.Need-slice-write-s
 slice-write-s c = search needs
 
 slice-write-s-2 : tie.Need-slice-write-s-2
-slice-write-s-2 c = simp length-set (omega arith)
+slice-write-s-2 c = let a = c .before .args in place-in (a .i * 4) (a .i * 4 + 4) 4 (a .ks .now) (slotWords (a .c)) 1 (c .s .given .1) (add-sub-cancel-left _ _) refl
 
 slice-write-s-3 : tie.Need-slice-write-s-3
-slice-write-s-3 c = simp length-set (omega arith)
+slice-write-s-3 c = let a = c .before .args in place-in (a .i * 4) (a .i * 4 + 4) 4 (a .ks .now) (slotWords (a .c)) 2 (c .s .given .1) (add-sub-cancel-left _ _) refl
 
 slice-write-s-4 : tie.Need-slice-write-s-4
-slice-write-s-4 c = simp length-set (omega arith)
+slice-write-s-4 c = let a = c .before .args in place-in (a .i * 4) (a .i * 4 + 4) 4 (a .ks .now) (slotWords (a .c)) 3 (c .s .given .1) (add-sub-cancel-left _ _) refl
 
 same-length : tie.Need-same-length
 same-length c = search needs

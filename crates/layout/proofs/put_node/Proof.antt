@@ -1,10 +1,9 @@
 -- `layout::put_node` meets its contract. Past the nodes nothing is written; the part that is lent is one node's, and the cell's words come back in it.
 -- Assumes nothing.
-use lib.ListN.{length-set}
-use native.Mathlib.Omega.{arith}
+use mathlib.Core.Path.{refl}
 use borrow.Author.Tests.{le-ltb}
 use Rattle.layout.specs.Meaning.{putAt}
-use Rattle.layout.proofs.Cells.{put-words}
+use Rattle.layout.proofs.Cells.{cell-place, put-words}
 use borrow.Author.Needs.{needs}
 use Rattle.layout.proofs.put_node.Statement.{statement}
 use Rattle.layout.proofs.put_node.Tie as tie
@@ -44,37 +43,37 @@ slice-write-s : tie.Need-slice-write-s
 slice-write-s c = search needs
 
 slice-write-s-2 : tie.Need-slice-write-s-2
-slice-write-s-2 c = simp length-set (omega arith)
+slice-write-s-2 c = let a = c .before .before .before .before .before .before .args in cell-place (a .ws .now) (a .i .0) (c .before .before .cell-of .result) 1 (c .s .given .1) refl
 
 slice-write-s-3 : tie.Need-slice-write-s-3
-slice-write-s-3 c = simp length-set (omega arith)
+slice-write-s-3 c = let a = c .before .before .before .before .before .before .args in cell-place (a .ws .now) (a .i .0) (c .before .before .cell-of .result) 2 (c .s .given .1) refl
 
 slice-write-s-4 : tie.Need-slice-write-s-4
-slice-write-s-4 c = simp length-set (omega arith)
+slice-write-s-4 c = let a = c .before .before .before .before .before .before .args in cell-place (a .ws .now) (a .i .0) (c .before .before .cell-of .result) 3 (c .s .given .1) refl
 
 slice-write-s-5 : tie.Need-slice-write-s-5
-slice-write-s-5 c = simp length-set (omega arith)
+slice-write-s-5 c = let a = c .before .before .before .before .before .before .args in cell-place (a .ws .now) (a .i .0) (c .before .before .cell-of .result) 4 (c .s .given .1) refl
 
 slice-write-s-6 : tie.Need-slice-write-s-6
-slice-write-s-6 c = simp length-set (omega arith)
+slice-write-s-6 c = let a = c .before .before .before .before .before .before .args in cell-place (a .ws .now) (a .i .0) (c .before .before .cell-of .result) 5 (c .s .given .1) refl
 
 slice-write-s-7 : tie.Need-slice-write-s-7
-slice-write-s-7 c = simp length-set (omega arith)
+slice-write-s-7 c = let a = c .before .before .before .before .before .before .args in cell-place (a .ws .now) (a .i .0) (c .before .before .cell-of .result) 6 (c .s .given .1) refl
 
 slice-write-s-8 : tie.Need-slice-write-s-8
-slice-write-s-8 c = simp length-set (omega arith)
+slice-write-s-8 c = let a = c .before .before .before .before .before .before .args in cell-place (a .ws .now) (a .i .0) (c .before .before .cell-of .result) 7 (c .s .given .1) refl
 
 slice-write-s-9 : tie.Need-slice-write-s-9
-slice-write-s-9 c = simp length-set (omega arith)
+slice-write-s-9 c = let a = c .before .before .before .before .before .before .args in cell-place (a .ws .now) (a .i .0) (c .before .before .cell-of .result) 8 (c .s .given .1) refl
 
 slice-write-s-10 : tie.Need-slice-write-s-10
-slice-write-s-10 c = simp length-set (omega arith)
+slice-write-s-10 c = let a = c .before .before .before .before .before .before .args in cell-place (a .ws .now) (a .i .0) (c .before .before .cell-of .result) 9 (c .s .given .1) refl
 
 slice-write-s-11 : tie.Need-slice-write-s-11
-slice-write-s-11 c = simp length-set (omega arith)
+slice-write-s-11 c = let a = c .before .before .before .before .before .before .args in cell-place (a .ws .now) (a .i .0) (c .before .before .cell-of .result) 10 (c .s .given .1) refl
 
 slice-write-s-12 : tie.Need-slice-write-s-12
-slice-write-s-12 c = simp length-set (omega arith)
+slice-write-s-12 c = let a = c .before .before .before .before .before .before .args in cell-place (a .ws .now) (a .i .0) (c .before .before .cell-of .result) 11 (c .s .given .1) refl
 
 same-length : tie.Need-same-length
 same-length c = search needs

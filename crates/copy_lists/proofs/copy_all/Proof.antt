@@ -1,4 +1,4 @@
--- `copy::copy_all` meets its contract. The loop's invariant: what is left of the list gives what the whole list gives, and the copies so far stand at the
+-- `copy_lists::copy_all` meets its contract. The loop's invariant: what is left of the list gives what the whole list gives, and the copies so far stand at the
 -- front of the answer's list. The measure is what is left of its length.
 -- Assumes nothing.
 use Prim.Native.Nat.{_-_}
@@ -9,12 +9,12 @@ use Rattle.store.specs.Entries.{typesIn}
 use Rattle.store.proofs.EntryLaws.{listed-below}
 use Rattle.needs.proofs.SourceLaws.{listed-next}
 use Rattle.copy_parts.specs.Places.{listOf}
-use Rattle.copy.proofs.ListLaws.{Listing, listing-start, listing-copyable, listing-next, listing-end}
+use Rattle.copy_lists.proofs.ListLaws.{Listing, listing-start, listing-copyable, listing-next, listing-end}
 use mathlib.Core.Path.{_≡_, refl, _∙_}
 use Rattle.roots.specs.Kept.{Cached}
 use borrow.Author.Needs.{needs}
-use Rattle.copy.proofs.copy_all.Statement.{statement}
-use Rattle.copy.proofs.copy_all.Tie as tie
+use Rattle.copy_lists.proofs.copy_all.Statement.{statement}
+use Rattle.copy_lists.proofs.copy_all.Tie as tie
 
 abbrev Inv-loop : tie.InvT-loop
 Inv-loop sw sk n listed params cache₀ table₀ h₀ ws₀ ks₀ ts out₀ i₀ cache table h ws ks out i =

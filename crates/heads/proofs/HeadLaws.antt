@@ -12,11 +12,11 @@ use lib.Seq.{length-take-le}
 use borrow.Author.Tests.{eqb-true}
 use Rattle.scope.specs.Limits.{NONE}
 use Rattle.scope.specs.Sound.{zeros}
 use Rattle.layout.specs.Words.{HEAD-WORDS, nodeWords, nodesMade, nodeRoom, between, unusedZero, clean}
 use Rattle.layout.specs.Meaning.{HALF, rememberedOf, rememberedWord, headerIn, putHeader, cellWords, Lies}
-use Rattle.layout.specs.Heads.{putCounts, counted, noWords}
+use Rattle.heads.specs.Heads.{putCounts, counted, noWords}
 use Rattle.layout.proofs.Lists.{and-left, and-right}
 use Rattle.layout.proofs.StoreLaws.{clean-lies, clean-unused}
 
 -- the header
 

@@ -3,15 +3,15 @@
 ghost use mathlib.Core.Path.{_≡_};
 ghost use Prim.Native.Nat.{_+_, _*_, _≤_};
 ghost use lib.ListN.{length, getD};
 ghost use Rattle.layout.specs.Words.{NODE-WORDS, HEAD-WORDS, nodesMade, childrenMade, nodeRoom, childRoom};
 ghost use Rattle.layout.specs.Meaning.{cellWords, putAt, rememberedOf};
-ghost use Rattle.layout.specs.Heads.{noWords, putCounts};
+ghost use Rattle.heads.specs.Heads.{noWords, putCounts};
 ghost use Rattle.layout.specs.declared.TypeNode.the-variants.{Root};
 ghost use Rattle.layout.specs.declared.TypeState.the-variants.{Unknown};
-use crate::NODE_WORDS;
-use crate::Remembered;
-use crate::UNKNOWN_TAG;
-use crate::remembered_of;
+use layout::NODE_WORDS;
+use layout::Remembered;
+use layout::UNKNOWN_TAG;
+use layout::remembered_of;
 use types::TypeIdx;
 
 pub fn nodes_made(h: &[u32]) -> u32

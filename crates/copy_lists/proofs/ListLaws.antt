@@ -24,7 +24,7 @@ use Rattle.store.specs.Holds.{Room}
 use Rattle.copy_type.specs.Words.{copyingAt, Spared, Copyable, CopiedIs}
 use Rattle.copy_type.proofs.SparedLaws.{spared-refl, spared-trans, spared-less}
 use Rattle.copy_type.proofs.FillLaws.{Long, room-less}
-use Rattle.copy.specs.Lists.{AllCopyable, AllCopied, RememberedCopied}
+use Rattle.copy_lists.specs.Lists.{AllCopyable, AllCopied, RememberedCopied}
 
 -- the copies of the first i types of us stand at the front of the list
 pub record Listing (sw sk : List ℕ) (n : ℕ) (ps : Option (List Ty)) (us : List Ty) (table₀ h₀ ws₀ ks₀ out₀ table h ws ks out : List ℕ) (i : ℕ) : Type 0 where

@@ -1,13 +1,13 @@
--- `layout::heads::put_counts` meets its contract. Two stores from the front on leave what was stored, and the words after it.
+-- `heads::put_counts` meets its contract. Two stores from the front on leave what was stored, and the words after it.
 -- Assumes nothing.
 use mathlib.Core.List.{[], _∷_}
 use native.Mathlib.Omega.{arith}
 use lib.ListN.{length-set}
 use lib.Seq.{sets-eq}
-use Rattle.layout.specs.Heads.{putCounts}
+use Rattle.heads.specs.Heads.{putCounts}
 use borrow.Author.Needs.{needs}
-use Rattle.layout.proofs.heads.put_counts.Statement.{statement}
-use Rattle.layout.proofs.heads.put_counts.Tie as tie
+use Rattle.heads.proofs.put_counts.Statement.{statement}
+use Rattle.heads.proofs.put_counts.Tie as tie
 
 slice-write-h : tie.Need-slice-write-h
 slice-write-h c = search needs

@@ -1,9 +1,9 @@
--- `copy::copy_remembered` meets its contract: a type, or none.
+-- `copy_lists::copy_remembered` meets its contract: a type, or none.
 -- Assumes nothing.
-use Rattle.copy.proofs.ListLaws.{remembered-none, remembered-copyable, remembered-one}
+use Rattle.copy_lists.proofs.ListLaws.{remembered-none, remembered-copyable, remembered-one}
 use borrow.Author.Needs.{needs}
-use Rattle.copy.proofs.copy_remembered.Statement.{statement}
-use Rattle.copy.proofs.copy_remembered.Tie as tie
+use Rattle.copy_lists.proofs.copy_remembered.Statement.{statement}
+use Rattle.copy_lists.proofs.copy_remembered.Tie as tie
 
 enum-known-was : tie.Need-enum-known-was
 enum-known-was c = search needs

@@ -1,14 +1,16 @@
--- `layout::heads::put_unknown` meets its contract. The part that is lent is the unused slot, and comes back as putAt pastes it.
+-- `heads::put_unknown` meets its contract. The part that is lent is the unused slot, and comes back as putAt pastes it.
 -- Assumes nothing.
-use Prim.Native.Nat.{_+_}
-use lib.ListN.{length-set}
+use mathlib.Core.Path.{refl}
+use mathlib.Core.List.{[], _∷_}
+use Prim.Native.Nat.{_+_, _*_}
 use native.Mathlib.Omega.{arith}
 use native.Mathlib.Nat.{add-sub-cancel-left}
 use borrow.Author.Tests.{lt-ltb}
 use Rattle.layout.specs.Meaning.{putAt}
+use Rattle.layout.proofs.Lists.{place-in}
 use borrow.Author.Needs.{needs}
-use Rattle.layout.proofs.heads.put_unknown.Statement.{statement}
-use Rattle.layout.proofs.heads.put_unknown.Tie as tie
+use Rattle.heads.proofs.put_unknown.Statement.{statement}
+use Rattle.heads.proofs.put_unknown.Tie as tie
 
 cast-a : tie.Need-cast-a
 cast-a c = search needs
@@ -35,10 +37,10 @@ slice-write-s : tie.Need-slice-write-s
 slice-write-s c = search needs
 
 slice-write-s-2 : tie.Need-slice-write-s-2
-slice-write-s-2 c = simp length-set (omega arith)
+slice-write-s-2 c = let a = c .before .before .args in place-in (a .i .0 * 12) (a .i .0 * 12 + 12) 12 (a .ws .now) (1 ∷ a .span ∷ []) 1 (c .s .given .1) (add-sub-cancel-left _ _) refl
 
 slice-write-s-3 : tie.Need-slice-write-s-3
-slice-write-s-3 c = simp length-set (omega arith)
+slice-write-s-3 c = let a = c .before .before .args in place-in (a .i .0 * 12) (a .i .0 * 12 + 12) 12 (a .ws .now) (1 ∷ a .span ∷ []) 2 (c .s .given .1) (add-sub-cancel-left _ _) refl
 
 same-length : tie.Need-same-length
 same-length c = search needs
