@@ -61,6 +61,8 @@ pub struct Store {
   pub pairs: Vec<(u32, u32)>,
   /// Lists to unify.
   pub lists: Vec<(Vec<u32>, Vec<u32>)>,
+  /// Whether every slot has a name of two bytes of the rule text.
+  named: bool,
 }
 
 /// A struct, a union and a trait, ten words each: sort, name and path (text, start, length), def, flag, trait.
@@ -79,7 +81,7 @@ impl Store {
   fn new(name: impl Into<String>) -> Self {
     let h = vec![0, 0, NODES as u32, CHILDREN as u32, NONE, NONE, 0, 0];
     let words = Words { h, ws: Vec::new(), ks: Vec::new() };
-    Store { name: name.into(), rules: rules(), words, asked: Vec::new(), pairs: Vec::new(), lists: Vec::new() }
+    Store { name: name.into(), rules: rules(), words, asked: Vec::new(), pairs: Vec::new(), lists: Vec::new(), named: false }
   }
 
   fn nodes(&self) -> usize {
@@ -156,6 +158,7 @@ impl Store {
 
   /// Every slot gets a name of two bytes, in ascending order.
   fn named(mut self) -> Self {
+    self.named = true;
     for (i, slot) in self.words.ks.chunks_mut(4).enumerate() {
       self.rules.rule.extend((i as u16).to_be_bytes());
       slot[2..].copy_from_slice(&[2 * i as u32, 2]);
@@ -175,9 +178,8 @@ impl Store {
 
 /// A list as entries: with the names of the store's first slots, or with none where it has no names.
 pub fn entries(store: &Store, list: &[u32]) -> Vec<u32> {
-  let names = store.rules.rule.len() / 2;
-  let name = |i: usize| if names == 0 { [1, i as u32 % 10, 1] } else { [0, 2 * i as u32, 2] };
-  let count = if names == 0 { 1 } else { list.len().min(names) };
+  let name = |i: usize| if store.named { [0, 2 * i as u32, 2] } else { [1, i as u32 % 10, 1] };
+  let count = if store.named { list.len().min(store.slots()) } else { 1 };
   (0..count).flat_map(|i| [list[i], name(i)[0], name(i)[1], name(i)[2]]).collect()
 }
 
@@ -341,6 +343,62 @@ fn variables_and_chain(sets: usize) -> Store {
   s.full()
 }
 
+/// So many tuples over one run and as many over another, 255 to a tuple: unified, each slot of a run meets one of the other.
+fn tuples(s: &mut Store, [a, b]: [usize; 2], count: usize, next: impl Fn(usize) -> usize) {
+  let mut over = |first: usize| {
+    let kinds: Vec<u32> = (0..count).map(|i| s.kind(TUPLE, first + next(i), WIDTH)).collect();
+    let tuples: Vec<u32> = kinds.chunks(WIDTH).map(|part| s.over(TUPLE, part)).collect();
+    s.over(TUPLE, &tuples)
+  };
+  let pair = (over(a), over(b));
+  s.pairs = vec![pair];
+}
+
+/// The last of a set of windows meets its own inverse, in so many tuples.
+fn inverses(count: usize) -> Store {
+  let mut s = Store::new(format!("the last of windows and its inverse, in {count} tuples"));
+  let end = s.kind(TUPLE, 0, 0);
+  let top = s.windows(TUPLE, NODES - 1 - 2 * (count + count.div_ceil(WIDTH) + 1), 1, end);
+  let runs = [s.run(&[top; WIDTH]), s.run(&[top | INVERSE; WIDTH])];
+  tuples(&mut s, runs, count, |_| 0);
+  s.full()
+}
+
+/// Each of a set of windows meets its own inverse, in so many tuples that begin apart.
+fn inverses_of_each(count: usize) -> Store {
+  let mut s = Store::new(format!("each of windows and its inverse, in {count} tuples"));
+  let end = s.kind(TUPLE, 0, 0);
+  let windows = NODES - 1 - 2 * (count + count.div_ceil(WIDTH) + 1);
+  let first = s.slots() + WIDTH;
+  s.windows(TUPLE, windows, 1, end);
+  let inverse: Vec<u32> = (first..first + windows).map(|i| s.words.ks[4 * i] | INVERSE).collect();
+  let runs = [first, s.run(&inverse)];
+  tuples(&mut s, runs, count, |i| 7 * i % (windows - WIDTH));
+  s.full()
+}
+
+/// Objects alike over two runs of long names, one in each text, that differ in the last byte.
+fn alike(sets: usize) -> Store {
+  let mut s = Store::new(format!("{} objects alike over long names", 2 * sets * WIDTH));
+  let names: Vec<u8> = (0..WIDTH).flat_map(|i| [[b'a'; WIDTH - 1].as_slice(), &[i as u8]].concat()).collect();
+  let sides = [0, 1].map(|text| {
+    let var = s.var();
+    let first = s.slots();
+    (0..WIDTH).for_each(|i| s.words.ks.extend([var, text, (WIDTH * i) as u32, WIDTH as u32]));
+    let tuples: Vec<u32> = (0..sets)
+      .map(|_| {
+        let objects: Vec<u32> = (0..WIDTH).map(|_| s.kind(OBJECT, first, WIDTH)).collect();
+        s.over(TUPLE, &objects)
+      })
+      .collect();
+    s.over(TUPLE, &tuples)
+  });
+  s.rules.rule = names.clone();
+  s.rules.text = names;
+  s.pairs = vec![(sides[0], sides[1])];
+  s.full()
+}
+
 /// Objects without a shared name, in two lists. Names of 255 bytes, parts of one text, that differ late.
 fn strangers() -> Store {
   let mut s = Store::new("objects without a shared name");
@@ -389,5 +447,8 @@ pub fn all() -> Vec<Store> {
   all.extend([1, 4, 8, 12].map(|sets| variables(sets, false)));
   all.extend([1, 4, 8, 12, 14].map(|sets| variables(sets, true)));
   all.extend([1, 4].map(variables_and_chain));
+  all.extend([255, 1000].map(inverses));
+  all.extend([250, 500, 1000, 1500].map(inverses_of_each));
+  all.push(alike(7));
   all
 }
