@@ -6,7 +6,7 @@ use Prim.Native.Nat.{ℕ}
 use lib.ListN.{length}
 use Rattle.append.proofs.Laws.{so-far-start}
 use Rattle.sheet_calls.specs.Store.{SheetStore}
-use Rattle.sheet_run.specs.Fed.{GoesOn}
+use Rattle.sheet_feed.specs.Fed.{GoesOn}
 use Rattle.sheet.specs.Holding.{Holding, Goes}
 
 -- a line that begins
