@@ -1,12 +1,12 @@
 -- What the program keeps, from one step to the next.
 -- Assumes nothing.
-use mathlib.Core.Path.{_≡_, refl}
+use mathlib.Core.Path.{_≡_, refl, _∙_}
 use mathlib.Core.List.{List, [], _++_}
 use Prim.Native.Nat.{ℕ}
 use lib.ListN.{length}
 use Rattle.append.proofs.Laws.{so-far-start}
 use Rattle.sheet_calls.specs.Store.{SheetStore}
-use Rattle.sheet_run.specs.Fed.{GoesOn}
+use Rattle.sheet_feed.specs.Fed.{GoesOn}
 use Rattle.sheet.specs.Holding.{Holding, Goes}
 
 -- a line that begins
@@ -32,3 +32,9 @@ pub record Long (h₀ ws₀ ks₀ m₀ l₀ t₀ h ws ks m l t : List ℕ) : Typ
 
 pub long-same : (h ws ks memory line text : List ℕ) → Long h ws ks memory line text h ws ks memory line text
 long-same h ws ks memory line text = record { head = refl; nodes = refl; kids = refl; memory = refl; line = refl; text = refl }
+
+pub long-on : {h₀ ws₀ ks₀ m₀ l₀ t₀ h ws ks m l t h′ ws′ ks′ m′ l′ t′ : List ℕ} → Long h₀ ws₀ ks₀ m₀ l₀ t₀ h ws ks m l t
+    → length h′ ≡ length h → length ws′ ≡ length ws → length ks′ ≡ length ks → length m′ ≡ length m → length l′ ≡ length l → length t′ ≡ length t
+    → Long h₀ ws₀ ks₀ m₀ l₀ t₀ h′ ws′ ks′ m′ l′ t′
+long-on a h ws ks m l t =
+    record { head = h ∙ a .head; nodes = ws ∙ a .nodes; kids = ks ∙ a .kids; memory = m ∙ a .memory; line = l ∙ a .line; text = t ∙ a .text }

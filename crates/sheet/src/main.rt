@@ -1,22 +1,22 @@
 // Program `sheet`: lines from standard input, and what each prints to standard output, in fixed memory: 4 MB are lent to its unify, in which each pair of types
 // has its own entry, so that no input takes long. Each line is answered before more is read, so that it can be used over a pipe or at a terminal. It only reads and
-// writes: what a line is and what it prints is `sheet_run`'s. Where nobody takes the output any more it ends; a read that fails is told on standard error.
+// writes: what a line is and what it prints is `sheet_feed`'s. Where nobody takes the output any more it ends; a read that fails is told on standard error.
 ghost use mathlib.Core.Path.{_≡_};
 ghost use Prim.Native.Nat.{_<_};
 ghost use lib.ListN.{length};
 ghost use Rattle.scope.specs.Limits.{SHEET-TEXT};
 ghost use Rattle.sheet_calls.specs.Store.{SheetStore};
-ghost use Rattle.sheet_run.specs.Fed.{LINE-KEPT};
+ghost use Rattle.sheet_feed.specs.Fed.{LINE-KEPT};
 ghost use Rattle.sheet.specs.Holding.{Holding, Kept};
 use layout::HEAD_WORDS;
 use libc::STDIN_FILENO;
 use libc::STDOUT_FILENO;
 use scope::SHEET_TEXT;
-use sheet_run::Fed;
-use sheet_run::LINE_KEPT;
-use sheet_run::SHEET_CHILD_WORDS;
-use sheet_run::SHEET_MEMORY_WORDS;
-use sheet_run::SHEET_NODE_WORDS;
+use sheet_feed::Fed;
+use sheet_feed::LINE_KEPT;
+use sheet_line::SHEET_CHILD_WORDS;
+use sheet_line::SHEET_MEMORY_WORDS;
+use sheet_line::SHEET_NODE_WORDS;
 
 // A text and its newline.
 const TEXT: usize = SHEET_TEXT + 1;
@@ -52,7 +52,7 @@ fn feed_all(
     let mut left = piece.len();
     while left > 0 {
         let i = piece.len() - left;
-        let f = sheet_run::feed(h, ws, ks, memory, line, p, &piece[i..], text);
+        let f = sheet_feed::feed(h, ws, ks, memory, line, p, &piece[i..], text);
         match f {
             Fed::More(q) => {
                 return Went::On(q);
@@ -94,7 +94,7 @@ fn serve(
             return;
         }
         if got == 0 {
-            let n = sheet_run::feed_end(h, ws, ks, memory, line, at, text);
+            let n = sheet_feed::feed_end(h, ws, ks, memory, line, at, text);
             io::write_all(STDOUT_FILENO, &text[..n]);
             return;
         }

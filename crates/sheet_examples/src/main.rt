@@ -2,7 +2,7 @@
 ghost use Rattle.io.specs.Counts.{Counts};
 use libc::STDOUT_FILENO;
 use promise::CountAnswer;
-use sheet_run::SHEET_MEMORY_WORDS;
+use sheet_line::SHEET_MEMORY_WORDS;
 
 // No input and no output here is longer.
 const LONGEST: usize = 4096;

@@ -7,7 +7,6 @@ use native.Mathlib.Decide.{decLe}
 use native.Mathlib.Omega.{arith}
 use borrow.Author.Tests.{lt-ltb, le-ltb, le-leb, lt-leb}
 use lib.ListN.{length, take, drop, drop-of-length-le}
-use lib.Seq.{take-at}
 use Rattle.scope.specs.Limits.{SHEET-NODES, SHEET-CHILDREN, SHEET-TEXT}
 use Rattle.scope.specs.Nodes.{Store}
 use Rattle.scope.specs.Refusals.{SHORT}
@@ -21,7 +20,8 @@ use Rattle.append.proofs.Laws.{so-far-start, so-far-length, so-far-fits, so-far
 use Rattle.promise.specs.Promise.{value, refusal}
 use Rattle.promise.specs.Prints.{PrintPromised}
 use Rattle.sheet_calls.specs.Store.{SheetStore}
-use Rattle.sheet_calls.specs.Ran.{lineLeaves, Ran}
+use Rattle.sheet_calls.specs.Ran.{Ran}
+use Rattle.sheet_line.proofs.TextLaws.{ran-text}
 use Rattle.sheet_run.specs.Starts.{nextStart}
 
 -- where the next line starts
@@ -55,11 +55,6 @@ pub record Long (m₀ m h ws ks t : List ℕ) : Type 0 where
   pub nodes : length ws ≡ nodeWords SHEET-NODES
   pub kids : length ks ≡ childWords SHEET-CHILDREN
   pub text : length t ≡ SHEET-TEXT
-
--- a line's text is what stands in front
-pub ran-text : {s : Store} {l : Line} {h ws ks h′ ws′ ks′ out out′ : List ℕ} {n : ℕ} → Ran s l h ws ks h′ ws′ ks′ out out′ n → take n out′ ≡ sheetLine s l .bytes
-ran-text {s} {l} {out = out} {n = n} r =
-    ap (take n) (r .printed .bytes) ∙ take-at (sheetLine s l .bytes) (drop (length (sheetLine s l .bytes)) (lineLeaves s l out)) n (sym (r .printed .end))
 
 -- before the line at i: the store is sound, and what is printed so far is followed by what the lines from i on print
 pub record Turn (input out₀ h ws ks out : List ℕ) (at i : ℕ) : Type 0 where

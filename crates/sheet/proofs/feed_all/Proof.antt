@@ -8,7 +8,7 @@ use borrow.Author.Needs.{needs}
 use lib.ListN.{length, drop, length-take, length-drop}
 use lib.Seq.{length-take-le}
 use Rattle.sheet.specs.Holding.{Goes}
-use Rattle.sheet.proofs.Laws.{begins, goes-more, Long, long-same}
+use Rattle.sheet.proofs.Laws.{begins, goes-more, Long, long-same, long-on}
 use Rattle.sheet.proofs.feed_all.Statement.{statement}
 use Rattle.sheet.proofs.feed_all.Tie as tie
 
@@ -174,14 +174,7 @@ loop-again c =
     let feed = at-feed .feed in
     let kept = feed .kept in (
       record { store = ended .sound; holds = begins (feed .last .1 .1 .1 .1 .0) },
-      record {
-        head = omega (arith, kept .0, long .head);
-        nodes = omega (arith, kept .1 .0, long .nodes);
-        kids = omega (arith, kept .1 .1 .0, long .kids);
-        memory = omega (arith, kept .1 .1 .1 .0, long .memory);
-        line = omega (arith, kept .1 .1 .1 .1 .0, long .line);
-        text = omega (arith, kept .1 .1 .1 .1 .1 .1 .1 .0, long .text);
-      },
+      long-on long (kept .0) (kept .1 .0) (kept .1 .1 .0) (kept .1 .1 .1 .0) (kept .1 .1 .1 .1 .0) (kept .1 .1 .1 .1 .1 .1 .1 .0),
       omega (arith, ended .inside, length-take (n - i) (drop i piece), length-drop i piece, left),
     )
 

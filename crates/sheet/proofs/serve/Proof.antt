@@ -7,7 +7,7 @@ use borrow.Author.Needs.{needs}
 use lib.ListN.{length}
 use lib.Seq.{length-take-le}
 use Rattle.sheet.specs.Holding.{Goes}
-use Rattle.sheet.proofs.Laws.{begins, Long, long-same}
+use Rattle.sheet.proofs.Laws.{begins, Long, long-same, long-on}
 use Rattle.sheet.proofs.serve.Statement.{statement}
 use Rattle.sheet.proofs.serve.Tie as tie
 
@@ -202,14 +202,7 @@ loop-again c =
     let long = at-loop .loop .inv .1 in
     let on = rw (at-w .w .given .1) at (at-feed-all .feed-all .ensures) in (
       on,
-      record {
-        head = omega (arith, kept .0, long .head);
-        nodes = omega (arith, kept .1 .0, long .nodes);
-        kids = omega (arith, kept .1 .1 .0, long .kids);
-        memory = omega (arith, kept .1 .1 .1 .0, long .memory);
-        line = omega (arith, kept .1 .1 .1 .1 .0, long .line);
-        text = omega (arith, kept .1 .1 .1 .1 .1 .1 .1 .0, long .text);
-      },
+      long-on long (kept .0) (kept .1 .0) (kept .1 .1 .0) (kept .1 .1 .1 .0) (kept .1 .1 .1 .1 .0) (kept .1 .1 .1 .1 .1 .1 .1 .0),
       omega (arith, at-read .read .kept, at-loop .loop .inv .2),
     )
 

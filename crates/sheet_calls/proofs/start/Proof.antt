@@ -1,5 +1,6 @@
 -- `sheet_calls::start` meets its contract: a store just opened is sound.
 -- Assumes nothing.
+use native.Mathlib.Omega.{arith}
 use Rattle.sheet_calls.proofs.Laws.{start-sound}
 use borrow.Author.Needs.{needs}
 use Rattle.sheet_calls.proofs.start.Statement.{statement}
@@ -12,7 +13,9 @@ cast-open-2 : tie.Need-cast-open-2
 cast-open-2 c = search needs
 
 open-requires : tie.Need-open-requires
-open-requires c κs = search needs
+open-requires c κs =
+    let asked = c .before .before .before .before .before .before .pre in
+    record { nodes = omega arith; children = omega arith; head = asked .head; nodeLen = omega (arith, asked .nodeLen); childLen = omega (arith, asked .childLen) }
 
 same-length : tie.Need-same-length
 same-length c = search needs

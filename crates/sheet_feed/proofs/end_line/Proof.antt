@@ -1,12 +1,12 @@
--- `sheet_run::end_line` meets its contract: what is kept is the line, or as much of it as is too long.
+-- `sheet_feed::end_line` meets its contract: what is kept is the line, or as much of it as is too long.
 -- Assumes nothing.
 use mathlib.Core.Path.{sym}
 use native.Mathlib.Omega.{arith}
 use lib.Seq.{length-take-le}
-use Rattle.sheet_run.proofs.FeedLaws.{line-ran}
+use Rattle.sheet_feed.proofs.FeedLaws.{line-ran}
 use borrow.Author.Needs.{needs}
-use Rattle.sheet_run.proofs.end_line.Statement.{statement}
-use Rattle.sheet_run.proofs.end_line.Tie as tie
+use Rattle.sheet_feed.proofs.end_line.Statement.{statement}
+use Rattle.sheet_feed.proofs.end_line.Tie as tie
 
 kept-requires : tie.Need-kept-requires
 kept-requires c κs = search needs

@@ -1,13 +1,13 @@
--- `sheet_run::feed` meets its contract: the piece up to its newline goes on with the line, and is all of the piece or ends the line.
+-- `sheet_feed::feed` meets its contract: the piece up to its newline goes on with the line, and is all of the piece or ends the line.
 -- Assumes nothing.
 use mathlib.Core.Path.{sym}
 use native.Mathlib.Omega.{arith}
 use lib.Seq.{length-take-le}
 use Rattle.sheet_lines.proofs.Laws.{place-within}
-use Rattle.sheet_run.proofs.FeedLaws.{goes-on, line-ended}
+use Rattle.sheet_feed.proofs.FeedLaws.{goes-on, line-ended}
 use borrow.Author.Needs.{needs}
-use Rattle.sheet_run.proofs.feed.Statement.{statement}
-use Rattle.sheet_run.proofs.feed.Tie as tie
+use Rattle.sheet_feed.proofs.feed.Statement.{statement}
+use Rattle.sheet_feed.proofs.feed.Tie as tie
 
 line-end-requires : tie.Need-line-end-requires
 line-end-requires c κs = search needs

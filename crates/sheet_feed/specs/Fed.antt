@@ -9,8 +9,8 @@ use Rattle.layout.specs.Words.{storeIn}
 use Rattle.store.specs.Holds.{Became}
 use Rattle.sheet_lines.specs.Places.{nextPlace}
 use Rattle.sheet_calls.specs.Store.{SheetStore}
-use Rattle.sheet_run.specs.declared.Fed.{Fed}
-use Rattle.sheet_run.specs.declared.Fed.the-variants.{More, Line}
+use Rattle.sheet_feed.specs.declared.Fed.{Fed}
+use Rattle.sheet_feed.specs.declared.Fed.the-variants.{More, Line}
 
 -- of a line so many bytes are kept: one more than a line may have
 abbrev pub LINE-KEPT : ℕ

@@ -16,8 +16,8 @@ use Rattle.layout.specs.Words.{storeIn}
 use Rattle.sheet_lines.specs.Places.{nextPlace}
 use Rattle.sheet_lines.proofs.Laws.{parse-long, place-within}
 use Rattle.sheet_calls.specs.Ran.{Ran}
-use Rattle.sheet_run.specs.Fed.{LINE-KEPT, LineRan, GoesOn, Answered, Ended, lastLines, LastRan}
-use Rattle.sheet_run.proofs.RunLaws.{ran-text}
+use Rattle.sheet_line.proofs.TextLaws.{ran-text}
+use Rattle.sheet_feed.specs.Fed.{LINE-KEPT, LineRan, GoesOn, Answered, Ended, lastLines, LastRan}
 
 line-whole : {line₀ line bs : List ℕ} {at : ℕ} → SoFar line₀ line at bs → at ≤ length line → parse (take at line) ≡ parse bs
 line-whole {line₀} {line} {bs} {at} f l =

@@ -1,9 +1,9 @@
--- `sheet_run::feed_end` meets its contract: no byte is no line, and any other is run.
+-- `sheet_feed::feed_end` meets its contract: no byte is no line, and any other is run.
 -- Assumes nothing.
-use Rattle.sheet_run.proofs.FeedLaws.{last-none, last-ran}
+use Rattle.sheet_feed.proofs.FeedLaws.{last-none, last-ran}
 use borrow.Author.Needs.{needs}
-use Rattle.sheet_run.proofs.feed_end.Statement.{statement}
-use Rattle.sheet_run.proofs.feed_end.Tie as tie
+use Rattle.sheet_feed.proofs.feed_end.Statement.{statement}
+use Rattle.sheet_feed.proofs.feed_end.Tie as tie
 
 returns : tie.Need-returns
 returns c =

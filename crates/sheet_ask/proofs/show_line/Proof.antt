@@ -1,4 +1,4 @@
--- `sheet_run::show_line` meets its contract: the text, or the refusal over what `show` left.
+-- `sheet_ask::show_line` meets its contract: the text, or the refusal over what `show` left.
 -- Assumes nothing.
 use mathlib.Core.Path.{sym}
 use lib.ListN.{take}
@@ -8,10 +8,10 @@ use Rattle.scope.specs.Types.{tyOf}
 use Rattle.scope.specs.Calls.{showCall}
 use Rattle.layout.specs.Words.{storeIn}
 use Rattle.sheet_calls.proofs.StoreLaws.{sheet-tested, as-printed}
-use Rattle.sheet_run.proofs.ShowLaws.{shown-fits, shown-back}
+use Rattle.sheet_ask.proofs.ShowLaws.{shown-fits, shown-back}
 use borrow.Author.Needs.{needs}
-use Rattle.sheet_run.proofs.show_line.Statement.{statement}
-use Rattle.sheet_run.proofs.show_line.Tie as tie
+use Rattle.sheet_ask.proofs.show_line.Statement.{statement}
+use Rattle.sheet_ask.proofs.show_line.Tie as tie
 
 slice-aggregate-show : tie.Need-slice-aggregate-show
 slice-aggregate-show c = search needs

@@ -1,12 +1,12 @@
--- `sheet_run::run_line` meets its contract: the line is read, and then run.
+-- `sheet_line::run_line` meets its contract: the line is read, and then run.
 -- Assumes nothing.
 use native.Mathlib.Omega.{arith}
 use Rattle.scope.specs.Sheet.{Line}
 use Rattle.layout.specs.Words.{storeIn}
 use Rattle.sheet_calls.proofs.Laws.{ran, ran-like, same-store, show-store}
 use borrow.Author.Needs.{needs}
-use Rattle.sheet_run.proofs.run_line.Statement.{statement}
-use Rattle.sheet_run.proofs.run_line.Tie as tie
+use Rattle.sheet_line.proofs.run_line.Statement.{statement}
+use Rattle.sheet_line.proofs.run_line.Tie as tie
 
 slice-aggregate-parse : tie.Need-slice-aggregate-parse
 slice-aggregate-parse c = search needs
@@ -57,7 +57,8 @@ returns c =
     let at-l = at-plain-line .before .before .before .before .before .before .before in
     let at-parse = at-l .before .before .before in
     let means = rw (at-l .l .given .1) at (at-parse .parse .ensures .means) in
-    ran-like means (at-plain-line .plain-line .ensures)
+    let a = at-parse .before .before .before .before .before .before .before .before .args in
+    ran-like {s = storeIn (a .h .now) (a .ws .now) (a .ks .now)} means (at-plain-line .plain-line .ensures)
 
 same-length-5 : tie.Need-same-length-5
 same-length-5 c = search needs
@@ -80,7 +81,8 @@ returns-2 c =
     let at-l = at-unify-line .before .before .before .before .before .before .before in
     let at-parse = at-l .before .before .before in
     let means = rw (at-l .l2 .given .1) at (at-parse .parse .ensures .means) in
-    ran-like means (at-unify-line .unify-line .ensures)
+    let a = at-parse .before .before .before .before .before .before .before .before .args in
+    ran-like {s = storeIn (a .h .now) (a .ws .now) (a .ks .now)} means (at-unify-line .unify-line .ensures)
 
 same-length-10 : tie.Need-same-length-10
 same-length-10 c = search needs

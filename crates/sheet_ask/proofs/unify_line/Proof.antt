@@ -1,4 +1,4 @@
--- `sheet_run::unify_line` meets its contract: it is the call on a tested store, over the empty chart, and what is printed for its answer.
+-- `sheet_ask::unify_line` meets its contract: it is the call on a tested store, over the empty chart, and what is printed for its answer.
 -- Assumes nothing.
 use mathlib.Core.Path.{refl}
 use Rattle.scope.specs.Types.{tyOf}
@@ -7,8 +7,8 @@ use Rattle.scope.specs.Sheet.{Line, sheetLine}
 use Rattle.sheet_calls.proofs.StoreLaws.{sheet-tested, as-sheet-by}
 use Rattle.sheet_calls.proofs.Laws.{ran-answer, ran-refused}
 use borrow.Author.Needs.{needs}
-use Rattle.sheet_run.proofs.unify_line.Statement.{statement}
-use Rattle.sheet_run.proofs.unify_line.Tie as tie
+use Rattle.sheet_ask.proofs.unify_line.Statement.{statement}
+use Rattle.sheet_ask.proofs.unify_line.Tie as tie
 
 slice-aggregate-unify-recalling : tie.Need-slice-aggregate-unify-recalling
 slice-aggregate-unify-recalling c = search needs
