@@ -35,9 +35,9 @@ use Rattle.roots.specs.Found.{Found}
 use Rattle.related.proofs.Laws.{root-is}
 use Rattle.walk.specs.declared.Mod.{Mod}
 use Rattle.walk.specs.declared.Mod.the-variants as mods
-use Rattle.walk.specs.Read.{goodBy, goodAt, modMeans, modBy}
+use Rattle.walk.specs.Read.{nilBy, goodBy, goodAt, modMeans, modBy}
 use Rattle.walk.specs.Asks.{Stands, Walks, Occurs, Inverses, Nil, Modded}
-use Rattle.walk.proofs.Laws.{nilBy, modIn, good-read, nil-read, mod-read, kid-next, kid-none}
+use Rattle.walk.proofs.Laws.{modIn, good-read, nil-read, mod-read, kid-next, kid-none}
 
 -- sound nodes can be walked
 pub sound-walks : (e : Env) {ws ks : List ℕ} {c n : ℕ} → Clean ws ks c n → n ≤ MAX-NODES → SoundNodes e (decode ws ks n) → Walks ws ks n
@@ -111,10 +111,9 @@ module _ {ws ks : List ℕ} {n t : ℕ} (o : Inverses ws ks n t) (param : Bool) 
 
 -- `is_nil`
 
-pub nil-is : {ws : List ℕ} {n t r i : ℕ} {v q : Held} {b : Bool} → Found ws n t r → i ≡ tyOf r .idx → v ≡ heldIn (readAt ws n i) → v ≡ q
-    → b ≡ nilBy q → Nil ws n t b
+pub nil-is : {ws : List ℕ} {n t r i : ℕ} {b : Bool} → Found ws n t r → i ≡ tyOf r .idx → b ≡ nilBy (heldIn (readAt ws n i)) → Nil ws n t b
 unfolding isNil
-nil-is {i = i} f e s o w = record { nil = λ ks c cl. w ∙ (sym (nil-read i cl s o) ∙ rw (root-is f e ks) refl) }
+nil-is {i = i} f e w = record { nil = λ ks c cl. w ∙ (sym (nil-read i cl refl refl) ∙ rw (root-is f e ks) refl) }
 
 -- `get_mod`
 

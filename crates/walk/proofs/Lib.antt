@@ -2,3 +2,4 @@
 pub mod Laws
 pub mod Answers
 pub mod LookLaws
+pub mod RunLaws

@@ -12,22 +12,35 @@ ghost use Rattle.scope.specs.Force.{hasDef};
 ghost use Rattle.layout.specs.Words.{nodeWords, decode};
 ghost use Rattle.layout.specs.Meaning.{readAt, heldIn, kindMeans, Linked};
 ghost use Rattle.chart.specs.Words.{recordsOf};
-ghost use Rattle.walk.specs.Read.{leafBy, goodKind, goodBy, goodAt, modMeans, modBy};
+ghost use Rattle.walk.specs.Read.{leafBy, nilBy, kidsIn, goodKind, goodBy, goodAt, modMeans, modBy};
 ghost use Rattle.related.specs.Stands.{Stands};
-ghost use Rattle.walk.specs.Asks.{Looked, Occurs, Glanced, Judged, Inverses, Nil, Modded};
+ghost use Rattle.walk.specs.Asks.{Looked, Occurs, Judges, Tries, Inverses, Nil, Modded};
 use layout::Held;
 use layout::Kind;
+use layout::TypeNode;
 use roots::Nearby;
 use scope::MAX_NODES;
 use types::Type;
 use types::TypeIdx;
 
-// What a look at children tells of what is asked, whether a node is below or whether all are good: one of them decides it, or none does, or only a walk can tell.
+// What a look at children tells of what is asked, whether a node is below or whether one is not good: there is one, or there is none, or only a walk with marks can tell.
 enum Glance {
     Met,
     Clear,
     Deep,
 }
+
+// What a root tells of `self_inverse` by itself: it is not good, or good, or good where its children are, so many from the first on.
+enum Judgement {
+    Bad,
+    Good,
+    Run { first: u32, count: u32 },
+}
+
+// So many visits a walk without marks makes at most, and goes down fewer levels than these.
+const VISITS: u32 = 256;
+
+const LEVELS: usize = 8;
 
 // get_mod's answer: no definition, a definition's def number, or an error.
 pub enum Mod {
@@ -139,53 +152,98 @@ fn all_good(ws: &[u32], n: u32, marks: &[u8], param: bool) -> bool
     true
 }
 
-// What a child near its root tells: not good, or good and without children.
-fn inverse_child(ws: &[u32], n: u32, kid: Type, param: bool) -> Glance
-    requires { ⌜ Linked (now ws) n × (1 < n) ⌝ }
-    ensures { λ r. ⌜ Glanced (now (ws .entry)) n param (kid .0) r ⌝ }
+// "Holds where the root has a self-dual kind and it holds of every child"; a Param has none.
+fn judge(ws: &[u32], n: u32, i: TypeIdx, param: bool) -> Judgement
+    requires { ⌜ nodeWords n ≤ length (now ws) ⌝ }
+    ensures { λ r. ⌜ Judges (now (ws .entry)) n param (i .0) r ⌝ }
 {
-    let Nearby::Is(root) = roots::near(ws, n, kid) else {
-        return Glance::Deep;
-    };
-    let Held::Is(_, kind) = layout::held_at(ws, n, root.idx()) else {
-        return Glance::Met;
+    let Held::Is(_, kind) = layout::held_at(ws, n, i) else {
+        return Judgement::Bad;
     };
     if !good_kind(kind, param) {
-        return Glance::Met;
+        return Judgement::Bad;
+    }
+    if kind.code == kinds::PARAM {
+        return Judgement::Good;
     }
     if kind.count < 1 {
-        return Glance::Clear;
+        return Judgement::Good;
+    }
+    Judgement::Run {
+        first: kind.first,
+        count: kind.count,
+    }
+}
+
+// A walk of so many visits at most over a run of children, depth first and without marks, which ends at the first root that is not good. What is left of the runs
+// above stands in two lists, so that it calls nothing that calls itself.
+fn inverse_run(
+    ws: &[u32],
+    ks: &[u32],
+    n: u32,
+    first: u32,
+    count: u32,
+    param: bool,
+    most: u32,
+) -> Glance
+    requires { ⌜ Stands (now ws) (now ks) n ⌝ }
+    ensures { λ r. ⌜ Tries (decode (now (ws .entry)) (now (ks .entry)) n) param (kidsIn (now (ks .entry)) first count) most r ⌝ }
+{
+    let mut nexts = [0usize; LEVELS];
+    let mut ends = [0usize; LEVELS];
+    let mut level = 0;
+    let mut next = first as usize;
+    let mut end = next + count as usize;
+    let mut left = most;
+    while 0 < left {
+        if level == LEVELS {
+            return Glance::Deep;
+        }
+        if next < end {
+            let kid = layout::child_at(ks, next).ty;
+            let root = roots::find(ws, n, kid).idx();
+            next += 1;
+            left -= 1;
+            match judge(ws, n, root, param) {
+                Judgement::Bad => {
+                    return Glance::Met;
+                }
+                Judgement::Good => {}
+                Judgement::Run {
+                    first: below,
+                    count: many,
+                } => {
+                    nexts[level] = next;
+                    ends[level] = end;
+                    level += 1;
+                    next = below as usize;
+                    end = next + many as usize;
+                }
+            }
+        } else {
+            if level == 0 {
+                return Glance::Clear;
+            }
+            level -= 1;
+            next = nexts[level];
+            end = ends[level];
+        }
     }
     Glance::Deep
 }
 
-// A look at a kind's children, which ends where one decides.
-fn inverse_children(ws: &[u32], ks: &[u32], n: u32, kind: Kind, param: bool) -> Glance
-    requires { ⌜ Stands (now ws) (now ks) n × (1 < n) ⌝ }
-    ensures { λ r. ⌜ Judged (decode (now (ws .entry)) (now (ks .entry)) n) n param (kindMeans (now (ks .entry)) kind .kids) r ⌝ }
+// A walk that ends in fewer visits than there are nodes is as deep as it is long at most.
+fn visits(n: u32) -> u32
+    requires { ⌜ 0 < n ⌝ }
+    ensures { λ r. ⌜ r < n ⌝ }
 {
-    let mut j: u32 = 0;
-    let mut deep = false;
-    while j < kind.count {
-        let kid = layout::child_of(ks, kind, j).ty;
-        j += 1;
-        match inverse_child(ws, n, kid, param) {
-            Glance::Met => {
-                return Glance::Met;
-            }
-            Glance::Clear => {}
-            Glance::Deep => {
-                deep = true;
-            }
-        }
+    if VISITS < n {
+        return VISITS;
     }
-    if deep {
-        return Glance::Deep;
-    }
-    Glance::Clear
+    n - 1
 }
 
-// "Holds where the root has a self-dual kind and it holds of every child": where every root that the type leads to is good.
+// Every root that the type leads to is good.
 fn inverse_deep(ws: &[u32], ks: &[u32], n: u32, t: Type, param: bool) -> bool
     requires { ⌜ Inverses (now ws) (now ks) n (t .0) ⌝ }
     ensures { λ r. ⌜ r ≡ selfInverseOf (decode (now (ws .entry)) (now (ks .entry)) n) (tyOf (t .0)) param ⌝ }
@@ -195,47 +253,50 @@ fn inverse_deep(ws: &[u32], ks: &[u32], n: u32, t: Type, param: bool) -> bool
     all_good(ws, n, &marks, param)
 }
 
-// What the root and a look at its children tell needs no walk.
+// What some visits do not decide is walked with marks, so that each root is visited once.
 pub fn self_inverse(ws: &[u32], ks: &[u32], n: u32, t: Type, param: bool) -> bool
     requires { ⌜ Inverses (now ws) (now ks) n (t .0) ⌝ }
     ensures { λ r. ⌜ r ≡ selfInverseOf (decode (now (ws .entry)) (now (ks .entry)) n) (tyOf (t .0)) param ⌝ }
 {
     let root = roots::find(ws, n, t).idx();
-    let Held::Is(_, kind) = layout::held_at(ws, n, root) else {
-        return false;
-    };
-    if !good_kind(kind, param) {
-        return false;
-    }
-    if kind.count < 1 {
-        return true;
-    }
-    if kind.code == kinds::PARAM {
-        return true;
-    }
-    if n < 2 {
-        return inverse_deep(ws, ks, n, t, param);
-    }
-    match inverse_children(ws, ks, n, kind, param) {
-        Glance::Met => false,
-        Glance::Clear => true,
-        Glance::Deep => inverse_deep(ws, ks, n, t, param),
+    match judge(ws, n, root, param) {
+        Judgement::Bad => false,
+        Judgement::Good => true,
+        Judgement::Run { first, count } => {
+            let most = visits(n);
+            match inverse_run(ws, ks, n, first, count, param, most) {
+                Glance::Met => false,
+                Glance::Clear => true,
+                Glance::Deep => inverse_deep(ws, ks, n, t, param),
+            }
+        }
     }
 }
 
 // A Tuple of nothing.
-pub fn is_nil(ws: &[u32], n: u32, t: Type) -> bool
-    requires { ⌜ Linked (now ws) n ⌝ }
-    ensures { λ r. ⌜ Nil (now (ws .entry)) n (t .0) r ⌝ }
+fn nil_at(ws: &[u32], n: u32, i: TypeIdx) -> bool
+    requires { ⌜ nodeWords n ≤ length (now ws) ⌝ }
+    ensures { λ r. ⌜ r ≡ nilBy (heldIn (readAt (now (ws .entry)) n (i .0))) ⌝ }
 {
-    let root = roots::find(ws, n, t).idx();
-    let Held::Is(_, kind) = layout::held_at(ws, n, root) else {
+    let Held::Is(_, kind) = layout::held_at(ws, n, i) else {
         return false;
     };
     if kind.code == kinds::TUPLE {
         return kind.count == 0;
     }
     false
+}
+
+// A root is told at once.
+pub fn is_nil(ws: &[u32], n: u32, t: Type) -> bool
+    requires { ⌜ Linked (now ws) n ⌝ }
+    ensures { λ r. ⌜ Nil (now (ws .entry)) n (t .0) r ⌝ }
+{
+    let i = t.idx();
+    let TypeNode::Child(_) = layout::node_at(ws, n, i) else {
+        return nil_at(ws, n, i);
+    };
+    nil_at(ws, n, roots::find(ws, n, t).idx())
 }
 
 // A kind that is a definition.
