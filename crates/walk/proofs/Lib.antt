@@ -2,4 +2,3 @@
 pub mod Laws
 pub mod Answers
 pub mod LookLaws
-pub mod RunLaws

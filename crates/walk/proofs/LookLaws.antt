@@ -21,8 +21,8 @@ use Rattle.layout.specs.declared.Slot.{Slot}
 use Rattle.layout.specs.declared.Held.{Held}
 use Rattle.layout.specs.declared.Held.the-variants.{Is, Nothing}
 use Rattle.layout.proofs.HeldLaws.{held-kids}
-use Rattle.walk.specs.declared.Glance.{Glance}
-use Rattle.walk.specs.declared.Glance.the-variants.{Met, Clear, Deep}
+use Rattle.inverse.specs.declared.Glance.{Glance}
+use Rattle.inverse.specs.declared.Glance.the-variants.{Met, Clear, Deep}
 use Rattle.walk.specs.Read.{leafBy}
 use Rattle.walk.specs.Asks.{Stands, Looked, Occurs}
 use Rattle.walk.proofs.Laws.{kid-next, kid-none}

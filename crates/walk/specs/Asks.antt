@@ -3,46 +3,28 @@
 use mathlib.Core.Path.{_≡_}
 use mathlib.Core.Bool.{Bool, true, false}
 use mathlib.Core.List.{List}
-use Prim.Native.Nat.{ℕ, suc, _-_, _≤_, _<_}
-use Rattle.scope.specs.Base.{any, all}
+use Prim.Native.Nat.{ℕ, _-_, _≤_, _<_}
+use Rattle.scope.specs.Base.{any}
 use Rattle.scope.specs.Limits.{MAX-NODES}
 use Rattle.scope.specs.Chart.{Env}
 use Rattle.scope.specs.Types.{Ty, tyOf}
 use Rattle.scope.specs.Nodes.{Node, at, isRoot, find}
-use Rattle.scope.specs.Unify.{occurs, selfInverseAt}
+use Rattle.scope.specs.Unify.{occurs}
 use Rattle.scope.specs.Force.{isNil, getMod}
 use Rattle.scope.proofs.Marks.{Walkable}
 use Rattle.layout.specs.Words.{decode}
 use Rattle.layout.specs.Meaning.{Clean}
 use Rattle.chart.specs.Words.{recordsOf}
 pub use Rattle.related.specs.Stands.{Stands}
-use Rattle.walk.specs.declared.Glance.{Glance}
-use Rattle.walk.specs.declared.Glance.the-variants.{Met, Clear}
-use Rattle.walk.specs.declared.Judgement.{Judgement}
-use Rattle.walk.specs.declared.Judgement.the-variants.{Bad, Good, Run}
+use Rattle.inverse.specs.declared.Glance.{Glance}
+use Rattle.inverse.specs.declared.Glance.the-variants.{Met, Clear}
 use Rattle.walk.specs.declared.Mod.{Mod}
-use Rattle.walk.specs.Read.{kidsIn, modMeans}
+use Rattle.walk.specs.Read.{modMeans}
 
 -- what a look at a kind's children ts tells of x, in a walk of depth n from the kind on
 pub record Looked (ns : List Node) (n x : ℕ) (ts : List Ty) (r : Glance) : Type 0 where
   pub met : r ≡ Met → any (λ t. occurs (n - 1) ns x (find ns t .idx)) ts ≡ true
   pub clear : r ≡ Clear → any (λ t. occurs (n - 1) ns x (find ns t .idx)) ts ≡ false
-
--- whether the type t is its own inverse, in a walk of depth d
-abbrev pub selfBelow : Bool → List Node → ℕ → Ty → Bool
-selfBelow param ns d t = selfInverseAt param d ns (find ns t .idx)
-
--- what the root i tells of `self_inverse` by itself, whatever the children's words are and however deep a walk goes
-pub record Judges (ws : List ℕ) (n : ℕ) (param : Bool) (i : ℕ) (r : Judgement) : Type 0 where
-  pub bad : r ≡ Bad → (ks : List ℕ) (c : ℕ) → Clean ws ks c n → (d : ℕ) → selfInverseAt param d (decode ws ks n) i ≡ false
-  pub good : r ≡ Good → (ks : List ℕ) (c : ℕ) → Clean ws ks c n → (d : ℕ) → selfInverseAt param (suc d) (decode ws ks n) i ≡ true
-  pub run : (a m : ℕ) → r ≡ Run a m → (ks : List ℕ) (c : ℕ) → Clean ws ks c n → (d : ℕ)
-      → selfInverseAt param (suc d) (decode ws ks n) i ≡ all (selfBelow param (decode ws ks n) d) (kidsIn ks a m)
-
--- and what a walk of so many visits at most tells of the types ts
-pub record Tries (ns : List Node) (param : Bool) (ts : List Ty) (most : ℕ) (r : Glance) : Type 0 where
-  pub met : r ≡ Met → (d : ℕ) → all (selfBelow param ns d) ts ≡ false
-  pub clear : r ≡ Clear → (d : ℕ) → most ≤ d → all (selfBelow param ns d) ts ≡ true
 
 -- nodes that can be walked, with a mark for each
 pub record Walks (ws ks : List ℕ) (n : ℕ) : Type 0 where

@@ -5,16 +5,17 @@ ghost use mathlib.Core.Bool.{not};
 ghost use Prim.Native.Nat.{_≤_, _<_};
 ghost use lib.Dec.{eqb};
 ghost use lib.ListN.{length, getD, set};
-ghost use Rattle.scope.specs.Base.{pick, all, from};
+ghost use Rattle.scope.specs.Base.{all, from};
 ghost use Rattle.scope.specs.Types.{tyOf};
 ghost use Rattle.scope.specs.Unify.{occurs, selfInverseOf};
 ghost use Rattle.scope.specs.Force.{hasDef};
 ghost use Rattle.layout.specs.Words.{nodeWords, decode};
 ghost use Rattle.layout.specs.Meaning.{readAt, heldIn, kindMeans, Linked};
 ghost use Rattle.chart.specs.Words.{recordsOf};
-ghost use Rattle.walk.specs.Read.{leafBy, nilBy, kidsIn, goodKind, goodBy, goodAt, modMeans, modBy};
+ghost use Rattle.walk.specs.Read.{leafBy, nilBy, goodBy, goodAt, modMeans, modBy};
 ghost use Rattle.related.specs.Stands.{Stands};
-ghost use Rattle.walk.specs.Asks.{Looked, Occurs, Judges, Tries, Inverses, Nil, Modded};
+ghost use Rattle.walk.specs.Asks.{Looked, Occurs, Inverses, Nil, Modded};
+use inverse::Glance;
 use layout::Held;
 use layout::Kind;
 use layout::TypeNode;
@@ -22,25 +23,6 @@ use roots::Nearby;
 use scope::MAX_NODES;
 use types::Type;
 use types::TypeIdx;
-
-// What a look at children tells of what is asked, whether a node is below or whether one is not good: there is one, or there is none, or only a walk with marks can tell.
-enum Glance {
-    Met,
-    Clear,
-    Deep,
-}
-
-// What a root tells of `self_inverse` by itself: it is not good, or good, or good where its children are, so many from the first on.
-enum Judgement {
-    Bad,
-    Good,
-    Run { first: u32, count: u32 },
-}
-
-// So many visits a walk without marks makes at most, and goes down fewer levels than these.
-const VISITS: u32 = 256;
-
-const LEVELS: usize = 8;
 
 // get_mod's answer: no definition, a definition's def number, or an error.
 pub enum Mod {
@@ -114,23 +96,13 @@ pub fn occurs(ws: &[u32], ks: &[u32], n: u32, x: TypeIdx, y: Type) -> bool
     }
 }
 
-// A kind that lets a type be its own inverse, children apart; a Param as param says.
-fn good_kind(kind: Kind, param: bool) -> bool
-    ensures { λ r. ⌜ r ≡ goodKind param kind ⌝ }
-{
-    if kind.code == kinds::PARAM {
-        return param;
-    }
-    kinds::self_dual(kind.code, kind.dual)
-}
-
 // "never where there is no kind"
 fn good_at(ws: &[u32], n: u32, i: TypeIdx, param: bool) -> bool
     requires { ⌜ nodeWords n ≤ length (now ws) ⌝ }
     ensures { λ r. ⌜ r ≡ goodBy param (heldIn (readAt (now (ws .entry)) n (i .0))) ⌝ }
 {
     match layout::held_at(ws, n, i) {
-        Held::Is(_, kind) => good_kind(kind, param),
+        Held::Is(_, kind) => inverse::good_kind(kind, param),
         Held::Nothing => false,
     }
 }
@@ -152,97 +124,6 @@ fn all_good(ws: &[u32], n: u32, marks: &[u8], param: bool) -> bool
     true
 }
 
-// "Holds where the root has a self-dual kind and it holds of every child"; a Param has none.
-fn judge(ws: &[u32], n: u32, i: TypeIdx, param: bool) -> Judgement
-    requires { ⌜ nodeWords n ≤ length (now ws) ⌝ }
-    ensures { λ r. ⌜ Judges (now (ws .entry)) n param (i .0) r ⌝ }
-{
-    let Held::Is(_, kind) = layout::held_at(ws, n, i) else {
-        return Judgement::Bad;
-    };
-    if !good_kind(kind, param) {
-        return Judgement::Bad;
-    }
-    if kind.code == kinds::PARAM {
-        return Judgement::Good;
-    }
-    if kind.count < 1 {
-        return Judgement::Good;
-    }
-    Judgement::Run {
-        first: kind.first,
-        count: kind.count,
-    }
-}
-
-// A walk of so many visits at most over a run of children, depth first and without marks, which ends at the first root that is not good. What is left of the runs
-// above stands in two lists, so that it calls nothing that calls itself.
-fn inverse_run(
-    ws: &[u32],
-    ks: &[u32],
-    n: u32,
-    first: u32,
-    count: u32,
-    param: bool,
-    most: u32,
-) -> Glance
-    requires { ⌜ Stands (now ws) (now ks) n ⌝ }
-    ensures { λ r. ⌜ Tries (decode (now (ws .entry)) (now (ks .entry)) n) param (kidsIn (now (ks .entry)) first count) most r ⌝ }
-{
-    let mut nexts = [0usize; LEVELS];
-    let mut ends = [0usize; LEVELS];
-    let mut level = 0;
-    let mut next = first as usize;
-    let mut end = next + count as usize;
-    let mut left = most;
-    while 0 < left {
-        if level == LEVELS {
-            return Glance::Deep;
-        }
-        if next < end {
-            let kid = layout::child_at(ks, next).ty;
-            let root = roots::find(ws, n, kid).idx();
-            next += 1;
-            left -= 1;
-            match judge(ws, n, root, param) {
-                Judgement::Bad => {
-                    return Glance::Met;
-                }
-                Judgement::Good => {}
-                Judgement::Run {
-                    first: below,
-                    count: many,
-                } => {
-                    nexts[level] = next;
-                    ends[level] = end;
-                    level += 1;
-                    next = below as usize;
-                    end = next + many as usize;
-                }
-            }
-        } else {
-            if level == 0 {
-                return Glance::Clear;
-            }
-            level -= 1;
-            next = nexts[level];
-            end = ends[level];
-        }
-    }
-    Glance::Deep
-}
-
-// A walk that ends in fewer visits than there are nodes is as deep as it is long at most.
-fn visits(n: u32) -> u32
-    requires { ⌜ 0 < n ⌝ }
-    ensures { λ r. ⌜ r < n ⌝ }
-{
-    if VISITS < n {
-        return VISITS;
-    }
-    n - 1
-}
-
 // Every root that the type leads to is good.
 fn inverse_deep(ws: &[u32], ks: &[u32], n: u32, t: Type, param: bool) -> bool
     requires { ⌜ Inverses (now ws) (now ks) n (t .0) ⌝ }
@@ -258,18 +139,10 @@ pub fn self_inverse(ws: &[u32], ks: &[u32], n: u32, t: Type, param: bool) -> boo
     requires { ⌜ Inverses (now ws) (now ks) n (t .0) ⌝ }
     ensures { λ r. ⌜ r ≡ selfInverseOf (decode (now (ws .entry)) (now (ks .entry)) n) (tyOf (t .0)) param ⌝ }
 {
-    let root = roots::find(ws, n, t).idx();
-    match judge(ws, n, root, param) {
-        Judgement::Bad => false,
-        Judgement::Good => true,
-        Judgement::Run { first, count } => {
-            let most = visits(n);
-            match inverse_run(ws, ks, n, first, count, param, most) {
-                Glance::Met => false,
-                Glance::Clear => true,
-                Glance::Deep => inverse_deep(ws, ks, n, t, param),
-            }
-        }
+    match inverse::quickly(ws, ks, n, t, param) {
+        Glance::Met => false,
+        Glance::Clear => true,
+        Glance::Deep => inverse_deep(ws, ks, n, t, param),
     }
 }
 

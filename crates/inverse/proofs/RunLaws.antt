@@ -29,13 +29,12 @@ use Rattle.layout.proofs.Laws.{length-decode}
 use Rattle.layout.proofs.HeldLaws.{held-by}
 use Rattle.roots.specs.Found.{Found}
 use Rattle.related.proofs.Laws.{root-is}
-use Rattle.walk.specs.declared.Glance.{Glance}
-use Rattle.walk.specs.declared.Glance.the-variants.{Met, Clear, Deep}
-use Rattle.walk.specs.declared.Judgement.{Judgement}
-use Rattle.walk.specs.declared.Judgement.the-variants.{Bad, Good, Run}
-use Rattle.walk.specs.Read.{kidsIn, goodKind}
-use Rattle.walk.specs.Asks.{Stands, selfBelow, Judges, Tries, Inverses}
-use Rattle.walk.proofs.Laws.{kid-none}
+use Rattle.inverse.specs.declared.Glance.{Glance}
+use Rattle.inverse.specs.declared.Glance.the-variants.{Met, Clear, Deep}
+use Rattle.inverse.specs.declared.Judgement.{Judgement}
+use Rattle.inverse.specs.declared.Judgement.the-variants.{Bad, Good, Run}
+use Rattle.related.specs.Stands.{Stands}
+use Rattle.inverse.specs.Judged.{kidsIn, goodKind, selfBelow, Judges, Tries, Glanced}
 
 -- `self_inverse` by a root's kind; g tells of a child
 
@@ -113,6 +112,10 @@ self-never : (param : Bool) {ws ks : List ℕ} {c n : ℕ} → Clean ws ks c n �
 self-never param {ws} {ks} {c} {n} cl i e s h zero = self-zero param (decode ws ks n) i
 self-never param {ws} {ks} {c} {n} cl i e s h (suc d) = self-at param d cl i e s ∙ h (selfBelow param (decode ws ks n) d)
 
+none-left : (ks : List ℕ) (p : Ty → Bool) (k : Kind) → k .count ≡ 0 → all p (kindMeans ks k .kids) ≡ true
+unfolding kindMeans
+none-left ks p k h = rw h refl
+
 -- a root by itself
 
 module _ (param : Bool) {ws : List ℕ} {n i : ℕ} {v : Held} (e : v ≡ heldIn (readAt ws n i)) where
@@ -141,7 +144,7 @@ module _ (param : Bool) {ws : List ℕ} {n i : ℕ} {v : Held} (e : v ≡ heldIn
     judges-param q h = judges-good s (λ ks p. self-param param p ks j k (sym g ∙ q) h)
 
     pub judges-bare : b ≡ true → k .count < 1 → Judges ws n param i Good
-    judges-bare q h = judges-good s (λ ks p. self-yes param p ks j k (sym g ∙ q) (ap (all p) (kid-none ks k 0 (omega arith))))
+    judges-bare q h = judges-good s (λ ks p. self-yes param p ks j k (sym g ∙ q) (none-left ks p k (omega arith)))
 
     pub judges-run : b ≡ true → (k .code ≡ PARAM → ⊥) → Judges ws n param i (Run (k .first) (k .count))
     judges-run q h = record {
@@ -345,22 +348,30 @@ module _ {ws ks : List ℕ} {n t : ℕ} {param : Bool} (o : Stands ws ks n) {a i
   pub told-run : {x m : ℕ} → r ≡ Run x m → (d : ℕ) → selfBelow param (decode ws ks n) (suc d) (tyOf t) ≡ all (selfBelow param (decode ws ks n) d) (kidsIn ks x m)
   told-run {x} {m} q d = rw (← root-is f e ks) (j .run x m q ks (o .made) (o .clean) d)
 
--- `self_inverse` of a type
+-- what is told of a type
 
-module _ {ws ks : List ℕ} {n t : ℕ} {param : Bool} (o : Inverses ws ks n t) {a i : ℕ} (f : Found ws n t a) (e : i ≡ tyOf a .idx) {r : Judgement} (j : Judges ws n param i r) where
+module _ {ns : List Node} {param : Bool} {t : ℕ} where
+  glanced-met : selfInverseOf ns (tyOf t) param ≡ false → Glanced ns param t Met
+  glanced-met h = record { met = λ q. h; clear = λ q. let z : _≡_ {A = ℕ} 0 1 = cc in absurd (omega arith) }
+
+  glanced-clear : selfInverseOf ns (tyOf t) param ≡ true → Glanced ns param t Clear
+  glanced-clear h = record { met = λ q. let z : _≡_ {A = ℕ} 0 1 = cc in absurd (omega arith); clear = λ q. h }
+
+module _ {ws ks : List ℕ} {n t : ℕ} {param : Bool} (o : Stands ws ks n) (l : tyOf t .idx < n) {a i : ℕ} (f : Found ws n t a) (e : i ≡ tyOf a .idx)
+    {r : Judgement} (j : Judges ws n param i r) where
   whole : selfInverseOf (decode ws ks n) (tyOf t) param ≡ selfBelow param (decode ws ks n) (suc (n - 1)) (tyOf t)
   unfolding selfInverseOf
-  whole = let m : length (decode ws ks n) ≡ suc (n - 1) = omega (arith, length-decode ws ks n, o .inside) in rw m refl
+  whole = let m : length (decode ws ks n) ≡ suc (n - 1) = omega (arith, length-decode ws ks n) in rw m refl
 
-  pub self-bad : r ≡ Bad → false ≡ selfInverseOf (decode ws ks n) (tyOf t) param
-  self-bad q = sym (whole ∙ told-bad (o .walks .stands) f e j q (suc (n - 1)))
+  pub glance-bad : r ≡ Bad → Glanced (decode ws ks n) param t Met
+  glance-bad q = glanced-met (whole ∙ told-bad o f e j q (suc (n - 1)))
 
-  pub self-good : r ≡ Good → true ≡ selfInverseOf (decode ws ks n) (tyOf t) param
-  self-good q = sym (whole ∙ told-good (o .walks .stands) f e j q (n - 1))
+  pub glance-good : r ≡ Good → Glanced (decode ws ks n) param t Clear
+  glance-good q = glanced-clear (whole ∙ told-good o f e j q (n - 1))
 
-  module _ {x m : ℕ} (q : r ≡ Run x m) {most : ℕ} {u : Glance} (w : Tries (decode ws ks n) param (kidsIn ks x m) most u) where
-    pub self-met : u ≡ Met → false ≡ selfInverseOf (decode ws ks n) (tyOf t) param
-    self-met z = sym (whole ∙ (told-run (o .walks .stands) f e j q (n - 1) ∙ w .met z (n - 1)))
-
-    pub self-clear : most < n → u ≡ Clear → true ≡ selfInverseOf (decode ws ks n) (tyOf t) param
-    self-clear h z = sym (whole ∙ (told-run (o .walks .stands) f e j q (n - 1) ∙ w .clear z (n - 1) (omega arith)))
+  pub glance-run : {x m : ℕ} → r ≡ Run x m → {most : ℕ} → most < n → {u : Glance} → Tries (decode ws ks n) param (kidsIn ks x m) most u
+      → Glanced (decode ws ks n) param t u
+  glance-run q h w = record {
+    met = λ z. whole ∙ (told-run o f e j q (n - 1) ∙ w .met z (n - 1));
+    clear = λ z. whole ∙ (told-run o f e j q (n - 1) ∙ w .clear z (n - 1) (omega arith));
+  }

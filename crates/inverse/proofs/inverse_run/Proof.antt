@@ -1,4 +1,4 @@
--- `walk::inverse_run` meets its contract. The invariant: the run that is walked and those above it tell what all children tell. The measure: a visit goes one
+-- `inverse::inverse_run` meets its contract. The invariant: the run that is walked and those above it tell what all children tell. The measure: a visit goes one
 -- level down at most.
 -- Assumes nothing.
 use mathlib.Core.Path.{refl}
@@ -7,12 +7,11 @@ use native.Mathlib.Omega.{arith}
 use borrow.Author.Needs.{needs}
 use Rattle.layout.specs.Words.{decode}
 use Rattle.layout.proofs.LinkLaws.{clean-linked}
-use Rattle.walk.specs.Read.{kidsIn}
-use Rattle.walk.specs.Asks.{selfBelow}
-use Rattle.walk.proofs.RunLaws.{Going, going-start, going-clear, going-up, going-met, going-good, going-down}
-use Rattle.walk.proofs.RunLaws.{tries-deep, tries-met, tries-clear, told-zero, told-bad, told-good, told-run}
-use Rattle.walk.proofs.inverse_run.Statement.{statement}
-use Rattle.walk.proofs.inverse_run.Tie as tie
+use Rattle.inverse.specs.Judged.{kidsIn, selfBelow}
+use Rattle.inverse.proofs.RunLaws.{Going, going-start, going-clear, going-up, going-met, going-good, going-down}
+use Rattle.inverse.proofs.RunLaws.{tries-deep, tries-met, tries-clear, told-zero, told-bad, told-good, told-run}
+use Rattle.inverse.proofs.inverse_run.Statement.{statement}
+use Rattle.inverse.proofs.inverse_run.Tie as tie
 
 abbrev Inv-loop : tie.InvT-loop
 Inv-loop ws ks n first count param most nexts₀ ends₀ level₀ next₀ end₀ left₀ nexts ends level next end left =

@@ -1,10 +1,10 @@
--- `walk::judge` meets its contract: what a root's kind tells without its children.
+-- `inverse::judge` meets its contract: what a root's kind tells without its children.
 -- Assumes nothing.
 use borrow.Author.Tests.{not-true, not-false}
-use Rattle.walk.proofs.RunLaws.{judges-nothing, judges-no, judges-param, judges-bare, judges-run}
+use Rattle.inverse.proofs.RunLaws.{judges-nothing, judges-no, judges-param, judges-bare, judges-run}
 use borrow.Author.Needs.{needs}
-use Rattle.walk.proofs.judge.Statement.{statement}
-use Rattle.walk.proofs.judge.Tie as tie
+use Rattle.inverse.proofs.judge.Statement.{statement}
+use Rattle.inverse.proofs.judge.Tie as tie
 
 held-at-requires : tie.Need-held-at-requires
 held-at-requires c κs = search needs
