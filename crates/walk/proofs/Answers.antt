@@ -111,9 +111,10 @@ module _ {ws ks : List ℕ} {n t : ℕ} (o : Inverses ws ks n t) (param : Bool) 
 
 -- `is_nil`
 
-pub nil-is : {ws : List ℕ} {n t r i : ℕ} {b : Bool} → Found ws n t r → i ≡ tyOf r .idx → b ≡ nilBy (heldIn (readAt ws n i)) → Nil ws n t b
+pub nil-is : {ws : List ℕ} {n t r i : ℕ} {v q : Held} {b : Bool} → Found ws n t r → i ≡ tyOf r .idx → v ≡ heldIn (readAt ws n i) → v ≡ q
+    → b ≡ nilBy q → Nil ws n t b
 unfolding isNil
-nil-is {i = i} f e w = record { nil = λ ks c cl. w ∙ (sym (nil-read i cl refl refl) ∙ rw (root-is f e ks) refl) }
+nil-is {i = i} f e s o w = record { nil = λ ks c cl. w ∙ (sym (nil-read i cl s o) ∙ rw (root-is f e ks) refl) }
 
 -- `get_mod`
 

@@ -27,7 +27,7 @@ returns c =
     let b1 = c .before in
     let b3 = b1 .before .before in
     let b4 = b3 .before in
-    nil-is (is-root (b4 .idx .ensures) (b3 .node-at .ensures) (b1 .enum-told2 .given .1) .found _ refl) (b4 .idx .ensures) (c .nil-at .ensures)
+    nil-is (is-root (b4 .idx .ensures) (b3 .node-at .ensures) (b1 .enum-told2 .given .1) .found _ refl) (b4 .idx .ensures) refl refl (c .nil-at .ensures)
 
 find-requires : tie.Need-find-requires
 find-requires c κs = search needs
@@ -39,7 +39,7 @@ nil-at-requires-2 : tie.Need-nil-at-requires-2
 nil-at-requires-2 c κs = search needs
 
 returns-2 : tie.Need-returns-2
-returns-2 c = nil-is (c .before .before .find .ensures) (c .before .idx2 .ensures) (c .nil-at2 .ensures)
+returns-2 c = nil-is (c .before .before .find .ensures) (c .before .idx2 .ensures) refl refl (c .nil-at2 .ensures)
 
 pub is-nil-spec : {M : Type 1} → statement M
 is-nil-spec =
