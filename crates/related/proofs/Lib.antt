@@ -1,4 +1,4 @@
 -- The laws that belong to no one function
 pub mod Laws
-pub mod SkipLaws
+pub mod KeepLaws
 pub mod TurnLaws

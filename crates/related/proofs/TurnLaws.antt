@@ -25,10 +25,11 @@ use Rattle.layout.proofs.HeldLaws.{held-kids}
 use Rattle.types.specs.declared.TypeIdx.{TypeIdx}
 use Rattle.related.specs.declared.Meeting.{Meeting}
 use Rattle.related.specs.declared.Meeting.the-variants.{Met, New}
-use Rattle.related.specs.Skips.{relatedBelow, slotMarked, Scanned, Meets, Keeps}
+use Rattle.skips.specs.Table.{Scanned}
+use Rattle.related.specs.Tables.{relatedBelow, slotMarked, Meets, Keeps}
 use Rattle.related.specs.Stands.{Stands}
 use Rattle.related.proofs.Laws.{mark-met, mark-new}
-use Rattle.related.proofs.SkipLaws.{keeps-seen}
+use Rattle.related.proofs.KeepLaws.{keeps-seen}
 
 -- the children in the slots from s on, up to e
 

@@ -1,15 +1,13 @@
 // One walk that marks each root it meets: `find_related`, as scope's definition says it of the n nodes in ws, whose children lie in ks. It looks at a child's root
 // once, and at a child slot about once, however the runs of children overlap.
 ghost use mathlib.Core.Path.{_≡_};
-ghost use Prim.Native.Nat.{_≤_, _<_};
-ghost use lib.ListN.{getD, set};
 ghost use Rattle.scope.specs.Types.{tyOf};
 ghost use Rattle.scope.specs.Force.{findRelated};
 ghost use Rattle.layout.specs.Words.{decode};
 ghost use Rattle.layout.specs.Meaning.{Linked};
 ghost use Rattle.roots.specs.Kept.{Cached};
 ghost use Rattle.related.specs.Stands.{Stands};
-ghost use Rattle.related.specs.Skips.{SLOTS, Passed, Scanned, Filled, Stretched, Sees, Meets, Keeps, relatedBelow};
+ghost use Rattle.related.specs.Tables.{Sees, Meets, Keeps, relatedBelow};
 use layout::Held;
 use scope::MAX_CHILDREN;
 use scope::MAX_NODES;
@@ -23,97 +21,6 @@ const FEW: usize = 256;
 enum Meeting {
     Met,
     New(TypeIdx),
-}
-
-fn wide(x: u8) -> usize
-    ensures { λ r. ⌜ (r ≡ x) × (r < 256) ⌝ }
-{
-    x as usize
-}
-
-// A byte for each child slot says over how many, from it on, a walk passes: the roots of their children are marked. Past the end it is none.
-fn skip_at(skip: &[u8], s: usize) -> usize
-    ensures { λ r. ⌜ (r ≡ getD (now (skip .entry)) s 0) × (r < 256) ⌝ }
-{
-    if s < skip.len() {
-        return wide(skip[s]);
-    }
-    0
-}
-
-fn put_skip(skip: &mut [u8], s: usize, far: u8)
-    ensures { λ _. ⌜ now (skip .exit) ≡ set (now (skip .entry)) s far ⌝ }
-{
-    if s < skip.len() {
-        skip[s] = far;
-    }
-}
-
-// How many slots from s on are passed over: those that s tells of, and those that the next one does. Both become one where a byte holds them, so that
-// runs of children that overlap are gone through once.
-fn pass(skip: &mut [u8], s: usize) -> usize
-    requires { ⌜ s < SLOTS ⌝ }
-    ensures { λ r. ⌜ Passed (now (skip .entry)) (now (skip .exit)) s r ⌝ }
-{
-    let near = skip_at(skip, s);
-    if near == 0 {
-        return 0;
-    }
-    let more = skip_at(skip, s + near);
-    let far = near + more;
-    if far < 256 {
-        put_skip(skip, s, far as u8);
-    }
-    far
-}
-
-// A byte for each node says that its root is marked. The first slot from s on whose child's node has none, or that is passed over already; the end if there is none.
-fn scan(ks: &[u32], seen: &[u8], skip: &[u8], s: usize, end: usize) -> usize
-    requires { ⌜ s ≤ end ⌝ }
-    ensures { λ r. ⌜ Scanned (now (ks .entry)) (now (seen .entry)) s end r ⌝ }
-{
-    let mut t = s;
-    while t < end {
-        let kid = layout::child_at(ks, t).ty.idx();
-        if !roots::is_marked(seen, kid) {
-            return t;
-        }
-        if 0 < skip_at(skip, t) {
-            return t;
-        }
-        t += 1;
-    }
-    t
-}
-
-// Each slot from s up to t tells how far t is, where a byte holds it.
-fn fill(skip: &mut [u8], s: usize, t: usize)
-    requires { ⌜ s ≤ t ⌝ }
-    ensures { λ _. ⌜ Filled (now (skip .entry)) (now (skip .exit)) s t ⌝ }
-{
-    if 255 < t - s {
-        return;
-    }
-    let mut x = s;
-    while x < t {
-        if skip.len() <= x {
-            return;
-        }
-        skip[x] = (t - x) as u8;
-        x += 1;
-    }
-}
-
-// What follows the slot s and needs no root: the slot after it. If the child in s has been met all of it is passed over from now on.
-fn stretch(ks: &[u32], seen: &[u8], skip: &mut [u8], s: usize, end: usize) -> usize
-    requires { ⌜ (s < end) × (end < SLOTS) ⌝ }
-    ensures { λ r. ⌜ Stretched (now (ks .entry)) (now (seen .entry)) (now (skip .entry)) (now (skip .exit)) s end r ⌝ }
-{
-    let t = scan(ks, seen, skip, s + 1, end);
-    if roots::is_marked(seen, layout::child_at(ks, s).ty.idx()) {
-        fill(skip, s, t);
-    }
-    t
 }
 
 // A child's root is marked, if it is not, and its node told.
@@ -170,18 +77,18 @@ fn mark_below(
     let mut s = kind.first as usize;
     let end = s + kind.count as usize;
     while s < end {
-        let far = pass(skip, s);
+        let far = skips::pass(skip, s);
         if 0 < far {
             s += far;
         } else {
             let kid = layout::child_at(ks, s).ty;
             match meet(ws, n, cache, marks, seen, kid) {
                 Meeting::Met => {
-                    s = stretch(ks, seen, skip, s, end);
+                    s = skips::stretch(ks, seen, skip, s, end);
                 }
                 Meeting::New(next) => {
                     mark_below(ws, ks, n, cache, marks, seen, skip, next, depth - 1);
-                    s = stretch(ks, seen, skip, s, end);
+                    s = skips::stretch(ks, seen, skip, s, end);
                 }
             }
         }

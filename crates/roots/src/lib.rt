@@ -22,7 +22,7 @@ pub enum Nearby {
 }
 
 // The root of a type among n nodes, with the inversions on the way.
-pub fn find(ws: &[u32], n: u32, t: Type) -> Type
+fn climb(ws: &[u32], n: u32, t: Type) -> Type
     requires { ⌜ Linked (now ws) n ⌝ }
     ensures { λ r. ⌜ Found (now (ws .entry)) n (t .0) (r .0) ⌝ }
 {
@@ -45,7 +45,7 @@ fn find_far(ws: &mut [u32], n: u32, t: Type) -> Type
     requires { ⌜ Linked (now ws) n ⌝ }
     ensures { λ r. ⌜ FoundMut (now (ws .entry)) n (now (ws .exit)) (t .0) (r .0) ⌝ }
 {
-    let root = find(ws, n, t);
+    let root = climb(ws, n, t);
     let mut inv = t.inv();
     let mut cur = t.idx();
     let mut rest = n;
@@ -74,6 +74,17 @@ pub fn near(ws: &[u32], n: u32, t: Type) -> Nearby
         return Nearby::Is(parent.invert_if(inv));
     };
     Nearby::Far
+}
+
+// The same; a type that is near is told at once.
+pub fn find(ws: &[u32], n: u32, t: Type) -> Type
+    requires { ⌜ Linked (now ws) n ⌝ }
+    ensures { λ r. ⌜ Found (now (ws .entry)) n (t .0) (r .0) ⌝ }
+{
+    let Nearby::Is(r) = near(ws, n, t) else {
+        return climb(ws, n, t);
+    };
+    r
 }
 
 // "`find_mut` also points every node on the path straight at the root": a type that is near has no such path.
@@ -209,7 +220,7 @@ fn find_path(ws: &[u32], n: u32, cache: &mut [u16], t: Type) -> Type
 {
     let i = t.idx();
     let Nearby::Is(root) = top_by(ws, n, cache, i) else {
-        return find(ws, n, t);
+        return climb(ws, n, t);
     };
     keep_path(ws, n, cache, i, root);
     root.invert_if(t.inv())

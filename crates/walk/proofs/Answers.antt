@@ -35,9 +35,9 @@ use Rattle.roots.specs.Found.{Found}
 use Rattle.related.proofs.Laws.{root-is}
 use Rattle.walk.specs.declared.Mod.{Mod}
 use Rattle.walk.specs.declared.Mod.the-variants as mods
-use Rattle.walk.specs.Read.{goodBy, goodAt, modMeans, modBy}
+use Rattle.walk.specs.Read.{nilBy, goodBy, goodAt, modMeans, modBy}
 use Rattle.walk.specs.Asks.{Stands, Walks, Occurs, Inverses, Nil, Modded}
-use Rattle.walk.proofs.Laws.{nilBy, modIn, good-read, nil-read, mod-read, kid-next, kid-none}
+use Rattle.walk.proofs.Laws.{modIn, good-read, nil-read, mod-read, kid-next, kid-none}
 
 -- sound nodes can be walked
 pub sound-walks : (e : Env) {ws ks : List ℕ} {c n : ℕ} → Clean ws ks c n → n ≤ MAX-NODES → SoundNodes e (decode ws ks n) → Walks ws ks n

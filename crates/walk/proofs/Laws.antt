@@ -27,13 +27,12 @@ use Rattle.layout.specs.declared.Held.{Held}
 use Rattle.layout.specs.declared.Held.the-variants.{Is, Nothing}
 use Rattle.layout.proofs.ChildLaws.{length-kids, kid-at}
 use Rattle.layout.proofs.HeldLaws.{held-by}
-use Rattle.walk.specs.Read.{goodBy}
+use Rattle.walk.specs.Read.{nilBy, goodBy}
 
 -- one node
 
-abbrev pub nilBy : Held → Bool
-nilBy (Is i k) = eqb (k .code) TUPLE && eqb (k .count) 0
-nilBy Nothing = false
+pub nil-told : {v q w : Held} {b : Bool} → v ≡ w → v ≡ q → b ≡ nilBy q → b ≡ nilBy w
+nil-told e s h = h ∙ ap nilBy (sym s ∙ e)
 
 abbrev pub modIn : Env → (Ty → force.Mod) → List ℕ → Held → force.Mod
 modIn e g ks (Is i k) = modOfState e g (nodes.Known false (kindMeans ks k))

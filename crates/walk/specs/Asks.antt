@@ -4,20 +4,20 @@ use mathlib.Core.Path.{_≡_}
 use mathlib.Core.Bool.{Bool, true, false}
 use mathlib.Core.List.{List}
 use Prim.Native.Nat.{ℕ, _-_, _≤_, _<_}
-use Rattle.scope.specs.Base.{any, all}
+use Rattle.scope.specs.Base.{any}
 use Rattle.scope.specs.Limits.{MAX-NODES}
 use Rattle.scope.specs.Chart.{Env}
 use Rattle.scope.specs.Types.{Ty, tyOf}
 use Rattle.scope.specs.Nodes.{Node, at, isRoot, find}
-use Rattle.scope.specs.Unify.{occurs, selfInverseAt}
+use Rattle.scope.specs.Unify.{occurs}
 use Rattle.scope.specs.Force.{isNil, getMod}
 use Rattle.scope.proofs.Marks.{Walkable}
 use Rattle.layout.specs.Words.{decode}
 use Rattle.layout.specs.Meaning.{Clean}
 use Rattle.chart.specs.Words.{recordsOf}
 pub use Rattle.related.specs.Stands.{Stands}
-use Rattle.walk.specs.declared.Glance.{Glance}
-use Rattle.walk.specs.declared.Glance.the-variants.{Met, Clear}
+use Rattle.inverse.specs.declared.Glance.{Glance}
+use Rattle.inverse.specs.declared.Glance.the-variants.{Met, Clear}
 use Rattle.walk.specs.declared.Mod.{Mod}
 use Rattle.walk.specs.Read.{modMeans}
 
@@ -25,16 +25,6 @@ use Rattle.walk.specs.Read.{modMeans}
 pub record Looked (ns : List Node) (n x : ℕ) (ts : List Ty) (r : Glance) : Type 0 where
   pub met : r ≡ Met → any (λ t. occurs (n - 1) ns x (find ns t .idx)) ts ≡ true
   pub clear : r ≡ Clear → any (λ t. occurs (n - 1) ns x (find ns t .idx)) ts ≡ false
-
--- what a look at a child tells of `self_inverse`, whatever the children's words are
-pub record Glanced (ws : List ℕ) (n : ℕ) (param : Bool) (t : ℕ) (r : Glance) : Type 0 where
-  pub met : r ≡ Met → (ks : List ℕ) (c : ℕ) → Clean ws ks c n → selfInverseAt param (n - 1) (decode ws ks n) (find (decode ws ks n) (tyOf t) .idx) ≡ false
-  pub clear : r ≡ Clear → (ks : List ℕ) (c : ℕ) → Clean ws ks c n → selfInverseAt param (n - 1) (decode ws ks n) (find (decode ws ks n) (tyOf t) .idx) ≡ true
-
--- and what a look at a kind's children ts tells of it
-pub record Judged (ns : List Node) (n : ℕ) (param : Bool) (ts : List Ty) (r : Glance) : Type 0 where
-  pub met : r ≡ Met → all (λ t. selfInverseAt param (n - 1) ns (find ns t .idx)) ts ≡ false
-  pub clear : r ≡ Clear → all (λ t. selfInverseAt param (n - 1) ns (find ns t .idx)) ts ≡ true
 
 -- nodes that can be walked, with a mark for each
 pub record Walks (ws ks : List ℕ) (n : ℕ) : Type 0 where

@@ -1,18 +1,18 @@
 -- What a kind tells without its children: whether it has any, whether a type can be its own inverse, and the answer of `get_mod`.
 use mathlib.Core.List.{List}
-use mathlib.Core.Bool.{Bool, true, false, _||_}
+use mathlib.Core.Bool.{Bool, true, false, _&&_, _||_}
 use Prim.Native.Nat.{ℕ}
 use lib.Dec.{eqb}
 use lib.ListN.{getD}
 use Rattle.scope.specs.Base.{pick}
 use Rattle.scope.specs.Chart.{Record, noRecord}
-use Rattle.scope.specs.Kinds.{PARAM, ERROR, rowOf, dualBy}
+use Rattle.scope.specs.Kinds.{TUPLE, ERROR}
 use Rattle.scope.specs.Force.{none-mod, mod-of, error-mod, hasDef}
 use Rattle.scope.specs.Force as force
 use Rattle.layout.specs.Meaning.{readAt, heldIn}
-use Rattle.layout.specs.declared.Kind.{Kind}
 use Rattle.layout.specs.declared.Held.{Held}
 use Rattle.layout.specs.declared.Held.the-variants as held
+use Rattle.inverse.specs.Judged.{goodKind}
 use Rattle.walk.specs.declared.Mod.{Mod}
 use Rattle.walk.specs.declared.Mod.the-variants.{Nothing, Def, Error}
 
@@ -21,10 +21,12 @@ abbrev pub leafBy : Held → Bool
 leafBy (held.Is i k) = eqb (k .count) 0
 leafBy held.Nothing = true
 
--- a kind that lets a type be its own inverse, children apart
-abbrev pub goodKind : Bool → Kind → Bool
-goodKind param k = pick (eqb (k .code) PARAM) param (dualBy (rowOf (k .code) .dual) (k .dual))
+-- a Tuple of nothing
+abbrev pub nilBy : Held → Bool
+nilBy (held.Is i k) = eqb (k .code) TUPLE && eqb (k .count) 0
+nilBy held.Nothing = false
 
+-- a root that lets a type be its own inverse, children apart
 abbrev pub goodBy : Bool → Held → Bool
 goodBy param (held.Is i k) = goodKind param k
 goodBy param held.Nothing = false

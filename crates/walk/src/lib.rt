@@ -5,29 +5,24 @@ ghost use mathlib.Core.Bool.{not};
 ghost use Prim.Native.Nat.{_≤_, _<_};
 ghost use lib.Dec.{eqb};
 ghost use lib.ListN.{length, getD, set};
-ghost use Rattle.scope.specs.Base.{pick, all, from};
+ghost use Rattle.scope.specs.Base.{all, from};
 ghost use Rattle.scope.specs.Types.{tyOf};
 ghost use Rattle.scope.specs.Unify.{occurs, selfInverseOf};
 ghost use Rattle.scope.specs.Force.{hasDef};
 ghost use Rattle.layout.specs.Words.{nodeWords, decode};
 ghost use Rattle.layout.specs.Meaning.{readAt, heldIn, kindMeans, Linked};
 ghost use Rattle.chart.specs.Words.{recordsOf};
-ghost use Rattle.walk.specs.Read.{leafBy, goodKind, goodBy, goodAt, modMeans, modBy};
+ghost use Rattle.walk.specs.Read.{leafBy, nilBy, goodBy, goodAt, modMeans, modBy};
 ghost use Rattle.related.specs.Stands.{Stands};
-ghost use Rattle.walk.specs.Asks.{Looked, Occurs, Glanced, Judged, Inverses, Nil, Modded};
+ghost use Rattle.walk.specs.Asks.{Looked, Occurs, Inverses, Nil, Modded};
+use inverse::Glance;
 use layout::Held;
 use layout::Kind;
+use layout::TypeNode;
 use roots::Nearby;
 use scope::MAX_NODES;
 use types::Type;
 use types::TypeIdx;
-
-// What a look at children tells of what is asked, whether a node is below or whether all are good: one of them decides it, or none does, or only a walk can tell.
-enum Glance {
-    Met,
-    Clear,
-    Deep,
-}
 
 // get_mod's answer: no definition, a definition's def number, or an error.
 pub enum Mod {
@@ -101,23 +96,13 @@ pub fn occurs(ws: &[u32], ks: &[u32], n: u32, x: TypeIdx, y: Type) -> bool
     }
 }
 
-// A kind that lets a type be its own inverse, children apart; a Param as param says.
-fn good_kind(kind: Kind, param: bool) -> bool
-    ensures { λ r. ⌜ r ≡ goodKind param kind ⌝ }
-{
-    if kind.code == kinds::PARAM {
-        return param;
-    }
-    kinds::self_dual(kind.code, kind.dual)
-}
-
 // "never where there is no kind"
 fn good_at(ws: &[u32], n: u32, i: TypeIdx, param: bool) -> bool
     requires { ⌜ nodeWords n ≤ length (now ws) ⌝ }
     ensures { λ r. ⌜ r ≡ goodBy param (heldIn (readAt (now (ws .entry)) n (i .0))) ⌝ }
 {
     match layout::held_at(ws, n, i) {
-        Held::Is(_, kind) => good_kind(kind, param),
+        Held::Is(_, kind) => inverse::good_kind(kind, param),
         Held::Nothing => false,
     }
 }
@@ -139,53 +124,7 @@ fn all_good(ws: &[u32], n: u32, marks: &[u8], param: bool) -> bool
     true
 }
 
-// What a child near its root tells: not good, or good and without children.
-fn inverse_child(ws: &[u32], n: u32, kid: Type, param: bool) -> Glance
-    requires { ⌜ Linked (now ws) n × (1 < n) ⌝ }
-    ensures { λ r. ⌜ Glanced (now (ws .entry)) n param (kid .0) r ⌝ }
-{
-    let Nearby::Is(root) = roots::near(ws, n, kid) else {
-        return Glance::Deep;
-    };
-    let Held::Is(_, kind) = layout::held_at(ws, n, root.idx()) else {
-        return Glance::Met;
-    };
-    if !good_kind(kind, param) {
-        return Glance::Met;
-    }
-    if kind.count < 1 {
-        return Glance::Clear;
-    }
-    Glance::Deep
-}
-
-// A look at a kind's children, which ends where one decides.
-fn inverse_children(ws: &[u32], ks: &[u32], n: u32, kind: Kind, param: bool) -> Glance
-    requires { ⌜ Stands (now ws) (now ks) n × (1 < n) ⌝ }
-    ensures { λ r. ⌜ Judged (decode (now (ws .entry)) (now (ks .entry)) n) n param (kindMeans (now (ks .entry)) kind .kids) r ⌝ }
-{
-    let mut j: u32 = 0;
-    let mut deep = false;
-    while j < kind.count {
-        let kid = layout::child_of(ks, kind, j).ty;
-        j += 1;
-        match inverse_child(ws, n, kid, param) {
-            Glance::Met => {
-                return Glance::Met;
-            }
-            Glance::Clear => {}
-            Glance::Deep => {
-                deep = true;
-            }
-        }
-    }
-    if deep {
-        return Glance::Deep;
-    }
-    Glance::Clear
-}
-
-// "Holds where the root has a self-dual kind and it holds of every child": where every root that the type leads to is good.
+// Every root that the type leads to is good.
 fn inverse_deep(ws: &[u32], ks: &[u32], n: u32, t: Type, param: bool) -> bool
     requires { ⌜ Inverses (now ws) (now ks) n (t .0) ⌝ }
     ensures { λ r. ⌜ r ≡ selfInverseOf (decode (now (ws .entry)) (now (ks .entry)) n) (tyOf (t .0)) param ⌝ }
@@ -195,28 +134,12 @@ fn inverse_deep(ws: &[u32], ks: &[u32], n: u32, t: Type, param: bool) -> bool
     all_good(ws, n, &marks, param)
 }
 
-// What the root and a look at its children tell needs no walk.
+// What some visits do not decide is walked with marks, so that each root is visited once.
 pub fn self_inverse(ws: &[u32], ks: &[u32], n: u32, t: Type, param: bool) -> bool
     requires { ⌜ Inverses (now ws) (now ks) n (t .0) ⌝ }
     ensures { λ r. ⌜ r ≡ selfInverseOf (decode (now (ws .entry)) (now (ks .entry)) n) (tyOf (t .0)) param ⌝ }
 {
-    let root = roots::find(ws, n, t).idx();
-    let Held::Is(_, kind) = layout::held_at(ws, n, root) else {
-        return false;
-    };
-    if !good_kind(kind, param) {
-        return false;
-    }
-    if kind.count < 1 {
-        return true;
-    }
-    if kind.code == kinds::PARAM {
-        return true;
-    }
-    if n < 2 {
-        return inverse_deep(ws, ks, n, t, param);
-    }
-    match inverse_children(ws, ks, n, kind, param) {
+    match inverse::quickly(ws, ks, n, t, param) {
         Glance::Met => false,
         Glance::Clear => true,
         Glance::Deep => inverse_deep(ws, ks, n, t, param),
@@ -224,18 +147,29 @@ pub fn self_inverse(ws: &[u32], ks: &[u32], n: u32, t: Type, param: bool) -> boo
 }
 
 // A Tuple of nothing.
-pub fn is_nil(ws: &[u32], n: u32, t: Type) -> bool
-    requires { ⌜ Linked (now ws) n ⌝ }
-    ensures { λ r. ⌜ Nil (now (ws .entry)) n (t .0) r ⌝ }
+fn nil_at(ws: &[u32], n: u32, i: TypeIdx) -> bool
+    requires { ⌜ nodeWords n ≤ length (now ws) ⌝ }
+    ensures { λ r. ⌜ r ≡ nilBy (heldIn (readAt (now (ws .entry)) n (i .0))) ⌝ }
 {
-    let root = roots::find(ws, n, t).idx();
-    let Held::Is(_, kind) = layout::held_at(ws, n, root) else {
+    let Held::Is(_, kind) = layout::held_at(ws, n, i) else {
         return false;
     };
     if kind.code == kinds::TUPLE {
         return kind.count == 0;
     }
     false
+}
+
+// A root is told at once.
+pub fn is_nil(ws: &[u32], n: u32, t: Type) -> bool
+    requires { ⌜ Linked (now ws) n ⌝ }
+    ensures { λ r. ⌜ Nil (now (ws .entry)) n (t .0) r ⌝ }
+{
+    let i = t.idx();
+    let TypeNode::Child(_) = layout::node_at(ws, n, i) else {
+        return nil_at(ws, n, i);
+    };
+    nil_at(ws, n, roots::find(ws, n, t).idx())
 }
 
 // A kind that is a definition.

@@ -9,8 +9,9 @@ use borrow.Author.Needs.{needs}
 use Rattle.scope.specs.Force.{relatedF}
 use Rattle.layout.specs.Words.{decode}
 use Rattle.layout.proofs.LinkLaws.{clean-linked}
-use Rattle.related.specs.Skips.{SLOTS, Keeps}
-use Rattle.related.proofs.SkipLaws.{keeps-over, keeps-pass, keeps-met, keeps-new, keeps-stretch}
+use Rattle.skips.specs.Table.{SLOTS}
+use Rattle.related.specs.Tables.{Keeps}
+use Rattle.related.proofs.KeepLaws.{keeps-over, keeps-pass, keeps-met, keeps-new, keeps-stretch}
 use Rattle.related.proofs.TurnLaws.{below-shallow, below-none, below-kind, Turn, turn-start, turn-pass, turn-end, turn-stretch, turn-met, turn-new}
 use Prim.Native.Nat.{ℕ, _<_}
 use borrow.Fn.Kinds.{In}
@@ -21,8 +22,8 @@ use Rattle.related.proofs.+mark_below.Lts-mark_below as mark-below-lts
 use Rattle.layout.proofs.child_at.Reads as child-at-reads
 use Rattle.layout.proofs.held_at.Reads as held-at-reads
 use Rattle.related.proofs.meet.Reads as meet-reads
-use Rattle.related.proofs.pass.Reads as pass-reads
-use Rattle.related.proofs.stretch.Reads as stretch-reads
+use Rattle.skips.proofs.pass.Reads as pass-reads
+use Rattle.skips.proofs.stretch.Reads as stretch-reads
 use Rattle.related.proofs.+mark_below.{statement}
 use Rattle.related.proofs.+mark_below.Tie.{close}
 

@@ -1,6 +1,6 @@
 -- `related::mark_few` meets its contract: a walk from tables of nothing.
 -- Assumes nothing.
-use Rattle.related.proofs.SkipLaws.{keeps-zeros}
+use Rattle.related.proofs.KeepLaws.{keeps-zeros}
 use borrow.Author.Needs.{needs}
 use Rattle.related.proofs.mark_few.Statement.{statement}
 use Rattle.related.proofs.mark_few.Tie as tie

@@ -1,7 +1,7 @@
 -- `related::mark_many` meets its contract: a walk from tables of nothing.
 -- Assumes nothing.
 use Rattle.scope.specs.Limits.{MAX-NODES, MAX-CHILDREN}
-use Rattle.related.proofs.SkipLaws.{keeps-zeros}
+use Rattle.related.proofs.KeepLaws.{keeps-zeros}
 use borrow.Author.Needs.{needs}
 use Rattle.related.proofs.mark_many.Statement.{statement}
 use Rattle.related.proofs.mark_many.Tie as tie

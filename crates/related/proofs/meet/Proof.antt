@@ -1,6 +1,6 @@
 -- `related::meet` meets its contract: a node that was told, a root that was marked, and one that is marked now.
 -- Assumes nothing.
-use Rattle.related.proofs.SkipLaws.{meets-told, meets-old, meets-in, meets-out}
+use Rattle.related.proofs.KeepLaws.{meets-told, meets-old, meets-in, meets-out}
 use borrow.Author.Needs.{needs}
 use Rattle.related.proofs.meet.Statement.{statement}
 use Rattle.related.proofs.meet.Tie as tie

@@ -13,8 +13,8 @@ Inv-loop ws₀ n root inv₀ cur₀ rest₀ ws inv cur rest = Points ws₀ n (ro
 abbrev μ-loop : tie.MeasureT-loop
 μ-loop ws₀ n root inv₀ cur₀ rest₀ ws inv cur rest = rest
 
-find-requires : tie.Need-find-requires Inv-loop μ-loop
-find-requires c κs = search needs
+climb-requires : tie.Need-climb-requires Inv-loop μ-loop
+climb-requires c κs = search needs
 
 inv-requires : tie.Need-inv-requires Inv-loop μ-loop
 inv-requires c κs = search needs
@@ -42,7 +42,7 @@ returns c =
     let a = c .before .before in
     let l = a .before .before .before in
     let f = l .before .before .before in
-    points-root (l .loop .inv) (f .before .before .before .args .t .0) (f .find .ensures) (l .before .before .inv .ensures) (l .before .idx .ensures)
+    points-root (l .loop .inv) (f .before .before .before .args .t .0) (f .climb .ensures) (l .before .before .inv .ensures) (l .before .idx .ensures)
     (a .node-at .ensures) (c .enum-told .given .1)
 
 invert-if-requires : tie.Need-invert-if-requires Inv-loop μ-loop
@@ -83,7 +83,7 @@ returns-2 : tie.Need-returns-2 Inv-loop μ-loop
 returns-2 c =
     let l = c .before in
     let f = l .before .before .before in
-    points-out (l .loop .inv) (f .before .before .before .args .t .0) (f .find .ensures) (l .before .before .inv .ensures) (l .before .idx .ensures)
+    points-out (l .loop .inv) (f .before .before .before .args .t .0) (f .climb .ensures) (l .before .before .inv .ensures) (l .before .idx .ensures)
     (omega (arith, c .loop-test .left))
 
 pub find-far-spec : {M : Type 1} → statement M
@@ -92,7 +92,7 @@ find-far-spec =
     (tie.spec
     Inv-loop
     μ-loop
-    find-requires
+    climb-requires
     inv-requires
     idx-requires
     loop-holds

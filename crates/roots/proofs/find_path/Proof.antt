@@ -21,8 +21,8 @@ enum-known-root c = search needs
 enum-told : tie.Need-enum-told
 enum-told c = search needs
 
-find-requires : tie.Need-find-requires
-find-requires c κs = search needs
+climb-requires : tie.Need-climb-requires
+climb-requires c κs = search needs
 
 same-length : tie.Need-same-length
 same-length c = search needs
@@ -64,7 +64,7 @@ find-path-spec =
     top-by-requires
     enum-known-root
     enum-told
-    find-requires
+    climb-requires
     same-length
     returns
     keep-path-requires

@@ -1,10 +1,10 @@
--- `related::put_skip` meets its contract: past the end a list with another element is the list.
+-- `skips::put_skip` meets its contract: past the end a list with another element is the list.
 -- Assumes nothing.
 use mathlib.Core.Path.{sym}
 use lib.Seq.{set-out}
 use borrow.Author.Needs.{needs}
-use Rattle.related.proofs.put_skip.Statement.{statement}
-use Rattle.related.proofs.put_skip.Tie as tie
+use Rattle.skips.proofs.put_skip.Statement.{statement}
+use Rattle.skips.proofs.put_skip.Tie as tie
 
 slice-write-skip : tie.Need-slice-write-skip
 slice-write-skip c = search needs

@@ -1,10 +1,10 @@
--- `related::pass` meets its contract: what the next slot tells of begins where what s tells of ends.
+-- `skips::pass` meets its contract: what the next slot tells of begins where what s tells of ends.
 -- Assumes nothing.
 use native.Mathlib.Omega.{arith}
-use Rattle.related.proofs.SkipLaws.{passed-none, passed-both, passed-kept}
+use Rattle.skips.proofs.Laws.{passed-none, passed-both, passed-kept}
 use borrow.Author.Needs.{needs}
-use Rattle.related.proofs.pass.Statement.{statement}
-use Rattle.related.proofs.pass.Tie as tie
+use Rattle.skips.proofs.pass.Statement.{statement}
+use Rattle.skips.proofs.pass.Tie as tie
 
 skip-at-requires : tie.Need-skip-at-requires
 skip-at-requires c κs = search needs

@@ -1,14 +1,14 @@
--- `related::fill` meets its contract. The loop's invariant: what the skips pass over they passed over before, or it is a part of the run.
+-- `skips::fill` meets its contract. The loop's invariant: what the skips pass over they passed over before, or it is a part of the run.
 -- Assumes nothing.
 use mathlib.Core.Path.{_≡_, refl}
 use Prim.Native.Nat.{_-_, _≤_}
 use native.Mathlib.Omega.{arith}
 use lib.ListN.{length, length-set}
-use Rattle.related.specs.Skips.{Filled}
-use Rattle.related.proofs.SkipLaws.{filled-none, filled-next}
+use Rattle.skips.specs.Table.{Filled}
+use Rattle.skips.proofs.Laws.{filled-none, filled-next}
 use borrow.Author.Needs.{needs}
-use Rattle.related.proofs.fill.Statement.{statement}
-use Rattle.related.proofs.fill.Tie as tie
+use Rattle.skips.proofs.fill.Statement.{statement}
+use Rattle.skips.proofs.fill.Tie as tie
 
 abbrev Inv-loop : tie.InvT-loop
 Inv-loop skip₀ s t x₀ skip x = Filled skip₀ skip s t × (s ≤ x) × (length skip ≡ length skip₀)

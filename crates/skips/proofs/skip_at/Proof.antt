@@ -1,11 +1,11 @@
--- `related::skip_at` meets its contract: past the end there is nothing.
+-- `skips::skip_at` meets its contract: past the end there is nothing.
 -- Assumes nothing.
 use mathlib.Core.Path.{sym}
 use native.Mathlib.Omega.{arith}
 use lib.ListN.{List·getD-eq-default}
 use borrow.Author.Needs.{needs}
-use Rattle.related.proofs.skip_at.Statement.{statement}
-use Rattle.related.proofs.skip_at.Tie as tie
+use Rattle.skips.proofs.skip_at.Statement.{statement}
+use Rattle.skips.proofs.skip_at.Tie as tie
 
 shared-slice-read-wide : tie.Need-shared-slice-read-wide
 shared-slice-read-wide c = search needs

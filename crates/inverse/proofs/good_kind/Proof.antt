@@ -1,9 +1,9 @@
--- `walk::good_kind` meets its contract: a Param as the flag says, any other kind as its row does.
+-- `inverse::good_kind` meets its contract: a Param as the flag says, any other kind as its row does.
 -- Assumes nothing.
 use borrow.Author.Needs.{needs}
 use borrow.Author.Tests.{eq-eqb, ne-eqb}
-use Rattle.walk.proofs.good_kind.Statement.{statement}
-use Rattle.walk.proofs.good_kind.Tie as tie
+use Rattle.inverse.proofs.good_kind.Statement.{statement}
+use Rattle.inverse.proofs.good_kind.Tie as tie
 
 returns : tie.Need-returns
 returns c = rw (eq-eqb _ _ (c .if1 .taken))

@@ -1,13 +1,13 @@
--- `related::scan` meets its contract. The loop's invariant: the nodes of the children so far have been told.
+-- `skips::scan` meets its contract. The loop's invariant: the nodes of the children so far have been told.
 -- Assumes nothing.
 use Prim.Native.Nat.{_-_}
 use native.Mathlib.Omega.{arith}
 use borrow.Author.Tests.{not-false}
-use Rattle.related.specs.Skips.{Scanned}
-use Rattle.related.proofs.SkipLaws.{scanned-start, scanned-next}
+use Rattle.skips.specs.Table.{Scanned}
+use Rattle.skips.proofs.Laws.{scanned-start, scanned-next}
 use borrow.Author.Needs.{needs}
-use Rattle.related.proofs.scan.Statement.{statement}
-use Rattle.related.proofs.scan.Tie as tie
+use Rattle.skips.proofs.scan.Statement.{statement}
+use Rattle.skips.proofs.scan.Tie as tie
 
 abbrev Inv-loop : tie.InvT-loop
 Inv-loop ks seen skip s end t₀ t = Scanned ks seen s end t

@@ -1,14 +1,13 @@
--- The laws of the walk's tables. Of skips: what holds of all that is passed over holds still when one byte is set to a part of which it holds, and when two parts
--- become one. Of nodes: one that is told when its root is marked. And more marks leave marked roots marked.
+-- The laws of the walk's tables: a node is told when its root is marked, and more marks leave marked roots marked.
 -- Assumes nothing.
 use mathlib.Core.Path.{_≡_, refl, ap, sym, _∙_}
 use mathlib.Core.Bool.{Bool, true, false, not}
 use mathlib.Core.List.{List}
-use Prim.Native.Nat.{ℕ, _+_, _-_, _≤_, _<_}
+use Prim.Native.Nat.{ℕ, _+_, _≤_, _<_}
 use native.Mathlib.Omega.{arith}
 use native.Mathlib.Decide.{ℕ-discrete, decLt}
 use lib.Dec.{eqb}
-use lib.ListN.{length, getD, set, replicate, getD-replicate, length-replicate, List·getD-eq-default}
+use lib.ListN.{length, getD, set, replicate}
 use lib.Seq.{getD-set-same, getD-set-other, set-out}
 use Rattle.scope.specs.Types.{Ty, tyOf}
 use Rattle.scope.specs.Nodes.{Node, find}
@@ -16,14 +15,14 @@ use Rattle.scope.proofs.Paths.{find-idx}
 use Rattle.scope.proofs.View.{view}
 use Rattle.types.specs.declared.TypeIdx.{TypeIdx}
 use Rattle.layout.specs.Words.{slotAt, decode}
-use Rattle.layout.specs.Meaning.{slotMeans}
-use Rattle.layout.specs.declared.Slot.{Slot}
 use Rattle.roots.specs.Found.{Found}
 use Rattle.roots.specs.Kept.{Cached}
 use Rattle.roots.proofs.KeptLaws.{cached-zeros}
 use Rattle.related.specs.declared.Meeting.{Meeting}
 use Rattle.related.specs.declared.Meeting.the-variants.{Met, New}
-use Rattle.related.specs.Skips.{marked, slotMarked, slotSeen, Skips, Passed, Scanned, Filled, Stretched, Sees, Meets, Keeps}
+use Rattle.skips.specs.Table.{marked, slotSeen, Skips, Passed, Stretched}
+use Rattle.skips.proofs.Laws.{zeros-at, skips-zeros}
+use Rattle.related.specs.Tables.{slotMarked, Sees, Meets, Keeps}
 use Rattle.related.proofs.Laws.{root-is}
 
 -- one table of bytes
@@ -34,58 +33,6 @@ unmarked e = let z : _≡_ {A = ℕ} 0 1 = cc in omega arith
 -- types of one node have one root
 same-root : (ns : List Node) (t u : Ty) → t .idx ≡ u .idx → find ns t .idx ≡ find ns u .idx
 same-root ns t u e = find-idx ns t ∙ (ap (λ (i : ℕ). view ns .rep i .idx) e ∙ sym (find-idx ns u))
-
--- the node of the child in a slot
-slot-seen : (ks seen : List ℕ) (s : ℕ) {j : ℕ} {b : Bool} (d : Slot) → slotMeans d ≡ slotAt ks s → j ≡ tyOf (d .ty .0) .idx
-    → b ≡ marked seen j → b ≡ true → slotSeen ks seen s ≡ true
-slot-seen ks seen s d q o m z = ap (marked seen) (sym (o ∙ ap (λ x. tyOf (x .type) .idx) q)) ∙ (sym m ∙ z)
-
--- a table of nothing
-
-zeros-at : (m i : ℕ) → getD {A = ℕ} (replicate m 0) i 0 ≡ 0
-zeros-at m i = go (decLt i m)
-  where
-    go : Dec (i < m) → getD {A = ℕ} (replicate m 0) i 0 ≡ 0
-    go (yes h) = getD-replicate m i 0 0 h
-    go (no h) = List·getD-eq-default (replicate m 0) 0 (rw length-replicate (omega arith))
-
-skips-zeros : (p : ℕ → Bool) (m : ℕ) → Skips p (replicate m 0)
-skips-zeros p m = record { each = λ s x l u. absurd (omega (arith, l, rw (zeros-at m s) at u)) }
-
--- one byte set
-skips-set : {p : ℕ → Bool} {skip : List ℕ} (s v : ℕ) → Skips p skip → ((x : ℕ) → s ≤ x → x < s + v → p x ≡ true) → Skips p (set skip s v)
-skips-set {p} {skip} s v c h = record { each = λ a x l u. go a x l u (ℕ-discrete a s) (decLt s (length skip)) }
-  where
-    go : (a x : ℕ) → a ≤ x → x < a + getD (set skip s v) a 0 → Dec (a ≡ s) → Dec (s < length skip) → p x ≡ true
-    go a x l u (yes e) (yes i) =
-        let q : getD (set skip s v) a 0 ≡ v = rw e (getD-set-same skip s v 0 i) in
-        h x (omega (arith, l, e)) (omega (arith, e, rw q at u))
-    go a x l u (yes e) (no i) = c .each a x l (rw (set-out skip s v (omega arith)) at u)
-    go a x l u (no e) d = c .each a x l (rw (getD-set-other skip s a v 0 e) at u)
-
--- passing over
-
-pub passed-none : (skip : List ℕ) (s : ℕ) → Passed skip skip s 0
-passed-none skip s = record { over = λ p c x l u. absurd (omega arith); skips = λ p c. c; below = omega arith }
-
-module _ {skip : List ℕ} {s a b : ℕ} (ea : a ≡ getD skip s 0) (eb : b ≡ getD skip (s + a) 0) where
-  over-both : (p : ℕ → Bool) → Skips p skip → (x : ℕ) → s ≤ x → x < s + (a + b) → p x ≡ true
-  over-both p c x l u = go (decLt x (s + a))
-    where
-      go : Dec (x < s + a) → p x ≡ true
-      go (yes h) = c .each s x l (rw (← ea) h)
-      go (no h) = c .each (s + a) x (omega arith) (rw (← eb) (omega arith))
-
-  module _ (la : a < 256) (lb : b < 256) where
-    pub passed-both : Passed skip skip s (a + b)
-    passed-both = record { over = over-both; skips = λ p c. c; below = omega arith }
-
-    pub passed-kept : {skip′ : List ℕ} → skip′ ≡ set skip s (a + b) → Passed skip skip′ s (a + b)
-    passed-kept e = record {
-      over = over-both;
-      skips = λ p c. rw e (skips-set s (a + b) c (over-both p c));
-      below = omega arith;
-    }
 
 -- more marks
 
@@ -161,50 +108,6 @@ module _ {ws : List ℕ} {n t : ℕ} {cache ms : List ℕ} (k : Cached ws n cach
 
       pub meets-in : {seen′ : List ℕ} {d : Bool} → d ≡ marked ms′ (i .0) → d ≡ true → seen′ ≡ set seen j 1 → Meets ws n t cache ms ms′ seen′ (New i)
       meets-in w z v = meets-new (sees-told (sees-mark c (i .0) e) t (λ ks. ap (marked ms′) (sym (root-is f o ks)) ∙ (sym w ∙ z)) q v)
-
--- a run of slots is scanned, from s on up to r so far
-
-pub scanned-start : (ks seen : List ℕ) (s end : ℕ) → s ≤ end → Scanned ks seen s end s
-scanned-start ks seen s end h = record { from = omega arith; below = h; over = λ x l u. absurd (omega arith) }
-
-pub scanned-next : {ks seen : List ℕ} {s end r j : ℕ} {b : Bool} (d : Slot) → Scanned ks seen s end r → r < end → slotMeans d ≡ slotAt ks r → j ≡ tyOf (d .ty .0) .idx
-    → b ≡ marked seen j → b ≡ true → Scanned ks seen s end (r + 1)
-scanned-next {ks} {seen} {s} {end} {r} d c h q o m z = record {
-  from = omega (arith, c .from);
-  below = omega arith;
-  over = λ x l u. go x l u (ℕ-discrete x r);
-}
-  where
-    go : (x : ℕ) → s ≤ x → x < r + 1 → Dec (x ≡ r) → slotSeen ks seen x ≡ true
-    go x l u (yes e) = rw e (slot-seen ks seen r d q o m z)
-    go x l u (no e) = c .over x l (omega arith)
-
--- a run of slots is filled, from s up to x so far
-
-pub filled-none : (skip : List ℕ) (s t : ℕ) → Filled skip skip s t
-filled-none skip s t = record { skips = λ p c h. c }
-
-pub filled-next : {skip now now′ : List ℕ} {s x t : ℕ} → Filled skip now s t → s ≤ x → x < t → now′ ≡ set now x (t - x) → Filled skip now′ s t
-filled-next {s = s} {x = x} {t = t} f l u e = record {
-  skips = λ p c h. rw e (skips-set x (t - x) (f .skips p c h) (λ y a b. h y (omega arith) (omega arith)));
-}
-
--- what follows a slot
-
-module _ {ks seen skip : List ℕ} {s end r : ℕ} (d : Slot) (w : Scanned ks seen (s + 1) end r) where
-  pub stretched-bare : Stretched ks seen skip skip s end r
-  stretched-bare = record { scanned = w; skips = λ p c h. c }
-
-  pub stretched-full : {skip′ : List ℕ} {j : ℕ} {b : Bool} → Filled skip skip′ s r → slotMeans d ≡ slotAt ks s → j ≡ tyOf (d .ty .0) .idx → b ≡ marked seen j → b ≡ true
-      → Stretched ks seen skip skip′ s end r
-  stretched-full f q o m z = record {
-    scanned = w;
-    skips = λ p c h. f .skips p c (λ x l u. h x (go x l u (ℕ-discrete x s)));
-  }
-    where
-      go : (x : ℕ) → s ≤ x → x < r → Dec (x ≡ s) → slotSeen ks seen x ≡ true
-      go x l u (yes e) = rw e (slot-seen ks seen s d q o m z)
-      go x l u (no e) = w .over x (omega arith) u
 
 -- what a walk keeps: slots passed over, a child met, and what follows it
 

@@ -1,9 +1,9 @@
--- `related::stretch` meets its contract: what the scan tells, and the slot before it.
+-- `skips::stretch` meets its contract: what the scan tells, and the slot before it.
 -- Assumes nothing.
-use Rattle.related.proofs.SkipLaws.{stretched-bare, stretched-full}
+use Rattle.skips.proofs.Laws.{stretched-bare, stretched-full}
 use borrow.Author.Needs.{needs}
-use Rattle.related.proofs.stretch.Statement.{statement}
-use Rattle.related.proofs.stretch.Tie as tie
+use Rattle.skips.proofs.stretch.Statement.{statement}
+use Rattle.skips.proofs.stretch.Tie as tie
 
 add-scan : tie.Need-add-scan
 add-scan c = search needs
