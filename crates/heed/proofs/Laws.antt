@@ -11,6 +11,8 @@ use Rattle.scope.specs.Names.{Texts}
 use Rattle.scope.specs.Types.{Ty, tyOf}
 use Rattle.scope.specs.Nodes.{Node}
 use Rattle.scope.specs.Unify.{settle}
+use Rattle.scope.proofs.View.{View, Good, view}
+use Rattle.scope.proofs.Grow.{Grow, Self, self-grow, mono-idx}
 use Rattle.types.specs.declared.UnifyResult.{UnifyResult}
 use Rattle.types.specs.declared.UnifyResult.the-variants.{Success, Failure, Indeterminate}
 use Rattle.layout.specs.Meaning.{Linked}
@@ -21,8 +23,10 @@ use Rattle.roots.specs.declared.Nearby.the-variants.{Is}
 use Rattle.roots.proofs.Laws.{relinked-refl}
 use Rattle.merge.specs.Meaning.{Settled}
 use Rattle.merge.specs.Quick.{Tried, OneNil}
+use Rattle.marks.specs.Marks.{Knows, Marked}
 use Rattle.recall.specs.Memory.{Running, Tidy, Begun, Fewer, Forgot, Noted}
-use Rattle.heed.specs.Recalls.{Meets, Recalls, Since}
+use Rattle.recall.proofs.Laws.{marked-clock, marked-tidy, marked-still}
+use Rattle.heed.specs.Recalls.{Meets, SelfAt, Marks, Recalls, Since}
 use Rattle.heed.specs.Told.{Moved, Closed, FoundTold, QuickTold, SmallTold, SettledTold}
 
 -- clocks
@@ -42,12 +46,41 @@ since-then {a} {b} {c} s t = record {
 -- what a memory holds
 
 pub recalls-begun : {x : Texts} {n : ℕ} {ns : List Node} {m : List ℕ} → Begun m → Recalls x n ns m
-recalls-begun b = record { tidy = b .tidy; true = λ p q r v. absurd (b .none p q r v) }
+recalls-begun b = record { tidy = b .tidy; true = λ p q r v. absurd (b .none p q r v); marks = record { self = λ i k. absurd (b .unmarked i k) } }
 
-pub recalls-moved : {x : Texts} {n : ℕ} {ns ns′ : List Node} {m m′ : List ℕ} → Recalls x n ns m → Moved m m′ ns ns′ → Recalls x n ns′ m′
-recalls-moved {x} {n} w d = record {
+pub recalls-moved : {x : Texts} {n : ℕ} {ns ns′ : List Node} {m m′ : List ℕ} → Recalls x n ns m → Moved m m′ ns ns′ → Marks ns′ m′ → Recalls x n ns′ m′
+recalls-moved {x} {n} w d k = record {
   tidy = d .tidy;
   true = λ a b q v. let o = d .believed a b q v in subst (λ (l : List Node). Meets x n l a b q) (sym (o .1)) (w .true a b q (o .0));
+  marks = k;
+}
+
+-- what is marked, where roots that are their own inverses stay so
+
+abbrev pub SelfsKept : List Node → List Node → Type 0
+SelfsKept ns ns′ = (i : ℕ) → SelfAt ns i → SelfAt ns′ i
+
+pub marks-kept : {ns ns′ : List Node} {m m′ : List ℕ} → SelfsKept ns ns′ → ((i : ℕ) → Knows m′ i → Knows m i) → Marks ns m → Marks ns′ m′
+marks-kept s f w = record { self = λ i k. s i (w .self i (f i k)) }
+
+pub marks-fewer : {ns : List Node} {m m′ : List ℕ} → ((i : ℕ) → Knows m′ i → Knows m i) → Marks ns m → Marks ns m′
+marks-fewer f w = marks-kept (λ i s. s) f w
+
+pub selfs-view : (ns ns′ : List Node) → view ns′ ≡ view ns → SelfsKept ns ns′
+selfs-view ns ns′ e i s = subst (λ (g : View). Self g (g .rep i .idx)) (sym e) s
+
+pub selfs-grow : {x : Texts} (ns ns′ : List Node) → Good (view ns) → Grow x (view ns) (view ns′) → SelfsKept ns ns′
+selfs-grow ns ns′ good w i s = subst (Self (view ns′)) (sym (mono-idx w i)) (self-grow good w (good .idem i) s)
+
+-- a mark more
+pub marks-more : {ns : List Node} {m m′ : List ℕ} {i : ℕ} → Marks ns m → SelfAt ns i → Marked m m′ i → Marks ns m′
+marks-more {ns} {i = i} w s k = record { self = λ j v. elim (k .marks j v) [ inl e ↦ subst (SelfAt ns) (sym e) s | inr o ↦ w .self j o ] }
+
+pub moved-marked : {ns : List Node} {m m′ : List ℕ} {i : ℕ} → Tidy m → Marked m m′ i → Moved m m′ ns ns
+moved-marked t k = record {
+  tidy = marked-tidy (k .beside) t;
+  since = record { on = omega (arith, marked-clock (k .beside)); still = λ r e. refl };
+  believed = λ a b q v. (marked-still (k .beside) a b q v, refl);
 }
 
 -- what it is told
@@ -65,16 +98,24 @@ moved-forgot f = record {
 pub moved-same : {m : List ℕ} {ns : List Node} → Tidy m → Moved m m ns ns
 moved-same t = record { tidy = t; since = since-same; believed = λ a b q v. (v, refl) }
 
+pub moved-then : {m m₁ m₂ : List ℕ} {ns ns₁ ns₂ : List Node} → Moved m m₁ ns ns₁ → Moved m₁ m₂ ns₁ ns₂ → Moved m m₂ ns ns₂
+moved-then d e = record {
+  tidy = e .tidy;
+  since = since-then (d .since) (e .since);
+  believed = λ a b q v. let o = e .believed a b q v in let u = d .believed a b q (o .0) in (u .0, o .1 ∙ u .1);
+}
+
 -- `find`
 
 pub found-near : {ws : List ℕ} {n : ℕ} {m : List ℕ} {t : ℕ} {q : Nearby} {r : «Type»} → Linked ws n → Tidy m → Near ws n t q → q ≡ Is r → FoundTold ws n ws m m t (r .0)
 found-near {r = r} l d h e = record {
   found = record { root = h .found r e .root; nodes = λ ks. sym (h .stays r e ks); words = relinked-refl l };
   told = λ ks. moved-same d;
+  marks = λ i k. k;
 }
 
 pub found-far : {ws : List ℕ} {n : ℕ} {ws′ m m′ : List ℕ} {t r : ℕ} → Forgot m m′ → FoundMut ws n ws′ t r → FoundTold ws n ws′ m m′ t r
-found-far d f = record { found = f; told = λ ks. moved-forgot d }
+found-far d f = record { found = f; told = λ ks. moved-forgot d; marks = d .marks }
 
 -- `quick`
 
@@ -126,7 +167,7 @@ closed-noted d = record {
 
 pub settled-merges : {ws ws′ : List ℕ} {n : ℕ} {m m′ : List ℕ} {began a b : ℕ} {r q : UnifyResult} → Settled ws ws′ n (tyOf a) (tyOf b) r q → Forgot m m′
     → SettledTold ws ws′ n m m′ began a b r q
-settled-merges s f = record { settled = s; told = λ ks. closed-moved (moved-forgot f) }
+settled-merges s f = record { settled = s; told = λ ks. closed-moved (moved-forgot f); marks = f .marks }
 
 -- an answer that merges nothing
 stays : {ws : List ℕ} {n : ℕ} {a b : Ty} (r : UnifyResult) → (r ≡ Success → ⊥) → Settled ws ws n a b r r
@@ -137,7 +178,7 @@ stays Indeterminate h = record { tail = refl; clean = λ ks c cl. cl; nodes = λ
 
 pub settled-notes : {ws : List ℕ} {n : ℕ} {m m′ : List ℕ} {began a b : ℕ} {r k : UnifyResult} → r ≡ k → (k ≡ Success → ⊥) → Noted m m′ began a b r
     → SettledTold ws ws n m m′ began a b r r
-settled-notes {r = r} e h d = record { settled = stays r (λ f. h (sym e ∙ f)); told = λ ks. closed-noted d }
+settled-notes {r = r} e h d = record { settled = stays r (λ f. h (sym e ∙ f)); told = λ ks. closed-noted d; marks = d .marks }
 
 pub failure-apart : Failure ≡ Success → ⊥
 failure-apart e = let z : _≡_ {A = ℕ} 0 1 = cc in omega arith

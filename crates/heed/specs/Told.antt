@@ -12,6 +12,7 @@ use Rattle.layout.specs.Words.{decode}
 use Rattle.roots.specs.Found.{FoundMut}
 use Rattle.merge.specs.Meaning.{Adds, Settled}
 use Rattle.merge.specs.Quick.{Quick, OneNil}
+use Rattle.marks.specs.Marks.{Knows}
 use Rattle.recall.specs.Memory.{clockOf, Believed, Tidy, Forgot, New}
 use Rattle.heed.specs.Recalls.{Since}
 
@@ -30,6 +31,7 @@ pub record Closed (m m′ : List ℕ) (ns ns′ : List Node) (began a b : ℕ) (
 pub record FoundTold (ws : List ℕ) (n : ℕ) (ws′ m m′ : List ℕ) (t r : ℕ) : Type 0 where
   pub found : FoundMut ws n ws′ t r
   pub told : (ks : List ℕ) → Moved m m′ (decode ws ks n) (decode ws′ ks n)
+  pub marks : (i : ℕ) → Knows m′ i → Knows m i
 
 -- told that two roots merged, they did; else nothing changed
 pub record QuickTold (ws ws′ : List ℕ) (n : ℕ) (m m′ : List ℕ) (a b : Ty) (d : ℕ) (r : Bool) : Type 0 where
@@ -53,3 +55,4 @@ pub record Settles (ws : List ℕ) (n : ℕ) (m : List ℕ) (a b : Ty) : Type 0 
 pub record SettledTold (ws ws′ : List ℕ) (n : ℕ) (m m′ : List ℕ) (began a b : ℕ) (r q : UnifyResult) : Type 0 where
   pub settled : Settled ws ws′ n (tyOf a) (tyOf b) r q
   pub told : (ks : List ℕ) → Closed m m′ (decode ws ks n) (decode ws′ ks n) began a b q
+  pub marks : (i : ℕ) → Knows m′ i → Knows m i

@@ -202,6 +202,7 @@ module _ {x : Texts} {ws ks : List ℕ} {n : ℕ} {a b : Ty} (pre : Tops x ws ks
     inside = λ p m. elim m [ ];
     left = λ p m. elim m [ ];
     ready = tt;
+    kinds = tt;
   }
 
   module _ {i j : ℕ} (e : i ≡ a .idx) (f : j ≡ b .idx) (g : i ≡ j → ⊥) where
@@ -221,6 +222,7 @@ module _ {x : Texts} {ws ks : List ℕ} {n : ℕ} {a b : Ty} (pre : Tops x ws ks
       inside = λ p w. elim w [ ];
       left = λ p w. elim w [ ];
       ready = tt;
+      kinds = tt;
     }
 
     pub met-bare-first : {h : Held} → h ≡ heldIn (readAt ws n i) → h ≡ Nothing → Met x ws ks n a b Walk
@@ -254,6 +256,14 @@ module _ {x : Texts} {ws ks : List ℕ} {n : ℕ} {a b : Ty} (pre : Tops x ws ks
           plan-spans k m p (pl .over) (kind-spans a e eh ek refl) (kind-spans b f eg em refl),
           plan-ready k m x ks p (pl .over) (kind-lies a e eh ek refl) (kind-lies b f eg em refl) (kind-ascends b f eg em refl),
         );
+        kinds = record {
+          apart = λ q. g (e ∙ (q ∙ sym f));
+          seen = (xor (c .0) (a .inv), kindMeans ks k);
+          other = (xor (d .0) (b .inv), kindMeans ks m);
+          first = kind-read a e eh ek;
+          second = kind-read b f eg em;
+          plan = planned;
+        };
       }
 
 -- `bare_roots`

@@ -2,14 +2,15 @@
 use mathlib.Core.Path.{_≡_}
 use mathlib.Core.Bool.{Bool, true, false}
 use mathlib.Core.List.{List, [], List·Memᴰ}
+use mathlib.Core.Option.{some}
 use Prim.Native.Nat.{ℕ}
 use lib.Dec.{eqb}
-use Rattle.scope.specs.Base.{pick}
+use Rattle.scope.specs.Base.{pick, xor}
 use Rattle.scope.specs.Names.{Texts}
 use Rattle.scope.specs.Types.{Ty}
-use Rattle.scope.specs.Nodes.{Node, kidsOf}
+use Rattle.scope.specs.Nodes.{Node, Kind, kidsOf}
 use Rattle.scope.specs.Answers.{Success}
-use Rattle.scope.specs.Unify.{Out, out, run, bound, bind, settle, sameNode, stateIn, meet}
+use Rattle.scope.specs.Unify.{Out, out, run, bound, bind, settle, sameNode, stateIn, kindIn, meet}
 use Rattle.scope.specs.Unify as scope
 use Rattle.types.specs.Answers.{answerOf}
 use Rattle.types.specs.declared.UnifyResult.{UnifyResult}
@@ -52,12 +53,26 @@ abbrev pub MeetReady : Texts → List ℕ → Meeting → Type 0
 MeetReady x ks Walk = Unit {0}
 MeetReady x ks (Kids p) = PlanSpans p × PlanReady x ks p
 
+-- two nodes, both with a kind, and what their kinds ask
+pub record BothKnown (x : Texts) (ns : List Node) (a b : Ty) (l : scope.Plan) : Type 0 where
+  pub apart : a .idx ≡ b .idx → ⊥
+  pub seen : Bool × Kind
+  pub other : Bool × Kind
+  pub first : kindIn ns a ≡ some seen
+  pub second : kindIn ns b ≡ some other
+  pub plan : l ≡ scope.plan x (seen .1) (other .1) (xor (seen .0) (other .0))
+
+abbrev pub MetKinds : Texts → List ℕ → List Node → Ty → Ty → Meeting → Type 0
+MetKinds x ks ns a b Walk = Unit {0}
+MetKinds x ks ns a b (Kids p) = BothKnown x ns a b (planMeans ks x p)
+
 pub record Met (x : Texts) (ws ks : List ℕ) (n : ℕ) (a b : Ty) (m : Meeting) : Type 0 where
   pub same : (u : List Node → Ty → Ty → Out) → meet u x n (decode ws ks n) a b ≡ metBy u x n ks (decode ws ks n) a b m
   pub inside : Inside n (pairsOf x ks m)
   -- each pair's first type is a child of the first root's kind
   pub left : (p : Ty × Ty) → List·Memᴰ p (pairsOf x ks m) → List·Memᴰ (p .0) (kidsOf (stateIn (decode ws ks n) a))
   pub ready : MeetReady x ks m
+  pub kinds : MetKinds x ks (decode ws ks n) a b m
 
 -- one node
 pub record OneNode (ws ks : List ℕ) (n : ℕ) (a b : Ty) (r : UnifyResult) : Type 0 where

@@ -21,49 +21,65 @@ use Rattle.types.specs.Answers.{numberOf}
 use Rattle.types.specs.declared.UnifyResult.{UnifyResult}
 use Rattle.types.specs.declared.UnifyResult.the-variants.{Success, Failure, Indeterminate}
 use Rattle.types.proofs.Laws.{idx-below, word-is}
+use Rattle.marks.specs.Marks.{MARKED, Knows, Beside}
+use Rattle.marks.proofs.Laws.{set-zero, marks-same}
 use Rattle.recall.specs.Memory.{HEAD, ENTRY, LAST, clockOf, Running, entryAt, Believed, Tidy, Cleared, Begun, Fewer, Forgot, New, Noted}
 use Rattle.recall.specs.Places.{codeOf, slotOf, Entry, Placed, Answered, Told}
 use Rattle.recall.specs.declared.Place.the-variants as places
 use Rattle.recall.specs.declared.Recalled.{Recalled}
 use Rattle.recall.specs.declared.Recalled.the-variants.{Is, Nothing}
 
--- a clock that does not run
+-- the marks
 
-pub begun-stopped : {m : List ℕ} → (Running (clockOf m) → ⊥) → Begun m
-begun-stopped h = record { tidy = record { past = λ r. absurd (h r) }; none = λ a b q v. h (v .running) }
+-- a word before them
+marks-set : (m : List ℕ) (p x : ℕ) {m′ : List ℕ} → p < MARKED → m′ ≡ set m p x → (i : ℕ) → Knows m′ i → Knows m i
+marks-set m p x h e = marks-same (λ j g l. ap (λ (v : List ℕ). getD v j 0) e ∙ getD-set-other m p j x 0 (λ q. omega arith))
+
+-- a clock that does not run: no entry is believed
+
+record Quiet (m : List ℕ) : Type 0 where
+  tidy : Tidy m
+  none : (a b : ℕ) (q : UnifyResult) → Believed m a b q → ⊥
+
+quiet-stopped : {m : List ℕ} → (Running (clockOf m) → ⊥) → Quiet m
+quiet-stopped h = record { tidy = record { past = λ r. absurd (h r) }; none = λ a b q v. h (v .running) }
 
 at-zero : {c : ℕ} → c ≡ 0 → Running c → ⊥
 at-zero e r = r .started e
 
 -- `begin`
 
-first-zero : (m : List ℕ) → clockOf (set m 0 0) ≡ 0
-first-zero [] = refl
-first-zero (x ∷ xs) = refl
+clock-other : (m : List ℕ) (p x : ℕ) → 0 < p → clockOf (set m p x) ≡ clockOf m
+clock-other m p x h = getD-set-other m p 0 x 0 (λ e. omega arith)
 
-second-clock : (m : List ℕ) (x : ℕ) → clockOf (set m 1 x) ≡ clockOf m
-second-clock m x = getD-set-other m 1 0 x 0 (λ e. omega arith)
+pub begun-by : (m : List ℕ) (v : ℕ) {m₁ m₂ m₃ : List ℕ} → m₁ ≡ set m 0 0 → m₂ ≡ set m₁ 1 v → m₃ ≡ set m₂ MARKED 0 → Begun m₃
+begun-by m v {m₁} {m₂} {m₃} e f g = record { tidy = quiet .tidy; none = quiet .none; unmarked = unmarked }
+  where
+    quiet : Quiet m₃
+    quiet = quiet-stopped
+        (at-zero (ap clockOf g ∙ (clock-other m₂ MARKED 0 (omega arith) ∙ (ap clockOf f ∙ (clock-other m₁ 1 v (omega arith) ∙ (ap clockOf e ∙ set-zero m 0))))))
 
-pub begun-by : (m : List ℕ) (v : ℕ) {m₁ m₂ : List ℕ} → m₁ ≡ set m 0 0 → m₂ ≡ set m₁ 1 v → Begun m₂
-begun-by m v {m₁} e f = begun-stopped (at-zero (ap clockOf f ∙ (second-clock m₁ v ∙ (ap clockOf e ∙ first-zero m))))
+    unmarked : (i : ℕ) → Knows m₃ i → ⊥
+    unmarked i k = omega (arith, k .some, ap (λ (l : List ℕ). getD l MARKED 0) g ∙ set-zero m₂ MARKED)
 
 -- `visited`
 
 pub fewer-same : {m : List ℕ} → Tidy m → Fewer m m
-fewer-same t = record { tidy = t; on = omega arith; still = λ a b q v. v }
+fewer-same t = record { tidy = t; on = omega arith; still = λ a b q v. v; marks = λ i k. k }
 
 -- from no clock on nothing was believed
-fewer-from : {m m′ : List ℕ} → clockOf m ≡ 0 → Begun m′ → Fewer m m′
-fewer-from e h = record { tidy = h .tidy; on = omega (arith, e); still = λ a b q v. absurd (h .none a b q v) }
+fewer-from : {m m′ : List ℕ} → clockOf m ≡ 0 → Quiet m′ → ((i : ℕ) → Knows m′ i → Knows m i) → Fewer m m′
+fewer-from e h k = record { tidy = h .tidy; on = omega (arith, e); still = λ a b q v. absurd (h .none a b q v); marks = k }
 
 pub fewer-wait : (m : List ℕ) (x : ℕ) {m′ : List ℕ} {c : ℕ} → c ≡ clockOf m → c ≡ 0 → m′ ≡ set m 1 x → Fewer m m′
-fewer-wait m x e z f = fewer-from (sym e ∙ z) (begun-stopped (at-zero (ap clockOf f ∙ (second-clock m x ∙ (sym e ∙ z)))))
+fewer-wait m x e z f =
+    fewer-from (sym e ∙ z) (quiet-stopped (at-zero (ap clockOf f ∙ (clock-other m 1 x (omega arith) ∙ (sym e ∙ z))))) (marks-set m 1 x (omega arith) f)
 
-pub fewer-start : {m m₁ m′ : List ℕ} {c : ℕ} → c ≡ clockOf m → c ≡ 0 → Cleared m₁ → m′ ≡ set m₁ 0 1 → Fewer m m′
+pub fewer-start : {m m₁ m′ : List ℕ} {c : ℕ} → c ≡ clockOf m → c ≡ 0 → Cleared m m₁ → m′ ≡ set m₁ 0 1 → Fewer m m′
 fewer-start {m} {m₁} {m′} e z h f = fewer-from (sym e ∙ z) (record {
   tidy = record { past = λ r k. omega (arith, word k) };
   none = λ a b q v. v .running .started (sym (v .when) ∙ word (v .place));
-})
+}) (λ i k. marks-same (λ j g l. h .head j l) i (marks-set m₁ 0 1 (omega arith) f i k))
   where
     word : (k : ℕ) → getD m′ (entryAt k + 2) 0 ≡ 0
     word k =
@@ -72,15 +88,21 @@ fewer-start {m} {m₁} {m′} e z h f = fewer-from (sym e ∙ z) (record {
 
 -- `clear`
 
--- the words of the entries below i are 0
-pub record Clearing (m : List ℕ) (i : ℕ) : Type 0 where
+-- the words from HEAD on below i are 0, and those before HEAD are as they were
+pub record Clearing (m₀ m : List ℕ) (i : ℕ) : Type 0 where
+  pub from : HEAD ≤ i
   pub zero : (j : ℕ) → HEAD ≤ j → j < i → getD m j 0 ≡ 0
+  pub head : (j : ℕ) → j < HEAD → getD m j 0 ≡ getD m₀ j 0
 
-pub clear-start : {m : List ℕ} → Clearing m HEAD
-clear-start = record { zero = λ j h g. absurd (omega arith) }
+pub clear-start : {m : List ℕ} → Clearing m m HEAD
+clear-start = record { from = omega arith; zero = λ j h g. absurd (omega arith); head = λ j h. refl }
 
-pub clear-next : {m : List ℕ} {i : ℕ} → Clearing m i → i < length m → Clearing (set m i 0) (i + 1)
-clear-next {m} {i} w h = record { zero = λ j g l. go j g l (ℕ-discrete j i) }
+pub clear-next : {m₀ m : List ℕ} {i : ℕ} → Clearing m₀ m i → i < length m → Clearing m₀ (set m i 0) (i + 1)
+clear-next {m₀} {m} {i} w h = record {
+  from = omega (arith, w .from);
+  zero = λ j g l. go j g l (ℕ-discrete j i);
+  head = λ j g. getD-set-other m i j 0 0 (λ e. omega (arith, w .from)) ∙ w .head j g;
+}
   where
     go : (j : ℕ) → HEAD ≤ j → j < i + 1 → Dec (j ≡ i) → getD (set m i 0) j 0 ≡ 0
     go j g l (yes e) = subst (λ (v : ℕ). getD (set m i 0) v 0 ≡ 0) (sym e) (getD-set-same m i 0 0 h)
@@ -91,8 +113,8 @@ past-end [] j h = refl
 past-end (x ∷ xs) zero h = absurd (omega arith)
 past-end (x ∷ xs) (suc j) h = past-end xs j (omega arith)
 
-pub clear-ends : {m : List ℕ} {i : ℕ} → Clearing m i → length m ≤ i → Cleared m
-clear-ends {m} {i} w h = record { zero = λ j g. go j g (decLt j i) }
+pub clear-ends : {m₀ m : List ℕ} {i : ℕ} → Clearing m₀ m i → length m ≤ i → Cleared m₀ m
+clear-ends {m₀} {m} {i} w h = record { zero = λ j g. go j g (decLt j i); head = w .head }
   where
     go : (j : ℕ) → HEAD ≤ j → Dec (j < i) → getD m j 0 ≡ 0
     go j g (yes l) = w .zero j g l
@@ -102,8 +124,8 @@ clear-ends {m} {i} w h = record { zero = λ j g. go j g (decLt j i) }
 
 pub forgot-stopped : {m : List ℕ} → (Running (clockOf m) → ⊥) → Forgot m m
 forgot-stopped h =
-    let b = begun-stopped h in
-    record { tidy = b .tidy; on = omega arith; none = b .none; moved = λ r e. h r }
+    let b = quiet-stopped h in
+    record { tidy = b .tidy; on = omega arith; none = b .none; moved = λ r e. h r; marks = λ i k. k }
 
 clock-set : (m : List ℕ) (x : ℕ) → (clockOf m ≡ 0 → ⊥) → clockOf (set m 0 x) ≡ x
 clock-set [] x h = absurd (h refl)
@@ -115,6 +137,7 @@ forgot-on {m} {m′} {c} t e z l f = record {
   on = omega (arith, now, e);
   none = λ a b q v. absurd (omega (arith, before (v .place), v .when, now, e));
   moved = λ r k. absurd (omega (arith, k, now, e));
+  marks = marks-set m 0 (c + 1) (omega arith) f;
 }
   where
     now : clockOf m′ ≡ c + 1
@@ -239,7 +262,7 @@ told-entry {m} {k} {p} e ex fx ey fy ew et fw ev h = record {
 -- `note`
 
 pub noted-same : {m : List ℕ} {began a b : ℕ} {r : UnifyResult} → Tidy m → Noted m m began a b r
-noted-same t = record { tidy = t; on = refl; only = λ a b q v. inl v }
+noted-same t = record { tidy = t; on = refl; only = λ a b q v. inl v; marks = λ i k. k }
 
 number-same : (q r : UnifyResult) → numberOf q ≡ numberOf r → q ≡ r
 number-same Success Success e = refl
@@ -329,6 +352,8 @@ module _ {m : List ℕ} {k c : ℕ} (a b : ℕ) (r : UnifyResult) (t : Tidy m) (
     tidy = record { past = λ w j. rw clock-stays (past-by (rw (← clock-stays) w) j (ℕ-discrete j k)) };
     on = clock-stays;
     only = λ a′ b′ q v. only-by a′ b′ q v (ℕ-discrete (v .place) k);
+    marks = marks-same (λ j g l.
+        other m (entryAt k) a b c (numberOf r) j (λ e. omega arith) (λ e. omega arith) (λ e. omega arith) (λ e. omega arith));
   }
 
 pub noted-entry : {m m₁ m₂ m₃ m₄ : List ℕ} {k p a b c x v : ℕ} {r : UnifyResult} → Tidy m → x ≡ clockOf m → x ≡ c → Entry m k p → m₁ ≡ set m p a → m₂ ≡ set m₁ (p + 1) b
@@ -338,3 +363,24 @@ noted-entry {m} {m₁} {m₂} {m₃} {m₄} {k} {p} {a} {b} {c} {r = r} t ex ec 
   where
     all : m₄ ≡ written m (entryAt k) a b c (numberOf r)
     all = rw (e₄, e₃, e₂, e₁, ev, en .is) refl
+
+-- a mark more is among no other words
+
+module _ {m m′ : List ℕ} (s : Beside m m′) where
+  pub marked-clock : clockOf m′ ≡ clockOf m
+  marked-clock = s .before 0 (omega arith)
+
+  pub marked-tidy : Tidy m → Tidy m′
+  marked-tidy t = record { past = λ r k. omega (arith, marked-clock, s .after (entryAt k + 2) (omega arith), t .past (subst Running marked-clock r) k) }
+
+  pub marked-still : (a b : ℕ) (q : UnifyResult) → Believed m′ a b q → Believed m a b q
+  marked-still a b q v =
+      let k : ℕ = entryAt (v .place) in
+      record {
+        place = v .place;
+        running = subst Running marked-clock (v .running);
+        first = sym (s .after k (omega arith)) ∙ v .first;
+        second = sym (s .after (k + 1) (omega arith)) ∙ v .second;
+        when = sym (s .after (k + 2) (omega arith)) ∙ (v .when ∙ marked-clock);
+        answer = sym (s .after (k + 3) (omega arith)) ∙ v .answer;
+      }

@@ -1,19 +1,21 @@
 // A lent memory of pairs of types and their answers. It is any slice, whatever it holds. The first word is the clock, the second says how many visits are left
-// before anything is remembered, and then come the entries, four words each: a pair, the clock when it was noted, and its answer. An entry is believed while the
-// clock is what it was then. What a pair and an answer mean is the caller's: here is said only which entries are believed.
+// before anything is remembered, then come the marks of nodes, and then the entries, four words each: a pair, the clock when it was noted, and its answer. An entry
+// is believed while the clock is what it was then; marks stay. What a pair and an answer mean is the caller's: here is said only which entries are believed.
 ghost use mathlib.Core.Path.{_≡_};
 ghost use Prim.Native.Nat.{_<_, _≤_};
 ghost use lib.Dec.{eqb};
-ghost use lib.ListN.{getD, set};
 ghost use Rattle.scope.specs.Limits.{«MAX-NODES»};
 ghost use Rattle.scope.specs.Types.{tyOf};
 ghost use Rattle.recall.specs.Memory.{clockOf, Tidy, Cleared, Begun, Fewer, Forgot, Noted, wordsFor};
 ghost use Rattle.recall.specs.Places.{codeOf, slotOf, Placed, Answered, Told};
+use marks::MARKED;
+use marks::at;
+use marks::put;
 use types::Type;
 use types::UnifyResult;
 
 // The words before the entries, and the words of an entry.
-pub const HEAD: usize = 2;
+pub const HEAD: usize = marks::HEAD;
 
 pub const ENTRY: usize = 4;
 
@@ -35,24 +37,6 @@ pub enum Place {
     Nothing,
 }
 
-// Past the end there is 0.
-fn at(m: &[u32], i: usize) -> u32
-    ensures { λ r. ⌜ r ≡ getD (now (m .entry)) i 0 ⌝ }
-{
-    if i < m.len() {
-        return m[i];
-    }
-    0
-}
-
-fn put(m: &mut [u32], i: usize, x: u32)
-    ensures { λ _. ⌜ now (m .exit) ≡ set (now (m .entry)) i x ⌝ }
-{
-    if i < m.len() {
-        m[i] = x;
-    }
-}
-
 pub fn clock(m: &[u32]) -> u32
     ensures { λ r. ⌜ r ≡ clockOf (now (m .entry)) ⌝ }
 {
@@ -65,11 +49,12 @@ pub fn begin(m: &mut [u32])
 {
     put(m, 0, 0);
     put(m, 1, VISITS);
+    put(m, MARKED, 0);
 }
 
 // Every word from the entries on becomes 0.
 fn clear(m: &mut [u32])
-    ensures { λ _. ⌜ Cleared (now (m .exit)) ⌝ }
+    ensures { λ _. ⌜ Cleared (now (m .entry)) (now (m .exit)) ⌝ }
 {
     let mut i = HEAD;
     while i < m.len() {

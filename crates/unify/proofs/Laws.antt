@@ -16,7 +16,6 @@ use Rattle.scope.specs.Nodes.{Node, Root, Child, at, isRoot, sizeOf, kidsOf, fi
 use Rattle.scope.specs.Answers as answers
 use Rattle.scope.specs.Unify as scope
 use Rattle.scope.specs.Unify.{Out, out, run, stateIn, settle, meet, unifyF}
-use Rattle.scope.proofs.Laws.{find-root, compress-root}
 use Rattle.scope.proofs.View.{View, view}
 use Rattle.scope.proofs.Paths.{Forest, Tidied, find-idx, find-inside, rep-root, find-mut-tidied, tidied-forest, tidied-trans, tidied-view}
 use Rattle.scope.proofs.Sizes.{size-le}
@@ -25,34 +24,35 @@ use Rattle.scope.proofs.SoundKept.{tidied-nodes}
 use Rattle.scope.proofs.Enough.{Enough, enough-root, enough-tidied, enough-meet, enough-kids, enough-run}
 use Rattle.types.specs.Answers.{answerOf}
 use Rattle.types.specs.declared.UnifyResult.{UnifyResult}
-use Rattle.types.specs.declared.UnifyResult.the-variants.{Success, Failure}
+use Rattle.types.specs.declared.UnifyResult.the-variants.{Failure}
 use Rattle.layout.specs.Words.{nodeWords, decode}
 use Rattle.layout.specs.Meaning.{Clean, Linked}
 use Rattle.layout.proofs.Laws.{length-decode}
 use Rattle.layout.proofs.HeldLaws.{size-read}
 use Rattle.layout.proofs.LinkLaws.{clean-linked}
 use Rattle.roots.specs.Found.{FoundMut}
-use Rattle.recall.specs.Memory.{clockOf, Believed, Tidy, Fewer, Forgot, New}
+use Rattle.recall.specs.Memory.{clockOf, Believed, Fewer, New}
 use Rattle.recall.specs.Places.{Told}
 use Rattle.recall.specs.declared.Recalled.{Recalled}
 use Rattle.recall.specs.declared.Recalled.the-variants.{Is}
-use Rattle.heed.specs.Recalls.{Meets, Recalls, Since}
-use Rattle.heed.specs.Told.{Moved, FoundTold, Settles, SettledTold}
-use Rattle.heed.proofs.Laws.{since-same, since-then, recalls-moved, moved-fewer, moved-forgot, moved-same}
-use Rattle.merge.specs.Meaning.{Adds, Bound}
+use Rattle.heed.specs.Recalls.{Meets, Marks, Recalls, Since}
+use Rattle.heed.specs.Told.{FoundTold, Settles, SettledTold}
+use Rattle.heed.proofs.Laws.{since-same, since-then, recalls-moved, SelfsKept, marks-kept, marks-fewer, selfs-view, moved-fewer}
+use Rattle.merge.specs.Meaning.{Adds}
 use Rattle.meeting.specs.Asks.{SoundWords, Pair, Tops, Inside}
+use Rattle.plan.specs.Meaning.{planMeans}
 use Rattle.plan.specs.declared.Plan.{Plan}
 use Rattle.meeting.specs.Steps.{stepsMean, Ready, PlanSpans, PlanReady, Stepped}
-use Rattle.meeting.specs.Meets.{does, walkedBy, metBy, pairsOf, MeetReady, Met, WalkedTo}
+use Rattle.meeting.specs.Meets.{does, metBy, pairsOf, MeetReady, BothKnown, MetKinds, Met}
 use Rattle.meeting.specs.declared.Steps.{Steps}
-use Rattle.meeting.specs.declared.Walked.{Walked}
-use Rattle.meeting.specs.declared.Walked.the-variants.{Done, Bind}
 use Rattle.meeting.specs.declared.Meeting.{Meeting}
 use Rattle.meeting.specs.declared.Meeting.the-variants.{Walk, Kids}
-use Rattle.unify.specs.Leaves.{Leaves}
+use Rattle.unify_roots.specs.Leaves.{Leaves}
 use Rattle.unify.specs.Asked.{Asked, Unified}
-use Rattle.unify.specs.Walk.{WalkAsks, WalkTold}
-use Rattle.unify.proofs.Kept.{pair-sound, run-sound}
+use Rattle.unify_roots.specs.Walk.{WalkAsks, WalkTold}
+use Rattle.unify_roots.proofs.Kept.{pair-sound, pair-selfs, run-sound}
+use Rattle.unify_roots.proofs.Laws.{by-words, below, unify-deep, unify-roots}
+use Rattle.unify.proofs.Closing.{closes}
 
 -- what is asked
 
@@ -86,30 +86,31 @@ module _ {x : Texts} {ws ks : List ℕ} {n : ℕ} (w : SoundWords x ws ks n) whe
         (omega (arith, sizes-small (a .idx) ha, sizes-small (b .idx) hb));
   }
 
-  -- what holds of the chart's texts and of the nodes' number
-  by-words : (P : Texts → ℕ → Type 0) → P (w .env .texts) (length (decode ws ks n)) → P x n
-  by-words P s = subst (λ (y : Texts). P y n) (w .lent) (subst (λ (m : ℕ). P (w .env .texts) m) (length-decode ws ks n) s)
-
   -- a pair and a run, at any depth
   sound-at : (o : Texts → ℕ → Out) → SoundNodes (w .env) (o (w .env .texts) (length (decode ws ks n)) .nodes) → SoundNodes (w .env) (o x n .nodes)
-  sound-at o s = by-words (λ y m. SoundNodes (w .env) (o y m .nodes)) s
+  sound-at o s = by-words w (λ y m. SoundNodes (w .env) (o y m .nodes)) s
 
   leaves-words : {ws′ : List ℕ} {o : Out} {q : UnifyResult} → Leaves ws ks ws′ n o q → SoundNodes (w .env) (o .nodes) → SoundWords x ws′ ks n
   leaves-words l s = words-with (l .clean) (subst (λ (o : Out). SoundNodes (w .env) (o .nodes)) (l .same) s)
 
-  below : {i : ℕ} → i < n → i < length (decode ws ks n)
-  below h = omega (arith, length-decode ws ks n)
-
   pub words-pair : (d : ℕ) (p q : Ty) {ws′ : List ℕ} {s : UnifyResult} → p .idx < n → q .idx < n
       → Leaves ws ks ws′ n (unifyF x n d (decode ws ks n) p q) s → SoundWords x ws′ ks n
   words-pair d p q hp hq l =
-      leaves-words l (sound-at (λ y m. unifyF y m d (decode ws ks n) p q) (pair-sound (w .env) (w .sound) d p q (below hp) (below hq)))
+      leaves-words l (sound-at (λ y m. unifyF y m d (decode ws ks n) p q) (pair-sound (w .env) (w .sound) d p q (below w hp) (below w hq)))
+
+  -- roots that are their own inverses stay so
+  pub words-selfs : (d : ℕ) (p q : Ty) (ws′ : List ℕ) (s : UnifyResult) → p .idx < n → q .idx < n
+      → unifyF x n d (decode ws ks n) p q ≡ out (decode ws′ ks n) (answerOf s) → SelfsKept (decode ws ks n) (decode ws′ ks n)
+  words-selfs d p q ws′ s hp hq e =
+      let ns : List Node = decode ws ks n in
+      subst (λ (o : Out). SelfsKept ns (o .nodes)) e
+      (by-words w (λ y m. SelfsKept ns (unifyF y m d ns p q .nodes)) (pair-selfs (w .env) (w .sound) d p q (below w hp) (below w hq)))
 
   pub words-run : (d : ℕ) (b : answers.Answer) (ps : List (Ty × Ty)) {ws′ : List ℕ} {s : UnifyResult} → Inside n ps
       → Leaves ws ks ws′ n (run (unifyF x n d) (decode ws ks n) b ps) s → SoundWords x ws′ ks n
   words-run d b ps h l =
       leaves-words l (sound-at (λ y m. run (unifyF y m d) (decode ws ks n) b ps)
-      (run-sound (w .env) (w .sound) d b ps (λ p m. (below (h p m .0), below (h p m .1)))))
+      (run-sound (w .env) (w .sound) d b ps (λ p m. (below w (h p m .0), below w (h p m .1)))))
 
   -- pairs that are left once others are unified
   pub words-enough : (d : ℕ) (b : answers.Answer) (ps qs : List (Ty × Ty)) {ws′ : List ℕ} {s : UnifyResult} → Inside n (ps ++ qs) → Enough n (decode ws ks n) d (ps ++ qs)
@@ -117,20 +118,30 @@ module _ {x : Texts} {ws ks : List ℕ} {n : ℕ} (w : SoundWords x ws ks n) whe
   words-enough d b ps qs i e l =
       let ns : List Node = decode ws ks n in
       subst (λ (o : Out). Enough n (o .nodes) d qs) (l .same)
-      (by-words (λ y m. Inside m (ps ++ qs) → Enough m ns d (ps ++ qs) → Enough m (run (unifyF y m d) ns b ps .nodes) d qs) (enough-run (w .env) (w .sound) d b ps qs) i e)
+      (by-words w (λ y m. Inside m (ps ++ qs) → Enough m ns d (ps ++ qs) → Enough m (run (unifyF y m d) ns b ps .nodes) d qs) (enough-run (w .env) (w .sound) d b ps qs) i e)
 
   -- two roots
   module _ (a b : Ty) (h : a .idx < n) (top : isRoot (at (decode ws ks n) (a .idx)) ≡ true) {d : ℕ} (e : Enough n (decode ws ks n) d ((a, b) ∷ [])) (deep : d ≡ 0 → ⊥) where
     pub words-meet : meet (unifyF x n (d - 1)) x n (decode ws ks n) a b ≡ meet (unifyF x n n) x n (decode ws ks n) a b
     words-meet =
         let ns : List Node = decode ws ks n in
-        by-words (λ y m. a .idx < m → Enough m ns d ((a, b) ∷ []) → meet (unifyF y m (d - 1)) y m ns a b ≡ meet (unifyF y m m) y m ns a b)
+        by-words w (λ y m. a .idx < m → Enough m ns d ((a, b) ∷ []) → meet (unifyF y m (d - 1)) y m ns a b ≡ meet (unifyF y m m) y m ns a b)
         (λ g f. enough-meet (w .env) (w .sound) a b g top f deep) h e
 
     pub words-kids : (ps : List (Ty × Ty)) → ((p : Ty × Ty) → List·Memᴰ p ps → List·Memᴰ (p .0) (kidsOf (stateIn (decode ws ks n) a))) → Enough n (decode ws ks n) (d - 1) ps
     words-kids ps f =
         let ns : List Node = decode ws ks n in
-        by-words (λ y m. a .idx < m → Enough m ns d ((a, b) ∷ []) → Enough m ns (d - 1) ps) (λ g u. enough-kids (w .env) (w .sound) a b g top u deep ps f) h e
+        by-words w (λ y m. a .idx < m → Enough m ns d ((a, b) ∷ []) → Enough m ns (d - 1) ps) (λ g u. enough-kids (w .env) (w .sound) a b g top u deep ps f) h e
+
+  -- settling after the children
+  pub words-closes : (f : ℕ) (a b : Ty) → a .idx < n → b .idx < n → isRoot (at (decode ws ks n) (a .idx)) ≡ true → isRoot (at (decode ws ks n) (b .idx)) ≡ true
+      → (l : scope.Plan) → BothKnown x (decode ws ks n) a b l → Inside n (l .pairs)
+      → let o : Out = does (unifyF x n f) (decode ws ks n) l in SelfsKept (o .nodes) (settle (o .nodes) a b (o .answer) .nodes)
+  words-closes f a b ha hb ra rb l k h =
+      let ns : List Node = decode ws ks n in
+      by-words w (λ y m. a .idx < m → b .idx < m → BothKnown y ns a b l → Inside m (l .pairs)
+      → let o : Out = does (unifyF y m f) ns l in SelfsKept (o .nodes) (settle (o .nodes) a b (o .answer) .nodes))
+      (λ ga gb. closes (w .env) (w .sound) f a b ga gb ra rb l) ha hb k h
 
 pub asked-pair : {x : Texts} {ws ks m : List ℕ} {n d : ℕ} {p q : Ty} → Asked x ws ks m n d ((p, q) ∷ []) → Pair x ws ks n p q
 asked-pair {p = p} {q = q} w = let h = w .pairs .inside (p, q) (List·Memᴰ·head refl) in record { words = w .pairs .words; first = h .0; second = h .1 }
@@ -153,12 +164,6 @@ pub record Climbed (x : Texts) (ws ks m ws₂ m₂ : List ℕ) (n d : ℕ) (p q 
   pub recalls : Recalls x n (decode ws₂ ks n) m₂
   pub since : Since (clockOf m) (clockOf m₂) (decode ws ks n) (decode ws₂ ks n)
 
-pub unify-deep : (x : Texts) (n d : ℕ) (ns : List Node) (p q : Ty) → (d ≡ 0 → ⊥)
-    → unifyF x n d ns p q ≡ meet (unifyF x n (d - 1)) x n (findMut (findMut ns p) q) (find ns p) (find (findMut ns p) q)
-unfolding unifyF
-unify-deep x n zero ns p q h = absurd (h refl)
-unify-deep x n (suc d) ns p q h = let e : suc d - 1 ≡ d = omega arith in rw e refl
-
 pub climbed : {x : Texts} {ws ks ws₁ ws₂ m m₀ m₁ m₂ : List ℕ} {n d p q a b : ℕ} → Asked x ws ks m n d ((tyOf p, tyOf q) ∷ []) → (d ≡ 0 → ⊥) → Fewer m m₀
     → FoundTold ws n ws₁ m₀ m₁ p a → FoundTold ws₁ n ws₂ m₁ m₂ q b → Climbed x ws ks m ws₂ m₂ n d (tyOf p) (tyOf q) a b
 climbed {x} {ws} {ks} {ws₁} {ws₂} {m} {m₀} {m₁} {m₂} {n} {d} {p} {q} {a} {b} w h v f′ g′ = record {
@@ -176,7 +181,7 @@ climbed {x} {ws} {ks} {ws₁} {ws₂} {m} {m₀} {m₁} {m₂} {n} {d} {p} {q} {
   };
   deep = h;
   enough = rw (f .root ks, e₂) (enough-tidied (ok₁ .forest) t₂ (enough-tidied (ok .forest) t₁ (enough-root (ok .forest) (tyOf p) (tyOf q) (tyOf b) (w .enough))));
-  recalls = recalls-moved (recalls-moved (recalls-moved (w .recalls) (moved-fewer v)) (f′ .told ks)) (g′ .told ks);
+  recalls = recalls-moved (recalls-moved (recalls-moved (w .recalls) (moved-fewer v) marks₀) (f′ .told ks) marks₁) (g′ .told ks) marks₂;
   since = since-then (since-then (moved-fewer {ns = ns} v .since) (f′ .told ks .since)) (g′ .told ks .since);
 }
   where
@@ -216,25 +221,14 @@ climbed {x} {ws} {ks} {ws₁} {ws₂} {m} {m₀} {m₁} {m₂} {n} {d} {p} {q} {
     t₂ : Tidied ms (findMut ms (tyOf q))
     t₂ = find-mut-tidied (ok₁ .forest) (tyOf q)
 
--- two roots are their own
+    marks₀ : Marks ns m₀
+    marks₀ = marks-fewer (v .marks) (w .recalls .marks)
 
-root-find : (ns : List Node) (t : Ty) (v : Node) → at ns (t .idx) ≡ v → isRoot v ≡ true → find ns t ≡ t
-root-find ns t (Root st z) e r = find-root ns t st z e
-root-find ns t (Child u) e r = cc
+    marks₁ : Marks ms m₁
+    marks₁ = marks-kept (selfs-view ns ms (tidied-view t₁ (ok .forest))) (f′ .marks) marks₀
 
-root-find-mut : (ns : List Node) (t : Ty) (v : Node) → at ns (t .idx) ≡ v → isRoot v ≡ true → findMut ns t ≡ ns
-unfolding findMut
-root-find-mut ns t (Root st z) e r = compress-root (length ns) ns (find ns t) t e
-root-find-mut ns t (Child u) e r = cc
-
-pub unify-roots : (x : Texts) (n d : ℕ) (ns : List Node) (a b : Ty) → (d ≡ 0 → ⊥) → isRoot (at ns (a .idx)) ≡ true → isRoot (at ns (b .idx)) ≡ true
-    → unifyF x n d ns a b ≡ meet (unifyF x n (d - 1)) x n ns a b
-unify-roots x n d ns a b h f g =
-    let e₁ : findMut ns a ≡ ns = root-find-mut ns a (at ns (a .idx)) refl f in
-    let e₂ : findMut ns b ≡ ns = root-find-mut ns b (at ns (b .idx)) refl g in
-    let e₃ : find ns a ≡ a = root-find ns a (at ns (a .idx)) refl f in
-    let e₄ : find ns b ≡ b = root-find ns b (at ns (b .idx)) refl g in
-    unify-deep x n d ns a b h ∙ rw (e₁, e₂, e₃, e₄) refl
+    marks₂ : Marks (decode ws₂ ks n) m₂
+    marks₂ = marks-kept (selfs-view ms (decode ws₂ ks n) (ap view e₂ ∙ tidied-view t₂ (ok₁ .forest))) (g′ .marks) marks₁
 
 pub climbed-here : {x : Texts} {ws ks m : List ℕ} {n d p q : ℕ} → Asked x ws ks m n d ((tyOf p, tyOf q) ∷ []) → (d ≡ 0 → ⊥) → Tops x ws ks n (tyOf p) (tyOf q)
     → Climbed x ws ks m ws m n d (tyOf p) (tyOf q) p q
@@ -259,30 +253,6 @@ no-depth w e = record { leaves = record { same = rw e refl; clean = λ c cl. cl;
 pub tops-add : {x : Texts} {ws ks m ws₂ m₂ : List ℕ} {n d : ℕ} {p q : Ty} {a b : ℕ} → Climbed x ws ks m ws₂ m₂ n d p q a b → Adds ws₂ n (tyOf a) (tyOf b)
 tops-add {a = a} {b = b} c = words-add (c .tops .pair .words) (tyOf a) (tyOf b) (c .tops .pair .first) (c .tops .pair .second)
 
-pub walk-asks : {x : Texts} {ws ks m ws₂ m₂ : List ℕ} {n d : ℕ} {p q : Ty} {a b : ℕ} → Climbed x ws ks m ws₂ m₂ n d p q a b → WalkAsks ws₂ ks m₂ n (tyOf a) (tyOf b)
-walk-asks {x} c = record { roots = record { lent = x; tops = c .tops }; adds = tops-add c; tidy = c .recalls .tidy }
-
--- `walk_pair`
-
-module _ {ws ks m : List ℕ} {n : ℕ} {a b : Ty} {w : Walked} (asks : WalkAsks ws ks m n a b) (o : WalkedTo ws ks n a b w) where
-  pub walk-done : {r : UnifyResult} → w ≡ Done r → WalkTold ws ks m ws m n a b r
-  walk-done e = record {
-    leaves = record { same = o .same ∙ ap (walkedBy (decode ws ks n) a b) e; clean = λ c cl. cl; tail = refl };
-    told = moved-same (asks .tidy);
-  }
-
-  pub walk-binds : {ws′ m′ : List ℕ} → w ≡ Bind → Bound ws ws′ n a b → Forgot m m′ → WalkTold ws ks m ws′ m′ n a b Success
-  walk-binds e v f =
-      let g = asks .roots .tops .pair .words in
-      record {
-        leaves = record {
-          same = o .same ∙ (ap (walkedBy (decode ws ks n) a b) e ∙ ap (λ (ns : List Node). out ns answers.Success) (sym (v .nodes ks (g .children) (g .clean))));
-          clean = λ c cl. v .clean ks c cl;
-          tail = v .tail;
-        };
-        told = moved-forgot f;
-      }
-
 -- the same, and the roots ask for k
 pub record AtRoots (x : Texts) (ws ks m ws₂ m₂ : List ℕ) (n d : ℕ) (p q : Ty) (a b : ℕ) (k : Meeting) : Type 0 where
   pub up : Climbed x ws ks m ws₂ m₂ n d p q a b
@@ -302,6 +272,15 @@ module _ {x : Texts} {ws ks m ws₂ m₂ : List ℕ} {n d : ℕ} {p q : Ty} {a b
   deep-enough : meet (unifyF x n (d - 1)) x n (decode ws₂ ks n) (tyOf a) (tyOf b) ≡ meet (unifyF x n n) x n (decode ws₂ ks n) (tyOf a) (tyOf b)
   deep-enough = words-meet words (tyOf a) (tyOf b) (c .up .tops .pair .first) (c .up .tops .first) (c .up .enough) (c .up .deep)
 
+  pub walk-asks : k ≡ Walk → WalkAsks ws₂ ks m₂ n (tyOf a) (tyOf b)
+  walk-asks e = record {
+    roots = record { lent = x; tops = c .up .tops };
+    adds = tops-add (c .up);
+    meets = λ u. c .met .same u ∙ ap (metBy u x n ks (decode ws₂ ks n) (tyOf a) (tyOf b)) e;
+    tidy = c .up .recalls .tidy;
+    marks = c .up .recalls .marks;
+  }
+
   -- nothing after the finds
   at-once : {r : UnifyResult} → whole ≡ out (decode ws₂ ks n) (answerOf r) → Unified x ws ks m ws₂ m₂ n whole r
   at-once e = record { leaves = record { same = e; clean = c .up .clean; tail = c .up .tail }; recalls = c .up .recalls; since = c .up .since }
@@ -314,7 +293,7 @@ module _ {x : Texts} {ws ks m ws₂ m₂ : List ℕ} {n d : ℕ} {p q : Ty} {a b
       clean = λ h cl. o .leaves .clean h (c .up .clean h cl);
       tail = o .leaves .tail ∙ c .up .tail;
     };
-    recalls = recalls-moved (c .up .recalls) (o .told);
+    recalls = recalls-moved (c .up .recalls) (o .told) (o .marks);
     since = since-then (c .up .since) (o .told .since);
   }
 
@@ -367,6 +346,21 @@ module _ {x : Texts} {ws ks m ws₂ m₂ : List ℕ} {n d : ℕ} {p q : Ty} {a b
             ∙ (ap (λ (t : Out). settle (t .nodes) (tyOf a) (tyOf b) (t .answer)) (v .leaves .same)
             ∙ o .settled .nodes ks (words .children) (v .leaves .clean (words .children) (words .clean))))
 
+        -- the children's plan
+        planned : stepsMean ks x l ≡ planMeans ks x p′
+        planned = st .same ks x
+
+        settled : SelfsKept (decode ws₃ ks n) (decode ws₄ ks n)
+        settled =
+            let ns : List Node = decode ws₂ ks n in
+            let t = c .up .tops in
+            let all : (o : Out) → Type 0 = λ o. SelfsKept (o .nodes) (settle (o .nodes) (tyOf a) (tyOf b) (o .answer) .nodes) in
+            let y : all (does (unifyF x n (d - 1)) ns (stepsMean ks x l)) =
+            words-closes words (d - 1) (tyOf a) (tyOf b) (t .pair .first) (t .pair .second) (t .first) (t .second) (stepsMean ks x l)
+            (subst (BothKnown x ns (tyOf a) (tyOf b)) (sym planned) (subst (MetKinds x ks ns (tyOf a) (tyOf b)) e (c .met .kinds))) kids-inside in
+            subst (λ (z : Out). SelfsKept (decode ws₃ ks n) (z .nodes)) (o .settled .nodes ks (words .children) (v .leaves .clean (words .children) (words .clean)))
+            (subst all (v .leaves .same) y)
+
         -- what is believed now was believed after the children, or it is this visit's answer and no node changed in it
         believed-now : (a′ b′ : ℕ) (q′ : UnifyResult) → (Believed m₃ a′ b′ q′ ⊎ New m₃ began a b s a′ b′ q′) × (decode ws₄ ks n ≡ decode ws₃ ks n)
             → Meets x n (decode ws₄ ks n) a′ b′ q′
@@ -384,6 +378,10 @@ module _ {x : Texts} {ws ks m ws₂ m₂ : List ℕ} {n d : ℕ} {p q : Ty} {a b
             clean = λ h cl. o .settled .clean ks h (v .leaves .clean h (c .up .clean h cl));
             tail = o .settled .tail ∙ (v .leaves .tail ∙ c .up .tail);
           };
-          recalls = record { tidy = o .told ks .tidy; true = λ a′ b′ q′ w. believed-now a′ b′ q′ (o .told ks .believed a′ b′ q′ w) };
+          recalls = record {
+            tidy = o .told ks .tidy;
+            true = λ a′ b′ q′ w. believed-now a′ b′ q′ (o .told ks .believed a′ b′ q′ w);
+            marks = marks-kept settled (o .marks) (v .recalls .marks);
+          };
           since = since-then (c .up .since) (since-then (v .since) (o .told ks .since));
         }

@@ -1,5 +1,5 @@
 -- The laws that belong to no one function
-pub mod Kept
+pub mod Closing
 pub mod Laws
-pub mod RunLaws
 pub mod QuickLaws
+pub mod RunLaws

@@ -1,3 +1,1 @@
-pub mod Leaves
 pub mod Asked
-pub mod Walk

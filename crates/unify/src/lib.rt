@@ -1,5 +1,5 @@
 // "The functions that unify a pair, a run and an object call each other in turn", depth falling from the node count. Two roots without kinds merge at once, in the
-// loops too. What walks is a leaf apart from the cycle, and so its marks stay out of the cycle's frames. Otherwise what is to be done with two roots is read first,
+// loops too. What walks is `unify_roots`, apart from the cycle, and so its marks stay out of the cycle's frames. Otherwise what is to be done with two roots is read first,
 // then their children are unified, then the answer is settled. The words of the nodes change as scope's `unify` says of the nodes. Beside them goes a memory: a pair
 // that did not succeed is looked up there before its children are unified. Whatever is believed there is what unifying would give.
 ghost use Rattle.scope.specs.Types.{tyOf};
@@ -12,11 +12,9 @@ ghost use Rattle.meeting.specs.Steps.{stepsMean, Ready, RunsLie, Ascends};
 ghost use Rattle.meeting.specs.Meets.{does};
 ghost use mathlib.Core.List.{[], _∷_};
 ghost use Rattle.unify.specs.Asked.{Asked, Unified};
-ghost use Rattle.unify.specs.Walk.{WalkAsks, WalkTold};
 use meeting::Meeting;
 use meeting::Sought;
 use meeting::Steps;
-use meeting::Walked;
 use plan::Runs;
 use recall::Recalled;
 use types::Type;
@@ -67,14 +65,14 @@ pub fn unify_pair<'a>(
         return UnifyResult::Failure;
     }
     if meeting::bare_roots(ws, n, a, b) {
-        return walk_pair(ws, ks, n, memory, a, b);
+        return unify_roots::walk_pair(ws, ks, n, memory, a, b);
     }
     recall::visited(memory);
     let ra = heed::find(ws, n, memory, a);
     let rb = heed::find(ws, n, memory, b);
     let m = meeting::meet(ws, ks, n, rule, text, ra, rb);
     match m {
-        Meeting::Walk => walk_pair(ws, ks, n, memory, ra, rb),
+        Meeting::Walk => unify_roots::walk_pair(ws, ks, n, memory, ra, rb),
         Meeting::Kids(p) => {
             let known = recall::look(memory, n, ra, rb);
             match known {
@@ -96,45 +94,6 @@ pub fn unify_pair<'a>(
             }
         }
     }
-}
-
-// Two roots, one node or one of them without a kind: no child is unified.
-fn walk_on(ws: &mut [u32], ks: &[u32], n: u32, memory: &mut [u32], a: Type, b: Type) -> UnifyResult
-    requires { ⌜ WalkAsks (now ws) (now ks) (now memory) n (tyOf (a .0)) (tyOf (b .0)) ⌝ }
-    ensures { λ r. ⌜ WalkTold (now (ws .entry)) (now (ks .entry)) (now (memory .entry)) (now (ws .exit)) (now (memory .exit)) n (tyOf (a .0)) (tyOf (b .0)) r ⌝ }
-{
-    let w = meeting::walk_roots(ws, ks, n, a, b);
-    match w {
-        Walked::Done(r) => r,
-        Walked::Bind => {
-            merge::bind(ws, n, a, b);
-            recall::changed(memory);
-            UnifyResult::Success
-        }
-    }
-}
-
-// The same; one nil needs no walk.
-fn walk_pair(
-    ws: &mut [u32],
-    ks: &[u32],
-    n: u32,
-    memory: &mut [u32],
-    a: Type,
-    b: Type,
-) -> UnifyResult
-    requires { ⌜ WalkAsks (now ws) (now ks) (now memory) n (tyOf (a .0)) (tyOf (b .0)) ⌝ }
-    ensures { λ r. ⌜ WalkTold (now (ws .entry)) (now (ks .entry)) (now (memory .entry)) (now (ws .exit)) (now (memory .exit)) n (tyOf (a .0)) (tyOf (b .0)) r ⌝ }
-{
-    let ia = a.idx();
-    let ib = b.idx();
-    if ia.0 != ib.0 {
-        return walk_on(ws, ks, n, memory, a, b);
-    }
-    if heed::small(ws, n, memory, a, b) {
-        return UnifyResult::Success;
-    }
-    walk_on(ws, ks, n, memory, a, b)
 }
 
 // The children of two kinds, step by step.

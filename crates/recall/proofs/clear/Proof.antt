@@ -1,4 +1,4 @@
--- `recall::clear` meets its contract. The invariant: the words of the entries below i are 0. The measure is the number of words left.
+-- `recall::clear` meets its contract. The invariant: the words of the entries below i are 0, and those before the entries are as they were. The measure is the number of words left.
 -- Assumes nothing.
 use mathlib.Core.Path.{_≡_, refl, _∙_}
 use Prim.Native.Nat.{_-_}
@@ -10,7 +10,7 @@ use Rattle.recall.proofs.clear.Statement.{statement}
 use Rattle.recall.proofs.clear.Tie as tie
 
 abbrev Inv-loop : tie.InvT-loop
-Inv-loop m₀ i₀ m i = (length m ≡ length m₀) × Clearing m i
+Inv-loop m₀ i₀ m i = (length m ≡ length m₀) × Clearing m₀ m i
 
 abbrev μ-loop : tie.MeasureT-loop
 μ-loop m₀ i₀ m i = length m - i

@@ -47,7 +47,7 @@ use Rattle.recall.proofs.visited.Reads as visited-reads
 use Rattle.types.proofs.Type.invert_if.Reads as invert-if-reads
 use Rattle.types.proofs.UnifyResult.and.Reads as and-reads
 use Rattle.types.proofs.UnifyResult.from_bool.Reads as from-bool-reads
-use Rattle.unify.proofs.walk_pair.Reads as walk-pair-reads
+use Rattle.unify_roots.proofs.walk_pair.Reads as walk-pair-reads
 use Rattle.unify.proofs.+unify_kids+unify_objects+unify_pair+unify_types.{statement}
 use Rattle.unify.proofs.+unify_kids+unify_objects+unify_pair+unify_types.Tie.{close}
 
@@ -390,7 +390,7 @@ unify-pair-bare-roots-requires : (t : ℕ) → unify-pair-lts.Need-bare-roots-re
 unify-pair-bare-roots-requires t c κs = c .before .before .before .before .before .before .before .pre .1 .pairs .words .clean .room
 
 unify-pair-walk-pair-requires : (t : ℕ) → unify-pair-lts.Need-walk-pair-requires (unify-pair-claims t) (unify-pair-at t) unify-pair.Post
-unify-pair-walk-pair-requires t c κs = walk-asks (bare-there t (c .before .before) .up)
+unify-pair-walk-pair-requires t c κs = walk-asks (bare-there t (c .before .before)) refl
 
 unify-pair-same-length : (t : ℕ) → unify-pair-lts.Need-same-length (unify-pair-claims t) (unify-pair-at t) unify-pair.Post
 unify-pair-same-length t c = c .before .before .before .before .walk-pair .kept .0
@@ -423,7 +423,7 @@ unify-pair-enum-told : (t : ℕ) → unify-pair-lts.Need-enum-told (unify-pair-c
 unify-pair-enum-told t c = search needs
 
 unify-pair-walk-pair-requires-2 : (t : ℕ) → unify-pair-lts.Need-walk-pair-requires-2 (unify-pair-claims t) (unify-pair-at t) unify-pair.Post
-unify-pair-walk-pair-requires-2 t c κs = walk-asks (climbed-there t (c .before .before .before .before .before .before .before .before .before .before))
+unify-pair-walk-pair-requires-2 t c κs = walk-asks (met-there t (c .before .before .before .before)) (c .before .before .enum-told .given .1)
 
 unify-pair-enum-known-m : (t : ℕ) → unify-pair-lts.Need-enum-known-m (unify-pair-claims t) (unify-pair-at t) unify-pair.Post
 unify-pair-enum-known-m t c = search needs

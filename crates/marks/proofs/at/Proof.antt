@@ -1,9 +1,9 @@
--- `recall::at` meets its contract: past the end getD gives 0.
+-- `marks::at` meets its contract: past the end getD gives 0.
 -- Assumes nothing.
 use lib.ListN.{List·getD-eq-default}
 use borrow.Author.Needs.{needs}
-use Rattle.recall.proofs.at.Statement.{statement}
-use Rattle.recall.proofs.at.Tie as tie
+use Rattle.marks.proofs.at.Statement.{statement}
+use Rattle.marks.proofs.at.Tie as tie
 
 mul-result : tie.Need-mul-result
 mul-result c = search needs

@@ -1,9 +1,9 @@
--- `unify::walk_on` meets its contract: an answer at once, or a merge of which the memory is told.
+-- `unify_roots::walk_on` meets its contract: an answer at once, or a merge of which the memory is told.
 -- Assumes nothing.
-use Rattle.unify.proofs.Laws.{walk-done, walk-binds}
+use Rattle.unify_roots.proofs.Laws.{walk-done, walk-binds}
 use borrow.Author.Needs.{needs}
-use Rattle.unify.proofs.walk_on.Statement.{statement}
-use Rattle.unify.proofs.walk_on.Tie as tie
+use Rattle.unify_roots.proofs.walk_on.Statement.{statement}
+use Rattle.unify_roots.proofs.walk_on.Tie as tie
 
 walk-roots-requires : tie.Need-walk-roots-requires
 walk-roots-requires c κs = search needs

@@ -1,10 +1,10 @@
--- `recall::put` meets its contract: past the end a list with another element is the list.
+-- `marks::put` meets its contract: past the end a list with another element is the list.
 -- Assumes nothing.
 use mathlib.Core.Path.{sym}
 use lib.Seq.{set-out}
 use borrow.Author.Needs.{needs}
-use Rattle.recall.proofs.put.Statement.{statement}
-use Rattle.recall.proofs.put.Tie as tie
+use Rattle.marks.proofs.put.Statement.{statement}
+use Rattle.marks.proofs.put.Tie as tie
 
 mul-m : tie.Need-mul-m
 mul-m c = search needs

@@ -1,0 +1,4 @@
+-- The laws that belong to no one function
+pub mod Kept
+pub mod Laws
+pub mod SmallLaws

@@ -1,0 +1,61 @@
+// Two roots of which no child is unified: one node, or one of them without a kind. What walks is here, apart from the cycle of `unify`, and so its marks stay out of the
+// cycle's frames. A root that was once found to be its own inverse stays so whatever merges: it is marked in the memory, and not walked again.
+ghost use mathlib.Core.Path.{_≡_};
+ghost use Rattle.scope.specs.Types.{tyOf};
+ghost use Rattle.unify_roots.specs.Walk.{WalkAsks, WalkTold};
+use meeting::Walked;
+use types::Type;
+use types::UnifyResult;
+
+// Two roots, whatever they are: a walk says an answer or a merge.
+fn walk_on(ws: &mut [u32], ks: &[u32], n: u32, memory: &mut [u32], a: Type, b: Type) -> UnifyResult
+    requires { ⌜ WalkAsks (now ws) (now ks) (now memory) n (tyOf (a .0)) (tyOf (b .0)) ⌝ }
+    ensures { λ r. ⌜ WalkTold (now (ws .entry)) (now (ks .entry)) (now (memory .entry)) (now (ws .exit)) (now (memory .exit)) n (tyOf (a .0)) (tyOf (b .0)) r ⌝ }
+{
+    let w = meeting::walk_roots(ws, ks, n, a, b);
+    match w {
+        Walked::Done(r) => r,
+        Walked::Bind => {
+            merge::bind(ws, n, a, b);
+            recall::changed(memory);
+            UnifyResult::Success
+        }
+    }
+}
+
+// The same; one nil needs no walk, and a marked root needs none.
+pub fn walk_pair(
+    ws: &mut [u32],
+    ks: &[u32],
+    n: u32,
+    memory: &mut [u32],
+    a: Type,
+    b: Type,
+) -> UnifyResult
+    requires { ⌜ WalkAsks (now ws) (now ks) (now memory) n (tyOf (a .0)) (tyOf (b .0)) ⌝ }
+    ensures { λ r. ⌜ WalkTold (now (ws .entry)) (now (ks .entry)) (now (memory .entry)) (now (ws .exit)) (now (memory .exit)) n (tyOf (a .0)) (tyOf (b .0)) r ⌝ }
+{
+    let ia = a.idx();
+    let ib = b.idx();
+    if ia.0 != ib.0 {
+        return walk_on(ws, ks, n, memory, a, b);
+    }
+    if heed::small(ws, n, memory, a, b) {
+        return UnifyResult::Success;
+    }
+    if marks::knows(memory, ia) {
+        return UnifyResult::Success;
+    }
+    let r = walk_on(ws, ks, n, memory, a, b);
+    if !a.inv().xor(b.inv()).0 {
+        return r;
+    }
+    match r {
+        UnifyResult::Success => {
+            marks::know(memory, ia);
+            r
+        }
+        UnifyResult::Failure => r,
+        UnifyResult::Indeterminate => r,
+    }
+}
