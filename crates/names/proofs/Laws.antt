@@ -1,20 +1,20 @@
--- Laws of names: being the same bytes is equality, and a name that lies in its text has its own length. The loops of `same_bytes` and `before` use the steps: what two
+-- Laws of names: being the same bytes is equality, and a name that lies in its text has its own length. The loop of `before` uses the steps: what two
 -- lists say from place i on, by what stands at i and what they say from i + 1 on.
 -- Assumes nothing.
-use mathlib.Core.Path.{_≡_, refl, sym, ap, _∙_}
-use mathlib.Core.Bool.{Bool, true, false, _&&_}
+use mathlib.Core.Path.{_≡_, refl, sym, _∙_}
+use mathlib.Core.Bool.{Bool, true, false, false≢true}
 use mathlib.Core.List.{List, [], _∷_}
 use Prim.Native.Nat.{ℕ, zero, suc, _+_, _-_, _≤_, _<_, min}
 use native.Mathlib.Numerals.{add-one}
 use native.Mathlib.Decide.{decLt}
 use native.Mathlib.Omega.{arith}
 use borrow.Author.Tests.{eq-eqb, ne-eqb, lt-ltb, le-ltb, leb-true}
-use lib.Dec.{eqb, ltb, leb}
+use lib.Dec.{ltb, leb}
 use lib.ListN.{length, getD, take, drop, length-take, length-drop, drop-of-length-le}
 use lib.Seq.{drop-cons, take-all, take-nil}
 use Rattle.scope.specs.Limits.{MAX-NAME}
 use Rattle.scope.specs.Names.{Texts, Name, textOf, bytes, inText, nameOk, eqBytes, ltBytes}
-use Rattle.scope.proofs.NameLaws.{eq-bytes}
+use Rattle.scope.proofs.NameLaws.{eq-bytes, bytes-eq}
 use Rattle.names.proofs.Tests.{both}
 
 -- any number but 0 selects the chart text
@@ -22,26 +22,14 @@ pub chart-text : (x : Texts) (t : ℕ) → (t ≡ 0 → ⊥) → textOf x t ≡ 
 chart-text x zero n = absurd (n refl)
 chart-text x (suc t) n = refl
 
--- lists of different length are not the same
-pub same-lengths : (a b : List ℕ) → (length a ≡ length b → ⊥) → false ≡ eqBytes a b
-same-lengths a b h = go (eqBytes a b) refl
+-- a comparison that says whether two lists are equal is `eqBytes`
+pub same-by : (r : Bool) (a b : List ℕ) → (r ≡ true → a ≡ b) × (a ≡ b → r ≡ true) → r ≡ eqBytes a b
+same-by true a b h = sym (bytes-eq (h .0 refl))
+same-by false a b h = go (eqBytes a b) refl
   where
     go : (t : Bool) → eqBytes a b ≡ t → false ≡ eqBytes a b
-    go true e = absurd (h (ap length (eq-bytes a b e)))
+    go true e = absurd (false≢true (h .1 (eq-bytes a b e)))
     go false e = sym e
-
--- what was found of two lists up to i, and the next byte, and what follows it
-pub same-step : (t : Bool) (a b : List ℕ) (i : ℕ) → i < length a → i < length b
-    → ((t && eqb (getD a i 0) (getD b i 0)) && eqBytes (drop (i + 1) a) (drop (i + 1) b)) ≡ (t && eqBytes (drop i a) (drop i b))
-unfolding eqBytes
-same-step false a b i h k = refl
-same-step true a b i h k = rw (drop-cons a i 0 h, drop-cons b i 0 k, add-one) refl
-
--- at their end
-pub same-over : (t : Bool) (a b : List ℕ) (i : ℕ) → length a ≤ i → length b ≤ i → (t && eqBytes (drop i a) (drop i b)) ≡ t
-unfolding eqBytes
-same-over false a b i h k = refl
-same-over true a b i h k = rw (drop-of-length-le a h, drop-of-length-le b k) refl
 
 -- how one list comes before another
 head-less : (x y : ℕ) (a b : List ℕ) → x < y → ltBytes (x ∷ a) (y ∷ b) ≡ true

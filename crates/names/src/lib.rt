@@ -55,21 +55,10 @@ pub fn bytes_of<'a>(n: Name, rule: &'a [u8], chart: &'a [u8]) -> &'a [u8]
     part(text_of(n.text, rule, chart), wide(n.start), wide(n.len))
 }
 
-// No byte ends the loop, so that the compiler compares many at once: a name has few.
 pub fn same_bytes(a: &[u8], b: &[u8]) -> bool
     ensures { λ r. ⌜ r ≡ eqBytes (now (a .entry)) (now (b .entry)) ⌝ }
 {
-    let n = a.len();
-    if n != b.len() {
-        return false;
-    }
-    let mut same = true;
-    let mut i: usize = 0;
-    while i < n {
-        same = same & (a[i] == b[i]);
-        i += 1;
-    }
-    same
+    check::same(a, b)
 }
 
 fn lesser(n: usize, m: usize) -> usize
