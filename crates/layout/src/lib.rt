@@ -1,5 +1,5 @@
 // A store in three lent slices of numbers: where each number lies, and how a node, a child and the header are read and written.
-// Nothing above this crate reads a word: it uses these functions and the laws of proofs/.
+// Nothing above this crate but `heads` reads a word: it uses these functions and the laws of proofs/.
 mod encoding;
 
 ghost use mathlib.Core.Path.{_≡_};

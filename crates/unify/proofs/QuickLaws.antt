@@ -29,7 +29,8 @@ use Rattle.unify.proofs.Laws.{words-add, words-selfs, asked-pair}
 -- at any depth
 
 module _ (n : ℕ) (ns : List Node) (a b : Ty) (h : 0 < n) where
-  lone-unify : (a .idx ≡ b .idx → ⊥) → loneNode (at ns (a .idx)) ≡ true → loneNode (at ns (b .idx)) ≡ true → (bareNode (at ns (a .idx)) || bareNode (at ns (b .idx))) ≡ true → (x : Texts) (m : ℕ) → (m ≡ 0 → ⊥)
+  lone-unify : (a .idx ≡ b .idx → ⊥) → loneNode (at ns (a .idx)) ≡ true → loneNode (at ns (b .idx)) ≡ true
+      → (bareNode (at ns (a .idx)) || bareNode (at ns (b .idx))) ≡ true → (x : Texts) (m : ℕ) → (m ≡ 0 → ⊥)
       → unifyF x n m ns a b ≡ out (bound ns a b) answers.Success
   lone-unify d f g q x m e =
       unify-roots x n m ns a b e (lone-root (at ns (a .idx)) f) (lone-root (at ns (b .idx)) g)
