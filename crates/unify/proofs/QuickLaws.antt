@@ -24,7 +24,8 @@ use Rattle.meeting.specs.Asks.{Pair}
 use Rattle.unify_roots.proofs.Laws.{unify-roots}
 use Rattle.unify_roots.proofs.SmallLaws.{lone-root, lone-bind, lone-apart, lone-kinds, nil-root, nil-meet}
 use Rattle.unify.specs.Asked.{Asked, Unified}
-use Rattle.unify.proofs.Laws.{words-add, words-selfs, asked-pair}
+use Rattle.unify_enter.proofs.Laws.{words-add, asked-pair}
+use Rattle.unify.proofs.Laws.{words-selfs}
 
 -- at any depth
 

@@ -1,7 +1,7 @@
 // "The functions that unify a pair, a run and an object call each other in turn", depth falling from the node count. Two roots without kinds merge at once, in the
-// loops too. What walks is `unify_roots`, apart from the cycle, and so its marks stay out of the cycle's frames. Otherwise what is to be done with two roots is read first,
-// then their children are unified, then the answer is settled. The words of the nodes change as scope's `unify` says of the nodes. Beside them goes a memory: a pair
-// that did not succeed is looked up there before its children are unified. Whatever is believed there is what unifying would give.
+// loops too. What comes before the children is `unify_enter`, apart from the cycle, and so its marks stay out of the cycle's frames: an answer, or what two roots ask for.
+// Then their children are unified, then the answer is settled. The words of the nodes change as scope's `unify` says of the nodes. Beside them goes a memory: a pair that
+// did not succeed is looked up there before its children are unified. Whatever is believed there is what unifying would give.
 ghost use Rattle.scope.specs.Types.{tyOf};
 ghost use Rattle.scope.specs.Unify.{unifyF};
 ghost use Rattle.names.specs.Place.{texts};
@@ -12,13 +12,12 @@ ghost use Rattle.meeting.specs.Steps.{stepsMean, Ready, RunsLie, Ascends};
 ghost use Rattle.meeting.specs.Meets.{does};
 ghost use mathlib.Core.List.{[], _∷_};
 ghost use Rattle.unify.specs.Asked.{Asked, Unified};
-use meeting::Meeting;
 use meeting::Sought;
 use meeting::Steps;
 use plan::Runs;
-use recall::Recalled;
 use types::Type;
 use types::UnifyResult;
+use unify_enter::Entered;
 
 // A pair of types, at a depth.
 pub fn unify<'a>(
@@ -61,37 +60,12 @@ pub fn unify_pair<'a>(
     ensures { λ r. ⌜ Unified (texts (now (rule .entry)) (now (text .entry))) (now (ws .entry)) (now (ks .entry)) (now (memory .entry)) (now (ws .exit)) (now (memory .exit)) n
         (unifyF (texts (now (rule .entry)) (now (text .entry))) n depth (decode (now (ws .entry)) (now (ks .entry)) n) (tyOf (a .0)) (tyOf (b .0))) r ⌝ }
 {
-    if depth == 0 {
-        return UnifyResult::Failure;
-    }
-    if meeting::bare_roots(ws, n, a, b) {
-        return unify_roots::walk_pair(ws, ks, n, memory, a, b);
-    }
-    recall::visited(memory);
-    let ra = heed::find(ws, n, memory, a);
-    let rb = heed::find(ws, n, memory, b);
-    let m = meeting::meet(ws, ks, n, rule, text, ra, rb);
-    match m {
-        Meeting::Walk => unify_roots::walk_pair(ws, ks, n, memory, ra, rb),
-        Meeting::Kids(p) => {
-            let known = recall::look(memory, n, ra, rb);
-            match known {
-                Recalled::Is(r) => r,
-                Recalled::Nothing => {
-                    let began = recall::clock(memory);
-                    let r = unify_kids(
-                        ws,
-                        ks,
-                        n,
-                        rule,
-                        text,
-                        memory,
-                        meeting::in_steps(p),
-                        depth - 1,
-                    );
-                    heed::settle(ws, n, memory, began, ra, rb, r)
-                }
-            }
+    let e = unify_enter::enter(ws, ks, n, rule, text, memory, a, b, depth);
+    match e {
+        Entered::Done(r) => r,
+        Entered::Kids(p, began, ra, rb) => {
+            let r = unify_kids(ws, ks, n, rule, text, memory, p, depth - 1);
+            heed::settle(ws, n, memory, began, ra, rb, r)
         }
     }
 }

@@ -1,7 +1,7 @@
 -- The cycle `unify_kids`, `unify_objects`, `unify_pair`, `unify_types` meets its contracts. The measure is three times the depth, one more for a run and an object,
 -- and two for the children of two kinds. A loop's invariant: the pairs that are left give what the whole gives, from words and a memory that still meet what is asked.
 -- Assumes nothing.
-use mathlib.Core.Path.{_≡_, refl, sym, _∙_}
+use mathlib.Core.Path.{_≡_, refl, _∙_}
 use native.Mathlib.Omega.{arith}
 use native.Mathlib.Nat.{pos-of-ne-zero}
 use borrow.Author.Needs.{needs}
@@ -9,10 +9,9 @@ use lib.ListN.{length}
 use borrow.Author.Tests.{not-true, not-false}
 use Rattle.scope.specs.Types.{tyOf}
 use Rattle.names.specs.Place.{texts}
-use Rattle.meeting.specs.declared.Meeting.the-variants.{Walk}
-use Rattle.meeting.proofs.MeetLaws.{bare-tops, bare-meets}
-use Rattle.unify.proofs.Laws.{words-linked, asked-pair, Climbed, climbed, climbed-here, no-depth, walk-asks}
-use Rattle.unify.proofs.Laws.{AtRoots, way-walk, way-known, kids-spans, kids-asks, kids-settles, way-kids}
+use Rattle.unify_enter.specs.Enters.{Left}
+use Rattle.unify_enter.proofs.Laws.{entered-done, entered-kids}
+use Rattle.unify.proofs.Laws.{kids-asks, kids-settles, way-kids}
 use Rattle.unify.proofs.QuickLaws.{quick-adds, quick-merged, quick-asked, quick-not}
 use Rattle.unify.proofs.RunLaws.{RunLeft, RunNext, run-fails, run-start, run-pair, run-asks, run-next, run-ends}
 use Rattle.unify.proofs.RunLaws.{ObjectLeft, ObjectNext, stored-start, object-none, object-pair, object-asks, object-next, stored-ends}
@@ -32,22 +31,15 @@ use Rattle.unify.proofs.+unify_kids+unify_objects+unify_pair+unify_type
 use Rattle.unify.proofs.unify_types.Reads as unify-types
 use Rattle.unify.proofs.unify_types.Kinds as unify-types-kinds
 use Rattle.unify.proofs.+unify_kids+unify_objects+unify_pair+unify_types.Lts-unify_types as unify-types-lts
-use Rattle.heed.proofs.find.Reads as find-reads
 use Rattle.heed.proofs.quick.Reads as quick-reads
 use Rattle.heed.proofs.settle.Reads as settle-reads
-use Rattle.meeting.proofs.bare_roots.Reads as bare-roots-reads
-use Rattle.meeting.proofs.in_steps.Reads as in-steps-reads
 use Rattle.meeting.proofs.kid.Reads as kid-reads
 use Rattle.meeting.proofs.kid_name.Reads as kid-name-reads
-use Rattle.meeting.proofs.meet.Reads as meet-reads
 use Rattle.meeting.proofs.seek_near.Reads as seek-near-reads
-use Rattle.recall.proofs.clock.Reads as clock-reads
-use Rattle.recall.proofs.look.Reads as look-reads
-use Rattle.recall.proofs.visited.Reads as visited-reads
 use Rattle.types.proofs.Type.invert_if.Reads as invert-if-reads
 use Rattle.types.proofs.UnifyResult.and.Reads as and-reads
 use Rattle.types.proofs.UnifyResult.from_bool.Reads as from-bool-reads
-use Rattle.unify_roots.proofs.walk_pair.Reads as walk-pair-reads
+use Rattle.unify_enter.proofs.enter.Reads as enter-reads
 use Rattle.unify.proofs.+unify_kids+unify_objects+unify_pair+unify_types.{statement}
 use Rattle.unify.proofs.+unify_kids+unify_objects+unify_pair+unify_types.Tie.{close}
 
@@ -123,28 +115,7 @@ unify-objects-claims t = (
 )
 
 abbrev unify-pair-claims : ℕ → unify-pair-lts.Claims
-unify-pair-claims t = (
-  bare-roots-reads.Asked,
-  bare-roots-reads.Learnt,
-  walk-pair-reads.Asked,
-  walk-pair-reads.Learnt,
-  visited-reads.Asked,
-  visited-reads.Learnt,
-  find-reads.Asked,
-  find-reads.Learnt,
-  meet-reads.Asked,
-  meet-reads.Learnt,
-  look-reads.Asked,
-  look-reads.Learnt,
-  clock-reads.Asked,
-  clock-reads.Learnt,
-  in-steps-reads.Asked,
-  in-steps-reads.Learnt,
-  unify-kids-below t,
-  unify-kids.Post,
-  settle-reads.Asked,
-  settle-reads.Learnt,
-)
+unify-pair-claims t = (enter-reads.Asked, enter-reads.Learnt, unify-kids-below t, unify-kids.Post, settle-reads.Asked, settle-reads.Learnt)
 
 abbrev unify-types-claims : ℕ → unify-types-lts.Claims
 unify-types-claims t = (
@@ -335,188 +306,77 @@ unify-objects-same-length-2 t c = c .before .before .loop .inv .1
 unify-objects-returns : (t : ℕ) → unify-objects-lts.Need-returns (unify-objects-claims t) (unify-objects-at t) unify-objects.Post unify-objects-Inv-loop unify-objects-μ-loop
 unify-objects-returns t c = stored-ends (c .before .before .loop .inv .2) (c .if1 .left)
 
--- What is known at a place of `unify_pair`.
-
--- both are roots, one of them without a kind
-bare-there : (t : ℕ) (c : unify-pair-lts.Then2 (unify-pair-claims t) (unify-pair-at t) unify-pair.Post)
-    → let a = c .before .before .before .before .before .before .before .before .before .args in
-    AtRoots (texts (a .rule .now) (a .text .now)) (a .ws .now) (a .ks .now) (a .memory .now) (a .ws .now) (a .memory .now) (a .n) (a .depth)
-    (tyOf (a .a .0)) (tyOf (a .b .0)) (a .a .0) (a .b .0) Walk
-bare-there t c =
-    let w = c .before .before .before .before .before .before .before .before .before .pre .1 in
-    let e = sym (c .before .bare-roots .ensures) ∙ c .if2 .taken in
-    record { up = climbed-here w (c .before .before .before .if1 .left) (bare-tops (asked-pair w) e); met = bare-meets (asked-pair w) e }
-
--- both roots are found
-module _ (t : ℕ) (c : unify-pair-lts.After-find2 (unify-pair-claims t) (unify-pair-at t) unify-pair.Post) where
-  abbrev visit : unify-pair-lts.After-visited (unify-pair-claims t) (unify-pair-at t) unify-pair.Post
-  visit = c .before .before .before .before .before .before .before .before .before .before .before .before
+-- the children of two roots are left
+module _ (t : ℕ) (c : unify-pair-lts.After-e2 (unify-pair-claims t) (unify-pair-at t) unify-pair.Post) where
+  abbrev asked : unify-pair-lts.After-enter (unify-pair-claims t) (unify-pair-at t) unify-pair.Post
+  asked = c .before .before .before .before .before .before
 
   abbrev start : unify-pair-lts.Start (unify-pair-claims t) (unify-pair-at t) unify-pair.Post
-  start = visit .before .before .before .before .before .before .before .before .before .before .before
+  start = asked .before .before .before .before .before .before .before .before
+
+  left-there :
+      let a = start .args in
+      let f = c .e2 .given .0 in
+      Left (texts (a .rule .now) (a .text .now)) (a .ws .now) (a .ks .now) (a .memory .now) (asked .enter .last .0) (asked .enter .last .1 .1 .1 .1 .1 .0) (a .n) (a .depth)
+      (tyOf (a .a .0)) (tyOf (a .b .0)) (f .0) (f .1 .0) (f .1 .1 .0 .0) (f .1 .1 .1 .0 .0)
+  left-there = entered-kids _ _ _ (asked .enter .ensures) (c .e2 .given .1)
 
   deep-there : 1 ≤ start .args .depth
-  deep-there = pos-of-ne-zero (visit .before .before .before .before .before .if1 .left)
+  deep-there = pos-of-ne-zero (left-there .roots .up .deep)
 
   falls-there : 3 * (start .args .depth - 1) + 2 < t
   falls-there = omega (arith, deep-there, start .pre .0)
 
-  long-there : length (c .find2 .last .0) ≡ length (start .args .ws .now)
-  long-there = c .find2 .kept .0 ∙ c .before .before .before .before .before .before .before .find .kept .0
+unify-pair-enter-requires : (t : ℕ) → unify-pair-lts.Need-enter-requires (unify-pair-claims t) (unify-pair-at t) unify-pair.Post
+unify-pair-enter-requires t c κs = c .before .before .before .before .before .before .before .pre .1
 
-  kept-there : length (c .find2 .last .1 .1 .0) ≡ length (start .args .memory .now)
-  kept-there = c .find2 .kept .1 .1 .0 ∙ (c .before .before .before .before .before .before .before .find .kept .1 .1 .0 ∙ visit .visited .kept .0)
+unify-pair-enum-known-e : (t : ℕ) → unify-pair-lts.Need-enum-known-e (unify-pair-claims t) (unify-pair-at t) unify-pair.Post
+unify-pair-enum-known-e t c = search needs
 
-  climbed-there :
-      let a = start .args in
-      Climbed (texts (a .rule .now) (a .text .now)) (a .ws .now) (a .ks .now) (a .memory .now) (c .find2 .last .0) (c .find2 .last .1 .1 .0) (a .n) (a .depth)
-      (tyOf (a .a .0)) (tyOf (a .b .0)) (c .before .before .before .before .before .before .before .find .result .0) (c .find2 .result .0)
-  climbed-there =
-      climbed (start .pre .1) (visit .before .before .before .before .before .if1 .left) (visit .visited .ensures)
-      (c .before .before .before .before .before .before .before .find .ensures) (c .find2 .ensures)
-
--- the roots have met
-met-there : (t : ℕ) (c : unify-pair-lts.After-meet (unify-pair-claims t) (unify-pair-at t) unify-pair.Post)
-    → let g = c .before .before .before .before .before .before in
-    let a = start t g .args in
-    AtRoots (texts (a .rule .now) (a .text .now)) (a .ws .now) (a .ks .now) (a .memory .now) (g .find2 .last .0) (g .find2 .last .1 .1 .0) (a .n) (a .depth)
-    (tyOf (a .a .0)) (tyOf (a .b .0)) (g .before .before .before .before .before .before .before .find .result .0) (g .find2 .result .0) (c .meet .result)
-met-there t c = record { up = climbed-there t (c .before .before .before .before .before .before); met = c .meet .ensures }
-
-unify-pair-returns : (t : ℕ) → unify-pair-lts.Need-returns (unify-pair-claims t) (unify-pair-at t) unify-pair.Post
-unify-pair-returns t c = no-depth (c .before .before .before .before .before .before .pre .1) (c .if1 .taken)
-
-unify-pair-bare-roots-requires : (t : ℕ) → unify-pair-lts.Need-bare-roots-requires (unify-pair-claims t) (unify-pair-at t) unify-pair.Post
-unify-pair-bare-roots-requires t c κs = c .before .before .before .before .before .before .before .pre .1 .pairs .words .clean .room
-
-unify-pair-walk-pair-requires : (t : ℕ) → unify-pair-lts.Need-walk-pair-requires (unify-pair-claims t) (unify-pair-at t) unify-pair.Post
-unify-pair-walk-pair-requires t c κs = walk-asks (bare-there t (c .before .before)) refl
-
-unify-pair-same-length : (t : ℕ) → unify-pair-lts.Need-same-length (unify-pair-claims t) (unify-pair-at t) unify-pair.Post
-unify-pair-same-length t c = c .before .before .before .before .walk-pair .kept .0
-
-unify-pair-same-length-2 : (t : ℕ) → unify-pair-lts.Need-same-length-2 (unify-pair-claims t) (unify-pair-at t) unify-pair.Post
-unify-pair-same-length-2 t c = c .before .before .before .before .walk-pair .kept .1 .1 .1 .0
-
-unify-pair-returns-2 : (t : ℕ) → unify-pair-lts.Need-returns-2 (unify-pair-claims t) (unify-pair-at t) unify-pair.Post
-unify-pair-returns-2 t c = way-walk (bare-there t (c .before .before .before .before .before .before .before)) refl (c .before .before .before .before .walk-pair .ensures)
-
-unify-pair-visited-requires : (t : ℕ) → unify-pair-lts.Need-visited-requires (unify-pair-claims t) (unify-pair-at t) unify-pair.Post
-unify-pair-visited-requires t c κs = c .before .before .before .before .before .before .before .before .before .before .pre .1 .recalls .tidy
-
-unify-pair-find-requires : (t : ℕ) → unify-pair-lts.Need-find-requires (unify-pair-claims t) (unify-pair-at t) unify-pair.Post
-unify-pair-find-requires t c κs =
-    let b4 = c .before .before .before .before in
-    let b15 = b4 .before .before .before .before .before .before .before .before .before .before .before in
-    (words-linked (b15 .pre .1 .pairs .words), b4 .visited .ensures .tidy)
-
-unify-pair-find-requires-2 : (t : ℕ) → unify-pair-lts.Need-find-requires-2 (unify-pair-claims t) (unify-pair-at t) unify-pair.Post
-unify-pair-find-requires-2 t c κs =
-    let b6 = c .before .before .before .before .before .before in
-    let b22 = b6 .before .before .before .before .before .before .before .before .before .before .before .before .before .before .before .before in
-    (b6 .find .ensures .found .words .linked, b6 .find .ensures .told (b22 .args .ks .now) .tidy)
-
-unify-pair-meet-requires : (t : ℕ) → unify-pair-lts.Need-meet-requires (unify-pair-claims t) (unify-pair-at t) unify-pair.Post
-unify-pair-meet-requires t c κs = climbed-there t (c .before .before .before .before .before) .tops
-
-unify-pair-enum-told : (t : ℕ) → unify-pair-lts.Need-enum-told (unify-pair-claims t) (unify-pair-at t) unify-pair.Post
-unify-pair-enum-told t c = search needs
-
-unify-pair-walk-pair-requires-2 : (t : ℕ) → unify-pair-lts.Need-walk-pair-requires-2 (unify-pair-claims t) (unify-pair-at t) unify-pair.Post
-unify-pair-walk-pair-requires-2 t c κs = walk-asks (met-there t (c .before .before .before .before)) (c .before .before .enum-told .given .1)
-
-unify-pair-enum-known-m : (t : ℕ) → unify-pair-lts.Need-enum-known-m (unify-pair-claims t) (unify-pair-at t) unify-pair.Post
-unify-pair-enum-known-m t c = search needs
-
-unify-pair-look-requires : (t : ℕ) → unify-pair-lts.Need-look-requires (unify-pair-claims t) (unify-pair-at t) unify-pair.Post
-unify-pair-look-requires t c κs = climbed-there t (c .before .before .before .before .before .before .before .before .before .before) .tops .pair .words .small
-
-unify-pair-enum-known-known : (t : ℕ) → unify-pair-lts.Need-enum-known-known (unify-pair-claims t) (unify-pair-at t) unify-pair.Post
-unify-pair-enum-known-known t c = search needs
-
-unify-pair-enum-told-2 : (t : ℕ) → unify-pair-lts.Need-enum-told-2 (unify-pair-claims t) (unify-pair-at t) unify-pair.Post
-unify-pair-enum-told-2 t c = search needs
-
-unify-pair-clock-requires : (t : ℕ) → unify-pair-lts.Need-clock-requires (unify-pair-claims t) (unify-pair-at t) unify-pair.Post
-unify-pair-clock-requires t c κs = search needs
-
-unify-pair-in-steps-requires : (t : ℕ) → unify-pair-lts.Need-in-steps-requires (unify-pair-claims t) (unify-pair-at t) unify-pair.Post
-unify-pair-in-steps-requires t c κs =
-    let b9 = c .before .before .before .before .before .before .before .before .before in
-    let b11 = b9 .before .before in
-    kids-spans (met-there t b11) (b9 .m .given .1)
+unify-pair-enum-known-e-2 : (t : ℕ) → unify-pair-lts.Need-enum-known-e-2 (unify-pair-claims t) (unify-pair-at t) unify-pair.Post
+unify-pair-enum-known-e-2 t c = search needs
 
 unify-pair-sub-unify-kids : (t : ℕ) → unify-pair-lts.Need-sub-unify-kids (unify-pair-claims t) (unify-pair-at t) unify-pair.Post
-unify-pair-sub-unify-kids t c = deep-there t (c .before .before .before .before .before .before .before .before .before .before .before .before .before .before .before .before .before .before)
+unify-pair-sub-unify-kids t c = deep-there t (c .before .before .before)
 
 unify-pair-unify-kids-requires : (t : ℕ) → unify-pair-lts.Need-unify-kids-requires (unify-pair-claims t) (unify-pair-at t) unify-pair.Post
-unify-pair-unify-kids-requires t c κs =
-    let b10 = c .before .before .before .before .before .before .before .before .before .before in
-    let b12 = b10 .before .before in
-    let b18 = b12 .before .before .before .before .before .before in
-    (falls-there t b18, kids-asks (met-there t b12) (b10 .m .given .1) (c .in-steps .ensures))
+unify-pair-unify-kids-requires t c κs = (falls-there t (c .before .before .before), kids-asks (left-there t (c .before .before .before)))
 
 unify-pair-settle-requires : (t : ℕ) → unify-pair-lts.Need-settle-requires (unify-pair-claims t) (unify-pair-at t) unify-pair.Post
 unify-pair-settle-requires t c κs =
     let b6 = c .before .before .before .before .before .before in
-    let b7 = b6 .before in
-    let b17 = b7 .before .before .before .before .before .before .before .before .before .before in
-    let b19 = b17 .before .before in
-    kids-settles (met-there t b19) (b17 .m .given .1) (b7 .in-steps .ensures) (b6 .unify-kids .ensures)
+    let b10 = b6 .before .before .before .before in
+    kids-settles (left-there t b10) (b6 .unify-kids .ensures)
+
+unify-pair-same-length : (t : ℕ) → unify-pair-lts.Need-same-length (unify-pair-claims t) (unify-pair-at t) unify-pair.Post
+unify-pair-same-length t c = c .before .before .before .before .before .before .before .enter .kept .0
+
+unify-pair-same-length-2 : (t : ℕ) → unify-pair-lts.Need-same-length-2 (unify-pair-claims t) (unify-pair-at t) unify-pair.Post
+unify-pair-same-length-2 t c = c .before .before .before .before .before .before .before .enter .kept .1 .1 .1 .1 .1 .0
+
+unify-pair-returns : (t : ℕ) → unify-pair-lts.Need-returns (unify-pair-claims t) (unify-pair-at t) unify-pair.Post
+unify-pair-returns t c = entered-done _ _ _ (c .before .before .before .before .before .before .before .enter .ensures) (c .before .e .given .1)
 
 unify-pair-same-length-3 : (t : ℕ) → unify-pair-lts.Need-same-length-3 (unify-pair-claims t) (unify-pair-at t) unify-pair.Post
 unify-pair-same-length-3 t c =
     let b4 = c .before .before .before .before in
-    let b15 = b4 .before .before .before .before .before .before .before .before .before .before .before in
-    b4 .walk-pair2 .kept .0 ∙ long-there t b15
+    let b11 = b4 .before .before .before .before .before .before .before in
+    let b21 = b11 .before .before .before .before .before .before .before .before .before .before in
+    b4 .settle .kept .0 ∙ (b11 .unify-kids .kept .0 ∙ b21 .enter .kept .0)
 
 unify-pair-same-length-4 : (t : ℕ) → unify-pair-lts.Need-same-length-4 (unify-pair-claims t) (unify-pair-at t) unify-pair.Post
 unify-pair-same-length-4 t c =
     let b4 = c .before .before .before .before in
-    let b15 = b4 .before .before .before .before .before .before .before .before .before .before .before in
-    b4 .walk-pair2 .kept .1 .1 .1 .0 ∙ kept-there t b15
+    let b11 = b4 .before .before .before .before .before .before .before in
+    let b21 = b11 .before .before .before .before .before .before .before .before .before .before in
+    b4 .settle .kept .1 .1 .0 ∙ (b11 .unify-kids .kept .1 .1 .1 .1 .1 .0 ∙ b21 .enter .kept .1 .1 .1 .1 .1 .0)
 
-unify-pair-returns-3 : (t : ℕ) → unify-pair-lts.Need-returns-3 (unify-pair-claims t) (unify-pair-at t) unify-pair.Post
-unify-pair-returns-3 t c =
-    let b4 = c .before .before .before .before in
-    let b7 = b4 .before .before .before in
-    let b9 = b7 .before .before in
-    way-walk (met-there t b9) (b7 .enum-told .given .1) (b4 .walk-pair2 .ensures)
-
-unify-pair-same-length-5 : (t : ℕ) → unify-pair-lts.Need-same-length-5 (unify-pair-claims t) (unify-pair-at t) unify-pair.Post
-unify-pair-same-length-5 t c = long-there t (c .before .before .before .before .before .before .before .before .before .before .before .before .before .before)
-
-unify-pair-same-length-6 : (t : ℕ) → unify-pair-lts.Need-same-length-6 (unify-pair-claims t) (unify-pair-at t) unify-pair.Post
-unify-pair-same-length-6 t c = kept-there t (c .before .before .before .before .before .before .before .before .before .before .before .before .before .before)
-
-unify-pair-returns-4 : (t : ℕ) → unify-pair-lts.Need-returns-4 (unify-pair-claims t) (unify-pair-at t) unify-pair.Post
-unify-pair-returns-4 t c = way-known (met-there t (c .before .before .before .before .before .before .before .before)) (c .before .before .before .look .ensures) (c .before .known .given .1)
-
-unify-pair-same-length-7 : (t : ℕ) → unify-pair-lts.Need-same-length-7 (unify-pair-claims t) (unify-pair-at t) unify-pair.Post
-unify-pair-same-length-7 t c =
+unify-pair-returns-2 : (t : ℕ) → unify-pair-lts.Need-returns-2 (unify-pair-claims t) (unify-pair-at t) unify-pair.Post
+unify-pair-returns-2 t c =
     let b4 = c .before .before .before .before in
     let b11 = b4 .before .before .before .before .before .before .before in
-    let b29 = b11 .before .before .before .before .before .before .before .before .before .before .before .before .before .before .before .before .before .before in
-    let b30 = b29 .before in
-    b4 .settle .kept .0 ∙ (b11 .unify-kids .kept .0 ∙ long-there t b30)
-
-unify-pair-same-length-8 : (t : ℕ) → unify-pair-lts.Need-same-length-8 (unify-pair-claims t) (unify-pair-at t) unify-pair.Post
-unify-pair-same-length-8 t c =
-    let b4 = c .before .before .before .before in
-    let b11 = b4 .before .before .before .before .before .before .before in
-    let b29 = b11 .before .before .before .before .before .before .before .before .before .before .before .before .before .before .before .before .before .before in
-    let b30 = b29 .before in
-    b4 .settle .kept .1 .1 .0 ∙ (b11 .unify-kids .kept .1 .1 .1 .1 .1 .0 ∙ kept-there t b30)
-
-unify-pair-returns-5 : (t : ℕ) → unify-pair-lts.Need-returns-5 (unify-pair-claims t) (unify-pair-at t) unify-pair.Post
-unify-pair-returns-5 t c =
-    let b4 = c .before .before .before .before in
-    let b11 = b4 .before .before .before .before .before .before .before in
-    let b12 = b11 .before in
-    let b15 = b12 .before .before .before in
-    let b22 = b15 .before .before .before .before .before .before .before in
-    let b24 = b22 .before .before in
-    way-kids (met-there t b24) (b22 .m .given .1) (b12 .in-steps .ensures) (b11 .unify-kids .ensures) (b15 .clock .ensures) (b4 .settle .ensures)
+    let b15 = b11 .before .before .before .before in
+    way-kids (left-there t b15) (b11 .unify-kids .ensures) (b4 .settle .ensures)
 
 abbrev unify-types-Inv-loop : unify-types-lts.InvT-loop
 unify-types-Inv-loop ws₀ ks n rule text memory₀ s depth inv r₀ i₀ ws memory r i =
@@ -662,36 +522,18 @@ pub +unify-kids+unify-objects+unify-pair+unify-types-spec : {M : Type 1} → sta
     (λ t. unify-pair-lts.spec (unify-pair-claims t)
     (unify-pair-at t)
     unify-pair.Post
-    (unify-pair-returns t)
-    (unify-pair-bare-roots-requires t)
-    (unify-pair-walk-pair-requires t)
-    (unify-pair-same-length t)
-    (unify-pair-same-length-2 t)
-    (unify-pair-returns-2 t)
-    (unify-pair-visited-requires t)
-    (unify-pair-find-requires t)
-    (unify-pair-find-requires-2 t)
-    (unify-pair-meet-requires t)
-    (unify-pair-enum-told t)
-    (unify-pair-walk-pair-requires-2 t)
-    (unify-pair-enum-known-m t)
-    (unify-pair-look-requires t)
-    (unify-pair-enum-known-known t)
-    (unify-pair-enum-told-2 t)
-    (unify-pair-clock-requires t)
-    (unify-pair-in-steps-requires t)
+    (unify-pair-enter-requires t)
+    (unify-pair-enum-known-e t)
+    (unify-pair-enum-known-e-2 t)
     (unify-pair-sub-unify-kids t)
     (unify-pair-unify-kids-requires t)
     (unify-pair-settle-requires t)
+    (unify-pair-same-length t)
+    (unify-pair-same-length-2 t)
+    (unify-pair-returns t)
     (unify-pair-same-length-3 t)
     (unify-pair-same-length-4 t)
-    (unify-pair-returns-3 t)
-    (unify-pair-same-length-5 t)
-    (unify-pair-same-length-6 t)
-    (unify-pair-returns-4 t)
-    (unify-pair-same-length-7 t)
-    (unify-pair-same-length-8 t)
-    (unify-pair-returns-5 t))
+    (unify-pair-returns-2 t))
     λ t. unify-types-lts.spec (unify-types-claims t)
     (unify-types-at t)
     unify-types.Post

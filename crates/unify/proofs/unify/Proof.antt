@@ -1,6 +1,6 @@
 -- `unify::unify` meets its contract: what needs no walk is done at once, and anything else is `unify_pair`'s.
 -- Assumes nothing.
-use Rattle.unify.proofs.Laws.{no-depth}
+use Rattle.unify_enter.proofs.Laws.{no-depth}
 use Rattle.unify.proofs.QuickLaws.{quick-adds, small-merged, small-asked, small-not}
 use native.Mathlib.Omega.{arith}
 use borrow.Author.Needs.{needs}
