@@ -22,8 +22,8 @@ use Rattle.promise.specs.declared.BoolAnswer.{BoolAnswer}
 use Rattle.promise.specs.declared.BoolAnswer.the-variants as bool
 use Rattle.promise.specs.declared.CountAnswer.{CountAnswer}
 use Rattle.promise.specs.declared.CountAnswer.the-variants as count
-use Rattle.tested_unify.specs.declared.UnifyAnswer.{UnifyAnswer}
-use Rattle.tested_unify.specs.declared.UnifyAnswer.the-variants as unify
+use Rattle.call_unify.specs.declared.UnifyAnswer.{UnifyAnswer}
+use Rattle.call_unify.specs.declared.UnifyAnswer.the-variants as unify
 
 -- refusal n is this and n; every value is below
 abbrev pub REFUSED : ℕ

@@ -4,6 +4,7 @@ ghost use mathlib.Core.Path.{_≡_};
 ghost use mathlib.Core.Bool.{true};
 ghost use Rattle.c_words.specs.Numbers.{typeIn, doneIn, boolIn, unifyIn, countIn, countLow, counted};
 ghost use Rattle.c_words.specs.Given.{setIn, invertedIn, implIn, kindArgsIn, besideIn};
+use call_unify::UnifyAnswer;
 use chart::Beside;
 use lent_kind::KindArgs;
 use names::Name;
@@ -12,7 +13,6 @@ use promise::CountAnswer;
 use promise::DoneAnswer;
 use promise::TypeAnswer;
 use scope::NONE;
-use tested_unify::UnifyAnswer;
 use types::Impl;
 use types::Inverted;
 

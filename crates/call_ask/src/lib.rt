@@ -1,5 +1,7 @@
 // The public calls that ask a question of a type through its root, on any numbers at all: `is_nil`, `self_inverse`, `get_mod` and `find_related`. Each tests
 // chart and store and refuses with 2 or 8, or is its form for a tested store.
+pub mod tested;
+
 ghost use mathlib.Core.Path.{_≡_};
 ghost use mathlib.Core.Bool.{false};
 ghost use Rattle.scope.specs.Types.{tyOf};
@@ -7,13 +9,19 @@ ghost use Rattle.scope.specs.Calls.{findRelatedCall, selfInverseCall, isNilCall
 ghost use Rattle.layout.specs.Words.{lentOf, storeIn};
 ghost use Rattle.sound.specs.Tests.{envIn};
 ghost use Rattle.promise.specs.Promise.{boolReply, outcomeBy};
-ghost use Rattle.tested_ask.specs.Replies.{modReply, MarksPromised};
+ghost use Rattle.call_ask.specs.Replies.{modReply, MarksPromised};
 use chart::Beside;
 use promise::BoolAnswer;
 use promise::DoneAnswer;
 use refusals::NO_REFUSAL;
-pub use tested_ask::ModAnswer;
 use types::Type;
+use walk::Mod;
+
+// get_mod's answer, or a refusal's number.
+pub enum ModAnswer {
+    Is(Mod),
+    Refused(u32),
+}
 
 // A Tuple of nothing.
 pub fn is_nil<'a>(
@@ -34,7 +42,7 @@ pub fn is_nil<'a>(
     if code != NO_REFUSAL {
         return BoolAnswer::Refused(code);
     }
-    tested_ask::is_nil(chart, beside, rule, text, h, ws, ks, t)
+    tested::is_nil(chart, beside, rule, text, h, ws, ks, t)
 }
 
 // `_self_inverse`: a Param counts as param says.
@@ -57,7 +65,7 @@ pub fn self_inverse_param<'a>(
     if broken != NO_REFUSAL {
         return BoolAnswer::Refused(broken);
     }
-    tested_ask::self_inverse_param(chart, beside, rule, text, h, ws, ks, t, param)
+    tested::self_inverse_param(chart, beside, rule, text, h, ws, ks, t, param)
 }
 
 // "`self_inverse` holds where the root has a self-dual kind and it holds of every child; never where there is no kind."
@@ -97,7 +105,7 @@ pub fn get_mod<'a>(
     if lent != NO_REFUSAL {
         return ModAnswer::Refused(lent);
     }
-    tested_ask::get_mod(chart, beside, rule, text, h, ws, ks, t)
+    tested::get_mod(chart, beside, rule, text, h, ws, ks, t)
 }
 
 // "`find_related` (lent marks, a byte for each node: nonzero means already in the set, and 1 is written for each root added; too few marks: 7)"
@@ -121,5 +129,5 @@ pub fn find_related<'a>(
     if refused != NO_REFUSAL {
         return DoneAnswer::Refused(refused);
     }
-    tested_ask::find_related(chart, beside, rule, text, h, ws, ks, marks, t)
+    tested::find_related(chart, beside, rule, text, h, ws, ks, marks, t)
 }

@@ -1,4 +1,6 @@
 // The calls `find` and `find_mut` on any numbers at all: each tests chart and store and refuses with 2 or 8, or is its form for a tested store.
+pub mod tested;
+
 ghost use mathlib.Core.Path.{_≡_};
 ghost use Rattle.scope.specs.Types.{tyOf};
 ghost use Rattle.scope.specs.Calls.{findCall, findMutCall};
@@ -29,7 +31,7 @@ pub fn find<'a>(
     if code != NO_REFUSAL {
         return TypeAnswer::Refused(code);
     }
-    tested_find::find(chart, beside, rule, text, h, ws, ks, t)
+    tested::find(chart, beside, rule, text, h, ws, ks, t)
 }
 
 // "`find_mut` also points every node on the path straight at the root, keeping each node's meaning."
@@ -51,5 +53,5 @@ pub fn find_mut<'a>(
     if refused != NO_REFUSAL {
         return TypeAnswer::Refused(refused);
     }
-    tested_find::find_mut(chart, beside, rule, text, h, ws, ks, t)
+    tested::find_mut(chart, beside, rule, text, h, ws, ks, t)
 }

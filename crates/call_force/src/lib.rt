@@ -1,16 +1,27 @@
 // The calls `force_kind`, `finish_inference` and `finish_inference_where` on any numbers at all: each tests chart and store and refuses with 2 or 8, or is its
 // form for a tested store.
+pub mod tested;
+
 ghost use Rattle.scope.specs.Types.{tyOf};
 ghost use Rattle.scope.specs.Calls.{forceKindCall, finishInferenceCall, finishWhereCall};
 ghost use Rattle.layout.specs.Words.{lentOf};
 ghost use Rattle.sound.specs.Tests.{envIn};
 ghost use Rattle.promise.specs.Promise.{doneReply, Promised};
-ghost use Rattle.tested_force.specs.Replies.{ForcePromised};
+ghost use Rattle.call_force.specs.Replies.{ForcePromised};
 use chart::Beside;
+use layout::Kind;
 use promise::DoneAnswer;
 use refusals::NO_REFUSAL;
-pub use tested_force::ForcedAnswer;
+use types::Inverted;
 use types::Type;
+
+// A forced type's inversion and kind; or none, and then the span of one that had not failed before; or a refusal's number.
+pub enum ForcedAnswer {
+    Known(Inverted, Kind),
+    Reported(u32),
+    Failed,
+    Refused(u32),
+}
 
 // "A Known gives its kind and its inversion combined with the type's. An Unknown becomes InferenceFailed, its span is in the answer and one report count rises."
 pub fn force_kind<'a>(
@@ -31,7 +42,7 @@ pub fn force_kind<'a>(
     if code != NO_REFUSAL {
         return ForcedAnswer::Refused(code);
     }
-    tested_force::force_kind(chart, beside, rule, text, h, ws, ks, t)
+    tested::force_kind(chart, beside, rule, text, h, ws, ks, t)
 }
 
 // "only roots without a kind change, each to Default uninverted"
@@ -52,7 +63,7 @@ pub fn finish_inference<'a>(
     if broken != NO_REFUSAL {
         return DoneAnswer::Refused(broken);
     }
-    tested_force::finish_inference(chart, beside, rule, text, h, ws, ks)
+    tested::finish_inference(chart, beside, rule, text, h, ws, ks)
 }
 
 // "a lent byte for each node, nonzero chooses, absent means no"
@@ -75,5 +86,5 @@ pub fn finish_inference_where<'a>(
     if lent != NO_REFUSAL {
         return DoneAnswer::Refused(lent);
     }
-    tested_force::finish_inference_where(chart, beside, rule, text, h, ws, ks, bytes)
+    tested::finish_inference_where(chart, beside, rule, text, h, ws, ks, bytes)
 }

@@ -1,15 +1,17 @@
 // The calls on impl types, each a trait over a lent list of types or an error, on any numbers at all: `unify_impl_type` and `approx_eq`. Each tests chart and store
 // and refuses with 2 or 8, or is its form for a tested store. The first has a form with a lent memory, any slice whatever it holds, and the same answer and nodes.
+pub mod tested;
+
 ghost use Rattle.scope.specs.Calls.{unifyImplTypeCall, approxEqCall};
 ghost use Rattle.types.specs.Impls.{implMeans};
 ghost use Rattle.layout.specs.Words.{lentOf};
 ghost use Rattle.sound.specs.Tests.{envIn};
 ghost use Rattle.promise.specs.Promise.{Promised, boolReply};
-ghost use Rattle.tested_unify.specs.Answers.{unifyReply};
+ghost use Rattle.call_unify.specs.Answers.{unifyReply};
+use call_unify::UnifyAnswer;
 use chart::Beside;
 use promise::BoolAnswer;
 use refusals::NO_REFUSAL;
-use tested_unify::UnifyAnswer;
 use types::Impl;
 
 // Two traits, each over a list of types, or errors.
@@ -36,20 +38,7 @@ pub fn unify_impl_type_recalling<'a>(
     if lent != NO_REFUSAL {
         return UnifyAnswer::Refused(lent);
     }
-    tested_impl::unify_impl_type_recalling(
-        chart,
-        beside,
-        rule,
-        text,
-        h,
-        ws,
-        ks,
-        memory,
-        a,
-        xs,
-        b,
-        ys,
-    )
+    tested::unify_impl_type_recalling(chart, beside, rule, text, h, ws, ks, memory, a, xs, b, ys)
 }
 
 // The same without a memory.
@@ -111,5 +100,5 @@ pub fn approx_eq<'a>(
     if broken != NO_REFUSAL {
         return BoolAnswer::Refused(broken);
     }
-    tested_impl::approx_eq(chart, beside, rule, text, h, ws, ks, a, xs, b, ys)
+    tested::approx_eq(chart, beside, rule, text, h, ws, ks, a, xs, b, ys)
 }

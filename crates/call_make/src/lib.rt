@@ -1,5 +1,7 @@
 // The calls that fill a store with variables, the error type and nil, on any numbers at all: each tests chart and store and refuses with 2 or 8, or is its
 // form for a tested store.
+pub mod tested;
+
 ghost use lib.ListN.{length};
 ghost use Rattle.scope.specs.Calls.{newVarCall, newVarsCall, errorCall, nilCall};
 ghost use Rattle.layout.specs.Words.{lentOf};
@@ -30,7 +32,7 @@ pub fn new_var<'a>(
     if code != NO_REFUSAL {
         return TypeAnswer::Refused(code);
     }
-    tested_make::new_var(chart, beside, rule, text, h, ws, ks, span)
+    tested::new_var(chart, beside, rule, text, h, ws, ks, span)
 }
 
 // `count` types without a kind; they stand at the front of `out`. "The count given to `new_vars` is limited by 10 and 7 only"
@@ -56,7 +58,7 @@ pub fn new_vars<'a>(
     if lent != NO_REFUSAL {
         return DoneAnswer::Refused(lent);
     }
-    tested_make::new_vars(chart, beside, rule, text, h, ws, ks, span, count, out)
+    tested::new_vars(chart, beside, rule, text, h, ws, ks, span, count, out)
 }
 
 // The error type.
@@ -77,7 +79,7 @@ pub fn error<'a>(
     if broken != NO_REFUSAL {
         return TypeAnswer::Refused(broken);
     }
-    tested_make::error(chart, beside, rule, text, h, ws, ks)
+    tested::error(chart, beside, rule, text, h, ws, ks)
 }
 
 // The type of nothing: a Tuple without children.
@@ -98,5 +100,5 @@ pub fn nil<'a>(
     if refused != NO_REFUSAL {
         return TypeAnswer::Refused(refused);
     }
-    tested_make::nil(chart, beside, rule, text, h, ws, ks)
+    tested::nil(chart, beside, rule, text, h, ws, ks)
 }

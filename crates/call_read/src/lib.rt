@@ -1,19 +1,52 @@
 // The public calls that read a store, on any numbers at all: a node as it stands, its children and names by their index, and the figures. Each tests chart and
 // store and refuses with 2 or 8, or is its form for a tested store.
+pub mod tested;
+
 ghost use mathlib.Core.Path.{_≡_};
 ghost use Rattle.scope.specs.Types.{tyOf};
 ghost use Rattle.scope.specs.Calls.{nodeCall, childCall, nameCall, figuresCall};
 ghost use Rattle.layout.specs.Words.{lentOf, storeIn};
 ghost use Rattle.sound.specs.Tests.{envIn};
 ghost use Rattle.promise.specs.Promise.{outcomeBy};
-ghost use Rattle.tested_read.specs.Replies.{NodePromised, childReply, nameReply, figuresReply};
+ghost use Rattle.call_read.specs.Replies.{NodePromised, childReply, nameReply, figuresReply};
 use chart::Beside;
+use layout::Header;
+use layout::Kind;
+use names::Name;
 use refusals::NO_REFUSAL;
-pub use tested_read::ChildAnswer;
-pub use tested_read::FiguresAnswer;
-pub use tested_read::NameAnswer;
-pub use tested_read::NodeAnswer;
+use types::Inverted;
 use types::Type;
+
+// A node as it stands, or a refusal's number. A root's last number is the size of its tree.
+pub enum NodeAnswer {
+    Known(Inverted, Kind, u32),
+    // The span, and the size.
+    Unknown(u32, u32),
+    InferenceFailed(u32),
+    // The parent.
+    Child(Type),
+    Refused(u32),
+}
+
+// A child, none past the end, or a refusal's number.
+pub enum ChildAnswer {
+    Is(Type),
+    Nothing,
+    Refused(u32),
+}
+
+// A name, none, or a refusal's number.
+pub enum NameAnswer {
+    Is(Name),
+    Nothing,
+    Refused(u32),
+}
+
+// What of a store is no node, or a refusal's number.
+pub enum FiguresAnswer {
+    Is(Header),
+    Refused(u32),
+}
 
 // A type's node as it stands, be it a root or a child.
 pub fn node<'a>(
@@ -34,7 +67,7 @@ pub fn node<'a>(
     if code != NO_REFUSAL {
         return NodeAnswer::Refused(code);
     }
-    tested_read::node(chart, beside, rule, text, h, ws, ks, t)
+    tested::node(chart, beside, rule, text, h, ws, ks, t)
 }
 
 // Child j of a type's node, none past the end.
@@ -57,7 +90,7 @@ pub fn child<'a>(
     if broken != NO_REFUSAL {
         return ChildAnswer::Refused(broken);
     }
-    tested_read::child(chart, beside, rule, text, h, ws, ks, t, j)
+    tested::child(chart, beside, rule, text, h, ws, ks, t, j)
 }
 
 // Name j of a type's node, none past the end and where there is no name.
@@ -80,7 +113,7 @@ pub fn child_name<'a>(
     if lent != NO_REFUSAL {
         return NameAnswer::Refused(lent);
     }
-    tested_read::child_name(chart, beside, rule, text, h, ws, ks, t, j)
+    tested::child_name(chart, beside, rule, text, h, ws, ks, t, j)
 }
 
 // Counts, capacities, remembered types and the report count.
@@ -101,5 +134,5 @@ pub fn figures<'a>(
     if refused != NO_REFUSAL {
         return FiguresAnswer::Refused(refused);
     }
-    tested_read::figures(chart, beside, rule, text, h, ws, ks)
+    tested::figures(chart, beside, rule, text, h, ws, ks)
 }

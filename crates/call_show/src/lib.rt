@@ -3,6 +3,8 @@
 // of that buffer: on 7 the whole buffer, on any other refusal an empty part." The refusal's number, 0 where none stands, is told through a lent number beside the
 // part. The part begins where the buffer does. A slice that goes into the answer has no value of its own at the end, so a contract cannot say what lies past the
 // part; the first forms, which these call, say it.
+pub mod tested;
+
 ghost use Rattle.scope.specs.Types.{tyOf};
 ghost use Rattle.scope.specs.Calls.{showCall, showImplTypeCall};
 ghost use Rattle.types.specs.Impls.{implMeans};
@@ -41,7 +43,7 @@ pub fn show<'a>(
     if code != NO_REFUSAL {
         return CountAnswer::Refused(code);
     }
-    tested_show::show(chart, beside, rule, text, h, ws, ks, t, buf)
+    tested::show(chart, beside, rule, text, h, ws, ks, t, buf)
 }
 
 // An impl type's text, its types lent beside it.
@@ -66,7 +68,7 @@ pub fn show_impl_type<'a>(
     if lent != NO_REFUSAL {
         return CountAnswer::Refused(lent);
     }
-    tested_show::show_impl_type(chart, beside, rule, text, h, ws, ks, a, xs, buf)
+    tested::show_impl_type(chart, beside, rule, text, h, ws, ks, a, xs, buf)
 }
 
 // The refusal's number.

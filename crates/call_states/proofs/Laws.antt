@@ -25,8 +25,8 @@ use Rattle.refusals.proofs.Laws.{code-none, code-some, code-first, judged-refus
 use Rattle.sound.specs.Tests.{envIn}
 use Rattle.promise.specs.Promise.{value, refusal}
 use Rattle.book.specs.Words.{bookWords, lentBookOf, BookBecame}
-use Rattle.tested_states.specs.Promise.{NamesPromised, NamesOpened, TestedNames}
-use Rattle.tested_states.proofs.Laws.{names-back}
+use Rattle.call_states.specs.Promise.{NamesPromised, NamesOpened, TestedNames}
+use Rattle.call_states.proofs.tested.Laws.{names-back}
 
 -- no refusal stands
 pub names-tested : {chart : List ℕ} {b : Beside} {rule text h ws ks bs : List ℕ} {n : ℕ}

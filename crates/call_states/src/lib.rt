@@ -1,5 +1,7 @@
 // The calls on a store and its names buffer, on any numbers at all: opening a names buffer is refused with 1 alone; the others test chart, store and names
 // buffer and refuse with 2 or 8, or are their forms for tested ones.
+pub mod tested;
+
 ghost use lib.Dec.{leb};
 ghost use lib.ListN.{length};
 ghost use mathlib.Core.Path.{_≡_};
@@ -11,7 +13,7 @@ ghost use Rattle.refusals.specs.Codes.{codeOf};
 ghost use Rattle.sound.specs.Tests.{envIn};
 ghost use Rattle.promise.specs.Promise.{doneReply};
 ghost use Rattle.book.specs.Words.{bookWords, lentBookOf};
-ghost use Rattle.tested_states.specs.Promise.{NamesPromised, NamesOpened};
+ghost use Rattle.call_states.specs.Promise.{NamesPromised, NamesOpened};
 use chart::Beside;
 use promise::DoneAnswer;
 use refusals::NO_REFUSAL;
@@ -69,7 +71,7 @@ pub fn name_state<'a>(
     if code != NO_REFUSAL {
         return DoneAnswer::Refused(code);
     }
-    tested_states::name_state(chart, beside, rule, text, h, ws, ks, bs, name)
+    tested::name_state(chart, beside, rule, text, h, ws, ks, bs, name)
 }
 
 // "Returning restores every node, the remembered error and nil types and every capacity figure; the report count does not go back".
@@ -93,7 +95,7 @@ pub fn return_to<'a>(
     if broken != NO_REFUSAL {
         return DoneAnswer::Refused(broken);
     }
-    tested_states::return_to(chart, beside, rule, text, h, ws, ks, bs, name)
+    tested::return_to(chart, beside, rule, text, h, ws, ks, bs, name)
 }
 
 // "dropping a name makes its place usable"
@@ -117,7 +119,7 @@ pub fn drop_name<'a>(
     if lent != NO_REFUSAL {
         return DoneAnswer::Refused(lent);
     }
-    tested_states::drop_name(chart, beside, rule, text, h, ws, ks, bs, name)
+    tested::drop_name(chart, beside, rule, text, h, ws, ks, bs, name)
 }
 
 // "`reset` frees all"; the report count "outlives `reset`", and "`reset` drops all names".
@@ -140,5 +142,5 @@ pub fn reset<'a>(
     if refused != NO_REFUSAL {
         return DoneAnswer::Refused(refused);
     }
-    tested_states::reset(chart, beside, rule, text, h, ws, ks, bs)
+    tested::reset(chart, beside, rule, text, h, ws, ks, bs)
 }

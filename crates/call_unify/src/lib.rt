@@ -1,5 +1,7 @@
 // The call `unify`, on any numbers at all: it tests chart and store and refuses with 2 or 8, or is its form for a tested store. With a lent memory a type that is
 // shared and fails deep down is not visited again and again; the answer and every node are the same.
+pub mod tested;
+
 ghost use mathlib.Core.Path.{_≡_};
 ghost use lib.Dec.{leb};
 ghost use Rattle.scope.specs.Base.{pick};
@@ -10,12 +12,18 @@ ghost use Rattle.layout.specs.Words.{lentOf};
 ghost use Rattle.sound.specs.Tests.{envIn};
 ghost use Rattle.recall.specs.Memory.{wordsFor};
 ghost use Rattle.promise.specs.Promise.{Promised};
-ghost use Rattle.tested_unify.specs.Answers.{unifyReply};
+ghost use Rattle.call_unify.specs.Answers.{unifyReply};
 use chart::Beside;
 use refusals::NO_REFUSAL;
 use scope::MAX_NODES;
-pub use tested_unify::UnifyAnswer;
 use types::Type;
+use types::UnifyResult;
+
+// Unify's answer, or a refusal's number.
+pub enum UnifyAnswer {
+    Is(UnifyResult),
+    Refused(u32),
+}
 
 // "`unify` takes both roots with `find_mut`." The memory is any slice, whatever it holds: nothing of it is believed, and what stands in it afterwards means nothing.
 pub fn unify_recalling<'a>(
@@ -39,7 +47,7 @@ pub fn unify_recalling<'a>(
     if lent != NO_REFUSAL {
         return UnifyAnswer::Refused(lent);
     }
-    tested_unify::unify_recalling(chart, beside, rule, text, h, ws, ks, memory, a, b)
+    tested::unify_recalling(chart, beside, rule, text, h, ws, ks, memory, a, b)
 }
 
 // The same without a memory.

@@ -5,7 +5,7 @@ ghost use Rattle.scope.specs.Calls.{isNilCall, selfInverseCall, getModCall, fin
 ghost use mathlib.Core.Bool.{false};
 ghost use Rattle.layout.specs.Words.{lentOf, storeIn};
 ghost use Rattle.promise.specs.Promise.{boolReply, outcomeBy};
-ghost use Rattle.tested_ask.specs.Replies.{modReply, MarksPromised};
+ghost use Rattle.call_ask.specs.Replies.{modReply, MarksPromised};
 ghost use Rattle.c_words.specs.Numbers.{doneIn, boolIn};
 ghost use Rattle.c_words.specs.Given.{setIn, lentEnv};
 ghost use Rattle.c_outs.specs.Outs.{modIn, modOut};

@@ -4,7 +4,7 @@ ghost use Rattle.scope.specs.Types.{tyOf};
 ghost use Rattle.scope.specs.Calls.{forceKindCall, finishInferenceCall, finishWhereCall};
 ghost use Rattle.layout.specs.Words.{lentOf};
 ghost use Rattle.promise.specs.Promise.{Promised, doneReply};
-ghost use Rattle.tested_force.specs.Replies.{ForcePromised};
+ghost use Rattle.call_force.specs.Replies.{ForcePromised};
 ghost use Rattle.c_words.specs.Numbers.{doneIn};
 ghost use Rattle.c_words.specs.Given.{lentEnv};
 ghost use Rattle.c_outs.specs.Outs.{forcedIn, forcedOut};

@@ -3,7 +3,7 @@ ghost use Rattle.scope.specs.States.{nameStateCall, returnToCall, dropNameCall,
 ghost use Rattle.layout.specs.Words.{lentOf};
 ghost use Rattle.book.specs.Words.{lentBookOf};
 ghost use Rattle.promise.specs.Promise.{doneReply};
-ghost use Rattle.tested_states.specs.Promise.{NamesPromised};
+ghost use Rattle.call_states.specs.Promise.{NamesPromised};
 ghost use Rattle.c_words.specs.Numbers.{doneIn};
 ghost use Rattle.c_words.specs.Given.{lentEnv};
 

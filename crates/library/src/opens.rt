@@ -14,7 +14,7 @@ ghost use Rattle.recall.specs.Memory.{wordsFor};
 ghost use Rattle.refusals.specs.Codes.{codeOf};
 ghost use Rattle.refusals.specs.Opening.{enough};
 ghost use Rattle.promise.specs.Promise.{Promised, doneReply};
-ghost use Rattle.tested_states.specs.Promise.{NamesOpened};
+ghost use Rattle.call_states.specs.Promise.{NamesOpened};
 ghost use Rattle.records.specs.Loaded.{LoadPromised};
 ghost use Rattle.c_words.specs.Numbers.{doneIn};
 ghost use Rattle.c_words.specs.Given.{lentEnv};

@@ -4,7 +4,7 @@ ghost use Rattle.scope.specs.Types.{tyOf};
 ghost use Rattle.scope.specs.Calls.{findCall, findMutCall, nodeCall, childCall, nameCall, figuresCall};
 ghost use Rattle.layout.specs.Words.{lentOf, storeIn};
 ghost use Rattle.promise.specs.Promise.{Promised, typeReply, outcomeBy};
-ghost use Rattle.tested_read.specs.Replies.{NodePromised, childReply, nameReply, figuresReply};
+ghost use Rattle.call_read.specs.Replies.{NodePromised, childReply, nameReply, figuresReply};
 ghost use Rattle.c_words.specs.Numbers.{typeIn};
 ghost use Rattle.c_words.specs.Given.{lentEnv};
 ghost use Rattle.c_outs.specs.Outs.{nodeIn, nodeOut, childIn, childOut, nameIn, nameOut, figuresIn, figuresPut};

@@ -5,7 +5,7 @@ ghost use Rattle.scope.specs.Calls.{isNilCall, selfInverseCall, getModCall, fin
 ghost use mathlib.Core.Bool.{false};
 ghost use Rattle.layout.specs.Words.{lentOf, storeIn};
 ghost use Rattle.promise.specs.Promise.{Tested, boolReply, outcomeBy};
-ghost use Rattle.tested_ask.specs.Replies.{modReply, MarksPromised};
+ghost use Rattle.call_ask.specs.Replies.{modReply, MarksPromised};
 ghost use Rattle.c_words.specs.Numbers.{doneIn, boolIn};
 ghost use Rattle.c_words.specs.Given.{setIn, besideIn, lentEnv};
 ghost use Rattle.c_outs.specs.Outs.{modIn, modOut};
@@ -30,7 +30,7 @@ pub extern "C" fn faroalder_tested_is_nil<'a>(
         ≡ outcomeBy (boolReply (boolIn r)) (storeIn (now (h .entry)) (now (ws .entry)) (now (ks .entry))) ⌝ }
 {
     let beside = c_words::beside_of(fn_trait, sigils);
-    c_words::bool_number(tested_ask::is_nil(chart, beside, rule, text, h, ws, ks, Type(t)))
+    c_words::bool_number(call_ask::tested::is_nil(chart, beside, rule, text, h, ws, ks, Type(t)))
 }
 
 // "`self_inverse` holds where the root has a self-dual kind and it holds of every child; never where there is no kind."
@@ -52,7 +52,16 @@ pub extern "C" fn faroalder_tested_self_inverse<'a>(
         ≡ outcomeBy (boolReply (boolIn r)) (storeIn (now (h .entry)) (now (ws .entry)) (now (ks .entry))) ⌝ }
 {
     let beside = c_words::beside_of(fn_trait, sigils);
-    c_words::bool_number(tested_ask::self_inverse(chart, beside, rule, text, h, ws, ks, Type(t)))
+    c_words::bool_number(call_ask::tested::self_inverse(
+        chart,
+        beside,
+        rule,
+        text,
+        h,
+        ws,
+        ks,
+        Type(t),
+    ))
 }
 
 // `_self_inverse`: a Param counts as param says.
@@ -75,7 +84,7 @@ pub extern "C" fn faroalder_tested_self_inverse_param<'a>(
         ≡ outcomeBy (boolReply (boolIn r)) (storeIn (now (h .entry)) (now (ws .entry)) (now (ks .entry))) ⌝ }
 {
     let beside = c_words::beside_of(fn_trait, sigils);
-    c_words::bool_number(tested_ask::self_inverse_param(
+    c_words::bool_number(call_ask::tested::self_inverse_param(
         chart,
         beside,
         rule,
@@ -110,7 +119,7 @@ pub extern "C" fn faroalder_tested_get_mod<'a>(
 {
     let beside = c_words::beside_of(fn_trait, sigils);
     c_outs::tell_mod(
-        tested_ask::get_mod(chart, beside, rule, text, h, ws, ks, Type(t)),
+        call_ask::tested::get_mod(chart, beside, rule, text, h, ws, ks, Type(t)),
         out,
     )
 }
@@ -136,7 +145,7 @@ pub extern "C" fn faroalder_tested_find_related<'a>(
         (doneIn r) (storeIn (now (h .entry)) (now (ws .entry)) (now (ks .entry))) (now (marks .entry)) (now (marks .exit)) ⌝ }
 {
     let beside = c_words::beside_of(fn_trait, sigils);
-    c_words::done_number(tested_ask::find_related(
+    c_words::done_number(call_ask::tested::find_related(
         chart,
         beside,
         rule,

@@ -4,7 +4,7 @@ ghost use Rattle.scope.specs.Types.{tyOf};
 ghost use Rattle.scope.specs.Calls.{forceKindCall, finishInferenceCall, finishWhereCall};
 ghost use Rattle.layout.specs.Words.{lentOf};
 ghost use Rattle.promise.specs.Promise.{Promised, Tested, doneReply};
-ghost use Rattle.tested_force.specs.Replies.{ForcePromised};
+ghost use Rattle.call_force.specs.Replies.{ForcePromised};
 ghost use Rattle.c_words.specs.Numbers.{doneIn};
 ghost use Rattle.c_words.specs.Given.{besideIn, lentEnv};
 ghost use Rattle.c_outs.specs.Outs.{forcedIn, forcedOut};
@@ -32,7 +32,7 @@ pub extern "C" fn faroalder_tested_force_kind<'a>(
 {
     let beside = c_words::beside_of(fn_trait, sigils);
     c_outs::tell_forced(
-        tested_force::force_kind(chart, beside, rule, text, h, ws, ks, Type(t)),
+        call_force::tested::force_kind(chart, beside, rule, text, h, ws, ks, Type(t)),
         out,
     )
 }
@@ -55,7 +55,7 @@ pub extern "C" fn faroalder_tested_finish_inference<'a>(
         (doneReply (doneIn r)) (now (h .entry)) (now (ws .entry)) (now (ks .entry)) (now (h .entry)) (now (ws .exit)) (now (ks .entry)) ⌝ }
 {
     let beside = c_words::beside_of(fn_trait, sigils);
-    c_words::done_number(tested_force::finish_inference(chart, beside, rule, text, h, ws, ks))
+    c_words::done_number(call_force::tested::finish_inference(chart, beside, rule, text, h, ws, ks))
 }
 
 // "a lent byte for each node, nonzero chooses, absent means no"
@@ -78,7 +78,7 @@ pub extern "C" fn faroalder_tested_finish_inference_where<'a>(
         (doneReply (doneIn r)) (now (h .entry)) (now (ws .entry)) (now (ks .entry)) (now (h .entry)) (now (ws .exit)) (now (ks .entry)) ⌝ }
 {
     let beside = c_words::beside_of(fn_trait, sigils);
-    c_words::done_number(tested_force::finish_inference_where(
+    c_words::done_number(call_force::tested::finish_inference_where(
         chart,
         beside,
         rule,

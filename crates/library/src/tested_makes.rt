@@ -28,7 +28,7 @@ pub extern "C" fn faroalder_tested_new_var<'a>(
         (typeReply (typeIn r)) (now (h .entry)) (now (ws .entry)) (now (ks .entry)) (now (h .exit)) (now (ws .exit)) (now (ks .entry)) ⌝ }
 {
     let beside = c_words::beside_of(fn_trait, sigils);
-    c_words::type_number(tested_make::new_var(chart, beside, rule, text, h, ws, ks, span))
+    c_words::type_number(call_make::tested::new_var(chart, beside, rule, text, h, ws, ks, span))
 }
 
 // `count` types without a kind; they stand at the front of `out`. "The count given to `new_vars` is limited by 10 and 7 only"
@@ -54,7 +54,7 @@ pub extern "C" fn faroalder_tested_new_vars<'a>(
         (now (out .entry)) (now (out .exit)) ⌝ }
 {
     let beside = c_words::beside_of(fn_trait, sigils);
-    c_words::done_number(tested_make::new_vars(
+    c_words::done_number(call_make::tested::new_vars(
         chart,
         beside,
         rule,
@@ -86,7 +86,7 @@ pub extern "C" fn faroalder_tested_error<'a>(
         (typeReply (typeIn r)) (now (h .entry)) (now (ws .entry)) (now (ks .entry)) (now (h .exit)) (now (ws .exit)) (now (ks .entry)) ⌝ }
 {
     let beside = c_words::beside_of(fn_trait, sigils);
-    c_words::type_number(tested_make::error(chart, beside, rule, text, h, ws, ks))
+    c_words::type_number(call_make::tested::error(chart, beside, rule, text, h, ws, ks))
 }
 
 // The type of nothing: a Tuple without children.
@@ -107,7 +107,7 @@ pub extern "C" fn faroalder_tested_nil<'a>(
         (typeReply (typeIn r)) (now (h .entry)) (now (ws .entry)) (now (ks .entry)) (now (h .exit)) (now (ws .exit)) (now (ks .entry)) ⌝ }
 {
     let beside = c_words::beside_of(fn_trait, sigils);
-    c_words::type_number(tested_make::nil(chart, beside, rule, text, h, ws, ks))
+    c_words::type_number(call_make::tested::nil(chart, beside, rule, text, h, ws, ks))
 }
 
 // `new`: a kind with its children as entries, each a type and its name's text, start and length.

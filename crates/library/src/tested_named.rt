@@ -3,7 +3,7 @@ ghost use Rattle.scope.specs.States.{nameStateCall, returnToCall, dropNameCall,
 ghost use Rattle.layout.specs.Words.{lentOf};
 ghost use Rattle.book.specs.Words.{lentBookOf};
 ghost use Rattle.promise.specs.Promise.{doneReply};
-ghost use Rattle.tested_states.specs.Promise.{NamesPromised, TestedNames};
+ghost use Rattle.call_states.specs.Promise.{NamesPromised, TestedNames};
 ghost use Rattle.c_words.specs.Numbers.{doneIn};
 ghost use Rattle.c_words.specs.Given.{besideIn, lentEnv};
 
@@ -29,7 +29,17 @@ pub extern "C" fn faroalder_tested_name_state<'a>(
         (now (h .entry)) (now (ws .entry)) (now (ks .entry)) (now (bs .exit)) ⌝ }
 {
     let beside = c_words::beside_of(fn_trait, sigils);
-    c_words::done_number(tested_states::name_state(chart, beside, rule, text, h, ws, ks, bs, name))
+    c_words::done_number(call_states::tested::name_state(
+        chart,
+        beside,
+        rule,
+        text,
+        h,
+        ws,
+        ks,
+        bs,
+        name,
+    ))
 }
 
 // "and return to one": 12 where the name is not held. The report count "does not go back".
@@ -54,7 +64,17 @@ pub extern "C" fn faroalder_tested_return_to<'a>(
         (now (h .exit)) (now (ws .exit)) (now (ks .exit)) (now (bs .entry)) ⌝ }
 {
     let beside = c_words::beside_of(fn_trait, sigils);
-    c_words::done_number(tested_states::return_to(chart, beside, rule, text, h, ws, ks, bs, name))
+    c_words::done_number(call_states::tested::return_to(
+        chart,
+        beside,
+        rule,
+        text,
+        h,
+        ws,
+        ks,
+        bs,
+        name,
+    ))
 }
 
 // "dropping a name makes its place usable": 12 where it is not held.
@@ -79,7 +99,17 @@ pub extern "C" fn faroalder_tested_drop_name<'a>(
         (now (h .entry)) (now (ws .entry)) (now (ks .entry)) (now (bs .exit)) ⌝ }
 {
     let beside = c_words::beside_of(fn_trait, sigils);
-    c_words::done_number(tested_states::drop_name(chart, beside, rule, text, h, ws, ks, bs, name))
+    c_words::done_number(call_states::tested::drop_name(
+        chart,
+        beside,
+        rule,
+        text,
+        h,
+        ws,
+        ks,
+        bs,
+        name,
+    ))
 }
 
 // "`reset` frees all" and "drops all names"; the report count "outlives `reset`".
@@ -103,5 +133,5 @@ pub extern "C" fn faroalder_tested_reset<'a>(
         (now (h .exit)) (now (ws .exit)) (now (ks .exit)) (now (bs .exit)) ⌝ }
 {
     let beside = c_words::beside_of(fn_trait, sigils);
-    c_words::done_number(tested_states::reset(chart, beside, rule, text, h, ws, ks, bs))
+    c_words::done_number(call_states::tested::reset(chart, beside, rule, text, h, ws, ks, bs))
 }

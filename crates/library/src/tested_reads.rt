@@ -4,7 +4,7 @@ ghost use Rattle.scope.specs.Types.{tyOf};
 ghost use Rattle.scope.specs.Calls.{findCall, findMutCall, nodeCall, childCall, nameCall, figuresCall};
 ghost use Rattle.layout.specs.Words.{lentOf, storeIn};
 ghost use Rattle.promise.specs.Promise.{Promised, Tested, typeReply, outcomeBy};
-ghost use Rattle.tested_read.specs.Replies.{NodePromised, childReply, nameReply, figuresReply};
+ghost use Rattle.call_read.specs.Replies.{NodePromised, childReply, nameReply, figuresReply};
 ghost use Rattle.c_words.specs.Numbers.{typeIn};
 ghost use Rattle.c_words.specs.Given.{besideIn, lentEnv};
 ghost use Rattle.c_outs.specs.Outs.{nodeIn, nodeOut, childIn, childOut, nameIn, nameOut, figuresIn, figuresPut};
@@ -29,7 +29,7 @@ pub extern "C" fn faroalder_tested_find<'a>(
         ≡ outcomeBy (typeReply (typeIn r)) (storeIn (now (h .entry)) (now (ws .entry)) (now (ks .entry))) ⌝ }
 {
     let beside = c_words::beside_of(fn_trait, sigils);
-    c_words::type_number(tested_find::find(chart, beside, rule, text, h, ws, ks, Type(t)))
+    c_words::type_number(call_find::tested::find(chart, beside, rule, text, h, ws, ks, Type(t)))
 }
 
 // "`find_mut` also points every node on the path straight at the root, keeping each node's meaning."
@@ -51,7 +51,7 @@ pub extern "C" fn faroalder_tested_find_mut<'a>(
         (typeReply (typeIn r)) (now (h .entry)) (now (ws .entry)) (now (ks .entry)) (now (h .entry)) (now (ws .exit)) (now (ks .entry)) ⌝ }
 {
     let beside = c_words::beside_of(fn_trait, sigils);
-    c_words::type_number(tested_find::find_mut(chart, beside, rule, text, h, ws, ks, Type(t)))
+    c_words::type_number(call_find::tested::find_mut(chart, beside, rule, text, h, ws, ks, Type(t)))
 }
 
 // A type's node as it stands, be it a root or a child.
@@ -76,7 +76,7 @@ pub extern "C" fn faroalder_tested_node<'a>(
 {
     let beside = c_words::beside_of(fn_trait, sigils);
     c_outs::tell_node(
-        tested_read::node(chart, beside, rule, text, h, ws, ks, Type(t)),
+        call_read::tested::node(chart, beside, rule, text, h, ws, ks, Type(t)),
         out,
     )
 }
@@ -104,7 +104,7 @@ pub extern "C" fn faroalder_tested_child<'a>(
 {
     let beside = c_words::beside_of(fn_trait, sigils);
     c_outs::tell_child(
-        tested_read::child(chart, beside, rule, text, h, ws, ks, Type(t), j),
+        call_read::tested::child(chart, beside, rule, text, h, ws, ks, Type(t), j),
         out,
     )
 }
@@ -132,7 +132,7 @@ pub extern "C" fn faroalder_tested_child_name<'a>(
 {
     let beside = c_words::beside_of(fn_trait, sigils);
     c_outs::tell_name(
-        tested_read::child_name(chart, beside, rule, text, h, ws, ks, Type(t), j),
+        call_read::tested::child_name(chart, beside, rule, text, h, ws, ks, Type(t), j),
         out,
     )
 }
@@ -158,7 +158,7 @@ pub extern "C" fn faroalder_tested_figures<'a>(
 {
     let beside = c_words::beside_of(fn_trait, sigils);
     c_outs::tell_figures(
-        tested_read::figures(chart, beside, rule, text, h, ws, ks),
+        call_read::tested::figures(chart, beside, rule, text, h, ws, ks),
         out,
     )
 }

@@ -6,7 +6,7 @@ ghost use Rattle.types.specs.Impls.{implMeans};
 ghost use Rattle.store.specs.Entries.{typesIn};
 ghost use Rattle.lent_tests.specs.Given.{entriesIn};
 ghost use Rattle.promise.specs.Promise.{Promised, Tested};
-ghost use Rattle.tested_unify.specs.Answers.{unifyReply};
+ghost use Rattle.call_unify.specs.Answers.{unifyReply};
 ghost use Rattle.c_words.specs.Numbers.{unifyIn};
 ghost use Rattle.c_words.specs.Given.{setIn, implIn, besideIn, lentEnv};
 use types::Type;
@@ -33,7 +33,7 @@ pub extern "C" fn faroalder_tested_unify_recalling<'a>(
         (unifyReply (unifyIn r)) (now (h .entry)) (now (ws .entry)) (now (ks .entry)) (now (h .entry)) (now (ws .exit)) (now (ks .entry)) ⌝ }
 {
     let beside = c_words::beside_of(fn_trait, sigils);
-    c_words::unify_number(tested_unify::unify_recalling(
+    c_words::unify_number(call_unify::tested::unify_recalling(
         chart,
         beside,
         rule,
@@ -189,7 +189,7 @@ pub extern "C" fn faroalder_tested_unify_impl_type_recalling<'a>(
         (unifyReply (unifyIn r)) (now (h .entry)) (now (ws .entry)) (now (ks .entry)) (now (h .entry)) (now (ws .exit)) (now (ks .entry)) ⌝ }
 {
     let beside = c_words::beside_of(fn_trait, sigils);
-    c_words::unify_number(tested_impl::unify_impl_type_recalling(
+    c_words::unify_number(call_impl::tested::unify_impl_type_recalling(
         chart,
         beside,
         rule,

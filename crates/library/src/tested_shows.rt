@@ -31,7 +31,7 @@ pub extern "C" fn faroalder_tested_show<'a>(
 {
     let beside = c_words::beside_of(fn_trait, sigils);
     let n = c_words::counted(buf.len());
-    c_words::count_number(tested_show::show(
+    c_words::count_number(call_show::tested::show(
         chart,
         beside,
         rule,
@@ -67,7 +67,7 @@ pub extern "C" fn faroalder_tested_show_impl_type<'a>(
 {
     let beside = c_words::beside_of(fn_trait, sigils);
     let n = c_words::counted(buf.len());
-    c_words::count_number(tested_show::show_impl_type(
+    c_words::count_number(call_show::tested::show_impl_type(
         chart,
         beside,
         rule,

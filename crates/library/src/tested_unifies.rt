@@ -6,7 +6,7 @@ ghost use Rattle.types.specs.Impls.{implMeans};
 ghost use Rattle.store.specs.Entries.{typesIn};
 ghost use Rattle.lent_tests.specs.Given.{entriesIn};
 ghost use Rattle.promise.specs.Promise.{Promised, Tested, boolReply};
-ghost use Rattle.tested_unify.specs.Answers.{unifyReply};
+ghost use Rattle.call_unify.specs.Answers.{unifyReply};
 ghost use Rattle.c_words.specs.Numbers.{boolIn, unifyIn};
 ghost use Rattle.c_words.specs.Given.{setIn, implIn, besideIn, lentEnv};
 use types::Type;
@@ -32,7 +32,7 @@ pub extern "C" fn faroalder_tested_unify<'a>(
         (unifyReply (unifyIn r)) (now (h .entry)) (now (ws .entry)) (now (ks .entry)) (now (h .entry)) (now (ws .exit)) (now (ks .entry)) ⌝ }
 {
     let beside = c_words::beside_of(fn_trait, sigils);
-    c_words::unify_number(tested_unify::unify(
+    c_words::unify_number(call_unify::tested::unify(
         chart,
         beside,
         rule,
@@ -180,7 +180,7 @@ pub extern "C" fn faroalder_tested_unify_impl_type<'a>(
         (unifyReply (unifyIn r)) (now (h .entry)) (now (ws .entry)) (now (ks .entry)) (now (h .entry)) (now (ws .exit)) (now (ks .entry)) ⌝ }
 {
     let beside = c_words::beside_of(fn_trait, sigils);
-    c_words::unify_number(tested_impl::unify_impl_type(
+    c_words::unify_number(call_impl::tested::unify_impl_type(
         chart,
         beside,
         rule,
@@ -218,7 +218,7 @@ pub extern "C" fn faroalder_tested_approx_eq<'a>(
         (boolReply (boolIn r)) (now (h .entry)) (now (ws .entry)) (now (ks .entry)) (now (h .entry)) (now (ws .entry)) (now (ks .entry)) ⌝ }
 {
     let beside = c_words::beside_of(fn_trait, sigils);
-    c_words::bool_number(tested_impl::approx_eq(
+    c_words::bool_number(call_impl::tested::approx_eq(
         chart,
         beside,
         rule,

@@ -1,4 +1,5 @@
 // Calls that change no store.
+use call_read::FiguresAnswer;
 use chart::Beside;
 use promise::DoneAnswer;
 use run_text::numbers;
@@ -6,7 +7,6 @@ use run_text::numbers::after;
 use run_text::numbers::word;
 use run_text::writing;
 use scope::MAX_NODES;
-use tested_read::FiguresAnswer;
 use types::Type;
 
 pub(crate) const FIND: u32 = 30; // type, here and below

@@ -1,10 +1,10 @@
 // find_mut, unify and its family.
+use call_unify::UnifyAnswer;
 use chart::Beside;
 use run_text::numbers::after;
 use run_text::numbers::first;
 use run_text::numbers::word;
 use run_text::writing;
-use tested_unify::UnifyAnswer;
 use types::Impl;
 use types::Inverted;
 use types::Type;

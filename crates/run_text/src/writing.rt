@@ -1,6 +1,13 @@
 // What the public calls answer, as lines of text.
 use crate::numbers::first;
 use crate::numbers::word;
+use call_ask::ModAnswer;
+use call_force::ForcedAnswer;
+use call_read::ChildAnswer;
+use call_read::FiguresAnswer;
+use call_read::NameAnswer;
+use call_read::NodeAnswer;
+use call_unify::UnifyAnswer;
 use layout::Header;
 use layout::Kind;
 use layout::Remembered;
@@ -8,13 +15,6 @@ use names::Name;
 use promise::BoolAnswer;
 use promise::DoneAnswer;
 use promise::TypeAnswer;
-use tested_ask::ModAnswer;
-use tested_force::ForcedAnswer;
-use tested_read::ChildAnswer;
-use tested_read::FiguresAnswer;
-use tested_read::NameAnswer;
-use tested_read::NodeAnswer;
-use tested_unify::UnifyAnswer;
 use types::Inverted;
 use types::Type;
 use types::UnifyResult;

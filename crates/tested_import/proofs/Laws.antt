@@ -36,7 +36,7 @@ use Rattle.promise.specs.declared.DoneAnswer.the-variants.{Done, Refused}
 use Rattle.promise.proofs.Laws.{lent-clean-words, lent-store, lent-facts}
 use Rattle.promise.proofs.CallLaws.{call-back, call-done}
 use Rattle.copy.specs.Whole.{ImportReady, ImportedIs}
-use Rattle.tested_make.proofs.RoomLaws.{lent-ready}
+use Rattle.call_make.proofs.tested.RoomLaws.{lent-ready}
 use Rattle.tested_import.specs.Tests.{storesTests, listsTests, needsTests, importTests, StoresTested, ListsTested, NeedsTested, ImportTested}
 use Rattle.tested_import.proofs.TestLaws.{dest-passed, source-passed, listed-inside, entries-few}
 

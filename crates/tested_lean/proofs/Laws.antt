@@ -35,9 +35,9 @@ use Rattle.refusals.proofs.RoomLaws.{nodes-full, room-left}
 use Rattle.promise.specs.Promise.{value, refusal, Tested, TypesInside}
 use Rattle.promise.proofs.Laws.{tested-clean, inside-tested, one-outside, one-inside}
 use Rattle.promise.proofs.ReadLaws.{read-refused, read-linked, read-nodes}
-use Rattle.tested_make.specs.Room.{RoomTested}
-use Rattle.tested_make.proofs.MakerLaws.{for-room, maker-back, maker-ready, maker-done, error-tested, nil-tested}
-use Rattle.tested_find.proofs.Laws.{mut-refused, mut-answer}
+use Rattle.call_make.specs.Room.{RoomTested}
+use Rattle.call_make.proofs.tested.MakerLaws.{for-room, maker-back, maker-ready, maker-done, error-tested, nil-tested}
+use Rattle.call_find.proofs.tested.Laws.{mut-refused, mut-answer}
 use Rattle.tested_lean.specs.Each.{Passed, EachPromised, EachAnswered, Within}
 
 tested-within : {chart : List ℕ} {b : Beside} {rule text h ws ks : List ℕ} → Tested chart b rule text h ws ks → Within h

@@ -38,7 +38,7 @@ use Rattle.promise.specs.Promise.{Promised, Reply, value, refusal}
 use Rattle.refusals.proofs.Laws.{code-none, code-some, none-some, code-first, code-next, test-passed, tests-passed, judged-refused, judged-done}
 use Rattle.promise.proofs.Laws.{lent-passed, lent-next, lent-env, lent-store, lent-outside, promised-back, promised-done}
 use Rattle.refusals.proofs.RoomLaws.{ready-more}
-use Rattle.tested_make.proofs.MakerLaws.{made-done}
+use Rattle.call_make.proofs.tested.MakerLaws.{made-done}
 use Rattle.lent_kind.specs.declared.KindArgs.{KindArgs}
 use Rattle.lent_kind.specs.Lent.{withFlag, kindLent, tidy, given, listTests, kindTests}
 use Rattle.lent_kind.proofs.Laws.{wide-unmakeable, given-count, given-kind, untidy-test, flag-is}

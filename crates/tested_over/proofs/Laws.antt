@@ -37,7 +37,7 @@ use Rattle.refusals.specs.Codes.{codeOf}
 use Rattle.promise.specs.Promise.{Reply, value, refusal, Promised, Tested}
 use Rattle.lent_kind.specs.declared.KindArgs.{KindArgs}
 use Rattle.lent_kind.specs.Lent.{withFlag, given, plainArgs, kindTests, listTests}
-use Rattle.tested_make.proofs.RoomLaws.{lent-within}
+use Rattle.call_make.proofs.tested.RoomLaws.{lent-within}
 use Rattle.tested_new.specs.Inside.{insideCall}
 use Rattle.tested_new.proofs.Laws.{inside-refused, inside-full, inside-ready, inside-made, listed-narrow, new-listed, new-promised}
 use Rattle.sound.specs.Tests.{envIn}

@@ -30,7 +30,7 @@ use Rattle.store.specs.Entries.{entryNames, entryTypes}
 use Rattle.unify_lists.proofs.CallerLaws.{given-lists, given-objects, given-signatures}
 use Rattle.lent_tests.specs.Given.{listTests, sigTests, objectTests, entriesIn, FirstOf}
 use Rattle.lent_tests.proofs.Laws.{fine-names, fine-count}
-use Rattle.tested_unify.proofs.Laws.{second-passed, inside, Unifies, Passed}
+use Rattle.call_unify.proofs.tested.Laws.{second-passed, inside, Unifies, Passed}
 
 -- what each core asks, of arguments that no test turned back
 

@@ -10,7 +10,7 @@ use Rattle.scope.specs.States.{openNamesCall}
 use Rattle.book.specs.Words.{bookWords}
 use Rattle.promise.specs.Promise.{doneReply}
 use Rattle.promise.specs.declared.DoneAnswer.{DoneAnswer}
-use Rattle.tested_states.specs.Promise.{NamesOpened}
+use Rattle.call_states.specs.Promise.{NamesOpened}
 use Rattle.theorem.specs.Memory.{memoryOf, roomy, Did}
 use Rattle.theorem.specs.Steps as ran
 use Rattle.theorem.specs.DeskSteps as desk

@@ -28,7 +28,7 @@ use Rattle.sound.specs.Tests.{envIn}
 use Rattle.promise.specs.Promise.{value}
 use Rattle.promise.specs.declared.TypeAnswer.the-variants as type
 use Rattle.promise.proofs.Laws.{promised-done}
-use Rattle.tested_unify.specs.declared.UnifyAnswer.the-variants as unified
+use Rattle.call_unify.specs.declared.UnifyAnswer.the-variants as unified
 use Rattle.theorem.specs.Memory.{Memory, memoryOf, Fixed, env, lent, held, roomy, Did, Opened}
 use Rattle.theorem.specs.Steps as ran
 use Rattle.theorem.specs.Runs.{Runs, stop, _then_}

@@ -30,7 +30,7 @@ use Rattle.promise.specs.Promise.{value}
 use Rattle.promise.specs.declared.DoneAnswer.the-variants as end
 use Rattle.promise.specs.declared.TypeAnswer.the-variants as type
 use Rattle.promise.proofs.Laws.{promised-done}
-use Rattle.tested_states.specs.Promise.{NamesOpened}
+use Rattle.call_states.specs.Promise.{NamesOpened}
 use Rattle.theorem.specs.Memory.{Memory, memoryOf, Fixed, env, lent, held, roomy, Did}
 use Rattle.theorem.specs.Steps as ran
 use Rattle.theorem.specs.DeskSteps.{DeskMemory, deskOf, DidNames, OpenedNames, OpenedDesk, stood, name-state, return-to}

@@ -17,10 +17,10 @@ use Rattle.promise.specs.Lists.{listReply}
 use Rattle.promise.specs.Exports.{exportReply}
 use Rattle.promise.specs.Prints.{countReply}
 use Rattle.lent_kind.specs.Lent.{given}
-use Rattle.tested_read.specs.Replies.{nodeReply, childReply, nameReply, figuresReply}
-use Rattle.tested_ask.specs.Replies.{modReply, marksReply}
-use Rattle.tested_force.specs.Replies.{forcedReply}
-use Rattle.tested_unify.specs.Answers.{unifyReply}
+use Rattle.call_read.specs.Replies.{nodeReply, childReply, nameReply, figuresReply}
+use Rattle.call_ask.specs.Replies.{modReply, marksReply}
+use Rattle.call_force.specs.Replies.{forcedReply}
+use Rattle.call_unify.specs.Answers.{unifyReply}
 use Rattle.theorem.specs.Memory.{Memory, Fixed, env, lent, held, roomy}
 use Rattle.copy_parts.specs.Places.{listOf}
 use Rattle.theorem.specs.Steps.{Ran}

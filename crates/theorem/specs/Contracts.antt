@@ -32,13 +32,13 @@ use Rattle.call_new.proofs as call_new
 use Rattle.lent_kind.specs.Lent.{given}
 use Rattle.call_find.proofs as call_find
 use Rattle.call_read.proofs as call_read
-use Rattle.tested_read.specs.Replies.{nodeReply, childReply, nameReply, figuresReply}
+use Rattle.call_read.specs.Replies.{nodeReply, childReply, nameReply, figuresReply}
 use Rattle.call_ask.proofs as call_ask
-use Rattle.tested_ask.specs.Replies.{modReply, marksReply}
+use Rattle.call_ask.specs.Replies.{modReply, marksReply}
 use Rattle.call_force.proofs as call_force
-use Rattle.tested_force.specs.Replies.{forcedReply}
+use Rattle.call_force.specs.Replies.{forcedReply}
 use Rattle.call_unify.proofs as call_unify
-use Rattle.tested_unify.specs.Answers.{unifyReply}
+use Rattle.call_unify.specs.Answers.{unifyReply}
 use Rattle.call_unify_lists.proofs as call_unify_lists
 use Rattle.call_impl.proofs as call_impl
 use Rattle.call_copy.proofs as call_copy

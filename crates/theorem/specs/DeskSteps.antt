@@ -18,7 +18,7 @@ use Rattle.promise.specs.Promise as promise
 use Rattle.promise.specs.declared.DoneAnswer.{DoneAnswer}
 use Rattle.promise.specs.declared.DoneAnswer.the-variants as end
 use Rattle.book.specs.Words.{bookWords, bookIn, bookClean, lentBookOf}
-use Rattle.tested_states.specs.Promise.{NamesPromised, NamesOpened, TestedNames}
+use Rattle.call_states.specs.Promise.{NamesPromised, NamesOpened, TestedNames}
 use Rattle.theorem.specs.Memory.{Memory, Fixed, env, lent, held, Opened}
 use Rattle.theorem.specs.Steps.{replied, Ran}
 

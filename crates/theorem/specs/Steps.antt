@@ -30,17 +30,17 @@ use Rattle.promise.specs.declared.DoneAnswer.{DoneAnswer}
 use Rattle.promise.specs.declared.CountAnswer.{CountAnswer}
 use Rattle.lent_kind.specs.Lent.{given}
 use Rattle.lent_kind.specs.declared.KindArgs.{KindArgs}
-use Rattle.tested_read.specs.Replies.{nodeReply, childReply, nameReply, figuresReply, NodePromised}
-use Rattle.tested_read.specs.declared.NodeAnswer.{NodeAnswer}
-use Rattle.tested_read.specs.declared.ChildAnswer.{ChildAnswer}
-use Rattle.tested_read.specs.declared.NameAnswer.{NameAnswer}
-use Rattle.tested_read.specs.declared.FiguresAnswer.{FiguresAnswer}
-use Rattle.tested_ask.specs.Replies.{modReply, marksReply, MarksPromised}
-use Rattle.tested_ask.specs.declared.ModAnswer.{ModAnswer}
-use Rattle.tested_force.specs.Replies.{forcedReply, ForcePromised}
-use Rattle.tested_force.specs.declared.ForcedAnswer.{ForcedAnswer}
-use Rattle.tested_unify.specs.Answers.{unifyReply}
-use Rattle.tested_unify.specs.declared.UnifyAnswer.{UnifyAnswer}
+use Rattle.call_read.specs.Replies.{nodeReply, childReply, nameReply, figuresReply, NodePromised}
+use Rattle.call_read.specs.declared.NodeAnswer.{NodeAnswer}
+use Rattle.call_read.specs.declared.ChildAnswer.{ChildAnswer}
+use Rattle.call_read.specs.declared.NameAnswer.{NameAnswer}
+use Rattle.call_read.specs.declared.FiguresAnswer.{FiguresAnswer}
+use Rattle.call_ask.specs.Replies.{modReply, marksReply, MarksPromised}
+use Rattle.call_ask.specs.declared.ModAnswer.{ModAnswer}
+use Rattle.call_force.specs.Replies.{forcedReply, ForcePromised}
+use Rattle.call_force.specs.declared.ForcedAnswer.{ForcedAnswer}
+use Rattle.call_unify.specs.Answers.{unifyReply}
+use Rattle.call_unify.specs.declared.UnifyAnswer.{UnifyAnswer}
 use Rattle.copy_parts.specs.Places.{listOf}
 use Rattle.theorem.specs.Memory.{Memory, nodesNow, headNow, Fixed, env, lent, held, roomy, Did, DidList, Told}
 

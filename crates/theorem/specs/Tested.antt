@@ -17,28 +17,28 @@ use Rattle.promise.specs.declared.DoneAnswer.the-variants.{Done}
 use Rattle.call_new.proofs as call_new
 use Rattle.tested_new.proofs as tested_new
 use Rattle.call_make.proofs as call_make
-use Rattle.tested_make.proofs as tested_make
+use Rattle.call_make.proofs.tested as tested_make
 use Rattle.call_force.proofs as call_force
-use Rattle.tested_force.proofs as tested_force
+use Rattle.call_force.proofs.tested as tested_force
 use Rattle.call_find.proofs as call_find
-use Rattle.tested_find.proofs as tested_find
+use Rattle.call_find.proofs.tested as tested_find
 use Rattle.call_read.proofs as call_read
-use Rattle.tested_read.proofs as tested_read
+use Rattle.call_read.proofs.tested as tested_read
 use Rattle.call_copy.proofs as call_copy
 use Rattle.tested_export.proofs as tested_export
 use Rattle.call_ask.proofs as call_ask
-use Rattle.tested_ask.proofs as tested_ask
+use Rattle.call_ask.proofs.tested as tested_ask
 use Rattle.call_show.proofs as call_show
-use Rattle.tested_show.proofs as tested_show
+use Rattle.call_show.proofs.tested as tested_show
 use Rattle.call_unify.proofs as call_unify
-use Rattle.tested_unify.proofs as tested_unify
+use Rattle.call_unify.proofs.tested as tested_unify
 use Rattle.call_unify_lists.proofs as call_unify_lists
 use Rattle.tested_unify_lists.proofs as tested_unify_lists
 use Rattle.call_impl.proofs as call_impl
-use Rattle.tested_impl.proofs as tested_impl
+use Rattle.call_impl.proofs.tested as tested_impl
 use Rattle.tested_import.proofs as tested_import
 use Rattle.call_states.proofs as call_states
-use Rattle.tested_states.proofs as tested_states
+use Rattle.call_states.proofs.tested as tested_states
 use Rattle.theorem.specs.Memory.{Memory, Fixed, env, lent, held, roomy, Opened, TestedWords}
 use Rattle.theorem.specs.Runs.{Runs}
 use Rattle.theorem.specs.DeskSteps.{DeskMemory, TestedDesk, OpenedNames}

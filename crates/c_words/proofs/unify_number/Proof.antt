@@ -3,7 +3,7 @@
 use mathlib.Core.Path.{ap, _∙_}
 use native.Mathlib.Omega.{arith}
 use borrow.Author.Needs.{needs}
-use Rattle.tested_unify.specs.declared.UnifyAnswer.the-variants.{Is, Refused}
+use Rattle.call_unify.specs.declared.UnifyAnswer.the-variants.{Is, Refused}
 use Rattle.c_words.specs.Numbers.{RESULTS, resultIn}
 use Rattle.c_words.proofs.Laws.{number-value, number-refused, number-result}
 use Rattle.c_words.proofs.unify_number.Statement.{statement}

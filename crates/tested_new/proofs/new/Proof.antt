@@ -7,7 +7,7 @@ use Rattle.sound.specs.Tests.{envIn}
 use Rattle.store.specs.Entries.{entryCount, entryTypes}
 use Rattle.lent_kind.specs.Lent.{given}
 use Rattle.store.proofs.EntryLaws.{entries-long}
-use Rattle.tested_make.proofs.RoomLaws.{lent-within}
+use Rattle.call_make.proofs.tested.RoomLaws.{lent-within}
 use Rattle.lent_kind.proofs.Laws.{given-kids}
 use Rattle.tested_new.proofs.Laws.{listed-narrow, new-listed, new-promised}
 use Rattle.tested_new.proofs.new.Statement.{statement}

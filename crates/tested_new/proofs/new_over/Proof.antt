@@ -9,7 +9,7 @@ use Rattle.scope.specs.Types.{tyOf}
 use Rattle.scope.specs.Calls.{over}
 use Rattle.sound.specs.Tests.{envIn}
 use Rattle.store.specs.Entries.{typesIn}
-use Rattle.tested_make.proofs.RoomLaws.{lent-within}
+use Rattle.call_make.proofs.tested.RoomLaws.{lent-within}
 use Rattle.tested_new.proofs.Laws.{listed-narrow, new-listed, new-promised}
 use Rattle.lent_kind.proofs.ListLaws.{part-long, part-narrow, part-given}
 use Rattle.tested_new.proofs.new_over.Statement.{statement}

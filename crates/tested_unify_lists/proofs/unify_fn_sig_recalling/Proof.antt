@@ -1,6 +1,6 @@
 -- `tested_unify_lists::unify_fn_sig_recalling` meets its contract: as `unify`, over two lists and two types.
 -- Assumes nothing.
-use Rattle.tested_unify.proofs.Laws.{passed, lent-words, back-own, unify-done}
+use Rattle.call_unify.proofs.tested.Laws.{passed, lent-words, back-own, unify-done}
 use Rattle.tested_unify_lists.proofs.Laws.{signatures-ask, signatures-form}
 use borrow.Author.Needs.{needs}
 use Rattle.tested_unify_lists.proofs.unify_fn_sig_recalling.Statement.{statement}

@@ -2,7 +2,7 @@
 -- Assumes nothing.
 use mathlib.Core.List.{[]}
 use Rattle.chart.specs.Env.{chartIn}
-use Rattle.tested_unify.proofs.Laws.{passed, lent-words, back-own, unify-done}
+use Rattle.call_unify.proofs.tested.Laws.{passed, lent-words, back-own, unify-done}
 use Rattle.tested_unify_lists.proofs.Laws.{objects-ask, objects-leave, objects-beside, objects-form}
 use borrow.Author.Needs.{needs}
 use Rattle.tested_unify_lists.proofs.unify_objects_recalling.Statement.{statement}

@@ -1,6 +1,6 @@
 -- `tested_unify_lists::unify_types_recalling` meets its contract: as `unify`, over the types of two lists.
 -- Assumes nothing.
-use Rattle.tested_unify.proofs.Laws.{passed, lent-words, back-own, unify-done}
+use Rattle.call_unify.proofs.tested.Laws.{passed, lent-words, back-own, unify-done}
 use Rattle.tested_unify_lists.proofs.Laws.{lists-ask, types-form}
 use borrow.Author.Needs.{needs}
 use Rattle.tested_unify_lists.proofs.unify_types_recalling.Statement.{statement}

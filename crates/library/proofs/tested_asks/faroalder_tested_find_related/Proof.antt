@@ -1,4 +1,4 @@
--- `library::tested_asks::faroalder_tested_find_related` meets its contract: it is `tested_ask::find_related`, its number gives its answer back, and what it asks for is asked here.
+-- `library::tested_asks::faroalder_tested_find_related` meets its contract: it is `call_ask::tested::find_related`, its number gives its answer back, and what it asks for is asked here.
 -- Assumes nothing.
 use borrow.Author.Needs.{needs}
 use Rattle.library.proofs.tested_asks.faroalder_tested_find_related.Statement.{statement}

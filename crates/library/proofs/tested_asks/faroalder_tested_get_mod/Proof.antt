@@ -1,4 +1,4 @@
--- `library::tested_asks::faroalder_tested_get_mod` meets its contract: it is `tested_ask::get_mod`, its number and words give its answer back, and what it asks for is asked here.
+-- `library::tested_asks::faroalder_tested_get_mod` meets its contract: it is `call_ask::tested::get_mod`, its number and words give its answer back, and what it asks for is asked here.
 -- Assumes nothing.
 use borrow.Author.Needs.{needs}
 use Rattle.library.proofs.tested_asks.faroalder_tested_get_mod.Statement.{statement}

@@ -1,4 +1,4 @@
--- `library::tested_asks::faroalder_tested_is_nil` meets its contract: it is `tested_ask::is_nil`, its number gives its answer back, and what it asks for is asked here. Assumes nothing.
+-- `library::tested_asks::faroalder_tested_is_nil` meets its contract: it is `call_ask::tested::is_nil`, its number gives its answer back, and what it asks for is asked here. Assumes nothing.
 use borrow.Author.Needs.{needs}
 use Rattle.library.proofs.tested_asks.faroalder_tested_is_nil.Statement.{statement}
 use Rattle.library.proofs.tested_asks.faroalder_tested_is_nil.Tie as tie

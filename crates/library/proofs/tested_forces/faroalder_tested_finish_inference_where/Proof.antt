@@ -1,4 +1,4 @@
--- `library::tested_forces::faroalder_tested_finish_inference_where` meets its contract: it is `tested_force::finish_inference_where`, its number gives its answer back, and what it asks
+-- `library::tested_forces::faroalder_tested_finish_inference_where` meets its contract: it is `call_force::tested::finish_inference_where`, its number gives its answer back, and what it asks
 -- for is asked here. Assumes nothing.
 use borrow.Author.Needs.{needs}
 use Rattle.library.proofs.tested_forces.faroalder_tested_finish_inference_where.Statement.{statement}

@@ -1,4 +1,4 @@
--- `library::tested_forces::faroalder_tested_force_kind` meets its contract: it is `tested_force::force_kind`, its number and words give its answer back, and what it asks for is asked here.
+-- `library::tested_forces::faroalder_tested_force_kind` meets its contract: it is `call_force::tested::force_kind`, its number and words give its answer back, and what it asks for is asked here.
 -- Assumes nothing.
 use borrow.Author.Needs.{needs}
 use Rattle.library.proofs.tested_forces.faroalder_tested_force_kind.Statement.{statement}

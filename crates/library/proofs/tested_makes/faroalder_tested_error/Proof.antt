@@ -1,4 +1,4 @@
--- `library::tested_makes::faroalder_tested_error` meets its contract: it is `tested_make::error`, its number gives its answer back, and what it asks for is asked here. Assumes nothing.
+-- `library::tested_makes::faroalder_tested_error` meets its contract: it is `call_make::tested::error`, its number gives its answer back, and what it asks for is asked here. Assumes nothing.
 use borrow.Author.Needs.{needs}
 use Rattle.library.proofs.tested_makes.faroalder_tested_error.Statement.{statement}
 use Rattle.library.proofs.tested_makes.faroalder_tested_error.Tie as tie

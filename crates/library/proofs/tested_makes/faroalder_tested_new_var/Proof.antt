@@ -1,4 +1,4 @@
--- `library::tested_makes::faroalder_tested_new_var` meets its contract: it is `tested_make::new_var`, its number gives its answer back, and what it asks for is asked here. Assumes nothing.
+-- `library::tested_makes::faroalder_tested_new_var` meets its contract: it is `call_make::tested::new_var`, its number gives its answer back, and what it asks for is asked here. Assumes nothing.
 use borrow.Author.Needs.{needs}
 use Rattle.library.proofs.tested_makes.faroalder_tested_new_var.Statement.{statement}
 use Rattle.library.proofs.tested_makes.faroalder_tested_new_var.Tie as tie

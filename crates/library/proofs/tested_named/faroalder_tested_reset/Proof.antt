@@ -1,4 +1,4 @@
--- `library::tested_named::faroalder_tested_reset` meets its contract: it is `tested_states::reset`, its number gives its answer back, and what it asks for is asked here. Assumes nothing.
+-- `library::tested_named::faroalder_tested_reset` meets its contract: it is `call_states::tested::reset`, its number gives its answer back, and what it asks for is asked here. Assumes nothing.
 use borrow.Author.Needs.{needs}
 use Rattle.library.proofs.tested_named.faroalder_tested_reset.Statement.{statement}
 use Rattle.library.proofs.tested_named.faroalder_tested_reset.Tie as tie

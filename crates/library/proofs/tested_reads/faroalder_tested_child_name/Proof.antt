@@ -1,4 +1,4 @@
--- `library::tested_reads::faroalder_tested_child_name` meets its contract: it is `tested_read::child_name`, its number and words give its answer back, and what it asks for is asked here.
+-- `library::tested_reads::faroalder_tested_child_name` meets its contract: it is `call_read::tested::child_name`, its number and words give its answer back, and what it asks for is asked here.
 -- Assumes nothing.
 use borrow.Author.Needs.{needs}
 use Rattle.library.proofs.tested_reads.faroalder_tested_child_name.Statement.{statement}

@@ -1,4 +1,4 @@
--- `library::tested_reads::faroalder_tested_find` meets its contract: it is `tested_find::find`, its number gives its answer back, and what it asks for is asked here. Assumes nothing.
+-- `library::tested_reads::faroalder_tested_find` meets its contract: it is `call_find::tested::find`, its number gives its answer back, and what it asks for is asked here. Assumes nothing.
 use borrow.Author.Needs.{needs}
 use Rattle.library.proofs.tested_reads.faroalder_tested_find.Statement.{statement}
 use Rattle.library.proofs.tested_reads.faroalder_tested_find.Tie as tie

@@ -1,4 +1,4 @@
--- `library::tested_recalls::faroalder_tested_unify_recalling` meets its contract: it is `tested_unify::unify_recalling`, its number gives its answer back, and
+-- `library::tested_recalls::faroalder_tested_unify_recalling` meets its contract: it is `call_unify::tested::unify_recalling`, its number gives its answer back, and
 -- what it asks for is asked here. Assumes nothing.
 use borrow.Author.Needs.{needs}
 use Rattle.library.proofs.tested_recalls.faroalder_tested_unify_recalling.Statement.{statement}

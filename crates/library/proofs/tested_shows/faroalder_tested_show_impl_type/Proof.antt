@@ -1,4 +1,4 @@
--- `library::tested_shows::faroalder_tested_show_impl_type` meets its contract: it is `tested_show::show_impl_type` on as much of the buffer as a length can
+-- `library::tested_shows::faroalder_tested_show_impl_type` meets its contract: it is `call_show::tested::show_impl_type` on as much of the buffer as a length can
 -- tell, its number gives its answer back, and what it asks for is asked here. Assumes nothing.
 use mathlib.Core.Path.{sym}
 use lib.ListN.{length}

@@ -1,4 +1,4 @@
--- `library::tested_unifies::faroalder_tested_unify` meets its contract: it is `tested_unify::unify`, its number gives its answer back, and what it asks for is asked here. Assumes nothing.
+-- `library::tested_unifies::faroalder_tested_unify` meets its contract: it is `call_unify::tested::unify`, its number gives its answer back, and what it asks for is asked here. Assumes nothing.
 use borrow.Author.Needs.{needs}
 use Rattle.library.proofs.tested_unifies.faroalder_tested_unify.Statement.{statement}
 use Rattle.library.proofs.tested_unifies.faroalder_tested_unify.Tie as tie

@@ -1,4 +1,4 @@
--- `library::tested_unifies::faroalder_tested_unify_impl_type` meets its contract: it is `tested_impl::unify_impl_type`, its number gives its answer back, and
+-- `library::tested_unifies::faroalder_tested_unify_impl_type` meets its contract: it is `call_impl::tested::unify_impl_type`, its number gives its answer back, and
 -- what it asks for is asked here. Assumes nothing.
 use borrow.Author.Needs.{needs}
 use Rattle.library.proofs.tested_unifies.faroalder_tested_unify_impl_type.Statement.{statement}
