@@ -183,12 +183,10 @@ fn main() {
     return asks::report();
   }
   if words.get(1).is_some_and(|word| word == "stack") {
-    stack::report();
-    return stack::import();
+    return stack::report();
   }
   if words.get(1).is_some_and(|word| word == "import") {
-    imports::report();
-    return stack::import();
+    return imports::report();
   }
   println!("what, nodes of store, nanoseconds a call (unify: a pair), ratio to the Rust");
   sound::report();
@@ -200,5 +198,4 @@ fn main() {
   texts::report();
   shared::report();
   stack::report();
-  stack::import();
 }

@@ -45,7 +45,7 @@ doneIn r = answerIn 1 (λ w. end.Done) end.Refused r
 abbrev pub boolIn : ℕ → BoolAnswer
 boolIn r = answerIn 2 (λ w. bool.Is (eqb w 1)) bool.Refused r
 
--- "0 Success, 1 Failure, 2 Indeterminate"
+-- 0 Success, 1 Failure, 2 Indeterminate
 abbrev pub RESULTS : ℕ
 RESULTS = 3
 

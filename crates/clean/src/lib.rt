@@ -1,5 +1,5 @@
-// The words' part of refusal 8: whether three slices, of any lengths, hold a store at all. "A field outside its values" and "unused numbers not zero"
-// are found here, and slices that are too short; whether the store is sound is not asked.
+// The words' part of refusal 8: whether three slices, of any lengths, hold a store at all. Here "a field outside its values" and "unused numbers not zero"
+// are found, and slices that are too short; whether the store is sound is not asked.
 //
 // The slices are tested at once, their nodes one by one. A node's run of children is read whole: at most the children made, 16,384 where the capacities
 // are within their limits. Soundness allows a kind 255 children, but nothing here says so: who tests many nodes tests widths first.

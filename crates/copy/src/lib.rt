@@ -45,7 +45,7 @@ pub fn import(
     );
 }
 
-// "`export` is the same into a fresh store, .. error type first, nil next; it has no parameter list."
+// "`export` is the same into a fresh store", "error type first, nil next; it has no parameter list."
 pub fn export(
     sh: &[u32],
     sw: &[u32],

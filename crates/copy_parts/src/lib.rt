@@ -127,7 +127,7 @@ pub fn move_child(sk: &[u32], from: u32, ks: &mut [u32], first: u32, j: u32, t: 
     layout::put_child(ks, first as usize + j as usize, Slot { ty: t, name });
 }
 
-// "Then takes its kind": the copy of the source root i, with its children from `first` on. What has no kind stays an Unknown.
+// It "then takes its kind": the copy of the source root i, with its children from `first` on. What has no kind stays an Unknown.
 pub fn end(sw: &[u32], n: u32, i: TypeIdx, h: &[u32], ws: &mut [u32], new: TypeIdx, first: u32)
     requires { ⌜ (nodeWords n ≤ length (now sw)) × (nodeWords (nodesMade (now h)) ≤ length (now ws)) ⌝ }
     ensures { λ _. ⌜ now (ws .exit) ≡ ended (now (ws .entry)) (nodesMade (now (h .entry))) (new .0) first (heldIn (readAt (now (sw .entry)) n (i .0))) ⌝ }

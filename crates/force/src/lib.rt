@@ -1,4 +1,4 @@
-// "An Unknown becomes InferenceFailed, its span is in the answer and one report count rises." And what gives every root a kind at the end.
+// "An Unknown becomes InferenceFailed, its span is in the answer"; the report count rises. And what gives every root a kind at the end.
 // Each does what scope's definition says of the store that three lent slices hold.
 ghost use mathlib.Core.Path.{_≡_};
 ghost use mathlib.Core.Bool.{true};
@@ -74,7 +74,7 @@ pub fn finish_inference(h: &[u32], ws: &mut [u32], ks: &[u32])
     }
 }
 
-// "A lent byte for each node, nonzero chooses, absent means no."
+// There is "a lent byte for each node, nonzero chooses, absent means no".
 fn is_chosen(bytes: &[u8], i: TypeIdx) -> bool
     ensures { λ r. ⌜ r ≡ chosen (now (bytes .entry)) (i .0) ⌝ }
 {

@@ -1,4 +1,4 @@
--- What a memory beside nodes holds: each pair that is believed meets with the answer that is believed and changes nothing. "It counts only until one changes": where
+-- What a memory beside nodes holds: each pair that is believed meets with the answer that is believed and changes nothing. It counts only until a node changes: where
 -- the clock is as it was and runs, so are the nodes. A marked node's root is its own inverse, and stays so whatever changes.
 use mathlib.Core.Path.{_≡_}
 use mathlib.Core.List.{List}

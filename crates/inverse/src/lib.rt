@@ -41,7 +41,7 @@ pub fn good_kind(kind: Kind, param: bool) -> bool
     kinds::self_dual(kind.code, kind.dual)
 }
 
-// "Holds where the root has a self-dual kind and it holds of every child"; a Param has none.
+// It "holds where the root has a self-dual kind and it holds of every child"; a Param has none.
 fn judge(ws: &[u32], n: u32, i: TypeIdx, param: bool) -> Judgement
     requires { ⌜ nodeWords n ≤ length (now ws) ⌝ }
     ensures { λ r. ⌜ Judges (now (ws .entry)) n param (i .0) r ⌝ }

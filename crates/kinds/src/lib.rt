@@ -44,7 +44,7 @@ pub const TWO: u8 = 2;
 
 pub const RUN: u8 = 3;
 
-// "Its parameters, then its return."
+// Of a Closure "its parameters, then its return".
 pub const SIGNATURE: u8 = 4;
 
 // A row's self-duality: no, yes, "as the chart's flag says".

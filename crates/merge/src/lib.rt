@@ -83,7 +83,7 @@ fn take(ws: &mut [u32], n: u32, w: Type, l: Type, size: u32)
     }
 }
 
-// "They merge and keep the kind"; "The staying root keeps its own span or failed mark." Where the other has no kind it keeps all its words but its size's.
+// Here "they merge and keep the kind". "The staying root keeps its own span or failed mark." Where the other has no kind it keeps all its words but its size's.
 pub fn bind(ws: &mut [u32], n: u32, a: Type, b: Type)
     requires { ⌜ Adds (now ws) n (tyOf (a .0)) (tyOf (b .0)) ⌝ }
     ensures { λ _. ⌜ Bound (now (ws .entry)) (now (ws .exit)) n (tyOf (a .0)) (tyOf (b .0)) ⌝ }

@@ -76,7 +76,7 @@ module _ (e : Env) (h ws ks : List ℕ) where
 
   -- a code of 2 and 8, and then the test of listed types
 
-  -- "Tested in the order 1, 2, 8 .."
+  -- "Tested in the order 1, 2, 8"
   pub lent-refused : (us : List (Bool × ℕ)) (n : ℕ) → firstBroken (lentTests e lent) ≡ codeOf n → (n ≡ 0 → ⊥)
       → firstBroken (lentTests e lent ++ us) ≡ codeOf n
   lent-refused us n q z = code-first (lentTests e lent) us n q z

@@ -1,4 +1,4 @@
--- What a call promises that answers types, written at the front of a lent list of numbers. "The answer's buffer" keeps what stands past them, and a
+-- What a call promises that answers types, written at the front of a lent list of numbers: "the answer's buffer" keeps what stands past them, and a
 -- refusal "leaves all memory as found".
 use mathlib.Core.Path.{_≡_}
 use mathlib.Core.Bool.{false}

@@ -136,7 +136,7 @@ fn mark_many(ws: &[u32], ks: &[u32], n: u32, marks: &mut [u8], root: TypeIdx, de
     );
 }
 
-// "`find_related`: nonzero means already in the set, and 1 is written for each root added."
+// `find_related`: "nonzero means already in the set, and 1 is written for each root added".
 pub fn find_related(ws: &[u32], ks: &[u32], n: u32, marks: &mut [u8], t: Type)
     requires { ⌜ Stands (now ws) (now ks) n ⌝ }
     ensures { λ _. ⌜ now (marks .exit) ≡ findRelated (decode (now (ws .entry)) (now (ks .entry)) n) (tyOf (t .0)) (now (marks .entry)) ⌝ }

@@ -37,7 +37,7 @@ TRAIT-FN-SORT = 7
 abbrev pub NO-SORT : ℕ
 NO-SORT = 8
 
--- "one for each definition: sort .., name, path, def number, self-dual flag 0 or 1, and for a trait fn its trait"
+-- "one for each definition: sort", "name, path, def number, self-dual flag 0 or 1, and for a trait fn its trait"
 pub record Record : Type 0 where
   pub sort : ℕ
   pub name : Name

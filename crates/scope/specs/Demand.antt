@@ -261,7 +261,7 @@ pub record Holds (ns : List Node) (a x : ℕ) : Type 0 where
   pub mem : List·Memᴰ kid (kidsOf (stateOf (at ns a)))
   pub to : Nodes.find ns kid .idx ≡ x
 
--- "steps .., at least one"
+-- "steps", "at least one"
 pub data Contains (ns : List Node) : ℕ → ℕ → Type 0 where
   one : {a x : ℕ} → Holds ns a x → Contains ns a x
   more : {a y x : ℕ} → Holds ns a y → Contains ns y x → Contains ns a x

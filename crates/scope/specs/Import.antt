@@ -130,7 +130,7 @@ abbrev pub firstOf : List Ty → Option Ty
 firstOf [] = none
 firstOf (t ∷ ts) = some t
 
--- "`export` is the same into a fresh store, .. error type first, nil next; it has no parameter list"
+-- "`export` is the same into a fresh store", "error type first, nil next; it has no parameter list"
 unfoldable pub export : Store → Store → List Ty → MovedAll
 export s d ts =
     let g : Work → Ty → Moved = transfer (length (s .nodes)) (s .nodes) none in

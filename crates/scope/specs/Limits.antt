@@ -65,7 +65,7 @@ MAX-LINE = 255
 abbrev pub MAX-DIGITS : ℕ
 MAX-DIGITS = 4
 
--- "`sheet` opens 256 nodes and 1,024 children .., and its text buffer is 4,096 bytes"
+-- "`sheet` opens 256 nodes and 1,024 children", "and its text buffer is 4,096 bytes"
 abbrev pub SHEET-NODES : ℕ
 SHEET-NODES = 256
 

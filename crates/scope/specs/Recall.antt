@@ -1,5 +1,5 @@
--- A unify that remembers: "a pair that did not succeed is remembered with its answer, if no word of a node changed from the beginning of its visit on, and it counts
--- only until one changes". Beside the nodes goes a memory, whose clock moves where a node changes: at a merge, and where `find_mut` shortens a path. No note is ever
+-- A unify that remembers: a pair that did not succeed is remembered with its answer, if no word of a node changed from the beginning of its visit on, and it counts
+-- only until one changes. Beside the nodes goes a memory, whose clock moves where a node changes: at a merge, and where `find_mut` shortens a path. No note is ever
 -- lost, as in a lent memory where each pair of types has its own place (crate recall); what crates recall, heed and unify do to words is done here to notes. The rest
 -- is `Unify`'s, in its order.
 use mathlib.Core.List.{List, [], _∷_}

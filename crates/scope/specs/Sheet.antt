@@ -112,7 +112,7 @@ sheetEnv = record {
   texts = record { rule = []; chart = [] };
 }
 
--- "`sheet` opens 256 nodes and 1,024 children .., and its text buffer is 4,096 bytes"
+-- "`sheet` opens 256 nodes and 1,024 children", "and its text buffer is 4,096 bytes"
 abbrev pub sheetStore : Store
 sheetStore = opened SHEET-NODES SHEET-CHILDREN
 

@@ -90,7 +90,7 @@ nameLength n = leb 1 (length n) && leb (length n) MAX-STATE-NAME
 abbrev pub sameRoom : Store → Book → Bool
 sameRoom s b = eqb (s .nodeRoom) (b .nodeRoom) && eqb (s .childRoom) (b .childRoom)
 
--- a held place: a name of its length, and a store that is sound "under the present chart" and has the book's capacities
+-- a held place: a name of its length, and a store that is sound under the present chart and has the book's capacities
 abbrev pub placeSound : Env → Book → Place → Bool
 placeSound e b none = true
 placeSound e b (some h) = nameLength (h .name) && (sameRoom (h .store) b && soundStore e (h .store))

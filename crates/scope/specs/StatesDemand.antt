@@ -125,7 +125,7 @@ turned g (returnTo n) = record { present = orElse (savedUnder n (g .saved)) (g .
 turned g (drop n) = record { present = g .present; saved = forgotten n (g .saved) }
 turned g reset = noLedger
 
--- "refused calls leave it"
+-- refused calls leave it
 abbrev pub turnedBy : Ledgers → Naming → Outcome Book → Ledgers
 turnedBy g x (refused n) = g
 turnedBy g x (done b s) = turned g x

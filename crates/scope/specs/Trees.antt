@@ -13,7 +13,7 @@ use Rattle.scope.specs.Types.{Ty}
 use Rattle.scope.specs.Kinds.{Head, Row, rowOf, dualBy, flagOf, shapeFits, numberOk, OBJECT, KEY, DEFINITION}
 use Rattle.scope.specs.Nodes.{Kind, State, Known, Unknown, InferenceFailed, Node, Root, Child, at}
 
--- "a kind with its numbers .. and names": what of a kind a tree has. "A Param's name and a Closure's names and `Flex` are no part of a tree"
+-- "a kind with its numbers" "and names": what of a kind a tree has. "A Param's name and a Closure's names and `Flex` are no part of a tree"
 pub record TreeHead : Type 0 where
   pub code : ℕ
   pub number : ℕ
@@ -107,7 +107,7 @@ StateFits e v (Known i k) t = t ≡ invertIf e i (build e v k)
 StateFits e v (Unknown p) t = Unit {0}
 StateFits e v InferenceFailed t = Unit {0}
 
--- "each Known root's tree is its kind over its children's trees .. and each child's tree is its parent type's"
+-- "each Known root's tree is its kind over its children's trees", "and each child's tree is its parent type's"
 abbrev pub NodeFits : Env → Val → ℕ → Node → Type 0
 NodeFits e v n (Root st z) = StateFits e v st (v n)
 NodeFits e v n (Child t) = v n ≡ val e v t

@@ -70,7 +70,7 @@ pairsOf (later q) r = []
 abbrev pub enters : Env → Memory → Ledger → Call → Reply → Ledger
 enters e m l c r = record { pairs = l .pairs ++ pairsOf c r; made = l .made + nodesBy e m c r }
 
--- "refused calls leave it"; naming saves it, returning restores it, dropping forgets it (StatesDemand)
+-- refused calls leave it; naming saves it, returning restores it, dropping forgets it (StatesDemand)
 abbrev pub turns : Bool → Ledgers → Naming → Ledgers
 turns false g x = g
 turns true g x = turned g x

@@ -1,4 +1,4 @@
--- The forms of the calls for a tested store: "a store that only the library's calls have written since it was opened or tested". Such a form asks that chart, texts
+-- The forms of the calls for a tested store: one that only the library's calls have written since it was opened or tested. Such a form asks that chart, texts
 -- and words pass the tests of 2 and 8, and nothing else; it tests its arguments alone. Its contract is the call's own, so whatever it does the call does, and
 -- it is a step of a list as the call is (Contracts). Opening leaves words that pass, every call of a list does, and export does in its destination.
 use mathlib.Core.Path.{_≡_}

@@ -10,7 +10,7 @@ answerOf Success = Answer.Success
 answerOf Failure = Answer.Failure
 answerOf Indeterminate = Answer.Indeterminate
 
--- "0 Success, 1 Failure, 2 Indeterminate": the order of the Rust's enum
+-- 0 Success, 1 Failure, 2 Indeterminate: the order of the Rust's enum
 abbrev pub numberOf : UnifyResult → ℕ
 numberOf Success = 0
 numberOf Failure = 1

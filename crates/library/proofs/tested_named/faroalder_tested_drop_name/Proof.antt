@@ -1,4 +1,5 @@
--- `library::tested_named::faroalder_tested_drop_name` meets its contract: it is `call_states::tested::drop_name`, its number gives its answer back, and what it asks for is asked here. Assumes nothing.
+-- `library::tested_named::faroalder_tested_drop_name` meets its contract: it is `call_states::tested::drop_name`, its number gives its answer back, and
+-- what it asks for is asked here. Assumes nothing.
 use borrow.Author.Needs.{needs}
 use Rattle.library.proofs.tested_named.faroalder_tested_drop_name.Statement.{statement}
 use Rattle.library.proofs.tested_named.faroalder_tested_drop_name.Tie as tie

@@ -1,4 +1,5 @@
--- `library::tested_unifies::faroalder_tested_approx_eq` meets its contract: it is `call_impl::tested::approx_eq`, its number gives its answer back, and what it asks for is asked here. Assumes nothing.
+-- `library::tested_unifies::faroalder_tested_approx_eq` meets its contract: it is `call_impl::tested::approx_eq`, its number gives its answer back, and
+-- what it asks for is asked here. Assumes nothing.
 use borrow.Author.Needs.{needs}
 use Rattle.library.proofs.tested_unifies.faroalder_tested_approx_eq.Statement.{statement}
 use Rattle.library.proofs.tested_unifies.faroalder_tested_approx_eq.Tie as tie
