@@ -18,7 +18,7 @@ use Rattle.scope.specs.Unify.{Plan, answers, runPlan, objectPlan, after,
 use Rattle.scope.specs.Force.{finishWhere, finishInference, findRelated, isNil, getMod}
 use Rattle.scope.specs.Show.{show, showImplType}
 use Rattle.scope.specs.Sound.{reads, inStore}
-use Rattle.scope.specs.Refusals.{UNMAKEABLE}
+use Rattle.scope.specs.Refusals.{UNMAKEABLE, SHORT}
 use Rattle.scope.specs.Calls.{refused, done, firstBroken, lentTests, outside, tooMany, shortFor, unified, unifyTypesCall, Entries, badEntries, unifyObjectsCall}
 use Rattle.scope.specs.Calls.{implTypes, implTests, unifyImplTypeCall, approxEqCall, unifyFnSigCall, finishInferenceCall, finishWhereCall, findRelatedCall}
 use Rattle.scope.specs.Calls.{selfInverseCall, isNilCall, getModCall, Printed, printedText, orUnprinted, showCall, showImplTypeCall}
@@ -82,7 +82,7 @@ module _ (e : Env) (s : Store) (ok : SoundFacts e s) where
   print-cases P none bs buffer z f = go (leb (length bs) (length buffer))
     where
       go : (b : Bool) → P (step s (pick {A = Printed} b (record { answer = done (length bs) s; buffer = bs ++ drop (length bs) buffer; part = bs })
-          (record { answer = refused 7; buffer = take (length buffer) bs; part = take (length buffer) bs }) .answer))
+          (record { answer = refused SHORT; buffer = take (length buffer) bs; part = take (length buffer) bs }) .answer))
       go true = f
       go false = z
 

@@ -4,6 +4,7 @@ use mathlib.Core.List.{List, [], _∷_, _++_}
 use Prim.Native.Nat.{ℕ, _+_, _≤_}
 use lib.ListN.{length, take}
 use Rattle.append.specs.Appended.{SoFar}
+use Rattle.scope.specs.Limits.{MAX-LINE}
 use Rattle.scope.specs.Sheet.{parse, sheetLine, sheetLines}
 use Rattle.layout.specs.Words.{storeIn}
 use Rattle.store.specs.Holds.{Became}
@@ -14,7 +15,7 @@ use Rattle.sheet_feed.specs.declared.Fed.the-variants.{More, Line}
 
 -- of a line so many bytes are kept: one more than a line may have
 abbrev pub LINE-KEPT : ℕ
-LINE-KEPT = 256
+LINE-KEPT = MAX-LINE + 1
 
 -- a line of the bytes bs was run: what it prints and its newline are n bytes at the front of the text
 pub record Answered (h ws ks h′ ws′ ks′ text′ : List ℕ) (n : ℕ) (bs : List ℕ) : Type 0 where

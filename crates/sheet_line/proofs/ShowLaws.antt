@@ -12,6 +12,7 @@ use lib.ListN.{length, take, drop}
 use lib.Seq.{length-take-le, drop-at}
 use Rattle.scope.specs.Base.{pick}
 use Rattle.scope.specs.Limits.{SHEET-TEXT}
+use Rattle.scope.specs.Refusals.{SHORT}
 use Rattle.scope.specs.Types.{Ty}
 use Rattle.scope.specs.Nodes.{Store}
 use Rattle.scope.specs.Sound.{reads}
@@ -48,7 +49,7 @@ module _ (s : Store) (t : Ty) (out : List ℕ) (room : SHEET-TEXT ≤ length out
   abbrev printer : Option ℕ → Bool → List ℕ → Printed
   printer b f buf = orUnprinted b buf
       (pick f (record { answer = done (length bs) s; buffer = bs ++ drop (length bs) buf; part = bs })
-      (record { answer = refused 7; buffer = take (length buf) bs; part = take (length buf) bs }))
+      (record { answer = refused SHORT; buffer = take (length buf) bs; part = take (length buf) bs }))
 
   front-long : length (take SHEET-TEXT out) ≡ SHEET-TEXT
   front-long = length-take-le SHEET-TEXT out room
@@ -58,7 +59,7 @@ module _ (s : Store) (t : Ty) (out : List ℕ) (room : SHEET-TEXT ≤ length out
   unfolding showCall
   lent-is = ap (λ (n : ℕ). orUnprinted broken (take SHEET-TEXT out)
       (pick (leb (length bs) n) (record { answer = done (length bs) s; buffer = bs ++ drop (length bs) (take SHEET-TEXT out); part = bs })
-      (record { answer = refused 7; buffer = take (length (take SHEET-TEXT out)) bs; part = take (length (take SHEET-TEXT out)) bs }))) front-long
+      (record { answer = refused SHORT; buffer = take (length (take SHEET-TEXT out)) bs; part = take (length (take SHEET-TEXT out)) bs }))) front-long
 
   own-is : showCall sheetEnv (reads s) t sheetBuffer ≡ printer broken (leb (length bs) SHEET-TEXT) sheetBuffer
   unfolding showCall
