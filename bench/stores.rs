@@ -59,6 +59,8 @@ pub struct Store {
   pub asked: Vec<u32>,
   /// Pairs to unify.
   pub pairs: Vec<(u32, u32)>,
+  /// Pairs that fail in many places, to unify with a memory alone.
+  pub failing: Vec<(u32, u32)>,
   /// Lists to unify.
   pub lists: Vec<(Vec<u32>, Vec<u32>)>,
   /// Whether every slot has a name of two bytes of the rule text.
@@ -81,7 +83,16 @@ impl Store {
   fn new(name: impl Into<String>) -> Self {
     let h = vec![0, 0, NODES as u32, CHILDREN as u32, NONE, NONE, 0, 0];
     let words = Words { h, ws: Vec::new(), ks: Vec::new() };
-    Store { name: name.into(), rules: rules(), words, asked: Vec::new(), pairs: Vec::new(), lists: Vec::new(), named: false }
+    Store {
+      name: name.into(),
+      rules: rules(),
+      words,
+      asked: Vec::new(),
+      pairs: Vec::new(),
+      failing: Vec::new(),
+      lists: Vec::new(),
+      named: false,
+    }
   }
 
   fn nodes(&self) -> usize {
@@ -343,24 +354,62 @@ fn variables_and_chain(sets: usize) -> Store {
   s.full()
 }
 
-/// So many tuples over one run and as many over another, 255 to a tuple: unified, each slot of a run meets one of the other.
-fn tuples(s: &mut Store, [a, b]: [usize; 2], count: usize, next: impl Fn(usize) -> usize) {
-  let mut over = |first: usize| {
-    let kinds: Vec<u32> = (0..count).map(|i| s.kind(TUPLE, first + next(i), WIDTH)).collect();
-    let tuples: Vec<u32> = kinds.chunks(WIDTH).map(|part| s.over(TUPLE, part)).collect();
-    s.over(TUPLE, &tuples)
-  };
-  let pair = (over(a), over(b));
-  s.pairs = vec![pair];
+/// So many tuples over a run, 255 to a tuple, each from where it says.
+fn side(s: &mut Store, count: usize, first: impl Fn(usize) -> usize) -> u32 {
+  let kinds: Vec<u32> = (0..count).map(|i| s.kind(TUPLE, first(i), WIDTH)).collect();
+  let tuples: Vec<u32> = kinds.chunks(WIDTH).map(|part| s.over(TUPLE, part)).collect();
+  s.over(TUPLE, &tuples)
+}
+
+/// So many tuples over one run and as many over another: unified, each slot of a run meets one of the other.
+fn tuples(s: &mut Store, [a, b]: [usize; 2], count: usize, next: impl Fn(usize) -> usize) -> (u32, u32) {
+  (side(s, count, |i| a + next(i)), side(s, count, |i| b + next(i)))
+}
+
+/// The nodes of so many tuples on both sides.
+fn tuple_nodes(count: usize) -> usize {
+  2 * (count + count.div_ceil(WIDTH) + 1)
 }
 
 /// The last of a set of windows meets its own inverse, in so many tuples.
 fn inverses(count: usize) -> Store {
   let mut s = Store::new(format!("the last of windows and its inverse, in {count} tuples"));
   let end = s.kind(TUPLE, 0, 0);
-  let top = s.windows(TUPLE, NODES - 1 - 2 * (count + count.div_ceil(WIDTH) + 1), 1, end);
+  let top = s.windows(TUPLE, NODES - 1 - tuple_nodes(count), 1, end);
   let runs = [s.run(&[top; WIDTH]), s.run(&[top | INVERSE; WIDTH])];
-  tuples(&mut s, runs, count, |_| 0);
+  s.pairs = vec![tuples(&mut s, runs, count, |_| 0)];
+  s.full()
+}
+
+/// The last of a set of windows that lead to a variable meets that variable, in so many tuples: it occurs there.
+fn occurs(count: usize) -> Store {
+  let mut s = Store::new(format!("a variable and windows that lead to it, in {count} tuples"));
+  let var = s.var();
+  let top = s.windows(TUPLE, NODES - 1 - tuple_nodes(count), 1, var);
+  let runs = [s.run(&[var; WIDTH]), s.run(&[top; WIDTH])];
+  s.failing = vec![tuples(&mut s, runs, count, |_| 0)];
+  s.full()
+}
+
+/// Each of 255 variables meets other windows in each of so many tuples, and occurs there: no pair comes twice.
+fn occurs_each(count: usize) -> Store {
+  let mut s = Store::new(format!("255 variables and windows that lead to all, in {count} tuples"));
+  let vars: Vec<u32> = (0..WIDTH).map(|_| s.var()).collect();
+  let all = s.over(TUPLE, &vars);
+  s.windows(TUPLE, NODES - 1 - WIDTH - tuple_nodes(count), 1, all);
+  let tops = s.slots() - WIDTH;
+  let run = s.run(&[vars.as_slice(), &vars].concat());
+  s.failing = vec![(side(&mut s, count, |i| run + i % WIDTH), side(&mut s, count, |_| tops))];
+  s.full()
+}
+
+/// The last of windows over a variable meets its own inverse: a variable is not its own.
+fn no_inverses(count: usize) -> Store {
+  let mut s = Store::new(format!("windows over a variable and their inverse, in {count} tuples"));
+  let var = s.var();
+  let top = s.windows(TUPLE, NODES - 1 - tuple_nodes(count), 1, var);
+  let runs = [s.run(&[top; WIDTH]), s.run(&[top | INVERSE; WIDTH])];
+  s.failing = vec![tuples(&mut s, runs, count, |_| 0)];
   s.full()
 }
 
@@ -368,12 +417,12 @@ fn inverses(count: usize) -> Store {
 fn inverses_of_each(count: usize) -> Store {
   let mut s = Store::new(format!("each of windows and its inverse, in {count} tuples"));
   let end = s.kind(TUPLE, 0, 0);
-  let windows = NODES - 1 - 2 * (count + count.div_ceil(WIDTH) + 1);
+  let windows = NODES - 1 - tuple_nodes(count);
   let first = s.slots() + WIDTH;
   s.windows(TUPLE, windows, 1, end);
   let inverse: Vec<u32> = (first..first + windows).map(|i| s.words.ks[4 * i] | INVERSE).collect();
   let runs = [first, s.run(&inverse)];
-  tuples(&mut s, runs, count, |i| 7 * i % (windows - WIDTH));
+  s.pairs = vec![tuples(&mut s, runs, count, |i| 7 * i % (windows - WIDTH))];
   s.full()
 }
 
@@ -449,6 +498,9 @@ pub fn all() -> Vec<Store> {
   all.extend([1, 4].map(variables_and_chain));
   all.extend([255, 1000].map(inverses));
   all.extend([250, 500, 1000, 1500].map(inverses_of_each));
+  all.extend([255, 1000].map(occurs));
+  all.extend([255, 1000].map(no_inverses));
+  all.push(occurs_each(25));
   all.push(alike(7));
   all
 }
