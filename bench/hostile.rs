@@ -17,6 +17,9 @@ use stores::{CHILDREN, NODES, Store, WIDTH};
 /// The most that a call may take.
 const ALLOWED: Duration = Duration::from_millis(100);
 
+/// What a unify may remember: as much as the crate lends it.
+const MEMORY: usize = 131 + 4 * 16_381;
+
 /// The stack of a program's main thread, which must do.
 const STACK: usize = 8 << 20;
 
@@ -165,6 +168,14 @@ fn unified(report: &mut Report, store: &Store, test: Duration, (a, b): (u32, u32
   take("unify_impl_type", &|s| answered(s.unify_impl_type((2, &x), (2, &y))));
 }
 
+/// Two types unified with a memory.
+fn recalled(report: &mut Report, store: &Store, test: Duration, (a, b): (u32, u32)) {
+  let memory = RefCell::new(vec![0; MEMORY]);
+  report.take("unify_recalling", store, &format!(", {a} and {b}"), test, &|s| {
+    answered(s.unify_recalling(a, b, &mut memory.borrow_mut()));
+  });
+}
+
 /// Two lists of types that differ.
 fn listed(report: &mut Report, store: &Store, test: Duration, a: &[u32], b: &[u32]) {
   report.take("unify_types", store, ", its lists", test, &|s| answered(s.unify_types(a, b, false)));
@@ -183,6 +194,10 @@ fn report(part: &str) {
     }
     for &pair in &store.pairs {
       unified(&mut report, store, test, pair);
+      recalled(&mut report, store, test, pair);
+    }
+    for &pair in &store.failing {
+      recalled(&mut report, store, test, pair);
     }
     for (a, b) in &store.lists {
       listed(&mut report, store, test, a, b);

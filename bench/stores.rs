@@ -59,6 +59,8 @@ pub struct Store {
   pub asked: Vec<u32>,
   /// Pairs to unify.
   pub pairs: Vec<(u32, u32)>,
+  /// Pairs that fail in many places, to unify with a memory alone.
+  pub failing: Vec<(u32, u32)>,
   /// Lists to unify.
   pub lists: Vec<(Vec<u32>, Vec<u32>)>,
   /// Whether every slot has a name of two bytes of the rule text.
@@ -81,7 +83,16 @@ impl Store {
   fn new(name: impl Into<String>) -> Self {
     let h = vec![0, 0, NODES as u32, CHILDREN as u32, NONE, NONE, 0, 0];
     let words = Words { h, ws: Vec::new(), ks: Vec::new() };
-    Store { name: name.into(), rules: rules(), words, asked: Vec::new(), pairs: Vec::new(), lists: Vec::new(), named: false }
+    Store {
+      name: name.into(),
+      rules: rules(),
+      words,
+      asked: Vec::new(),
+      pairs: Vec::new(),
+      failing: Vec::new(),
+      lists: Vec::new(),
+      named: false,
+    }
   }
 
   fn nodes(&self) -> usize {
@@ -344,23 +355,47 @@ fn variables_and_chain(sets: usize) -> Store {
 }
 
 /// So many tuples over one run and as many over another, 255 to a tuple: unified, each slot of a run meets one of the other.
-fn tuples(s: &mut Store, [a, b]: [usize; 2], count: usize, next: impl Fn(usize) -> usize) {
+fn tuples(s: &mut Store, [a, b]: [usize; 2], count: usize, next: impl Fn(usize) -> usize) -> (u32, u32) {
   let mut over = |first: usize| {
     let kinds: Vec<u32> = (0..count).map(|i| s.kind(TUPLE, first + next(i), WIDTH)).collect();
     let tuples: Vec<u32> = kinds.chunks(WIDTH).map(|part| s.over(TUPLE, part)).collect();
     s.over(TUPLE, &tuples)
   };
-  let pair = (over(a), over(b));
-  s.pairs = vec![pair];
+  (over(a), over(b))
+}
+
+/// The nodes of so many tuples on both sides.
+fn tuple_nodes(count: usize) -> usize {
+  2 * (count + count.div_ceil(WIDTH) + 1)
 }
 
 /// The last of a set of windows meets its own inverse, in so many tuples.
 fn inverses(count: usize) -> Store {
   let mut s = Store::new(format!("the last of windows and its inverse, in {count} tuples"));
   let end = s.kind(TUPLE, 0, 0);
-  let top = s.windows(TUPLE, NODES - 1 - 2 * (count + count.div_ceil(WIDTH) + 1), 1, end);
+  let top = s.windows(TUPLE, NODES - 1 - tuple_nodes(count), 1, end);
   let runs = [s.run(&[top; WIDTH]), s.run(&[top | INVERSE; WIDTH])];
-  tuples(&mut s, runs, count, |_| 0);
+  s.pairs = vec![tuples(&mut s, runs, count, |_| 0)];
+  s.full()
+}
+
+/// The last of a set of windows that lead to a variable meets that variable, in so many tuples: it occurs there.
+fn occurs(count: usize) -> Store {
+  let mut s = Store::new(format!("a variable and windows that lead to it, in {count} tuples"));
+  let var = s.var();
+  let top = s.windows(TUPLE, NODES - 1 - tuple_nodes(count), 1, var);
+  let runs = [s.run(&[var; WIDTH]), s.run(&[top; WIDTH])];
+  s.failing = vec![tuples(&mut s, runs, count, |_| 0)];
+  s.full()
+}
+
+/// The same meets its own inverse: a variable is none.
+fn no_inverses(count: usize) -> Store {
+  let mut s = Store::new(format!("windows over a variable and their inverse, in {count} tuples"));
+  let var = s.var();
+  let top = s.windows(TUPLE, NODES - 1 - tuple_nodes(count), 1, var);
+  let runs = [s.run(&[top; WIDTH]), s.run(&[top | INVERSE; WIDTH])];
+  s.failing = vec![tuples(&mut s, runs, count, |_| 0)];
   s.full()
 }
 
@@ -370,7 +405,7 @@ fn inverses_of_each(count: usize, last_first: bool) -> Store {
   let order = if last_first { ", the last first" } else { "" };
   let mut s = Store::new(format!("each of windows and its inverse{order}, in {count} tuples"));
   let end = s.kind(TUPLE, 0, 0);
-  let windows = NODES - 1 - 2 * (count + count.div_ceil(WIDTH) + 1);
+  let windows = NODES - 1 - tuple_nodes(count);
   let first = s.slots() + WIDTH;
   s.windows(TUPLE, windows, 1, end);
   let mut each: Vec<u32> = (first..first + windows).map(|i| s.words.ks[4 * i]).collect();
@@ -379,7 +414,7 @@ fn inverses_of_each(count: usize, last_first: bool) -> Store {
   }
   let inverse: Vec<u32> = each.iter().map(|t| t | INVERSE).collect();
   let runs = [s.run(&each), s.run(&inverse)];
-  tuples(&mut s, runs, count, |i| 7 * i % (windows - WIDTH));
+  s.pairs = vec![tuples(&mut s, runs, count, |i| 7 * i % (windows - WIDTH))];
   s.full()
 }
 
@@ -457,6 +492,8 @@ pub fn all() -> Vec<Store> {
   for last_first in [false, true] {
     all.extend([250, 500, 1000, 1500].map(|count| inverses_of_each(count, last_first)));
   }
+  all.extend([255, 1000].map(occurs));
+  all.extend([255, 1000].map(no_inverses));
   all.push(alike(7));
   all
 }

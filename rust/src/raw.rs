@@ -156,6 +156,7 @@ mod first {
     unify_objects(a: P, a_len: N, b: P, b_len: N, inv: u32);
     unify_fn_sig(a: P, a_len: N, a_ret: u32, b: P, b_len: N, b_ret: u32);
     unify_impl_type(a: u32, x: P, x_len: N, b: u32, y: P, y_len: N);
+    unify_recalling(a: u32, b: u32, m: M, m_len: N);
   }
 }
 
@@ -459,6 +460,11 @@ impl Lent<'_> {
 
   pub fn unify(&mut self, a: u32, b: u32) -> u64 {
     change!(self, first::unify, a, b)
+  }
+
+  /// The same with a memory, of any length and whatever it holds: what is remembered changes no answer.
+  pub fn unify_recalling(&mut self, a: u32, b: u32, m: &mut [u32]) -> u64 {
+    change!(self, first::unify_recalling, a, b, m.as_mut_ptr(), m.len())
   }
 
   pub fn unify_types(&mut self, a: &[u32], b: &[u32], inv: bool) -> u64 {

@@ -23,7 +23,7 @@ use Rattle.types.specs.declared.UnifyResult.the-variants.{Success, Failure, Ind
 use Rattle.types.proofs.Laws.{idx-below, word-is}
 use Rattle.marks.specs.Marks.{MARKED, Knows, Beside}
 use Rattle.marks.proofs.Laws.{set-zero, marks-same}
-use Rattle.recall.specs.Memory.{HEAD, ENTRY, LAST, clockOf, Running, entryAt, Believed, Tidy, Cleared, Begun, Fewer, Forgot, New, Noted}
+use Rattle.recall.specs.Memory.{HEAD, ENTRY, LAST, clockOf, Running, entryAt, Believed, Tidy, Cleared, Begun, Fewer, Forgot, New, Noted, WalkNoted}
 use Rattle.recall.specs.Places.{codeOf, slotOf, Entry, Placed, Answered, Told}
 use Rattle.recall.specs.declared.Place.the-variants as places
 use Rattle.recall.specs.declared.Recalled.{Recalled}
@@ -363,6 +363,19 @@ noted-entry {m} {m₁} {m₂} {m₃} {m₄} {k} {p} {a} {b} {c} {r = r} t ex ec 
   where
     all : m₄ ≡ written m (entryAt k) a b c (numberOf r)
     all = rw (e₄, e₃, e₂, e₁, ev, en .is) refl
+
+-- `walked`
+
+pub walked-same : {m : List ℕ} {a b : ℕ} {r : UnifyResult} → Tidy m → WalkNoted m m a b r
+walked-same t = record { tidy = t; on = omega arith; only = λ a b q v. inl v; marks = λ i k. k }
+
+pub walked-noted : {m m₁ m′ : List ℕ} {c a b : ℕ} {r : UnifyResult} → Fewer m m₁ → Noted m₁ m′ c a b r → WalkNoted m m′ a b r
+walked-noted f w = record {
+  tidy = w .tidy;
+  on = omega (arith, f .on, w .on);
+  only = λ a b q v. elim (w .only a b q v) [ inl o ↦ inl (f .still a b q o) | inr o ↦ inr (o .first, (o .second, o .answer)) ];
+  marks = λ i k. f .marks i (w .marks i k);
+}
 
 -- a mark more is among no other words
 

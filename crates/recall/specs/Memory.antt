@@ -86,6 +86,13 @@ pub record Noted (m m′ : List ℕ) (began a b : ℕ) (r : UnifyResult) : Type 
   pub only : (a′ b′ : ℕ) (q : UnifyResult) → Believed m′ a′ b′ q → Believed m a′ b′ q ⊎ New m began a b r a′ b′ q
   pub marks : (i : ℕ) → Knows m′ i → Knows m i
 
+-- m′ after m: what is believed was believed, or is that the pair in the words a and b has the answer r
+pub record WalkNoted (m m′ : List ℕ) (a b : ℕ) (r : UnifyResult) : Type 0 where
+  pub tidy : Tidy m′
+  pub on : clockOf m ≤ clockOf m′
+  pub only : (a′ b′ : ℕ) (q : UnifyResult) → Believed m′ a′ b′ q → Believed m a′ b′ q ⊎ ((a′ ≡ a) × ((b′ ≡ b) × (q ≡ r)))
+  pub marks : (i : ℕ) → Knows m′ i → Knows m i
+
 -- an entry for each pair of types of n nodes
 abbrev pub wordsFor : ℕ → ℕ
 wordsFor n = HEAD + ENTRY * (2 * n * (2 * n))

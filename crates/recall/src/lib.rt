@@ -6,7 +6,7 @@ ghost use Prim.Native.Nat.{_<_, _≤_};
 ghost use lib.Dec.{eqb};
 ghost use Rattle.scope.specs.Limits.{«MAX-NODES»};
 ghost use Rattle.scope.specs.Types.{tyOf};
-ghost use Rattle.recall.specs.Memory.{clockOf, Tidy, Cleared, Begun, Fewer, Forgot, Noted, wordsFor};
+ghost use Rattle.recall.specs.Memory.{clockOf, Tidy, Cleared, Begun, Fewer, Forgot, Noted, WalkNoted, wordsFor};
 ghost use Rattle.recall.specs.Places.{codeOf, slotOf, Placed, Answered, Told};
 use marks::MARKED;
 use marks::at;
@@ -24,6 +24,9 @@ pub const LAST: u32 = 4_294_967_295;
 
 // So many visits are made before anything is remembered, that ordinary calls pay nothing.
 pub const VISITS: u32 = 4096;
+
+// A walk that fails counts as so many: the same few, asked again and again, are soon remembered.
+pub const WALK: u32 = 64;
 
 // A pair's answer, where it is believed.
 pub enum Recalled {
@@ -63,8 +66,8 @@ fn clear(m: &mut [u32])
     }
 }
 
-// One visit more. After the last that is waited for the entries are cleared and the clock starts, if there is room for an entry.
-pub fn visited(m: &mut [u32])
+// So many visits more. After the last that is waited for the entries are cleared and the clock starts, if there is room for an entry.
+pub fn visited(m: &mut [u32], more: u32)
     requires { ⌜ Tidy (now m) ⌝ }
     ensures { λ _. ⌜ Fewer (now (m .entry)) (now (m .exit)) ⌝ }
 {
@@ -75,8 +78,8 @@ pub fn visited(m: &mut [u32])
         return;
     }
     let left = at(m, 1);
-    if left != 0 {
-        put(m, 1, left - 1);
+    if left >= more {
+        put(m, 1, left - more);
         return;
     }
     clear(m);
@@ -192,6 +195,21 @@ pub fn note(m: &mut [u32], n: u32, began: u32, a: Type, b: Type, r: UnifyResult)
     put(m, p + 1, b.0);
     put(m, p + 2, began);
     put(m, p + 3, r.number());
+}
+
+// What a walk answered of a pair: a Failure is noted.
+pub fn walked(m: &mut [u32], n: u32, a: Type, b: Type, r: UnifyResult)
+    requires { ⌜ (n ≤ «MAX-NODES») × Tidy (now m) ⌝ }
+    ensures { λ _. ⌜ WalkNoted (now (m .entry)) (now (m .exit)) (a .0) (b .0) r ⌝ }
+{
+    match r {
+        UnifyResult::Success => {}
+        UnifyResult::Failure => {
+            visited(m, WALK);
+            note(m, n, clock(m), a, b, r);
+        }
+        UnifyResult::Indeterminate => {}
+    }
 }
 
 // So many words make every pair of n nodes rememberable: an entry for each pair of types.

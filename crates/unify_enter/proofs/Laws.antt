@@ -48,7 +48,7 @@ use Rattle.unify_enter.specs.Asked.{Asked, Unified}
 use Rattle.unify_enter.specs.Enters.{Climbed, AtRoots, Left, Enters}
 use Rattle.unify_enter.specs.declared.Entered.{Entered}
 use Rattle.unify_enter.specs.declared.Entered.the-variants.{Done, Kids}
-use Rattle.unify_roots.specs.Walk.{WalkAsks, WalkTold}
+use Rattle.unify_roots.specs.Walk.{Childless, WalkAsks, WalkTold}
 use Rattle.unify_roots.proofs.Laws.{by-words, unify-deep, unify-roots}
 
 -- sound words
@@ -204,14 +204,11 @@ module _ {x : Texts} {ws ks m ws₂ m₂ : List ℕ} {n d : ℕ} {p q : Ty} {a b
   pub deep-enough : meet (unifyF x n (d - 1)) x n (decode ws₂ ks n) (tyOf a) (tyOf b) ≡ meet (unifyF x n n) x n (decode ws₂ ks n) (tyOf a) (tyOf b)
   deep-enough = words-meet words (tyOf a) (tyOf b) (c .up .tops .pair .first) (c .up .tops .first) (c .up .enough) (c .up .deep)
 
+  childless : k ≡ Walk → Childless x n (decode ws₂ ks n) (tyOf a) (tyOf b)
+  childless e u = c .met .same u ∙ ap (metBy u x n ks (decode ws₂ ks n) (tyOf a) (tyOf b)) e
+
   pub walk-asks : k ≡ Walk → WalkAsks ws₂ ks m₂ n (tyOf a) (tyOf b)
-  walk-asks e = record {
-    roots = record { lent = x; tops = c .up .tops };
-    adds = tops-add (c .up);
-    meets = λ u. c .met .same u ∙ ap (metBy u x n ks (decode ws₂ ks n) (tyOf a) (tyOf b)) e;
-    tidy = c .up .recalls .tidy;
-    marks = c .up .recalls .marks;
-  }
+  walk-asks e = record { roots = record { lent = x; tops = c .up .tops }; adds = tops-add (c .up); meets = childless e; recalls = c .up .recalls }
 
   -- nothing after the finds
   at-once : {r : UnifyResult} → whole ≡ out (decode ws₂ ks n) (answerOf r) → Unified x ws ks m ws₂ m₂ n whole r
@@ -225,8 +222,8 @@ module _ {x : Texts} {ws ks m ws₂ m₂ : List ℕ} {n d : ℕ} {p q : Ty} {a b
       clean = λ h cl. o .leaves .clean h (c .up .clean h cl);
       tail = o .leaves .tail ∙ c .up .tail;
     };
-    recalls = recalls-moved (c .up .recalls) (o .told) (o .marks);
-    since = since-then (c .up .since) (o .told .since);
+    recalls = o .recalls x (childless e) (c .up .recalls);
+    since = since-then (c .up .since) (o .since);
   }
 
   -- what the memory tells is what the roots would give

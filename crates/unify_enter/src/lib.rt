@@ -18,7 +18,7 @@ pub enum Entered {
 }
 
 // What walks is `unify_roots`: two roots of which one has no kind at once, others once both roots are found and have met. A pair of roots with children is looked up in
-// the memory.
+// the memory here.
 pub fn enter<'a>(
     ws: &mut [u32],
     ks: &[u32],
@@ -40,7 +40,7 @@ pub fn enter<'a>(
     if meeting::bare_roots(ws, n, a, b) {
         return Entered::Done(unify_roots::walk_pair(ws, ks, n, memory, a, b));
     }
-    recall::visited(memory);
+    recall::visited(memory, 1);
     let ra = heed::find(ws, n, memory, a);
     let rb = heed::find(ws, n, memory, b);
     let m = meeting::meet(ws, ks, n, rule, text, ra, rb);

@@ -4,6 +4,7 @@
 use mathlib.Core.Path.{_≡_, refl, ap, sym, subst, _∙_}
 use mathlib.Core.Bool.{Bool, true, false, not, _||_, or-true}
 use mathlib.Core.List.{List, []}
+use mathlib.Core.Logic.{inl, inr}
 use Prim.Native.Nat.{ℕ, zero, suc, _-_, _<_}
 use native.Mathlib.Omega.{arith}
 use lib.ListN.{length}
@@ -11,7 +12,7 @@ use borrow.Author.Tests.{eq-eqb, not-false}
 use Rattle.scope.specs.Base.{xor}
 use Rattle.scope.specs.Limits.{MAX-NODES}
 use Rattle.scope.specs.Names.{Texts}
-use Rattle.scope.specs.Types.{Ty, ty}
+use Rattle.scope.specs.Types.{Ty, ty, tyOf}
 use Rattle.scope.specs.Nodes.{Node, Root, Child, at, isRoot, find, findMut}
 use Rattle.scope.specs.Answers as answers
 use Rattle.scope.specs.Unify.{Out, out, selfInverseAt, sameNode, meet, unifyF}
@@ -30,9 +31,13 @@ use Rattle.types.specs.declared.UnifyResult.the-variants.{Success}
 use Rattle.layout.specs.Words.{decode}
 use Rattle.layout.proofs.Laws.{length-decode}
 use Rattle.marks.specs.Marks.{Said, Marked}
-use Rattle.recall.specs.Memory.{Forgot}
+use Rattle.recall.specs.Memory.{Forgot, WalkNoted}
+use Rattle.recall.specs.Places.{Told}
+use Rattle.recall.proofs.Laws.{marked-clock}
+use Rattle.recall.specs.declared.Recalled.{Recalled}
+use Rattle.recall.specs.declared.Recalled.the-variants.{Is}
 use Rattle.heed.specs.Recalls.{SelfAt}
-use Rattle.heed.proofs.Laws.{moved-forgot, moved-same, moved-then, moved-marked, SelfsKept, marks-kept, marks-more}
+use Rattle.heed.proofs.Laws.{since-same, since-then, recalls-moved, moved-forgot, moved-marked, SelfsKept, marks-kept, marks-fewer, marks-more}
 use Rattle.merge.specs.Meaning.{Bound}
 use Rattle.meeting.specs.Asks.{SoundWords, Tops}
 use Rattle.meeting.specs.Meets.{walks, walkedBy, WalkedTo}
@@ -108,23 +113,21 @@ module _ {ws ks m : List ℕ} {n : ℕ} {a b : Ty} (asks : WalkAsks ws ks m n a 
       by-words words (λ y k. SelfsKept ns (unifyF y k 1 ns a b .nodes)) (pair-selfs (words .env) (words .sound) 1 a b (below words (tops .pair .first)) (below words (tops .pair .second))) in
       subst (λ (o : Out). SelfsKept ns (o .nodes)) (walk-unifies ∙ e) s
 
-  module _ {w : Walked} (o : WalkedTo ws ks n a b w) where
-    pub walk-done : {r : UnifyResult} → w ≡ Done r → WalkTold ws ks m ws m n a b r
-    walk-done e = record {
-      leaves = record { same = o .same ∙ ap (walkedBy ns a b) e; clean = λ c cl. cl; tail = refl };
-      told = moved-same (asks .tidy);
-      marks = asks .marks;
-    }
+  -- nothing is to be done
+  pub walk-still : {r : UnifyResult} → walks n (decode ws ks n) a b ≡ out (decode ws ks n) (answerOf r) → WalkTold ws ks m ws m n a b r
+  walk-still e = record { leaves = record { same = e; clean = λ c cl. cl; tail = refl }; since = since-same; recalls = λ y h g. g }
 
-    pub walk-binds : {ws′ m′ : List ℕ} → w ≡ Bind → Bound ws ws′ n a b → Forgot m m′ → WalkTold ws ks m ws′ m′ n a b Success
-    walk-binds {ws′} e v f = record {
-      leaves = record { same = same; clean = λ c cl. v .clean ks c cl; tail = v .tail };
-      told = moved-forgot f;
-      marks = marks-kept (walk-selfs ws′ Success same) (f .marks) (asks .marks);
-    }
-      where
-        same : walks n (decode ws ks n) a b ≡ out (decode ws′ ks n) answers.Success
-        same = o .same ∙ (ap (walkedBy ns a b) e ∙ ap (λ (l : List Node). out l answers.Success) (sym (v .nodes ks (words .children) (words .clean))))
+  -- a merge that the memory is told of
+  pub walk-merged : {ws′ m′ : List ℕ} → Bound ws ws′ n a b → Forgot m m′ → walks n (decode ws ks n) a b ≡ out (decode ws′ ks n) answers.Success → WalkTold ws ks m ws′ m′ n a b Success
+  walk-merged {ws′} v f e = record {
+    leaves = record { same = e; clean = λ c cl. v .clean ks c cl; tail = v .tail };
+    since = moved-forgot f .since;
+    recalls = λ y h g. recalls-moved g (moved-forgot f) (marks-kept (walk-selfs ws′ Success e) (f .marks) (g .marks));
+  }
+
+  pub walk-binds : {w : Walked} {ws′ m′ : List ℕ} → WalkedTo ws ks n a b w → w ≡ Bind → Bound ws ws′ n a b → Forgot m m′ → WalkTold ws ks m ws′ m′ n a b Success
+  walk-binds o e v f =
+      walk-merged v f (o .same ∙ (ap (walkedBy ns a b) e ∙ ap (λ (l : List Node). out l answers.Success) (sym (v .nodes ks (words .children) (words .clean)))))
 
   -- one node
 
@@ -150,16 +153,9 @@ module _ {ws ks m : List ℕ} {n : ℕ} {a b : Ty} (asks : WalkAsks ws ks m n a 
         subst (λ (j : ℕ). selfInverseAt false j ns (a .idx) ≡ true) (length-decode ws ks n) y
 
     pub walk-known : {r : Bool} → Said m i r → r ≡ true → WalkTold ws ks m ws m n a b Success
-    walk-known k e = record {
-      leaves = record {
-        same = same-walks ∙ ap (λ (t : Bool). out ns (answers.ofBool t)) (ap (λ (t : Bool). not (xor (a .inv) (b .inv)) || t) (self-found (subst (SelfAt ns) ei (asks .marks .self i (k .known e))))
-            ∙ or-true (not (xor (a .inv) (b .inv))));
-        clean = λ c cl. cl;
-        tail = refl;
-      };
-      told = moved-same (asks .tidy);
-      marks = asks .marks;
-    }
+    walk-known k e =
+        walk-still (same-walks ∙ ap (λ (t : Bool). out ns (answers.ofBool t)) (ap (λ (t : Bool). not (xor (a .inv) (b .inv)) || t)
+        (self-found (subst (SelfAt ns) ei (asks .recalls .marks .self i (k .known e)))) ∙ or-true (not (xor (a .inv) (b .inv)))))
 
     pub walk-inside : i < MAX-NODES
     walk-inside = omega (arith, ei, tops .pair .first, words .small)
@@ -175,8 +171,8 @@ module _ {ws ks m : List ℕ} {n : ℕ} {a b : Ty} (asks : WalkAsks ws ks m n a 
         → Marked m₁ m′ i → WalkTold ws ks m ws′ m′ n a b r
     walk-marks {ws′} {m₁} {m′} {r} ep eq ev h t e k = record {
       leaves = t .leaves;
-      told = moved-then (t .told) (moved-marked (t .told .tidy) k);
-      marks = marks-more (t .marks) self k;
+      since = since-then (t .since) (record { on = omega (arith, marked-clock (k .beside)); still = λ r e. refl });
+      recalls = λ y f g. let w = t .recalls y f g in recalls-moved w (moved-marked (w .tidy) k) (marks-more (w .marks) self k);
     }
       where
         both : out ns (sameNode n ns a b) ≡ out (decode ws′ ks n) answers.Success
@@ -192,3 +188,25 @@ module _ {ws ks m : List ℕ} {n : ℕ} {a b : Ty} (asks : WalkAsks ws ks m n a 
         self =
             let s : SelfAt ns i = subst (SelfAt ns) (sym ei) (subst (λ (t : Ty). Self (view ns) (t .idx)) (sym top) here) in
             subst (λ (l : List Node). SelfAt l i) (ap (λ (o : Out). o .nodes) both) s
+
+-- a pair in words: what the memory tells is what a walk would give, and what a walk gave is so
+
+module _ {ws ks m : List ℕ} {n a b : ℕ} (asks : WalkAsks ws ks m n (tyOf a) (tyOf b)) where
+  pub walk-told : {t : Recalled} {r : UnifyResult} → Told m a b t → t ≡ Is r → WalkTold ws ks m ws m n (tyOf a) (tyOf b) r
+  walk-told {r = r} f e =
+      walk-still asks (sym (asks .meets (unifyF (asks .roots .lent) n n)) ∙ asks .recalls .true a b r (f .believed r e) .same)
+
+  pub walk-done : {w : Walked} {m′ : List ℕ} {r : UnifyResult} → WalkedTo ws ks n (tyOf a) (tyOf b) w → w ≡ Done r → WalkNoted m m′ a b r
+      → WalkTold ws ks m ws m′ n (tyOf a) (tyOf b) r
+  walk-done {r = r} o e k = record {
+    leaves = record { same = same; clean = λ c cl. cl; tail = refl };
+    since = record { on = k .on; still = λ r e. refl };
+    recalls = λ y h g. record {
+      tidy = k .tidy;
+      true = λ v w q z. elim (k .only v w q z) [ inl old ↦ g .true v w q old | inr (ev, (ew, eq)) ↦ record { same = rw (ev, ew, eq) (h (unifyF y n n) ∙ same) } ];
+      marks = marks-fewer (k .marks) (g .marks);
+    };
+  }
+    where
+      same : walks n (decode ws ks n) (tyOf a) (tyOf b) ≡ out (decode ws ks n) (answerOf r)
+      same = o .same ∙ ap (walkedBy (decode ws ks n) (tyOf a) (tyOf b)) e

@@ -25,11 +25,10 @@ use Rattle.recall.specs.Memory.{Forgot}
 use Rattle.merge.specs.Quick.{bareNode, loneNode, nilNode, Quick, OneNil}
 use Rattle.merge.proofs.QuickLaws.{bare-none}
 use Rattle.heed.specs.Told.{SmallTold}
-use Rattle.heed.proofs.Laws.{moved-forgot, moved-same, marks-kept}
 use Rattle.meeting.specs.Asks.{Pair}
 use Rattle.meeting.specs.Meets.{walks}
 use Rattle.unify_roots.specs.Walk.{WalkAsks, WalkTold}
-use Rattle.unify_roots.proofs.Laws.{walk-selfs}
+use Rattle.unify_roots.proofs.Laws.{walk-still, walk-merged}
 
 -- roots without children
 
@@ -122,27 +121,14 @@ module _ {ws ks m ws′ m′ : List ℕ} {n : ℕ} {a b : Ty} {r : Bool} where
       h = w .roots .tops .pair
 
       still : OneNil ws n a b true → WalkTold ws ks m ws m n a b Success
-      still o = record {
-        leaves = record {
-          same = nil-walks n (decode ws ks n) a b (omega (arith, h .first)) (o .one refl) (o .nil refl ks (h .words .children) (h .words .clean));
-          clean = λ c cl. cl;
-          tail = refl;
-        };
-        told = moved-same (w .tidy);
-        marks = w .marks;
-      }
+      still o = walk-still w (nil-walks n (decode ws ks n) a b (omega (arith, h .first)) (o .one refl) (o .nil refl ks (h .words .children) (h .words .clean)))
 
       go : (Quick ws ws′ n a b × Forgot m m′) ⊎ (OneNil ws n a b true × ((ws′ ≡ ws) × (m′ ≡ m))) → WalkTold ws ks m ws′ m′ n a b Success
       go (inl (k, f)) =
-          let same : walks n (decode ws ks n) a b ≡ out (decode ws′ ks n) answers.Success =
-          lone-walks n (decode ws ks n) a b (omega (arith, h .first)) (k .apart) (k .first ks (h .words .children) (h .words .clean))
+          walk-merged w (k .bound) f
+          (lone-walks n (decode ws ks n) a b (omega (arith, h .first)) (k .apart) (k .first ks (h .words .children) (h .words .clean))
           (k .second ks (h .words .children) (h .words .clean))
-          ∙ ap (λ (ns : List Node). out ns answers.Success) (sym (k .bound .nodes ks (h .words .children) (h .words .clean))) in
-          record {
-            leaves = record { same = same; clean = λ c cl. k .bound .clean ks c cl; tail = k .bound .tail };
-            told = moved-forgot f;
-            marks = marks-kept (walk-selfs w ws′ Success same) (f .marks) (w .marks);
-          }
+          ∙ ap (λ (ns : List Node). out ns answers.Success) (sym (k .bound .nodes ks (h .words .children) (h .words .clean))))
       go (inr o) = rw (o .1 .0, o .1 .1) (still (o .0))
 
   pub small-walk-asks : WalkAsks ws ks m n a b → SmallTold ws ws′ n m m′ a b r → r ≡ false → WalkAsks ws′ ks m′ n a b

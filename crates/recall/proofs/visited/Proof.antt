@@ -23,9 +23,6 @@ returns-2 c = fewer-same (c .before .before .before .before .before .pre)
 at-requires-2 : tie.Need-at-requires-2
 at-requires-2 c κs = search needs
 
-sub-put : tie.Need-sub-put
-sub-put c = search needs
-
 put-requires : tie.Need-put-requires
 put-requires c κs = search needs
 
@@ -65,7 +62,6 @@ visited-spec =
     same-length
     returns-2
     at-requires-2
-    sub-put
     put-requires
     same-length-2
     returns-3
