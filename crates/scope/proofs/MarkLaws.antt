@@ -129,7 +129,7 @@ module _ {A : Type 0} (p : A → Bool) where
   all-true (x ∷ xs) h = ap₂ _&&_ (h x (List·Memᴰ·head refl)) (all-true xs (λ y m. h y (List·Memᴰ·tail m)))
 
 -- a root's type is where it leads
-root-find : (ns : List Node) (t : Ty) → isRoot (at ns (t .idx)) ≡ true → find ns t .idx ≡ t .idx
+pub root-find : (ns : List Node) (t : Ty) → isRoot (at ns (t .idx)) ≡ true → find ns t .idx ≡ t .idx
 root-find ns t e = go (at ns (t .idx)) refl e
   where
     go : (x : Node) → at ns (t .idx) ≡ x → isRoot x ≡ true → find ns t .idx ≡ t .idx
@@ -327,16 +327,19 @@ module _ {ns : List Node} (w : Walkable ns) (param : Bool) where
         below p i q (inr o) = k .good root o i (subst (λ (x : ℕ). Reach (view ns) x i) (sym (idx-eq (root-top ns w t))) q)
 
 -- no marks at all
+pub none-marked : (m i : ℕ) → _≡_ {A = ℕ} (getD (replicate m 0) i 0) 0
+none-marked m i = go (decLt i m)
+  where
+    go : Dec (i < m) → _≡_ {A = ℕ} (getD (replicate m 0) i 0) 0
+    go (yes h) = getD-replicate m i 0 0 h
+    go (no h) = List·getD-eq-default (replicate m 0) 0 {n = i} (omega (arith, length-replicate {A = ℕ} m 0))
+
 pub told-clear : (param : Bool) (ns : List Node) (m : ℕ) → length ns ≤ m → Told param ns (replicate m 0)
 told-clear param ns m l = record {
   room = omega (arith, length-replicate {A = ℕ} m 0);
-  old = λ i e. omega (arith, e, zeros i (decLt i m));
-  good = λ i o. absurd (o (zeros i (decLt i m)));
+  old = λ i e. omega (arith, e, none-marked m i);
+  good = λ i o. absurd (o (none-marked m i));
 }
-  where
-    zeros : (i : ℕ) → Dec (i < m) → _≡_ {A = ℕ} (getD (replicate m 0) i 0) 0
-    zeros i (yes h) = getD-replicate m i 0 0 h
-    zeros i (no h) = List·getD-eq-default (replicate m 0) 0 {n = i} (omega (arith, length-replicate {A = ℕ} m 0))
 
 -- a root that is its own inverse by its kinds, as `unify` knows it, is one that is good and so is all below it
 
