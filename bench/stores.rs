@@ -413,15 +413,21 @@ fn no_inverses(count: usize) -> Store {
   s.full()
 }
 
-/// Each of a set of windows meets its own inverse, in so many tuples that begin apart.
-fn inverses_of_each(count: usize) -> Store {
-  let mut s = Store::new(format!("each of windows and its inverse, in {count} tuples"));
+/// Each of a set of windows meets its own inverse, in so many tuples that begin apart: from the first on, so that each leads
+/// to those that met before, or from the last on.
+fn inverses_of_each(count: usize, last_first: bool) -> Store {
+  let order = if last_first { ", the last first" } else { "" };
+  let mut s = Store::new(format!("each of windows and its inverse{order}, in {count} tuples"));
   let end = s.kind(TUPLE, 0, 0);
   let windows = NODES - 1 - tuple_nodes(count);
   let first = s.slots() + WIDTH;
   s.windows(TUPLE, windows, 1, end);
-  let inverse: Vec<u32> = (first..first + windows).map(|i| s.words.ks[4 * i] | INVERSE).collect();
-  let runs = [first, s.run(&inverse)];
+  let mut each: Vec<u32> = (first..first + windows).map(|i| s.words.ks[4 * i]).collect();
+  if last_first {
+    each.reverse();
+  }
+  let inverse: Vec<u32> = each.iter().map(|t| t | INVERSE).collect();
+  let runs = [s.run(&each), s.run(&inverse)];
   s.pairs = vec![tuples(&mut s, runs, count, |i| 7 * i % (windows - WIDTH))];
   s.full()
 }
@@ -497,7 +503,9 @@ pub fn all() -> Vec<Store> {
   all.extend([1, 4, 8, 12, 14].map(|sets| variables(sets, true)));
   all.extend([1, 4].map(variables_and_chain));
   all.extend([255, 1000].map(inverses));
-  all.extend([250, 500, 1000, 1500].map(inverses_of_each));
+  for last_first in [false, true] {
+    all.extend([250, 500, 1000, 1500].map(|count| inverses_of_each(count, last_first)));
+  }
   all.extend([255, 1000].map(occurs));
   all.extend([255, 1000].map(no_inverses));
   all.push(occurs_each(25));

@@ -23,7 +23,7 @@ use Rattle.roots.specs.declared.Nearby.the-variants.{Is}
 use Rattle.roots.proofs.Laws.{relinked-refl}
 use Rattle.merge.specs.Meaning.{Settled}
 use Rattle.merge.specs.Quick.{Tried, OneNil}
-use Rattle.marks.specs.Marks.{Knows, Marked}
+use Rattle.marks.specs.Marks.{Knows, Beside, Marked}
 use Rattle.recall.specs.Memory.{Running, Tidy, Begun, Fewer, Forgot, Noted}
 use Rattle.recall.proofs.Laws.{marked-clock, marked-tidy, marked-still}
 use Rattle.heed.specs.Recalls.{Meets, SelfAt, Marks, Recalls, Since}
@@ -76,11 +76,11 @@ selfs-grow ns ns′ good w i s = subst (Self (view ns′)) (sym (mono-idx w i)) 
 pub marks-more : {ns : List Node} {m m′ : List ℕ} {i : ℕ} → Marks ns m → SelfAt ns i → Marked m m′ i → Marks ns m′
 marks-more {ns} {i = i} w s k = record { self = λ j v. elim (k .marks j v) [ inl e ↦ subst (SelfAt ns) (sym e) s | inr o ↦ w .self j o ] }
 
-pub moved-marked : {ns : List Node} {m m′ : List ℕ} {i : ℕ} → Tidy m → Marked m m′ i → Moved m m′ ns ns
+pub moved-marked : {ns : List Node} {m m′ : List ℕ} → Tidy m → Beside m m′ → Moved m m′ ns ns
 moved-marked t k = record {
-  tidy = marked-tidy (k .beside) t;
-  since = record { on = omega (arith, marked-clock (k .beside)); still = λ r e. refl };
-  believed = λ a b q v. (marked-still (k .beside) a b q v, refl);
+  tidy = marked-tidy k t;
+  since = record { on = omega (arith, marked-clock k); still = λ r e. refl };
+  believed = λ a b q v. (marked-still k a b q v, refl);
 }
 
 -- what it is told

@@ -1,12 +1,16 @@
-// Whether a type is its own inverse, as far as its root and a walk of some visits tell: scope's `selfInverseOf` of the n nodes in ws, whose children lie in ks, or
-// nothing.
+// Whether a type is its own inverse: scope's `selfInverseOf` of the n nodes in ws, whose children lie in ks. Its root and a walk of some visits tell it, or nothing; a walk
+// with marks tells it always.
 ghost use mathlib.Core.Path.{_≡_};
 ghost use Prim.Native.Nat.{_≤_, _<_};
-ghost use lib.ListN.{length};
+ghost use lib.Dec.{eqb};
+ghost use lib.ListN.{length, getD};
+ghost use Rattle.scope.specs.Base.{all, from};
 ghost use Rattle.scope.specs.Types.{tyOf};
 ghost use Rattle.layout.specs.Words.{nodeWords, decode};
+ghost use Rattle.layout.specs.Meaning.{readAt, heldIn};
 ghost use Rattle.related.specs.Stands.{Stands};
 ghost use Rattle.inverse.specs.Judged.{kidsIn, goodKind, Judges, Tries, Glanced};
+ghost use Rattle.inverse.specs.Marked.{goodBy, goodAt, Beside, MarkedAll};
 use layout::Held;
 use layout::Kind;
 use types::Type;
@@ -146,4 +150,61 @@ pub fn quickly(ws: &[u32], ks: &[u32], n: u32, t: Type, param: bool) -> Glance
             inverse_run(ws, ks, n, first, count, param, most)
         }
     }
+}
+
+// "never where there is no kind"
+fn good_at(ws: &[u32], n: u32, i: TypeIdx, param: bool) -> bool
+    requires { ⌜ nodeWords n ≤ length (now ws) ⌝ }
+    ensures { λ r. ⌜ r ≡ goodBy param (heldIn (readAt (now (ws .entry)) n (i .0))) ⌝ }
+{
+    match layout::held_at(ws, n, i) {
+        Held::Is(_, kind) => good_kind(kind, param),
+        Held::Nothing => false,
+    }
+}
+
+// A walk writes 1: other marks are older.
+fn is_new(marks: &[u8], i: TypeIdx) -> bool
+    ensures { λ r. ⌜ r ≡ eqb (getD (now (marks .entry)) (i .0) 0) 1 ⌝ }
+{
+    let at = i.0 as usize;
+    if at < marks.len() {
+        return marks[at] == 1;
+    }
+    false
+}
+
+// Every root that a walk met is good.
+fn all_good(ws: &[u32], n: u32, marks: &[u8], param: bool) -> bool
+    requires { ⌜ nodeWords n ≤ length (now ws) ⌝ }
+    ensures { λ r. ⌜ r ≡ all (goodAt (now (ws .entry)) n (now (marks .entry)) param) (from 0 n) ⌝ }
+{
+    let mut i: u32 = 0;
+    while i < n {
+        let at = TypeIdx(i);
+        i += 1;
+        if is_new(marks, at) {
+            if !good_at(ws, n, at, param) {
+                return false;
+            }
+        }
+    }
+    true
+}
+
+// A walk that marks each root it meets, and goes not below a node that is marked: such a one is known to be good, and so is all below it. Where the answer is true, that is
+// now known of every marked node.
+pub fn by_marks(
+    ws: &[u32],
+    ks: &[u32],
+    n: u32,
+    marks: &mut [u8],
+    t: Type,
+    param: bool,
+) -> bool
+    requires { ⌜ Beside (now ws) (now ks) n (now marks) (t .0) param ⌝ }
+    ensures { λ r. ⌜ MarkedAll (now (ws .entry)) (now (ks .entry)) n (now (marks .exit)) (t .0) param r ⌝ }
+{
+    related::find_related(ws, ks, n, marks, t);
+    all_good(ws, n, marks, param)
 }

@@ -1,4 +1,4 @@
--- A mark is a bit of its node's word: setting one leaves the others as they were. What `open_marks`, `know` and `knows` do to the words, and so to what is marked.
+-- A mark is a bit of its node's word: setting one leaves the others as they were. What each function does to the words, and so to what is marked.
 -- Assumes nothing.
 use mathlib.Core.Path.{_≡_, refl, ap, sym, subst, _∙_}
 use mathlib.Core.Bool.{Bool, true, false}
@@ -15,7 +15,7 @@ use borrow.Author.Tests.{eqb-true}
 use lib.ListN.{length, getD, set}
 use lib.Seq.{getD-set-same, getD-set-other, set-out}
 use Rattle.scope.specs.Limits.{MAX-NODES}
-use Rattle.marks.specs.Marks.{BITS, MARKED, MARKS, HEAD, bitOf, Knows, Said, Beside, Opened, Marked}
+use Rattle.marks.specs.Marks.{BITS, MARKED, MARKS, HEAD, bitOf, Knows, Said, Beside, Opened, Marked, OLD, Tells, MarkedNew}
 
 -- one bit of a word
 
@@ -181,3 +181,50 @@ marked {m} {m₁} {m₂} {i} {w} h o ew e = record {
     go : (j : ℕ) → Knows m₂ j → Dec (MARKS + j / BITS ≡ p) → (j ≡ i) ⊎ Knows m j
     go j k (yes q) = elim (here j k q (decLt p (length m₁))) [ inl y ↦ inl y | inr y ↦ inr (o .marks j y) ]
     go j k (no q) = inr (o .marks j (record { inside = k .inside; some = some j k; mark = ap (λ (v : ℕ). bitOf v j) (sym (other (MARKS + j / BITS) q)) ∙ k .mark }))
+
+-- `tell`
+
+pub tells-same : {m f : List ℕ} → Tells m f f
+tells-same = record { each = λ i. inl refl }
+
+pub tells-then : {m f f₁ f₂ : List ℕ} → Tells m f f₁ → Tells m f₁ f₂ → Tells m f f₂
+tells-then {m} {f} {f₁} {f₂} a b = record { each = λ i. go i (b .each i) (a .each i) }
+  where
+    go : (i : ℕ) → (getD f₂ i 0 ≡ getD f₁ i 0) ⊎ ((getD f₂ i 0 ≡ OLD) × Knows m i) → (getD f₁ i 0 ≡ getD f i 0) ⊎ ((getD f₁ i 0 ≡ OLD) × Knows m i)
+        → (getD f₂ i 0 ≡ getD f i 0) ⊎ ((getD f₂ i 0 ≡ OLD) × Knows m i)
+    go i (inr k) o = inr k
+    go i (inl e) (inl q) = inl (e ∙ q)
+    go i (inl e) (inr k) = inr (e ∙ k .0, k .1)
+
+-- a bit of the word p
+knows-bit : {m : List ℕ} {p k w : ℕ} → getD m MARKED 0 ≡ 1 → p < MAX-NODES / BITS → k < BITS → w ≡ getD m (MARKS + p) 0 → w / 2 ^ k % 2 ≡ 1 → Knows m (p * BITS + k)
+knows-bit {m} {p} {k} {w} s hp hk ew e = record {
+  inside = omega (arith, hp, hk);
+  some = s;
+  mark =
+      let q : (p * BITS + k) / BITS ≡ p = omega (arith, hk) in
+      let r : (p * BITS + k) % BITS ≡ k = omega (arith, hk) in
+      rw (q, r, ← ew) e;
+}
+
+pub tells-bit : {m f₀ f f′ : List ℕ} {p k w i : ℕ} → Tells m f₀ f → getD m MARKED 0 ≡ 1 → p < MAX-NODES / BITS → k < BITS → w ≡ getD m (MARKS + p) 0 → w / 2 ^ k % 2 ≡ 1
+    → i ≡ p * BITS + k → i < length f → f′ ≡ set f i OLD → Tells m f₀ f′
+tells-bit {m} {f₀} {f} {f′} {p} {k} {w} {i} t s hp hk ew e ei l ef = tells-then t (record { each = λ j. go j (ℕ-discrete j i) })
+  where
+    go : (j : ℕ) → Dec (j ≡ i) → (getD f′ j 0 ≡ getD f j 0) ⊎ ((getD f′ j 0 ≡ OLD) × Knows m j)
+    go j (yes q) = inr (
+      ap (λ (v : List ℕ). getD v j 0) ef ∙ (ap (λ (v : ℕ). getD (set f i OLD) v 0) q ∙ getD-set-same f i OLD 0 l),
+      subst (Knows m) (sym (q ∙ ei)) (knows-bit s hp hk ew e),
+    )
+    go j (no q) = inl (ap (λ (v : List ℕ). getD v j 0) ef ∙ getD-set-other f i j OLD 0 q)
+
+-- `know_new`
+
+pub new-same : {m f : List ℕ} → MarkedNew m m f
+new-same = record { beside = beside-same; marks = λ j k. inr k }
+
+pub new-more : {m₀ m m′ f : List ℕ} {i : ℕ} → MarkedNew m₀ m f → getD f i 0 ≡ 1 → Marked m m′ i → MarkedNew m₀ m′ f
+new-more {m₀} {m} {m′} {f} {i} w e k = record {
+  beside = record { before = λ j h. k .beside .before j h ∙ w .beside .before j h; after = λ j h. k .beside .after j h ∙ w .beside .after j h };
+  marks = λ j o. elim (k .marks j o) [ inl q ↦ inl (ap (λ (v : ℕ). getD f v 0) q ∙ e) | inr o ↦ w .marks j o ];
+}

@@ -48,3 +48,16 @@ pub record Opened (m m′ : List ℕ) : Type 0 where
 pub record Marked (m m′ : List ℕ) (i : ℕ) : Type 0 where
   pub beside : Beside m m′
   pub marks : (j : ℕ) → Knows m′ j → (j ≡ i) ⊎ Knows m j
+
+-- what a byte says of a node that has a mark, beside a walk that writes 1
+abbrev pub OLD : ℕ
+OLD = 2
+
+-- f′ after f: no byte changed but those of marked nodes, which are OLD
+pub record Tells (m f f′ : List ℕ) : Type 0 where
+  pub each : (i : ℕ) → (getD f′ i 0 ≡ getD f i 0) ⊎ ((getD f′ i 0 ≡ OLD) × Knows m i)
+
+-- m′ after m: no mark is new but those of nodes whose byte is 1
+pub record MarkedNew (m m′ f : List ℕ) : Type 0 where
+  pub beside : Beside m m′
+  pub marks : (j : ℕ) → Knows m′ j → (getD f j 0 ≡ 1) ⊎ Knows m j

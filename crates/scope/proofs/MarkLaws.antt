@@ -1,26 +1,30 @@
--- `occurs` and `self_inverse` by marks: one walk of `find_related` from no marks tells both. Assumes nothing.
+-- `occurs` and `self_inverse` by marks: one walk of `find_related` from no marks tells both. `self_inverse` is told beside marks too, of nodes that are known to be good
+-- and so is all below them: then every root that the walk met is as good. Assumes nothing.
 use mathlib.Core.Path.{_≡_, refl, sym, ap, ap₂, subst, _∙_}
 use mathlib.Core.List.{List, [], _∷_, List·Memᴰ, List·Memᴰ·head, List·Memᴰ·tail}
 use mathlib.Core.Bool.{Bool, true, false, not, _&&_, _||_}
 use mathlib.Core.Logic.{_≢_, _⊎_, inl, inr, _↔_}
 use Prim.Native.Nat.{ℕ, zero, suc, _+_, _≤_, _<_}
 use native.Mathlib.Omega.{arith}
+use native.Mathlib.Decide.{decLt}
 use lib.Dec.{eqb}
-use lib.ListN.{length, getD, replicate, length-replicate, getD-replicate}
+use lib.ListN.{length, getD, replicate, length-replicate, getD-replicate, List·getD-eq-default}
 use borrow.Author.Tests.{eqb-true, eqb-false, eq-eqb, ne-eqb, not-true}
 use Rattle.scope.specs.Base.{pick, all, any, from}
 use Rattle.scope.specs.Types.{Ty, ty}
 use Rattle.scope.specs.Kinds.{PARAM, selfDual}
-use Rattle.scope.specs.Nodes.{State, Known, Unknown, InferenceFailed, Node, Root, Child, at, isRoot, stateOf, find, kidsOf}
+use Rattle.scope.specs.Nodes.{Kind, State, Known, Unknown, InferenceFailed, Node, Root, Child, at, isRoot, stateOf, find, kidsOf}
 use Rattle.scope.specs.Unify.{occurs, selfInverseAt, selfInverseOf}
 use Rattle.scope.specs.Force.{findRelated}
 use Rattle.scope.proofs.Laws.{find-root}
-use Rattle.scope.proofs.View.{View, Kid, Below, one, more, view}
+use Rattle.scope.proofs.View.{VState, known, View, Kid, Below, one, more, Fin, fin, seen, view}
 use Rattle.scope.proofs.Chain.{Chain, cnil, chain-step, fuel-out, fuel-step}
-use Rattle.scope.proofs.ViewLaws.{same?, below-join}
+use Rattle.scope.proofs.ViewLaws.{same?, idx-eq, not-known, below-join}
 use Rattle.scope.proofs.TestLaws.{tf}
 use Rattle.scope.proofs.Free.{free, free-nil}
-use Rattle.scope.proofs.Marks.{Walkable, Reached, start, next, kid-of, kid-in, root-top, mem-from, Marked, related-marked}
+use Rattle.scope.proofs.Grow.{ri, Self, self}
+use Rattle.scope.proofs.Occurs.{param-dual}
+use Rattle.scope.proofs.Marks.{Walkable, Reached, start, next, reached-off, kid-of, kid-in, root-top, mem-from, Marked, related-marked}
 
 -- itself, or in what its kind holds
 abbrev pub Reach : View → ℕ → ℕ → Type 0
@@ -125,7 +129,7 @@ module _ {A : Type 0} (p : A → Bool) where
   all-true (x ∷ xs) h = ap₂ _&&_ (h x (List·Memᴰ·head refl)) (all-true xs (λ y m. h y (List·Memᴰ·tail m)))
 
 -- a root's type is where it leads
-root-find : (ns : List Node) (t : Ty) → isRoot (at ns (t .idx)) ≡ true → find ns t .idx ≡ t .idx
+pub root-find : (ns : List Node) (t : Ty) → isRoot (at ns (t .idx)) ≡ true → find ns t .idx ≡ t .idx
 root-find ns t e = go (at ns (t .idx)) refl e
   where
     go : (x : Node) → at ns (t .idx) ≡ x → isRoot x ≡ true → find ns t .idx ≡ t .idx
@@ -187,6 +191,20 @@ good param (Known i k) = pick (eqb (k .head .code) PARAM) param (selfDual (k .he
 good param (Unknown p) = false
 good param InferenceFailed = false
 
+-- all that a node's root leads to does
+abbrev pub GoodBelow : Bool → List Node → ℕ → Type 0
+GoodBelow param ns i = (j : ℕ) → Reach (view ns) (view ns .rep i .idx) j → good param (stateOf (at ns j)) ≡ true
+
+-- marks before a walk, which writes 1: none is 1, and what is marked is known to be good
+pub record Told (param : Bool) (ns : List Node) (ms : List ℕ) : Type 0 where
+  pub room : length ns ≤ length ms
+  pub old : (i : ℕ) → getD ms i 0 ≢ 1
+  pub good : (i : ℕ) → getD ms i 0 ≢ 0 → GoodBelow param ns i
+
+-- a node that the walk did not mark, or one with a good state
+abbrev pub newGood : Bool → List Node → List ℕ → ℕ → Bool
+newGood param ns ms i = not (eqb (getD ms i 0) 1) || good param (stateOf (at ns i))
+
 module _ {ns : List Node} (w : Walkable ns) (param : Bool) where
   self-step : (f a : ℕ) → selfInverseAt param (suc f) ns a
       ≡ (good param (stateOf (at ns a)) && all (λ c. selfInverseAt param f ns (find ns c .idx)) (kidsOf (stateOf (at ns a))))
@@ -236,40 +254,138 @@ module _ {ns : List Node} (w : Walkable ns) (param : Bool) where
       (λ x m. let k = kid-of ns a x t m in
       good-self f (find ns x .idx) (a ∷ ls) (root-top ns w x) (child-inside w a x m) (chain-step k c) (fuel-step (w .good) c h q) (λ i r. g i (inr (kid-reach k r)))))
 
-  -- `self_inverse`: every marked root has a good state
-  pub self-marks : {ms : List ℕ} → Clear ns ms → (t : Ty) → t .idx < length ns
-      → selfInverseOf ns t param ≡ all (λ i. eqb (getD (findRelated ns t ms) i 0) 0 || good param (stateOf (at ns i))) (from 0 (length ns))
-  unfolding selfInverseOf
-  self-marks {ms} z t h = same-bool (selfInverseAt param (length ns) ns r) (all p (from 0 (length ns)))
-      (λ e. all-true p (from 0 (length ns)) (λ i m. tested i (λ o. self-good (length ns) r e i (led i m o)) (same? (mark i) 0)))
-      (λ e. good-self (length ns) r [] (root-top ns w t) (w .inside t h) cnil (free-nil (length ns))
-      (λ i q. passed i (related-clear w z t h i (inside i q) .1 q) (all-yes p (mem-from 0 (length ns) i (omega arith) (omega (arith, inside i q))) e)))
-    where
-      r : ℕ
-      r = find ns t .idx
+  module _ {ms : List ℕ} (k : Told param ns ms) (t : Ty) (h : t .idx < length ns) where
+    abbrev root : ℕ
+    root = find ns t .idx
 
-      mark : ℕ → ℕ
-      mark i = getD (findRelated ns t ms) i 0
+    abbrev after : List ℕ
+    after = findRelated ns t ms
 
-      p : ℕ → Bool
-      p i = eqb (mark i) 0 || good param (stateOf (at ns i))
+    abbrev passed : Bool
+    passed = all (newGood param ns (findRelated ns t ms)) (from 0 (length ns))
 
-      led : (i : ℕ) → List·Memᴰ i (from 0 (length ns)) → mark i ≢ 0 → Reach (view ns) r i
-      led i m o = related-clear w z t h i (omega (arith, from-mem 0 (length ns) m)) .0 o
+    met : Marked ns root ms after
+    met = related-marked w ms t (k .room) h
 
-      tested : (i : ℕ) → (mark i ≢ 0 → good param (stateOf (at ns i)) ≡ true) → (mark i ≡ 0) ⊎ (mark i ≢ 0) → p i ≡ true
-      tested i g (inl e) = rw (eq-eqb (mark i) 0 e) refl
-      tested i g (inr o) = or-true (eqb (mark i) 0) (good param (stateOf (at ns i))) (g o)
+    reached-top : {a : ℕ} → Reached ns ms root a → view ns .rep a ≡ ty false a
+    reached-top (start e) = root-top ns w t
+    reached-top (next r c e) = subst (λ (x : ℕ). view ns .rep x ≡ ty false x) (c .to) (w .good .idem (c .kid .idx))
 
-      passed : (i : ℕ) → mark i ≢ 0 → p i ≡ true → good param (stateOf (at ns i)) ≡ true
-      passed i o e = ap (λ (b : Bool). b || good param (stateOf (at ns i))) (sym (ne-eqb (mark i) 0 o)) ∙ e
+    reached-inside : {a : ℕ} → Reached ns ms root a → a < length ns
+    reached-inside (start e) = w .inside t h
+    reached-inside (next r c e) = kid-inside w c
 
-      inside : (i : ℕ) → Reach (view ns) r i → i < length ns
-      inside i (inl e) = omega (arith, w .inside t h, e)
-      inside i (inr b) = below-inside w b
+    -- a root that the walk met was tested
+    tested-good : {a : ℕ} → passed ≡ true → Reached ns ms root a → good param (stateOf (at ns a)) ≡ true
+    tested-good {a} p r =
+        let e : getD after a 0 ≡ 1 = met .ones a (reached-off r) (met .marks a .1 (inr r)) in
+        let q : newGood param ns after a ≡ true = all-yes (newGood param ns after) (mem-from 0 (length ns) a (omega arith) (omega (arith, reached-inside r))) p in
+        sym (ap (λ (b : Bool). not b || good param (stateOf (at ns a))) (eq-eqb (getD after a 0) 1 e)) ∙ q
 
-  -- the same at a root, as `unify` asks it
-  pub self-at-marks : {ms : List ℕ} → Clear ns ms → (t : Ty) → t .idx < length ns → isRoot (at ns (t .idx)) ≡ true
-      → selfInverseAt param (length ns) ns (t .idx) ≡ all (λ i. eqb (getD (findRelated ns t ms) i 0) 0 || good param (stateOf (at ns i))) (from 0 (length ns))
-  unfolding selfInverseOf
-  self-at-marks z t h e = ap (selfInverseAt param (length ns) ns) (sym (root-find ns t e)) ∙ self-marks z t h
+    -- and so is all below it: each child's root was met, or is known
+    reached-good : {a j : ℕ} → passed ≡ true → Reached ns ms root a → Reach (view ns) a j → good param (stateOf (at ns j)) ≡ true
+    reached-good p r (inl e) = subst (λ (x : ℕ). good param (stateOf (at ns x)) ≡ true) e (tested-good p r)
+    reached-good {j = j} p r (inr (one {x = x} c)) = go (same? (getD ms x 0) 0)
+      where
+        go : (getD ms x 0 ≡ 0) ⊎ (getD ms x 0 ≢ 0) → good param (stateOf (at ns x)) ≡ true
+        go (inl e) = tested-good p (next r c e)
+        go (inr o) = k .good x o x (inl (idx-eq (subst (λ (y : ℕ). view ns .rep y ≡ ty false y) (c .to) (w .good .idem (c .kid .idx)))))
+    reached-good {j = j} p r (inr (more {y = y} c b)) = go (same? (getD ms y 0) 0) (λ e. reached-good p (next r c e) (inr b))
+      where
+        go : (getD ms y 0 ≡ 0) ⊎ (getD ms y 0 ≢ 0) → (getD ms y 0 ≡ 0 → good param (stateOf (at ns j)) ≡ true) → good param (stateOf (at ns j)) ≡ true
+        go (inl e) ih = ih e
+        go (inr o) ih =
+            let q : view ns .rep y .idx ≡ y = idx-eq (subst (λ (z : ℕ). view ns .rep z ≡ ty false z) (c .to) (w .good .idem (c .kid .idx))) in
+            k .good y o j (inr (subst (λ (z : ℕ). Below (view ns) z j) (sym q) b))
+
+    pub beside-good : passed ≡ true → (i : ℕ) → getD (findRelated ns t ms) i 0 ≢ 0 → GoodBelow param ns i
+    beside-good p i o = go (met .marks i .0 o)
+      where
+        go : (getD ms i 0 ≢ 0) ⊎ Reached ns ms root i → GoodBelow param ns i
+        go (inl q) = k .good i q
+        go (inr r) = λ j q. reached-good p r (subst (λ (x : ℕ). Reach (view ns) x j) (idx-eq (reached-top r)) q)
+
+    -- `self_inverse`: every root that the walk met has a good state
+    pub self-beside : selfInverseOf ns t param ≡ all (newGood param ns (findRelated ns t ms)) (from 0 (length ns))
+    unfolding selfInverseOf
+    self-beside = same-bool (selfInverseAt param (length ns) ns root) passed
+        (λ e. all-true (newGood param ns after) (from 0 (length ns)) (λ i m. each e i (same? (getD after i 0) 1)))
+        (λ p. good-self (length ns) root [] (root-top ns w t) (w .inside t h) cnil (free-nil (length ns)) (λ i q. below p i q (same? (getD ms root 0) 0)))
+      where
+        led : (i : ℕ) → getD after i 0 ≡ 1 → (getD ms i 0 ≢ 0) ⊎ Reached ns ms root i → Reach (view ns) root i
+        led i e (inl o) = absurd (k .old i (sym (met .keep i o) ∙ e))
+        led i e (inr r) = reached-reach r
+
+        each : selfInverseAt param (length ns) ns root ≡ true → (i : ℕ) → (getD after i 0 ≡ 1) ⊎ (getD after i 0 ≢ 1) → newGood param ns after i ≡ true
+        each e i (inl q) =
+            or-true (not (eqb (getD after i 0) 1)) (good param (stateOf (at ns i)))
+            (self-good (length ns) root e i (led i q (met .marks i .0 (λ z. omega (arith, q, z)))))
+        each e i (inr q) = ap (λ (b : Bool). not b || good param (stateOf (at ns i))) (ne-eqb (getD after i 0) 1 q)
+
+        below : passed ≡ true → (i : ℕ) → Reach (view ns) root i → (getD ms root 0 ≡ 0) ⊎ (getD ms root 0 ≢ 0) → good param (stateOf (at ns i)) ≡ true
+        below p i q (inl e) = reached-good p (start e) q
+        below p i q (inr o) = k .good root o i (subst (λ (x : ℕ). Reach (view ns) x i) (sym (idx-eq (root-top ns w t))) q)
+
+-- no marks at all
+pub none-marked : (m i : ℕ) → _≡_ {A = ℕ} (getD (replicate m 0) i 0) 0
+none-marked m i = go (decLt i m)
+  where
+    go : Dec (i < m) → _≡_ {A = ℕ} (getD (replicate m 0) i 0) 0
+    go (yes h) = getD-replicate m i 0 0 h
+    go (no h) = List·getD-eq-default (replicate m 0) 0 {n = i} (omega (arith, length-replicate {A = ℕ} m 0))
+
+pub told-clear : (param : Bool) (ns : List Node) (m : ℕ) → length ns ≤ m → Told param ns (replicate m 0)
+told-clear param ns m l = record {
+  room = omega (arith, length-replicate {A = ℕ} m 0);
+  old = λ i e. omega (arith, e, none-marked m i);
+  good = λ i o. absurd (o (none-marked m i));
+}
+
+-- a root that is its own inverse by its kinds, as `unify` knows it, is one that is good and so is all below it
+
+self-state : (ns : List Node) (a : ℕ) (i : Bool) (k : Kind) → view ns .st a ≡ known i k → selfDual (k .head) ≡ true → good false (stateOf (at ns a)) ≡ true
+unfolding view
+self-state ns a i k s d = go (stateOf (at ns a)) s
+  where
+    by-code : (b : Bool) → eqb (k .head .code) PARAM ≡ b → pick b false (selfDual (k .head)) ≡ true
+    by-code true e = tf (sym d ∙ param-dual (k .head) (eqb-true (k .head .code) PARAM e))
+    by-code false e = d
+
+    go : (v : State) → seen v ≡ known i k → good false v ≡ true
+    go (Known j m) e = let q : m ≡ k = cc in rw q (by-code (eqb (k .head .code) PARAM) refl)
+    go (Unknown p) e = absurd (not-known e)
+    go InferenceFailed e = absurd (not-known e)
+
+kid-mem : {g : View} {a x : ℕ} {i : Bool} {k : Kind} → g .st a ≡ known i k → (c : Kid g a x) → List·Memᴰ (c .kid) (k .kids)
+kid-mem {g} {a} {k = k} s c = let q : known (c .inv) (c .kind) ≡ known _ k = sym (c .state) ∙ s in let e : c .kind ≡ k = cc in rw (← e) (c .mem)
+
+state-self : (ns : List Node) (a : ℕ) → view ns .rep a ≡ ty false a → good false (stateOf (at ns a)) ≡ true → ((x : ℕ) → Kid (view ns) a x → Self (view ns) x)
+    → Self (view ns) a
+unfolding view
+state-self ns a t p ih = go (stateOf (at ns a)) refl p
+  where
+    dual : (b : Bool) (h : Bool) → pick b false h ≡ true → h ≡ true
+    dual true h e = tf (sym e)
+    dual false h e = e
+
+    go : (v : State) → stateOf (at ns a) ≡ v → good false v ≡ true → Self (view ns) a
+    go (Known i k) e g =
+        self i k (ap seen e) (dual (eqb (k .head .code) PARAM) (selfDual (k .head)) g)
+        (λ x m. ih (ri (view ns) x) (record { inv = i; kind = k; kid = x; top = t; state = ap seen e; mem = m; to = refl }))
+    go (Unknown q) e g = tf (sym g)
+    go InferenceFailed e g = tf (sym g)
+
+pub self-below : (ns : List Node) {a j : ℕ} → Self (view ns) a → Reach (view ns) a j → good false (stateOf (at ns j)) ≡ true
+self-below ns {a} (self i k s d f) (inl e) = subst (λ (x : ℕ). good false (stateOf (at ns x)) ≡ true) e (self-state ns a i k s d)
+self-below ns (self i k s d f) (inr (one c)) = self-below ns (f (c .kid) (kid-mem s c)) (inl (c .to))
+self-below ns {j = j} (self i k s d f) (inr (more c b)) =
+    self-below ns (f (c .kid) (kid-mem s c)) (inr (subst (λ (x : ℕ). Below (view ns) x j) (sym (c .to)) b))
+
+module _ {ns : List Node} (w : Walkable ns) where
+  fin-self : {a : ℕ} → Fin (view ns) a → view ns .rep a ≡ ty false a → ((j : ℕ) → Reach (view ns) a j → good false (stateOf (at ns j)) ≡ true) → Self (view ns) a
+  fin-self {a} (fin f) t q =
+      state-self ns a t (q a (inl refl))
+      (λ x c. fin-self (f x c) (subst (λ (y : ℕ). view ns .rep y ≡ ty false y) (c .to) (w .good .idem (c .kid .idx))) (λ j r. q j (inr (kid-reach c r))))
+
+  pub below-self : (i : ℕ) → GoodBelow false ns i → Self (view ns) (view ns .rep i .idx)
+  below-self i q = fin-self (w .good .wf (view ns .rep i .idx)) (w .good .idem i) q

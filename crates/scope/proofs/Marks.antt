@@ -166,7 +166,7 @@ reached-under : {ns : List Node} {ms : List ℕ} {r y i : ℕ} → getD ms r 0 �
 reached-under z k (start e) = next (start z) k e
 reached-under z k (next h c e) = next (reached-under z k h) c e
 
-reached-off : {ns : List Node} {ms : List ℕ} {r i : ℕ} → Reached ns ms r i → getD ms i 0 ≡ 0
+pub reached-off : {ns : List Node} {ms : List ℕ} {r i : ℕ} → Reached ns ms r i → getD ms i 0 ≡ 0
 reached-off (start e) = e
 reached-off (next h k e) = e
 

@@ -36,7 +36,7 @@ occurs-no (suc f) g x y e = go (same? y x) (λ z. occurs-no f g x z)
         not-below (more c b) = ih (ri g (c .kid)) (none (c .kid) (c .inv) (c .kind) (c .state) (c .mem)) .1
             (subst (λ (z : ℕ). Below g z x) (sym (c .to)) b)
 
-param-dual : (h : Head) → h .code ≡ PARAM → selfDual h ≡ false
+pub param-dual : (h : Head) → h .code ≡ PARAM → selfDual h ≡ false
 unfolding selfDual rowOf
 param-dual h e = rw e
 

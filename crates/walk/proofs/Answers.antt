@@ -1,26 +1,25 @@
--- The laws of the answers. A walk from no marks tells `occurs` and `self_inverse`, as scope's laws of marks say; the rest is one step of each
+-- The laws of the answers. A walk from no marks tells `occurs`, as scope's laws of marks say; the rest is one step of each
 -- definition at what the code reads, and for `get_mod` that looking through the Refs that are left gives what looking through all gives.
 -- Assumes nothing.
-use mathlib.Core.Path.{_≡_, refl, ap, sym, _∙_, fun-ext}
-use mathlib.Core.Bool.{Bool, true, false, not, _||_}
+use mathlib.Core.Path.{_≡_, refl, ap, sym, _∙_}
+use mathlib.Core.Bool.{Bool, true, false, not}
 use mathlib.Core.List.{List, []}
 use Prim.Native.Nat.{ℕ, zero, suc, _+_, _-_, _≤_, _<_}
 use native.Mathlib.Omega.{arith}
 use lib.Dec.{eqb}
 use lib.ListN.{length, getD, replicate}
-use borrow.Author.Tests.{eq-eqb, ne-eqb, not-true, not-false}
-use Rattle.scope.specs.Base.{all, from}
+use borrow.Author.Tests.{eq-eqb, ne-eqb}
 use Rattle.scope.specs.Limits.{MAX-NODES}
 use Rattle.scope.specs.Chart.{Env}
 use Rattle.scope.specs.Types.{Ty, tyOf}
 use Rattle.scope.specs.Kinds.{REF}
 use Rattle.scope.specs.Nodes.{Node, at, isRoot, stateOf, find, kidsOf}
-use Rattle.scope.specs.Unify.{occurs, selfInverseAt, selfInverseOf}
+use Rattle.scope.specs.Unify.{occurs}
 use Rattle.scope.specs.Force.{findRelated, isNil, none-mod, modOfRef, modOfState, getModF, getMod}
 use Rattle.scope.specs.Force as force
 use Rattle.scope.proofs.SoundLaws.{SoundNodes}
 use Rattle.scope.proofs.Walks.{sound-walkable}
-use Rattle.scope.proofs.MarkLaws.{Clear, clear-zeros, occurs-marks, good, self-marks, self-at-marks}
+use Rattle.scope.proofs.MarkLaws.{Clear, clear-zeros, occurs-marks, told-clear}
 use Rattle.types.specs.declared.Inverted.{Inverted}
 use Rattle.layout.specs.Words.{slotAt, decode}
 use Rattle.layout.specs.Meaning.{slotMeans, kindMeans, readAt, heldIn, heldKids, Clean}
@@ -33,11 +32,12 @@ use Rattle.layout.proofs.HeldLaws.{held-kids}
 use Rattle.chart.specs.Words.{recordsOf}
 use Rattle.roots.specs.Found.{Found}
 use Rattle.related.proofs.Laws.{root-is}
+use Rattle.inverse.specs.Marked.{Beside}
 use Rattle.walk.specs.declared.Mod.{Mod}
 use Rattle.walk.specs.declared.Mod.the-variants as mods
-use Rattle.walk.specs.Read.{nilBy, goodBy, goodAt, modMeans, modBy}
+use Rattle.walk.specs.Read.{nilBy, modMeans, modBy}
 use Rattle.walk.specs.Asks.{Stands, Walks, Occurs, Inverses, Nil, Modded}
-use Rattle.walk.proofs.Laws.{modIn, good-read, nil-read, mod-read, kid-next, kid-none}
+use Rattle.walk.proofs.Laws.{modIn, nil-read, mod-read, kid-next, kid-none}
 
 -- sound nodes can be walked
 pub sound-walks : (e : Env) {ws ks : List ℕ} {c n : ℕ} → Clean ws ks c n → n ≤ MAX-NODES → SoundNodes e (decode ws ks n) → Walks ws ks n
@@ -82,32 +82,14 @@ occurs-walk {ws} {ks} {n} {x} {y} o m e =
 
 -- `self_inverse`
 
-module _ (ws : List ℕ) (n : ℕ) (ms : List ℕ) (param : Bool) (i : ℕ) {b : Bool} (m : b ≡ not (eqb (getD ms i 0) 0)) where
-  pub good-skip : b ≡ false → goodAt ws n ms param i ≡ true
-  good-skip e = rw (not-false (eqb (getD ms i 0) 0) (sym m ∙ e))
-
-  pub good-test : {r g : Bool} → b ≡ true → r ≡ goodBy param (heldIn (readAt ws n i)) → r ≡ g → goodAt ws n ms param i ≡ g
-  good-test e s q = rw (not-true (eqb (getD ms i 0) 0) (sym m ∙ e)) (sym s ∙ q)
-
-module _ {ws ks : List ℕ} {n t : ℕ} (o : Inverses ws ks n t) (param : Bool) where
-  pub inverse-walk : {ms : List ℕ} {b : Bool} → ms ≡ findRelated (decode ws ks n) (tyOf t) (replicate MAX-NODES 0)
-      → b ≡ all (goodAt ws n ms param) (from 0 n) → b ≡ selfInverseOf (decode ws ks n) (tyOf t) param
-  inverse-walk {ms} m e =
-      let ns : List Node = decode ws ks n in
-      let l : length ns ≡ n = length-decode ws ks n in
-      let w = self-marks (o .walks .walkable) param (clear (o .walks)) (tyOf t) (omega (arith, o .inside)) in
-      let each : (i : ℕ) → goodAt ws n ms param i ≡ (eqb (getD ms i 0) 0 || good param (stateOf (at ns i))) =
-      λ i. ap (λ (g : Bool). eqb (getD ms i 0) 0 || g) (sym (good-read i (o .walks .stands .clean) refl refl param)) in
-      e ∙ (ap (λ (p : ℕ → Bool). all p (from 0 n)) (fun-ext each) ∙ rw m (sym (rw l at w)))
-
-  -- the same at a root, as `unify` asks it
-  pub inverse-root : isRoot (at (decode ws ks n) (tyOf t .idx)) ≡ true
-      → selfInverseOf (decode ws ks n) (tyOf t) param ≡ selfInverseAt param n (decode ws ks n) (tyOf t .idx)
-  inverse-root e =
-      let l : length (decode ws ks n) ≡ n = length-decode ws ks n in
-      let h : tyOf t .idx < length (decode ws ks n) = omega (arith, o .inside) in
-      self-marks (o .walks .walkable) param (clear (o .walks)) (tyOf t) h
-      ∙ (sym (self-at-marks (o .walks .walkable) param (clear (o .walks)) (tyOf t) h e) ∙ rw l refl)
+-- a walk from no marks knows nothing at first
+pub inverse-asks : {ws ks : List ℕ} {n t : ℕ} → Inverses ws ks n t → (param : Bool) → Beside ws ks n (replicate MAX-NODES 0) t param
+inverse-asks {ws} {ks} {n} o param = record {
+  stands = o .walks .stands;
+  walkable = o .walks .walkable;
+  told = told-clear param (decode ws ks n) MAX-NODES (omega (arith, length-decode ws ks n, o .walks .few));
+  inside = o .inside;
+}
 
 -- `is_nil`
 

@@ -12,12 +12,11 @@ use lib.ListN.{length, getD, drop, drop-of-length-le}
 use lib.Seq.{drop-cons}
 use Rattle.scope.specs.Chart.{Env}
 use Rattle.scope.specs.Types.{Ty, tyOf}
-use Rattle.scope.specs.Kinds.{TUPLE, selfDual}
+use Rattle.scope.specs.Kinds.{TUPLE}
 use Rattle.scope.specs.Nodes.{at, stateOf}
 use Rattle.scope.specs.Nodes as nodes
 use Rattle.scope.specs.Force.{nilState, none-mod, modOfState}
 use Rattle.scope.specs.Force as force
-use Rattle.scope.proofs.MarkLaws.{good}
 use Rattle.types.specs.declared.Inverted.{Inverted}
 use Rattle.layout.specs.Words.{slotAt, decode}
 use Rattle.layout.specs.Meaning.{slotMeans, kindMeans, readAt, heldIn, Clean}
@@ -27,7 +26,7 @@ use Rattle.layout.specs.declared.Held.{Held}
 use Rattle.layout.specs.declared.Held.the-variants.{Is, Nothing}
 use Rattle.layout.proofs.ChildLaws.{length-kids, kid-at}
 use Rattle.layout.proofs.HeldLaws.{held-by}
-use Rattle.walk.specs.Read.{nilBy, goodBy}
+use Rattle.walk.specs.Read.{nilBy}
 
 -- one node
 
@@ -44,10 +43,6 @@ nil-kind ks i k = ap (λ (m : ℕ). eqb (k .code) TUPLE && eqb m 0) (length-kids
 
 -- what the code reads at i, where the words are clean
 module _ (i : ℕ) {ws ks : List ℕ} {c n : ℕ} (cl : Clean ws ks c n) {r q : Held} (e : r ≡ heldIn (readAt ws n i)) (s : r ≡ q) where
-  pub good-read : (param : Bool) → good param (stateOf (at (decode ws ks n) i)) ≡ goodBy param q
-  unfolding kindMeans selfDual
-  good-read param = held-by ws ks c n cl i e s (good param) (goodBy param) (λ j k. refl) (λ p. refl) refl
-
   pub nil-read : nilState (stateOf (at (decode ws ks n) i)) ≡ nilBy q
   nil-read = held-by ws ks c n cl i e s nilState nilBy (nil-kind ks) (λ p. refl) refl
 

@@ -1,6 +1,6 @@
--- What a kind tells without its children: whether it has any, whether a type can be its own inverse, and the answer of `get_mod`.
+-- What a kind tells without its children: whether it has any, and the answer of `get_mod`.
 use mathlib.Core.List.{List}
-use mathlib.Core.Bool.{Bool, true, false, _&&_, _||_}
+use mathlib.Core.Bool.{Bool, true, false, _&&_}
 use Prim.Native.Nat.{ℕ}
 use lib.Dec.{eqb}
 use lib.ListN.{getD}
@@ -9,10 +9,8 @@ use Rattle.scope.specs.Chart.{Record, noRecord}
 use Rattle.scope.specs.Kinds.{TUPLE, ERROR}
 use Rattle.scope.specs.Force.{none-mod, mod-of, error-mod, hasDef}
 use Rattle.scope.specs.Force as force
-use Rattle.layout.specs.Meaning.{readAt, heldIn}
 use Rattle.layout.specs.declared.Held.{Held}
 use Rattle.layout.specs.declared.Held.the-variants as held
-use Rattle.inverse.specs.Judged.{goodKind}
 use Rattle.walk.specs.declared.Mod.{Mod}
 use Rattle.walk.specs.declared.Mod.the-variants.{Nothing, Def, Error}
 
@@ -25,15 +23,6 @@ leafBy held.Nothing = true
 abbrev pub nilBy : Held → Bool
 nilBy (held.Is i k) = eqb (k .code) TUPLE && eqb (k .count) 0
 nilBy held.Nothing = false
-
--- a root that lets a type be its own inverse, children apart
-abbrev pub goodBy : Bool → Held → Bool
-goodBy param (held.Is i k) = goodKind param k
-goodBy param held.Nothing = false
-
--- a node without a mark, or with a good kind
-abbrev pub goodAt : List ℕ → ℕ → List ℕ → Bool → ℕ → Bool
-goodAt ws n ms param i = eqb (getD ms i 0) 0 || goodBy param (heldIn (readAt ws n i))
 
 -- what the code's answers mean
 abbrev pub modMeans : Mod → force.Mod

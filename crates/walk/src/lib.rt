@@ -5,14 +5,13 @@ ghost use mathlib.Core.Bool.{not};
 ghost use Prim.Native.Nat.{_≤_, _<_};
 ghost use lib.Dec.{eqb};
 ghost use lib.ListN.{length, getD, set};
-ghost use Rattle.scope.specs.Base.{all, from};
 ghost use Rattle.scope.specs.Types.{tyOf};
 ghost use Rattle.scope.specs.Unify.{occurs, selfInverseOf};
 ghost use Rattle.scope.specs.Force.{hasDef};
 ghost use Rattle.layout.specs.Words.{nodeWords, decode};
 ghost use Rattle.layout.specs.Meaning.{readAt, heldIn, kindMeans, Linked};
 ghost use Rattle.chart.specs.Words.{recordsOf};
-ghost use Rattle.walk.specs.Read.{leafBy, nilBy, goodBy, goodAt, modMeans, modBy};
+ghost use Rattle.walk.specs.Read.{leafBy, nilBy, modMeans, modBy};
 ghost use Rattle.related.specs.Stands.{Stands};
 ghost use Rattle.walk.specs.Asks.{Looked, Occurs, Inverses, Nil, Modded};
 use inverse::Glance;
@@ -96,42 +95,13 @@ pub fn occurs(ws: &[u32], ks: &[u32], n: u32, x: TypeIdx, y: Type) -> bool
     }
 }
 
-// "never where there is no kind"
-fn good_at(ws: &[u32], n: u32, i: TypeIdx, param: bool) -> bool
-    requires { ⌜ nodeWords n ≤ length (now ws) ⌝ }
-    ensures { λ r. ⌜ r ≡ goodBy param (heldIn (readAt (now (ws .entry)) n (i .0))) ⌝ }
-{
-    match layout::held_at(ws, n, i) {
-        Held::Is(_, kind) => inverse::good_kind(kind, param),
-        Held::Nothing => false,
-    }
-}
-
-fn all_good(ws: &[u32], n: u32, marks: &[u8], param: bool) -> bool
-    requires { ⌜ nodeWords n ≤ length (now ws) ⌝ }
-    ensures { λ r. ⌜ r ≡ all (goodAt (now (ws .entry)) n (now (marks .entry)) param) (from 0 n) ⌝ }
-{
-    let mut i: u32 = 0;
-    while i < n {
-        let at = TypeIdx(i);
-        i += 1;
-        if roots::is_marked(marks, at) {
-            if !good_at(ws, n, at, param) {
-                return false;
-            }
-        }
-    }
-    true
-}
-
 // Every root that the type leads to is good.
 fn inverse_deep(ws: &[u32], ks: &[u32], n: u32, t: Type, param: bool) -> bool
     requires { ⌜ Inverses (now ws) (now ks) n (t .0) ⌝ }
     ensures { λ r. ⌜ r ≡ selfInverseOf (decode (now (ws .entry)) (now (ks .entry)) n) (tyOf (t .0)) param ⌝ }
 {
     let mut marks = [0u8; MAX_NODES];
-    related::find_related(ws, ks, n, &mut marks, t);
-    all_good(ws, n, &marks, param)
+    inverse::by_marks(ws, ks, n, &mut marks, t, param)
 }
 
 // What some visits do not decide is walked with marks, so that each root is visited once.

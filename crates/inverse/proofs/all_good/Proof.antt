@@ -1,4 +1,4 @@
--- `walk::all_good` meets its contract. The invariant: every node below i passes the test. The measure is how many are left.
+-- `inverse::all_good` meets its contract. The invariant: every node below i passes the test. The measure is how many are left.
 -- Assumes nothing.
 use mathlib.Core.Path.{_≡_}
 use mathlib.Core.Bool.{true}
@@ -8,10 +8,10 @@ use borrow.Author.Count.{below-more}
 use borrow.Author.Needs.{needs}
 use borrow.Author.Tests.{not-true, not-false}
 use Rattle.layout.proofs.Lists.{all-stop, all-done}
-use Rattle.walk.specs.Read.{goodAt}
-use Rattle.walk.proofs.Answers.{good-skip, good-test}
-use Rattle.walk.proofs.all_good.Statement.{statement}
-use Rattle.walk.proofs.all_good.Tie as tie
+use Rattle.inverse.specs.Marked.{goodAt}
+use Rattle.inverse.proofs.MarkedLaws.{good-skip, good-test}
+use Rattle.inverse.proofs.all_good.Statement.{statement}
+use Rattle.inverse.proofs.all_good.Tie as tie
 
 abbrev Inv-loop : tie.InvT-loop
 Inv-loop ws n marks param i₀ i = (i ≤ n) × ((u : ℕ) → u < i → goodAt ws n marks param u ≡ true)
@@ -25,8 +25,8 @@ loop-holds c = (omega arith, λ u h. absurd (omega arith))
 add-i : tie.Need-add-i Inv-loop μ-loop
 add-i c = search needs
 
-is-marked-requires : tie.Need-is-marked-requires Inv-loop μ-loop
-is-marked-requires c κs = search needs
+is-new-requires : tie.Need-is-new-requires Inv-loop μ-loop
+is-new-requires c κs = search needs
 
 good-at-requires : tie.Need-good-at-requires Inv-loop μ-loop
 good-at-requires c κs = search needs
@@ -37,7 +37,7 @@ returns c =
     let l = b .before .before in
     let s = l .before .before .before .args in
     all-stop (goodAt (s .ws .now) (s .n) (s .marks .now) (s .param)) (s .n) (l .loop .i) (b .before .loop-test .taken)
-    (good-test (s .ws .now) (s .n) (s .marks .now) (s .param) (l .loop .i) (b .is-marked .ensures) (c .before .before .if1 .taken) (c .before .good-at .ensures) (not-true _ (c .if2 .taken)))
+    (good-test (s .ws .now) (s .n) (s .marks .now) (s .param) (l .loop .i) (b .is-new .ensures) (c .before .before .if1 .taken) (c .before .good-at .ensures) (not-true _ (c .if2 .taken)))
 
 loop-less : tie.Need-loop-less Inv-loop μ-loop
 loop-less c = omega (arith, c .before .before .before .before .loop-test .taken)
@@ -49,7 +49,7 @@ loop-again c =
     let s = l .before .before .before .args in (
       omega (arith, b .before .loop-test .taken),
       below-more _ _ (l .loop .inv .1)
-          (good-test (s .ws .now) (s .n) (s .marks .now) (s .param) (l .loop .i) (b .is-marked .ensures) (c .before .before .if1 .taken) (c .before .good-at .ensures) (not-false _ (c .if2 .left))),
+          (good-test (s .ws .now) (s .n) (s .marks .now) (s .param) (l .loop .i) (b .is-new .ensures) (c .before .before .if1 .taken) (c .before .good-at .ensures) (not-false _ (c .if2 .left))),
     )
 
 loop-less-2 : tie.Need-loop-less-2 Inv-loop μ-loop
@@ -61,7 +61,7 @@ loop-again-2 c =
     let l = b .before .before in
     let s = l .before .before .before .args in (
       omega (arith, b .before .loop-test .taken),
-      below-more _ _ (l .loop .inv .1) (good-skip (s .ws .now) (s .n) (s .marks .now) (s .param) (l .loop .i) (b .is-marked .ensures) (c .if1 .left)),
+      below-more _ _ (l .loop .inv .1) (good-skip (s .ws .now) (s .n) (s .marks .now) (s .param) (l .loop .i) (b .is-new .ensures) (c .if1 .left)),
     )
 
 returns-2 : tie.Need-returns-2 Inv-loop μ-loop
@@ -77,7 +77,7 @@ all-good-spec =
     μ-loop
     loop-holds
     add-i
-    is-marked-requires
+    is-new-requires
     good-at-requires
     returns
     loop-less

@@ -1,8 +1,8 @@
--- `walk::good_at` meets its contract: the two arms are the clauses of goodBy.
+-- `inverse::good_at` meets its contract: the two arms are the clauses of goodBy.
 -- Assumes nothing.
 use borrow.Author.Needs.{needs}
-use Rattle.walk.proofs.good_at.Statement.{statement}
-use Rattle.walk.proofs.good_at.Tie as tie
+use Rattle.inverse.proofs.good_at.Statement.{statement}
+use Rattle.inverse.proofs.good_at.Tie as tie
 
 held-at-requires : tie.Need-held-at-requires
 held-at-requires c κs = search needs
