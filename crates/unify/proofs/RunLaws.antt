@@ -1,5 +1,5 @@
 -- Pairs in order: a step for each pair, what is left of a run and of an object. A loop's invariant is that what is left gives the whole; one law for each way out of
--- `unify_kids`, `unify_types` and `unify_objects`.
+-- `unify_types` and `unify_objects`, and for each kind of steps in `unify_pair`.
 -- Assumes nothing.
 use mathlib.Core.Path.{_≡_, refl, ap, sym, subst, _∙_}
 use mathlib.Core.List.{List, [], _∷_, _++_, List·Memᴰ·head, List·Memᴰ·tail, Memᴰ·append-left}
@@ -324,7 +324,7 @@ pub stored-ends : {x : Texts} {ws₀ ks m₀ : List ℕ} {n d : ℕ} {s : Runs} 
 unfolding planMeans
 stored-ends g h = object-ends g h
 
--- `unify_kids`: what the steps are
+-- `unify_pair`: what the steps are
 
 module _ {x : Texts} {ws ks m : List ℕ} {n : ℕ} (d : ℕ) {k : Steps} where
   pub steps-answer : {r : UnifyResult} → Asked x ws ks m n d (stepsMean ks x k .pairs) → k ≡ steps.Answer r → Unified x ws ks m ws m n (does (unifyF x n d) (decode ws ks n) (stepsMean ks x k)) r

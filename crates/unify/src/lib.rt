@@ -8,7 +8,7 @@ ghost use Rattle.names.specs.Place.{texts};
 ghost use Rattle.layout.specs.Words.{decode};
 ghost use Rattle.plan.specs.Meaning.{planMeans};
 ghost use Rattle.plan.specs.declared.Plan.the-variants as plans;
-ghost use Rattle.meeting.specs.Steps.{stepsMean, Ready, RunsLie, Ascends};
+ghost use Rattle.meeting.specs.Steps.{RunsLie, Ascends};
 ghost use Rattle.meeting.specs.Meets.{does};
 ghost use mathlib.Core.List.{[], _∷_};
 ghost use Rattle.unify.specs.Asked.{Asked, Unified};
@@ -63,34 +63,17 @@ pub fn unify_pair<'a>(
     let e = unify_enter::enter(ws, ks, n, rule, text, memory, a, b, depth);
     match e {
         Entered::Done(r) => r,
-        Entered::Kids(p, began, ra, rb) => {
-            let r = unify_kids(ws, ks, n, rule, text, memory, p, depth - 1);
-            heed::settle(ws, n, memory, began, ra, rb, r)
-        }
-    }
-}
-
-// The children of two kinds, step by step.
-pub fn unify_kids<'a>(
-    ws: &mut [u32],
-    ks: &[u32],
-    n: u32,
-    rule: &'a [u8],
-    text: &'a [u8],
-    memory: &mut [u32],
-    p: Steps,
-    depth: u32,
-) -> UnifyResult
-    requires { ⌜ Asked (texts (now rule) (now text)) (now ws) (now ks) (now memory) n depth (stepsMean (now ks) (texts (now rule) (now text)) p .pairs)
-        × Ready (texts (now rule) (now text)) (now ks) p ⌝ }
-    ensures { λ r. ⌜ Unified (texts (now (rule .entry)) (now (text .entry))) (now (ws .entry)) (now (ks .entry)) (now (memory .entry)) (now (ws .exit)) (now (memory .exit)) n
-        (does (unifyF (texts (now (rule .entry)) (now (text .entry))) n depth) (decode (now (ws .entry)) (now (ks .entry)) n)
-        (stepsMean (now (ks .entry)) (texts (now (rule .entry)) (now (text .entry))) p)) r ⌝ }
-{
-    match p {
-        Steps::Answer(r) => r,
-        Steps::Object(s) => unify_objects(ws, ks, n, rule, text, memory, s, depth),
-        Steps::Run(q, s) => q.and(unify_types(ws, ks, n, rule, text, memory, s, depth)),
+        Entered::Kids(p, began, ra, rb) => match p {
+            Steps::Answer(r) => heed::settle(ws, n, memory, began, ra, rb, r),
+            Steps::Object(s) => {
+                let r = unify_objects(ws, ks, n, rule, text, memory, s, depth - 1);
+                heed::settle(ws, n, memory, began, ra, rb, r)
+            }
+            Steps::Run(q, s) => {
+                let r = q.and(unify_types(ws, ks, n, rule, text, memory, s, depth - 1));
+                heed::settle(ws, n, memory, began, ra, rb, r)
+            }
+        },
     }
 }
 

@@ -1,5 +1,6 @@
--- The cycle `unify_kids`, `unify_objects`, `unify_pair`, `unify_types` meets its contracts. The measure is three times the depth, one more for a run and an object,
--- and two for the children of two kinds. A loop's invariant: the pairs that are left give what the whole gives, from words and a memory that still meet what is asked.
+-- The cycle `unify_objects`, `unify_pair`, `unify_types` meets its contracts. The measure is twice the depth, and one more for a run and an object. A loop's invariant:
+-- the pairs that are left give what the whole gives, from words and a memory that still meet what is asked. Each place that a proof looks back to has a name: `start`,
+-- `entered` (the two types before their children), `steps` (what their roots ask for), `loop`, `turn` (its test), `pair` (two types), `tried` (at once), `unified`, `settled`.
 -- Assumes nothing.
 use mathlib.Core.Path.{_≡_, refl, _∙_}
 use native.Mathlib.Omega.{arith}
@@ -19,18 +20,15 @@ use Rattle.unify.proofs.RunLaws.{both-success, steps-answer, steps-runs
 use Prim.Native.Nat.{ℕ, _+_, _-_, _*_, _<_, _≤_}
 use borrow.Fn.Kinds.{In}
 use borrow.Fn.PlainCycle.{Measures, is, falls, and}
-use Rattle.unify.proofs.unify_kids.Reads as unify-kids
-use Rattle.unify.proofs.unify_kids.Kinds as unify-kids-kinds
-use Rattle.unify.proofs.+unify_kids+unify_objects+unify_pair+unify_types.Lts-unify_kids as unify-kids-lts
 use Rattle.unify.proofs.unify_objects.Reads as unify-objects
 use Rattle.unify.proofs.unify_objects.Kinds as unify-objects-kinds
-use Rattle.unify.proofs.+unify_kids+unify_objects+unify_pair+unify_types.Lts-unify_objects as unify-objects-lts
+use Rattle.unify.proofs.+unify_objects+unify_pair+unify_types.Lts-unify_objects as unify-objects-lts
 use Rattle.unify.proofs.unify_pair.Reads as unify-pair
 use Rattle.unify.proofs.unify_pair.Kinds as unify-pair-kinds
-use Rattle.unify.proofs.+unify_kids+unify_objects+unify_pair+unify_types.Lts-unify_pair as unify-pair-lts
+use Rattle.unify.proofs.+unify_objects+unify_pair+unify_types.Lts-unify_pair as unify-pair-lts
 use Rattle.unify.proofs.unify_types.Reads as unify-types
 use Rattle.unify.proofs.unify_types.Kinds as unify-types-kinds
-use Rattle.unify.proofs.+unify_kids+unify_objects+unify_pair+unify_types.Lts-unify_types as unify-types-lts
+use Rattle.unify.proofs.+unify_objects+unify_pair+unify_types.Lts-unify_types as unify-types-lts
 use Rattle.heed.proofs.quick.Reads as quick-reads
 use Rattle.heed.proofs.settle.Reads as settle-reads
 use Rattle.meeting.proofs.kid.Reads as kid-reads
@@ -40,28 +38,17 @@ use Rattle.types.proofs.Type.invert_if.Reads as invert-if-reads
 use Rattle.types.proofs.UnifyResult.and.Reads as and-reads
 use Rattle.types.proofs.UnifyResult.from_bool.Reads as from-bool-reads
 use Rattle.unify_enter.proofs.enter.Reads as enter-reads
-use Rattle.unify.proofs.+unify_kids+unify_objects+unify_pair+unify_types.{statement}
-use Rattle.unify.proofs.+unify_kids+unify_objects+unify_pair+unify_types.Tie.{close}
-
-abbrev μ-unify-kids : Measures 4 unify-kids-kinds.ps ℕ
-μ-unify-kids κs a = 3 * a .1 .1 .1 .1 .1 .1 .1 .0 + 2
+use Rattle.unify.proofs.+unify_objects+unify_pair+unify_types.{statement}
+use Rattle.unify.proofs.+unify_objects+unify_pair+unify_types.Tie.{close}
 
 abbrev μ-unify-objects : Measures 4 unify-objects-kinds.ps ℕ
-μ-unify-objects κs a = 3 * a .1 .1 .1 .1 .1 .1 .1 .0 + 1
+μ-unify-objects κs a = 2 * a .1 .1 .1 .1 .1 .1 .1 .0 + 1
 
 abbrev μ-unify-pair : Measures 4 unify-pair-kinds.ps ℕ
-μ-unify-pair κs a = 3 * a .1 .1 .1 .1 .1 .1 .1 .1 .0
+μ-unify-pair κs a = 2 * a .1 .1 .1 .1 .1 .1 .1 .1 .0
 
 abbrev μ-unify-types : Measures 4 unify-types-kinds.ps ℕ
-μ-unify-types κs a = 3 * a .1 .1 .1 .1 .1 .1 .1 .0 + 1
-
-abbrev unify-kids-at : ℕ → In 4 unify-kids-kinds.ps
-unify-kids-at t =
-    and 4 unify-kids-kinds.ps (is 4 unify-kids-kinds.ps μ-unify-kids t) unify-kids.Pre
-
-abbrev unify-kids-below : ℕ → In 4 unify-kids-kinds.ps
-unify-kids-below t =
-    and 4 unify-kids-kinds.ps (falls 4 unify-kids-kinds.ps _<_ μ-unify-kids t) unify-kids.Pre
+μ-unify-types κs a = 2 * a .1 .1 .1 .1 .1 .1 .1 .0 + 1
 
 abbrev unify-objects-at : ℕ → In 4 unify-objects-kinds.ps
 unify-objects-at t =
@@ -91,9 +78,6 @@ abbrev unify-types-below : ℕ → In 4 unify-types-kinds.ps
 unify-types-below t =
     and 4 unify-types-kinds.ps (falls 4 unify-types-kinds.ps _<_ μ-unify-types t) unify-types.Pre
 
-abbrev unify-kids-claims : ℕ → unify-kids-lts.Claims
-unify-kids-claims t = (unify-objects-below t, unify-objects.Post, unify-types-below t, unify-types.Post, and-reads.Asked, and-reads.Learnt)
-
 abbrev unify-objects-claims : ℕ → unify-objects-lts.Claims
 unify-objects-claims t = (
   from-bool-reads.Asked,
@@ -115,7 +99,18 @@ unify-objects-claims t = (
 )
 
 abbrev unify-pair-claims : ℕ → unify-pair-lts.Claims
-unify-pair-claims t = (enter-reads.Asked, enter-reads.Learnt, unify-kids-below t, unify-kids.Post, settle-reads.Asked, settle-reads.Learnt)
+unify-pair-claims t = (
+  enter-reads.Asked,
+  enter-reads.Learnt,
+  settle-reads.Asked,
+  settle-reads.Learnt,
+  unify-objects-below t,
+  unify-objects.Post,
+  unify-types-below t,
+  unify-types.Post,
+  and-reads.Asked,
+  and-reads.Learnt,
+)
 
 abbrev unify-types-claims : ℕ → unify-types-lts.Claims
 unify-types-claims t = (
@@ -130,54 +125,6 @@ unify-types-claims t = (
   and-reads.Asked,
   and-reads.Learnt,
 )
-
-unify-kids-enum-known-p : (t : ℕ) → unify-kids-lts.Need-enum-known-p (unify-kids-claims t) (unify-kids-at t) unify-kids.Post
-unify-kids-enum-known-p t c = search needs
-
-unify-kids-enum-known-p-2 : (t : ℕ) → unify-kids-lts.Need-enum-known-p-2 (unify-kids-claims t) (unify-kids-at t) unify-kids.Post
-unify-kids-enum-known-p-2 t c = search needs
-
-unify-kids-unify-objects-requires : (t : ℕ) → unify-kids-lts.Need-unify-objects-requires (unify-kids-claims t) (unify-kids-at t) unify-kids.Post
-unify-kids-unify-objects-requires t c κs =
-    let b3 = c .before .before .before in
-    let b10 = b3 .before .before .before .before .before .before .before in
-    (omega (arith, b10 .pre .0), steps-objects _ (b3 .p2 .given .1) (b10 .pre .1))
-
-unify-kids-enum-known-p-3 : (t : ℕ) → unify-kids-lts.Need-enum-known-p-3 (unify-kids-claims t) (unify-kids-at t) unify-kids.Post
-unify-kids-enum-known-p-3 t c = search needs
-
-unify-kids-unify-types-requires : (t : ℕ) → unify-kids-lts.Need-unify-types-requires (unify-kids-claims t) (unify-kids-at t) unify-kids.Post
-unify-kids-unify-types-requires t c κs =
-    let b3 = c .before .before .before in
-    let b10 = b3 .before .before .before .before .before .before .before in
-    (omega (arith, b10 .pre .0), steps-runs _ (b3 .p3 .given .1) (b10 .pre .1))
-
-unify-kids-and-requires : (t : ℕ) → unify-kids-lts.Need-and-requires (unify-kids-claims t) (unify-kids-at t) unify-kids.Post
-unify-kids-and-requires t c κs = search needs
-
-unify-kids-returns : (t : ℕ) → unify-kids-lts.Need-returns (unify-kids-claims t) (unify-kids-at t) unify-kids.Post
-unify-kids-returns t c = steps-answer _ (c .before .before .before .before .before .before .before .before .pre .1 .0) (c .before .p .given .1)
-
-unify-kids-same-length : (t : ℕ) → unify-kids-lts.Need-same-length (unify-kids-claims t) (unify-kids-at t) unify-kids.Post
-unify-kids-same-length t c = search needs
-
-unify-kids-same-length-2 : (t : ℕ) → unify-kids-lts.Need-same-length-2 (unify-kids-claims t) (unify-kids-at t) unify-kids.Post
-unify-kids-same-length-2 t c = search needs
-
-unify-kids-returns-2 : (t : ℕ) → unify-kids-lts.Need-returns-2 (unify-kids-claims t) (unify-kids-at t) unify-kids.Post
-unify-kids-returns-2 t c = steps-object _ (c .before .before .before .before .before .before .before .before .p2 .given .1) (c .before .before .before .before .unify-objects .ensures)
-
-unify-kids-same-length-3 : (t : ℕ) → unify-kids-lts.Need-same-length-3 (unify-kids-claims t) (unify-kids-at t) unify-kids.Post
-unify-kids-same-length-3 t c = search needs
-
-unify-kids-same-length-4 : (t : ℕ) → unify-kids-lts.Need-same-length-4 (unify-kids-claims t) (unify-kids-at t) unify-kids.Post
-unify-kids-same-length-4 t c = search needs
-
-unify-kids-returns-3 : (t : ℕ) → unify-kids-lts.Need-returns-3 (unify-kids-claims t) (unify-kids-at t) unify-kids.Post
-unify-kids-returns-3 t c =
-    let b5 = c .before .before .before .before .before in
-    let b9 = b5 .before .before .before .before in
-    steps-run _ (b9 .p3 .given .1) (b5 .unify-types .ensures) (c .and .ensures)
 
 abbrev unify-objects-Inv-loop : unify-objects-lts.InvT-loop
 unify-objects-Inv-loop ws₀ ks n rule text memory₀ s depth inv r₀ j₀ ws memory r j =
@@ -195,31 +142,38 @@ name-there : (t : ℕ)
     ObjectNext (texts (a .rule .now) (a .text .now)) (a .ks .now) (a .ks .now) (a .ws .now) (a .ks .now) (a .memory .now) (a .n) (a .depth) (a .s)
     (l .loop .ws) (l .loop .memory) (l .loop .r) (l .loop .j) (c .before .before .before .before .before .before .kid .result .0) (c .invert-if .result .0)
 name-there t c =
-    let b2 = c .before .before in
-    let b4 = b2 .before .before in
-    let b5 = b4 .before in
-    let b6 = b5 .before in
-    let b7 = b6 .before in
-    let b9 = b7 .before .before in
-    object-pair (b9 .loop .inv .2) (b7 .if1 .taken) (b5 .kid-name .ensures) (b4 .seek-near .ensures)
-    (b2 .f .given .1) (b6 .kid .ensures) (c .invert-if .ensures)
+    let matched = c .before .before in
+    let sought = matched .before .before in
+    let named = sought .before in
+    let first = named .before in
+    let turn = first .before in
+    let loop = turn .before .before in
+    object-pair (loop .loop .inv .2) (turn .if1 .taken) (named .kid-name .ensures) (sought .seek-near .ensures)
+    (matched .f .given .1) (first .kid .ensures) (c .invert-if .ensures)
 
 unify-objects-from-bool-requires : (t : ℕ) → unify-objects-lts.Need-from-bool-requires (unify-objects-claims t) (unify-objects-at t) unify-objects.Post unify-objects-Inv-loop unify-objects-μ-loop
 unify-objects-from-bool-requires t c κs = search needs
 
 unify-objects-loop-holds : (t : ℕ) → unify-objects-lts.Need-loop-holds (unify-objects-claims t) (unify-objects-at t) unify-objects.Post unify-objects-Inv-loop unify-objects-μ-loop
-unify-objects-loop-holds t c = (refl, refl, stored-start (c .before .before .before .before .before .before .before .before .pre .1 .0) (c .from-bool .ensures))
+unify-objects-loop-holds t c =
+    let start = c .before .before .before .before .before .before .before .before in
+    (refl, refl, stored-start (start .pre .1 .0) (c .from-bool .ensures))
 
 unify-objects-kid-requires : (t : ℕ) → unify-objects-lts.Need-kid-requires (unify-objects-claims t) (unify-objects-at t) unify-objects.Post unify-objects-Inv-loop unify-objects-μ-loop
-unify-objects-kid-requires t c κs = omega (arith, c .before .before .before .before .before .before .before .before .before .before .before .pre .1 .1 .0 .first, c .if1 .taken)
+unify-objects-kid-requires t c κs =
+    let start = c .before .before .before .before .before .before .before .before .before .before .before in
+    omega (arith, start .pre .1 .1 .0 .first, c .if1 .taken)
 
 unify-objects-kid-name-requires : (t : ℕ) → unify-objects-lts.Need-kid-name-requires (unify-objects-claims t) (unify-objects-at t) unify-objects.Post unify-objects-Inv-loop unify-objects-μ-loop
-unify-objects-kid-name-requires t c κs = omega (arith, c .before .before .before .before .before .before .before .before .before .before .before .before .pre .1 .1 .0 .first, c .before .if1 .taken)
+unify-objects-kid-name-requires t c κs =
+    let turn = c .before in
+    let start = turn .before .before .before .before .before .before .before .before .before .before .before in
+    omega (arith, start .pre .1 .1 .0 .first, turn .if1 .taken)
 
 unify-objects-seek-near-requires : (t : ℕ) → unify-objects-lts.Need-seek-near-requires (unify-objects-claims t) (unify-objects-at t) unify-objects.Post unify-objects-Inv-loop unify-objects-μ-loop
 unify-objects-seek-near-requires t c κs =
-    let b13 = c .before .before .before .before .before .before .before .before .before .before .before .before .before in
-    (b13 .pre .1 .1 .0 .second, b13 .pre .1 .1 .1)
+    let start = c .before .before .before .before .before .before .before .before .before .before .before .before .before in
+    (start .pre .1 .1 .0 .second, start .pre .1 .1 .1)
 
 unify-objects-add-j : (t : ℕ) → unify-objects-lts.Need-add-j (unify-objects-claims t) (unify-objects-at t) unify-objects.Post unify-objects-Inv-loop unify-objects-μ-loop
 unify-objects-add-j t c = search needs
@@ -235,45 +189,49 @@ unify-objects-quick-requires t c κs = quick-adds (object-asks (name-there t (c 
 
 unify-objects-unify-pair-requires : (t : ℕ) → unify-objects-lts.Need-unify-pair-requires (unify-objects-claims t) (unify-objects-at t) unify-objects.Post unify-objects-Inv-loop unify-objects-μ-loop
 unify-objects-unify-pair-requires t c κs =
-    let b2 = c .before .before in
-    let b7 = b2 .before .before .before .before .before in
-    let b10 = b7 .before .before .before in
-    let b28 = b10 .before .before .before .before .before .before .before .before .before .before .before .before .before .before .before .before .before .before in
-    (omega (arith, b28 .pre .0), quick-asked (object-asks (name-there t b10)) (b7 .quick .ensures) (not-true _ (b2 .if2 .taken)))
+    let tested = c .before .before in
+    let tried = tested .before .before .before .before .before in
+    let pair = tried .before .before .before in
+    let loop = pair .before .before .before .before .before .before .before .before .before in
+    let start = loop .before .before .before .before .before .before .before .before .before in
+    (omega (arith, start .pre .0), quick-asked (object-asks (name-there t pair)) (tried .quick .ensures) (not-true _ (tested .if2 .taken)))
 
 unify-objects-and-requires : (t : ℕ) → unify-objects-lts.Need-and-requires (unify-objects-claims t) (unify-objects-at t) unify-objects.Post unify-objects-Inv-loop unify-objects-μ-loop
 unify-objects-and-requires t c κs = search needs
 
 unify-objects-loop-less : (t : ℕ) → unify-objects-lts.Need-loop-less (unify-objects-claims t) (unify-objects-at t) unify-objects.Post unify-objects-Inv-loop unify-objects-μ-loop
 unify-objects-loop-less t c =
-    let b18 = c .before .before .before .before .before .before .before .before .before .before .before .before .before .before .before .before .before .before in
-    let b23 = b18 .before .before .before .before .before in
-    omega (arith, b23 .if1 .taken)
+    let pair = c .before .before .before .before .before .before .before .before .before .before .before .before .before .before .before .before in
+    let turn = pair .before .before .before .before .before .before .before in
+    omega (arith, turn .if1 .taken)
 
 unify-objects-loop-again : (t : ℕ) → unify-objects-lts.Need-loop-again (unify-objects-claims t) (unify-objects-at t) unify-objects.Post unify-objects-Inv-loop unify-objects-μ-loop
 unify-objects-loop-again t c =
-    let b5 = c .before .before .before .before .before in
-    let b8 = b5 .before .before .before in
-    let b13 = b8 .before .before .before .before .before in
-    let b16 = b13 .before .before .before in
-    let b25 = b16 .before .before .before .before .before .before .before .before .before in (
-      b5 .unify-pair .kept .0 ∙ (b13 .quick .kept .0 ∙ b25 .loop .inv .0),
-      b5 .unify-pair .kept .1 .1 .1 .1 .1 .0 ∙ (b13 .quick .kept .1 .1 .0 ∙ b25 .loop .inv .1),
-      object-next (name-there t b16) (quick-not (b13 .quick .ensures) (not-true _ (b8 .if2 .taken)) (b5 .unify-pair .ensures)) (c .and .ensures),
+    let unified = c .before .before .before .before .before in
+    let tested = unified .before .before .before in
+    let tried = tested .before .before .before .before .before in
+    let pair = tried .before .before .before in
+    let loop = pair .before .before .before .before .before .before .before .before .before in (
+      unified .unify-pair .kept .0 ∙ (tried .quick .kept .0 ∙ loop .loop .inv .0),
+      unified .unify-pair .kept .1 .1 .1 .1 .1 .0 ∙ (tried .quick .kept .1 .1 .0 ∙ loop .loop .inv .1),
+      object-next (name-there t pair) (quick-not (tried .quick .ensures) (not-true _ (tested .if2 .taken)) (unified .unify-pair .ensures)) (c .and .ensures),
     )
 
 unify-objects-loop-less-2 : (t : ℕ) → unify-objects-lts.Need-loop-less-2 (unify-objects-claims t) (unify-objects-at t) unify-objects.Post unify-objects-Inv-loop unify-objects-μ-loop
-unify-objects-loop-less-2 t c = omega (arith, c .before .before .before .before .before .before .before .before .before .before .before .before .before .before .before .if1 .taken)
+unify-objects-loop-less-2 t c =
+    let pair = c .before .before .before .before .before .before .before .before in
+    let turn = pair .before .before .before .before .before .before .before in
+    omega (arith, turn .if1 .taken)
 
 unify-objects-loop-again-2 : (t : ℕ) → unify-objects-lts.Need-loop-again-2 (unify-objects-claims t) (unify-objects-at t) unify-objects.Post unify-objects-Inv-loop unify-objects-μ-loop
 unify-objects-loop-again-2 t c =
-    let b5 = c .before .before .before .before .before in
-    let b8 = b5 .before .before .before in
-    let b17 = b8 .before .before .before .before .before .before .before .before .before in
-    let p = name-there t b8 in (
-      b5 .quick .kept .0 ∙ b17 .loop .inv .0,
-      b5 .quick .kept .1 .1 .0 ∙ b17 .loop .inv .1,
-      object-next p (quick-merged (object-asks p) (b5 .quick .ensures) (not-false _ (c .if2 .left))) (both-success _),
+    let tried = c .before .before .before .before .before in
+    let pair = tried .before .before .before in
+    let loop = pair .before .before .before .before .before .before .before .before .before in
+    let next = name-there t pair in (
+      tried .quick .kept .0 ∙ loop .loop .inv .0,
+      tried .quick .kept .1 .1 .0 ∙ loop .loop .inv .1,
+      object-next next (quick-merged (object-asks next) (tried .quick .ensures) (not-false _ (c .if2 .left))) (both-success _),
     )
 
 unify-objects-enum-told : (t : ℕ) → unify-objects-lts.Need-enum-told (unify-objects-claims t) (unify-objects-at t) unify-objects.Post unify-objects-Inv-loop unify-objects-μ-loop
@@ -283,18 +241,20 @@ unify-objects-and-requires-2 : (t : ℕ) → unify-objects-lts.Need-and-requires
 unify-objects-and-requires-2 t c κs = search needs
 
 unify-objects-loop-less-3 : (t : ℕ) → unify-objects-lts.Need-loop-less-3 (unify-objects-claims t) (unify-objects-at t) unify-objects.Post unify-objects-Inv-loop unify-objects-μ-loop
-unify-objects-loop-less-3 t c = omega (arith, c .before .before .before .before .before .before .if1 .taken)
+unify-objects-loop-less-3 t c =
+    let turn = c .before .before .before .before .before .before in
+    omega (arith, turn .if1 .taken)
 
 unify-objects-loop-again-3 : (t : ℕ) → unify-objects-lts.Need-loop-again-3 (unify-objects-claims t) (unify-objects-at t) unify-objects.Post unify-objects-Inv-loop unify-objects-μ-loop
 unify-objects-loop-again-3 t c =
-    let b1 = c .before in
-    let b3 = b1 .before .before in
-    let b4 = b3 .before in
-    let b6 = b4 .before .before in
-    let b8 = b6 .before .before in (
-      b8 .loop .inv .0,
-      b8 .loop .inv .1,
-      object-none (b8 .loop .inv .2) (b6 .if1 .taken) (b4 .kid-name .ensures) (b3 .seek-near .ensures) (b1 .enum-told .given .1) (c .and2 .ensures),
+    let matched = c .before in
+    let sought = matched .before .before in
+    let named = sought .before in
+    let turn = named .before .before in
+    let loop = turn .before .before in (
+      loop .loop .inv .0,
+      loop .loop .inv .1,
+      object-none (loop .loop .inv .2) (turn .if1 .taken) (named .kid-name .ensures) (sought .seek-near .ensures) (matched .enum-told .given .1) (c .and2 .ensures),
     )
 
 unify-objects-same-length : (t : ℕ) → unify-objects-lts.Need-same-length (unify-objects-claims t) (unify-objects-at t) unify-objects.Post unify-objects-Inv-loop unify-objects-μ-loop
@@ -306,29 +266,31 @@ unify-objects-same-length-2 t c = c .before .before .loop .inv .1
 unify-objects-returns : (t : ℕ) → unify-objects-lts.Need-returns (unify-objects-claims t) (unify-objects-at t) unify-objects.Post unify-objects-Inv-loop unify-objects-μ-loop
 unify-objects-returns t c = stored-ends (c .before .before .loop .inv .2) (c .if1 .left)
 
--- the children of two roots are left
+-- what the roots of two types ask for is left to be done
 module _ (t : ℕ) (c : unify-pair-lts.After-e2 (unify-pair-claims t) (unify-pair-at t) unify-pair.Post) where
-  abbrev asked : unify-pair-lts.After-enter (unify-pair-claims t) (unify-pair-at t) unify-pair.Post
-  asked = c .before .before .before .before .before .before
+  abbrev entered : unify-pair-lts.After-enter (unify-pair-claims t) (unify-pair-at t) unify-pair.Post
+  entered = c .before .before .before .before .before .before
 
   abbrev start : unify-pair-lts.Start (unify-pair-claims t) (unify-pair-at t) unify-pair.Post
-  start = asked .before .before .before .before .before .before .before .before
+  start = entered .before .before .before .before .before .before .before .before
 
   left-there :
       let a = start .args in
       let f = c .e2 .given .0 in
-      Left (texts (a .rule .now) (a .text .now)) (a .ws .now) (a .ks .now) (a .memory .now) (asked .enter .last .0) (asked .enter .last .1 .1 .1 .1 .1 .0) (a .n) (a .depth)
+      Left (texts (a .rule .now) (a .text .now)) (a .ws .now) (a .ks .now) (a .memory .now) (entered .enter .last .0) (entered .enter .last .1 .1 .1 .1 .1 .0) (a .n) (a .depth)
       (tyOf (a .a .0)) (tyOf (a .b .0)) (f .0) (f .1 .0) (f .1 .1 .0 .0) (f .1 .1 .1 .0 .0)
-  left-there = entered-kids _ _ _ (asked .enter .ensures) (c .e2 .given .1)
+  left-there = entered-kids _ _ _ (entered .enter .ensures) (c .e2 .given .1)
 
   deep-there : 1 ≤ start .args .depth
   deep-there = pos-of-ne-zero (left-there .roots .up .deep)
 
-  falls-there : 3 * (start .args .depth - 1) + 2 < t
+  falls-there : 2 * (start .args .depth - 1) + 1 < t
   falls-there = omega (arith, deep-there, start .pre .0)
 
 unify-pair-enter-requires : (t : ℕ) → unify-pair-lts.Need-enter-requires (unify-pair-claims t) (unify-pair-at t) unify-pair.Post
-unify-pair-enter-requires t c κs = c .before .before .before .before .before .before .before .pre .1
+unify-pair-enter-requires t c κs =
+    let start = c .before .before .before .before .before .before .before in
+    start .pre .1
 
 unify-pair-enum-known-e : (t : ℕ) → unify-pair-lts.Need-enum-known-e (unify-pair-claims t) (unify-pair-at t) unify-pair.Post
 unify-pair-enum-known-e t c = search needs
@@ -336,47 +298,135 @@ unify-pair-enum-known-e t c = search needs
 unify-pair-enum-known-e-2 : (t : ℕ) → unify-pair-lts.Need-enum-known-e-2 (unify-pair-claims t) (unify-pair-at t) unify-pair.Post
 unify-pair-enum-known-e-2 t c = search needs
 
-unify-pair-sub-unify-kids : (t : ℕ) → unify-pair-lts.Need-sub-unify-kids (unify-pair-claims t) (unify-pair-at t) unify-pair.Post
-unify-pair-sub-unify-kids t c = deep-there t (c .before .before .before)
-
-unify-pair-unify-kids-requires : (t : ℕ) → unify-pair-lts.Need-unify-kids-requires (unify-pair-claims t) (unify-pair-at t) unify-pair.Post
-unify-pair-unify-kids-requires t c κs = (falls-there t (c .before .before .before), kids-asks (left-there t (c .before .before .before)))
+unify-pair-enum-known-p : (t : ℕ) → unify-pair-lts.Need-enum-known-p (unify-pair-claims t) (unify-pair-at t) unify-pair.Post
+unify-pair-enum-known-p t c = search needs
 
 unify-pair-settle-requires : (t : ℕ) → unify-pair-lts.Need-settle-requires (unify-pair-claims t) (unify-pair-at t) unify-pair.Post
 unify-pair-settle-requires t c κs =
-    let b6 = c .before .before .before .before .before .before in
-    let b10 = b6 .before .before .before .before in
-    kids-settles (left-there t b10) (b6 .unify-kids .ensures)
+    let answered = c .before .before .before in
+    let left = left-there t (answered .before .before .before) in
+    kids-settles left (steps-answer _ (kids-asks left .0) (answered .p .given .1))
+
+unify-pair-enum-known-p-2 : (t : ℕ) → unify-pair-lts.Need-enum-known-p-2 (unify-pair-claims t) (unify-pair-at t) unify-pair.Post
+unify-pair-enum-known-p-2 t c = search needs
+
+unify-pair-sub-unify-objects : (t : ℕ) → unify-pair-lts.Need-sub-unify-objects (unify-pair-claims t) (unify-pair-at t) unify-pair.Post
+unify-pair-sub-unify-objects t c = deep-there t (c .before .before .before .before .before .before)
+
+unify-pair-unify-objects-requires : (t : ℕ) → unify-pair-lts.Need-unify-objects-requires (unify-pair-claims t) (unify-pair-at t) unify-pair.Post
+unify-pair-unify-objects-requires t c κs =
+    let object = c .before .before .before in
+    let steps = object .before .before .before in
+    (falls-there t steps, steps-objects _ (object .p2 .given .1) (kids-asks (left-there t steps)))
+
+unify-pair-settle-requires-2 : (t : ℕ) → unify-pair-lts.Need-settle-requires-2 (unify-pair-claims t) (unify-pair-at t) unify-pair.Post
+unify-pair-settle-requires-2 t c κs =
+    let unified = c .before .before .before .before .before .before in
+    let object = unified .before .before .before .before in
+    let steps = object .before .before .before in
+    kids-settles (left-there t steps) (steps-object _ (object .p2 .given .1) (unified .unify-objects .ensures))
+
+unify-pair-enum-known-p-3 : (t : ℕ) → unify-pair-lts.Need-enum-known-p-3 (unify-pair-claims t) (unify-pair-at t) unify-pair.Post
+unify-pair-enum-known-p-3 t c = search needs
+
+unify-pair-sub-unify-types : (t : ℕ) → unify-pair-lts.Need-sub-unify-types (unify-pair-claims t) (unify-pair-at t) unify-pair.Post
+unify-pair-sub-unify-types t c = deep-there t (c .before .before .before .before .before .before)
+
+unify-pair-unify-types-requires : (t : ℕ) → unify-pair-lts.Need-unify-types-requires (unify-pair-claims t) (unify-pair-at t) unify-pair.Post
+unify-pair-unify-types-requires t c κs =
+    let run = c .before .before .before in
+    let steps = run .before .before .before in
+    (falls-there t steps, steps-runs _ (run .p3 .given .1) (kids-asks (left-there t steps)))
+
+unify-pair-and-requires : (t : ℕ) → unify-pair-lts.Need-and-requires (unify-pair-claims t) (unify-pair-at t) unify-pair.Post
+unify-pair-and-requires t c κs = search needs
+
+unify-pair-settle-requires-3 : (t : ℕ) → unify-pair-lts.Need-settle-requires-3 (unify-pair-claims t) (unify-pair-at t) unify-pair.Post
+unify-pair-settle-requires-3 t c κs =
+    let anded = c .before .before in
+    let unified = anded .before .before .before .before .before in
+    let run = unified .before .before .before .before in
+    let steps = run .before .before .before in
+    kids-settles (left-there t steps) {r = anded .and .result} (steps-run _ (run .p3 .given .1) (unified .unify-types .ensures) (anded .and .ensures))
 
 unify-pair-same-length : (t : ℕ) → unify-pair-lts.Need-same-length (unify-pair-claims t) (unify-pair-at t) unify-pair.Post
-unify-pair-same-length t c = c .before .before .before .before .before .before .before .enter .kept .0
+unify-pair-same-length t c =
+    let entered = c .before .before .before .before .before .before .before in
+    entered .enter .kept .0
 
 unify-pair-same-length-2 : (t : ℕ) → unify-pair-lts.Need-same-length-2 (unify-pair-claims t) (unify-pair-at t) unify-pair.Post
-unify-pair-same-length-2 t c = c .before .before .before .before .before .before .before .enter .kept .1 .1 .1 .1 .1 .0
+unify-pair-same-length-2 t c =
+    let entered = c .before .before .before .before .before .before .before in
+    entered .enter .kept .1 .1 .1 .1 .1 .0
 
 unify-pair-returns : (t : ℕ) → unify-pair-lts.Need-returns (unify-pair-claims t) (unify-pair-at t) unify-pair.Post
-unify-pair-returns t c = entered-done _ _ _ (c .before .before .before .before .before .before .before .enter .ensures) (c .before .e .given .1)
+unify-pair-returns t c =
+    let entered = c .before .before .before .before .before .before .before in
+    entered-done _ _ _ (entered .enter .ensures) (c .before .e .given .1)
 
 unify-pair-same-length-3 : (t : ℕ) → unify-pair-lts.Need-same-length-3 (unify-pair-claims t) (unify-pair-at t) unify-pair.Post
 unify-pair-same-length-3 t c =
-    let b4 = c .before .before .before .before in
-    let b11 = b4 .before .before .before .before .before .before .before in
-    let b21 = b11 .before .before .before .before .before .before .before .before .before .before in
-    b4 .settle .kept .0 ∙ (b11 .unify-kids .kept .0 ∙ b21 .enter .kept .0)
+    let settled = c .before .before .before .before in
+    let steps = settled .before .before .before .before .before .before .before in
+    settled .settle .kept .0 ∙ entered t steps .enter .kept .0
 
 unify-pair-same-length-4 : (t : ℕ) → unify-pair-lts.Need-same-length-4 (unify-pair-claims t) (unify-pair-at t) unify-pair.Post
 unify-pair-same-length-4 t c =
-    let b4 = c .before .before .before .before in
-    let b11 = b4 .before .before .before .before .before .before .before in
-    let b21 = b11 .before .before .before .before .before .before .before .before .before .before in
-    b4 .settle .kept .1 .1 .0 ∙ (b11 .unify-kids .kept .1 .1 .1 .1 .1 .0 ∙ b21 .enter .kept .1 .1 .1 .1 .1 .0)
+    let settled = c .before .before .before .before in
+    let steps = settled .before .before .before .before .before .before .before in
+    settled .settle .kept .1 .1 .0 ∙ entered t steps .enter .kept .1 .1 .1 .1 .1 .0
 
 unify-pair-returns-2 : (t : ℕ) → unify-pair-lts.Need-returns-2 (unify-pair-claims t) (unify-pair-at t) unify-pair.Post
 unify-pair-returns-2 t c =
-    let b4 = c .before .before .before .before in
-    let b11 = b4 .before .before .before .before .before .before .before in
-    let b15 = b11 .before .before .before .before in
-    way-kids (left-there t b15) (b11 .unify-kids .ensures) (b4 .settle .ensures)
+    let settled = c .before .before .before .before in
+    let answered = settled .before .before .before .before in
+    let left = left-there t (answered .before .before .before) in
+    way-kids left (steps-answer _ (kids-asks left .0) (answered .p .given .1)) (settled .settle .ensures)
+
+unify-pair-same-length-5 : (t : ℕ) → unify-pair-lts.Need-same-length-5 (unify-pair-claims t) (unify-pair-at t) unify-pair.Post
+unify-pair-same-length-5 t c =
+    let settled = c .before .before .before .before in
+    let unified = settled .before .before .before .before .before .before .before in
+    let steps = unified .before .before .before .before .before .before .before in
+    settled .settle2 .kept .0 ∙ (unified .unify-objects .kept .0 ∙ entered t steps .enter .kept .0)
+
+unify-pair-same-length-6 : (t : ℕ) → unify-pair-lts.Need-same-length-6 (unify-pair-claims t) (unify-pair-at t) unify-pair.Post
+unify-pair-same-length-6 t c =
+    let settled = c .before .before .before .before in
+    let unified = settled .before .before .before .before .before .before .before in
+    let steps = unified .before .before .before .before .before .before .before in
+    settled .settle2 .kept .1 .1 .0 ∙ (unified .unify-objects .kept .1 .1 .1 .1 .1 .0 ∙ entered t steps .enter .kept .1 .1 .1 .1 .1 .0)
+
+unify-pair-returns-3 : (t : ℕ) → unify-pair-lts.Need-returns-3 (unify-pair-claims t) (unify-pair-at t) unify-pair.Post
+unify-pair-returns-3 t c =
+    let settled = c .before .before .before .before in
+    let unified = settled .before .before .before .before .before .before .before in
+    let object = unified .before .before .before .before in
+    let steps = object .before .before .before in
+    way-kids (left-there t steps) (steps-object _ (object .p2 .given .1) (unified .unify-objects .ensures)) (settled .settle2 .ensures)
+
+unify-pair-same-length-7 : (t : ℕ) → unify-pair-lts.Need-same-length-7 (unify-pair-claims t) (unify-pair-at t) unify-pair.Post
+unify-pair-same-length-7 t c =
+    let settled = c .before .before .before .before in
+    let unified = settled .before .before .before .before .before .before .before .before in
+    let steps = unified .before .before .before .before .before .before .before in
+    settled .settle3 .kept .0 ∙ (unified .unify-types .kept .0 ∙ entered t steps .enter .kept .0)
+
+unify-pair-same-length-8 : (t : ℕ) → unify-pair-lts.Need-same-length-8 (unify-pair-claims t) (unify-pair-at t) unify-pair.Post
+unify-pair-same-length-8 t c =
+    let settled = c .before .before .before .before in
+    let unified = settled .before .before .before .before .before .before .before .before in
+    let steps = unified .before .before .before .before .before .before .before in
+    settled .settle3 .kept .1 .1 .0 ∙ (unified .unify-types .kept .1 .1 .1 .1 .1 .0 ∙ entered t steps .enter .kept .1 .1 .1 .1 .1 .0)
+
+unify-pair-returns-4 : (t : ℕ) → unify-pair-lts.Need-returns-4 (unify-pair-claims t) (unify-pair-at t) unify-pair.Post
+unify-pair-returns-4 t c =
+    let settled = c .before .before .before .before in
+    let anded = settled .before .before .before in
+    let unified = anded .before .before .before .before .before in
+    let run = unified .before .before .before .before in
+    let steps = run .before .before .before in
+    way-kids (left-there t steps) (steps-run _ (run .p3 .given .1) (unified .unify-types .ensures) (anded .and .ensures)) (settled .settle3 .ensures)
 
 abbrev unify-types-Inv-loop : unify-types-lts.InvT-loop
 unify-types-Inv-loop ws₀ ks n rule text memory₀ s depth inv r₀ i₀ ws memory r i =
@@ -394,27 +444,34 @@ kids-there : (t : ℕ)
     RunNext (texts (a .rule .now) (a .text .now)) (a .ws .now) (a .ks .now) (a .memory .now) (a .n) (a .depth) (a .s) (l .loop .ws) (l .loop .memory) (l .loop .r) (l .loop .i)
     (c .before .before .kid .result .0) (c .invert-if .result .0)
 kids-there t c =
-    let b1 = c .before in
-    let b2 = b1 .before in
-    let b3 = b2 .before in
-    let b5 = b3 .before .before in
-    run-pair (b5 .loop .inv .2) (b3 .if2 .taken) (b2 .kid .ensures) (b1 .kid2 .ensures) (c .invert-if .ensures)
+    let second = c .before in
+    let first = second .before in
+    let turn = first .before in
+    let loop = turn .before .before in
+    run-pair (loop .loop .inv .2) (turn .if2 .taken) (first .kid .ensures) (second .kid2 .ensures) (c .invert-if .ensures)
 
 unify-types-returns : (t : ℕ) → unify-types-lts.Need-returns (unify-types-claims t) (unify-types-at t) unify-types.Post unify-types-Inv-loop unify-types-μ-loop
-unify-types-returns t c = run-fails _ (c .before .before .before .before .before .before .before .pre .1 .0) (c .if1 .taken)
+unify-types-returns t c =
+    let start = c .before .before .before .before .before .before .before in
+    run-fails _ (start .pre .1 .0) (c .if1 .taken)
 
 unify-types-loop-holds : (t : ℕ) → unify-types-lts.Need-loop-holds (unify-types-claims t) (unify-types-at t) unify-types.Post unify-types-Inv-loop unify-types-μ-loop
-unify-types-loop-holds t c = (refl, refl, run-start (c .before .before .before .before .before .before .before .before .pre .1 .0) (c .before .if1 .left))
+unify-types-loop-holds t c =
+    let tested = c .before in
+    let start = tested .before .before .before .before .before .before .before in
+    (refl, refl, run-start (start .pre .1 .0) (tested .if1 .left))
 
 unify-types-kid-requires : (t : ℕ) → unify-types-lts.Need-kid-requires (unify-types-claims t) (unify-types-at t) unify-types.Post unify-types-Inv-loop unify-types-μ-loop
-unify-types-kid-requires t c κs = omega (arith, c .before .before .before .before .before .before .before .before .before .before .before .pre .1 .1 .first, c .if2 .taken)
+unify-types-kid-requires t c κs =
+    let start = c .before .before .before .before .before .before .before .before .before .before .before in
+    omega (arith, start .pre .1 .1 .first, c .if2 .taken)
 
 unify-types-kid-requires-2 : (t : ℕ) → unify-types-lts.Need-kid-requires-2 (unify-types-claims t) (unify-types-at t) unify-types.Post unify-types-Inv-loop unify-types-μ-loop
 unify-types-kid-requires-2 t c κs =
-    let b1 = c .before in
-    let b5 = b1 .before .before .before .before in
-    let b12 = b5 .before .before .before .before .before .before .before in
-    omega (arith, b12 .pre .1 .1 .second, b5 .if1 .left, b1 .if2 .taken)
+    let turn = c .before in
+    let even = turn .before .before .before .before in
+    let start = even .before .before .before .before .before .before .before in
+    omega (arith, start .pre .1 .1 .second, even .if1 .left, turn .if2 .taken)
 
 unify-types-invert-if-requires : (t : ℕ) → unify-types-lts.Need-invert-if-requires (unify-types-claims t) (unify-types-at t) unify-types.Post unify-types-Inv-loop unify-types-μ-loop
 unify-types-invert-if-requires t c κs = search needs
@@ -427,11 +484,12 @@ unify-types-quick-requires t c κs = quick-adds (run-asks (kids-there t (c .befo
 
 unify-types-unify-pair-requires : (t : ℕ) → unify-types-lts.Need-unify-pair-requires (unify-types-claims t) (unify-types-at t) unify-types.Post unify-types-Inv-loop unify-types-μ-loop
 unify-types-unify-pair-requires t c κs =
-    let b2 = c .before .before in
-    let b7 = b2 .before .before .before .before .before in
-    let b10 = b7 .before .before .before in
-    let b24 = b10 .before .before .before .before .before .before .before .before .before .before .before .before .before .before in
-    (omega (arith, b24 .pre .0), quick-asked (run-asks (kids-there t b10)) (b7 .quick .ensures) (not-true _ (b2 .if3 .taken)))
+    let tested = c .before .before in
+    let tried = tested .before .before .before .before .before in
+    let pair = tried .before .before .before in
+    let loop = pair .before .before .before .before .before in
+    let start = loop .before .before .before .before .before .before .before .before .before in
+    (omega (arith, start .pre .0), quick-asked (run-asks (kids-there t pair)) (tried .quick .ensures) (not-true _ (tested .if3 .taken)))
 
 unify-types-and-requires : (t : ℕ) → unify-types-lts.Need-and-requires (unify-types-claims t) (unify-types-at t) unify-types.Post unify-types-Inv-loop unify-types-μ-loop
 unify-types-and-requires t c κs = search needs
@@ -441,14 +499,14 @@ unify-types-loop-less t c = search needs
 
 unify-types-loop-again : (t : ℕ) → unify-types-lts.Need-loop-again (unify-types-claims t) (unify-types-at t) unify-types.Post unify-types-Inv-loop unify-types-μ-loop
 unify-types-loop-again t c =
-    let b5 = c .before .before .before .before .before in
-    let b8 = b5 .before .before .before in
-    let b13 = b8 .before .before .before .before .before in
-    let b16 = b13 .before .before .before in
-    let b21 = b16 .before .before .before .before .before in (
-      b5 .unify-pair .kept .0 ∙ (b13 .quick .kept .0 ∙ b21 .loop .inv .0),
-      b5 .unify-pair .kept .1 .1 .1 .1 .1 .0 ∙ (b13 .quick .kept .1 .1 .0 ∙ b21 .loop .inv .1),
-      run-next (kids-there t b16) (quick-not (b13 .quick .ensures) (not-true _ (b8 .if3 .taken)) (b5 .unify-pair .ensures)) (c .and .ensures),
+    let unified = c .before .before .before .before .before in
+    let tested = unified .before .before .before in
+    let tried = tested .before .before .before .before .before in
+    let pair = tried .before .before .before in
+    let loop = pair .before .before .before .before .before in (
+      unified .unify-pair .kept .0 ∙ (tried .quick .kept .0 ∙ loop .loop .inv .0),
+      unified .unify-pair .kept .1 .1 .1 .1 .1 .0 ∙ (tried .quick .kept .1 .1 .0 ∙ loop .loop .inv .1),
+      run-next (kids-there t pair) (quick-not (tried .quick .ensures) (not-true _ (tested .if3 .taken)) (unified .unify-pair .ensures)) (c .and .ensures),
     )
 
 unify-types-loop-less-2 : (t : ℕ) → unify-types-lts.Need-loop-less-2 (unify-types-claims t) (unify-types-at t) unify-types.Post unify-types-Inv-loop unify-types-μ-loop
@@ -456,13 +514,13 @@ unify-types-loop-less-2 t c = search needs
 
 unify-types-loop-again-2 : (t : ℕ) → unify-types-lts.Need-loop-again-2 (unify-types-claims t) (unify-types-at t) unify-types.Post unify-types-Inv-loop unify-types-μ-loop
 unify-types-loop-again-2 t c =
-    let b5 = c .before .before .before .before .before in
-    let b8 = b5 .before .before .before in
-    let b13 = b8 .before .before .before .before .before in
-    let p = kids-there t b8 in (
-      b5 .quick .kept .0 ∙ b13 .loop .inv .0,
-      b5 .quick .kept .1 .1 .0 ∙ b13 .loop .inv .1,
-      run-next p (quick-merged (run-asks p) (b5 .quick .ensures) (not-false _ (c .if3 .left))) (both-success _),
+    let tried = c .before .before .before .before .before in
+    let pair = tried .before .before .before in
+    let loop = pair .before .before .before .before .before in
+    let next = kids-there t pair in (
+      tried .quick .kept .0 ∙ loop .loop .inv .0,
+      tried .quick .kept .1 .1 .0 ∙ loop .loop .inv .1,
+      run-next next (quick-merged (run-asks next) (tried .quick .ensures) (not-false _ (c .if3 .left))) (both-success _),
     )
 
 unify-types-same-length : (t : ℕ) → unify-types-lts.Need-same-length (unify-types-claims t) (unify-types-at t) unify-types.Post unify-types-Inv-loop unify-types-μ-loop
@@ -474,25 +532,9 @@ unify-types-same-length-2 t c = c .before .before .loop .inv .1
 unify-types-returns-2 : (t : ℕ) → unify-types-lts.Need-returns-2 (unify-types-claims t) (unify-types-at t) unify-types.Post unify-types-Inv-loop unify-types-μ-loop
 unify-types-returns-2 t c = run-ends (c .before .before .loop .inv .2) (c .if2 .left)
 
-pub +unify-kids+unify-objects+unify-pair+unify-types-spec : {M : Type 1} → statement M
-+unify-kids+unify-objects+unify-pair+unify-types-spec =
-    close μ-unify-kids μ-unify-objects μ-unify-pair μ-unify-types (λ t. unify-kids-lts.spec (unify-kids-claims t)
-    (unify-kids-at t)
-    unify-kids.Post
-    (unify-kids-enum-known-p t)
-    (unify-kids-enum-known-p-2 t)
-    (unify-kids-unify-objects-requires t)
-    (unify-kids-enum-known-p-3 t)
-    (unify-kids-unify-types-requires t)
-    (unify-kids-and-requires t)
-    (unify-kids-returns t)
-    (unify-kids-same-length t)
-    (unify-kids-same-length-2 t)
-    (unify-kids-returns-2 t)
-    (unify-kids-same-length-3 t)
-    (unify-kids-same-length-4 t)
-    (unify-kids-returns-3 t))
-    (λ t. unify-objects-lts.spec (unify-objects-claims t)
+pub +unify-objects+unify-pair+unify-types-spec : {M : Type 1} → statement M
++unify-objects+unify-pair+unify-types-spec =
+    close μ-unify-objects μ-unify-pair μ-unify-types (λ t. unify-objects-lts.spec (unify-objects-claims t)
     (unify-objects-at t)
     unify-objects.Post
     unify-objects-Inv-loop
@@ -525,15 +567,29 @@ pub +unify-kids+unify-objects+unify-pair+unify-types-spec : {M : Type 1} → sta
     (unify-pair-enter-requires t)
     (unify-pair-enum-known-e t)
     (unify-pair-enum-known-e-2 t)
-    (unify-pair-sub-unify-kids t)
-    (unify-pair-unify-kids-requires t)
+    (unify-pair-enum-known-p t)
     (unify-pair-settle-requires t)
+    (unify-pair-enum-known-p-2 t)
+    (unify-pair-sub-unify-objects t)
+    (unify-pair-unify-objects-requires t)
+    (unify-pair-settle-requires-2 t)
+    (unify-pair-enum-known-p-3 t)
+    (unify-pair-sub-unify-types t)
+    (unify-pair-unify-types-requires t)
+    (unify-pair-and-requires t)
+    (unify-pair-settle-requires-3 t)
     (unify-pair-same-length t)
     (unify-pair-same-length-2 t)
     (unify-pair-returns t)
     (unify-pair-same-length-3 t)
     (unify-pair-same-length-4 t)
-    (unify-pair-returns-2 t))
+    (unify-pair-returns-2 t)
+    (unify-pair-same-length-5 t)
+    (unify-pair-same-length-6 t)
+    (unify-pair-returns-3 t)
+    (unify-pair-same-length-7 t)
+    (unify-pair-same-length-8 t)
+    (unify-pair-returns-4 t))
     λ t. unify-types-lts.spec (unify-types-claims t)
     (unify-types-at t)
     unify-types.Post
