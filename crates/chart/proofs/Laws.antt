@@ -100,6 +100,13 @@ sigil-long x n e h = rw (e, lt-leb (n .len) MAX-NAME h)
 pub sigil-fits : (x : Texts) (n : Name) → inText x n ≡ true → n .len ≤ MAX-NAME → sigilOk x n ≡ true
 sigil-fits x n e h = rw (e, le-leb (n .len) MAX-NAME h)
 
+-- tests one after the other: one that passes leaves the next to say, one that fails ends them
+pub goes-on : {s t r : Bool} → s ≡ true → r ≡ t → r ≡ (s && t)
+goes-on e h = rw e h
+
+pub stops : {s : Bool} (t : Bool) → s ≡ false → false ≡ (s && t)
+stops t e = rw e
+
 -- the tests of chart and texts, one after the other; that of a record does not look at what stands beside the chart
 pub chart-tests :
     (ws : List ℕ) (b : Beside) (rule text : List ℕ) →
