@@ -76,6 +76,10 @@ word-none ws n (suc k) h z = none-there ws n (suc k) h ∙ zeros 9 k
 name-from : (ws : List ℕ) (j : ℕ) → nameAt 0 (drop j ws) ≡ nameAt j ws
 name-from ws j = rw (getD-drop j ws 0 0, getD-drop j ws 1 0, getD-drop j ws 2 0, add-zero)
 
+-- a name is known by its three numbers
+pub name-by : {x i n y j m : ℕ} → x ≡ y → i ≡ j → n ≡ m → name x i n ≡ name y j m
+name-by p q r = rw (p, q, r)
+
 pub sigil-there : (ws : List ℕ) (n : ℕ) → n < 4 → getD (sigilsOf ws) n (name 0 0 0) ≡ nameAt (n * NAME-WORDS) ws
 sigil-there ws n h = runs-at NAME-WORDS (nameAt 0) 4 ws n (name 0 0 0) h ∙ name-from ws (n * NAME-WORDS)
 
@@ -95,6 +99,13 @@ sigil-long x n e h = rw (e, lt-leb (n .len) MAX-NAME h)
 
 pub sigil-fits : (x : Texts) (n : Name) → inText x n ≡ true → n .len ≤ MAX-NAME → sigilOk x n ≡ true
 sigil-fits x n e h = rw (e, le-leb (n .len) MAX-NAME h)
+
+-- tests one after the other: one that passes leaves the next to say, one that fails ends them
+pub goes-on : {s t r : Bool} → s ≡ true → r ≡ t → r ≡ (s && t)
+goes-on e h = rw e h
+
+pub stops : {s : Bool} (t : Bool) → s ≡ false → false ≡ (s && t)
+stops t e = rw e
 
 -- the tests of chart and texts, one after the other; that of a record does not look at what stands beside the chart
 pub chart-tests :

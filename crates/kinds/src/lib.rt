@@ -2,7 +2,7 @@
 // The table is scope's `rows`, and each test says of a code what scope's definition says of its row.
 ghost use mathlib.Core.Path.{_≡_};
 ghost use Rattle.scope.specs.Kinds.{rowOf, dualBy, shapeFits, flexOk, numberOk};
-ghost use Rattle.kinds.specs.Rows.{rowIn, asRow, isDefinition, sortFits};
+ghost use Rattle.kinds.specs.Rows.{rowIn, asRow, sortFits};
 
 // "Codes are 0 to 14 in `TypeKind`'s order in 000."
 pub const PARAM: u32 = 0;
@@ -313,25 +313,14 @@ pub fn number_ok(code: u32, n: u32) -> bool
     row_number_ok(row_of(code), n)
 }
 
-pub fn is_definition(code: u32) -> bool
-    ensures { λ r. ⌜ r ≡ isDefinition (rowOf code) ⌝ }
+// A definition of this sort is one of the code's kind; a kind of no definition asks for none.
+pub fn sort_fits(code: u32, sort: u32) -> bool
+    ensures { λ r. ⌜ r ≡ sortFits (rowOf code) sort ⌝ }
 {
-    row_of(code).number == DEFINITION
-}
-
-// A definition of this sort is one of the row's kind; a kind of no definition asks for none.
-pub fn row_sort_fits(row: Row, sort: u32) -> bool
-    ensures { λ r. ⌜ r ≡ sortFits (asRow row) sort ⌝ }
-{
+    let row = row_of(code);
     if row.number == DEFINITION {
         sort == row.sort || sort == row.other
     } else {
         true
     }
-}
-
-pub fn sort_fits(code: u32, sort: u32) -> bool
-    ensures { λ r. ⌜ r ≡ sortFits (rowOf code) sort ⌝ }
-{
-    row_sort_fits(row_of(code), sort)
 }

@@ -363,12 +363,14 @@ pub fn write_header(h: &mut [u32], x: Header)
 {
     let error = x.error;
     let nil = x.nil;
+    let error_word = remembered_word(error);
+    let nil_word = remembered_word(nil);
     h[0] = x.nodes;
     h[1] = x.children;
     h[2] = x.node_room;
     h[3] = x.child_room;
-    h[4] = remembered_word(error);
-    h[5] = remembered_word(nil);
+    h[4] = error_word;
+    h[5] = nil_word;
     h[6] = (x.reports % HALF) as u32;
     h[7] = (x.reports / HALF) as u32;
 }

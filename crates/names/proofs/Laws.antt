@@ -17,6 +17,10 @@ use Rattle.scope.specs.Names.{Texts, Name, textOf, bytes, inText, nameOk, eqByt
 use Rattle.scope.proofs.NameLaws.{eq-bytes, bytes-eq}
 use Rattle.names.proofs.Tests.{both}
 
+-- what is said of two found lists is said of what they are
+pub compared : (f : List ℕ → List ℕ → Bool) {r : Bool} {a b x y : List ℕ} → r ≡ f a b → a ≡ x → b ≡ y → r ≡ f x y
+compared f h e g = rw (e, g) at h
+
 -- any number but 0 selects the chart text
 pub chart-text : (x : Texts) (t : ℕ) → (t ≡ 0 → ⊥) → textOf x t ≡ x .chart
 chart-text x zero n = absurd (n refl)

@@ -20,12 +20,6 @@ pub const NO_NAME: Name = Name {
     len: 0,
 };
 
-fn wide(x: u32) -> usize
-    ensures { λ r. ⌜ r ≡ x ⌝ }
-{
-    x as usize
-}
-
 fn text_of<'a>(text: u32, rule: &'a [u8], chart: &'a [u8]) -> &'a [u8]
     ensures { λ r. ⌜ now r ≡ textOf (texts (now (rule .entry)) (now (chart .entry))) text ⌝ }
 {
@@ -52,7 +46,11 @@ fn part(s: &[u8], start: usize, len: usize) -> &[u8]
 pub fn bytes_of<'a>(n: Name, rule: &'a [u8], chart: &'a [u8]) -> &'a [u8]
     ensures { λ r. ⌜ now r ≡ bytes (texts (now (rule .entry)) (now (chart .entry))) (nameOf n) ⌝ }
 {
-    part(text_of(n.text, rule, chart), wide(n.start), wide(n.len))
+    part(
+        text_of(n.text, rule, chart),
+        n.start as usize,
+        n.len as usize,
+    )
 }
 
 pub fn same_bytes(a: &[u8], b: &[u8]) -> bool
@@ -101,15 +99,6 @@ pub fn name_before<'a>(a: Name, b: Name, rule: &'a [u8], chart: &'a [u8]) -> boo
     before(bytes_of(a, rule, chart), bytes_of(b, rule, chart))
 }
 
-fn text_len(text: u32, rule: &[u8], chart: &[u8]) -> usize
-    ensures { λ r. ⌜ r ≡ length (textOf (texts (now (rule .entry)) (now (chart .entry))) text) ⌝ }
-{
-    if text == 0 {
-        return rule.len();
-    }
-    chart.len()
-}
-
 // The sum is taken in 64 bits, where it does not wrap.
 pub fn in_text(n: Name, rule: &[u8], chart: &[u8]) -> bool
     ensures { λ r. ⌜ r ≡ inText (texts (now (rule .entry)) (now (chart .entry))) (nameOf n) ⌝ }
@@ -117,8 +106,11 @@ pub fn in_text(n: Name, rule: &[u8], chart: &[u8]) -> bool
     if n.text > 1 {
         return false;
     }
-    let end = wide(n.start) + wide(n.len);
-    end <= text_len(n.text, rule, chart)
+    let end = n.start as usize + n.len as usize;
+    if n.text == 0 {
+        return end <= rule.len();
+    }
+    end <= chart.len()
 }
 
 // "names and paths 1 to 255 bytes"
@@ -131,5 +123,5 @@ pub fn name_ok(n: Name, rule: &[u8], chart: &[u8]) -> bool
     if n.len < 1 {
         return false;
     }
-    wide(n.len) <= MAX_NAME
+    n.len as usize <= MAX_NAME
 }

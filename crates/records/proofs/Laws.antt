@@ -2,18 +2,27 @@
 use mathlib.Core.Path.{_≡_, refl, sym, ap, _∙_}
 use mathlib.Core.Bool.{Bool, true, false}
 use mathlib.Core.List.{List, [], _∷_, _++_, append-assoc}
-use Prim.Native.Nat.{ℕ, zero, suc, _+_, _*_, _/_, _≤_}
+use Prim.Native.Nat.{ℕ, zero, suc, _+_, _-_, _*_, _/_, _≤_}
 use native.Mathlib.Numerals.{add-one}
 use native.Mathlib.Omega.{arith}
-use native.Mathlib.Nat.{div-mul-le-self}
+use native.Mathlib.Nat.{add-sub-cancel-left, div-mul-le-self}
 use borrow.Author.Tests.{leb-true}
 use lib.Dec.{leb}
-use lib.ListN.{length, getD, take, drop, length-append}
+use lib.ListN.{length, getD, take, drop, length-drop, length-append}
 use lib.Seq.{sets, length-sets, sets-eq, take-suc, take-at, drop-drop, drop-at, length-take-le, take-length}
 use Rattle.scope.specs.Base.{pick}
 use Rattle.chart.specs.Words.{RECORD-WORDS}
+use Rattle.layout.proofs.Lists.{sets-all}
 use Rattle.records.specs.declared.Record.{Record}
 use Rattle.records.specs.Loaded.{noRecord, numbers, chartWords, loadedTo, fits, fitting, shortBy, LoadPromised}
+
+-- ten words stored over their own part are stored in the list
+pub stored-part : (xs vs : List ℕ) (i : ℕ) → length vs ≡ RECORD-WORDS → i + RECORD-WORDS ≤ length xs
+    → take i xs ++ (sets (take (i + RECORD-WORDS - i) (drop i xs)) 0 vs ++ drop (i + RECORD-WORDS - i) (drop i xs)) ≡ sets xs i vs
+stored-part xs vs i e h =
+    let k : length (take 10 (drop i xs)) ≡ length vs = length-take-le 10 (drop i xs) (rw length-drop (omega arith)) ∙ sym e in
+    let room : i + length vs ≤ length xs = rw e h in
+    rw (add-sub-cancel-left i 10, sets-all (take 10 (drop i xs)) vs k, drop-drop 10 i xs, ← e) (sym (append-assoc (take i xs) vs (drop (i + length vs) xs)) ∙ sym (sets-eq vs xs i room))
 
 -- the list ws once the first k records are stored, ten words each
 unfoldable pub stored : List ℕ → List Record → ℕ → List ℕ

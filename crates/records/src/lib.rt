@@ -52,16 +52,18 @@ fn put_record(words: &mut [u32], at: usize, r: Record)
     requires { ⌜ at + «RECORD-WORDS» ≤ length (now words) ⌝ }
     ensures { λ _. ⌜ now (words .exit) ≡ sets (now (words .entry)) at (numbers r) ⌝ }
 {
-    words[at] = r.sort;
-    words[at + 1] = r.name.text;
-    words[at + 2] = r.name.start;
-    words[at + 3] = r.name.len;
-    words[at + 4] = r.path.text;
-    words[at + 5] = r.path.start;
-    words[at + 6] = r.path.len;
-    words[at + 7] = r.def;
-    words[at + 8] = r.dual;
-    words[at + 9] = r.trait_number;
+    let end = at + RECORD_WORDS;
+    let s = &mut words[at..end];
+    s[0] = r.sort;
+    s[1] = r.name.text;
+    s[2] = r.name.start;
+    s[3] = r.name.len;
+    s[4] = r.path.text;
+    s[5] = r.path.start;
+    s[6] = r.path.len;
+    s[7] = r.def;
+    s[8] = r.dual;
+    s[9] = r.trait_number;
 }
 
 // Writes record i's words.

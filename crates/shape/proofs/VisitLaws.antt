@@ -61,6 +61,12 @@ module _ (g : Graph) (n : ℕ) where
     pub stay : (u : ℕ) → 0 < getD marks₁ u 0 → 0 < getD marks u 0
     pub shut : (u : ℕ) → Open marks u → Open marks₁ u
 
+  pub passed-from : {v i : ℕ} {old new marks : List ℕ} → old ≡ new → Passed v i old marks → Passed v i new marks
+  passed-from e p = rw e at p
+
+  pub visited-to : {v : ℕ} {old marks new : List ℕ} {r : Bool} → new ≡ marks → Visited g n v old marks r → Visited g n v old new r
+  visited-to e w = rw e w
+
   pub passed-none : {v : ℕ} {marks : List ℕ} → v < MAX-NODES → TrueMarks g n marks → Passed v (g .first v) (set marks v OPEN) (set marks v OPEN)
   passed-none {v} l a = record {
     low = omega arith;

@@ -1,5 +1,6 @@
 -- `chart::name_in` meets its contract: a name is three words in a row. Assumes nothing.
 use borrow.Author.Needs.{needs}
+use Rattle.chart.proofs.Laws as laws
 use Rattle.chart.proofs.name_in.Statement.{statement}
 use Rattle.chart.proofs.name_in.Tie as tie
 
@@ -19,7 +20,7 @@ word-requires-3 : tie.Need-word-requires-3
 word-requires-3 c κs = search needs
 
 returns : tie.Need-returns
-returns c = cc
+returns c = laws.name-by (c .before .before .word .ensures) (c .before .word2 .ensures) (c .word3 .ensures)
 
 pub name-in-spec : {M : Type 1} → statement M
 name-in-spec =

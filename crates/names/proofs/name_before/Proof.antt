@@ -1,5 +1,7 @@
 -- `names::name_before` meets its contract: the two names' bytes are compared. Assumes nothing.
 use borrow.Author.Needs.{needs}
+use Rattle.scope.specs.Names.{ltBytes}
+use Rattle.names.proofs.Laws as laws
 use Rattle.names.proofs.name_before.Statement.{statement}
 use Rattle.names.proofs.name_before.Tie as tie
 
@@ -13,7 +15,7 @@ before-requires : tie.Need-before-requires
 before-requires c κs = search needs
 
 returns : tie.Need-returns
-returns c = cc
+returns c = laws.compared ltBytes (c .before2 .ensures) (c .before .before .bytes-of .ensures) (c .before .bytes-of2 .ensures)
 
 pub name-before-spec : {M : Type 1} → statement M
 name-before-spec =

@@ -21,8 +21,8 @@ returns-2 c =
       lt-leb 1 (c .before .before .before .before .before .before .args .n .len) (c .if2 .taken),
     )
 
-wide-requires : tie.Need-wide-requires
-wide-requires c κs = search needs
+cast-result : tie.Need-cast-result
+cast-result c = search needs
 
 returns-3 : tie.Need-returns-3
 unfolding nameOk
@@ -30,8 +30,7 @@ returns-3 c =
     rw (
       passes (c .before .before .before .before .in-text .ensures) (c .before .before .before .if1 .left),
       le-leb 1 (c .before .before .before .before .before .before .before .args .n .len) (c .before .if2 .left),
-      ← c .wide .ensures,
     )
 
 pub name-ok-spec : {M : Type 1} → statement M
-name-ok-spec = tie.close (tie.spec in-text-requires returns returns-2 wide-requires returns-3)
+name-ok-spec = tie.close (tie.spec in-text-requires returns returns-2 cast-result returns-3)

@@ -124,7 +124,7 @@ visit-visit-requires t c κs =
     let run = laws.in-run (p .falls) (p .node) (held-at .ensures) (kind .given .1) (inv .low) (loop-test .taken) in
     let kid = c .before .root-of .ensures ∙ ap (rootOf (s .args .roots .now)) (c .before .before .kid-at .ensures) in
     let new = sym (at .ensures) ∙ if2 .left in
-    let less = laws.fresh-less _ _ (p .marked) (laws.mark-small p) (rw (put .ensures) at inv) (p .node) new in
+    let less = laws.fresh-less _ _ (p .marked) (laws.mark-small p) (laws.passed-from _ _ (put .ensures) inv) (p .node) new in
     (omega (arith, s .pre .0, less), laws.visits-on p inv run kid)
 
 visit-returns-4 : (t : ℕ) → visit-lts.Need-returns-4 (visit-claims t) (visit-at t) visit.Post visit-Inv-loop visit-μ-loop
@@ -140,7 +140,7 @@ visit-returns-4 t c =
     let inv = c .before .before .before .before .before .before .loop .inv in
     let run = laws.in-run (p .falls) (p .node) (held-at .ensures) (kind .given .1) (inv .low) (loop-test .taken) in
     let kid = root-of .ensures ∙ ap (rootOf (s .args .roots .now)) (kid-at .ensures) in
-    laws.visit-failed _ _ (p .marked) (laws.mark-small p) (rw (put .ensures) at inv) run kid (not-true _ (c .if3 .taken)) (c .before .visit .ensures)
+    laws.visit-failed _ _ (p .marked) (laws.mark-small p) (laws.passed-from _ _ (put .ensures) inv) run kid (not-true _ (c .if3 .taken)) (c .before .visit .ensures)
 
 visit-add-i : (t : ℕ) → visit-lts.Need-add-i (visit-claims t) (visit-at t) visit.Post visit-Inv-loop visit-μ-loop
 visit-add-i t c =
@@ -168,11 +168,12 @@ visit-put-requires-3 t c κs =
 visit-returns-5 : (t : ℕ) → visit-lts.Need-returns-5 (visit-claims t) (visit-at t) visit.Post visit-Inv-loop visit-μ-loop
 visit-returns-5 t c =
     let p = c .before .before .before .before .before .before .before .before .before .before .before .before .before .before .before .before .before .before .pre .1 in
-    let inv = rw (c .before .before .before .before .before .before .before .before .before .before .put .ensures) at (c .before .before .before .loop .inv) in
+    let put = c .before .before .before .before .before .before .before .before .before .before .put in
+    let inv = laws.passed-from _ _ (put .ensures) (c .before .before .before .loop .inv) in
     let held-at = c .before .before .before .before .before .before .before .before .before .held-at in
     let kind = c .before .before .before .before .before .before .before .kind in
     let all = laws.run-done (p .falls) (p .node) (held-at .ensures) (kind .given .1) (c .before .before .loop-test .left) in
-    rw (c .put3 .ensures) (laws.visit-passed _ _ (p .marked) (laws.mark-small p) inv (laws.kids-closed (p .falls)) (p .node) all)
+    laws.visited-to _ _ (c .put3 .ensures) (laws.visit-passed _ _ (p .marked) (laws.mark-small p) inv (laws.kids-closed (p .falls)) (p .node) all)
 
 pub +visit-spec : {M : Type 1} → statement M
 +visit-spec = close μ-visit λ t. visit-lts.spec (visit-claims t)
