@@ -18,7 +18,7 @@ use Rattle.scope.specs.Sound.{zeros}
 use Rattle.layout.specs.Words.{HEAD-WORDS, nodeWords, childWords, storeIn, between}
 use Rattle.layout.specs.Words as words
 use Rattle.layout.proofs.Lists.{and-both, length-from, get-from, from-all}
-use Rattle.book.specs.Words.{NAME-WORDS, nodesFrom, kidsFrom, placeWords, nameLengthIn, nameIn, headIn, nodesIn, kidsIn, withRoom, placeIn}
+use Rattle.book.specs.Words.{NAME-WORDS, nodesFrom, kidsFrom, placeWords, nameLengthIn, nameBytesIn, headIn, nodesIn, kidsIn, withRoom, placeIn}
 use Rattle.book.specs.Words.{isByte, nameWordsClean, countsAreRoom, heldClean, placeClean}
 use Rattle.book.specs.Places.{putPart, putName}
 use Rattle.book.proofs.Parts.{put-length, put-here, put-before, put-first, between-take}
@@ -60,7 +60,7 @@ module _ (name : List ℕ) (m : ℕ) where
     written-at : (i : ℕ) → i < m → getD (length name ∷ (bytesTo name m ++ r)) (suc i) 0 ≡ getD name i 0
     written-at i h = let b = bytes-length in List·getD-append (bytesTo name m) r 0 i (omega arith) ∙ bytes-at i h
 
-    written-name : length name ≤ m → nameIn (length name ∷ (bytesTo name m ++ r)) ≡ name
+    written-name : length name ≤ m → nameBytesIn (length name ∷ (bytesTo name m ++ r)) ≡ name
     written-name h =
         let b = bytes-length in
         name-is (length name ∷ (bytesTo name m ++ r)) ∙ (take-append-le (length name) (bytesTo name m) r (omega arith) ∙ bytes-back h)
@@ -88,7 +88,7 @@ module _ (ps name : List ℕ) (room : NAME-WORDS ≤ length ps) (fits : length n
   unfolding putName
   put-name-length = refl
 
-  pub put-name-is : nameIn (putName ps name) ≡ name
+  pub put-name-is : nameBytesIn (putName ps name) ≡ name
   unfolding putName
   put-name-is = written-name name MAX-STATE-NAME (drop NAME-WORDS ps) fits
 
@@ -119,7 +119,7 @@ module _ (xs ys : List ℕ) (hx : NAME-WORDS ≤ length xs) (hy : NAME-WORDS ≤
   same-name-length =
       sym (getD-take NAME-WORDS xs 0 0 (omega arith)) ∙ (ap (λ (l : List ℕ). getD l 0 0) same ∙ getD-take NAME-WORDS ys 0 0 (omega arith))
 
-  pub same-name-is : nameLengthIn ys ≤ MAX-STATE-NAME → nameIn xs ≡ nameIn ys
+  pub same-name-is : nameLengthIn ys ≤ MAX-STATE-NAME → nameBytesIn xs ≡ nameBytesIn ys
   same-name-is h =
       let k : ℕ = nameLengthIn ys in
       ap (λ (l : ℕ). between xs 1 (suc l)) same-name-length
@@ -137,7 +137,7 @@ module _ (xs ys : List ℕ) (hx : NAME-WORDS ≤ length xs) (hy : NAME-WORDS ≤
 pub record Written (n c : ℕ) (ps name hd ws ks : List ℕ) : Type 0 where
   pub words : length ps ≡ placeWords n c
   pub len : nameLengthIn ps ≡ length name
-  pub bytes : nameIn ps ≡ name
+  pub bytes : nameBytesIn ps ≡ name
   pub head : headIn ps ≡ hd
   pub nodes : nodesIn n ps ≡ ws
   pub kids : kidsIn n c ps ≡ ks

@@ -17,7 +17,7 @@ use Rattle.scope.specs.Names.{eqBytes}
 use Rattle.scope.specs.States.{under, isFree}
 use Rattle.scope.proofs.NameLaws.{eq-bytes}
 use Rattle.layout.proofs.Lists.{and-left}
-use Rattle.book.specs.Words.{placeWords, placeAt, nameLengthIn, nameIn, placeIn, nameWordsClean, heldClean, placeClean}
+use Rattle.book.specs.Words.{placeWords, placeAt, nameLengthIn, nameBytesIn, placeIn, nameWordsClean, heldClean, placeClean}
 use Rattle.book.specs.Words.{nodeRoomIn, childRoomIn, bookClean}
 use Rattle.book.specs.Places.{placeOf, NameLies, heldUnder}
 use Rattle.book.proofs.Places.{book-lies, place-length}
@@ -94,20 +94,20 @@ unfolding eqBytes
 no-words a b i h k = rw (drop-of-length-le a h, drop-of-length-le b k) refl
 
 -- the words of a name
-pub name-is : (ps : List ℕ) → nameIn ps ≡ take (nameLengthIn ps) (drop 1 ps)
+pub name-is : (ps : List ℕ) → nameBytesIn ps ≡ take (nameLengthIn ps) (drop 1 ps)
 name-is ps = let z : suc (nameLengthIn ps) - 1 ≡ nameLengthIn ps = omega arith in ap (λ (k : ℕ). take k (drop 1 ps)) z
 
-pub name-length : (ps : List ℕ) → NameLies ps → length (nameIn ps) ≡ nameLengthIn ps
+pub name-length : (ps : List ℕ) → NameLies ps → length (nameBytesIn ps) ≡ nameLengthIn ps
 name-length ps l = rw (name-is ps) (length-take-le (nameLengthIn ps) (drop 1 ps) (simp length-drop (omega arith)))
 
-pub name-word : (ps : List ℕ) (i : ℕ) → i < nameLengthIn ps → getD (nameIn ps) i 0 ≡ getD ps (i + 1) 0
+pub name-word : (ps : List ℕ) (i : ℕ) → i < nameLengthIn ps → getD (nameBytesIn ps) i 0 ≡ getD ps (i + 1) 0
 name-word ps i h =
     let z : 1 + i ≡ i + 1 = omega arith in
     rw (name-is ps) (getD-take (nameLengthIn ps) (drop 1 ps) i 0 h ∙ (getD-drop 1 ps i 0 ∙ ap (λ (j : ℕ). getD ps j 0) z))
 
 -- the ways out of a comparison of a place's name with other bytes
 abbrev pub Same : List ℕ → List ℕ → ℕ → Type 0
-Same ps name i = eqBytes (drop i (nameIn ps)) (drop i name) ≡ eqBytes (nameIn ps) name
+Same ps name i = eqBytes (drop i (nameBytesIn ps)) (drop i name) ≡ eqBytes (nameBytesIn ps) name
 
 module _ (ps name : List ℕ) (lies : NameLies ps) where
   pub compare-free : nameLengthIn ps ≡ 0 → false ≡ heldUnder name ps
@@ -115,24 +115,24 @@ module _ (ps name : List ℕ) (lies : NameLies ps) where
   compare-free e = rw (eq-eqb (nameLengthIn ps) 0 e) refl
 
   module _ (held : nameLengthIn ps ≡ 0 → ⊥) where
-    pub held-bytes : heldUnder name ps ≡ eqBytes (nameIn ps) name
+    pub held-bytes : heldUnder name ps ≡ eqBytes (nameBytesIn ps) name
     unfolding heldUnder
     held-bytes = rw (ne-eqb (nameLengthIn ps) 0 held) refl
 
     pub compare-length : (nameLengthIn ps ≡ length name → ⊥) → false ≡ heldUnder name ps
-    compare-length z = apart-length (nameIn ps) name (λ e. z (sym (name-length ps lies) ∙ e)) ∙ sym held-bytes
+    compare-length z = apart-length (nameBytesIn ps) name (λ e. z (sym (name-length ps lies) ∙ e)) ∙ sym held-bytes
 
     module _ (len : nameLengthIn ps ≡ length name) (i : ℕ) (s : Same ps name i) where
       pub compare-stop : i < nameLengthIn ps → (getD ps (i + 1) 0 ≡ getD name i 0 → ⊥) → false ≡ heldUnder name ps
       compare-stop h z =
-          sym (other-word (nameIn ps) name i (rw (name-length ps lies) h) (omega arith) (λ e. z (sym (name-word ps i h) ∙ e))) ∙ (s ∙ sym held-bytes)
+          sym (other-word (nameBytesIn ps) name i (rw (name-length ps lies) h) (omega arith) (λ e. z (sym (name-word ps i h) ∙ e))) ∙ (s ∙ sym held-bytes)
 
       pub compare-step : i < nameLengthIn ps → getD ps (i + 1) 0 ≡ getD name i 0 → Same ps name (i + 1)
       compare-step h e =
-          sym (same-word (nameIn ps) name i (rw (name-length ps lies) h) (omega arith) (name-word ps i h ∙ e)) ∙ s
+          sym (same-word (nameBytesIn ps) name i (rw (name-length ps lies) h) (omega arith) (name-word ps i h ∙ e)) ∙ s
 
       pub compare-end : nameLengthIn ps ≤ i → true ≡ heldUnder name ps
-      compare-end h = sym (no-words (nameIn ps) name i (rw (name-length ps lies) h) (omega arith)) ∙ (s ∙ sym held-bytes)
+      compare-end h = sym (no-words (nameBytesIn ps) name i (rw (name-length ps lies) h) (omega arith)) ∙ (s ∙ sym held-bytes)
 
 -- the places of a clean book
 

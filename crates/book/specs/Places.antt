@@ -8,7 +8,7 @@ use Rattle.scope.specs.Base.{pick, from}
 use Rattle.scope.specs.Limits.{MAX-STATES, MAX-STATE-NAME}
 use Rattle.scope.specs.Names.{eqBytes}
 use Rattle.scope.specs.States.{Place}
-use Rattle.book.specs.Words.{NAME-WORDS, placeFrom, bookWords, placeAt, nameLengthIn, nameIn, placeIn, nodeRoomIn, childRoomIn}
+use Rattle.book.specs.Words.{NAME-WORDS, placeFrom, bookWords, placeAt, nameLengthIn, nameBytesIn, placeIn, nodeRoomIn, childRoomIn}
 use Rattle.book.specs.declared.Room.{Room}
 
 abbrev pub roomIn : List ℕ → Room
@@ -37,7 +37,7 @@ NameLies ps = suc (nameLengthIn ps) ≤ length ps
 
 -- a place is held under exactly these bytes: `under` of the place
 unfoldable pub heldUnder : List ℕ → List ℕ → Bool
-heldUnder name ps = pick (eqb (nameLengthIn ps) 0) false (eqBytes (nameIn ps) name)
+heldUnder name ps = pick (eqb (nameLengthIn ps) 0) false (eqBytes (nameBytesIn ps) name)
 
 -- there is room for a name's words, and the name has no more bytes than a name can have
 pub record Nameable (ps name : List ℕ) : Type 0 where

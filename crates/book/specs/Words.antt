@@ -49,8 +49,8 @@ placeAt bs n c i = between bs (placeFrom n c i) (placeFrom n c (suc i))
 abbrev pub nameLengthIn : List ℕ → ℕ
 nameLengthIn ps = getD ps 0 0
 
-abbrev pub nameIn : List ℕ → List ℕ
-nameIn ps = between ps 1 (suc (nameLengthIn ps))
+abbrev pub nameBytesIn : List ℕ → List ℕ
+nameBytesIn ps = between ps 1 (suc (nameLengthIn ps))
 
 abbrev pub headIn : List ℕ → List ℕ
 headIn ps = between ps NAME-WORDS nodesFrom
@@ -77,7 +77,7 @@ abbrev pub heldIn : ℕ → ℕ → List ℕ → Store
 heldIn n c ps = withRoom n c (storeIn (headIn ps) (nodesIn n ps) (kidsIn n c ps))
 
 unfoldable pub placeIn : ℕ → ℕ → List ℕ → Place
-placeIn n c ps = pick (eqb (nameLengthIn ps) 0) none (some (record { name = nameIn ps; store = heldIn n c ps }))
+placeIn n c ps = pick (eqb (nameLengthIn ps) 0) none (some (record { name = nameBytesIn ps; store = heldIn n c ps }))
 
 -- a name's words: its length is one that a name can have, each is a byte, and unused ones are zero
 abbrev pub isByte : ℕ → Bool
@@ -86,7 +86,7 @@ isByte b = ltb b 256
 unfoldable pub nameWordsClean : List ℕ → Bool
 nameWordsClean ps =
     leb (nameLengthIn ps) MAX-STATE-NAME
-    && (all isByte (nameIn ps) && zeros (between ps (suc (nameLengthIn ps)) NAME-WORDS))
+    && (all isByte (nameBytesIn ps) && zeros (between ps (suc (nameLengthIn ps)) NAME-WORDS))
 
 -- a held head says its counts as its capacities
 abbrev pub countsAreRoom : List ℕ → Bool

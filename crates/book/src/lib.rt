@@ -7,7 +7,7 @@ ghost use lib.ListN.{length, getD, set};
 ghost use Rattle.scope.specs.Limits.{MAX-STATES};
 ghost use Rattle.scope.specs.States.{under, isFree, placeWhere};
 ghost use Rattle.book.specs.Words.{nodesFrom, kidsFrom, placeWords, bookWords, placeFrom, placeAt};
-ghost use Rattle.book.specs.Words.{nameLengthIn, nameIn, headIn, nodesIn, kidsIn, placesIn, bookClean};
+ghost use Rattle.book.specs.Words.{nameLengthIn, nameBytesIn, headIn, nodesIn, kidsIn, placesIn, bookClean};
 ghost use Rattle.book.specs.Places.{roomIn, PlaceLies, NameLies, heldUnder, Nameable, putName};
 use layout::HEAD_WORDS;
 use layout::child_words;
@@ -142,7 +142,7 @@ pub fn same_name(ps: &[u32], name: &[u8]) -> bool
 // Whether a place is held under the name of another; a free one has none.
 pub fn same_names<'a>(ps: &'a [u32], other: &'a [u32]) -> bool
     requires { ⌜ NameLies (now ps) × NameLies (now other) ⌝ }
-    ensures { λ r. ⌜ r ≡ heldUnder (nameIn (now (other .entry))) (now (ps .entry)) ⌝ }
+    ensures { λ r. ⌜ r ≡ heldUnder (nameBytesIn (now (other .entry))) (now (ps .entry)) ⌝ }
 {
     let length = name_length(ps) as usize;
     if length == 0 {

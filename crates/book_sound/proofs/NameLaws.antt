@@ -14,7 +14,7 @@ use Rattle.scope.specs.Limits.{MAX-STATES}
 use Rattle.scope.specs.States.{Place, under, heldOnce, namesDiffer}
 use Rattle.layout.proofs.Lists.{from-all}
 use Rattle.clean.proofs.Laws.{all-map}
-use Rattle.book.specs.Words.{placeAt, nameLengthIn, nameIn, placeIn, nodeRoomIn, childRoomIn, bookClean}
+use Rattle.book.specs.Words.{placeAt, nameLengthIn, nameBytesIn, placeIn, nodeRoomIn, childRoomIn, bookClean}
 use Rattle.book.specs.Places.{placeOf, heldUnder}
 use Rattle.book.proofs.Names.{under-is, placeIn-free, place-name, name-is, name-length, apart-length}
 use Rattle.book_sound.specs.Tests.{nameOnce}
@@ -39,7 +39,7 @@ words bs i = placeAt bs (nodeRoomIn bs) (childRoomIn bs) i
 
 -- place j is not held under place i's name
 abbrev pub otherName : List ℕ → ℕ → ℕ → Bool
-otherName bs i j = not (heldUnder (nameIn (words bs i)) (words bs j))
+otherName bs i j = not (heldUnder (nameBytesIn (words bs i)) (words bs j))
 
 module _ (bs : List ℕ) (cl : bookClean bs ≡ true) (i : ℕ) where
   -- behind a held place
@@ -47,12 +47,12 @@ module _ (bs : List ℕ) (cl : bookClean bs ≡ true) (i : ℕ) where
   unfolding placeIn
   held-run z l =
       rw (ne-eqb (nameLengthIn (words bs i)) 0 z)
-      (not-any (under (nameIn (words bs i))) (map (placeOf bs) l)
-      ∙ (all-map (λ x. not (under (nameIn (words bs i)) x)) (placeOf bs) l
-      ∙ all-like (λ j. not (under (nameIn (words bs i)) (placeOf bs j))) (otherName bs i) l
-      (λ j. ap not (under-is (nameIn (words bs i)) (nodeRoomIn bs) (childRoomIn bs) (words bs j)))))
+      (not-any (under (nameBytesIn (words bs i))) (map (placeOf bs) l)
+      ∙ (all-map (λ x. not (under (nameBytesIn (words bs i)) x)) (placeOf bs) l
+      ∙ all-like (λ j. not (under (nameBytesIn (words bs i)) (placeOf bs j))) (otherName bs i) l
+      (λ j. ap not (under-is (nameBytesIn (words bs i)) (nodeRoomIn bs) (childRoomIn bs) (words bs j)))))
 
-  no-name : nameLengthIn (words bs i) ≡ 0 → nameIn (words bs i) ≡ []
+  no-name : nameLengthIn (words bs i) ≡ 0 → nameBytesIn (words bs i) ≡ []
   no-name z = name-is (words bs i) ∙ rw z refl
 
   -- no place is held under no bytes
@@ -63,9 +63,9 @@ module _ (bs : List ℕ) (cl : bookClean bs ≡ true) (i : ℕ) where
       go : (t : Bool) → eqb (nameLengthIn (words bs j)) 0 ≡ t → heldUnder [] (words bs j) ≡ false
       go true e = rw e refl
       go false e =
-          let l : length (nameIn (words bs j)) ≡ nameLengthIn (words bs j) = name-length (words bs j) (place-name bs j cl h) in
+          let l : length (nameBytesIn (words bs j)) ≡ nameLengthIn (words bs j) = name-length (words bs j) (place-name bs j cl h) in
           let z : nameLengthIn (words bs j) ≡ 0 → ⊥ = eqb-false (nameLengthIn (words bs j)) 0 e in
-          rw e (sym (apart-length (nameIn (words bs j)) [] (λ q. z (sym l ∙ q))))
+          rw e (sym (apart-length (nameBytesIn (words bs j)) [] (λ q. z (sym l ∙ q))))
 
   free-run : nameLengthIn (words bs i) ≡ 0 → (a m : ℕ) → a + m ≤ MAX-STATES
       → heldOnce (placeOf bs i) (map (placeOf bs) (from a m)) ≡ all (otherName bs i) (from a m)

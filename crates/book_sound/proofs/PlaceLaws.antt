@@ -23,7 +23,7 @@ use Rattle.layout.specs.declared.Header.{Header}
 use Rattle.layout.proofs.Laws.{length-decode}
 use Rattle.layout.proofs.Lists.{and-both, and-left}
 use Rattle.layout.proofs.StoreLaws.{clean-lies, lent-clean}
-use Rattle.book.specs.Words.{NAME-WORDS, nodesFrom, kidsFrom, placeWords, nameLengthIn, nameIn, headIn, nodesIn, kidsIn, withRoom, heldIn, placeIn}
+use Rattle.book.specs.Words.{NAME-WORDS, nodesFrom, kidsFrom, placeWords, nameLengthIn, nameBytesIn, headIn, nodesIn, kidsIn, withRoom, heldIn, placeIn}
 use Rattle.book.specs.Words.{nameWordsClean, countsAreRoom, heldClean}
 use Rattle.book.proofs.Names.{placeIn-free, clean-free, clean-held, name-length}
 use Rattle.book.proofs.Laws.{all-run}
@@ -109,13 +109,13 @@ module _ (e : Env) (n c : ℕ) (ps : List ℕ) where
   ok-free z = rw (clean-free n c ps z, placeIn-free n c ps z) refl
 
   module _ (held : nameLengthIn ps ≡ 0 → ⊥) where
-    is-held : placeIn n c ps ≡ some (record { name = nameIn ps; store = heldIn n c ps })
+    is-held : placeIn n c ps ≡ some (record { name = nameBytesIn ps; store = heldIn n c ps })
     unfolding placeIn
     is-held = rw (ne-eqb (nameLengthIn ps) 0 held) refl
 
     -- the state that it holds
     abbrev stateOk : Bool
-    stateOk = nameLength (nameIn ps) && (sameRoom (heldIn n c ps) (blank n c) && soundStore e (heldIn n c ps))
+    stateOk = nameLength (nameBytesIn ps) && (sameRoom (heldIn n c ps) (blank n c) && soundStore e (heldIn n c ps))
 
     ok-held : placeOk e n c ps ≡ (heldClean n c ps && stateOk)
     ok-held = rw (clean-held n c ps held, is-held) refl
@@ -126,7 +126,7 @@ module _ (e : Env) (n c : ℕ) (ps : List ℕ) where
     unsound : soundStore e (heldIn n c ps) ≡ false → placeOk e n c ps ≡ false
     unsound h =
         ok-held
-        ∙ rw (h, and-false (sameRoom (heldIn n c ps) (blank n c)), and-false (nameLength (nameIn ps)), and-false (heldClean n c ps)) refl
+        ∙ rw (h, and-false (sameRoom (heldIn n c ps) (blank n c)), and-false (nameLength (nameBytesIn ps)), and-false (heldClean n c ps)) refl
 
     no-name : nameWordsClean ps ≡ false → heldClean n c ps ≡ false
     unfolding heldClean
@@ -182,10 +182,10 @@ module _ (e : Env) (n c : ℕ) (ps : List ℕ) where
         unfolding nameWordsClean
         name-fits = leb-true (nameLengthIn ps) MAX-STATE-NAME (and-left (leb (nameLengthIn ps) MAX-STATE-NAME) _ name)
 
-        name-ok : nameLength (nameIn ps) ≡ true
+        name-ok : nameLength (nameBytesIn ps) ≡ true
         name-ok =
             let f = name-fits in
-            let l : length (nameIn ps) ≡ nameLengthIn ps = name-length ps (omega arith) in
+            let l : length (nameBytesIn ps) ≡ nameLengthIn ps = name-length ps (omega arith) in
             rw l (and-both _ _ (le-leb 1 (nameLengthIn ps) (omega arith)) (le-leb (nameLengthIn ps) MAX-STATE-NAME f))
 
         counts : countsAreRoom (headIn ps) ≡ true

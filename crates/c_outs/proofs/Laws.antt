@@ -28,7 +28,7 @@ use Rattle.call_force.specs.declared.ForcedAnswer.the-variants as forced
 use Rattle.c_words.specs.Numbers.{REFUSED, answerIn}
 use Rattle.c_words.proofs.Laws.{number-value, number-refused}
 use Rattle.c_outs.specs.Outs.{Told, bit, plainOut, kindOut, invertedFrom, kindFrom, nodeCase, nodeIn, nodeOut, forcedCase, forcedIn, forcedOut}
-use Rattle.c_outs.specs.Outs.{childCase, childIn, childOut, nameCase, nameIn, nameOut, modNumber, modCase, modIn, modOut}
+use Rattle.c_outs.specs.Outs.{childCase, childIn, childOut, nameCase, nameAnswerIn, nameOut, modNumber, modCase, modIn, modOut}
 use Rattle.c_outs.specs.Outs.{hasWord, typeOrZero, rememberedFrom, figuresOut, figuresFrom, figuresIn, figuresPut}
 
 bit-back : (b : Bool) → eqb (bit b) 1 ≡ b
@@ -106,7 +106,7 @@ module _ (out : List ℕ) where
   child-told child.Nothing = record { answer = refl; out = refl }
   child-told (child.Refused n) = record { answer = number-refused 2 (childCase out) child.Refused n (omega arith); out = refl }
 
-  pub name-told : (a : NameAnswer) → Told nameIn nameOut a out (nameOut a out) (nameNumber a)
+  pub name-told : (a : NameAnswer) → Told nameAnswerIn nameOut a out (nameOut a out) (nameNumber a)
   unfolding answerIn
   name-told (name.Is n) = record { answer = refl; out = refl }
   name-told name.Nothing = record { answer = refl; out = refl }

@@ -126,8 +126,8 @@ childOut (child.Refused n) out = out
 abbrev pub nameCase : List ℕ → ℕ → NameAnswer
 nameCase out r = pick (eqb r 0) name.Nothing (name.Is (nameFrom 0 out))
 
-abbrev pub nameIn : ℕ → List ℕ → NameAnswer
-nameIn r out = answerIn 2 (nameCase out) name.Refused r
+abbrev pub nameAnswerIn : ℕ → List ℕ → NameAnswer
+nameAnswerIn r out = answerIn 2 (nameCase out) name.Refused r
 
 abbrev pub nameOut : NameAnswer → List ℕ → List ℕ
 nameOut (name.Is n) out = n .text ∷ n .start ∷ n .len ∷ []

@@ -2,7 +2,7 @@
 // returned, and the array has its values, with 0 for what the case lacks. A refusal leaves the array as found.
 ghost use mathlib.Core.Path.{_≡_};
 ghost use Rattle.c_outs.specs.Outs.{bit, plainOut, kindOut, modNumber, modDef, hasWord, typeOrZero, figuresOut, Told};
-ghost use Rattle.c_outs.specs.Outs.{nodeIn, nodeOut, forcedIn, forcedOut, childIn, childOut, nameIn, nameOut, modIn, modOut, figuresIn, figuresPut};
+ghost use Rattle.c_outs.specs.Outs.{nodeIn, nodeOut, forcedIn, forcedOut, childIn, childOut, nameAnswerIn, nameOut, modIn, modOut, figuresIn, figuresPut};
 use c_words::REFUSED;
 use call_ask::ModAnswer;
 use call_force::ForcedAnswer;
@@ -129,7 +129,7 @@ pub fn tell_child(a: ChildAnswer, out: &mut [u32; 1]) -> u64
 
 // 1 and the name, or 0 where there is none.
 pub fn tell_name(a: NameAnswer, out: &mut [u32; 3]) -> u64
-    ensures { λ r. ⌜ Told nameIn nameOut a (now (out .entry)) (now (out .exit)) r ⌝ }
+    ensures { λ r. ⌜ Told nameAnswerIn nameOut a (now (out .entry)) (now (out .exit)) r ⌝ }
 {
     match a {
         NameAnswer::Is(name) => {

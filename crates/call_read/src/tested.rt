@@ -53,7 +53,7 @@ fn child_of_node(ks: &[u32], node: TypeNode, j: u32) -> ChildAnswer
 }
 
 // A name as it lies in a store; no name is empty.
-fn name_in(n: Name) -> NameAnswer
+fn told_name(n: Name) -> NameAnswer
     ensures { λ r. ⌜ value (nameIn (n .text) (n .start) (n .len)) ≡ nameReply r ⌝ }
 {
     if n.len == 0 {
@@ -70,7 +70,7 @@ fn child_named(ks: &[u32], kind: Kind, n: u32, j: u32) -> NameAnswer
         return NameAnswer::Nothing;
     }
     let kid = layout::child_of(ks, kind, j);
-    name_in(kid.name)
+    told_name(kid.name)
 }
 
 // Name j of a kind: its own is name 0; a child's has the child's number, and a Closure's return has none.
@@ -80,7 +80,7 @@ fn name_of_kind(ks: &[u32], kind: Kind, j: u32) -> NameAnswer
     let names = kinds::row_of(kind.code).names;
     if names == OWN_NAME {
         if j == 0 {
-            return name_in(kind.name);
+            return told_name(kind.name);
         }
         return NameAnswer::Nothing;
     }

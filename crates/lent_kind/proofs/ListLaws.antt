@@ -1,4 +1,4 @@
--- Listed types stand as entries without names: a kind whose row has no names, over these, is the kind over the list.
+-- TypesPut types stand as entries without names: a kind whose row has no names, over these, is the kind over the list.
 -- Assumes nothing.
 use mathlib.Core.Path.{_≡_, refl, ap, _∙_}
 use mathlib.Core.Bool.{true, false}
@@ -23,22 +23,22 @@ use Rattle.layout.proofs.ChildLaws.{slot-here, slot-there, slots-front}
 use Rattle.layout.proofs.KindLaws.{names-none, fits-none, fits-clean}
 use Rattle.store.specs.Entries.{entryCount, entryTypes, typesIn}
 use Rattle.lent_kind.specs.declared.KindArgs.{KindArgs}
-use Rattle.lent_kind.specs.Lent.{kindLent, tidy, given, plainArgs, bareSlot, Listed}
+use Rattle.lent_kind.specs.Lent.{kindLent, tidy, given, plainArgs, bareSlot, TypesPut}
 
 -- put_types
 
-pub listed-none : {ts es : List ℕ} → Listed ts 0 es
+pub listed-none : {ts es : List ℕ} → TypesPut ts 0 es
 listed-none = record { each = λ i h. absurd (omega arith) }
 
-module _ (ts : List ℕ) (i : ℕ) {es es′ : List ℕ} {s : code.Slot} (o : Listed ts i es) (room : i * CHILD-WORDS + CHILD-WORDS ≤ length es)
+module _ (ts : List ℕ) (i : ℕ) {es es′ : List ℕ} {s : code.Slot} (o : TypesPut ts i es) (room : i * CHILD-WORDS + CHILD-WORDS ≤ length es)
     (is : slotMeans s ≡ bareSlot (getD ts i 0)) (q : es′ ≡ putSlot es i s) where
-  pub listed-more : Listed ts (i + 1) es′
+  pub listed-more : TypesPut ts (i + 1) es′
   listed-more = rw q (record {
     each = below-more (λ j. slotAt (putSlot es i s) j ≡ bareSlot (getD ts j 0)) i
         (λ j h. slot-there es i s room j (λ z. omega arith) ∙ o .each j h) (slot-here es i s room ∙ is);
   })
 
-pub listed-end : {ts es : List ℕ} {i n : ℕ} → Listed ts i es → i ≡ n → Listed ts n es
+pub listed-end : {ts es : List ℕ} {i n : ℕ} → TypesPut ts i es → i ≡ n → TypesPut ts n es
 listed-end o e = rw e at o
 
 -- a list by its places
@@ -53,7 +53,7 @@ all-bare : (l : List ℕ) → all slotBare (map bareSlot l) ≡ true
 all-bare [] = refl
 all-bare (w ∷ l) = all-bare l
 
-module _ (ts es : List ℕ) (o : Listed ts (length ts) es) (room : childWords (length ts) ≤ length es) where
+module _ (ts es : List ℕ) (o : TypesPut ts (length ts) es) (room : childWords (length ts) ≤ length es) where
   abbrev part : List ℕ
   part = take (childWords (length ts)) es
 

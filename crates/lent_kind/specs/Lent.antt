@@ -63,7 +63,7 @@ abbrev pub bareSlot : ℕ → Slot
 bareSlot w = record { type = w; text = 0; start = 0; len = 0 }
 
 -- the first n of the listed types stand as entries
-pub record Listed (ts : List ℕ) (n : ℕ) (es : List ℕ) : Type 0 where
+pub record TypesPut (ts : List ℕ) (n : ℕ) (es : List ℕ) : Type 0 where
   pub each : (i : ℕ) → i < n → slotAt es i ≡ bareSlot (getD ts i 0)
 
 -- 3, of a list of n types that are inside or not, and of 4 what the list alone decides

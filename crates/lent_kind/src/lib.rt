@@ -11,7 +11,7 @@ ghost use Rattle.layout.specs.Words.{childWords};
 ghost use Rattle.layout.specs.Meaning.{slotMeans};
 ghost use Rattle.store.specs.Entries.{entryCount};
 ghost use Rattle.refusals.specs.Codes.{codeOf};
-ghost use Rattle.lent_kind.specs.Lent.{withFlag, given, plainArgs, bareSlot, Listed, listTests, kindTests};
+ghost use Rattle.lent_kind.specs.Lent.{withFlag, given, plainArgs, bareSlot, TypesPut, listTests, kindTests};
 use layout::CHILD_WORDS;
 use layout::Slot;
 use make::Head;
@@ -103,7 +103,7 @@ fn bare_slot(w: u32) -> Slot
 // The listed types as entries without names.
 pub fn put_types(es: &mut [u32], types: &[u32])
     requires { ⌜ childWords (length (now types)) ≤ length (now es) ⌝ }
-    ensures { λ _. ⌜ Listed (now (types .entry)) (length (now (types .entry))) (now (es .exit)) ⌝ }
+    ensures { λ _. ⌜ TypesPut (now (types .entry)) (length (now (types .entry))) (now (es .exit)) ⌝ }
 {
     let mut i = 0;
     while i < types.len() {

@@ -7,7 +7,7 @@ ghost use Rattle.promise.specs.Promise.{Promised, Tested, typeReply, outcomeBy}
 ghost use Rattle.call_read.specs.Replies.{NodePromised, childReply, nameReply, figuresReply};
 ghost use Rattle.c_words.specs.Numbers.{typeIn};
 ghost use Rattle.c_words.specs.Given.{besideIn, lentEnv};
-ghost use Rattle.c_outs.specs.Outs.{nodeIn, nodeOut, childIn, childOut, nameIn, nameOut, figuresIn, figuresPut};
+ghost use Rattle.c_outs.specs.Outs.{nodeIn, nodeOut, childIn, childOut, nameAnswerIn, nameOut, figuresIn, figuresPut};
 use types::Type;
 
 // "`find` follows parents, combining inversions by exclusive or."
@@ -127,8 +127,8 @@ pub extern "C" fn faroalder_tested_child_name<'a>(
     requires { ⌜ Tested (now chart) (besideIn «fn_trait» (now sigils)) (now rule) (now text) (now h) (now ws) (now ks) ⌝ }
     ensures { λ r. ⌜ (nameCall
         (lentEnv (now (chart .entry)) «fn_trait» (now (sigils .entry)) (now (rule .entry)) (now (text .entry))) (lentOf (now (h .entry)) (now (ws .entry)) (now (ks .entry))) (tyOf t) j
-        ≡ outcomeBy (nameReply (nameIn r (now (out .exit)))) (storeIn (now (h .entry)) (now (ws .entry)) (now (ks .entry))))
-        × (now (out .exit) ≡ nameOut (nameIn r (now (out .exit))) (now (out .entry))) ⌝ }
+        ≡ outcomeBy (nameReply (nameAnswerIn r (now (out .exit)))) (storeIn (now (h .entry)) (now (ws .entry)) (now (ks .entry))))
+        × (now (out .exit) ≡ nameOut (nameAnswerIn r (now (out .exit))) (now (out .entry))) ⌝ }
 {
     let beside = c_words::beside_of(fn_trait, sigils);
     c_outs::tell_name(

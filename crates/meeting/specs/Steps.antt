@@ -36,10 +36,10 @@ pub record RunsLie (ks : List ℕ) (s : Runs) : Type 0 where
 pub record Ascends (x : Texts) (ks : List ℕ) (b count : ℕ) : Type 0 where
   pub names : ascending (map (bytesOr x) (namesFrom ks b count)) ≡ true
 
-abbrev pub Ready : Texts → List ℕ → Steps → Type 0
-Ready x ks (Answer r) = Unit {0}
-Ready x ks (Run r s) = RunsLie ks s
-Ready x ks (Object s) = RunsLie ks s × Ascends x ks (s .b) (s .nb)
+abbrev pub StepsReady : Texts → List ℕ → Steps → Type 0
+StepsReady x ks (Answer r) = Unit {0}
+StepsReady x ks (Run r s) = RunsLie ks s
+StepsReady x ks (Object s) = RunsLie ks s × Ascends x ks (s .b) (s .nb)
 
 abbrev pub PlanSpans : Plan → Type 0
 PlanSpans (plans.Answer r) = Unit {0}
@@ -56,7 +56,7 @@ PlanReady x ks (plans.Signature s) = RunsLie ks s
 -- whatever the children are, f is the plan p
 pub record Stepped (p : Plan) (f : Steps) : Type 0 where
   pub same : (ks : List ℕ) (x : Texts) → stepsMean ks x f ≡ planMeans ks x p
-  pub ready : (ks : List ℕ) (x : Texts) → PlanReady x ks p → Ready x ks f
+  pub ready : (ks : List ℕ) (x : Texts) → PlanReady x ks p → StepsReady x ks f
 
 -- two signatures that have a return each
 pub record Lasts (s : Runs) : Type 0 where

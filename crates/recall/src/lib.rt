@@ -118,7 +118,7 @@ fn slot(count: usize, n: u32, a: Type, b: Type) -> usize
     (code(a) * row + code(b)) % count
 }
 
-fn place_of(m: &[u32], n: u32, a: Type, b: Type) -> Place
+fn spot_of(m: &[u32], n: u32, a: Type, b: Type) -> Place
     requires { ⌜ n ≤ «MAX-NODES» ⌝ }
     ensures { λ r. ⌜ Placed (now (m .entry)) n (tyOf (a .0)) (tyOf (b .0)) r ⌝ }
 {
@@ -165,7 +165,7 @@ pub fn look(m: &[u32], n: u32, a: Type, b: Type) -> Recalled
     requires { ⌜ n ≤ «MAX-NODES» ⌝ }
     ensures { λ r. ⌜ Told (now (m .entry)) (a .0) (b .0) r ⌝ }
 {
-    let Place::At(p) = place_of(m, n, a, b) else {
+    let Place::At(p) = spot_of(m, n, a, b) else {
         return Recalled::Nothing;
     };
     if !holds(at(m, p), a) {
@@ -188,7 +188,7 @@ pub fn note(m: &mut [u32], n: u32, began: u32, a: Type, b: Type, r: UnifyResult)
     if at(m, 0) != began {
         return;
     }
-    let Place::At(p) = place_of(m, n, a, b) else {
+    let Place::At(p) = spot_of(m, n, a, b) else {
         return;
     };
     put(m, p, a.0);

@@ -23,16 +23,16 @@ pub not-held : {h : Named} → _≡_ {A = Place} none (some h) → ⊥
 not-held e = let z : _≡_ {A = ℕ} 0 1 = cc in omega arith
 
 -- what a search finds
-pub record Found (p : Place → Bool) (ps : List Place) (i : ℕ) : Type 0 where
+pub record PlaceFound (p : Place → Bool) (ps : List Place) (i : ℕ) : Type 0 where
   pub inside : i < length ps
   pub passes : p (placeAt ps i) ≡ true
 
-pub found : (p : Place → Bool) (ps : List Place) → any p ps ≡ true → Found p ps (placeWhere p ps)
+pub found : (p : Place → Bool) (ps : List Place) → any p ps ≡ true → PlaceFound p ps (placeWhere p ps)
 unfolding placeWhere
 found p [] e = tf (sym e)
 found p (x ∷ xs) e = go (p x) refl e (found p xs)
   where
-    go : (b : Bool) → p x ≡ b → (b || any p xs) ≡ true → (any p xs ≡ true → Found p xs (placeWhere p xs)) → Found p (x ∷ xs) (pick b 0 (suc (placeWhere p xs)))
+    go : (b : Bool) → p x ≡ b → (b || any p xs) ≡ true → (any p xs ≡ true → PlaceFound p xs (placeWhere p xs)) → PlaceFound p (x ∷ xs) (pick b 0 (suc (placeWhere p xs)))
     go true q e ih = record { inside = omega arith; passes = q }
     go false q e ih = let f = ih e in record { inside = omega (arith, f .inside); passes = f .passes }
 
@@ -189,7 +189,7 @@ set-found n ps i x f u = go (set-cases ps i x k (f .inside))
     k : ℕ
     k = placeWhere (under n) (set ps i x)
 
-    w : Found (under n) (set ps i x) k
+    w : PlaceFound (under n) (set ps i x) k
     w = found (under n) (set ps i x) (set-held n ps i x f u)
 
     go : ((k ≡ i) × (placeAt (set ps i x) k ≡ x)) ⊎ ((k ≢ i) × (placeAt (set ps i x) k ≡ placeAt ps k)) → placeAt (set ps i x) k ≡ x

@@ -126,7 +126,7 @@ same-type t u h =
     λ i. record { inv = p i; idx = q i }
 
 -- a note among ts of the clock c, with what it says
-pub record Found (c : ℕ) (ts : List Note) (a b : Ty) (r : Answer) : Type 0 where
+pub record NoteFound (c : ℕ) (ts : List Note) (a b : Ty) (r : Answer) : Type 0 where
   pub note : Note
   pub among : List·Memᴰ note ts
   pub now : note .when ≡ c
@@ -137,11 +137,11 @@ pub record Found (c : ℕ) (ts : List Note) (a b : Ty) (r : Answer) : Type 0 whe
 some-same : {A : Type 0} {a b : A} → some a ≡ some b → a ≡ b
 some-same e = cc
 
-pub told-found : (c : ℕ) (ts : List Note) (a b : Ty) (r : Answer) → told c ts a b ≡ some r → Found c ts a b r
+pub told-found : (c : ℕ) (ts : List Note) (a b : Ty) (r : Answer) → told c ts a b ≡ some r → NoteFound c ts a b r
 told-found c [] a b r e = let z : _≡_ {A = ℕ} 0 1 = cc in absurd (omega arith)
 told-found c (t ∷ ts) a b r e = go (speaks c a b t) refl e (told-found c ts a b r)
   where
-    go : (v : Bool) → speaks c a b t ≡ v → pick v (some (t .answer)) (told c ts a b) ≡ some r → (told c ts a b ≡ some r → Found c ts a b r) → Found c (t ∷ ts) a b r
+    go : (v : Bool) → speaks c a b t ≡ v → pick v (some (t .answer)) (told c ts a b) ≡ some r → (told c ts a b ≡ some r → NoteFound c ts a b r) → NoteFound c (t ∷ ts) a b r
     go true h q ih =
         let g = and-right (eqb (t .when) c) (sameType (t .first) a && sameType (t .second) b) h in
         record {

@@ -18,7 +18,7 @@ use Rattle.names.specs.Place.{nameOf, noName}
 use Rattle.append.specs.Appended.{Appended}
 use Rattle.show_names.specs.Names.{spelled}
 use Rattle.show_names.proofs.Laws.{spelled-tilde}
-use Rattle.show_parts.specs.Parts.{fixedOf, frontOf, nameIn, backOf, leadOf, signOf}
+use Rattle.show_parts.specs.Parts.{fixedOf, frontOf, ownName, backOf, leadOf, signOf}
 
 pub sign-put : {buf buf′ : List ℕ} {at r : ℕ} (b : Bool) → Appended buf at buf′ r (spelled (boolByte b * 126)) → Appended buf at buf′ r (signOf b)
 sign-put b a = rw (spelled-tilde b) at a
@@ -28,8 +28,8 @@ unfolding leadOf fixedOf frontOf
 lead-tuple e k h = rw h
 
 pub lead-closure : (e : Env) (k : Kind) → k .code ≡ CLOSURE
-    → leadOf e k ≡ frontOf (k .code) (k .count) ++ (bytes (e .texts) (nameIn e k) ++ (backOf (k .code) (k .count) ++ (decimal (k .number) ++ text ">(")))
-unfolding leadOf frontOf nameIn backOf
+    → leadOf e k ≡ frontOf (k .code) (k .count) ++ (bytes (e .texts) (ownName e k) ++ (backOf (k .code) (k .count) ++ (decimal (k .number) ++ text ">(")))
+unfolding leadOf frontOf ownName backOf
 lead-closure e k h = rw h
 
 -- an if const, by whether it has less than two children
@@ -66,10 +66,10 @@ module _ (e : Env) (k : Kind) where
   }
 
   abbrev Plain : ℕ → Type 0
-  Plain c = leadOf e (of-code c) ≡ frontOf c (k .count) ++ (bytes (e .texts) (nameIn e (of-code c)) ++ backOf c (k .count))
+  Plain c = leadOf e (of-code c) ≡ frontOf c (k .count) ++ (bytes (e .texts) (ownName e (of-code c)) ++ backOf c (k .count))
 
   plain-other : (c : ℕ) → ERROR < c → Plain c
-  unfolding leadOf fixedOf frontOf nameIn backOf bytes
+  unfolding leadOf fixedOf frontOf ownName backOf bytes
   plain-other c h = rw (
     ne-eqb c PARAM (λ w. omega arith),
     le-ltb c OPAQUE (omega arith),
@@ -87,7 +87,7 @@ module _ (e : Env) (k : Kind) where
   )
 
   plain-by : (c : ℕ) → (c ≡ FN → ⊥) → (c ≡ CLOSURE → ⊥) → Plain c
-  unfolding leadOf fixedOf frontOf nameIn backOf bytes
+  unfolding leadOf fixedOf frontOf ownName backOf bytes
   plain-by zero f g = sym (append-nil _)
   plain-by (suc zero) f g = refl
   plain-by (suc (suc zero)) f g = sym (append-nil _)
@@ -107,5 +107,5 @@ module _ (e : Env) (k : Kind) where
       plain-other (suc (suc (suc (suc (suc (suc (suc (suc (suc (suc (suc (suc (suc (suc (suc c))))))))))))))) (omega arith)
 
 pub lead-plain : (e : Env) (k : Kind) → (k .code ≡ FN → ⊥) → (k .code ≡ CLOSURE → ⊥)
-    → leadOf e k ≡ frontOf (k .code) (k .count) ++ (bytes (e .texts) (nameIn e k) ++ backOf (k .code) (k .count))
+    → leadOf e k ≡ frontOf (k .code) (k .count) ++ (bytes (e .texts) (ownName e k) ++ backOf (k .code) (k .count))
 lead-plain e k f g = plain-by e k (k .code) f g

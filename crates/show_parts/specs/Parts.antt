@@ -41,8 +41,8 @@ frontOf c n =
     (pick (eqb c ERROR) (text "??") []))))))))
 
 -- its name
-unfoldable pub nameIn : Env → Kind → Name
-nameIn e k =
+unfoldable pub ownName : Env → Kind → Name
+ownName e k =
     pick (eqb (k .code) PARAM) (nameOf (k .name))
     (pick (eqb (k .code) KEY) (nameOf (k .name))
     (pick (eqb (k .code) CLOSURE) (sigilAt e (k .flex))

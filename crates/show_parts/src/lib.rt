@@ -6,7 +6,7 @@ ghost use Rattle.names.specs.Place.{texts, nameOf};
 ghost use Rattle.chart.specs.Env.{envOf};
 ghost use Rattle.append.specs.Appended.{Appended};
 ghost use Rattle.show_names.specs.Names.{spelled};
-ghost use Rattle.show_parts.specs.Parts.{frontOf, backOf, nameIn, leadOf, betweenOf, gapOf, endOf, closeOf, signOf};
+ghost use Rattle.show_parts.specs.Parts.{frontOf, backOf, ownName, leadOf, betweenOf, gapOf, endOf, closeOf, signOf};
 use append::put_decimal;
 use chart::Beside;
 use kinds::CLOSURE;
@@ -107,8 +107,8 @@ fn front(code: u32, count: u32) -> u64
 }
 
 // A kind's name: its own, its definition's, a Closure's sigil. An if const without two children has none.
-fn name_in(chart: &[u32], beside: Beside, k: Kind) -> Name
-    ensures { λ r. ⌜ nameOf r ≡ nameIn (envOf (now (chart .entry)) beside [] []) k ⌝ }
+fn own_name(chart: &[u32], beside: Beside, k: Kind) -> Name
+    ensures { λ r. ⌜ nameOf r ≡ ownName (envOf (now (chart .entry)) beside [] []) k ⌝ }
 {
     if k.code == PARAM {
         return k.name;
@@ -177,7 +177,7 @@ pub fn put_lead<'a>(
     if k.code == TUPLE {
         return said;
     }
-    let named = put_name(rule, text, buf, said, name_in(chart, beside, k));
+    let named = put_name(rule, text, buf, said, own_name(chart, beside, k));
     let p = put_short(buf, named, back(k.code, k.count));
     if k.code != CLOSURE {
         return p;

@@ -10,7 +10,7 @@ use Rattle.scope.specs.Kinds.{NO-NAMES, rowOf}
 use Rattle.scope.specs.Calls.{over}
 use Rattle.layout.specs.Words.{childWords, slotAt}
 use Rattle.store.specs.Entries.{entryCount, typesIn}
-use Rattle.lent_kind.specs.Lent.{given, plainArgs, bareSlot, Listed}
+use Rattle.lent_kind.specs.Lent.{given, plainArgs, bareSlot, TypesPut}
 use Rattle.lent_kind.proofs.ListLaws.{part-given}
 use Rattle.tested_over.specs.Over.{entriesOf}
 

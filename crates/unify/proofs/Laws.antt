@@ -26,7 +26,7 @@ use Rattle.heed.proofs.Laws.{since-then, SelfsKept, marks-kept}
 use Rattle.meeting.specs.Asks.{SoundWords, Inside}
 use Rattle.plan.specs.Meaning.{planMeans}
 use Rattle.plan.specs.declared.Plan.{Plan}
-use Rattle.meeting.specs.Steps.{stepsMean, Ready}
+use Rattle.meeting.specs.Steps.{stepsMean, StepsReady}
 use Rattle.meeting.specs.Meets.{does, pairsOf, BothKnown}
 use Rattle.meeting.specs.declared.Steps.{Steps}
 use Rattle.meeting.specs.declared.Meeting.the-variants.{Kids}
@@ -123,7 +123,7 @@ module _ {x : Texts} {ws ks m ws₂ m₂ : List ℕ} {n d : ℕ} {p q : Ty} {l :
     recalls = c .up .recalls;
   }
 
-  pub kids-asks : Asked x ws₂ ks m₂ n (d - 1) (stepsMean ks x l .pairs) × Ready x ks l
+  pub kids-asks : Asked x ws₂ ks m₂ n (d - 1) (stepsMean ks x l .pairs) × StepsReady x ks l
   kids-asks = (kids-asked, h .stepped .ready ks x (c .met .ready .1))
 
   module _ {ws₃ m₃ : List ℕ} {r : UnifyResult} (v : Unified x ws₂ ks m₂ ws₃ m₃ n (does (unifyF x n (d - 1)) (decode ws₂ ks n) (stepsMean ks x l)) r) where

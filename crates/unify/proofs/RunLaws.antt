@@ -30,7 +30,7 @@ use Rattle.plan.specs.Meaning.{kidsFrom, namesFrom, planMeans}
 use Rattle.plan.specs.declared.Runs.{Runs}
 use Rattle.plan.specs.declared.Plan.the-variants as plans
 use Rattle.meeting.specs.Asks.{Pair}
-use Rattle.meeting.specs.Steps.{stepsMean, Ready, RunsLie, Ascends}
+use Rattle.meeting.specs.Steps.{stepsMean, StepsReady, RunsLie, Ascends}
 use Rattle.meeting.specs.Meets.{does}
 use Rattle.meeting.specs.Kids.{objectsOf, slotPlace, soughtMeans, soughtIn}
 use Rattle.meeting.specs.declared.Steps.{Steps}
@@ -332,8 +332,8 @@ module _ {x : Texts} {ws ks m : List ℕ} {n : ℕ} (d : ℕ) {k : Steps} where
   steps-answer w e = record { leaves = record { same = rw e refl; clean = λ c cl. cl; tail = refl }; recalls = w .recalls; since = since-same }
 
   module _ {q : UnifyResult} {s : Runs} (e : k ≡ steps.Run q s) where
-    pub steps-runs : Asked x ws ks m n d (stepsMean ks x k .pairs) × Ready x ks k → Asked x ws ks m n d (planMeans ks x (plans.Run s) .pairs) × RunsLie ks s
-    steps-runs w = subst (λ (z : Steps). Asked x ws ks m n d (stepsMean ks x z .pairs) × Ready x ks z) e w
+    pub steps-runs : Asked x ws ks m n d (stepsMean ks x k .pairs) × StepsReady x ks k → Asked x ws ks m n d (planMeans ks x (plans.Run s) .pairs) × RunsLie ks s
+    steps-runs w = subst (λ (z : Steps). Asked x ws ks m n d (stepsMean ks x z .pairs) × StepsReady x ks z) e w
 
     pub steps-run : {ws′ m′ : List ℕ} {r v : UnifyResult} → Unified x ws ks m ws′ m′ n (does (unifyF x n d) (decode ws ks n) (planMeans ks x (plans.Run s))) r
         → answerOf v ≡ both (answerOf q) (answerOf r) → Unified x ws ks m ws′ m′ n (does (unifyF x n d) (decode ws ks n) (stepsMean ks x k)) v
@@ -352,9 +352,9 @@ module _ {x : Texts} {ws ks m : List ℕ} {n : ℕ} (d : ℕ) {k : Steps} where
         }
 
   module _ {s : Runs} (e : k ≡ steps.Object s) where
-    pub steps-objects : Asked x ws ks m n d (stepsMean ks x k .pairs) × Ready x ks k
+    pub steps-objects : Asked x ws ks m n d (stepsMean ks x k .pairs) × StepsReady x ks k
         → Asked x ws ks m n d (planMeans ks x (plans.Object s) .pairs) × (RunsLie ks s × Ascends x ks (s .b) (s .nb))
-    steps-objects w = subst (λ (z : Steps). Asked x ws ks m n d (stepsMean ks x z .pairs) × Ready x ks z) e w
+    steps-objects w = subst (λ (z : Steps). Asked x ws ks m n d (stepsMean ks x z .pairs) × StepsReady x ks z) e w
 
     pub steps-object : {ws′ m′ : List ℕ} {r : UnifyResult} → Unified x ws ks m ws′ m′ n (does (unifyF x n d) (decode ws ks n) (planMeans ks x (plans.Object s))) r
         → Unified x ws ks m ws′ m′ n (does (unifyF x n d) (decode ws ks n) (stepsMean ks x k)) r

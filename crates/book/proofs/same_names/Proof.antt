@@ -4,14 +4,14 @@ use mathlib.Core.Path.{_≡_, refl, sym, _∙_}
 use Prim.Native.Nat.{_+_, _-_, _≤_}
 use native.Mathlib.Omega.{arith}
 use lib.ListN.{getD}
-use Rattle.book.specs.Words.{nameLengthIn, nameIn}
+use Rattle.book.specs.Words.{nameLengthIn, nameBytesIn}
 use Rattle.book.proofs.Names.{Same, name-length, name-word, compare-free, compare-length, compare-stop, compare-step, compare-end}
 use borrow.Author.Needs.{needs}
 use Rattle.book.proofs.same_names.Statement.{statement}
 use Rattle.book.proofs.same_names.Tie as tie
 
 abbrev Inv-loop : tie.InvT-loop
-Inv-loop ps other n i₀ i = (i ≤ n) × Same ps (nameIn other) i
+Inv-loop ps other n i₀ i = (i ≤ n) × Same ps (nameBytesIn other) i
 
 abbrev μ-loop : tie.MeasureT-loop
 μ-loop ps other n i₀ i = n - i
@@ -25,7 +25,7 @@ cast-length c = search needs
 returns : tie.Need-returns Inv-loop μ-loop
 returns c =
     let a = c .before .before .before .before .args in
-    compare-free (a .ps .now) (nameIn (a .other .now)) (c .before .before .before .before .pre .0) (sym (c .before .name-length .ensures) ∙ c .if1 .taken)
+    compare-free (a .ps .now) (nameBytesIn (a .other .now)) (c .before .before .before .before .pre .0) (sym (c .before .name-length .ensures) ∙ c .if1 .taken)
 
 name-length-requires-2 : tie.Need-name-length-requires-2 Inv-loop μ-loop
 name-length-requires-2 c κs = search needs
@@ -40,7 +40,7 @@ returns-2 c =
     let m = c .before .name-length2 .ensures in
     let held : nameLengthIn (a .ps .now) ≡ 0 → ⊥ = λ e. c .before .before .if1 .left (n ∙ e) in
     let k = name-length (a .other .now) (c .before .before .before .before .before .before .pre .1) in
-    compare-length (a .ps .now) (nameIn (a .other .now)) (c .before .before .before .before .before .before .pre .0) held (λ e. c .if2 .taken (n ∙ (e ∙ (k ∙ sym m))))
+    compare-length (a .ps .now) (nameBytesIn (a .other .now)) (c .before .before .before .before .before .before .pre .0) held (λ e. c .if2 .taken (n ∙ (e ∙ (k ∙ sym m))))
 
 loop-holds : tie.Need-loop-holds Inv-loop μ-loop
 loop-holds c = (omega arith, refl)
@@ -67,9 +67,9 @@ returns-3 c =
     let len = sym n ∙ (c .before .before .before .before .before .if2 .left ∙ (m ∙ sym k)) in
     let o = c .before .before .before .before .loop in
     let w = name-word (a .other .now) (o .i) (omega (arith, c .before .before .before .before .before .if2 .left)) in
-    let other : getD (a .ps .now) (o .i + 1) 0 ≡ getD (nameIn (a .other .now)) (o .i) 0 → ⊥ = λ e. c .if3 .taken (c .before .before .word .ensures ∙ (e ∙ (w ∙ sym (c .before .word2 .ensures)))) in
+    let other : getD (a .ps .now) (o .i + 1) 0 ≡ getD (nameBytesIn (a .other .now)) (o .i) 0 → ⊥ = λ e. c .if3 .taken (c .before .before .word .ensures ∙ (e ∙ (w ∙ sym (c .before .word2 .ensures)))) in
     let lies = c .before .before .before .before .before .before .before .before .before .before .before .pre .0 in
-    compare-stop (a .ps .now) (nameIn (a .other .now)) lies held len (o .i) (o .inv .1) (omega arith) other
+    compare-stop (a .ps .now) (nameBytesIn (a .other .now)) lies held len (o .i) (o .inv .1) (omega arith) other
 
 add-i : tie.Need-add-i Inv-loop μ-loop
 add-i c = search needs
@@ -89,7 +89,7 @@ loop-again c =
     let w = name-word (a .other .now) (o .i) (omega (arith, c .before .before .before .before .before .if2 .left)) in
     let same = sym (c .before .before .word .ensures) ∙ (c .if3 .left ∙ (c .before .word2 .ensures ∙ sym w)) in
     let lies = c .before .before .before .before .before .before .before .before .before .before .before .pre .0 in
-    (omega arith, compare-step (a .ps .now) (nameIn (a .other .now)) lies held len (o .i) (o .inv .1) (omega arith) same)
+    (omega arith, compare-step (a .ps .now) (nameBytesIn (a .other .now)) lies held len (o .i) (o .inv .1) (omega arith) same)
 
 returns-4 : tie.Need-returns-4 Inv-loop μ-loop
 returns-4 c =
@@ -100,7 +100,7 @@ returns-4 c =
     let k = name-length (a .other .now) (c .before .before .before .before .before .before .before .before .pre .1) in
     let len = sym n ∙ (c .before .before .if2 .left ∙ (m ∙ sym k)) in
     let o = c .before .loop in
-    compare-end (a .ps .now) (nameIn (a .other .now)) (c .before .before .before .before .before .before .before .before .pre .0) held len (o .i) (o .inv .1) (omega arith)
+    compare-end (a .ps .now) (nameBytesIn (a .other .now)) (c .before .before .before .before .before .before .before .before .pre .0) held len (o .i) (o .inv .1) (omega arith)
 
 pub same-names-spec : {M : Type 1} → statement M
 same-names-spec =

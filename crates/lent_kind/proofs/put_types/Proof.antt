@@ -6,13 +6,13 @@ use Prim.Native.Nat.{_≤_, _-_}
 use native.Mathlib.Omega.{arith}
 use lib.ListN.{length}
 use borrow.Author.Needs.{needs}
-use Rattle.lent_kind.specs.Lent.{Listed}
+use Rattle.lent_kind.specs.Lent.{TypesPut}
 use Rattle.lent_kind.proofs.ListLaws.{listed-none, listed-more, listed-end}
 use Rattle.lent_kind.proofs.put_types.Statement.{statement}
 use Rattle.lent_kind.proofs.put_types.Tie as tie
 
 abbrev Inv-loop : tie.InvT-loop
-Inv-loop es₀ types i₀ es i = (i ≤ length types) × ((length es ≡ length es₀) × Listed types i es)
+Inv-loop es₀ types i₀ es i = (i ≤ length types) × ((length es ≡ length es₀) × TypesPut types i es)
 
 abbrev μ-loop : tie.MeasureT-loop
 μ-loop es₀ types i₀ es i = length types - i

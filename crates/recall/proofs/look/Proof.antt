@@ -6,8 +6,8 @@ use borrow.Author.Needs.{needs}
 use Rattle.recall.proofs.look.Statement.{statement}
 use Rattle.recall.proofs.look.Tie as tie
 
-place-of-requires : tie.Need-place-of-requires
-place-of-requires c κs = search needs
+spot-of-requires : tie.Need-spot-of-requires
+spot-of-requires c κs = search needs
 
 enum-known-p : tie.Need-enum-known-p
 enum-known-p c = search needs
@@ -28,7 +28,7 @@ returns-2 : tie.Need-returns-2
 returns-2 c = told-none
 
 add-at : tie.Need-add-at
-add-at c = omega (arith, (c .before .before .before .before .before .before .place-of .ensures .there _ (c .before .before .before .before .p .given .1)) .fits)
+add-at c = omega (arith, (c .before .before .before .before .before .before .spot-of .ensures .there _ (c .before .before .before .before .p .given .1)) .fits)
 
 at-requires-2 : tie.Need-at-requires-2
 at-requires-2 c κs = search needs
@@ -42,8 +42,8 @@ returns-3 c = told-none
 add-at-2 : tie.Need-add-at-2
 add-at-2 c =
     let at-p = c .before .before .before .before .before .before .before in
-    let at-place-of = at-p .before .before in
-    omega (arith, (at-place-of .place-of .ensures .there _ (at-p .p .given .1)) .fits)
+    let at-spot-of = at-p .before .before in
+    omega (arith, (at-spot-of .spot-of .ensures .there _ (at-p .p .given .1)) .fits)
 
 at-requires-3 : tie.Need-at-requires-3
 at-requires-3 c κs = search needs
@@ -57,8 +57,8 @@ returns-4 c = told-none
 add-at-3 : tie.Need-add-at-3
 add-at-3 c =
     let at-p = c .before .before .before .before .before .before .before .before .before .before in
-    let at-place-of = at-p .before .before in
-    omega (arith, (at-place-of .place-of .ensures .there _ (at-p .p .given .1)) .fits)
+    let at-spot-of = at-p .before .before in
+    omega (arith, (at-spot-of .spot-of .ensures .there _ (at-p .p .given .1)) .fits)
 
 at-requires-5 : tie.Need-at-requires-5
 at-requires-5 c κs = search needs
@@ -77,8 +77,8 @@ returns-5 c =
     let at-holds = at-if1 .before in
     let at-at = at-holds .before in
     let at-p = at-at .before .before in
-    let at-place-of = at-p .before .before in
-    told-entry (at-place-of .place-of .ensures .there _ (at-p .p .given .1)) (at-at .at .ensures) (word-holds _ _ (at-holds .holds .ensures) (at-if1 .if1 .left))
+    let at-spot-of = at-p .before .before in
+    told-entry (at-spot-of .spot-of .ensures .there _ (at-p .p .given .1)) (at-at .at .ensures) (word-holds _ _ (at-holds .holds .ensures) (at-if1 .if1 .left))
     (at-at2 .at2 .ensures) (word-holds _ _ (at-holds2 .holds2 .ensures) (at-if2 .if2 .left)) (at-at3 .at3 .ensures) (at-at4 .at4 .ensures) (c .before .before .if3 .left)
     (c .before .at5 .ensures) (c .answer-in .ensures)
 
@@ -86,7 +86,7 @@ pub look-spec : {M : Type 1} → statement M
 look-spec =
     tie.close
     (tie.spec
-    place-of-requires
+    spot-of-requires
     enum-known-p
     enum-told
     returns

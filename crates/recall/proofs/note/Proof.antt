@@ -15,8 +15,8 @@ same-length c = search needs
 returns : tie.Need-returns
 returns c = noted-same (c .before .before .before .before .pre .1)
 
-place-of-requires : tie.Need-place-of-requires
-place-of-requires c κs = search needs
+spot-of-requires : tie.Need-spot-of-requires
+spot-of-requires c κs = search needs
 
 enum-known-p : tie.Need-enum-known-p
 enum-known-p c = search needs
@@ -36,8 +36,8 @@ put-requires c κs = search needs
 add-put : tie.Need-add-put
 add-put c =
     let at-p = c .before .before .before .before .before .before in
-    let at-place-of = at-p .before .before in
-    omega (arith, (at-place-of .place-of .ensures .there _ (at-p .p .given .1)) .fits)
+    let at-spot-of = at-p .before .before in
+    omega (arith, (at-spot-of .spot-of .ensures .there _ (at-p .p .given .1)) .fits)
 
 put-requires-2 : tie.Need-put-requires-2
 put-requires-2 c κs = search needs
@@ -45,8 +45,8 @@ put-requires-2 c κs = search needs
 add-put-2 : tie.Need-add-put-2
 add-put-2 c =
     let at-p = c .before .before .before .before .before .before .before .before .before .before in
-    let at-place-of = at-p .before .before in
-    omega (arith, (at-place-of .place-of .ensures .there _ (at-p .p .given .1)) .fits)
+    let at-spot-of = at-p .before .before in
+    omega (arith, (at-spot-of .spot-of .ensures .there _ (at-p .p .given .1)) .fits)
 
 put-requires-3 : tie.Need-put-requires-3
 put-requires-3 c κs = search needs
@@ -54,8 +54,8 @@ put-requires-3 c κs = search needs
 add-put-3 : tie.Need-add-put-3
 add-put-3 c =
     let at-p = c .before .before .before .before .before .before .before .before .before .before .before .before .before .before in
-    let at-place-of = at-p .before .before in
-    omega (arith, (at-place-of .place-of .ensures .there _ (at-p .p .given .1)) .fits)
+    let at-spot-of = at-p .before .before in
+    omega (arith, (at-spot-of .spot-of .ensures .there _ (at-p .p .given .1)) .fits)
 
 number-requires : tie.Need-number-requires
 number-requires c κs = search needs
@@ -73,11 +73,11 @@ returns-3 c =
     let at-put2 = at-put3 .before .before .before .before in
     let at-put = at-put2 .before .before .before .before in
     let at-p = at-put .before .before .before in
-    let at-place-of = at-p .before .before in
-    let at-if1 = at-place-of .before .before in
+    let at-spot-of = at-p .before .before in
+    let at-if1 = at-spot-of .before .before in
     let at-at = at-if1 .before in
     let at-pre = at-at .before .before .before in
-    noted-entry (at-pre .pre .1) (at-at .at .ensures) (at-if1 .if1 .left) (at-place-of .place-of .ensures .there _ (at-p .p .given .1)) (at-put .put .ensures)
+    noted-entry (at-pre .pre .1) (at-at .at .ensures) (at-if1 .if1 .left) (at-spot-of .spot-of .ensures .there _ (at-p .p .given .1)) (at-put .put .ensures)
     (at-put2 .put2 .ensures) (at-put3 .put3 .ensures) (at-number .number .ensures) (c .before .before .put4 .ensures)
 
 pub note-spec : {M : Type 1} → statement M
@@ -87,7 +87,7 @@ note-spec =
     at-requires
     same-length
     returns
-    place-of-requires
+    spot-of-requires
     enum-known-p
     enum-told
     same-length-2

@@ -6,7 +6,7 @@ use Rattle.chart.specs.Env.{envOf}
 use Rattle.append.proofs.Laws.{append-then}
 use Rattle.show_names.specs.Names.{spelledF}
 use Rattle.show_names.proofs.Laws.{tilde-fits}
-use Rattle.show_parts.specs.Parts.{leadOf, nameIn}
+use Rattle.show_parts.specs.Parts.{leadOf, ownName}
 use Rattle.show_parts.proofs.Laws.{sign-put, lead-tuple, lead-plain, lead-closure}
 use Rattle.show_parts.proofs.put_lead.Statement.{statement}
 use Rattle.show_parts.proofs.put_lead.Tie as tie
@@ -55,8 +55,8 @@ returns-2 c =
     let e = envOf (a .chart .now) (a .beside) (a .rule .now) (a .text .now) in
     append-then (sign-put (a .tilde) (b11 .put-short .ensures)) (rw (lead-tuple e (a .k) (c .if2 .taken), ← b5 .front .ensures) (b4 .put-short2 .ensures))
 
-name-in-requires : tie.Need-name-in-requires
-name-in-requires c κs = search needs
+own-name-requires : tie.Need-own-name-requires
+own-name-requires c κs = search needs
 
 put-name-requires : tie.Need-put-name-requires
 put-name-requires c κs = search needs
@@ -76,7 +76,7 @@ same-length-3 c =
     b4 .put-short3 .kept .0 ∙ b9 .put-name .kept .1 .1 .0 ∙ b16 .put-short2 .kept .0 ∙ b23 .put-short .kept .0
 
 returns-3 : tie.Need-returns-3
-unfolding nameIn
+unfolding ownName
 returns-3 c =
     let b4 = c .before .before .before .before in
     let b5 = b4 .before in
@@ -91,7 +91,7 @@ returns-3 c =
     let e = envOf (a .chart .now) (a .beside) (a .rule .now) (a .text .now) in
     let pieces = append-then (b16 .put-short2 .ensures) (append-then (b9 .put-name .ensures) (b4 .put-short3 .ensures)) in
     append-then (sign-put (a .tilde) (b23 .put-short .ensures))
-    (rw (lead-plain e (a .k) (b19 .if1 .left) (c .if3 .taken), ← b17 .front .ensures, ← b10 .name-in .ensures, ← b5 .back .ensures) pieces)
+    (rw (lead-plain e (a .k) (b19 .if1 .left) (c .if3 .taken), ← b17 .front .ensures, ← b10 .own-name .ensures, ← b5 .back .ensures) pieces)
 
 put-decimal-requires : tie.Need-put-decimal-requires
 put-decimal-requires c κs = search needs
@@ -110,7 +110,7 @@ same-length-4 c =
     b2 .put-short4 .kept .0 ∙ b6 .put-decimal .kept .0 ∙ b12 .put-short3 .kept .0 ∙ b17 .put-name .kept .1 .1 .0 ∙ b24 .put-short2 .kept .0 ∙ b31 .put-short .kept .0
 
 returns-4 : tie.Need-returns-4
-unfolding nameIn spelledF
+unfolding ownName spelledF
 returns-4 c =
     let b2 = c .before .before in
     let b6 = b2 .before .before .before .before in
@@ -128,7 +128,7 @@ returns-4 c =
     let numbered = append-then (b6 .put-decimal .ensures) (b2 .put-short4 .ensures) in
     let pieces = append-then (b24 .put-short2 .ensures) (append-then (b17 .put-name .ensures) (append-then (b12 .put-short3 .ensures) numbered)) in
     append-then (sign-put (a .tilde) (b31 .put-short .ensures))
-    (rw (lead-closure e (a .k) (b8 .if3 .left), ← b25 .front .ensures, ← b18 .name-in .ensures, ← b13 .back .ensures) pieces)
+    (rw (lead-closure e (a .k) (b8 .if3 .left), ← b25 .front .ensures, ← b18 .own-name .ensures, ← b13 .back .ensures) pieces)
 
 pub put-lead-spec : {M : Type 1} → statement M
 put-lead-spec =
@@ -144,7 +144,7 @@ put-lead-spec =
     put-short-requires-2
     same-length-2
     returns-2
-    name-in-requires
+    own-name-requires
     put-name-requires
     back-requires
     put-short-requires-3

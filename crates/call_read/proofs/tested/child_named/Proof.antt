@@ -12,14 +12,14 @@ returns c =
 child-of-requires : tie.Need-child-of-requires
 child-of-requires c κs = search needs
 
-name-in-requires : tie.Need-name-in-requires
-name-in-requires c κs = search needs
+told-name-requires : tie.Need-told-name-requires
+told-name-requires c κs = search needs
 
 returns-2 : tie.Need-returns-2
 returns-2 c =
     let a = c .before .before .before .before .args in
     let if1 = c .before .before .if1 in
-    named-is (a .ks .now) (a .kind) (a .j) (a .n) (c .before .child-of .result) (if1 .left) (c .before .child-of .ensures) (c .name-in .ensures)
+    named-is (a .ks .now) (a .kind) (a .j) (a .n) (c .before .child-of .result) (if1 .left) (c .before .child-of .ensures) (c .told-name .ensures)
 
 pub child-named-spec : {M : Type 1} → statement M
-child-named-spec = tie.close (tie.spec returns child-of-requires name-in-requires returns-2)
+child-named-spec = tie.close (tie.spec returns child-of-requires told-name-requires returns-2)

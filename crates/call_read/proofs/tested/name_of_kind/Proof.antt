@@ -9,15 +9,15 @@ use Rattle.call_read.proofs.tested.name_of_kind.Tie as tie
 row-of-requires : tie.Need-row-of-requires
 row-of-requires c κs = search needs
 
-name-in-requires : tie.Need-name-in-requires
-name-in-requires c κs = search needs
+told-name-requires : tie.Need-told-name-requires
+told-name-requires c κs = search needs
 
 returns : tie.Need-returns
 returns c =
     let a = c .before .before .before .before .before .args in
     let rowOf = c .before .before .before .row-of in
     let if1 = c .before .before .if1 in
-    own-first (a .ks .now) (a .kind) (a .j) (ap (λ y. y .names) (rowOf .ensures)) (if1 .taken) (c .before .if2 .taken) (c .name-in .ensures)
+    own-first (a .ks .now) (a .kind) (a .j) (ap (λ y. y .names) (rowOf .ensures)) (if1 .taken) (c .before .if2 .taken) (c .told-name .ensures)
 
 returns-2 : tie.Need-returns-2
 returns-2 c =
@@ -67,7 +67,7 @@ name-of-kind-spec =
     tie.close
     (tie.spec
     row-of-requires
-    name-in-requires
+    told-name-requires
     returns
     returns-2
     child-named-requires

@@ -1,12 +1,12 @@
--- `recall::place_of` meets its contract: an entry's number is below the number of entries.
+-- `recall::spot_of` meets its contract: an entry's number is below the number of entries.
 -- Assumes nothing.
 use mathlib.Core.Path.{refl}
 use native.Mathlib.Omega.{arith}
 use Rattle.scope.specs.Types.{tyOf}
 use Rattle.recall.proofs.Laws.{placed-none, slot-fits, placed-at}
 use borrow.Author.Needs.{needs}
-use Rattle.recall.proofs.place_of.Statement.{statement}
-use Rattle.recall.proofs.place_of.Tie as tie
+use Rattle.recall.proofs.spot_of.Statement.{statement}
+use Rattle.recall.proofs.spot_of.Tie as tie
 
 at-requires : tie.Need-at-requires
 at-requires c κs = search needs
@@ -55,8 +55,8 @@ returns-4 c =
     placed-at (at-args .args .m .now) (at-args .args .n) (tyOf (at-args .args .a .0)) (tyOf (at-args .args .b .0)) (at-at .at .ensures) (at-if1 .if1 .left)
     (c .before .before .if2 .left) (c .before .if3 .left) refl (c .slot .ensures)
 
-pub place-of-spec : {M : Type 1} → statement M
-place-of-spec =
+pub spot-of-spec : {M : Type 1} → statement M
+spot-of-spec =
     tie.close
     (tie.spec
     at-requires
