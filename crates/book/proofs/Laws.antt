@@ -18,7 +18,7 @@ use Rattle.scope.specs.Sound.{zeros}
 use Rattle.layout.specs.Words.{HEAD-WORDS, nodeWords, childWords, storeIn, between}
 use Rattle.layout.specs.Words as words
 use Rattle.layout.proofs.Lists.{and-both, length-from, get-from, from-all}
-use Rattle.book.specs.Words.{NAME-WORDS, nodesFrom, kidsFrom, placeWords, nameLengthIn, nameBytesIn, headIn, nodesIn, kidsIn, withRoom, placeIn}
+use Rattle.book.specs.Words.{BYTES, NAME-WORDS, nodesFrom, kidsFrom, placeWords, nameLengthIn, nameBytesIn, headIn, nodesIn, kidsIn, withRoom, placeIn}
 use Rattle.book.specs.Words.{isByte, nameWordsClean, countsAreRoom, heldClean, placeClean}
 use Rattle.book.specs.Places.{putPart, putName}
 use Rattle.book.proofs.Parts.{put-length, put-here, put-before, put-first, between-take}
@@ -35,8 +35,8 @@ all-words q [] h = refl
 all-words q (x ∷ s) h = and-both (q x) (all q s) (h 0 (omega arith)) (all-words q s (λ i l. h (suc i) (omega arith)))
 
 -- bytes of a slice of bytes
-pub bytes-all : (s : List ℕ) → ((i : ℕ) → i < length s → getD s i 0 < 256) → all isByte s ≡ true
-bytes-all s h = all-words isByte s (λ i l. lt-ltb (getD s i 0) 256 (h i l))
+pub bytes-all : (s : List ℕ) → ((i : ℕ) → i < length s → getD s i 0 < BYTES) → all isByte s ≡ true
+bytes-all s h = all-words isByte s (λ i l. lt-ltb (getD s i 0) BYTES (h i l))
 
 -- a name's words
 

@@ -79,9 +79,12 @@ heldIn n c ps = withRoom n c (storeIn (headIn ps) (nodesIn n ps) (kidsIn n c ps)
 unfoldable pub placeIn : ℕ → ℕ → List ℕ → Place
 placeIn n c ps = pick (eqb (nameLengthIn ps) 0) none (some (record { name = nameBytesIn ps; store = heldIn n c ps }))
 
--- a name's words: its length is one that a name can have, each is a byte, and unused ones are zero
+-- a name's words: its length is one that a name can have, each is a byte, which is below BYTES, and unused ones are zero
+abbrev pub BYTES : ℕ
+BYTES = 256
+
 abbrev pub isByte : ℕ → Bool
-isByte b = ltb b 256
+isByte b = ltb b BYTES
 
 unfoldable pub nameWordsClean : List ℕ → Bool
 nameWordsClean ps =

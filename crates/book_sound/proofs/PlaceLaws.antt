@@ -23,7 +23,7 @@ use Rattle.layout.specs.declared.Header.{Header}
 use Rattle.layout.proofs.Laws.{length-decode}
 use Rattle.layout.proofs.Lists.{and-both, and-left}
 use Rattle.layout.proofs.StoreLaws.{clean-lies, lent-clean}
-use Rattle.book.specs.Words.{NAME-WORDS, nodesFrom, kidsFrom, placeWords, nameLengthIn, nameBytesIn, headIn, nodesIn, kidsIn, withRoom, heldIn, placeIn}
+use Rattle.book.specs.Words.{BYTES, NAME-WORDS, nodesFrom, kidsFrom, placeWords, nameLengthIn, nameBytesIn, headIn, nodesIn, kidsIn, withRoom, heldIn, placeIn}
 use Rattle.book.specs.Words.{nameWordsClean, countsAreRoom, heldClean}
 use Rattle.book.proofs.Names.{placeIn-free, clean-free, clean-held, name-length}
 use Rattle.book.proofs.Laws.{all-run}
@@ -51,16 +51,16 @@ name-long ps h = rw (lt-leb (nameLengthIn ps) MAX-STATE-NAME h) refl
 
 name-parts : (ps : List ℕ) → nameLengthIn ps ≤ MAX-STATE-NAME
     → nameWordsClean ps
-    ≡ (all (isBelow 256) (between ps 1 (suc (nameLengthIn ps))) && all (isBelow 1) (between ps (suc (nameLengthIn ps)) NAME-WORDS))
+    ≡ (all (isBelow BYTES) (between ps 1 (suc (nameLengthIn ps))) && all (isBelow 1) (between ps (suc (nameLengthIn ps)) NAME-WORDS))
 unfolding nameWordsClean
 name-parts ps h = rw (le-leb (nameLengthIn ps) MAX-STATE-NAME h, zeros-below (between ps (suc (nameLengthIn ps)) NAME-WORDS)) refl
 
-module _ (ps : List ℕ) (n : ℕ) (l : n ≡ nameLengthIn ps) (h : n ≤ MAX-STATE-NAME) (r : Bool) (f : r ≡ all (isBelow 256) (between ps 1 (n + 1))) where
+module _ (ps : List ℕ) (n : ℕ) (l : n ≡ nameLengthIn ps) (h : n ≤ MAX-STATE-NAME) (r : Bool) (f : r ≡ all (isBelow BYTES) (between ps 1 (n + 1))) where
   parts : nameWordsClean ps ≡ (r && all (isBelow 1) (between ps (n + 1) NAME-WORDS))
   parts =
       let z : n + 1 ≡ suc (nameLengthIn ps) = omega arith in
       name-parts ps (omega arith)
-      ∙ (ap (λ (k : ℕ). all (isBelow 256) (between ps 1 k) && all (isBelow 1) (between ps k NAME-WORDS)) (sym z)
+      ∙ (ap (λ (k : ℕ). all (isBelow BYTES) (between ps 1 k) && all (isBelow 1) (between ps k NAME-WORDS)) (sym z)
       ∙ ap (λ (b : Bool). b && all (isBelow 1) (between ps (n + 1) NAME-WORDS)) (sym f))
 
   pub name-first : r ≡ false → r ≡ nameWordsClean ps

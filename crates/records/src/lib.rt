@@ -82,7 +82,7 @@ fn copy_first(records: &[Record], words: &mut [u32], n: usize)
 {
     let mut i: usize = 0;
     while i < n {
-        copy_record(records, i, words, i * 10);
+        copy_record(records, i, words, i * RECORD_WORDS);
         i += 1;
     }
 }

@@ -261,7 +261,7 @@ fn act(
 
 // Where a call's numbers stand: behind its own and their count.
 fn behind(at: usize) -> usize {
-    if at < 4_294_967_295 { at + 2 } else { at }
+    if at < NUMBERS { at + 2 } else { at }
 }
 
 // The numbers of the call that stands there.

@@ -14,14 +14,6 @@ pub const MAX_RECORDS: usize = 1024;
 
 pub const MAX_NAME: usize = 255;
 
-pub const SIGILS: usize = 4;
-
-pub const MAX_FLEX: u32 = 3;
-
-pub const MAX_SORT: u32 = 7;
-
-pub const KINDS: usize = 15;
-
 pub const NONE: u32 = 4294967295;
 
 pub const MAX_REPORTS: u64 = 18446744073709551615;

@@ -101,7 +101,10 @@ fn tuple_of(ws: &[u32], n: u32, t: Type) -> Held
     Held::Is(inv.xor(root.inv()), kind)
 }
 
-// The parameters of an impl type that has the fn form: the builtin fn trait over exactly three types, the second a Tuple.
+// The types of an impl type that has the fn form.
+const FN_TYPES: usize = 3;
+
+// The parameters of such an impl type: the builtin fn trait over exactly three types, the second a Tuple.
 fn fn_params(beside: Beside, ws: &[u32], n: u32, i: u32, xs: &[u32]) -> Held
     requires { ⌜ Linked (now ws) n ⌝ }
     ensures { λ r. ⌜ Form (beside .«fn_trait») (now (ws .entry)) n i (now (xs .entry)) r ⌝ }
@@ -109,7 +112,7 @@ fn fn_params(beside: Beside, ws: &[u32], n: u32, i: u32, xs: &[u32]) -> Held
     if i != beside.fn_trait {
         return Held::Nothing;
     }
-    if xs.len() != 3 {
+    if xs.len() != FN_TYPES {
         return Held::Nothing;
     }
     tuple_of(ws, n, Type(xs[1]))

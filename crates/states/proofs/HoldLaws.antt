@@ -17,7 +17,7 @@ use Rattle.layout.specs.declared.Header.{Header}
 use Rattle.layout.proofs.Lists.{and-left, and-right}
 use Rattle.layout.proofs.StoreLaws.{length-put-header, header-put, clean-lies}
 use Rattle.store.proofs.Laws.{remembered-fits}
-use Rattle.book.specs.Words.{NAME-WORDS, nodesFrom, kidsFrom, placeWords, headIn, nodesIn, kidsIn}
+use Rattle.book.specs.Words.{BYTES, NAME-WORDS, nodesFrom, kidsFrom, placeWords, headIn, nodesIn, kidsIn}
 use Rattle.book.specs.Places.{putPart, Nameable, putName}
 use Rattle.book.proofs.Parts.{put-length}
 use Rattle.book.proofs.Laws.{bytes-all, put-name-words, Written, written, place-written, clean-written}
@@ -138,7 +138,7 @@ module _ {h ws ks ps : List ℕ} {n c : ℕ} {name : List ℕ} (r : HoldReady h 
         childLen = omega (arith, l .children);
       }
 
-  held-place : ((i : ℕ) → i < length name → getD name i 0 < 256) → HeldPlace p₄ n c name (storeIn h ws ks)
+  held-place : ((i : ℕ) → i < length name → getD name i 0 < BYTES) → HeldPlace p₄ n c name (storeIn h ws ks)
   held-place b =
       let w = all-written in
       record {
@@ -203,5 +203,5 @@ module _ {h ws ks ps : List ℕ} {n c : ℕ} {name : List ℕ} (r : HoldReady h 
               ∙ (ap (λ (j : ℕ). putMid (kidsFrom n) (j - kidsFrom n) q₃ k₁) v
               ∙ (ap (λ (l : List ℕ). putPart l (kidsFrom n) (placeWords n c) k₁) three-is ∙ ap (putPart p₃ (kidsFrom n) (placeWords n c)) kids-are))
 
-          pub code-held : ((i : ℕ) → i < length name → getD name i 0 < 256) → HeldPlace (putMid a (e - a) q₃ k₁) n c name (storeIn h ws ks)
+          pub code-held : ((i : ℕ) → i < length name → getD name i 0 < BYTES) → HeldPlace (putMid a (e - a) q₃ k₁) n c name (storeIn h ws ks)
           code-held b = subst (λ (l : List ℕ). HeldPlace l n c name (storeIn h ws ks)) (sym four-is) (held-place b)

@@ -22,7 +22,7 @@ returns c =
     let at-put2 = c .before .before .before .before .before .before in
     let at-put = at-put2 .before .before .before .before in
     let at-args = at-put .before .before .before in
-    begun-by (at-args .args .m .now) 4096 (at-put .put .ensures) (at-put2 .put2 .ensures) (c .before .before .put3 .ensures)
+    begun-by (at-args .args .m .now) _ (at-put .put .ensures) (at-put2 .put2 .ensures) (c .before .before .put3 .ensures)
 
 pub begin-spec : {M : Type 1} → statement M
 begin-spec = tie.close (tie.spec put-requires put-requires-2 put-requires-3 same-length returns)
