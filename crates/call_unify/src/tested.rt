@@ -57,6 +57,6 @@ pub fn unify<'a>(
         (tyOf (a .0)) (tyOf (b .0)))
         (unifyReply r) (now (h .entry)) (now (ws .entry)) (now (ks .entry)) (now (h .entry)) (now (ws .exit)) (now (ks .entry)) ⌝ }
 {
-    let mut memory = [0u32; recall::HEAD];
+    let mut memory = [0u32; unify_lists::OWN_MEMORY];
     unify_recalling(chart, beside, rule, text, h, ws, ks, &mut memory, a, b)
 }

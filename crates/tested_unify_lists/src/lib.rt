@@ -62,7 +62,7 @@ pub fn unify_types<'a>(
         (typesIn (now (xs .entry))) (typesIn (now (ys .entry))) (inv .0))
         (unifyReply r) (now (h .entry)) (now (ws .entry)) (now (ks .entry)) (now (h .entry)) (now (ws .exit)) (now (ks .entry)) ⌝ }
 {
-    let mut memory = [0u32; recall::HEAD];
+    let mut memory = [0u32; unify_lists::OWN_MEMORY];
     unify_types_recalling(
         chart,
         beside,
@@ -126,7 +126,7 @@ pub fn unify_objects<'a>(
         (entriesIn (now (xs .entry))) (entriesIn (now (ys .entry))) (inv .0))
         (unifyReply r) (now (h .entry)) (now (ws .entry)) (now (ks .entry)) (now (h .entry)) (now (ws .exit)) (now (ks .entry)) ⌝ }
 {
-    let mut memory = [0u32; recall::HEAD];
+    let mut memory = [0u32; unify_lists::OWN_MEMORY];
     unify_objects_recalling(
         chart,
         beside,
@@ -192,7 +192,7 @@ pub fn unify_fn_sig<'a>(
         (typesIn (now (xs .entry))) (tyOf (r .0)) (typesIn (now (ys .entry))) (tyOf (q .0)))
         (unifyReply t) (now (h .entry)) (now (ws .entry)) (now (ks .entry)) (now (h .entry)) (now (ws .exit)) (now (ks .entry)) ⌝ }
 {
-    let mut memory = [0u32; recall::HEAD];
+    let mut memory = [0u32; unify_lists::OWN_MEMORY];
     unify_fn_sig_recalling(
         chart,
         beside,

@@ -19,6 +19,9 @@ use types::Inverted;
 use types::Type;
 use types::UnifyResult;
 
+// A call that is lent no memory has one of its own, of sixteen pairs: enough for one that is asked again and again.
+pub const OWN_MEMORY: usize = recall::HEAD + 16 * recall::ENTRY;
+
 // A pair of types, as deep as there are nodes.
 pub fn unify_all<'a>(
     ws: &mut [u32],
