@@ -194,14 +194,7 @@ fn all_good(ws: &[u32], n: u32, marks: &[u8], param: bool) -> bool
 
 // A walk that marks each root it meets, and goes not below a node that is marked: such a one is known to be good, and so is all below it. Where the answer is true, that is
 // now known of every marked node.
-pub fn by_marks(
-    ws: &[u32],
-    ks: &[u32],
-    n: u32,
-    marks: &mut [u8],
-    t: Type,
-    param: bool,
-) -> bool
+pub fn by_marks(ws: &[u32], ks: &[u32], n: u32, marks: &mut [u8], t: Type, param: bool) -> bool
     requires { ⌜ Beside (now ws) (now ks) n (now marks) (t .0) param ⌝ }
     ensures { λ r. ⌜ MarkedAll (now (ws .entry)) (now (ks .entry)) n (now (marks .exit)) (t .0) param r ⌝ }
 {
