@@ -154,7 +154,7 @@ pub fn report() {
   }
   let Tally { tried, kept, answers: [success, failure, indeterminate], changed, without, with } = tally;
   println!("random types that share, seed {SEED}, {tried} stores, each with 7 memories: all equal");
-  println!("  {kept} make over 4,096 visits: {success} Success, {failure} Failure, {indeterminate} Indeterminate");
+  println!("  {kept} begin to remember: {success} Success, {failure} Failure, {indeterminate} Indeterminate");
   println!("  in {changed} of these a node changes after that");
   println!("  in all they take {without:?} without a memory, {with:?} with an entry for each pair");
 }

@@ -354,14 +354,16 @@ fn variables_and_chain(sets: usize) -> Store {
   s.full()
 }
 
-/// So many tuples over one run and as many over another, 255 to a tuple: unified, each slot of a run meets one of the other.
+/// So many tuples over a run, 255 to a tuple, each from where it says.
+fn side(s: &mut Store, count: usize, first: impl Fn(usize) -> usize) -> u32 {
+  let kinds: Vec<u32> = (0..count).map(|i| s.kind(TUPLE, first(i), WIDTH)).collect();
+  let tuples: Vec<u32> = kinds.chunks(WIDTH).map(|part| s.over(TUPLE, part)).collect();
+  s.over(TUPLE, &tuples)
+}
+
+/// So many tuples over one run and as many over another: unified, each slot of a run meets one of the other.
 fn tuples(s: &mut Store, [a, b]: [usize; 2], count: usize, next: impl Fn(usize) -> usize) -> (u32, u32) {
-  let mut over = |first: usize| {
-    let kinds: Vec<u32> = (0..count).map(|i| s.kind(TUPLE, first + next(i), WIDTH)).collect();
-    let tuples: Vec<u32> = kinds.chunks(WIDTH).map(|part| s.over(TUPLE, part)).collect();
-    s.over(TUPLE, &tuples)
-  };
-  (over(a), over(b))
+  (side(s, count, |i| a + next(i)), side(s, count, |i| b + next(i)))
 }
 
 /// The nodes of so many tuples on both sides.
@@ -389,7 +391,19 @@ fn occurs(count: usize) -> Store {
   s.full()
 }
 
-/// The same meets its own inverse: a variable is none.
+/// Each of 255 variables meets other windows in each of so many tuples, and occurs there: no pair comes twice.
+fn occurs_each(count: usize) -> Store {
+  let mut s = Store::new(format!("255 variables and windows that lead to all, in {count} tuples"));
+  let vars: Vec<u32> = (0..WIDTH).map(|_| s.var()).collect();
+  let all = s.over(TUPLE, &vars);
+  s.windows(TUPLE, NODES - 1 - WIDTH - tuple_nodes(count), 1, all);
+  let tops = s.slots() - WIDTH;
+  let run = s.run(&[vars.as_slice(), &vars].concat());
+  s.failing = vec![(side(&mut s, count, |i| run + i % WIDTH), side(&mut s, count, |_| tops))];
+  s.full()
+}
+
+/// The last of windows over a variable meets its own inverse: a variable is not its own.
 fn no_inverses(count: usize) -> Store {
   let mut s = Store::new(format!("windows over a variable and their inverse, in {count} tuples"));
   let var = s.var();
@@ -494,6 +508,7 @@ pub fn all() -> Vec<Store> {
   }
   all.extend([255, 1000].map(occurs));
   all.extend([255, 1000].map(no_inverses));
+  all.push(occurs_each(25));
   all.push(alike(7));
   all
 }

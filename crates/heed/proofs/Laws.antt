@@ -98,13 +98,6 @@ moved-forgot f = record {
 pub moved-same : {m : List ℕ} {ns : List Node} → Tidy m → Moved m m ns ns
 moved-same t = record { tidy = t; since = since-same; believed = λ a b q v. (v, refl) }
 
-pub moved-then : {m m₁ m₂ : List ℕ} {ns ns₁ ns₂ : List Node} → Moved m m₁ ns ns₁ → Moved m₁ m₂ ns₁ ns₂ → Moved m m₂ ns ns₂
-moved-then d e = record {
-  tidy = e .tidy;
-  since = since-then (d .since) (e .since);
-  believed = λ a b q v. let o = e .believed a b q v in let u = d .believed a b q (o .0) in (u .0, o .1 ∙ u .1);
-}
-
 -- `find`
 
 pub found-near : {ws : List ℕ} {n : ℕ} {m : List ℕ} {t : ℕ} {q : Nearby} {r : «Type»} → Linked ws n → Tidy m → Near ws n t q → q ≡ Is r → FoundTold ws n ws m m t (r .0)
