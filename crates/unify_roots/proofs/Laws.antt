@@ -5,10 +5,10 @@ use mathlib.Core.Path.{_≡_, refl, ap, sym, subst, _∙_}
 use mathlib.Core.Bool.{Bool, true, false, not, _||_, or-true}
 use mathlib.Core.List.{List, []}
 use mathlib.Core.Logic.{inl, inr}
-use Prim.Native.Nat.{ℕ, zero, suc, _-_, _<_}
+use Prim.Native.Nat.{ℕ, zero, suc, _-_, _<_, _≤_}
 use native.Mathlib.Omega.{arith}
 use lib.ListN.{length}
-use borrow.Author.Tests.{eq-eqb, not-false}
+use borrow.Author.Tests.{eq-eqb}
 use Rattle.scope.specs.Base.{xor}
 use Rattle.scope.specs.Limits.{MAX-NODES}
 use Rattle.scope.specs.Names.{Texts}
@@ -21,29 +21,30 @@ use Rattle.scope.proofs.View.{view}
 use Rattle.scope.proofs.Grow.{Self}
 use Rattle.scope.proofs.Free.{free-nil}
 use Rattle.scope.proofs.Chain.{cnil}
-use Rattle.scope.proofs.Occurs.{self-sound}
 use Rattle.scope.proofs.Self.{self-complete}
 use Rattle.scope.proofs.Sim.{self-inverse-view}
+use Rattle.scope.proofs.Walks.{sound-walkable}
 use Rattle.scope.proofs.UnifyKept.{nodes-stable}
 use Rattle.types.specs.Answers.{answerOf}
 use Rattle.types.specs.declared.UnifyResult.{UnifyResult}
 use Rattle.types.specs.declared.UnifyResult.the-variants.{Success}
 use Rattle.layout.specs.Words.{decode}
 use Rattle.layout.proofs.Laws.{length-decode}
-use Rattle.marks.specs.Marks.{Said, Marked}
-use Rattle.recall.specs.Memory.{Forgot, WalkNoted}
+use Rattle.marks.specs.Marks.{Said}
+use Rattle.recall.specs.Memory.{Tidy, Forgot, WalkNoted}
 use Rattle.recall.specs.Places.{Told}
-use Rattle.recall.proofs.Laws.{marked-clock}
+use Rattle.recall.proofs.Laws.{marked-clock, marked-tidy}
 use Rattle.recall.specs.declared.Recalled.{Recalled}
 use Rattle.recall.specs.declared.Recalled.the-variants.{Is}
-use Rattle.heed.specs.Recalls.{SelfAt}
-use Rattle.heed.proofs.Laws.{since-same, since-then, recalls-moved, moved-forgot, moved-marked, SelfsKept, marks-kept, marks-fewer, marks-more}
+use Rattle.heed.specs.Recalls.{SelfAt, Recalls}
+use Rattle.heed.proofs.Laws.{since-same, recalls-moved, moved-forgot, moved-marked, SelfsKept, marks-kept, marks-fewer}
 use Rattle.merge.specs.Meaning.{Bound}
 use Rattle.meeting.specs.Asks.{SoundWords, Tops}
 use Rattle.meeting.specs.Meets.{walks, walkedBy, WalkedTo}
 use Rattle.meeting.specs.declared.Walked.{Walked}
 use Rattle.meeting.specs.declared.Walked.the-variants.{Done, Bind}
-use Rattle.unify_roots.specs.Walk.{WalkAsks, WalkTold}
+use Rattle.own_inverse.specs.Own.{OwnAsks, OwnTold}
+use Rattle.unify_roots.specs.Walk.{Childless, WalkAsks, WalkTold}
 use Rattle.unify_roots.proofs.Kept.{pair-selfs}
 
 -- sound words
@@ -83,10 +84,6 @@ unify-roots x n d ns a b h f g =
     let e₃ : find ns a ≡ a = root-find ns a (at ns (a .idx)) refl f in
     let e₄ : find ns b ≡ b = root-find ns b (at ns (b .idx)) refl g in
     unify-deep x n d ns a b h ∙ rw (e₁, e₂, e₃, e₄) refl
-
-of-bool : (t : Bool) → answers.ofBool t ≡ answers.Success → t ≡ true
-of-bool true e = refl
-of-bool false e = cc
 
 -- a walk, at any depth: roots that are their own inverses stay so
 
@@ -160,34 +157,20 @@ module _ {ws ks m : List ℕ} {n : ℕ} {a b : Ty} (asks : WalkAsks ws ks m n a 
     pub walk-inside : i < MAX-NODES
     walk-inside = omega (arith, ei, tops .pair .first, words .small)
 
-    crossed : {p q v : Bool} → p ≡ a .inv → q ≡ b .inv → v ≡ xor p q → not v ≡ false → xor (a .inv) (b .inv) ≡ true
-    crossed {v = v} ep eq ev h = rw (← ep, ← eq, ← ev) (not-false v h)
+    turned : {p q v w : Bool} → p ≡ a .inv → q ≡ b .inv → v ≡ xor p q → not v ≡ w → not (xor (a .inv) (b .inv)) ≡ w
+    turned ep eq ev h = rw (← ep, ← eq, ← ev) h
 
-    self-said : (t : Bool) → xor (a .inv) (b .inv) ≡ true → answers.ofBool (not (xor (a .inv) (b .inv)) || t) ≡ answers.Success → t ≡ true
-    self-said t c e = of-bool t (sym (ap (λ (v : Bool). answers.ofBool (not v || t)) c) ∙ e)
+    -- two types that agree
+    pub walk-agrees : {p q v : Bool} → p ≡ a .inv → q ≡ b .inv → v ≡ xor p q → not v ≡ true → WalkTold ws ks m ws m n a b Success
+    walk-agrees ep eq ev h =
+        walk-still (same-walks ∙ ap (λ (t : Bool). out ns (answers.ofBool (t || selfInverseAt false n ns (a .idx)))) (turned ep eq ev h))
 
-    -- a walk that found it, of two types that are each other's inverses
-    pub walk-marks : {ws′ m₁ m′ : List ℕ} {r : UnifyResult} {p q v : Bool} → p ≡ a .inv → q ≡ b .inv → v ≡ xor p q → not v ≡ false → WalkTold ws ks m ws′ m₁ n a b r → r ≡ Success
-        → Marked m₁ m′ i → WalkTold ws ks m ws′ m′ n a b r
-    walk-marks {ws′} {m₁} {m′} {r} ep eq ev h t e k = record {
-      leaves = t .leaves;
-      since = since-then (t .since) (record { on = omega (arith, marked-clock (k .beside)); still = λ r e. refl });
-      recalls = λ y f g. let w = t .recalls y f g in recalls-moved w (moved-marked (w .tidy) k) (marks-more (w .marks) self k);
-    }
-      where
-        both : out ns (sameNode n ns a b) ≡ out (decode ws′ ks n) answers.Success
-        both = sym same-walks ∙ (t .leaves .same ∙ ap (λ (q : UnifyResult). out (decode ws′ ks n) (answerOf q)) e)
-
-        found : selfInverseAt false n ns (a .idx) ≡ true
-        found = self-said (selfInverseAt false n ns (a .idx)) (crossed ep eq ev h) (ap (λ (o : Out). o .answer) both)
-
-        here : Self (view ns) (a .idx)
-        here = self-sound n (view ns) (a .idx) (sym (self-inverse-view false n ns (a .idx)) ∙ found)
-
-        self : SelfAt (decode ws′ ks n) i
-        self =
-            let s : SelfAt ns i = subst (SelfAt ns) (sym ei) (subst (λ (t : Ty). Self (view ns) (t .idx)) (sym top) here) in
-            subst (λ (l : List Node). SelfAt l i) (ap (λ (o : Out). o .nodes) both) s
+    -- or are each other's inverses
+    pub walk-crosses : {p q v t : Bool} (r : UnifyResult) → p ≡ a .inv → q ≡ b .inv → v ≡ xor p q → not v ≡ false → t ≡ selfInverseAt false n (decode ws ks n) (a .idx)
+        → answerOf r ≡ answers.ofBool t → walks n (decode ws ks n) a b ≡ out (decode ws ks n) (answerOf r)
+    walk-crosses r ep eq ev h es er =
+        same-walks ∙ (ap (λ (y : Bool). out ns (answers.ofBool (y || selfInverseAt false n ns (a .idx)))) (turned ep eq ev h)
+        ∙ ap (out ns) (ap answers.ofBool (sym es) ∙ sym er))
 
 -- a pair in words: what the memory tells is what a walk would give, and what a walk gave is so
 
@@ -196,17 +179,59 @@ module _ {ws ks m : List ℕ} {n a b : ℕ} (asks : WalkAsks ws ks m n (tyOf a) 
   walk-told {r = r} f e =
       walk-still asks (sym (asks .meets (unifyF (asks .roots .lent) n n)) ∙ asks .recalls .true a b r (f .believed r e) .same)
 
+  -- what a walk answered is noted
+  noted : {m′ : List ℕ} {r : UnifyResult} → walks n (decode ws ks n) (tyOf a) (tyOf b) ≡ out (decode ws ks n) (answerOf r) → WalkNoted m m′ a b r
+      → (y : Texts) → Childless y n (decode ws ks n) (tyOf a) (tyOf b) → Recalls y n (decode ws ks n) m → Recalls y n (decode ws ks n) m′
+  noted same k y h g = record {
+    tidy = k .tidy;
+    true = λ v w q z. elim (k .only v w q z) [ inl old ↦ g .true v w q old | inr (ev, (ew, eq)) ↦ record { same = rw (ev, ew, eq) (h (unifyF y n n) ∙ same) } ];
+    marks = marks-fewer (k .marks) (g .marks);
+  }
+
   pub walk-done : {w : Walked} {m′ : List ℕ} {r : UnifyResult} → WalkedTo ws ks n (tyOf a) (tyOf b) w → w ≡ Done r → WalkNoted m m′ a b r
       → WalkTold ws ks m ws m′ n (tyOf a) (tyOf b) r
   walk-done {r = r} o e k = record {
     leaves = record { same = same; clean = λ c cl. cl; tail = refl };
     since = record { on = k .on; still = λ r e. refl };
-    recalls = λ y h g. record {
-      tidy = k .tidy;
-      true = λ v w q z. elim (k .only v w q z) [ inl old ↦ g .true v w q old | inr (ev, (ew, eq)) ↦ record { same = rw (ev, ew, eq) (h (unifyF y n n) ∙ same) } ];
-      marks = marks-fewer (k .marks) (g .marks);
-    };
+    recalls = noted same k;
   }
     where
       same : walks n (decode ws ks n) (tyOf a) (tyOf b) ≡ out (decode ws ks n) (answerOf r)
       same = o .same ∙ ap (walkedBy (decode ws ks n) (tyOf a) (tyOf b)) e
+
+-- a root and its own inverse
+
+pub own-asks : {ws ks m : List ℕ} {n a : ℕ} {b : Ty} → WalkAsks ws ks m n (tyOf a) b → OwnAsks ws ks m n a
+own-asks {ws} {ks} {n = n} asks =
+    let h = asks .roots .tops in
+    let w = h .pair .words in
+    record {
+      stands = record { made = w .children; clean = w .clean };
+      few = w .small;
+      walkable = sound-walkable (w .env) (decode ws ks n) (w .sound);
+      inside = h .pair .first;
+      root = h .first;
+      marks = asks .recalls .marks;
+    }
+
+-- the memory with other marks
+pub own-tidy : {ws ks m m₁ : List ℕ} {n a : ℕ} {b c : Ty} {t : Bool} → WalkAsks ws ks m n b c → OwnTold ws ks m m₁ n a t → (n ≤ MAX-NODES) × Tidy m₁
+own-tidy asks o = (asks .roots .tops .pair .words .small, marked-tidy (o .beside) (asks .recalls .tidy))
+
+own-after : {ws ks m m₁ : List ℕ} {n a : ℕ} {t : Bool} → OwnTold ws ks m m₁ n a t → (y : Texts) → Recalls y n (decode ws ks n) m → Recalls y n (decode ws ks n) m₁
+own-after o y g = recalls-moved g (moved-marked (g .tidy) (o .beside)) (o .marks)
+
+module _ {ws ks m m₁ : List ℕ} {n a b : ℕ} {t : Bool} (asks : WalkAsks ws ks m n (tyOf a) (tyOf b)) (o : OwnTold ws ks m m₁ n a t) where
+  pub walk-own : {m′ : List ℕ} {r : UnifyResult} {i j : ℕ} {p q v : Bool} → i ≡ tyOf a .idx → j ≡ tyOf b .idx → i ≡ j → p ≡ tyOf a .inv → q ≡ tyOf b .inv → v ≡ xor p q
+      → not v ≡ false → answerOf r ≡ answers.ofBool t → WalkNoted m₁ m′ a b r → WalkTold ws ks m ws m′ n (tyOf a) (tyOf b) r
+  walk-own {r = r} ei ej eij ep eq ev h er k = record {
+    leaves = record { same = same; clean = λ c cl. cl; tail = refl };
+    since = record { on = omega (arith, marked-clock (o .beside), k .on); still = λ r e. refl };
+    recalls = λ y f g. noted after same k y f (own-after o y g);
+  }
+    where
+      same : walks n (decode ws ks n) (tyOf a) (tyOf b) ≡ out (decode ws ks n) (answerOf r)
+      same = walk-crosses asks ei ej eij r ep eq ev h (o .same) er
+
+      after : WalkAsks ws ks m₁ n (tyOf a) (tyOf b)
+      after = record { roots = asks .roots; adds = asks .adds; meets = asks .meets; recalls = own-after o (asks .roots .lent) (asks .recalls) }

@@ -1,6 +1,6 @@
 // Two roots of which no child is unified: one node, or one of them without a kind. What walks is here, apart from the cycle of `unify`, and so its marks stay out of the
-// cycle's frames. A root that was once found to be its own inverse stays so whatever merges: it is marked in the memory, and not walked again. A walk that fails is
-// remembered until a node changes.
+// cycle's frames. A root that was once found to be its own inverse stays so whatever merges: it is marked in the memory with all that a walk
+// found so, and not walked again. A walk that fails is remembered until a node changes.
 ghost use mathlib.Core.Path.{_≡_};
 ghost use Rattle.scope.specs.Types.{tyOf};
 ghost use Rattle.unify_roots.specs.Walk.{WalkAsks, WalkTold};
@@ -32,7 +32,7 @@ fn walk_on(ws: &mut [u32], ks: &[u32], n: u32, memory: &mut [u32], a: Type, b: T
     }
 }
 
-// The same; one nil needs no walk, and a marked root needs none.
+// The same; two types of one node need no walk where they agree, nor one nil, nor a marked root.
 pub fn walk_pair(
     ws: &mut [u32],
     ks: &[u32],
@@ -49,22 +49,20 @@ pub fn walk_pair(
     if ia.0 != ib.0 {
         return walk_on(ws, ks, n, memory, a, b);
     }
+    if !a.inv().xor(b.inv()).0 {
+        return UnifyResult::Success;
+    }
     if heed::small(ws, n, memory, a, b) {
         return UnifyResult::Success;
     }
     if marks::knows(memory, ia) {
         return UnifyResult::Success;
     }
-    let r = walk_on(ws, ks, n, memory, a, b);
-    if !a.inv().xor(b.inv()).0 {
-        return r;
+    let known = recall::look(memory, n, a, b);
+    if let Recalled::Is(q) = known {
+        return q;
     }
-    match r {
-        UnifyResult::Success => {
-            marks::know(memory, ia);
-            r
-        }
-        UnifyResult::Failure => r,
-        UnifyResult::Indeterminate => r,
-    }
+    let r = UnifyResult::from_bool(own_inverse::ask(ws, ks, n, memory, a));
+    recall::walked(memory, n, a, b, r);
+    r
 }

@@ -1,7 +1,7 @@
--- `unify_roots::walk_pair` meets its contract: of one nil and of a marked root nothing is to be done, and anything else is `walk_on`'s; a root that it found to be its own
--- inverse is marked.
+-- `unify_roots::walk_pair` meets its contract: two nodes are `walk_on`'s; of two types of one node that agree, of one nil and of a marked root nothing is to be done, and
+-- anything else is asked of the memory, and then of a walk.
 -- Assumes nothing.
-use Rattle.unify_roots.proofs.Laws.{walk-known, walk-inside, walk-marks}
+use Rattle.unify_roots.proofs.Laws.{walk-agrees, walk-known, walk-inside, walk-told, own-asks, own-tidy, walk-own}
 use Rattle.unify_roots.proofs.SmallLaws.{small-walks, small-walk-asks, small-walk-not}
 use borrow.Author.Needs.{needs}
 use Rattle.unify_roots.proofs.walk_pair.Statement.{statement}
@@ -25,49 +25,6 @@ same-length-2 c = search needs
 returns : tie.Need-returns
 returns c = search needs
 
-small-requires : tie.Need-small-requires
-small-requires c κs = search needs
-
-same-length-3 : tie.Need-same-length-3
-same-length-3 c = search needs
-
-same-length-4 : tie.Need-same-length-4
-same-length-4 c = search needs
-
-returns-2 : tie.Need-returns-2
-returns-2 c =
-    let b5 = c .before .before .before .before .before in
-    let b16 = b5 .before .before .before .before .before .before .before .before .before .before .before in
-    small-walks (b16 .pre) (b5 .small .ensures) (c .if2 .taken)
-
-knows-requires : tie.Need-knows-requires
-knows-requires c κs = search needs
-
-same-length-5 : tie.Need-same-length-5
-same-length-5 c = search needs
-
-same-length-6 : tie.Need-same-length-6
-same-length-6 c = search needs
-
-returns-3 : tie.Need-returns-3
-returns-3 c =
-    let b1 = c .before in
-    let b3 = b1 .before .before in
-    let b8 = b3 .before .before .before .before .before in
-    let b11 = b8 .before .before .before in
-    let b14 = b11 .before .before .before in
-    let b15 = b14 .before in
-    let b19 = b15 .before .before .before .before in
-    small-walk-not (b8 .small .ensures) (b3 .if2 .left)
-    (walk-known (small-walk-asks (b19 .pre) (b8 .small .ensures) (b3 .if2 .left)) (b15 .idx .ensures) (b14 .idx2 .ensures) (b11 .if1 .left) (b1 .knows .ensures) (c .if3 .taken))
-
-walk-on-requires-2 : tie.Need-walk-on-requires-2
-walk-on-requires-2 c κs =
-    let b5 = c .before .before .before .before .before in
-    let b10 = b5 .before .before .before .before .before in
-    let b21 = b10 .before .before .before .before .before .before .before .before .before .before .before in
-    small-walk-asks (b21 .pre) (b10 .small .ensures) (b5 .if2 .left)
-
 inv-requires : tie.Need-inv-requires
 inv-requires c κs = search needs
 
@@ -77,37 +34,60 @@ inv-requires-2 c κs = search needs
 xor-requires : tie.Need-xor-requires
 xor-requires c κs = search needs
 
+returns-2 : tie.Need-returns-2
+returns-2 c = walk-agrees (c .before .before .before .before .before .before .before .before .before .before .before .before .before .pre) (c .before .before .before .before .before .before .before .before .before .idx .ensures) (c .before .before .before .before .before .before .before .before .idx2 .ensures) (c .before .before .before .before .before .if1 .left) (c .before .before .before .before .inv .ensures) (c .before .before .before .inv2 .ensures) (c .before .before .xor .ensures) (c .if2 .taken)
+
+small-requires : tie.Need-small-requires
+small-requires c κs = search needs
+
+same-length-3 : tie.Need-same-length-3
+same-length-3 c = search needs
+
+same-length-4 : tie.Need-same-length-4
+same-length-4 c = search needs
+
+returns-3 : tie.Need-returns-3
+returns-3 c = small-walks (c .before .before .before .before .before .before .before .before .before .before .before .before .before .before .before .before .before .before .before .before .before .pre) (c .before .before .before .before .before .small .ensures) (c .if3 .taken)
+
+knows-requires : tie.Need-knows-requires
+knows-requires c κs = walk-inside (c .before .before .before .before .before .before .before .before .before .before .before .before .before .before .before .before .before .before .before .before .before .before .pre) (c .before .before .before .before .before .before .before .before .before .before .before .before .before .before .before .before .before .before .idx .ensures) (c .before .before .before .before .before .before .before .before .before .before .before .before .before .before .before .before .before .idx2 .ensures) (c .before .before .before .before .before .before .before .before .before .before .before .before .before .before .if1 .left)
+
+same-length-5 : tie.Need-same-length-5
+same-length-5 c = search needs
+
+same-length-6 : tie.Need-same-length-6
+same-length-6 c = search needs
+
+returns-4 : tie.Need-returns-4
+returns-4 c = small-walk-not (c .before .before .before .before .before .before .before .before .small .ensures) (c .before .before .before .if3 .left)
+    (walk-known (small-walk-asks (c .before .before .before .before .before .before .before .before .before .before .before .before .before .before .before .before .before .before .before .before .before .before .before .before .pre) (c .before .before .before .before .before .before .before .before .small .ensures) (c .before .before .before .if3 .left)) (c .before .before .before .before .before .before .before .before .before .before .before .before .before .before .before .before .before .before .before .before .idx .ensures) (c .before .before .before .before .before .before .before .before .before .before .before .before .before .before .before .before .before .before .before .idx2 .ensures) (c .before .before .before .before .before .before .before .before .before .before .before .before .before .before .before .before .if1 .left) (c .before .knows .ensures) (c .if4 .taken))
+
+look-requires : tie.Need-look-requires
+look-requires c κs = c .before .before .before .before .before .before .before .before .before .before .before .before .before .before .before .before .before .before .before .before .before .before .before .before .before .pre .roots .tops .pair .words .small
+
+enum-known-known : tie.Need-enum-known-known
+enum-known-known c = search needs
+
 same-length-7 : tie.Need-same-length-7
 same-length-7 c = search needs
 
 same-length-8 : tie.Need-same-length-8
 same-length-8 c = search needs
 
-returns-4 : tie.Need-returns-4
-returns-4 c =
-    let b9 = c .before .before .before .before .before .before .before .before .before in
-    let b15 = b9 .before .before .before .before .before .before in
-    let b20 = b15 .before .before .before .before .before in
-    small-walk-not (b20 .small .ensures) (b15 .if2 .left) (b9 .walk-on2 .ensures)
+returns-5 : tie.Need-returns-5
+returns-5 c = small-walk-not (c .before .before .before .before .before .before .before .before .before .before .before .before .before .small .ensures) (c .before .before .before .before .before .before .before .before .if3 .left) (walk-told (small-walk-asks (c .before .before .before .before .before .before .before .before .before .before .before .before .before .before .before .before .before .before .before .before .before .before .before .before .before .before .before .before .before .pre) (c .before .before .before .before .before .before .before .before .before .before .before .before .before .small .ensures) (c .before .before .before .before .before .before .before .before .if3 .left)) (c .before .before .before .look .ensures) (c .before .known .given .1))
 
 enum-told : tie.Need-enum-told
 enum-told c = search needs
 
-know-requires : tie.Need-know-requires
-know-requires c κs =
-    let b18 = c .before .before .before .before .before .before .before .before .before .before .before .before .before .before .before .before .before .before in
-    let b23 = b18 .before .before .before .before .before in
-    let b26 = b23 .before .before .before in
-    let b29 = b26 .before .before .before in
-    let b30 = b29 .before in
-    let b34 = b30 .before .before .before .before in
-    walk-inside (small-walk-asks (b34 .pre) (b23 .small .ensures) (b18 .if2 .left)) (b30 .idx .ensures) (b29 .idx2 .ensures) (b26 .if1 .left)
+ask-requires : tie.Need-ask-requires
+ask-requires c κs = own-asks (small-walk-asks (c .before .before .before .before .before .before .before .before .before .before .before .before .before .before .before .before .before .before .before .before .before .before .before .before .before .before .before .before .before .before .pre) (c .before .before .before .before .before .before .before .before .before .before .before .before .before .before .small .ensures) (c .before .before .before .before .before .before .before .before .before .if3 .left))
 
-enum-told-2 : tie.Need-enum-told-2
-enum-told-2 c = search needs
+from-bool-requires : tie.Need-from-bool-requires
+from-bool-requires c κs = search needs
 
-enum-told-3 : tie.Need-enum-told-3
-enum-told-3 c = search needs
+walked-requires : tie.Need-walked-requires
+walked-requires c κs = own-tidy (small-walk-asks (c .before .before .before .before .before .before .before .before .before .before .before .before .before .before .before .before .before .before .before .before .before .before .before .before .before .before .before .before .before .before .before .before .before .before .before .pre) (c .before .before .before .before .before .before .before .before .before .before .before .before .before .before .before .before .before .before .before .small .ensures) (c .before .before .before .before .before .before .before .before .before .before .before .before .before .before .if3 .left)) (c .before .before .before .before .ask .ensures)
 
 same-length-9 : tie.Need-same-length-9
 same-length-9 c = search needs
@@ -115,50 +95,10 @@ same-length-9 c = search needs
 same-length-10 : tie.Need-same-length-10
 same-length-10 c = search needs
 
-returns-5 : tie.Need-returns-5
-returns-5 c =
-    let b2 = c .before .before in
-    let b4 = b2 .before .before in
-    let b6 = b4 .before .before in
-    let b8 = b6 .before .before in
-    let b9 = b8 .before in
-    let b10 = b9 .before in
-    let b15 = b10 .before .before .before .before .before in
-    let b21 = b15 .before .before .before .before .before .before in
-    let b26 = b21 .before .before .before .before .before in
-    let b29 = b26 .before .before .before in
-    let b32 = b29 .before .before .before in
-    let b33 = b32 .before in
-    let b37 = b33 .before .before .before .before in
-    small-walk-not (b26 .small .ensures) (b21 .if2 .left)
-    (walk-marks (small-walk-asks (b37 .pre) (b26 .small .ensures) (b21 .if2 .left)) (b33 .idx .ensures) (b32 .idx2 .ensures) (b29 .if1 .left) (b10 .inv .ensures)
-    (b9 .inv2 .ensures) (b8 .xor .ensures) (b6 .if4 .left) (b15 .walk-on2 .ensures) (b4 .enum-told .given .1) (b2 .know .ensures))
-
-same-length-11 : tie.Need-same-length-11
-same-length-11 c = search needs
-
-same-length-12 : tie.Need-same-length-12
-same-length-12 c = search needs
-
 returns-6 : tie.Need-returns-6
-returns-6 c =
-    let b11 = c .before .before .before .before .before .before .before .before .before .before .before in
-    let b17 = b11 .before .before .before .before .before .before in
-    let b22 = b17 .before .before .before .before .before in
-    small-walk-not (b22 .small .ensures) (b17 .if2 .left) (b11 .walk-on2 .ensures)
-
-same-length-13 : tie.Need-same-length-13
-same-length-13 c = search needs
-
-same-length-14 : tie.Need-same-length-14
-same-length-14 c = search needs
-
-returns-7 : tie.Need-returns-7
-returns-7 c =
-    let b11 = c .before .before .before .before .before .before .before .before .before .before .before in
-    let b17 = b11 .before .before .before .before .before .before in
-    let b22 = b17 .before .before .before .before .before in
-    small-walk-not (b22 .small .ensures) (b17 .if2 .left) (b11 .walk-on2 .ensures)
+returns-6 c = small-walk-not (c .before .before .before .before .before .before .before .before .before .before .before .before .before .before .before .before .before .before .before .before .before .before .small .ensures) (c .before .before .before .before .before .before .before .before .before .before .before .before .before .before .before .before .before .if3 .left)
+    (walk-own (small-walk-asks (c .before .before .before .before .before .before .before .before .before .before .before .before .before .before .before .before .before .before .before .before .before .before .before .before .before .before .before .before .before .before .before .before .before .before .before .before .before .before .pre) (c .before .before .before .before .before .before .before .before .before .before .before .before .before .before .before .before .before .before .before .before .before .before .small .ensures) (c .before .before .before .before .before .before .before .before .before .before .before .before .before .before .before .before .before .if3 .left)) (c .before .before .before .before .before .before .before .ask .ensures) (c .before .before .before .before .before .before .before .before .before .before .before .before .before .before .before .before .before .before .before .before .before .before .before .before .before .before .before .before .before .before .before .before .before .before .idx .ensures) (c .before .before .before .before .before .before .before .before .before .before .before .before .before .before .before .before .before .before .before .before .before .before .before .before .before .before .before .before .before .before .before .before .before .idx2 .ensures) (c .before .before .before .before .before .before .before .before .before .before .before .before .before .before .before .before .before .before .before .before .before .before .before .before .before .before .before .before .before .before .if1 .left) (c .before .before .before .before .before .before .before .before .before .before .before .before .before .before .before .before .before .before .before .before .before .before .before .before .before .before .before .before .before .inv .ensures) (c .before .before .before .before .before .before .before .before .before .before .before .before .before .before .before .before .before .before .before .before .before .before .before .before .before .before .before .before .inv2 .ensures) (c .before .before .before .before .before .before .before .before .before .before .before .before .before .before .before .before .before .before .before .before .before .before .before .before .before .before .before .xor .ensures) (c .before .before .before .before .before .before .before .before .before .before .before .before .before .before .before .before .before .before .before .before .before .before .before .before .before .if2 .left)
+    (c .before .before .before .before .from-bool .ensures) (c .before .before .walked .ensures))
 
 pub walk-pair-spec : {M : Type 1} → statement M
 walk-pair-spec =
@@ -170,31 +110,27 @@ walk-pair-spec =
     same-length
     same-length-2
     returns
-    small-requires
-    same-length-3
-    same-length-4
-    returns-2
-    knows-requires
-    same-length-5
-    same-length-6
-    returns-3
-    walk-on-requires-2
     inv-requires
     inv-requires-2
     xor-requires
+    returns-2
+    small-requires
+    same-length-3
+    same-length-4
+    returns-3
+    knows-requires
+    same-length-5
+    same-length-6
+    returns-4
+    look-requires
+    enum-known-known
     same-length-7
     same-length-8
-    returns-4
+    returns-5
     enum-told
-    know-requires
-    enum-told-2
-    enum-told-3
+    ask-requires
+    from-bool-requires
+    walked-requires
     same-length-9
     same-length-10
-    returns-5
-    same-length-11
-    same-length-12
-    returns-6
-    same-length-13
-    same-length-14
-    returns-7)
+    returns-6)
