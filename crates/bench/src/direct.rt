@@ -20,7 +20,7 @@ ghost use Rattle.make.specs.Made.{MadeIs, MadeAllIs};
 ghost use Rattle.make.specs.Given.{KindReady, kindGiven};
 ghost use Rattle.lent_kind.specs.Lent.{plainArgs, withFlag};
 ghost use Rattle.meeting.specs.Asks.{Pair};
-ghost use Rattle.unify_roots.specs.Leaves.{Leaves};
+ghost use Rattle.unify_enter.specs.Leaves.{Leaves};
 ghost use Rattle.copy.specs.Whole.{ImportReady, ImportedIs};
 ghost use Rattle.walk.specs.Asks.{Stands};
 ghost use Rattle.append.specs.Appended.{Appended};

@@ -24,7 +24,7 @@ use Rattle.layout.proofs.Laws.{length-decode}
 use Rattle.refusals.proofs.Laws.{test-passed}
 use Rattle.recall.specs.Memory.{Begun}
 use Rattle.meeting.specs.Asks.{SoundWords}
-use Rattle.unify_roots.specs.Leaves.{Leaves}
+use Rattle.unify_enter.specs.Leaves.{Leaves}
 use Rattle.unify_lists.specs.Lent.{Lists, Objects, Signatures}
 use Rattle.store.specs.Entries.{entryNames, entryTypes}
 use Rattle.unify_lists.proofs.CallerLaws.{given-lists, given-objects, given-signatures}

@@ -29,8 +29,8 @@ use Rattle.scope.proofs.SoundLaws.{SoundNodes}
 use Rattle.scope.proofs.UnifyKept.{Stable, stable-kinds, keeps, nodes-stable}
 use Rattle.heed.proofs.Laws.{SelfsKept, selfs-grow}
 use Rattle.meeting.specs.Meets.{BothKnown}
-use Rattle.unify_roots.proofs.Kept.{deep-sim}
-use Rattle.unify_roots.proofs.Laws.{root-find, unify-roots}
+use Rattle.unify_enter.proofs.walks.Kept.{deep-sim}
+use Rattle.unify_enter.proofs.walks.Laws.{root-find, unify-roots}
 
 module _ (e : Env) {ns : List Node} (ok : SoundNodes e ns) (f : ℕ) (a b : Ty) (ha : a .idx < length ns) (hb : b .idx < length ns)
     (ra : isRoot (at ns (a .idx)) ≡ true) (rb : isRoot (at ns (b .idx)) ≡ true) where

@@ -30,12 +30,12 @@ use Rattle.meeting.specs.Steps.{stepsMean, StepsReady}
 use Rattle.meeting.specs.Meets.{does, pairsOf, BothKnown}
 use Rattle.meeting.specs.declared.Steps.{Steps}
 use Rattle.meeting.specs.declared.Meeting.the-variants.{Kids}
-use Rattle.unify_roots.specs.Leaves.{Leaves}
+use Rattle.unify_enter.specs.Leaves.{Leaves}
 use Rattle.unify.specs.Asked.{Asked, Unified}
 use Rattle.unify_enter.specs.Enters.{AtRoots, Left}
 use Rattle.unify_enter.proofs.Laws.{words-with, words-add, went, deep-enough}
-use Rattle.unify_roots.proofs.Kept.{pair-sound, pair-selfs, run-sound}
-use Rattle.unify_roots.proofs.Laws.{by-words, below}
+use Rattle.unify_enter.proofs.walks.Kept.{pair-sound, pair-selfs, run-sound}
+use Rattle.unify_enter.proofs.walks.Laws.{by-words, below}
 use Rattle.unify.proofs.Closing.{closes}
 
 -- sound words stay so

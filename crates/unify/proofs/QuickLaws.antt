@@ -21,8 +21,8 @@ use Rattle.merge.specs.Quick.{bareNode, loneNode, nilNode, Quick, OneNil}
 use Rattle.heed.specs.Told.{Moved, QuickTold, SmallTold}
 use Rattle.heed.proofs.Laws.{since-same, recalls-moved, marks-kept, moved-forgot}
 use Rattle.meeting.specs.Asks.{Pair}
-use Rattle.unify_roots.proofs.Laws.{unify-roots}
-use Rattle.unify_roots.proofs.SmallLaws.{lone-root, lone-bind, lone-apart, lone-kinds, nil-root, nil-meet}
+use Rattle.unify_enter.proofs.walks.Laws.{unify-roots}
+use Rattle.unify_enter.proofs.walks.SmallLaws.{lone-root, lone-bind, lone-apart, lone-kinds, nil-root, nil-meet}
 use Rattle.unify.specs.Asked.{Asked, Unified}
 use Rattle.unify_enter.proofs.Laws.{words-add, asked-pair}
 use Rattle.unify.proofs.Laws.{words-selfs}

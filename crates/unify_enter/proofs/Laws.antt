@@ -48,8 +48,8 @@ use Rattle.unify_enter.specs.Asked.{Asked, Unified}
 use Rattle.unify_enter.specs.Enters.{Climbed, AtRoots, Left, Enters}
 use Rattle.unify_enter.specs.declared.Entered.{Entered}
 use Rattle.unify_enter.specs.declared.Entered.the-variants.{Done, Kids}
-use Rattle.unify_roots.specs.Walk.{Childless, WalkAsks, WalkTold}
-use Rattle.unify_roots.proofs.Laws.{by-words, unify-deep, unify-roots}
+use Rattle.unify_enter.specs.Walk.{Childless, WalkAsks, WalkTold}
+use Rattle.unify_enter.proofs.walks.Laws.{by-words, unify-deep, unify-roots}
 
 -- sound words
 

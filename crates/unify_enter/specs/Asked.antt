@@ -10,7 +10,7 @@ use Rattle.layout.specs.Words.{decode}
 use Rattle.recall.specs.Memory.{clockOf}
 use Rattle.heed.specs.Recalls.{Recalls, Since}
 use Rattle.meeting.specs.Asks.{Pairs}
-use Rattle.unify_roots.specs.Leaves.{Leaves}
+use Rattle.unify_enter.specs.Leaves.{Leaves}
 
 -- pairs inside n sound nodes, a depth that is enough for them, and a memory m that holds only what is so
 pub record Asked (x : Texts) (ws ks m : List ℕ) (n d : ℕ) (ps : List (Ty × Ty)) : Type 0 where

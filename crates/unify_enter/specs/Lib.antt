@@ -1,2 +1,4 @@
+pub mod Leaves
+pub mod Walk
 pub mod Asked
 pub mod Enters

@@ -1,5 +1,7 @@
 // Two types before their children: an answer, or the children of two roots, to be unified first. This is apart from the cycle of `unify`, whose frames and proof stay
 // small by that.
+pub mod walks;
+
 ghost use Rattle.scope.specs.Types.{tyOf};
 ghost use Rattle.names.specs.Place.{texts};
 ghost use mathlib.Core.List.{[], _∷_};
@@ -17,7 +19,7 @@ pub enum Entered {
     Kids(Steps, u32, Type, Type),
 }
 
-// What walks is `unify_roots`: two roots of which one has no kind at once, others once both roots are found and have met. A pair of roots with children is looked up in
+// What walks is the module `walks`: two roots of which one has no kind at once, others once both roots are found and have met. A pair of roots with children is looked up in
 // the memory here.
 pub fn enter<'a>(
     ws: &mut [u32],
@@ -38,14 +40,14 @@ pub fn enter<'a>(
         return Entered::Done(UnifyResult::Failure);
     }
     if meeting::bare_roots(ws, n, a, b) {
-        return Entered::Done(unify_roots::walk_pair(ws, ks, n, memory, a, b));
+        return Entered::Done(walks::walk_pair(ws, ks, n, memory, a, b));
     }
     recall::visited(memory, 1);
     let ra = heed::find(ws, n, memory, a);
     let rb = heed::find(ws, n, memory, b);
     let m = meeting::meet(ws, ks, n, rule, text, ra, rb);
     match m {
-        Meeting::Walk => Entered::Done(unify_roots::walk_pair(ws, ks, n, memory, ra, rb)),
+        Meeting::Walk => Entered::Done(walks::walk_pair(ws, ks, n, memory, ra, rb)),
         Meeting::Kids(p) => {
             let known = recall::look(memory, n, ra, rb);
             match known {

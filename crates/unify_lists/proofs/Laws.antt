@@ -31,7 +31,7 @@ use Rattle.heed.proofs.Laws.{since-same, since-then}
 use Rattle.meeting.specs.Asks.{Pairs}
 use Rattle.meeting.specs.Meets.{does}
 use Rattle.meeting.specs.Kids.{objectsOf}
-use Rattle.unify_roots.specs.Leaves.{Leaves}
+use Rattle.unify_enter.specs.Leaves.{Leaves}
 use Rattle.unify.specs.Asked.{Asked, Unified}
 use Rattle.unify.proofs.Laws.{words-run, words-enough}
 use Rattle.unify.proofs.RunLaws.{Going, going-start, going-to, going-pair, going-on, going-end, does-after, ObjectLeft, object-start, object-ends}

@@ -40,7 +40,7 @@ use Rattle.promise.proofs.CallLaws.{call-back, call-done}
 use Rattle.recall.specs.Memory.{Begun}
 use Rattle.meeting.specs.Asks.{SoundWords}
 use Rattle.unify.specs.Asked.{Asked}
-use Rattle.unify_roots.specs.Leaves.{Leaves}
+use Rattle.unify_enter.specs.Leaves.{Leaves}
 use Rattle.unify_lists.proofs.CallerLaws.{given-pair}
 use Rattle.lent_tests.specs.Given.{pairTests, FirstOf}
 

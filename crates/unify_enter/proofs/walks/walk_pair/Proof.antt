@@ -1,11 +1,11 @@
--- `unify_roots::walk_pair` meets its contract: two nodes are `walk_on`'s; of two types of one node that agree, of one nil and of a marked root nothing is to be done, and
+-- `unify_enter::walks::walk_pair` meets its contract: two nodes are `walk_on`'s; of two types of one node that agree, of one nil and of a marked root nothing is to be done, and
 -- anything else is asked of the memory, and then of a walk.
 -- Assumes nothing.
-use Rattle.unify_roots.proofs.Laws.{walk-agrees, walk-known, walk-inside, walk-told, own-asks, own-tidy, walk-own}
-use Rattle.unify_roots.proofs.SmallLaws.{small-walks, small-walk-asks, small-walk-not}
+use Rattle.unify_enter.proofs.walks.Laws.{walk-agrees, walk-known, walk-inside, walk-told, own-asks, own-tidy, walk-own}
+use Rattle.unify_enter.proofs.walks.SmallLaws.{small-walks, small-walk-asks, small-walk-not}
 use borrow.Author.Needs.{needs}
-use Rattle.unify_roots.proofs.walk_pair.Statement.{statement}
-use Rattle.unify_roots.proofs.walk_pair.Tie as tie
+use Rattle.unify_enter.proofs.walks.walk_pair.Statement.{statement}
+use Rattle.unify_enter.proofs.walks.walk_pair.Tie as tie
 
 idx-requires : tie.Need-idx-requires
 idx-requires c κs = search needs

@@ -44,8 +44,8 @@ use Rattle.meeting.specs.Meets.{walks, walkedBy, WalkedTo}
 use Rattle.meeting.specs.declared.Walked.{Walked}
 use Rattle.meeting.specs.declared.Walked.the-variants.{Done, Bind}
 use Rattle.own_inverse.specs.Own.{OwnAsks, OwnTold}
-use Rattle.unify_roots.specs.Walk.{Childless, WalkAsks, WalkTold}
-use Rattle.unify_roots.proofs.Kept.{pair-selfs}
+use Rattle.unify_enter.specs.Walk.{Childless, WalkAsks, WalkTold}
+use Rattle.unify_enter.proofs.walks.Kept.{pair-selfs}
 
 -- sound words
 

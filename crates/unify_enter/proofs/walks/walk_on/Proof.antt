@@ -1,9 +1,9 @@
--- `unify_roots::walk_on` meets its contract: what the memory tells, an answer of a walk that is noted where it is a Failure, or a merge of which the memory is told.
+-- `unify_enter::walks::walk_on` meets its contract: what the memory tells, an answer of a walk that is noted where it is a Failure, or a merge of which the memory is told.
 -- Assumes nothing.
-use Rattle.unify_roots.proofs.Laws.{walk-told, walk-done, walk-binds}
+use Rattle.unify_enter.proofs.walks.Laws.{walk-told, walk-done, walk-binds}
 use borrow.Author.Needs.{needs}
-use Rattle.unify_roots.proofs.walk_on.Statement.{statement}
-use Rattle.unify_roots.proofs.walk_on.Tie as tie
+use Rattle.unify_enter.proofs.walks.walk_on.Statement.{statement}
+use Rattle.unify_enter.proofs.walks.walk_on.Tie as tie
 
 look-requires : tie.Need-look-requires
 look-requires c κs = search needs

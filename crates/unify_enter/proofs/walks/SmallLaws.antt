@@ -27,8 +27,8 @@ use Rattle.merge.proofs.QuickLaws.{bare-none}
 use Rattle.heed.specs.Told.{SmallTold}
 use Rattle.meeting.specs.Asks.{Pair}
 use Rattle.meeting.specs.Meets.{walks}
-use Rattle.unify_roots.specs.Walk.{WalkAsks, WalkTold}
-use Rattle.unify_roots.proofs.Laws.{walk-still, walk-merged}
+use Rattle.unify_enter.specs.Walk.{WalkAsks, WalkTold}
+use Rattle.unify_enter.proofs.walks.Laws.{walk-still, walk-merged}
 
 -- roots without children
 

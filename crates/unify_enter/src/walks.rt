@@ -3,7 +3,7 @@
 // found so, and not walked again. A walk that fails is remembered until a node changes.
 ghost use mathlib.Core.Path.{_≡_};
 ghost use Rattle.scope.specs.Types.{tyOf};
-ghost use Rattle.unify_roots.specs.Walk.{WalkAsks, WalkTold};
+ghost use Rattle.unify_enter.specs.Walk.{WalkAsks, WalkTold};
 use meeting::Walked;
 use recall::Recalled;
 use types::Type;

@@ -13,7 +13,7 @@ use Rattle.heed.specs.Recalls.{Recalls, Since}
 use Rattle.merge.specs.Meaning.{Adds}
 use Rattle.meeting.specs.Asks.{Roots}
 use Rattle.meeting.specs.Meets.{walks}
-use Rattle.unify_roots.specs.Leaves.{Leaves}
+use Rattle.unify_enter.specs.Leaves.{Leaves}
 
 -- no child is unified, however one level down is
 abbrev pub Childless : Texts → ℕ → List Node → Ty → Ty → Type 0

@@ -1,2 +1,0 @@
-pub mod Leaves
-pub mod Walk
