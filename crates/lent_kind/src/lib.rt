@@ -8,10 +8,9 @@ ghost use Rattle.scope.specs.Kinds.{flagOf};
 ghost use Rattle.scope.specs.Calls.{firstBroken};
 ghost use Rattle.chart.specs.Env.{chartIn, chartAlone};
 ghost use Rattle.layout.specs.Words.{childWords};
-ghost use Rattle.layout.specs.Meaning.{slotMeans};
 ghost use Rattle.store.specs.Entries.{entryCount};
 ghost use Rattle.refusals.specs.Codes.{codeOf};
-ghost use Rattle.lent_kind.specs.Lent.{withFlag, given, plainArgs, bareSlot, TypesPut, listTests, kindTests};
+ghost use Rattle.lent_kind.specs.Lent.{withFlag, given, plainArgs, TypesPut, listTests, kindTests};
 use layout::CHILD_WORDS;
 use layout::Slot;
 use make::Head;
@@ -90,16 +89,6 @@ pub fn list_refusal(inside: bool, n: usize) -> u32
     }
 }
 
-// A child without a name.
-fn bare_slot(w: u32) -> Slot
-    ensures { λ r. ⌜ slotMeans r ≡ bareSlot w ⌝ }
-{
-    Slot {
-        ty: Type(w),
-        name: NO_NAME,
-    }
-}
-
 // The listed types as entries without names.
 pub fn put_types(es: &mut [u32], types: &[u32])
     requires { ⌜ childWords (length (now types)) ≤ length (now es) ⌝ }
@@ -107,7 +96,12 @@ pub fn put_types(es: &mut [u32], types: &[u32])
 {
     let mut i = 0;
     while i < types.len() {
-        layout::put_child(es, i, bare_slot(types[i]));
+        let w = types[i];
+        let slot = Slot {
+            ty: Type(w),
+            name: NO_NAME,
+        };
+        layout::put_child(es, i, slot);
         i += 1;
     }
 }

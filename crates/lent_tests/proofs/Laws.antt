@@ -1,17 +1,17 @@
 -- One law for each way out of the tests of arguments. Two lists are tested one after the other where scope tests both at once; a test of either has the same
 -- number, so the first that breaks is the same. Tests that a call lacks are passed.
 -- Assumes nothing.
-use mathlib.Core.Path.{_≡_, refl, ap, sym, _∙_}
+use mathlib.Core.Path.{_≡_, refl, ap, sym, _∙_, subst}
 use mathlib.Core.Bool.{Bool, true, false, not, _&&_, _||_, and-true, and-false, and-assoc, or-true, or-false, false≢true}
 use mathlib.Core.List.{List, [], _∷_, _++_}
-use mathlib.Core.Option.{Option, none}
+use mathlib.Core.Option.{Option, none, some}
 use Prim.Native.Nat.{ℕ, _%_, _≤_, _<_}
 use native.Mathlib.Decide.{decLt}
 use native.Mathlib.Omega.{arith}
 use lib.Dec.{eqb, ltb}
 use lib.ListN.{length, length-map, length-append}
 use borrow.Author.Tests.{eq-eqb, ne-eqb, eqb-true, lt-ltb, le-ltb, not-true, not-false}
-use Rattle.scope.specs.Base.{all}
+use Rattle.scope.specs.Base.{all, pick}
 use Rattle.scope.specs.Limits.{MAX-LIST}
 use Rattle.scope.specs.Names.{Name}
 use Rattle.scope.specs.Chart.{Env}
@@ -78,9 +78,6 @@ module _ {n : ℕ} {ts : Store → List (Bool × ℕ)} {A B : List Node → Bool
             row-absent z = row-inside UNDEFINED (rw (← ek, fk, ← el, fl, ← eg, not-true g z) refl)
 
             module _ (tg : not g ≡ false) {h : Bool} (eh : h ≡ q) where
-              pub row-absent-too : not h ≡ true → FirstOf n ts UNDEFINED
-              row-absent-too z = row-inside UNDEFINED (rw (← ek, fk, ← el, fl, ← eg, not-false g tg, ← eh, not-true h z) refl)
-
               pub row-defined : not h ≡ false → FirstOf n ts NO-REFUSAL
               row-defined z = row-inside NO-REFUSAL (rw (← ek, fk, ← el, fl, ← eg, not-false g tg, ← eh, not-false h z) refl)
 
@@ -115,10 +112,77 @@ pub defined-alone : (chart : List ℕ) (b : Beside) (rule text : List ℕ) (a : 
 defined-alone chart b rule text (Trait n ts) = refl
 defined-alone chart b rule text Error = refl
 
--- an error beside an impl type passes every test
-pub one-impl : (e : Env) (a : ImplType) {n r : ℕ} → FirstOf n (implsTests e a Error) r → FirstOf n (oneImplTests e a) r
+-- one impl type: an error beside it passes every test
+pub one-row : (e : Env) (a : ImplType)
+    → Row (oneImplTests e a) (λ ns. all (inStore ns) (implTypes a)) (λ ns. true) (tooMany (implTypes a)) false (implDefined e a) true
 unfolding implsTests oneImplTests
-one-impl e a t = record { code = t .code }
+one-row e a = record { is = λ s. impl-row e a Error .is s }
+
+pub one-error : (e : Env) {n : ℕ} → FirstOf n (oneImplTests e Error) NO-REFUSAL
+unfolding oneImplTests
+one-error e = record { code = λ s m. refl }
+
+-- of two numbers the smaller one that refuses
+
+abbrev isSecond : ℕ → ℕ → Bool
+isSecond x y = eqb x NO-REFUSAL || (not (eqb y NO-REFUSAL) && ltb y x)
+
+abbrev sooner : ℕ → ℕ → ℕ
+sooner x y = pick (isSecond x y) y x
+
+abbrev numberOf : Option ℕ → ℕ
+numberOf none = NO-REFUSAL
+numberOf (some n) = n
+
+number-code : (x : ℕ) → numberOf (codeOf x) ≡ x
+number-code x = go (eqb x NO-REFUSAL) refl
+  where
+    go : (b : Bool) → eqb x NO-REFUSAL ≡ b → numberOf (pick b none (some x)) ≡ x
+    go true e = sym (eqb-true x NO-REFUSAL e)
+    go false e = refl
+
+sooner-row : (a b v w p q : Bool) → row a b v w p q ≡ codeOf (sooner (numberOf (row a true v false p true)) (numberOf (row b true w false q true)))
+sooner-row false false v w p q = refl
+sooner-row false true v true p q = refl
+sooner-row false true v false p false = refl
+sooner-row false true v false p true = refl
+sooner-row true false true w p q = refl
+sooner-row true false false w false q = refl
+sooner-row true false false w true q = refl
+sooner-row true true true true p q = refl
+sooner-row true true true false p false = refl
+sooner-row true true true false p true = refl
+sooner-row true true false true false q = refl
+sooner-row true true false true true q = refl
+sooner-row true true false false false false = refl
+sooner-row true true false false false true = refl
+sooner-row true true false false true false = refl
+sooner-row true true false false true true = refl
+
+-- what one impl type answers, as a number
+unfoldable oneNumber : Env → ImplType → Store → ℕ
+oneNumber e a s = numberOf (row (all (inStore (s .nodes)) (implTypes a)) true (tooMany (implTypes a)) false (implDefined e a) true)
+
+one-number : (e : Env) (a : ImplType) {n x : ℕ} → FirstOf n (oneImplTests e a) x → (s : Store) → length (s .nodes) ≡ n → oneNumber e a s ≡ x
+unfolding oneNumber
+one-number e a {x = x} f s m = ap numberOf (sym (one-row e a .is s) ∙ f .code s m) ∙ number-code x
+
+module _ (e : Env) (a b : ImplType) {n x y : ℕ} (f : FirstOf n (oneImplTests e a) x) (g : FirstOf n (oneImplTests e b) y) where
+  both-numbers : (s : Store) → firstBroken (implsTests e a b s) ≡ codeOf (sooner (oneNumber e a s) (oneNumber e b s))
+  unfolding oneNumber
+  both-numbers s =
+      let f : Ty → Bool = inStore (s .nodes) in
+      impl-row e a b .is s
+      ∙ sooner-row (all f (implTypes a)) (all f (implTypes b)) (tooMany (implTypes a)) (tooMany (implTypes b)) (implDefined e a) (implDefined e b)
+
+  both : FirstOf n (implsTests e a b) (sooner x y)
+  both = record { code = λ s m. both-numbers s ∙ (λ k. codeOf (sooner (one-number e a f s m k) (one-number e b g s m k))) }
+
+  pub both-second : isSecond x y ≡ true → FirstOf n (implsTests e a b) y
+  both-second z = subst (λ (t : Bool). FirstOf n (implsTests e a b) (pick t y x)) z both
+
+  pub both-first : isSecond x y ≡ false → FirstOf n (implsTests e a b) x
+  both-first z = subst (λ (t : Bool). FirstOf n (implsTests e a b) (pick t y x)) z both
 
 -- two signatures: returns first, then parameters
 

@@ -1,18 +1,13 @@
 // What the public calls test of lent types, lists, entries and impl types: 3 over all types of all lists, however long these are, then 4, then 5. Any numbers
 // may be lent.
 ghost use mathlib.Core.Path.{_≡_};
-ghost use mathlib.Core.List.{List, []};
-ghost use Prim.Native.Nat.{ℕ};
-ghost use lib.ListN.{length};
-ghost use Rattle.scope.specs.Base.{all};
+ghost use mathlib.Core.List.{[]};
 ghost use Rattle.scope.specs.Types.{tyOf};
-ghost use Rattle.scope.specs.Nodes.{Node};
-ghost use Rattle.scope.specs.Sound.{inStore};
-ghost use Rattle.scope.specs.Calls.{tooMany, badEntries, implTypes, implDefined};
+ghost use Rattle.scope.specs.Calls.{tooMany, badEntries};
 ghost use Rattle.types.specs.Impls.{implMeans};
 ghost use Rattle.chart.specs.Env.{chartIn, chartAlone};
 ghost use Rattle.store.specs.Entries.{typesIn};
-ghost use Rattle.lent_tests.specs.Given.{pairTests, listTests, sigTests, objectTests, implsTests, oneImplTests, entriesIn, objectOf, FirstOf};
+ghost use Rattle.lent_tests.specs.Given.{pairTests, listTests, sigTests, objectTests, implsTests, oneImplTests, entriesIn, FirstOf};
 use kinds::OBJECT;
 use layout::CHILD_WORDS;
 use layout::Kind;
@@ -75,21 +70,6 @@ pub fn signatures(xs: &[u32], a: Type, ys: &[u32], b: Type, n: u32) -> u32
     lists(xs, ys, n)
 }
 
-// The kind of an object with so many entries.
-fn object_of(n: u32) -> Kind
-    ensures { λ r. ⌜ r ≡ objectOf n ⌝ }
-{
-    Kind {
-        code: OBJECT,
-        number: 0,
-        dual: false,
-        flex: 0,
-        name: NO_NAME,
-        first: 0,
-        count: n,
-    }
-}
-
 // Too many entries, no whole ones, or a bad name: "object names not strictly ascending". Names are read once their number is tested.
 fn bad_entries<'a>(xs: &[u32], rule: &'a [u8], text: &'a [u8]) -> bool
     ensures { λ r. ⌜ r ≡ badEntries (chartIn [] (now (rule .entry)) (now (text .entry))) (entriesIn (now (xs .entry))) ⌝ }
@@ -101,7 +81,17 @@ fn bad_entries<'a>(xs: &[u32], rule: &'a [u8], text: &'a [u8]) -> bool
     if xs.len() % CHILD_WORDS != 0 {
         return true;
     }
-    !kind_sound::names_fit(object_of(count as u32), xs, rule, text)
+    let width = count as u32;
+    let object = Kind {
+        code: OBJECT,
+        number: 0,
+        dual: false,
+        flex: 0,
+        name: NO_NAME,
+        first: 0,
+        count: width,
+    };
+    !kind_sound::names_fit(object, xs, rule, text)
 }
 
 // Two objects, by their entries.
@@ -124,64 +114,37 @@ pub fn objects<'a>(xs: &[u32], ys: &[u32], n: u32, rule: &'a [u8], text: &'a [u8
     NO_REFUSAL
 }
 
-// An impl type: the list beside an error is not read.
-fn impl_inside(a: Impl, xs: &[u32], n: u32) -> bool
-    ensures { λ r. ⌜ ((ns : List Node) → length ns ≡ n → r ≡ all (inStore ns) (implTypes (implMeans a (now (xs .entry))))) ⌝ }
+// One impl type. The list beside an error is not read. "a definition is absent or of another sort": a trait's record stands at its number.
+pub fn one_impl(a: Impl, xs: &[u32], n: u32, chart: &[u32]) -> u32
+    ensures { λ r. ⌜ FirstOf n (oneImplTests (chartAlone (now (chart .entry))) (implMeans a (now (xs .entry)))) r ⌝ }
 {
     match a {
-        Impl::Trait(_) => refusals::types_inside(xs, n),
-        Impl::Error => true,
+        Impl::Trait(i) => {
+            if !refusals::types_inside(xs, n) {
+                return OUTSIDE;
+            }
+            if too_many(xs) {
+                return UNMAKEABLE;
+            }
+            if !chart::is_trait(chart, i) {
+                return UNDEFINED;
+            }
+            NO_REFUSAL
+        }
+        Impl::Error => NO_REFUSAL,
     }
 }
 
-fn impl_too_many(a: Impl, xs: &[u32]) -> bool
-    ensures { λ r. ⌜ r ≡ tooMany (implTypes (implMeans a (now (xs .entry)))) ⌝ }
-{
-    match a {
-        Impl::Trait(_) => too_many(xs),
-        Impl::Error => false,
-    }
-}
-
-// "a definition is absent or of another sort": a trait's record stands at its number.
-fn impl_defined(a: Impl, chart: &[u32]) -> bool
-    ensures { λ r. ⌜ ((xs : List ℕ) → r ≡ implDefined (chartAlone (now (chart .entry))) (implMeans a xs)) ⌝ }
-{
-    match a {
-        Impl::Trait(i) => chart::is_trait(chart, i),
-        Impl::Error => true,
-    }
-}
-
-// Two impl types.
+// Two impl types: what is tested first has the smaller number.
 pub fn impls(a: Impl, xs: &[u32], b: Impl, ys: &[u32], n: u32, chart: &[u32]) -> u32
     ensures { λ r. ⌜ FirstOf n
         (implsTests (chartAlone (now (chart .entry))) (implMeans a (now (xs .entry))) (implMeans b (now (ys .entry)))) r ⌝ }
 {
-    if !impl_inside(a, xs, n) {
-        return OUTSIDE;
+    let first = one_impl(a, xs, n, chart);
+    let second = one_impl(b, ys, n, chart);
+    let sooner = (second != NO_REFUSAL) & (second < first);
+    if (first == NO_REFUSAL) | sooner {
+        return second;
     }
-    if !impl_inside(b, ys, n) {
-        return OUTSIDE;
-    }
-    if impl_too_many(a, xs) {
-        return UNMAKEABLE;
-    }
-    if impl_too_many(b, ys) {
-        return UNMAKEABLE;
-    }
-    if !impl_defined(a, chart) {
-        return UNDEFINED;
-    }
-    if !impl_defined(b, chart) {
-        return UNDEFINED;
-    }
-    NO_REFUSAL
-}
-
-// One impl type: an error beside it passes every test.
-pub fn one_impl(a: Impl, xs: &[u32], n: u32, chart: &[u32]) -> u32
-    ensures { λ r. ⌜ FirstOf n (oneImplTests (chartAlone (now (chart .entry))) (implMeans a (now (xs .entry)))) r ⌝ }
-{
-    impls(a, xs, Impl::Error, xs, n, chart)
+    first
 }

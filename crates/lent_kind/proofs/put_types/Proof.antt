@@ -20,14 +20,11 @@ abbrev μ-loop : tie.MeasureT-loop
 loop-holds : tie.Need-loop-holds Inv-loop μ-loop
 loop-holds c = (omega arith, (refl, listed-none))
 
-mul-bare-slot : tie.Need-mul-bare-slot Inv-loop μ-loop
-mul-bare-slot c = search needs
+mul-w : tie.Need-mul-w Inv-loop μ-loop
+mul-w c = search needs
 
-shared-slice-read-bare-slot : tie.Need-shared-slice-read-bare-slot Inv-loop μ-loop
-shared-slice-read-bare-slot c = omega arith
-
-bare-slot-requires : tie.Need-bare-slot-requires Inv-loop μ-loop
-bare-slot-requires c κs = search needs
+shared-slice-read-w : tie.Need-shared-slice-read-w Inv-loop μ-loop
+shared-slice-read-w c = omega arith
 
 put-child-requires : tie.Need-put-child-requires Inv-loop μ-loop
 put-child-requires c κs = omega arith
@@ -40,11 +37,13 @@ loop-less c = omega arith
 
 loop-again : tie.Need-loop-again Inv-loop μ-loop
 loop-again c =
-    let a = c .before .before .before .before .before .before .before .before .before .before .args in
-    let putChild = c .before .before .put-child in
-    let loop = c .before .before .before .before .before .before .before .loop in
-    let bareSlot = c .before .before .before .bare-slot in
-    (omega arith, (putChild .kept .0 ∙ loop .inv .1 .0, listed-more (a .types .now) (loop .i) (loop .inv .1 .1) (omega arith) (bareSlot .ensures) (putChild .ensures)))
+    let put = c .before .before in
+    let turn = put .before .before .before .before in
+    let start = turn .before .before .before in
+    let a = start .args in
+    let putChild = put .put-child in
+    let loop = turn .loop in
+    (omega arith, (putChild .kept .0 ∙ loop .inv .1 .0, listed-more (a .types .now) (loop .i) (loop .inv .1 .1) (omega arith) refl (putChild .ensures)))
 
 same-length : tie.Need-same-length Inv-loop μ-loop
 same-length c = c .before .loop .inv .1 .0
@@ -59,9 +58,8 @@ put-types-spec =
     Inv-loop
     μ-loop
     loop-holds
-    mul-bare-slot
-    shared-slice-read-bare-slot
-    bare-slot-requires
+    mul-w
+    shared-slice-read-w
     put-child-requires
     add-i
     loop-less

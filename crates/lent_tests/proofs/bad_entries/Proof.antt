@@ -1,5 +1,6 @@
 -- `lent_tests::bad_entries` meets its contract: too many entries, numbers past the last whole one, or else names as an object's kind has them.
 -- Assumes nothing.
+use mathlib.Core.Path.{refl}
 use mathlib.Core.List.{[]}
 use Rattle.chart.specs.Env.{chartIn}
 use Rattle.lent_tests.proofs.Laws.{entries-many, entries-torn, entries-named}
@@ -21,22 +22,20 @@ returns-2 c =
     let a = c .before .before .before .before .before .before .args in
     entries-torn (a .xs .now) (chartIn [] (a .rule .now) (a .text .now)) (c .if2 .taken)
 
-cast-object-of : tie.Need-cast-object-of
-cast-object-of c = search needs
-
-object-of-requires : tie.Need-object-of-requires
-object-of-requires c κs = search needs
+cast-width : tie.Need-cast-width
+cast-width c = search needs
 
 names-fit-requires : tie.Need-names-fit-requires
 names-fit-requires c κs = search needs
 
 returns-3 : tie.Need-returns-3
 returns-3 c =
-    let w = c .before .before in
-    let n = w .before .before in
-    let a = n .before .before .before .before .args in
-    entries-named (a .xs .now) (chartIn [] (a .rule .now) (a .text .now)) (n .entry-count .ensures) (w .before .if1 .left) (w .if2 .left)
-    (c .before .object-of .ensures) (c .names-fit .ensures)
+    let w = c .before in
+    let o = w .before in
+    let n = o .before in
+    let start = n .before .before .before .before in
+    let a = start .args in
+    entries-named (a .xs .now) (chartIn [] (a .rule .now) (a .text .now)) (n .entry-count .ensures) (o .if1 .left) (w .if2 .left) refl (c .names-fit .ensures)
 
 pub bad-entries-spec : {M : Type 1} → statement M
 bad-entries-spec =
@@ -45,7 +44,6 @@ bad-entries-spec =
     entry-count-requires
     returns
     returns-2
-    cast-object-of
-    object-of-requires
+    cast-width
     names-fit-requires
     returns-3)
