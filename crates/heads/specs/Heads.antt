@@ -1,5 +1,5 @@
 -- The header with other counts, and the words of a slot that is not used.
-use mathlib.Core.List.{List, [], _∷_}
+use mathlib.Core.List.{List, _∷_}
 use Prim.Native.Nat.{ℕ}
 use lib.ListN.{drop}
 use Rattle.layout.specs.Meaning.{wordsOf, plainCell}

@@ -15,7 +15,6 @@ use Rattle.scope.specs.Force.{findRelated}
 use Rattle.scope.proofs.MarkLaws.{good, newGood, beside-good, self-beside}
 use Rattle.layout.specs.Words.{decode}
 use Rattle.layout.specs.Meaning.{kindMeans, readAt, heldIn, Clean}
-use Rattle.layout.specs.declared.Held.{Held}
 use Rattle.layout.proofs.Laws.{length-decode}
 use Rattle.layout.proofs.HeldLaws.{held-by}
 use Rattle.inverse.specs.Marked.{goodBy, goodAt, Beside, MarkedAll}

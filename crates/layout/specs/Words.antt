@@ -1,9 +1,9 @@
 -- The layout: a store in three lent slices of numbers. `head` holds the counts, the capacities, the remembered types and the report count; `nodes`
 -- twelve numbers for each node; `kids` four for each child. Numbers past what the capacities need are no part of the store.
-use mathlib.Core.List.{List, [], _∷_, _++_, map}
-use mathlib.Core.Bool.{Bool, true, false, not, _&&_, _||_}
+use mathlib.Core.List.{List, map}
+use mathlib.Core.Bool.{Bool, _&&_}
 use mathlib.Core.Option.{Option, none, some}
-use Prim.Native.Nat.{ℕ, zero, suc, _+_, _*_, _-_}
+use Prim.Native.Nat.{ℕ, _+_, _*_, _-_}
 use lib.Dec.{eqb, leb}
 use lib.ListN.{length, getD, take, drop}
 use Rattle.scope.specs.Base.{pick, all, from, isSome, orElse}

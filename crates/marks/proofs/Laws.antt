@@ -1,14 +1,14 @@
 -- A mark is a bit of its node's word: setting one leaves the others as they were. What each function does to the words, and so to what is marked.
 -- Assumes nothing.
 use mathlib.Core.Path.{_≡_, refl, ap, sym, subst, _∙_}
-use mathlib.Core.Bool.{Bool, true, false}
+use mathlib.Core.Bool.{false}
 use mathlib.Core.List.{List, [], _∷_}
 use mathlib.Core.Logic.{_⊎_, inl, inr}
 use Prim.Native.Nat.{ℕ, zero, suc, _+_, _-_, _*_, _/_, _%_, _^_, _<_, _≤_, max}
 use native.Mathlib.Omega.{arith}
 use native.Mathlib.Nat.{mod-lt, div-eq-of-lt, zero-div}
 use native.Mathlib.Decide.{ℕ-discrete, decLt}
-use lib.Bits.{bitOr, or-step, or-shr, shifted-half, shifted-even}
+use lib.Bits.{bitOr, or-step, or-shr, shifted-even}
 use lib.Pow.{pow-lt, pow-add, shl-exact, shl-shr}
 use lib.Dec.{eqb, lit<}
 use borrow.Author.Tests.{eqb-true}

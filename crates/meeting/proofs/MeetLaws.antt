@@ -49,7 +49,7 @@ use Rattle.plan.specs.Meaning.{namesFrom, planMeans, Planned}
 use Rattle.plan.specs.declared.Plan.{Plan}
 use Rattle.plan.proofs.Laws.{object-names}
 use Rattle.walk.specs.Asks.{Walks}
-use Rattle.meeting.specs.Asks.{SoundWords, Pair, Tops, Inside}
+use Rattle.meeting.specs.Asks.{SoundWords, Pair, Tops}
 use Rattle.meeting.specs.Steps.{Ascends}
 use Rattle.meeting.specs.Meets.{does, walks, walkedBy, Met, OneNode, Bare, WalkedTo, bareStates, bareNodes, bareRoots}
 use Rattle.meeting.specs.declared.Meeting.the-variants.{Walk, Kids}

@@ -27,10 +27,10 @@ use Rattle.plan.specs.Meaning.{kidsFrom, planMeans, Over, PlanOver}
 use Rattle.plan.specs.declared.Runs.{Runs}
 use Rattle.plan.specs.declared.Plan.{Plan}
 use Rattle.plan.specs.declared.Plan.the-variants as plans
-use Rattle.meeting.specs.Steps.{stepsMean, Spans, RunsLie, Ascends, StepsReady, PlanSpans, PlanReady, Stepped, Lasts, Returns}
+use Rattle.meeting.specs.Steps.{Spans, RunsLie, Ascends, PlanSpans, PlanReady, Stepped, Returns}
 use Rattle.meeting.specs.declared.Steps.{Steps}
 use Rattle.meeting.specs.declared.Steps.the-variants.{Answer, Run, Object}
-use Rattle.meeting.proofs.KidLaws.{kid-length, kidTy, front-kids, last-kid, no-kid}
+use Rattle.meeting.proofs.KidLaws.{kid-length, kidTy, front-kids, last-kid}
 
 -- two runs of children
 

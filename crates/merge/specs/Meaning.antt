@@ -1,7 +1,7 @@
 -- What merging two roots asks of the node words and does to them: scope's join, merge, bind and settle on the nodes that the words hold, whatever
 -- their children's words ks are.
 use mathlib.Core.Path.{_≡_}
-use mathlib.Core.Bool.{Bool, true, false}
+use mathlib.Core.Bool.{true}
 use mathlib.Core.List.{List}
 use Prim.Native.Nat.{ℕ, _+_, _<_, _≤_}
 use lib.ListN.{length, drop}

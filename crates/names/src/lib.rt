@@ -1,7 +1,7 @@
 // "A name is a part of the rule text or of the chart text, compared as bytes." Its lookup returns a part of one of the two lent slices. No call here asks anything of its arguments.
 ghost use mathlib.Core.Path.{_≡_};
 ghost use Prim.Native.Nat.{min};
-ghost use lib.ListN.{length, take, drop};
+ghost use lib.ListN.{take, drop};
 ghost use Rattle.scope.specs.Names.{textOf, bytes, inText, nameOk, eqBytes, ltBytes};
 ghost use Rattle.names.specs.Place.{texts, nameOf};
 use scope::MAX_NAME;

@@ -1,7 +1,7 @@
 -- One law for each way out of `by_memory` and `ask`. A marked node's root is good and so is all below it, which is what a walk beside marks asks; and of what such a walk
 -- found good every root is its own inverse.
 -- Assumes nothing.
-use mathlib.Core.Path.{_≡_, refl, ap, ap₂, sym, subst, _∙_}
+use mathlib.Core.Path.{_≡_, refl, ap₂, sym, subst, _∙_}
 use mathlib.Core.Bool.{Bool, true, false}
 use mathlib.Core.List.{List}
 use mathlib.Core.Logic.{_⊎_, inl, inr}
@@ -9,7 +9,7 @@ use Prim.Native.Nat.{ℕ, _<_}
 use native.Mathlib.Omega.{arith}
 use lib.ListN.{length, getD, replicate}
 use Rattle.scope.specs.Limits.{MAX-NODES}
-use Rattle.scope.specs.Types.{Ty, ty, tyOf}
+use Rattle.scope.specs.Types.{ty, tyOf}
 use Rattle.scope.specs.Nodes.{Node}
 use Rattle.scope.specs.Unify.{selfInverseAt, selfInverseOf}
 use Rattle.scope.proofs.View.{view}

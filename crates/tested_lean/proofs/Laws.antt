@@ -9,17 +9,17 @@ use native.Mathlib.Omega.{arith}
 use lib.ListN.{length}
 use borrow.Author.Tests.{lt-ltb, le-ltb}
 use Rattle.scope.specs.Types.{Ty, tyOf}
-use Rattle.scope.specs.Nodes.{Node, Store, find}
+use Rattle.scope.specs.Nodes.{Node, find}
 use Rattle.scope.specs.Sound.{inStore}
 use Rattle.scope.specs.Refusals.{OUTSIDE, NODES-FULL}
 use Rattle.scope.specs.Make.{newVar, makeError, makeNil}
 use Rattle.scope.specs.Calls.{firstBroken, roomTests, nodesFor, newVarCall, errorCall, nilCall, findCall, findMutCall}
 use Rattle.chart.specs.declared.Beside.{Beside}
 use Rattle.types.specs.declared.«Type».{«Type»}
-use Rattle.layout.specs.Words.{HEAD-WORDS, nodesMade, childrenMade, nodeRoom, childRoom, storeIn}
+use Rattle.layout.specs.Words.{nodesMade, childrenMade, nodeRoom, childRoom, storeIn}
 use Rattle.layout.specs.Meaning.{typeOf, headerIn, rememberedMeans, Linked, Lies}
 use Rattle.layout.specs.declared.Remembered.{Remembered}
-use Rattle.layout.specs.declared.Remembered.the-variants.{Is, Nothing}
+use Rattle.layout.specs.declared.Remembered.the-variants.{Is}
 use Rattle.layout.specs.declared.TypeState.the-variants.{Unknown}
 use Rattle.layout.proofs.StoreLaws.{clean-lies}
 use Rattle.store.specs.Holds.{Ready}

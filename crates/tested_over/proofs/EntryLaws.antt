@@ -1,6 +1,6 @@
 -- The listed types as entries: as many, each without a name. So a kind whose row has no names, over these, is the kind over the list.
 -- Assumes nothing.
-use mathlib.Core.Path.{_≡_, refl, ap, sym, _∙_}
+use mathlib.Core.Path.{_≡_, refl}
 use mathlib.Core.List.{List, [], _∷_}
 use Prim.Native.Nat.{ℕ, zero, suc, _+_, _*_, _<_}
 use native.Mathlib.Omega.{arith}
@@ -10,7 +10,7 @@ use Rattle.scope.specs.Kinds.{NO-NAMES, rowOf}
 use Rattle.scope.specs.Calls.{over}
 use Rattle.layout.specs.Words.{childWords, slotAt}
 use Rattle.store.specs.Entries.{entryCount, typesIn}
-use Rattle.lent_kind.specs.Lent.{given, plainArgs, bareSlot, TypesPut}
+use Rattle.lent_kind.specs.Lent.{given, plainArgs, bareSlot}
 use Rattle.lent_kind.proofs.ListLaws.{part-given}
 use Rattle.tested_over.specs.Over.{entriesOf}
 

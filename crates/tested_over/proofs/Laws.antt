@@ -15,7 +15,6 @@ use Rattle.scope.specs.Sound.{inStore}
 use Rattle.scope.specs.Make.{new}
 use Rattle.scope.specs.Refusals.{UNMAKEABLE}
 use Rattle.scope.specs.Calls.{firstBroken, roomTests, over}
-use Rattle.chart.specs.declared.Beside.{Beside}
 use Rattle.chart.specs.Env.{chartIn, chartAlone}
 use Rattle.types.specs.declared.«Type».{«Type»}
 use Rattle.layout.specs.Words.{HEAD-WORDS, childWords, childrenMade, storeIn}
@@ -34,7 +33,7 @@ use Rattle.make.specs.declared.Head as make
 use Rattle.make.proofs.MakeLaws.{RoomIn, ready-room, pushable-in}
 use Rattle.make.proofs.NewLaws.{kind-head, entries-ready, children-room, kind-made}
 use Rattle.refusals.specs.Codes.{codeOf}
-use Rattle.promise.specs.Promise.{Reply, value, refusal, Promised, Tested}
+use Rattle.promise.specs.Promise.{Reply, value, refusal, Promised}
 use Rattle.lent_kind.specs.declared.KindArgs.{KindArgs}
 use Rattle.lent_kind.specs.Lent.{withFlag, given, plainArgs, kindTests, listTests}
 use Rattle.call_make.proofs.tested.RoomLaws.{lent-within}

@@ -1,11 +1,10 @@
 -- One law for each way out of `plain_refusal`: 4 and 5 of a kind without names over n types, which look at its code, its number and n alone.
 -- Assumes nothing.
-use mathlib.Core.Path.{_≡_, refl, ap, sym, _∙_}
+use mathlib.Core.Path.{_≡_, refl, sym, _∙_}
 use mathlib.Core.Bool.{Bool, true, false, _&&_}
-use mathlib.Core.List.{List, [], _∷_}
+use mathlib.Core.List.{List, []}
 use Prim.Native.Nat.{ℕ, _≤_, _<_}
-use native.Mathlib.Omega.{arith}
-use lib.Dec.{eqb, ltb, leb}
+use lib.Dec.{eqb, ltb}
 use lib.ListN.{length}
 use borrow.Author.Tests.{lt-ltb, le-ltb, le-leb}
 use Rattle.scope.specs.Base.{pick}
@@ -13,7 +12,7 @@ use Rattle.scope.specs.Limits.{MAX-WIDTH, KINDS}
 use Rattle.scope.specs.Names.{Texts}
 use Rattle.scope.specs.Chart.{Env}
 use Rattle.scope.specs.Types.{Ty}
-use Rattle.scope.specs.Kinds.{NO-NAMES, CLOSURE, rowOf, flagOf, headOf, shapeFits, flexOk, numberOk, namesOk, makeable, defined}
+use Rattle.scope.specs.Kinds.{NO-NAMES, CLOSURE, rowOf, flagOf, shapeFits, flexOk, numberOk, namesOk, makeable, defined}
 use Rattle.scope.specs.Refusals.{UNMAKEABLE, UNDEFINED}
 use Rattle.scope.specs.Calls.{firstBroken, over, kindMade}
 use Rattle.chart.specs.Env.{chartIn, chartAlone}

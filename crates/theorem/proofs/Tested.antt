@@ -2,7 +2,7 @@
 -- what holds a store that is sound, with a chart that is good, passes, and sound stays sound.
 -- Assumes nothing.
 use mathlib.Core.Path.{_≡_, refl, ap, sym, subst, _∙_}
-use mathlib.Core.Bool.{Bool, true, false}
+use mathlib.Core.Bool.{Bool, true}
 use mathlib.Core.List.{List, [], _∷_, _++_}
 use Prim.Native.Nat.{ℕ}
 use lib.Dec.{ltb}
@@ -16,7 +16,7 @@ use Rattle.scope.specs.Import.{MovedAll, export}
 use Rattle.scope.specs.Sound.{reads, sound}
 use Rattle.scope.specs.Refusals.{UNMAKEABLE, NODES-FULL, CHILDREN-FULL}
 use Rattle.scope.specs.Calls.{Outcome, done, openTest, lentTests, outside, tooMany, shortFor, Exported, exportCall}
-use Rattle.scope.specs.Demand.{Call, after}
+use Rattle.scope.specs.Demand.{after}
 use Rattle.scope.proofs.TestLaws.{or-no}
 use Rattle.scope.proofs.SoundLaws.{SoundFacts, facts-sound}
 use Rattle.scope.proofs.SoundKept.{opened-facts}
@@ -24,11 +24,8 @@ use Rattle.scope.proofs.ExportKept.{export-kept}
 use Rattle.scope.proofs.Steps.{judged-cases, all-inside}
 use Rattle.scope.proofs.Reached.{after-sound}
 use Rattle.store.specs.Entries.{typesIn}
-use Rattle.promise.specs.Exports.{ExportPromised}
-use Rattle.promise.specs.declared.DoneAnswer.the-variants.{Done}
 use Rattle.promise.proofs.Laws.{lent-chart, lent-facts, tested-clean}
-use Rattle.theorem.specs.Memory.{Memory, Fixed, env, lent, held, roomy, Opened, TestedWords}
-use Rattle.theorem.specs.Runs.{Runs}
+use Rattle.theorem.specs.Memory.{Memory, Fixed, env, lent, held, roomy, TestedWords}
 use Rattle.theorem.specs.Tested.{TestedForms, StaysTested}
 use Rattle.theorem.proofs.StepLaws.{CleanWords, clean-reads, not-done}
 use Rattle.theorem.proofs.RunLaws.{opened-clean, opened-fresh, ended}

@@ -11,7 +11,7 @@ use Rattle.scope.specs.Names.{Texts}
 use Rattle.scope.specs.Types.{Ty}
 use Rattle.scope.specs.Nodes.{Node, at, isRoot}
 use Rattle.scope.specs.Answers as answers
-use Rattle.scope.specs.Unify.{Out, out, bound, unifyF}
+use Rattle.scope.specs.Unify.{out, bound, unifyF}
 use Rattle.types.specs.declared.UnifyResult.{UnifyResult}
 use Rattle.types.specs.declared.UnifyResult.the-variants.{Success}
 use Rattle.layout.specs.Words.{decode}

@@ -29,7 +29,6 @@ use Rattle.heed.proofs.Laws.{since-same, since-then}
 use Rattle.plan.specs.Meaning.{kidsFrom, namesFrom, planMeans}
 use Rattle.plan.specs.declared.Runs.{Runs}
 use Rattle.plan.specs.declared.Plan.the-variants as plans
-use Rattle.meeting.specs.Asks.{Pair}
 use Rattle.meeting.specs.Steps.{stepsMean, StepsReady, RunsLie, Ascends}
 use Rattle.meeting.specs.Meets.{does}
 use Rattle.meeting.specs.Kids.{objectsOf, slotPlace, soughtMeans, soughtIn}

@@ -1,7 +1,6 @@
 // Two roots of which no child is unified: one node, or one of them without a kind. What walks is here, apart from the cycle of `unify`, and so its marks stay out of the
 // cycle's frames. A root that was once found to be its own inverse stays so whatever merges: it is marked in the memory with all that a walk
 // found so, and not walked again. A walk that fails is remembered until a node changes.
-ghost use mathlib.Core.Path.{_≡_};
 ghost use Rattle.scope.specs.Types.{tyOf};
 ghost use Rattle.unify_enter.specs.Walk.{WalkAsks, WalkTold};
 use meeting::Walked;

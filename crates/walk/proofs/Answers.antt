@@ -13,7 +13,7 @@ use Rattle.scope.specs.Limits.{MAX-NODES}
 use Rattle.scope.specs.Chart.{Env}
 use Rattle.scope.specs.Types.{Ty, tyOf}
 use Rattle.scope.specs.Kinds.{REF}
-use Rattle.scope.specs.Nodes.{Node, at, isRoot, stateOf, find, kidsOf}
+use Rattle.scope.specs.Nodes.{Node, at, stateOf, find, kidsOf}
 use Rattle.scope.specs.Unify.{occurs}
 use Rattle.scope.specs.Force.{findRelated, isNil, none-mod, modOfRef, modOfState, getModF, getMod}
 use Rattle.scope.specs.Force as force

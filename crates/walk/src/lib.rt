@@ -1,10 +1,8 @@
 // What a type leads to: `occurs` and `self_inverse`, by a look at a root's children where that tells, and else by a walk that marks each root it meets. Beside them
 // what one root tells: `is_nil`, and `get_mod`, which looks through Refs. Each gives what scope's definition gives of the n nodes in ws, whose children lie in ks.
 ghost use mathlib.Core.Path.{_≡_};
-ghost use mathlib.Core.Bool.{not};
 ghost use Prim.Native.Nat.{_≤_, _<_};
-ghost use lib.Dec.{eqb};
-ghost use lib.ListN.{length, getD, set};
+ghost use lib.ListN.{length};
 ghost use Rattle.scope.specs.Types.{tyOf};
 ghost use Rattle.scope.specs.Unify.{occurs, selfInverseOf};
 ghost use Rattle.scope.specs.Force.{hasDef};

@@ -3,7 +3,6 @@
 use Rattle.scope.specs.Limits.{MAX-NODES}
 use mathlib.Core.Path.{refl}
 use borrow.Author.Tests.{le-leb, lt-leb}
-use native.Mathlib.Omega.{arith}
 use borrow.Author.Needs.{needs}
 use Rattle.call_unify.proofs.memory_words.Statement.{statement}
 use Rattle.call_unify.proofs.memory_words.Tie as tie

@@ -1,7 +1,6 @@
 -- `meeting::signature` meets its contract: signatures of one length are a run, others have their returns alone.
 -- Assumes nothing.
 use Rattle.meeting.proofs.StepLaws.{signature-whole, signature-lacks, signature-lacked, signature-returns}
-use borrow.Author.Needs.{needs}
 use Rattle.meeting.proofs.signature.Statement.{statement}
 use Rattle.meeting.proofs.signature.Tie as tie
 

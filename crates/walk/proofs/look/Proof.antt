@@ -1,6 +1,5 @@
 -- `walk::look` meets its contract. The invariant: what is left of the children tells what all of them tell. The measure is how many are left.
 -- Assumes nothing.
-use mathlib.Core.Path.{refl}
 use Prim.Native.Nat.{_-_}
 use native.Mathlib.Omega.{arith}
 use borrow.Author.Needs.{needs}

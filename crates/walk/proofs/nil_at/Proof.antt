@@ -1,9 +1,8 @@
 -- `walk::nil_at` meets its contract: the two tests are nilBy's.
 -- Assumes nothing.
-use mathlib.Core.Path.{refl, ap, sym, _∙_}
+use mathlib.Core.Path.{refl}
 use borrow.Author.Needs.{needs}
 use borrow.Author.Tests.{eq-eqb, ne-eqb}
-use Rattle.walk.specs.Read.{nilBy}
 use Rattle.walk.proofs.Laws.{nil-told}
 use Rattle.walk.proofs.nil_at.Statement.{statement}
 use Rattle.walk.proofs.nil_at.Tie as tie
