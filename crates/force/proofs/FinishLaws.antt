@@ -15,9 +15,11 @@ use Rattle.scope.specs.Force.{finishNode, finishInference, finishWhere}
 use Rattle.layout.specs.Words.{nodeWords, nodesMade, childrenMade, nodeRoom, childRoom, storeIn, clean}
 use Rattle.layout.specs.Meaning.{readAt, putAt, nodeSize, nodeMeans, nodeFits}
 use Rattle.layout.specs.declared.TypeState.the-variants.{Known, Unknown, InferenceFailed}
+use Rattle.layout.specs.declared.Kind.{Kind}
 use Rattle.layout.specs.declared.TypeNode.{TypeNode}
 use Rattle.layout.specs.declared.TypeNode.the-variants.{Root, Child}
 use Rattle.layout.proofs.Laws.{length-put}
+use Rattle.store.specs.Bare.{bareKind}
 use Rattle.store.specs.Holds.{Holds, Beyond, Became}
 use Rattle.store.proofs.Laws.{store-count, holds-clean, holds-read, holds-put, beyond-put, beyond-refl, beyond-trans, bare-means, bare-fits}
 use Rattle.force.specs.Finish.{defaultRoot, lacksKind, finishWords, chosen}
@@ -26,7 +28,8 @@ use Rattle.force.proofs.Laws.{Going, going-start, going-skip, going-put
 -- what the code does with the node w that it read
 
 module _ (ws : List ℕ) (n i : ℕ) {v w : TypeNode} {b : Bool} (e : w ≡ v) (s : b ≡ lacksKind w) where
-  pub finish-put : {z : ℕ} {d : TypeNode} {ws′ : List ℕ} → b ≡ true → z ≡ nodeSize w → d ≡ defaultRoot z → ws′ ≡ putAt ws n i d → ws′ ≡ finishWords ws n i v
+  pub finish-put : {z : ℕ} {k : Kind} {ws′ : List ℕ} → b ≡ true → z ≡ nodeSize w → k ≡ bareKind DEFAULT
+      → ws′ ≡ putAt ws n i (Root (Known (record { 0 = false }) k) z) → ws′ ≡ finishWords ws n i v
   finish-put t q r p = p ∙ rw (r, q, ← e, ← s, t) refl
 
   pub finish-leave : b ≡ false → ws ≡ finishWords ws n i v

@@ -7,7 +7,7 @@ ghost use lib.ListN.{length};
 ghost use Rattle.scope.specs.Force.{report, finishInference, finishWhere};
 ghost use Rattle.layout.specs.Words.{nodeWords, clean};
 ghost use Rattle.layout.specs.Meaning.{readAt};
-ghost use Rattle.force.specs.Finish.{defaultRoot, lacksKind, finishWords, chosen, Finished};
+ghost use Rattle.force.specs.Finish.{lacksKind, finishWords, chosen, Finished};
 ghost use Rattle.force.specs.Forcing.{reporting, ForcedIs};
 use kinds::DEFAULT;
 use layout::Header;
@@ -26,17 +26,6 @@ pub enum Forced {
     Failed,
 }
 
-// A root whose kind is Default.
-fn default_root(size: u32) -> TypeNode
-    ensures { λ r. ⌜ r ≡ defaultRoot size ⌝ }
-{
-    let kind = store::bare_kind(DEFAULT);
-    TypeNode::Root {
-        state: TypeState::Known(Inverted(false), kind),
-        size,
-    }
-}
-
 fn lacks_kind(node: TypeNode) -> bool
     ensures { λ r. ⌜ r ≡ lacksKind node ⌝ }
 {
@@ -50,14 +39,16 @@ fn lacks_kind(node: TypeNode) -> bool
     }
 }
 
-// Node i of n: a root without a kind gets one.
+// Node i of n: a root without a kind gets Default.
 fn finish_node(ws: &mut [u32], n: u32, i: TypeIdx)
     requires { ⌜ nodeWords n ≤ length (now ws) ⌝ }
     ensures { λ _. ⌜ now (ws .exit) ≡ finishWords (now (ws .entry)) n (i .0) (readAt (now (ws .entry)) n (i .0)) ⌝ }
 {
     let node = layout::node_at(ws, n, i);
     if lacks_kind(node) {
-        layout::put_node(ws, n, i, default_root(layout::size_of(node)));
+        let state = TypeState::Known(Inverted(false), store::bare_kind(DEFAULT));
+        let size = layout::size_of(node);
+        layout::put_node(ws, n, i, TypeNode::Root { state, size });
     }
 }
 

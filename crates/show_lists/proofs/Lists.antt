@@ -6,7 +6,10 @@ use mathlib.Core.List.{List, [], _∷_, _++_, map, append-nil}
 use Prim.Native.Nat.{ℕ, zero, suc, _+_, _≤_, _<_}
 use native.Mathlib.Nat.{zero-add}
 use native.Mathlib.Omega.{arith}
+use lib.Dec.{ltb}
 use lib.ListN.{length, getD}
+use borrow.Author.Tests.{ne-eqb, lt-ltb}
+use mir.Val.{boolByte}
 use Rattle.scope.specs.Base.{from}
 use Rattle.scope.specs.Names.{Texts}
 use Rattle.scope.specs.Types.{Ty, flip, tyOf}
@@ -21,6 +24,11 @@ use Rattle.show.specs.Level.{children, kidOf}
 use Rattle.show.proofs.Runs.{map-map, comma-suc, joined-run, commas-run}
 use Rattle.show.proofs.Turns.{Turn, turn-end}
 use Rattle.show_names.specs.Names.{comma}
+
+-- a comma, by whether one is due
+pub comma-any : (j : ℕ) → comma (boolByte (ltb 0 j)) ≡ comma j
+comma-any zero = refl
+comma-any (suc j) = rw (lt-ltb 0 (suc j) (omega arith), ne-eqb (suc j) 0 (λ e. omega (arith, e))) refl
 
 -- a list by its places
 

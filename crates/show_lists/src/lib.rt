@@ -7,23 +7,12 @@ ghost use Rattle.layout.specs.Meaning.{kindMeans};
 ghost use Rattle.store.specs.Entries.{typesIn};
 ghost use Rattle.walk.specs.Asks.{Stands};
 ghost use Rattle.append.specs.Appended.{Appended};
-ghost use Rattle.show_names.specs.Names.{comma};
 use chart::Beside;
 use layout::Kind;
 use show::show_all;
 use show_names::put_comma;
 use types::Inverted;
 use types::Type;
-
-// Between the types of a lent list.
-fn put_between(buf: &mut [u8], at: usize, j: usize) -> usize
-    ensures { λ r. ⌜ Appended (now (buf .entry)) at (now (buf .exit)) r (comma j) ⌝ }
-{
-    if j == 0 {
-        return at;
-    }
-    put_comma(buf, at, 1)
-}
 
 // The types of a lent list.
 pub fn show_list<'a>(
@@ -46,7 +35,7 @@ pub fn show_list<'a>(
     let mut p = at;
     let mut j: usize = 0;
     while j < xs.len() {
-        let q = put_between(buf, p, j);
+        let q = put_comma(buf, p, (0 < j) as u32);
         let t = Type(xs[j]);
         p = show_all(chart, beside, rule, text, ws, ks, n, buf, q, t);
         j += 1;

@@ -11,11 +11,11 @@ node-at-requires c κs = search needs
 lacks-kind-requires : tie.Need-lacks-kind-requires
 lacks-kind-requires c κs = search needs
 
+bare-kind-requires : tie.Need-bare-kind-requires
+bare-kind-requires c κs = search needs
+
 size-of-requires : tie.Need-size-of-requires
 size-of-requires c κs = search needs
-
-default-root-requires : tie.Need-default-root-requires
-default-root-requires c κs = search needs
 
 put-node-requires : tie.Need-put-node-requires
 put-node-requires c κs = search needs
@@ -29,8 +29,8 @@ returns c =
     let lacks-kind = c .before .before .before .before .before .before .before .lacks-kind in
     let if1 = c .before .before .before .before .before .before .if1 in
     let size-of = c .before .before .before .before .size-of in
-    let default-root = c .before .before .before .default-root in
-    finish-put _ _ _ (node-at .ensures) (lacks-kind .ensures) (if1 .taken) (size-of .ensures) (default-root .ensures) (c .before .before .put-node .ensures)
+    let bare-kind = c .before .before .before .before .before .bare-kind in
+    finish-put _ _ _ (node-at .ensures) (lacks-kind .ensures) (if1 .taken) (size-of .ensures) (bare-kind .ensures) (c .before .before .put-node .ensures)
 
 same-length-2 : tie.Need-same-length-2
 same-length-2 c = search needs
@@ -44,8 +44,8 @@ finish-node-spec =
     (tie.spec
     node-at-requires
     lacks-kind-requires
+    bare-kind-requires
     size-of-requires
-    default-root-requires
     put-node-requires
     same-length
     returns

@@ -11,7 +11,7 @@ use Rattle.chart.specs.Env.{envOf}
 use Rattle.layout.specs.Words.{decode}
 use Rattle.show.proofs.Turns.{Turn, turn-start, turn-next}
 use Rattle.show_names.specs.Names.{comma}
-use Rattle.show_lists.proofs.Lists.{item, list-end}
+use Rattle.show_lists.proofs.Lists.{item, comma-any, list-end}
 use Rattle.show_lists.proofs.show_list.Statement.{statement}
 use Rattle.show_lists.proofs.show_list.Tie as tie
 
@@ -25,14 +25,17 @@ abbrev μ-loop : tie.MeasureT-loop
 loop-holds : tie.Need-loop-holds Inv-loop μ-loop
 loop-holds c = turn-start _ _ _ _ _ _
 
-put-between-requires : tie.Need-put-between-requires Inv-loop μ-loop
-put-between-requires c κs = search needs
+cast-put-comma : tie.Need-cast-put-comma Inv-loop μ-loop
+cast-put-comma c = search needs
+
+put-comma-requires : tie.Need-put-comma-requires Inv-loop μ-loop
+put-comma-requires c κs = search needs
 
 mul-t15 : tie.Need-mul-t15 Inv-loop μ-loop
 mul-t15 c = search needs
 
-shared-slice-read-t20 : tie.Need-shared-slice-read-t20 Inv-loop μ-loop
-shared-slice-read-t20 c = search needs
+shared-slice-read-t19 : tie.Need-shared-slice-read-t19 Inv-loop μ-loop
+shared-slice-read-t19 c = search needs
 
 show-all-requires : tie.Need-show-all-requires Inv-loop μ-loop
 show-all-requires c κs = c .before .before .before .before .before .before .before .before .before .before .before .before .before .before .before .pre
@@ -46,8 +49,8 @@ loop-less c = omega (arith, c .before .before .before .before .before .before .b
 loop-again : tie.Need-loop-again Inv-loop μ-loop
 loop-again c =
     turn-next _ _ _ _ (c .before .before .before .before .before .before .before .before .before .before .loop .inv) (c .before .before .before .before .before .before
-    .before .before .before .loop-test .taken) (c .before .before .before .before .before .before .before .put-between .ensures) (c .before .before .show-all .ensures)
-    (c .before .before .show-all .kept .1 .1 .1 .1 .1 .1 .1 .0 ∙ c .before .before .before .before .before .before .before .put-between .kept .0 ∙ c .before .before
+    .before .before .before .loop-test .taken) (rw (comma-any _) at (c .before .before .before .before .before .before .before .put-comma .ensures)) (c .before .before .show-all .ensures)
+    (c .before .before .show-all .kept .1 .1 .1 .1 .1 .1 .1 .0 ∙ c .before .before .before .before .before .before .before .put-comma .kept .0 ∙ c .before .before
     .before .before .before .before .before .before .before .before .loop .inv .long)
 
 same-length : tie.Need-same-length Inv-loop μ-loop
@@ -63,9 +66,10 @@ show-list-spec =
     Inv-loop
     μ-loop
     loop-holds
-    put-between-requires
+    cast-put-comma
+    put-comma-requires
     mul-t15
-    shared-slice-read-t20
+    shared-slice-read-t19
     show-all-requires
     add-j
     loop-less
