@@ -16,10 +16,12 @@ use Rattle.scope.specs.Nodes.{Store}
 use Rattle.scope.specs.Sound.{Lent, reads, sound}
 use Rattle.scope.specs.Refusals.{BAD-CHART, UNSOUND, firstBroken, storeOf, lentTests}
 use Rattle.scope.specs.States.{Place, Book, LentBook, strayBook, readsBook, blank, sameRoom, placeSound, namesDiffer, bookSound, lentBookSound, bookTests}
-use Rattle.names.proofs.Tests.{both}
+use Rattle.names.proofs.Tests.{both, passes, fails}
 use Rattle.chart.specs.declared.Beside.{Beside}
 use Rattle.chart.specs.Env.{envOf, chartIn}
 use Rattle.layout.specs.Words.{storeIn, lentOf}
+use Rattle.layout.specs.Meaning.{headerIn}
+use Rattle.layout.specs.declared.Header.{Header}
 use Rattle.layout.proofs.Lists.{and-left}
 use Rattle.layout.proofs.StoreLaws.{lent-clean}
 use Rattle.clean.proofs.Laws.{all-map}
@@ -28,7 +30,8 @@ use Rattle.refusals.proofs.Laws.{code-none, test-passed, tests-passed, code-fir
 use Rattle.sound.specs.Tests.{envIn}
 use Rattle.sound.proofs.Laws.{all-both, sound-beside, sound-clean, env-ok, env-whole}
 use Rattle.book.specs.Words.{BOOK-HEAD, bookWords, placeAt, placeClean, nodeRoomIn, childRoomIn, placesIn, bookIn, bookClean, lentBookOf}
-use Rattle.book.specs.Places.{placeOf}
+use Rattle.book.specs.declared.Room.{Room}
+use Rattle.book.specs.Places.{roomIn, placeOf}
 use Rattle.book.proofs.Places.{places-length}
 use Rattle.book_sound.specs.Tests.{roomAlone, placesOk}
 use Rattle.book_sound.proofs.NameLaws.{all-like}
@@ -133,6 +136,56 @@ module _ (e : Env) (s : Store) (bs : List ℕ) where
       by-names h =
           let p = both cleanEach soundEach (sym both-is ∙ h) in
           all-is ∙ rw (p .0, p .1) refl
+
+-- the same of what the code reads: a room r in the buffer and a header y of the store
+module _ (e : Env) (h bs : List ℕ) {r : Room} {y : Header} (w : r ≡ roomIn bs) (x : y ≡ headerIn h) where
+  abbrev answer : Bool
+  answer = lentBookSound e (roomAlone h) (lentBookOf bs)
+
+  nodes-read : r .nodes ≡ nodeRoomIn bs
+  nodes-read = ap (λ (z : Room). z .nodes) w
+
+  children-read : r .children ≡ childRoomIn bs
+  children-read = ap (λ (z : Room). z .children) w
+
+  nodes-held : y .«node_room» ≡ roomAlone h .nodeRoom
+  nodes-held = ap (λ (z : Header). z .«node_room») x
+
+  children-held : y .«child_room» ≡ roomAlone h .childRoom
+  children-held = ap (λ (z : Header). z .«child_room») x
+
+  pub read-nodes : (r .nodes ≡ y .«node_room» → ⊥) → false ≡ answer
+  read-nodes f = sym (other-nodes e (roomAlone h) bs (λ q. f (nodes-read ∙ (q ∙ sym nodes-held))))
+
+  pub read-children : (r .children ≡ y .«child_room» → ⊥) → false ≡ answer
+  read-children f = sym (other-children e (roomAlone h) bs (λ q. f (children-read ∙ (q ∙ sym children-held))))
+
+  module _ {n : ℕ} (b : n ≡ bookWords (r .nodes) (r .children)) where
+    pub read-short : length bs < n → false ≡ answer
+    read-short l = sym (too-short e (roomAlone h) bs (rw (b, w) at l))
+
+    module _ (long : n ≤ length bs) {p : Bool} (q : p ≡ placesOk e (r .nodes) (r .children) bs) where
+      words : bookWords (nodeRoomIn bs) (childRoomIn bs) ≤ length bs
+      words = rw (b, w) at long
+
+      places-read : p ≡ placesOk e (nodeRoomIn bs) (childRoomIn bs) bs
+      places-read = rw w at q
+
+      pub read-clean : not p ≡ false → bookClean bs ≡ true
+      read-clean t = places-clean e (roomAlone h) bs words (passes places-read t)
+
+      module _ (nodes : r .nodes ≡ y .«node_room») (children : r .children ≡ y .«child_room») where
+        same-nodes : nodeRoomIn bs ≡ roomAlone h .nodeRoom
+        same-nodes = sym nodes-read ∙ (nodes ∙ nodes-held)
+
+        same-children : childRoomIn bs ≡ roomAlone h .childRoom
+        same-children = sym children-read ∙ (children ∙ children-held)
+
+        pub read-bad : not p ≡ true → false ≡ answer
+        read-bad t = sym (bad-place e (roomAlone h) bs words same-nodes same-children (fails places-read t))
+
+        pub read-names : not p ≡ false → answer ≡ namesDiffer (placesIn bs)
+        read-names t = by-names e (roomAlone h) bs words same-nodes same-children (passes places-read t)
 
 -- what stands beside the chart
 

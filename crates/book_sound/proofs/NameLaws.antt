@@ -15,7 +15,8 @@ use Rattle.scope.specs.States.{Place, under, heldOnce, namesDiffer}
 use Rattle.layout.proofs.Lists.{from-all}
 use Rattle.clean.proofs.Laws.{all-map}
 use Rattle.book.specs.Words.{placeAt, nameLengthIn, nameBytesIn, placeIn, nodeRoomIn, childRoomIn, bookClean}
-use Rattle.book.specs.Places.{placeOf, heldUnder}
+use Rattle.book.specs.declared.Room.{Room}
+use Rattle.book.specs.Places.{roomIn, placeOf, heldUnder}
 use Rattle.book.proofs.Names.{under-is, placeIn-free, place-name, name-is, name-length, apart-length}
 use Rattle.book_sound.specs.Tests.{nameOnce}
 
@@ -40,6 +41,11 @@ words bs i = placeAt bs (nodeRoomIn bs) (childRoomIn bs) i
 -- place j is not held under place i's name
 abbrev pub otherName : List ℕ → ℕ → ℕ → Bool
 otherName bs i j = not (heldUnder (nameBytesIn (words bs i)) (words bs j))
+
+-- what the code reads: a room r, the words x and y of places j and i, and whether y's name is x's
+pub other-told : (bs : List ℕ) (i j : ℕ) {r : Room} {x y : List ℕ} {t b : Bool} → r ≡ roomIn bs → x ≡ placeAt bs (r .nodes) (r .children) j
+    → y ≡ placeAt bs (r .nodes) (r .children) i → t ≡ heldUnder (nameBytesIn y) x → t ≡ b → otherName bs i j ≡ not b
+other-told bs i j w ex ey h e = ap not (sym (rw (ex, ey, w) at h) ∙ e)
 
 module _ (bs : List ℕ) (cl : bookClean bs ≡ true) (i : ℕ) where
   -- behind a held place

@@ -1,16 +1,8 @@
 -- `book_sound::book_sound` meets its contract: each way out has its law. Once lengths, capacities and places pass, the names are what is left.
 -- Assumes nothing.
-use mathlib.Core.Path.{sym, ap, _∙_}
-use Prim.Native.Nat.{_≤_}
-use native.Mathlib.Omega.{arith}
-use lib.ListN.{length}
-use Rattle.names.proofs.Tests.{passes, fails}
+use mathlib.Core.Path.{sym, _∙_}
 use Rattle.chart.specs.Env.{chartIn}
-use Rattle.layout.specs.declared.Header.{Header}
-use Rattle.book.specs.Words.{bookWords, nodeRoomIn, childRoomIn}
-use Rattle.book.specs.declared.Room.{Room}
-use Rattle.book_sound.specs.Tests.{roomAlone}
-use Rattle.book_sound.proofs.Laws.{too-short, other-nodes, other-children, places-clean, bad-place, by-names}
+use Rattle.book_sound.proofs.Laws as laws
 use borrow.Author.Needs.{needs}
 use Rattle.book_sound.proofs.book_sound.Statement.{statement}
 use Rattle.book_sound.proofs.book_sound.Tie as tie
@@ -26,84 +18,71 @@ book-words-requires c κs = search needs
 
 returns : tie.Need-returns
 returns c =
-    let a = c .before .before .before .before .before .before .before .before .before .args in
-    let e = chartIn (a .chart .now) (a .rule .now) (a .text .now) in
-    let room = c .before .before .room-of in
-    let w = room .ensures in
-    let b = rw w at (c .before .book-words .ensures) in
-    sym (too-short e (roomAlone (a .h .now)) (a .bs .now) (omega arith))
+    let words = c .before in
+    let room = words .before in
+    let read = room .before in
+    let a = read .before .before .before .before .before .before .args in
+    laws.read-short (chartIn (a .chart .now) (a .rule .now) (a .text .now)) (a .h .now) (a .bs .now)
+    (room .room-of .ensures) (read .read-header .ensures) (words .book-words .ensures) (c .if1 .taken)
 
 returns-2 : tie.Need-returns-2
 returns-2 c =
-    let a = c .before .before .before .before .before .before .before .before .before .before .before .before .args in
-    let e = chartIn (a .chart .now) (a .rule .now) (a .text .now) in
-    let room = c .before .before .before .before .before .room-of in
-    let w = room .ensures in
-    let x = c .before .before .before .before .before .before .read-header .ensures in
-    let n = ap (λ (y : Room). y .nodes) w in
-    let m = ap (λ (y : Header). y .«node_room») x in
-    sym (other-nodes e (roomAlone (a .h .now)) (a .bs .now) (λ q. c .if2 .taken (n ∙ (q ∙ sym m))))
+    let room = c .before .before .before .before .before in
+    let read = room .before in
+    let a = read .before .before .before .before .before .before .args in
+    laws.read-nodes (chartIn (a .chart .now) (a .rule .now) (a .text .now)) (a .h .now) (a .bs .now)
+    (room .room-of .ensures) (read .read-header .ensures) (c .if2 .taken)
 
 returns-3 : tie.Need-returns-3
 returns-3 c =
-    let a = c .before .before .before .before .before .before .before .before .before .before .before .before .before .before .before .args in
-    let e = chartIn (a .chart .now) (a .rule .now) (a .text .now) in
-    let room = c .before .before .before .before .before .before .before .before .room-of in
-    let w = room .ensures in
-    let x = c .before .before .before .before .before .before .before .before .before .read-header .ensures in
-    let k = ap (λ (y : Room). y .children) w in
-    let d = ap (λ (y : Header). y .«child_room») x in
-    sym (other-children e (roomAlone (a .h .now)) (a .bs .now) (λ q. c .if3 .taken (k ∙ (q ∙ sym d))))
+    let room = c .before .before .before .before .before .before .before .before in
+    let read = room .before in
+    let a = read .before .before .before .before .before .before .args in
+    laws.read-children (chartIn (a .chart .now) (a .rule .now) (a .text .now)) (a .h .now) (a .bs .now)
+    (room .room-of .ensures) (read .read-header .ensures) (c .if3 .taken)
 
 places-sound-requires : tie.Need-places-sound-requires
 places-sound-requires c κs = search needs
 
 returns-4 : tie.Need-returns-4
 returns-4 c =
-    let a = c .before .before .before .before .before .before .before .before .before .before .before .before .before .before .before .before .before .args in
-    let e = chartIn (a .chart .now) (a .rule .now) (a .text .now) in
-    let room = c .before .before .before .before .before .before .before .before .before .before .room-of in
-    let w = room .ensures in
-    let b = rw w at (c .before .before .before .before .before .before .before .before .before .book-words .ensures) in
-    let l : bookWords (nodeRoomIn (a .bs .now)) (childRoomIn (a .bs .now)) ≤ length (a .bs .now) = omega arith in
-    let x = c .before .before .before .before .before .before .before .before .before .before .before .read-header .ensures in
-    let n = ap (λ (y : Room). y .nodes) w in
-    let m = ap (λ (y : Header). y .«node_room») x in
-    let k = ap (λ (y : Room). y .children) w in
-    let d = ap (λ (y : Header). y .«child_room») x in
-    let nodes = sym n ∙ (c .before .before .before .before .before .if2 .left ∙ m) in
-    let children = sym k ∙ (c .before .before .if3 .left ∙ d) in
-    let p = rw w at (c .before .places-sound .ensures) in
-    sym (bad-place e (roomAlone (a .h .now)) (a .bs .now) l nodes children (fails p (c .if4 .taken)))
+    let if3 = c .before .before in
+    let if2 = if3 .before .before .before in
+    let if1 = if2 .before .before .before in
+    let words = if1 .before in
+    let room = words .before in
+    let read = room .before in
+    let a = read .before .before .before .before .before .before .args in
+    laws.read-bad (chartIn (a .chart .now) (a .rule .now) (a .text .now)) (a .h .now) (a .bs .now)
+    (room .room-of .ensures) (read .read-header .ensures) (words .book-words .ensures) (if1 .if1 .left)
+    (c .before .places-sound .ensures) (if2 .if2 .left) (if3 .if3 .left) (c .if4 .taken)
 
 names-differ-requires : tie.Need-names-differ-requires
 names-differ-requires c κs =
-    let a = c .before .before .before .before .before .before .before .before .before .before .before .before .before .before .before .before .before .args in
-    let e = chartIn (a .chart .now) (a .rule .now) (a .text .now) in
-    let room = c .before .before .before .before .before .before .before .before .before .before .room-of in
-    let w = room .ensures in
-    let b = rw w at (c .before .before .before .before .before .before .before .before .before .book-words .ensures) in
-    let l : bookWords (nodeRoomIn (a .bs .now)) (childRoomIn (a .bs .now)) ≤ length (a .bs .now) = omega arith in
-    let p = rw w at (c .before .places-sound .ensures) in
-    places-clean e (roomAlone (a .h .now)) (a .bs .now) l (passes p (c .if4 .left))
+    let if1 = c .before .before .before .before .before .before .before .before in
+    let words = if1 .before in
+    let room = words .before in
+    let read = room .before in
+    let a = read .before .before .before .before .before .before .args in
+    laws.read-clean (chartIn (a .chart .now) (a .rule .now) (a .text .now)) (a .h .now) (a .bs .now)
+    (room .room-of .ensures) (read .read-header .ensures) (words .book-words .ensures) (if1 .if1 .left)
+    (c .before .places-sound .ensures) (c .if4 .left)
 
 returns-5 : tie.Need-returns-5
 returns-5 c =
-    let a = c .before .before .before .before .before .before .before .before .before .before .before .before .before .before .before .before .before .before .args in
-    let e = chartIn (a .chart .now) (a .rule .now) (a .text .now) in
-    let room = c .before .before .before .before .before .before .before .before .before .before .before .room-of in
-    let w = room .ensures in
-    let b = rw w at (c .before .before .before .before .before .before .before .before .before .before .book-words .ensures) in
-    let l : bookWords (nodeRoomIn (a .bs .now)) (childRoomIn (a .bs .now)) ≤ length (a .bs .now) = omega arith in
-    let x = c .before .before .before .before .before .before .before .before .before .before .before .before .read-header .ensures in
-    let n = ap (λ (y : Room). y .nodes) w in
-    let m = ap (λ (y : Header). y .«node_room») x in
-    let k = ap (λ (y : Room). y .children) w in
-    let d = ap (λ (y : Header). y .«child_room») x in
-    let nodes = sym n ∙ (c .before .before .before .before .before .before .if2 .left ∙ m) in
-    let children = sym k ∙ (c .before .before .before .if3 .left ∙ d) in
-    let p = rw w at (c .before .before .places-sound .ensures) in
-    c .names-differ .ensures ∙ sym (by-names e (roomAlone (a .h .now)) (a .bs .now) l nodes children (passes p (c .before .if4 .left)))
+    let if4 = c .before in
+    let if3 = if4 .before .before in
+    let if2 = if3 .before .before .before in
+    let if1 = if2 .before .before .before in
+    let words = if1 .before in
+    let room = words .before in
+    let read = room .before in
+    let a = read .before .before .before .before .before .before .args in
+    c .names-differ .ensures
+    ∙ sym
+    (laws.read-names (chartIn (a .chart .now) (a .rule .now) (a .text .now)) (a .h .now) (a .bs .now)
+    (room .room-of .ensures) (read .read-header .ensures) (words .book-words .ensures) (if1 .if1 .left)
+    (if4 .before .places-sound .ensures) (if2 .if2 .left) (if3 .if3 .left) (if4 .if4 .left))
 
 pub book-sound-spec : {M : Type 1} → statement M
 book-sound-spec =

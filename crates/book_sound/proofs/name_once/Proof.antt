@@ -1,7 +1,6 @@
 -- `book_sound::name_once` meets its contract. The invariant: the places from j on pass just where those behind place i do. The measure is how many are left.
 -- Assumes nothing.
-use mathlib.Core.Path.{_≡_, refl, sym, ap, _∙_}
-use mathlib.Core.Bool.{not}
+use mathlib.Core.Path.{_≡_, refl, sym, _∙_}
 use Prim.Native.Nat.{suc, _-_}
 use native.Mathlib.Omega.{arith}
 use Rattle.scope.specs.Base.{all, from}
@@ -9,7 +8,7 @@ use Rattle.scope.specs.Limits.{MAX-STATES}
 use Rattle.clean.proofs.Laws.{run-step, run-stop, run-end}
 use Rattle.book.proofs.Places.{book-lies}
 use Rattle.book.proofs.Names.{place-name}
-use Rattle.book_sound.proofs.NameLaws.{otherName, once-start, once-run}
+use Rattle.book_sound.proofs.NameLaws.{otherName, other-told, once-start, once-run}
 use borrow.Author.Needs.{needs}
 use Rattle.book_sound.proofs.name_once.Statement.{statement}
 use Rattle.book_sound.proofs.name_once.Tie as tie
@@ -51,14 +50,13 @@ same-names-requires c κs =
 
 returns : tie.Need-returns Inv-loop μ-loop
 returns c =
-    let a = c .before .before .before .before .before .before .before .before .args in
-    let w = rw (c .before .before .before .before .before .before .room-of .ensures) at (c .before .before .before .place .ensures) in
-    let v = rw (c .before .before .before .before .before .before .room-of .ensures) at (c .before .before .place2 .ensures) in
-    let o = c .before .before .before .before .before .loop in
-    let f = rw (w, v) at (c .before .same-names .ensures) in
-    let pre = c .before .before .before .before .before .before .before .before .pre in
-    let once = once-run (a .bs .now) (pre .clean) (a .i) (pre .index) ∙ once-start (a .bs .now) (a .i) _ (o .inv .0) in
-    sym (once ∙ (o .inv .1 ∙ run-stop (otherName (a .bs .now) (a .i)) (o .j) MAX-STATES (c .before .before .before .before .loop-test .taken) (ap not (sym f ∙ c .if1 .taken))))
+    let second = c .before .before in
+    let o = second .before .before .before in
+    let a = o .before .before .before .args in
+    let pre = o .before .before .before .pre in
+    let other = other-told (a .bs .now) (a .i) (o .loop .j) (o .before .room-of .ensures) (second .before .place .ensures) (second .place2 .ensures) (c .before .same-names .ensures) (c .if1 .taken) in
+    let once = once-run (a .bs .now) (pre .clean) (a .i) (pre .index) ∙ once-start (a .bs .now) (a .i) _ (o .loop .inv .0) in
+    sym (once ∙ (o .loop .inv .1 ∙ run-stop (otherName (a .bs .now) (a .i)) (o .loop .j) MAX-STATES (second .before .before .loop-test .taken) other))
 
 add-j-2 : tie.Need-add-j-2 Inv-loop μ-loop
 add-j-2 c = search needs
@@ -68,12 +66,11 @@ loop-less c = search needs
 
 loop-again : tie.Need-loop-again Inv-loop μ-loop
 loop-again c =
-    let a = c .before .before .before .before .before .before .before .before .args in
-    let w = rw (c .before .before .before .before .before .before .room-of .ensures) at (c .before .before .before .place .ensures) in
-    let v = rw (c .before .before .before .before .before .before .room-of .ensures) at (c .before .before .place2 .ensures) in
-    let o = c .before .before .before .before .before .loop in
-    let f = rw (w, v) at (c .before .same-names .ensures) in
-    (o .inv .0, o .inv .1 ∙ run-step (otherName (a .bs .now) (a .i)) (o .j) MAX-STATES (c .before .before .before .before .loop-test .taken) (ap not (sym f ∙ c .if1 .left)))
+    let second = c .before .before in
+    let o = second .before .before .before in
+    let a = o .before .before .before .args in
+    let other = other-told (a .bs .now) (a .i) (o .loop .j) (o .before .room-of .ensures) (second .before .place .ensures) (second .place2 .ensures) (c .before .same-names .ensures) (c .if1 .left) in
+    (o .loop .inv .0, o .loop .inv .1 ∙ run-step (otherName (a .bs .now) (a .i)) (o .loop .j) MAX-STATES (second .before .before .loop-test .taken) other)
 
 returns-2 : tie.Need-returns-2 Inv-loop μ-loop
 returns-2 c =

@@ -27,44 +27,44 @@ slice-write-h c = search needs
 
 slice-write-h-2 : tie.Need-slice-write-h-2
 slice-write-h-2 c =
-    let s = c .before .before .before .args in
-    place-there HEAD-WORDS (s .h .now) (words (s .x) (c .before .remembered-word .result) (c .remembered-word2 .result)) 1 (c .before .before .before .pre) refl
+    let s = c .before .before .before in
+    place-there HEAD-WORDS (s .args .h .now) (words (s .args .x) (c .before .remembered-word .result) (c .remembered-word2 .result)) 1 (s .pre) refl
 
 slice-write-h-3 : tie.Need-slice-write-h-3
 slice-write-h-3 c =
-    let s = c .before .before .before .args in
-    place-there HEAD-WORDS (s .h .now) (words (s .x) (c .before .remembered-word .result) (c .remembered-word2 .result)) 2 (c .before .before .before .pre) refl
+    let s = c .before .before .before in
+    place-there HEAD-WORDS (s .args .h .now) (words (s .args .x) (c .before .remembered-word .result) (c .remembered-word2 .result)) 2 (s .pre) refl
 
 slice-write-h-4 : tie.Need-slice-write-h-4
 slice-write-h-4 c =
-    let s = c .before .before .before .args in
-    place-there HEAD-WORDS (s .h .now) (words (s .x) (c .before .remembered-word .result) (c .remembered-word2 .result)) 3 (c .before .before .before .pre) refl
+    let s = c .before .before .before in
+    place-there HEAD-WORDS (s .args .h .now) (words (s .args .x) (c .before .remembered-word .result) (c .remembered-word2 .result)) 3 (s .pre) refl
 
 slice-write-h-5 : tie.Need-slice-write-h-5
 slice-write-h-5 c =
-    let s = c .before .before .before .args in
-    place-there HEAD-WORDS (s .h .now) (words (s .x) (c .before .remembered-word .result) (c .remembered-word2 .result)) 4 (c .before .before .before .pre) refl
+    let s = c .before .before .before in
+    place-there HEAD-WORDS (s .args .h .now) (words (s .args .x) (c .before .remembered-word .result) (c .remembered-word2 .result)) 4 (s .pre) refl
 
 slice-write-h-6 : tie.Need-slice-write-h-6
 slice-write-h-6 c =
-    let s = c .before .before .before .args in
-    place-there HEAD-WORDS (s .h .now) (words (s .x) (c .before .remembered-word .result) (c .remembered-word2 .result)) 5 (c .before .before .before .pre) refl
+    let s = c .before .before .before in
+    place-there HEAD-WORDS (s .args .h .now) (words (s .args .x) (c .before .remembered-word .result) (c .remembered-word2 .result)) 5 (s .pre) refl
 
 cast-h : tie.Need-cast-h
 cast-h c = search needs
 
 slice-write-h-7 : tie.Need-slice-write-h-7
 slice-write-h-7 c =
-    let s = c .before .before .before .before .args in
-    place-there HEAD-WORDS (s .h .now) (words (s .x) (c .before .before .remembered-word .result) (c .before .remembered-word2 .result)) 6 (c .before .before .before .before .pre) refl
+    let s = c .before .before .before .before in
+    place-there HEAD-WORDS (s .args .h .now) (words (s .args .x) (c .before .before .remembered-word .result) (c .before .remembered-word2 .result)) 6 (s .pre) refl
 
 cast-h-2 : tie.Need-cast-h-2
 cast-h-2 c = search needs
 
 slice-write-h-8 : tie.Need-slice-write-h-8
 slice-write-h-8 c =
-    let s = c .before .before .before .before .before .args in
-    place-there HEAD-WORDS (s .h .now) (words (s .x) (c .before .before .before .remembered-word .result) (c .before .before .remembered-word2 .result)) 7 (c .before .before .before .before .before .pre) refl
+    let s = c .before .before .before .before .before in
+    place-there HEAD-WORDS (s .args .h .now) (words (s .args .x) (c .before .before .before .remembered-word .result) (c .before .before .remembered-word2 .result)) 7 (s .pre) refl
 
 same-length : tie.Need-same-length
 same-length c = search needs
