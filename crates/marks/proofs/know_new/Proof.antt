@@ -36,7 +36,11 @@ loop-less : tie.Need-loop-less Inv-loop μ-loop
 loop-less c = omega (arith, c .before .before .before .before .before .before .before .loop-test .taken)
 
 loop-again : tie.Need-loop-again Inv-loop μ-loop
-loop-again c = (c .before .before .know .kept .0 ∙ c .before .before .before .before .before .before .before .before .loop .inv .0, new-more (c .before .before .before .before .before .before .before .before .loop .inv .1) (c .before .before .before .before .if2 .taken) (c .before .before .know .ensures))
+loop-again c =
+    let at-know = c .before .before in
+    let at-if2 = at-know .before .before in
+    let at-loop = at-if2 .before .before .before .before in
+    (at-know .know .kept .0 ∙ at-loop .loop .inv .0, new-more (at-loop .loop .inv .1) (at-if2 .if2 .taken) (at-know .know .ensures))
 
 loop-less-2 : tie.Need-loop-less-2 Inv-loop μ-loop
 loop-less-2 c = omega (arith, c .before .before .before .loop-test .taken)

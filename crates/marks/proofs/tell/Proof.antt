@@ -36,7 +36,10 @@ loop-less : tie.Need-loop-less Inv-loop μ-loop
 loop-less c = omega (arith, c .before .before .before .before .loop-test .taken)
 
 loop-again : tie.Need-loop-again Inv-loop μ-loop
-loop-again c = (c .before .before .tell-word .kept .1 .1 .0 ∙ c .before .before .before .before .before .loop .inv .0, tells-then (c .before .before .before .before .before .loop .inv .1) (c .before .before .tell-word .ensures))
+loop-again c =
+    let at-tell-word = c .before .before in
+    let at-loop = at-tell-word .before .before .before in
+    (at-tell-word .tell-word .kept .1 .1 .0 ∙ at-loop .loop .inv .0, tells-then (at-loop .loop .inv .1) (at-tell-word .tell-word .ensures))
 
 same-length : tie.Need-same-length Inv-loop μ-loop
 same-length c = c .before .loop .inv .0

@@ -50,7 +50,16 @@ loop-less : tie.Need-loop-less Inv-loop μ-loop
 loop-less c = omega (arith, c .before .before .loop-test .taken)
 
 loop-again : tie.Need-loop-again Inv-loop μ-loop
-loop-again c = (length-set (c .before .before .before .loop .found) _ OLD ∙ c .before .before .before .loop .inv .0, tells-bit (c .before .before .before .loop .inv .1) (c .before .before .before .before .before .before .before .before .pre .0) (c .before .before .before .before .before .before .before .before .pre .1) (c .before .before .loop-test .taken) (c .before .before .before .before .before .at .ensures) (c .if3 .taken) refl (c .before .if2 .taken) refl)
+loop-again c =
+    let at-if2 = c .before in
+    let at-loop-test = at-if2 .before in
+    let at-loop = at-loop-test .before in
+    let at-at = at-loop .before .before in
+    let at-pre = at-at .before .before .before in (
+      length-set (at-loop .loop .found) _ OLD ∙ at-loop .loop .inv .0,
+      tells-bit (at-loop .loop .inv .1) (at-pre .pre .0) (at-pre .pre .1) (at-loop-test .loop-test .taken) (at-at .at .ensures) (c .if3 .taken) refl
+          (at-if2 .if2 .taken) refl,
+    )
 
 loop-less-2 : tie.Need-loop-less-2 Inv-loop μ-loop
 loop-less-2 c = omega (arith, c .before .before .loop-test .taken)

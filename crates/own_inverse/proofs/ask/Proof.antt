@@ -33,7 +33,13 @@ same-length : tie.Need-same-length
 same-length c = search needs
 
 returns-2 : tie.Need-returns-2
-returns-2 c = ask-marks (c .before .before .before .before .before .before .before .before .before .before .before .pre) (c .before .before .before .before .before .before .before .quickly .ensures) (c .before .before .before .before .before .enum-told2 .given .1) (c .before .before .before .idx .ensures) (c .before .before .know .ensures)
+returns-2 c =
+    let at-know = c .before .before in
+    let at-idx = at-know .before in
+    let at-enum-told2 = at-idx .before .before in
+    let at-quickly = at-enum-told2 .before .before in
+    let at-pre = at-quickly .before .before .before .before in
+    ask-marks (at-pre .pre) (at-quickly .quickly .ensures) (at-enum-told2 .enum-told2 .given .1) (at-idx .idx .ensures) (at-know .know .ensures)
 
 same-length-2 : tie.Need-same-length-2
 same-length-2 c = search needs

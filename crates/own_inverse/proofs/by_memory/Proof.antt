@@ -34,7 +34,12 @@ same-length-2 : tie.Need-same-length-2
 same-length-2 c = search needs
 
 returns-2 : tie.Need-returns-2
-returns-2 c = memory-all (c .before .before .before .before .before .before .before .before .before .before .before .before .before .before .before .before .pre) (c .before .before .before .before .before .before .before .by-marks .ensures) (not-false _ (c .before .before .before .before .before .if1 .left)) (c .before .before .know-new .ensures)
+returns-2 c =
+    let at-know-new = c .before .before in
+    let at-if1 = at-know-new .before .before .before in
+    let at-by-marks = at-if1 .before .before in
+    let at-pre = at-by-marks .before .before .before .before .before .before .before .before .before in
+    memory-all (at-pre .pre) (at-by-marks .by-marks .ensures) (not-false _ (at-if1 .if1 .left)) (at-know-new .know-new .ensures)
 
 pub by-memory-spec : {M : Type 1} → statement M
 by-memory-spec =

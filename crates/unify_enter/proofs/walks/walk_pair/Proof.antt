@@ -35,7 +35,15 @@ xor-requires : tie.Need-xor-requires
 xor-requires c κs = search needs
 
 returns-2 : tie.Need-returns-2
-returns-2 c = walk-agrees (c .before .before .before .before .before .before .before .before .before .before .before .before .before .pre) (c .before .before .before .before .before .before .before .before .before .idx .ensures) (c .before .before .before .before .before .before .before .before .idx2 .ensures) (c .before .before .before .before .before .if1 .left) (c .before .before .before .before .inv .ensures) (c .before .before .before .inv2 .ensures) (c .before .before .xor .ensures) (c .if2 .taken)
+returns-2 c =
+    let at-xor = c .before .before in
+    let at-inv2 = at-xor .before in
+    let at-inv = at-inv2 .before in
+    let at-if1 = at-inv .before in
+    let at-idx2 = at-if1 .before .before .before in
+    let at-idx = at-idx2 .before in
+    let at-pre = at-idx .before .before .before .before in
+    walk-agrees (at-pre .pre) (at-idx .idx .ensures) (at-idx2 .idx2 .ensures) (at-if1 .if1 .left) (at-inv .inv .ensures) (at-inv2 .inv2 .ensures) (at-xor .xor .ensures) (c .if2 .taken)
 
 small-requires : tie.Need-small-requires
 small-requires c κs = search needs
@@ -47,10 +55,18 @@ same-length-4 : tie.Need-same-length-4
 same-length-4 c = search needs
 
 returns-3 : tie.Need-returns-3
-returns-3 c = small-walks (c .before .before .before .before .before .before .before .before .before .before .before .before .before .before .before .before .before .before .before .before .before .pre) (c .before .before .before .before .before .small .ensures) (c .if3 .taken)
+returns-3 c =
+    let at-small = c .before .before .before .before .before in
+    let at-pre = at-small .before .before .before .before .before .before .before .before .before .before .before .before .before .before .before .before in
+    small-walks (at-pre .pre) (at-small .small .ensures) (c .if3 .taken)
 
 knows-requires : tie.Need-knows-requires
-knows-requires c κs = walk-inside (c .before .before .before .before .before .before .before .before .before .before .before .before .before .before .before .before .before .before .before .before .before .before .pre) (c .before .before .before .before .before .before .before .before .before .before .before .before .before .before .before .before .before .before .idx .ensures) (c .before .before .before .before .before .before .before .before .before .before .before .before .before .before .before .before .before .idx2 .ensures) (c .before .before .before .before .before .before .before .before .before .before .before .before .before .before .if1 .left)
+knows-requires c κs =
+    let at-if1 = c .before .before .before .before .before .before .before .before .before .before .before .before .before .before in
+    let at-idx2 = at-if1 .before .before .before in
+    let at-idx = at-idx2 .before in
+    let at-pre = at-idx .before .before .before .before in
+    walk-inside (at-pre .pre) (at-idx .idx .ensures) (at-idx2 .idx2 .ensures) (at-if1 .if1 .left)
 
 same-length-5 : tie.Need-same-length-5
 same-length-5 c = search needs
@@ -59,11 +75,23 @@ same-length-6 : tie.Need-same-length-6
 same-length-6 c = search needs
 
 returns-4 : tie.Need-returns-4
-returns-4 c = small-walk-not (c .before .before .before .before .before .before .before .before .small .ensures) (c .before .before .before .if3 .left)
-    (walk-known (small-walk-asks (c .before .before .before .before .before .before .before .before .before .before .before .before .before .before .before .before .before .before .before .before .before .before .before .before .pre) (c .before .before .before .before .before .before .before .before .small .ensures) (c .before .before .before .if3 .left)) (c .before .before .before .before .before .before .before .before .before .before .before .before .before .before .before .before .before .before .before .before .idx .ensures) (c .before .before .before .before .before .before .before .before .before .before .before .before .before .before .before .before .before .before .before .idx2 .ensures) (c .before .before .before .before .before .before .before .before .before .before .before .before .before .before .before .before .if1 .left) (c .before .knows .ensures) (c .if4 .taken))
+returns-4 c =
+    let at-knows = c .before in
+    let at-if3 = at-knows .before .before in
+    let at-small = at-if3 .before .before .before .before .before in
+    let at-if1 = at-small .before .before .before .before .before .before .before .before in
+    let at-idx2 = at-if1 .before .before .before in
+    let at-idx = at-idx2 .before in
+    let at-pre = at-idx .before .before .before .before in
+    small-walk-not (at-small .small .ensures) (at-if3 .if3 .left)
+    (walk-known (small-walk-asks (at-pre .pre) (at-small .small .ensures) (at-if3 .if3 .left)) (at-idx .idx .ensures) (at-idx2 .idx2 .ensures) (at-if1 .if1 .left)
+    (at-knows .knows .ensures) (c .if4 .taken))
 
 look-requires : tie.Need-look-requires
-look-requires c κs = c .before .before .before .before .before .before .before .before .before .before .before .before .before .before .before .before .before .before .before .before .before .before .before .before .before .pre .roots .tops .pair .words .small
+look-requires c κs =
+    let b18 = c .before .before .before .before .before .before .before .before .before .before .before .before .before .before .before .before .before .before in
+    let at-pre = b18 .before .before .before .before .before .before .before in
+    at-pre .pre .roots .tops .pair .words .small
 
 enum-known-known : tie.Need-enum-known-known
 enum-known-known c = search needs
@@ -75,19 +103,35 @@ same-length-8 : tie.Need-same-length-8
 same-length-8 c = search needs
 
 returns-5 : tie.Need-returns-5
-returns-5 c = small-walk-not (c .before .before .before .before .before .before .before .before .before .before .before .before .before .small .ensures) (c .before .before .before .before .before .before .before .before .if3 .left) (walk-told (small-walk-asks (c .before .before .before .before .before .before .before .before .before .before .before .before .before .before .before .before .before .before .before .before .before .before .before .before .before .before .before .before .before .pre) (c .before .before .before .before .before .before .before .before .before .before .before .before .before .small .ensures) (c .before .before .before .before .before .before .before .before .if3 .left)) (c .before .before .before .look .ensures) (c .before .known .given .1))
+returns-5 c =
+    let at-known = c .before in
+    let at-look = at-known .before .before in
+    let at-if3 = at-look .before .before .before .before .before in
+    let at-small = at-if3 .before .before .before .before .before in
+    let at-pre = at-small .before .before .before .before .before .before .before .before .before .before .before .before .before .before .before .before in
+    small-walk-not (at-small .small .ensures) (at-if3 .if3 .left)
+    (walk-told (small-walk-asks (at-pre .pre) (at-small .small .ensures) (at-if3 .if3 .left)) (at-look .look .ensures) (at-known .known .given .1))
 
 enum-told : tie.Need-enum-told
 enum-told c = search needs
 
 ask-requires : tie.Need-ask-requires
-ask-requires c κs = own-asks (small-walk-asks (c .before .before .before .before .before .before .before .before .before .before .before .before .before .before .before .before .before .before .before .before .before .before .before .before .before .before .before .before .before .before .pre) (c .before .before .before .before .before .before .before .before .before .before .before .before .before .before .small .ensures) (c .before .before .before .before .before .before .before .before .before .if3 .left))
+ask-requires c κs =
+    let at-if3 = c .before .before .before .before .before .before .before .before .before in
+    let at-small = at-if3 .before .before .before .before .before in
+    let at-pre = at-small .before .before .before .before .before .before .before .before .before .before .before .before .before .before .before .before in
+    own-asks (small-walk-asks (at-pre .pre) (at-small .small .ensures) (at-if3 .if3 .left))
 
 from-bool-requires : tie.Need-from-bool-requires
 from-bool-requires c κs = search needs
 
 walked-requires : tie.Need-walked-requires
-walked-requires c κs = own-tidy (small-walk-asks (c .before .before .before .before .before .before .before .before .before .before .before .before .before .before .before .before .before .before .before .before .before .before .before .before .before .before .before .before .before .before .before .before .before .before .before .pre) (c .before .before .before .before .before .before .before .before .before .before .before .before .before .before .before .before .before .before .before .small .ensures) (c .before .before .before .before .before .before .before .before .before .before .before .before .before .before .if3 .left)) (c .before .before .before .before .ask .ensures)
+walked-requires c κs =
+    let at-ask = c .before .before .before .before in
+    let at-if3 = at-ask .before .before .before .before .before .before .before .before .before .before in
+    let at-small = at-if3 .before .before .before .before .before in
+    let at-pre = at-small .before .before .before .before .before .before .before .before .before .before .before .before .before .before .before .before in
+    own-tidy (small-walk-asks (at-pre .pre) (at-small .small .ensures) (at-if3 .if3 .left)) (at-ask .ask .ensures)
 
 same-length-9 : tie.Need-same-length-9
 same-length-9 c = search needs
@@ -96,9 +140,25 @@ same-length-10 : tie.Need-same-length-10
 same-length-10 c = search needs
 
 returns-6 : tie.Need-returns-6
-returns-6 c = small-walk-not (c .before .before .before .before .before .before .before .before .before .before .before .before .before .before .before .before .before .before .before .before .before .before .small .ensures) (c .before .before .before .before .before .before .before .before .before .before .before .before .before .before .before .before .before .if3 .left)
-    (walk-own (small-walk-asks (c .before .before .before .before .before .before .before .before .before .before .before .before .before .before .before .before .before .before .before .before .before .before .before .before .before .before .before .before .before .before .before .before .before .before .before .before .before .before .pre) (c .before .before .before .before .before .before .before .before .before .before .before .before .before .before .before .before .before .before .before .before .before .before .small .ensures) (c .before .before .before .before .before .before .before .before .before .before .before .before .before .before .before .before .before .if3 .left)) (c .before .before .before .before .before .before .before .ask .ensures) (c .before .before .before .before .before .before .before .before .before .before .before .before .before .before .before .before .before .before .before .before .before .before .before .before .before .before .before .before .before .before .before .before .before .before .idx .ensures) (c .before .before .before .before .before .before .before .before .before .before .before .before .before .before .before .before .before .before .before .before .before .before .before .before .before .before .before .before .before .before .before .before .before .idx2 .ensures) (c .before .before .before .before .before .before .before .before .before .before .before .before .before .before .before .before .before .before .before .before .before .before .before .before .before .before .before .before .before .before .if1 .left) (c .before .before .before .before .before .before .before .before .before .before .before .before .before .before .before .before .before .before .before .before .before .before .before .before .before .before .before .before .before .inv .ensures) (c .before .before .before .before .before .before .before .before .before .before .before .before .before .before .before .before .before .before .before .before .before .before .before .before .before .before .before .before .inv2 .ensures) (c .before .before .before .before .before .before .before .before .before .before .before .before .before .before .before .before .before .before .before .before .before .before .before .before .before .before .before .xor .ensures) (c .before .before .before .before .before .before .before .before .before .before .before .before .before .before .before .before .before .before .before .before .before .before .before .before .before .if2 .left)
-    (c .before .before .before .before .from-bool .ensures) (c .before .before .walked .ensures))
+returns-6 c =
+    let at-walked = c .before .before in
+    let at-from-bool = at-walked .before .before in
+    let at-ask = at-from-bool .before .before .before in
+    let at-if3 = at-ask .before .before .before .before .before .before .before .before .before .before in
+    let at-small = at-if3 .before .before .before .before .before in
+    let at-if2 = at-small .before .before .before in
+    let at-xor = at-if2 .before .before in
+    let at-inv2 = at-xor .before in
+    let at-inv = at-inv2 .before in
+    let at-if1 = at-inv .before in
+    let at-idx2 = at-if1 .before .before .before in
+    let at-idx = at-idx2 .before in
+    let at-pre = at-idx .before .before .before .before in
+    small-walk-not (at-small .small .ensures) (at-if3 .if3 .left)
+    (walk-own (small-walk-asks (at-pre .pre) (at-small .small .ensures) (at-if3 .if3 .left)) (at-ask .ask .ensures) (at-idx .idx .ensures) (at-idx2 .idx2 .ensures) (at-if1 .if1 .left)
+    (at-inv .inv .ensures)
+    (at-inv2 .inv2 .ensures) (at-xor .xor .ensures) (at-if2 .if2 .left)
+    (at-from-bool .from-bool .ensures) (at-walked .walked .ensures))
 
 pub walk-pair-spec : {M : Type 1} → statement M
 walk-pair-spec =
