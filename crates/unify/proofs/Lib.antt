@@ -3,3 +3,4 @@ pub mod Closing
 pub mod Laws
 pub mod QuickLaws
 pub mod RunLaws
+pub mod StepLaws

@@ -1,5 +1,5 @@
 -- Pairs in order: a step for each pair, what is left of a run and of an object. A loop's invariant is that what is left gives the whole; one law for each way out of
--- `unify_types` and `unify_objects`, and for each kind of steps in `unify_pair`.
+-- `unify_types` and `unify_objects`.
 -- Assumes nothing.
 use mathlib.Core.Path.{_≡_, refl, ap, sym, subst, _∙_}
 use mathlib.Core.List.{List, [], _∷_, _++_, List·Memᴰ·head, List·Memᴰ·tail, Memᴰ·append-left}
@@ -29,11 +29,8 @@ use Rattle.heed.proofs.Laws.{since-same, since-then}
 use Rattle.plan.specs.Meaning.{kidsFrom, namesFrom, planMeans}
 use Rattle.plan.specs.declared.Runs.{Runs}
 use Rattle.plan.specs.declared.Plan.the-variants as plans
-use Rattle.meeting.specs.Steps.{stepsMean, StepsReady, RunsLie, Ascends}
 use Rattle.meeting.specs.Meets.{does}
 use Rattle.meeting.specs.Kids.{objectsOf, slotPlace, soughtMeans, soughtIn}
-use Rattle.meeting.specs.declared.Steps.{Steps}
-use Rattle.meeting.specs.declared.Steps.the-variants as steps
 use Rattle.meeting.specs.declared.Sought.{Sought}
 use Rattle.meeting.specs.declared.Sought.the-variants as found
 use Rattle.meeting.proofs.KidLaws.{one-more, none-left, kid-length, kidTy, slot-bytes}
@@ -61,7 +58,7 @@ module _ (u : List Node → Ty → Ty → Out) where
   run-append ns r [] qs = refl
   run-append ns r (p ∷ ps) qs = run-append (u ns (p .0) (p .1) .nodes) (both r (u ns (p .0) (p .1) .answer)) ps qs
 
-  run-base : (ns : List Node) (b r : Answer) (ps : List (Ty × Ty)) → run u ns (both b r) ps ≡ out (run u ns r ps .nodes) (both b (run u ns r ps .answer))
+  pub run-base : (ns : List Node) (b r : Answer) (ps : List (Ty × Ty)) → run u ns (both b r) ps ≡ out (run u ns r ps .nodes) (both b (run u ns r ps .answer))
   unfolding run
   run-base ns b r [] = refl
   run-base ns b r (p ∷ ps) =
@@ -322,39 +319,3 @@ pub stored-ends : {x : Texts} {ws₀ ks m₀ : List ℕ} {n d : ℕ} {s : Runs} 
     → s .na ≤ i → Unified x ws₀ ks m₀ ws m n (does (unifyF x n d) (decode ws₀ ks n) (planMeans ks x (plans.Object s))) r
 unfolding planMeans
 stored-ends g h = object-ends g h
-
--- `unify_pair`: what the steps are
-
-module _ {x : Texts} {ws ks m : List ℕ} {n : ℕ} (d : ℕ) {k : Steps} where
-  pub steps-answer : {r : UnifyResult} → Asked x ws ks m n d (stepsMean ks x k .pairs) → k ≡ steps.Answer r → Unified x ws ks m ws m n (does (unifyF x n d) (decode ws ks n) (stepsMean ks x k)) r
-  unfolding run
-  steps-answer w e = record { leaves = record { same = rw e refl; clean = λ c cl. cl; tail = refl }; recalls = w .recalls; since = since-same }
-
-  module _ {q : UnifyResult} {s : Runs} (e : k ≡ steps.Run q s) where
-    pub steps-runs : Asked x ws ks m n d (stepsMean ks x k .pairs) × StepsReady x ks k → Asked x ws ks m n d (planMeans ks x (plans.Run s) .pairs) × RunsLie ks s
-    steps-runs w = subst (λ (z : Steps). Asked x ws ks m n d (stepsMean ks x z .pairs) × StepsReady x ks z) e w
-
-    pub steps-run : {ws′ m′ : List ℕ} {r v : UnifyResult} → Unified x ws ks m ws′ m′ n (does (unifyF x n d) (decode ws ks n) (planMeans ks x (plans.Run s))) r
-        → answerOf v ≡ both (answerOf q) (answerOf r) → Unified x ws ks m ws′ m′ n (does (unifyF x n d) (decode ws ks n) (stepsMean ks x k)) v
-    steps-run {ws′} {m′} {r} {v} u f =
-        let l = planMeans ks x (plans.Run s) in
-        record {
-          leaves = record {
-            same = ap (λ (z : Steps). does (unifyF x n d) (decode ws ks n) (stepsMean ks x z)) e
-                ∙ (run-base (unifyF x n d) (decode ws ks n) (answerOf q) (l .base) (l .pairs)
-                ∙ (ap (λ (o : Out). out (o .nodes) (both (answerOf q) (o .answer))) (u .leaves .same) ∙ ap (out (decode ws′ ks n)) (sym f)));
-            clean = u .leaves .clean;
-            tail = u .leaves .tail;
-          };
-          recalls = u .recalls;
-          since = u .since;
-        }
-
-  module _ {s : Runs} (e : k ≡ steps.Object s) where
-    pub steps-objects : Asked x ws ks m n d (stepsMean ks x k .pairs) × StepsReady x ks k
-        → Asked x ws ks m n d (planMeans ks x (plans.Object s) .pairs) × (RunsLie ks s × Ascends x ks (s .b) (s .nb))
-    steps-objects w = subst (λ (z : Steps). Asked x ws ks m n d (stepsMean ks x z .pairs) × StepsReady x ks z) e w
-
-    pub steps-object : {ws′ m′ : List ℕ} {r : UnifyResult} → Unified x ws ks m ws′ m′ n (does (unifyF x n d) (decode ws ks n) (planMeans ks x (plans.Object s))) r
-        → Unified x ws ks m ws′ m′ n (does (unifyF x n d) (decode ws ks n) (stepsMean ks x k)) r
-    steps-object {ws′} {m′} {r} u = subst (λ (z : Steps). Unified x ws ks m ws′ m′ n (does (unifyF x n d) (decode ws ks n) (stepsMean ks x z)) r) (sym e) u

@@ -67,7 +67,8 @@ returns-3 c =
     let len = sym n ∙ (c .before .before .before .before .before .if2 .left ∙ (m ∙ sym k)) in
     let o = c .before .before .before .before .loop in
     let w = name-word (a .other .now) (o .i) (omega (arith, c .before .before .before .before .before .if2 .left)) in
-    let other : getD (a .ps .now) (o .i + 1) 0 ≡ getD (nameBytesIn (a .other .now)) (o .i) 0 → ⊥ = λ e. c .if3 .taken (c .before .before .word .ensures ∙ (e ∙ (w ∙ sym (c .before .word2 .ensures)))) in
+    let its = c .before .before .word .ensures in
+    let other : getD (a .ps .now) (o .i + 1) 0 ≡ getD (nameBytesIn (a .other .now)) (o .i) 0 → ⊥ = λ e. c .if3 .taken (its ∙ (e ∙ (w ∙ sym (c .before .word2 .ensures)))) in
     let lies = c .before .before .before .before .before .before .before .before .before .before .before .pre .0 in
     compare-stop (a .ps .now) (nameBytesIn (a .other .now)) lies held len (o .i) (o .inv .1) (omega arith) other
 

@@ -12,11 +12,10 @@ use Rattle.scope.specs.Types.{tyOf}
 use Rattle.names.specs.Place.{texts}
 use Rattle.unify_enter.specs.Enters.{Left}
 use Rattle.unify_enter.proofs.Laws.{entered-done, entered-kids}
-use Rattle.unify.proofs.Laws.{kids-asks, kids-settles, way-kids}
 use Rattle.unify.proofs.QuickLaws.{quick-adds, quick-merged, quick-asked, quick-not}
-use Rattle.unify.proofs.RunLaws.{RunLeft, RunNext, run-fails, run-start, run-pair, run-asks, run-next, run-ends}
+use Rattle.unify.proofs.RunLaws.{both-success, RunLeft, RunNext, run-fails, run-start, run-pair, run-asks, run-next, run-ends}
 use Rattle.unify.proofs.RunLaws.{ObjectLeft, ObjectNext, stored-start, object-none, object-pair, object-asks, object-next, stored-ends}
-use Rattle.unify.proofs.RunLaws.{both-success, steps-answer, steps-runs, steps-run, steps-objects, steps-object}
+use Rattle.unify.proofs.StepLaws.{answer-settles, way-answer, object-asked, object-settles, way-object, run-asked, run-settles, way-run}
 use Prim.Native.Nat.{ℕ, _+_, _-_, _*_, _<_, _≤_}
 use borrow.Fn.Kinds.{In}
 use borrow.Fn.PlainCycle.{Measures, is, falls, and}
@@ -137,10 +136,11 @@ unify-objects-μ-loop ws₀ ks n rule text memory₀ s depth inv r₀ j₀ ws me
 -- a name that both objects have
 name-there : (t : ℕ)
     (c : unify-objects-lts.After-invert-if (unify-objects-claims t) (unify-objects-at t) unify-objects.Post unify-objects-Inv-loop unify-objects-μ-loop)
-    → let l = c .before .before .before .before .before .before .before .before .before in
+    → let first = c .before .before .before .before .before .before in
+    let l = first .before .before .before in
     let a = l .before .before .before .before .before .before .before .before .before .args in
     ObjectNext (texts (a .rule .now) (a .text .now)) (a .ks .now) (a .ks .now) (a .ws .now) (a .ks .now) (a .memory .now) (a .n) (a .depth) (a .s)
-    (l .loop .ws) (l .loop .memory) (l .loop .r) (l .loop .j) (c .before .before .before .before .before .before .kid .result .0) (c .invert-if .result .0)
+    (l .loop .ws) (l .loop .memory) (l .loop .r) (l .loop .j) (first .kid .result .0) (c .invert-if .result .0)
 name-there t c =
     let matched = c .before .before in
     let sought = matched .before .before in
@@ -266,6 +266,10 @@ unify-objects-same-length-2 t c = c .before .before .loop .inv .1
 unify-objects-returns : (t : ℕ) → unify-objects-lts.Need-returns (unify-objects-claims t) (unify-objects-at t) unify-objects.Post unify-objects-Inv-loop unify-objects-μ-loop
 unify-objects-returns t c = stored-ends (c .before .before .loop .inv .2) (c .if1 .left)
 
+-- `enter`, where it gave the answer
+abbrev done : (t : ℕ) → unify-pair-lts.After-e (unify-pair-claims t) (unify-pair-at t) unify-pair.Post → unify-pair-lts.After-enter (unify-pair-claims t) (unify-pair-at t) unify-pair.Post
+done t c = c .before .before .before .before .before .before
+
 -- what the roots of two types ask for is left to be done
 module _ (t : ℕ) (c : unify-pair-lts.After-e2 (unify-pair-claims t) (unify-pair-at t) unify-pair.Post) where
   abbrev entered : unify-pair-lts.After-enter (unify-pair-claims t) (unify-pair-at t) unify-pair.Post
@@ -304,39 +308,43 @@ unify-pair-enum-known-p t c = search needs
 unify-pair-settle-requires : (t : ℕ) → unify-pair-lts.Need-settle-requires (unify-pair-claims t) (unify-pair-at t) unify-pair.Post
 unify-pair-settle-requires t c κs =
     let answered = c .before .before .before in
-    let left = left-there t (answered .before .before .before) in
-    kids-settles left (steps-answer _ (kids-asks left .0) (answered .p .given .1))
+    let steps = answered .before .before .before in
+    answer-settles (left-there t steps) (answered .p .given .1)
 
 unify-pair-enum-known-p-2 : (t : ℕ) → unify-pair-lts.Need-enum-known-p-2 (unify-pair-claims t) (unify-pair-at t) unify-pair.Post
 unify-pair-enum-known-p-2 t c = search needs
 
 unify-pair-sub-unify-objects : (t : ℕ) → unify-pair-lts.Need-sub-unify-objects (unify-pair-claims t) (unify-pair-at t) unify-pair.Post
-unify-pair-sub-unify-objects t c = deep-there t (c .before .before .before .before .before .before)
+unify-pair-sub-unify-objects t c =
+    let steps = c .before .before .before .before .before .before in
+    deep-there t steps
 
 unify-pair-unify-objects-requires : (t : ℕ) → unify-pair-lts.Need-unify-objects-requires (unify-pair-claims t) (unify-pair-at t) unify-pair.Post
 unify-pair-unify-objects-requires t c κs =
     let object = c .before .before .before in
     let steps = object .before .before .before in
-    (falls-there t steps, steps-objects _ (object .p2 .given .1) (kids-asks (left-there t steps)))
+    (falls-there t steps, object-asked (left-there t steps) (object .p2 .given .1))
 
 unify-pair-settle-requires-2 : (t : ℕ) → unify-pair-lts.Need-settle-requires-2 (unify-pair-claims t) (unify-pair-at t) unify-pair.Post
 unify-pair-settle-requires-2 t c κs =
     let unified = c .before .before .before .before .before .before in
     let object = unified .before .before .before .before in
     let steps = object .before .before .before in
-    kids-settles (left-there t steps) (steps-object _ (object .p2 .given .1) (unified .unify-objects .ensures))
+    object-settles (left-there t steps) (object .p2 .given .1) (unified .unify-objects .ensures)
 
 unify-pair-enum-known-p-3 : (t : ℕ) → unify-pair-lts.Need-enum-known-p-3 (unify-pair-claims t) (unify-pair-at t) unify-pair.Post
 unify-pair-enum-known-p-3 t c = search needs
 
 unify-pair-sub-unify-types : (t : ℕ) → unify-pair-lts.Need-sub-unify-types (unify-pair-claims t) (unify-pair-at t) unify-pair.Post
-unify-pair-sub-unify-types t c = deep-there t (c .before .before .before .before .before .before)
+unify-pair-sub-unify-types t c =
+    let steps = c .before .before .before .before .before .before in
+    deep-there t steps
 
 unify-pair-unify-types-requires : (t : ℕ) → unify-pair-lts.Need-unify-types-requires (unify-pair-claims t) (unify-pair-at t) unify-pair.Post
 unify-pair-unify-types-requires t c κs =
     let run = c .before .before .before in
     let steps = run .before .before .before in
-    (falls-there t steps, steps-runs _ (run .p3 .given .1) (kids-asks (left-there t steps)))
+    (falls-there t steps, run-asked (left-there t steps) (run .p3 .given .1))
 
 unify-pair-and-requires : (t : ℕ) → unify-pair-lts.Need-and-requires (unify-pair-claims t) (unify-pair-at t) unify-pair.Post
 unify-pair-and-requires t c κs = search needs
@@ -347,22 +355,16 @@ unify-pair-settle-requires-3 t c κs =
     let unified = anded .before .before .before .before .before in
     let run = unified .before .before .before .before in
     let steps = run .before .before .before in
-    kids-settles (left-there t steps) {r = anded .and .result} (steps-run _ (run .p3 .given .1) (unified .unify-types .ensures) (anded .and .ensures))
+    run-settles (left-there t steps) (run .p3 .given .1) (unified .unify-types .ensures) (anded .and .result) (anded .and .ensures)
 
 unify-pair-same-length : (t : ℕ) → unify-pair-lts.Need-same-length (unify-pair-claims t) (unify-pair-at t) unify-pair.Post
-unify-pair-same-length t c =
-    let entered = c .before .before .before .before .before .before .before in
-    entered .enter .kept .0
+unify-pair-same-length t c = done t (c .before) .enter .kept .0
 
 unify-pair-same-length-2 : (t : ℕ) → unify-pair-lts.Need-same-length-2 (unify-pair-claims t) (unify-pair-at t) unify-pair.Post
-unify-pair-same-length-2 t c =
-    let entered = c .before .before .before .before .before .before .before in
-    entered .enter .kept .1 .1 .1 .1 .1 .0
+unify-pair-same-length-2 t c = done t (c .before) .enter .kept .1 .1 .1 .1 .1 .0
 
 unify-pair-returns : (t : ℕ) → unify-pair-lts.Need-returns (unify-pair-claims t) (unify-pair-at t) unify-pair.Post
-unify-pair-returns t c =
-    let entered = c .before .before .before .before .before .before .before in
-    entered-done _ _ _ (entered .enter .ensures) (c .before .e .given .1)
+unify-pair-returns t c = entered-done _ _ _ (done t (c .before) .enter .ensures) (c .before .e .given .1)
 
 unify-pair-same-length-3 : (t : ℕ) → unify-pair-lts.Need-same-length-3 (unify-pair-claims t) (unify-pair-at t) unify-pair.Post
 unify-pair-same-length-3 t c =
@@ -380,8 +382,8 @@ unify-pair-returns-2 : (t : ℕ) → unify-pair-lts.Need-returns-2 (unify-pair-c
 unify-pair-returns-2 t c =
     let settled = c .before .before .before .before in
     let answered = settled .before .before .before .before in
-    let left = left-there t (answered .before .before .before) in
-    way-kids left (steps-answer _ (kids-asks left .0) (answered .p .given .1)) (settled .settle .ensures)
+    let steps = answered .before .before .before in
+    way-answer (left-there t steps) (answered .p .given .1) (settled .settle .ensures)
 
 unify-pair-same-length-5 : (t : ℕ) → unify-pair-lts.Need-same-length-5 (unify-pair-claims t) (unify-pair-at t) unify-pair.Post
 unify-pair-same-length-5 t c =
@@ -403,7 +405,7 @@ unify-pair-returns-3 t c =
     let unified = settled .before .before .before .before .before .before .before in
     let object = unified .before .before .before .before in
     let steps = object .before .before .before in
-    way-kids (left-there t steps) (steps-object _ (object .p2 .given .1) (unified .unify-objects .ensures)) (settled .settle2 .ensures)
+    way-object (left-there t steps) (object .p2 .given .1) (unified .unify-objects .ensures) (settled .settle2 .ensures)
 
 unify-pair-same-length-7 : (t : ℕ) → unify-pair-lts.Need-same-length-7 (unify-pair-claims t) (unify-pair-at t) unify-pair.Post
 unify-pair-same-length-7 t c =
@@ -426,7 +428,7 @@ unify-pair-returns-4 t c =
     let unified = anded .before .before .before .before .before in
     let run = unified .before .before .before .before in
     let steps = run .before .before .before in
-    way-kids (left-there t steps) (steps-run _ (run .p3 .given .1) (unified .unify-types .ensures) (anded .and .ensures)) (settled .settle3 .ensures)
+    way-run (left-there t steps) (run .p3 .given .1) (unified .unify-types .ensures) (anded .and .result) (anded .and .ensures) (settled .settle3 .ensures)
 
 abbrev unify-types-Inv-loop : unify-types-lts.InvT-loop
 unify-types-Inv-loop ws₀ ks n rule text memory₀ s depth inv r₀ i₀ ws memory r i =

@@ -21,17 +21,17 @@ same-length-2 c = search needs
 
 returns-2 : tie.Need-returns-2
 returns-2 c =
-    let b5 = c .before .before .before .before .before in
-    let b8 = b5 .before .before .before in
-    let b14 = b8 .before .before .before .before .before .before in
-    small-merged (b14 .pre) (λ e. omega (arith, b8 .if1 .left)) (b5 .small .ensures) (c .if2 .taken)
+    let tried = c .before .before .before .before .before in
+    let deep = tried .before .before .before in
+    let start = deep .before .before .before .before .before .before in
+    small-merged (start .pre) (λ e. omega (arith, deep .if1 .left)) (tried .small .ensures) (c .if2 .taken)
 
 unify-pair-requires : tie.Need-unify-pair-requires
 unify-pair-requires c κs =
-    let b2 = c .before .before in
-    let b7 = b2 .before .before .before .before .before in
-    let b16 = b7 .before .before .before .before .before .before .before .before .before in
-    small-asked (b16 .pre) (b7 .small .ensures) (b2 .if2 .left)
+    let tested = c .before .before in
+    let tried = tested .before .before .before .before .before in
+    let start = tried .before .before .before .before .before .before .before .before .before in
+    small-asked (start .pre) (tried .small .ensures) (tested .if2 .left)
 
 same-length-3 : tie.Need-same-length-3
 same-length-3 c = search needs
@@ -41,11 +41,11 @@ same-length-4 c = search needs
 
 returns-3 : tie.Need-returns-3
 returns-3 c =
-    let b4 = c .before .before .before .before in
-    let b7 = b4 .before .before .before in
-    let b12 = b7 .before .before .before .before .before in
-    let b21 = b12 .before .before .before .before .before .before .before .before .before in
-    small-not (b21 .pre) (b12 .small .ensures) (b7 .if2 .left) (b4 .unify-pair .ensures)
+    let unified = c .before .before .before .before in
+    let tested = unified .before .before .before in
+    let tried = tested .before .before .before .before .before in
+    let start = tried .before .before .before .before .before .before .before .before .before in
+    small-not (start .pre) (tried .small .ensures) (tested .if2 .left) (unified .unify-pair .ensures)
 
 pub unify-spec : {M : Type 1} → statement M
 unify-spec =
