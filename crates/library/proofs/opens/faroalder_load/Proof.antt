@@ -43,6 +43,7 @@ use Rattle.records.proofs.load.Symbol as load-def
 use Rattle.records.proofs.load.Symbol.{name as #records·load}
 use Rattle.records.proofs.load.Met as load-thm
 use Rattle.library.proofs.opens.faroalder_load.Key.{name as #library·load}
+use Rattle.library.proofs.opens.faroalder_load as load′
 use Rattle.library.proofs.opens.faroalder_load.Statement as stated
 use Rattle.library.proofs.opens.faroalder_load.Code as code
 
