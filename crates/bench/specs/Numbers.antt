@@ -21,7 +21,7 @@ use Rattle.types.specs.declared.UnifyResult.the-variants.{Success, Failure, Ind
 abbrev pub typeWord : ℕ → «Type»
 typeWord w = record { 0 = w }
 
--- "0 Success, 1 Failure, 2 Indeterminate"
+-- 0 Success, 1 Failure, 2 Indeterminate
 abbrev pub RESULTS : ℕ
 RESULTS = 3
 
