@@ -198,7 +198,7 @@ static const uint64_t faroalder_nothing = 0;
  * less, at the end of this file.
  *
  * faroalder_X tests everything: the chart, the texts and the whole store, each time. On 4,096 nodes that takes some
- * 50 to 70 microseconds, and up to 1.6 milliseconds where the runs of children overlap.
+ * 50 to 80 microseconds, and up to 1.7 milliseconds where the runs of children overlap.
  *
  * faroalder_tested_X tests its own arguments and nothing else. It is for rules and a store that were tested once,
  * and that only this library has written since:
