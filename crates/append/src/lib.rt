@@ -1,3 +1,4 @@
+#![tactic(auto)]
 // Bytes appended to a text in a lent buffer. A place above the buffer's length says that the text did not fit; a full buffer is left alone, so
 // pieces may follow one another without a test between them.
 ghost use Rattle.std.specs.Prelude.{◌≡◌, [], ◌∷◌, ◌+◌, ◌<◌, ltb, length};
@@ -20,10 +21,10 @@ pub fn put(buf: &mut [u8], at: usize, piece: &[u8]) -> usize
     }
     let room = buf.len() - at;
     if room < piece.len() {
-        bytes::copy(&piece[..room], &mut buf[at..]);
+        buf[at..].copy_from_slice(&piece[..room]);
         return buf.len() + 1;
     }
-    bytes::copy(piece, &mut buf[at..]);
+    buf[at..at + piece.len()].copy_from_slice(piece);
     at + piece.len()
 }
 

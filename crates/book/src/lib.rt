@@ -1,3 +1,4 @@
+#![tactic(auto)]
 // A names buffer in one lent slice: where its places lie, how a place's parts and its name are read, and how a name is written and taken away. A place is
 // read and written as a slice of its own, `ps`, its words and no others. Nothing here looks at a held store: that is what is above.
 ghost use Rattle.std.specs.Prelude.{◌≡◌, true, ◌≤◌, ◌<◌, length, get_or, set};
@@ -20,7 +21,7 @@ pub const NAME_WORDS: usize = MAX_STATE_NAME + 1;
 pub const NODES_FROM: usize = NAME_WORDS + HEAD_WORDS;
 
 // The capacities that a names buffer was made for.
-#[derive(Drop)]
+#[derive(Clone, Copy)]
 pub struct Room {
     pub nodes: u32,
     pub children: u32,

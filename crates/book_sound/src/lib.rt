@@ -1,3 +1,4 @@
+#![tactic(auto)]
 // Refusal 8 of a names buffer: "unsound, too short or made for other capacities". Any numbers at all may be lent. Lengths and capacities are tested first,
 // then each held place once, whatever is asked for, by the tests that a store has; last that no two names are the same.
 ghost use Rattle.std.specs.Prelude.{◌≡◌, true, ◌≤◌, length};

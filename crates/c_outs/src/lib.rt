@@ -1,3 +1,4 @@
+#![tactic(auto)]
 // Answers that are more than one number, told to a caller in another language through a lent array of fixed size: which case it is, is the number that is
 // returned, and the array has its values, with 0 for what the case lacks. A refusal leaves the array as found.
 ghost use Rattle.std.specs.Prelude.{◌≡◌};

@@ -1,3 +1,4 @@
+#![tactic(auto)]
 // What a caller in another language gives and gets, as numbers. A type is its word; a public call answers a value's number, which is below 4,294,967,296, or
 // the sum of 4,294,967,296 and a refusal's number.
 ghost use Rattle.std.specs.Prelude.{◌≡◌, true};

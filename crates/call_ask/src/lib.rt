@@ -1,3 +1,4 @@
+#![tactic(auto)]
 // The public calls that ask a question of a type through its root, on any numbers at all: `is_nil`, `self_inverse`, `get_mod` and `find_related`. Each tests
 // chart and store and refuses with 2 or 8, or is its form for a tested store.
 pub mod tested;
@@ -17,7 +18,7 @@ use types::Type;
 use walk::Mod;
 
 // get_mod's answer, or a refusal's number.
-#[derive(Drop)]
+#[derive(Clone, Copy)]
 pub enum ModAnswer {
     Is(Mod),
     Refused(u32),

@@ -1,3 +1,4 @@
+#![tactic(auto)]
 // `import` and `export` on any numbers at all. `import` tests chart and both stores and refuses with 2, 8 or 9; `export` tests the opening, which comes first in
 // 01's order, then chart and source, and refuses with 1, 2 or 8. Otherwise each is its form for tested stores.
 ghost use Rattle.std.specs.Prelude.{length};

@@ -1,3 +1,4 @@
+#![tactic(auto)]
 // The calls `force_kind`, `finish_inference` and `finish_inference_where` on any numbers at all: each tests chart and store and refuses with 2 or 8, or is its
 // form for a tested store.
 pub mod tested;
@@ -16,7 +17,7 @@ use refusals::NO_REFUSAL;
 use types::{Inverted, Type};
 
 // A forced type's inversion and kind; or none, and then the span of one that had not failed before; or a refusal's number.
-#[derive(Drop)]
+#[derive(Clone, Copy)]
 pub enum ForcedAnswer {
     Known(Inverted, Kind),
     Reported(u32),

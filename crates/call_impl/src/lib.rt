@@ -1,3 +1,4 @@
+#![tactic(auto)]
 // The calls on impl types, each a trait over a lent list of types or an error, on any numbers at all: `unify_impl_type` and `approx_eq`. Each tests chart and store
 // and refuses with 2 or 8, or is its form for a tested store. The first has a form with a lent memory, any slice whatever it holds, and the same answer and nodes.
 pub mod tested;

@@ -1,3 +1,4 @@
+#![tactic(auto)]
 // The call that opens a store, on any numbers at all: it is refused with 1 alone.
 ghost use Rattle.scope.specs.Calls.{open_call};
 ghost use Rattle.refusals.specs.Opening.{enough};

@@ -1,3 +1,4 @@
+#![tactic(auto)]
 // The public calls that read a store, on any numbers at all: a node as it stands, its children and names by their index, and the figures. Each tests chart and
 // store and refuses with 2 or 8, or is its form for a tested store.
 pub mod tested;
@@ -17,7 +18,7 @@ use refusals::NO_REFUSAL;
 use types::{Inverted, Type};
 
 // A node as it stands, or a refusal's number. A root's last number is the size of its tree.
-#[derive(Drop)]
+#[derive(Clone, Copy)]
 pub enum NodeAnswer {
     Known(Inverted, Kind, u32),
     // The span, and the size.
@@ -29,7 +30,7 @@ pub enum NodeAnswer {
 }
 
 // A child, none past the end, or a refusal's number.
-#[derive(Drop)]
+#[derive(Clone, Copy)]
 pub enum ChildAnswer {
     Is(Type),
     Nothing,
@@ -37,7 +38,7 @@ pub enum ChildAnswer {
 }
 
 // A name, none, or a refusal's number.
-#[derive(Drop)]
+#[derive(Clone, Copy)]
 pub enum NameAnswer {
     Is(Name),
     Nothing,
@@ -45,7 +46,7 @@ pub enum NameAnswer {
 }
 
 // What of a store is no node, or a refusal's number.
-#[derive(Drop)]
+#[derive(Clone, Copy)]
 pub enum FiguresAnswer {
     Is(Header),
     Refused(u32),

@@ -1,3 +1,4 @@
+#![tactic(auto)]
 // The public printers, on any numbers at all: `show` and `show_impl_type` "write 000's text into a lent buffer and answer its length or a refusal". Each tests
 // chart and store and refuses with 2 or 8, or is its form for a tested store. Then their second forms: "A second form of each hands back the written front part
 // of that buffer: on 7 the whole buffer, on any other refusal an empty part." The refusal's number, 0 where none stands, is told through a lent number beside the

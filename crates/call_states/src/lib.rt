@@ -1,3 +1,4 @@
+#![tactic(auto)]
 // The calls on a store and its names buffer, on any numbers at all: opening a names buffer is refused with 1 alone; the others test chart, store and names
 // buffer and refuse with 2 or 8, or are their forms for tested ones.
 pub mod tested;

@@ -1,3 +1,4 @@
+#![tactic(auto)]
 // The call `unify`, on any numbers at all: it tests chart and store and refuses with 2 or 8, or is its form for a tested store. With a lent memory a type that is
 // shared and fails deep down is not visited again and again; the answer and every node are the same.
 pub mod tested;
@@ -19,7 +20,7 @@ use scope::MAX_NODES;
 use types::{Type, UnifyResult};
 
 // Unify's answer, or a refusal's number.
-#[derive(Drop)]
+#[derive(Clone, Copy)]
 pub enum UnifyAnswer {
     Is(UnifyResult),
     Refused(u32),

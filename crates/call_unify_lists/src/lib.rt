@@ -1,3 +1,4 @@
+#![tactic(auto)]
 // The calls that unify lent lists of types, entries and signatures, on any numbers at all: each tests chart and store and refuses with 2 or 8, or is its form for a
 // tested store. Each has a form with a lent memory, any slice whatever it holds, and the same answer and nodes.
 ghost use Rattle.scope.specs.Types.{ty_of};

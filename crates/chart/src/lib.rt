@@ -1,3 +1,4 @@
+#![tactic(auto)]
 // The chart's records on plain numbers, what stands beside the chart, and the test of chart and texts. One function, word, reads the chart; a definition
 // that the chart lacks reads as a record of no sort.
 ghost use Rattle.std.specs.Prelude.{◌≡◌, [], ◌≤◌, ◌<◌, ◌+◌, length, get_or};
@@ -29,7 +30,7 @@ const DUAL_FIELD: usize = 8;
 const TRAIT_FIELD: usize = 9;
 
 // The number of the builtin fn trait, and the four sigils in Flex's order, three words each.
-#[derive(Drop)]
+#[derive(Clone, Copy)]
 pub struct Beside {
     pub fn_trait: u32,
     pub sigils: [u32; 12],

@@ -1,3 +1,4 @@
+#![tactic(auto)]
 // The words' part of refusal 8: whether three slices, of any lengths, hold a store at all. Here "a field outside its values" and "unused numbers not zero"
 // are found, and slices that are too short; whether the store is sound is not asked.
 //

@@ -1,3 +1,4 @@
+#![tactic(auto)]
 // `import` and `export`: "a list of at most 255 types, one shared mapping". The mapping is a table with a number for each node of the source, which one
 // list after another goes through. Callers have tested the source and the room, so nothing here can fail.
 ghost use Rattle.std.specs.Prelude.{length};

@@ -1,3 +1,4 @@
+#![tactic(auto)]
 // A list of types copied out of one store into another, and a type that the source remembers: a list of one or none. Lists that go through one table
 // share their copies. Nothing here can fail: what is asked for is room.
 ghost use Rattle.std.proofs.Math.Option.{none};

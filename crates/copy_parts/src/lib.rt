@@ -1,3 +1,4 @@
+#![tactic(auto)]
 // The steps of copying types out of one store into another, by a table with a number for each node of the source: 0 where a root has no copy, else its
 // copy's number and 1. What a root becomes; its blank, a child moved, the kind taken. Nothing here can fail: what is asked for is room.
 ghost use Rattle.std.specs.Prelude.{◌≡◌, ◌+◌, ◌*◌, ◌≤◌, length, get_or, set};
@@ -14,7 +15,7 @@ use scope::NONE;
 use types::{Inverted, Type, TypeIdx};
 
 // What a source root becomes.
-#[derive(Drop)]
+#[derive(Clone, Copy)]
 pub enum Place {
     // Its copy, or its entry: "a Param is replaced by that entry and no node is made".
     Is(Type),

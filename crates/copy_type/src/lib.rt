@@ -1,3 +1,4 @@
+#![tactic(auto)]
 // A type copied out of one store into another, with all below it: "Each source root becomes a new Unknown before its children are walked, then takes
 // its kind." A table with a number for each node of the source says which roots have a copy, and a cache keeps the roots found. Nothing here can fail:
 // what is asked for is room.

@@ -1,3 +1,4 @@
+#![tactic(auto)]
 // "An Unknown becomes InferenceFailed, its span is in the answer"; the report count rises. And what gives every root a kind at the end.
 // Each does what scope's definition says of the store that three lent slices hold.
 ghost use Rattle.std.specs.Prelude.{◌≡◌, true, ◌≤◌, length};
@@ -13,7 +14,7 @@ use scope::MAX_REPORTS;
 use types::{Inverted, Type, TypeIdx};
 
 // What a forced type has: its inversion and kind; or none, and then the span of a type that had not failed before.
-#[derive(Drop)]
+#[derive(Clone, Copy)]
 pub enum Forced {
     Known(Inverted, Kind),
     Reported(u32),

@@ -1,3 +1,4 @@
+#![tactic(auto)]
 // The header's words one by one, and a new root's few words, for functions that want no more of them. They ask for a header's eight words, and test
 // no length.
 ghost use Rattle.std.specs.Prelude.{◌≡◌, ◌+◌, ◌*◌, ◌≤◌, length, get_or};

@@ -1,3 +1,4 @@
+#![tactic(auto)]
 // What changes nodes beside a memory, and tells it: finding a root, and settling the answer of two. An answer that is no Success is noted; where a node may have
 // changed, nothing is believed any more.
 ghost use Rattle.scope.specs.Types.{ty_of};

@@ -1,3 +1,4 @@
+#![tactic(auto)]
 // Whether a type is its own inverse: scope's `self_inverse_of` of the n nodes in ws, whose children lie in ks. Its root and a walk of some visits tell it, or nothing; a walk
 // with marks tells it always.
 ghost use Rattle.std.specs.Prelude.{◌≡◌, ◌≤◌, ◌<◌, eqb, length, get_or};
@@ -13,7 +14,7 @@ use layout::{Held, Kind};
 use types::{Type, TypeIdx};
 
 // What a look at children tells of what is asked, whether a node is below or whether one is not good: there is one, or there is none, or only a walk with marks can tell.
-#[derive(Drop)]
+#[derive(Clone, Copy)]
 pub enum Glance {
     Met,
     Clear,
@@ -21,7 +22,7 @@ pub enum Glance {
 }
 
 // What a root tells of `self_inverse` by itself: it is not good, or good, or good where its children are, so many from the first on.
-#[derive(Drop)]
+#[derive(Clone, Copy)]
 enum Judgement {
     Bad,
     Good,

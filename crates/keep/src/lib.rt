@@ -1,3 +1,4 @@
+#![tactic(auto)]
 // The used words of a store, kept in other slices and put back. Only what a store uses is copied: its head, the words of the nodes that it made and those
 // of their children. proofs/Front has why that is enough: what a store is does not depend on words behind these. Nothing here tests.
 ghost use Rattle.std.specs.Prelude.{◌≡◌, ◌≤◌, length};

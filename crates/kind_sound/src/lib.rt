@@ -1,3 +1,4 @@
+#![tactic(auto)]
 // Whether a kind is sound. Refusals 4 and 5 turn back what can't be made and what is not defined; a store's kinds have also the chart's flag, and their
 // children are nodes of the store. A kind is read with the children's words, so the same tests serve a kind that is to be made and one that a store has.
 //

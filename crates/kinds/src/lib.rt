@@ -1,3 +1,4 @@
+#![tactic(auto)]
 // "The fifteen kinds stand in one fixed table of rows, each giving children and self-duality."
 // The table is scope's `rows`, and each test says of a code what scope's definition says of its row.
 ghost use Rattle.std.specs.Prelude.{◌≡◌};
@@ -93,7 +94,7 @@ pub const NO_SORT: u32 = 8;
 pub const MAX_FLEX: u32 = 3;
 
 // A row; a definition has one of the two sorts.
-#[derive(Drop)]
+#[derive(Clone, Copy)]
 pub struct Row {
     pub shape: u8,
     pub dual: u8,

@@ -1,3 +1,4 @@
+#![tactic(auto)]
 // A store in three lent slices of numbers: where each number lies, and how a node, a child and the header are read and written.
 // Nothing above this crate but `heads` reads a word: it uses these functions and the laws of proofs/.
 mod encoding;
@@ -30,7 +31,7 @@ pub const FAILED_TAG: u32 = 2;
 pub const KNOWN_TAG: u32 = 3;
 
 // A kind: its code, its number, its self-dual flag, its Flex, its own name or zeros, and its children, which lie from `first` on.
-#[derive(Drop)]
+#[derive(Clone, Copy)]
 pub struct Kind {
     pub code: u32,
     pub number: u32,
@@ -42,7 +43,7 @@ pub struct Kind {
 }
 
 // The state of a type variable.
-#[derive(Drop)]
+#[derive(Clone, Copy)]
 pub enum TypeState {
     Known(Inverted, Kind),
     // Not yet inferred: the span at which an error would be issued.
@@ -51,7 +52,7 @@ pub enum TypeState {
 }
 
 // A node in the union-find tree for the unification of type variables.
-#[derive(Drop)]
+#[derive(Clone, Copy)]
 pub enum TypeNode {
     // The size of the tree rooted at this node.
     Root { state: TypeState, size: u32 },
@@ -59,14 +60,14 @@ pub enum TypeNode {
 }
 
 // A node's inversion and kind, if it has a kind.
-#[derive(Drop)]
+#[derive(Clone, Copy)]
 pub enum Held {
     Is(Inverted, Kind),
     Nothing,
 }
 
 // A node's twelve words.
-#[derive(Drop)]
+#[derive(Clone, Copy)]
 pub struct Cell {
     pub tag: u32,
     pub link: u32,
@@ -81,21 +82,21 @@ pub struct Cell {
 }
 
 // A child of a kind: its type, and its name or zeros.
-#[derive(Drop)]
+#[derive(Clone, Copy)]
 pub struct Slot {
     pub ty: Type,
     pub name: Name,
 }
 
 // A type that `error` or `nil` returns again, if there is one.
-#[derive(Drop)]
+#[derive(Clone, Copy)]
 pub enum Remembered {
     Is(Type),
     Nothing,
 }
 
 // What of a store is no node: the counts, the capacities, the remembered types and the report count.
-#[derive(Drop)]
+#[derive(Clone, Copy)]
 pub struct Header {
     pub nodes: u32,
     pub children: u32,

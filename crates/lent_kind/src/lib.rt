@@ -1,3 +1,4 @@
+#![tactic(auto)]
 // A kind that is lent to a maker, and what is tested of it: 4 and 5, and of a list of types 3 and its width. Its numbers and its children's entries may be
 // any at all; its flag is the chart's.
 ghost use Rattle.std.specs.Prelude.{◌≡◌, ◌≤◌, length};
@@ -18,7 +19,7 @@ use scope::MAX_WIDTH;
 use types::Type;
 
 // What a kind is made of, its children and their names apart. Its flag is the chart's.
-#[derive(Drop)]
+#[derive(Clone, Copy)]
 pub struct KindArgs {
     pub code: u32,
     pub number: u32,

@@ -1,3 +1,4 @@
+#![tactic(auto)]
 // What the public calls test of lent types, lists, entries and impl types: 3 over all types of all lists, however long these are, then 4, then 5. Any numbers
 // may be lent.
 ghost use Rattle.std.specs.Prelude.{◌≡◌, []};

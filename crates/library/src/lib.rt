@@ -1,3 +1,4 @@
+#![tactic(auto)]
 // Every public call under a C name, for programs in other languages: c/faroalder.h says for people what the contracts say. Each is one call of the library's own
 // function. Its arguments come as numbers and its answer goes as one, or as words of a lent array; `c_words` and `c_outs` say how. There are two families: the first
 // has no `requires`; the second, `faroalder_tested_..` in the modules `tested_..`, asks for a chart and a store that passed the test, and tests only its own arguments. Some of

@@ -1,3 +1,4 @@
+#![tactic(auto)]
 // The makers: a store is opened or emptied, and gets one node more. Each does what scope's definition says of the store that three lent slices
 // hold. None tests: what it asks is in its `requires`. A maker's time does not grow with the store.
 ghost use Rattle.std.specs.Prelude.{◌≡◌, true, false, ◌+◌, ◌≤◌, ◌<◌, length};
@@ -23,7 +24,7 @@ use names::Name;
 use types::{Inverted, Type, TypeIdx};
 
 // What of a kind is neither a child nor a child's name.
-#[derive(Drop)]
+#[derive(Clone, Copy)]
 pub struct Head {
     pub code: u32,
     pub number: u32,

@@ -1,3 +1,4 @@
+#![tactic(auto)]
 // The first words of a lent memory: a mark for each node. It is any slice, whatever it holds; past its end every word is 0. Words 0 and 1 are the caller's, the third says
 // whether there are marks, then come the marks, a bit for each node, and from HEAD on the words are the caller's again. What a mark means is the caller's too: here is
 // said only which nodes have one.

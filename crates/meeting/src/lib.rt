@@ -1,3 +1,4 @@
+#![tactic(auto)]
 // What two roots ask for, and what is read of their children on the way. Nothing here changes a word.
 ghost use Rattle.std.specs.Prelude.{◌≡◌, ◌+◌, ◌≤◌, length};
 ghost use Rattle.scope.specs.Types.{ty_of};
@@ -15,21 +16,21 @@ use plan::{Plan, Runs};
 use types::{Type, UnifyResult};
 
 // A walk, or their children first.
-#[derive(Drop)]
+#[derive(Clone, Copy)]
 pub enum Meeting {
     Walk,
     Kids(Plan),
 }
 
 // After a walk: nothing more, or a merge.
-#[derive(Drop)]
+#[derive(Clone, Copy)]
 pub enum Walked {
     Done(UnifyResult),
     Bind,
 }
 
 // What two kinds ask of their children: an answer, two runs beside an answer, or two objects.
-#[derive(Drop)]
+#[derive(Clone, Copy)]
 pub enum Steps {
     Answer(UnifyResult),
     Run(UnifyResult, Runs),
@@ -37,7 +38,7 @@ pub enum Steps {
 }
 
 // The type beside a name.
-#[derive(Drop)]
+#[derive(Clone, Copy)]
 pub enum Sought {
     Is(Type),
     Nothing,

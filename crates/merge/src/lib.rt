@@ -1,3 +1,4 @@
+#![tactic(auto)]
 // Two roots become one: "The first root stays if its size is larger; on equal sizes it becomes the child." The node words change as scope's join, merge,
 // bind and settle say of the nodes that they hold. Nothing here reads a child's words.
 ghost use Rattle.std.specs.Prelude.{◌≡◌, ◌≤◌, length};
@@ -12,7 +13,7 @@ use scope::NONE;
 use types::{Type, TypeIdx, UnifyResult};
 
 // The size of a root without a kind.
-#[derive(Drop)]
+#[derive(Clone, Copy)]
 pub enum Bare {
     Is(u32),
     Nothing,

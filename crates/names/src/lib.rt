@@ -1,3 +1,4 @@
+#![tactic(auto)]
 // "A name is a part of the rule text or of the chart text, compared as bytes." Its lookup returns a part of one of the two lent slices. No call here asks anything of its arguments.
 ghost use Rattle.std.specs.Prelude.{◌≡◌, min, length, take, drop};
 ghost use Rattle.scope.specs.Names.{text_of, bytes, in_text, name_ok, eq_bytes, lt_bytes};
@@ -6,7 +7,7 @@ ghost use Rattle.names.specs.Place.{texts, name_of, PIECE};
 use scope::MAX_NAME;
 
 // text 0 is the rule text, any other number the chart text.
-#[derive(Drop)]
+#[derive(Clone, Copy)]
 pub struct Name {
     pub text: u32,
     pub start: u32,

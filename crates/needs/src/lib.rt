@@ -1,3 +1,4 @@
+#![tactic(auto)]
 // What an import needs: "nodes made plus those needed" of 10, "the same for children" of 11, and 6's "Param with no entry". A walk over the source alone
 // goes where the copying goes, counts each root once and copies nothing, so that a call can turn back before a word is written.
 ghost use Rattle.std.specs.Prelude.{◌≡◌, not, ◌+◌, ◌≤◌, eqb, get_or, set, length};
@@ -15,7 +16,7 @@ use layout::{Held, Kind, Remembered, Slot};
 use scope::MAX_NODES;
 use types::{Type, TypeIdx};
 
-#[derive(Drop)]
+#[derive(Clone, Copy)]
 pub struct Needs {
     // Is there a Param with no entry?
     pub missing: bool,
@@ -24,14 +25,14 @@ pub struct Needs {
 }
 
 // What the walk uses of a parameter list: whether there is one, and of how many entries. In an empty list no Param has an entry.
-#[derive(Drop)]
+#[derive(Clone, Copy)]
 pub enum Params {
     None,
     Entries(u32),
 }
 
 // What a root of the source asks for.
-#[derive(Drop)]
+#[derive(Clone, Copy)]
 pub enum Asks {
     // "a Param is replaced by that entry and no node is made"
     Replaced,

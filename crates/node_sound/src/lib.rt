@@ -1,3 +1,4 @@
+#![tactic(auto)]
 // Refusal 8 of each node: its words say a node, and that node is sound. `clean` has the test of the words and `kind_sound` that of the node; of most kinds
 // both are known at once, by one look at the node and at each child.
 //

@@ -1,3 +1,4 @@
+#![tactic(auto)]
 // Whether a root is its own inverse, beside a lent memory: every root that a good walk met is its own inverse too, and stays so whatever merges. So all of them are
 // marked in the memory, and no walk goes below a marked node: however many ask, what is found good is walked over once.
 ghost use Rattle.own_inverse.specs.Own.{OwnAsks, OwnTold};

@@ -1,3 +1,4 @@
+#![tactic(auto)]
 // Two Known kinds, and whether their inversions differ, to what is to be done: the match of the Rust's unify, in its order. Children are named by
 // the place of the first and their number; nothing here reads them.
 ghost use Rattle.std.specs.Prelude.{◌≡◌};
@@ -9,7 +10,7 @@ use layout::Kind;
 use types::{Inverted, UnifyResult};
 
 // Two runs of children: the places of the first ones, and how many each has.
-#[derive(Drop)]
+#[derive(Clone, Copy)]
 pub struct Runs {
     pub a: u32,
     pub na: u32,
@@ -18,7 +19,7 @@ pub struct Runs {
     pub inv: Inverted,
 }
 
-#[derive(Drop)]
+#[derive(Clone, Copy)]
 pub enum Plan {
     Answer(UnifyResult),
     Run(Runs),

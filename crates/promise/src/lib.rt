@@ -1,3 +1,4 @@
+#![tactic(auto)]
 // What the public calls share: their answers, and the test of 3 for one type. A call tests in document 01's order, 2 and 8 first, and what it promises is
 // the record `Promised`: its whole outcome, and every word afterwards. Each call on a store has a second form for words that 2 and 8 do not turn back (`Tested`).
 ghost use Rattle.std.specs.Prelude.{[], ◌∷◌};
@@ -8,28 +9,28 @@ use refusals::{NO_REFUSAL, OUTSIDE};
 use types::Type;
 
 // A type, or a refusal's number.
-#[derive(Drop)]
+#[derive(Clone, Copy)]
 pub enum TypeAnswer {
     Is(Type),
     Refused(u32),
 }
 
 // Yes or no, or a refusal's number.
-#[derive(Drop)]
+#[derive(Clone, Copy)]
 pub enum BoolAnswer {
     Is(bool),
     Refused(u32),
 }
 
 // A count, or a refusal's number.
-#[derive(Drop)]
+#[derive(Clone, Copy)]
 pub enum CountAnswer {
     Is(usize),
     Refused(u32),
 }
 
 // Nothing more to say, or a refusal's number.
-#[derive(Drop)]
+#[derive(Clone, Copy)]
 pub enum DoneAnswer {
     Done,
     Refused(u32),

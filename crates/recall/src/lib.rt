@@ -1,3 +1,4 @@
+#![tactic(auto)]
 // A lent memory of pairs of types and their answers. It is any slice, whatever it holds. The first word is the clock, the second says how many visits are left
 // before anything is remembered, then come the marks of nodes, and then the entries, four words each: a pair, the clock when it was noted, and its answer. An entry
 // is believed while the clock is what it was then; marks stay. What a pair and an answer mean is the caller's: here is said only which entries are believed.
@@ -25,14 +26,14 @@ pub const VISITS: u32 = 4096;
 pub const WALK: u32 = 64;
 
 // A pair's answer, where it is believed.
-#[derive(Drop)]
+#[derive(Clone, Copy)]
 pub enum Recalled {
     Is(UnifyResult),
     Nothing,
 }
 
 // Where a pair's entry lies, where something may be remembered.
-#[derive(Drop)]
+#[derive(Clone, Copy)]
 pub enum Place {
     At(usize),
     Nothing,

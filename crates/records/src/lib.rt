@@ -1,3 +1,4 @@
+#![tactic(auto)]
 // The chart as a slice of structs: "The chart is a lent slice of records, one for each definition". `load` writes the words that every call takes, ten a
 // record, over any records at all; two readers copy a record, or its sort, out. Each function here that takes the slice is proved by a walk of its code by
 // hand, so nothing else takes it, and everything above works on words.
@@ -11,7 +12,7 @@ use refusals::{NO_REFUSAL, SHORT};
 
 // "A name is a part of the rule text or of the chart text": 0 or 1, where it begins, and its length.
 #[repr(C)]
-#[derive(Drop)]
+#[derive(Clone, Copy)]
 pub struct Part {
     pub text: u32,
     pub start: u32,
@@ -21,7 +22,7 @@ pub struct Part {
 // "sort (opaque, struct, enum, union, concrete fn, const, trait, trait fn: 0 to 7), name, path, def number, self-dual flag 0 or 1, and for a trait fn its
 // trait; a flag or trait that its sort lacks is 0". Its words stand in this order.
 #[repr(C)]
-#[derive(Drop)]
+#[derive(Clone, Copy)]
 pub struct Record {
     pub sort: u32,
     pub name: Part,

@@ -1,3 +1,4 @@
+#![tactic(auto)]
 // Every refusal's number, and the tests behind them that look at no more than capacities, lengths and the number of nodes: opening (1), listed types (3)
 // and room (10 and 11). A test gives the number of the first refusal that stands, or 0; `code_of` says what that is among scope's tests.
 ghost use Rattle.std.specs.Prelude.{◌≡◌, List, [], ◌∷◌, ℕ, ◌+◌, ltb, length};

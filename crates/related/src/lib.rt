@@ -1,3 +1,4 @@
+#![tactic(auto)]
 // One walk that marks each root it meets: `find_related`, as scope's definition says it of the n nodes in ws, whose children lie in ks. It looks at a child's root
 // once, and at a child slot about once, however the runs of children overlap.
 ghost use Rattle.std.specs.Prelude.{◌≡◌};
@@ -17,7 +18,7 @@ use types::{Type, TypeIdx};
 const FEW: usize = 256;
 
 // What meeting a child tells: its root was marked before, or it is marked now.
-#[derive(Drop)]
+#[derive(Clone, Copy)]
 enum Meeting {
     Met,
     New(TypeIdx),

@@ -1,3 +1,4 @@
+#![tactic(auto)]
 // "`find` follows parents, combining inversions by exclusive or. `find_mut` also points every node on the path straight at the root, keeping each
 // node's meaning." Both look at node words alone, and take as many steps at most as there are nodes. Beside them what a walk over roots keeps for each
 // node: a mark, and its root once that is found.
@@ -11,7 +12,7 @@ use layout::TypeNode;
 use types::{Inverted, Type, TypeIdx};
 
 // The root of a type that is near it.
-#[derive(Drop)]
+#[derive(Clone, Copy)]
 pub enum Nearby {
     Is(Type),
     Far,

@@ -17,14 +17,14 @@ pub(crate) const LEND: u32 = 4;
 pub(crate) const SWAP: u32 = 9;
 
 // A part of the list's numbers.
-#[derive(Drop)]
+#[derive(Clone, Copy)]
 pub(crate) struct Place {
     pub(crate) at: usize,
     pub(crate) len: usize,
 }
 
 // How many words of each slice of a store, and of the names buffer beside it.
-#[derive(Drop)]
+#[derive(Clone, Copy)]
 pub(crate) struct Sizes {
     pub(crate) head: usize,
     pub(crate) nodes: usize,
@@ -33,7 +33,7 @@ pub(crate) struct Sizes {
 }
 
 // The chart's records and what stands beside them, the texts' bytes, and the words of the store in hand and of the other.
-#[derive(Drop)]
+#[derive(Clone, Copy)]
 pub(crate) struct Lent {
     pub(crate) chart: Place,
     pub(crate) beside: Beside,

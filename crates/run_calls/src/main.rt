@@ -1,3 +1,4 @@
+#![tactic(auto)]
 // Runs a list of calls through the public calls and writes what each answers. The list is text on standard input: a call's number, how many numbers
 // follow, and these. What each number means stands in the module that has the call. There are two stores, one in hand and the other, which an import
 // reads, and one names buffer.

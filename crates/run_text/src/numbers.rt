@@ -11,7 +11,7 @@ const ZERO: u8 = 48;
 const NINE: u8 = 57;
 
 // What the bytes so far have said: numbers written, the one being read, whether one is, and whether a remark is.
-#[derive(Drop)]
+#[derive(Clone, Copy)]
 struct Seen {
     count: usize,
     value: u32,

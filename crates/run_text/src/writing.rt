@@ -51,7 +51,7 @@ fn flag(b: bool) {
 }
 
 // What a list is of.
-#[derive(Drop)]
+#[derive(Clone, Copy)]
 enum Form {
     Word,
     Type,

@@ -38,6 +38,7 @@ alike_trans (acons e r) (acons e' r') = acons (e ∙ e') (alike_trans r r')
 
 -- a child's partner
 pub alike_mem : {g : View} {xs ys : List Ty} {x : Ty} → Alike g xs ys → Memᴰ x xs → (y : Ty) × Memᴰ y ys × (ri g x ≡ ri g y)
+alike_mem {g = g} anil m = elim m [ ]
 alike_mem {g} (acons {y = y} e r) (Memᴰ.head p) = (y, Memᴰ.head refl, ap (ri g) p ∙ e)
 alike_mem (acons e r) (Memᴰ.tail m) = let z = alike_mem r m in (z.0, Memᴰ.tail z.1, z.2)
 

@@ -102,7 +102,7 @@ or-true : (a b : Bool) → b ≡ true → (a || b) ≡ true
 or-true true b e = refl
 or-true false b e = e
 
-any_true : (p : Ty → Bool) {xs : List Ty} {x : Ty} → Memᴰ x xs → p x ≡ true → any p xs ≡ true
+any_true : (p : Ty → Bool) {x : Ty} {xs : List Ty} → Memᴰ x xs → p x ≡ true → any p xs ≡ true
 any_true p (Memᴰ.head {x = y} {xs = ys} e) q = rw (ap p (sym e) ∙ q) refl
 any_true p (Memᴰ.tail {x = y} {xs = ys} m) q = or-true (p y) (any p ys) (any_true p m q)
 
@@ -120,7 +120,7 @@ from_mem i (suc n) (Memᴰ.head e) = omega arith
 from_mem i (suc n) (Memᴰ.tail m) = omega (arith, from_mem (suc i) n m)
 
 module _ {A : Type 0} (p : A → Bool) where
-  all_yes : {xs : List A} {x : A} → Memᴰ x xs → all p xs ≡ true → p x ≡ true
+  all_yes : {x : A} {xs : List A} → Memᴰ x xs → all p xs ≡ true → p x ≡ true
   all_yes (Memᴰ.head {x = y} {xs = ys} q) e = ap p q ∙ and_left (p y) (all p ys) e
   all_yes (Memᴰ.tail {x = y} {xs = ys} m) e = all_yes m (and_right (p y) (all p ys) e)
 

@@ -158,6 +158,7 @@ told_found c (t ∷ ts) a b r e = go (speaks c a b t) refl e (told_found c ts a 
 
 -- what is noted of the present clock is told
 pub found_told : (c : ℕ) (ts : List Note) (a b : Ty) (t : Note) → Memᴰ t ts → t.when ≡ c → t.first ≡ a → t.second ≡ b → told c ts a b ≡ none → ⊥
+found_told c [] a b t m w p r e = elim m [ ]
 found_told c (u ∷ ts) a b t (Memᴰ.head q) w p r e = let z : ◌≡◌ {A = ℕ} 0 1 = cc (spoken ∙ e) in omega arith
   where
     type_same : (v : Ty) → same_type v v ≡ true

@@ -93,6 +93,7 @@ module _ {A : Type 0} (p q : A → Bool) (less : (x : A) → p x ≡ true → q 
   count_le (x ∷ xs) = omega (arith, one_le (p x) (q x) (less x), count_le xs)
 
   pub count_lt : (xs : List A) {x : A} → Memᴰ x xs → p x ≡ false → q x ≡ true → count p xs < count q xs
+  count_lt [] {x = x} m f t = elim m [ ]
   count_lt (y ∷ xs) {x} (Memᴰ.head e) f t = rw (ap p (sym e) ∙ f, ap q (sym e) ∙ t) (omega (arith, count_le xs))
   count_lt (y ∷ xs) (Memᴰ.tail m) f t = omega (arith, one_le (p y) (q y) (less y), count_lt xs m f t)
 

@@ -31,6 +31,7 @@ module _ (p q : Ty → Ty → Bool) (less : (t u : Ty) → p t u ≡ true → q 
 
   rows_lt : (ts us : List Ty) {t u : Ty} → Memᴰ t ts → Memᴰ u us → p t u ≡ false → q t u ≡ true → rows p ts us < rows q ts us
   unfolding rows
+  rows_lt [] us {t = t} {u = u} l m f g = elim l [ ]
   rows_lt (v ∷ ts) us {t} {u} (Memᴰ.head e) m f g =
       omega (arith, count_lt (p v) (q v) (less v) us m (rw e at f) (rw e at g), rows_le ts us)
   rows_lt (v ∷ ts) us (Memᴰ.tail l) m f g = omega (arith, count_le (p v) (q v) (less v) us, rows_lt ts us l m f g)

@@ -1,3 +1,4 @@
+#![tactic(auto)]
 // Document 01 as definitions: specs/ holds each of its sentences, proofs/ the laws that a reader expects of them. Limits and counts stand here
 // for the code, under the names that specs/Limits has; the refusals' numbers are crate refusals'.
 pub const MAX_NODES: usize = 4096;

@@ -1,3 +1,4 @@
+#![tactic(auto)]
 // Whether a store's nodes have the shape of sound ones: no parent cycle, each root's size its tree's node count, no child cycle.
 // Each node is climbed from once and visited once, so the time is linear in the nodes and their children.
 ghost use Rattle.std.specs.Prelude.{◌≡◌, true, ◌≤◌, ◌<◌, length, get_or, set};
@@ -23,7 +24,7 @@ const OPEN: u32 = 1;
 const DONE: u32 = 2;
 
 // A node to one who climbs: a root with its size, or what has a parent.
-#[derive(Drop)]
+#[derive(Clone, Copy)]
 enum Up {
     Root(u32),
     Parent(TypeIdx),

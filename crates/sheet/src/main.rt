@@ -1,3 +1,4 @@
+#![tactic(auto)]
 // Program `sheet`: lines from standard input, and what each prints to standard output, in fixed memory: 4 MB are lent to its unify, in which each pair of types
 // has its own entry, so that no input takes long. Each line is answered before more is read, so that it can be used over a pipe or at a terminal. It only reads and
 // writes: what a line is and what it prints is `sheet_feed`'s. Where nobody takes the output any more it ends; a read that fails is told on standard error.
@@ -20,7 +21,7 @@ const TEXT: usize = SHEET_TEXT + 1;
 const PIECE: usize = 65536;
 
 // The place in the line that goes on; or nobody takes the output any more.
-#[derive(Drop)]
+#[derive(Clone, Copy)]
 enum Went {
     On(usize),
     Closed,

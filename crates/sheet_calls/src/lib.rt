@@ -1,3 +1,4 @@
+#![tactic(auto)]
 // The store of program `sheet`, "over an empty chart with no fn trait", and the lines that give no types to unify or show: what one prints and leaves is scope's
 // `sheet_line`. Each is a call on a tested store, since nobody else writes it: it is sound before a line and after it, so that lines follow one another.
 ghost use Rattle.std.specs.Prelude.{◌≡◌, ◌≤◌, length};

@@ -1,3 +1,4 @@
+#![tactic(auto)]
 // An input of program `sheet` that comes in pieces, as a pipe or a terminal hands it over. A piece is taken up to the end of the line that it goes on with; what
 // such a line has so far is kept in a buffer of 256 bytes, and a line that is longer is bad however long it is. What each line prints is scope's `sheet_line`.
 ghost use Rattle.std.specs.Prelude.{◌≡◌, ◌<◌, length};
@@ -12,7 +13,7 @@ pub const LINE_KEPT: usize = MAX_LINE + 1;
 
 // The piece ended before the line did, which then has so many bytes, or more than are kept. Or the line was run: the length of what it prints, newline
 // included, and how many bytes of the piece it took.
-#[derive(Drop)]
+#[derive(Clone, Copy)]
 pub enum Fed {
     More(usize),
     Line(usize, usize),

@@ -1,3 +1,4 @@
+#![tactic(auto)]
 // One line of program `sheet` on the store that lent slices hold, over an empty chart: it is read and run, and what it prints and leaves is scope's `sheet_line`. Each line
 // is a call on a tested store, since nobody else writes it. The memory is lent to the line's unify: any slice, whatever it holds.
 ghost use Rattle.std.specs.Prelude.{◌≡◌, ◌≤◌, length};

@@ -1,3 +1,4 @@
+#![tactic(auto)]
 // A line of program `sheet`, read: "types as `3` or `~3`, one space between", and where a line ends. What each answer says is scope's `parse`.
 ghost use Rattle.std.specs.Prelude.{◌≡◌, ◌&&◌, map, ◌-◌, ◌≤◌, min, leb, length, take};
 ghost use Rattle.std.proofs.Math.Option.{some};
@@ -17,7 +18,7 @@ use types::{Inverted, Type, TypeIdx};
 pub const LINE_TYPES: usize = 128;
 
 // What a line makes. `never`, `default`, `tuple` and `ref` are a kind's code and how many types it is over; they stand at the front of the words lent beside it.
-#[derive(Drop)]
+#[derive(Clone, Copy)]
 pub enum Maker {
     Var,
     Nil,
@@ -26,14 +27,14 @@ pub enum Maker {
 }
 
 // A line that gives no types to unify or show.
-#[derive(Drop)]
+#[derive(Clone, Copy)]
 pub enum Plain {
     Make(Maker),
     Finish,
     Bad,
 }
 
-#[derive(Drop)]
+#[derive(Clone, Copy)]
 pub enum Line {
     Plain(Plain),
     Unify(Type, Type),
@@ -41,14 +42,14 @@ pub enum Line {
 }
 
 // A word's type, if it is one.
-#[derive(Drop)]
+#[derive(Clone, Copy)]
 enum TypeWord {
     Is(Type),
     Nothing,
 }
 
 // How many types some words are, if all are types.
-#[derive(Drop)]
+#[derive(Clone, Copy)]
 enum TypeCount {
     Are(u32),
     Nothing,
@@ -69,7 +70,11 @@ fn next_place(s: &[u8], from: usize, byte: u8) -> usize
     if s.len() < from {
         return from;
     }
-    bytes::scan::find(s, from, s.len(), byte)
+    let mut i = from;
+    while i < s.len() && s[i] != byte {
+        i += 1;
+    }
+    i
 }
 
 // How many bytes of a line a buffer holds that has `at` of it: all, or as many as there is room for.

@@ -1,3 +1,4 @@
+#![tactic(auto)]
 // A whole input of program `sheet`, from bytes to bytes: what is printed is scope's `sheet`. The memory is lent to each line's unify: any slice, whatever it holds.
 ghost use Rattle.std.specs.Prelude.{◌≡◌};
 ghost use Rattle.scope.specs.Calls.{printed_text};

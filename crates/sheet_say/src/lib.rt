@@ -1,3 +1,4 @@
+#![tactic(auto)]
 // What program `sheet` prints for an answer: "`=` and the node, unify's answer, the text, `done`, `refused` and a number, or `bad line`". The text stands at
 // the front of a lent buffer, without its newline; the answer is its length.
 ghost use Rattle.std.specs.Prelude.{◌≤◌, length};

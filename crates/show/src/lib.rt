@@ -1,3 +1,4 @@
+#![tactic(auto)]
 // A type's text into a lent buffer, straight from the store, the chart and the texts: no other buffer is used. One level after another is written, and
 // where the buffer is full work stops at once. A cache keeps the roots found.
 ghost use Rattle.std.specs.Prelude.{◌≡◌};

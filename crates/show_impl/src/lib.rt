@@ -1,3 +1,4 @@
+#![tactic(auto)]
 // An impl type's text into a lent buffer: a trait's name and its list, or the fn form of the builtin fn trait over exactly three types, the second a Tuple;
 // of an error `??`. Types are `show`'s.
 ghost use Rattle.scope.specs.Types.{ty_of};

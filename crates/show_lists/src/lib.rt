@@ -1,3 +1,4 @@
+#![tactic(auto)]
 // The types of a list in its text, with a comma between them: a lent list, and the children of a kind. Each type is `show`'s.
 ghost use Rattle.std.specs.Prelude.{false};
 ghost use Rattle.scope.specs.Show.{render, commas, show};

@@ -1,3 +1,4 @@
+#![tactic(auto)]
 // Names, numbers and short texts in a type's text. Each function appends one piece to a text in a lent buffer, straight from the chart and the texts: no
 // other buffer is used.
 ghost use Rattle.scope.specs.Chart.{record_at};

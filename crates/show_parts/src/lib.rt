@@ -1,3 +1,4 @@
+#![tactic(auto)]
 // What stands before, between and after a kind's children in its text. Each function appends its part to a text in a lent buffer; the children
 // themselves are the caller's. Which fixed bytes a kind has is found first, as a short text, and then they are put.
 ghost use Rattle.std.specs.Prelude.{◌≡◌, [], ◌++◌};

@@ -1,3 +1,4 @@
+#![tactic(auto)]
 // A byte for each child slot says over how many, from it on, a walk passes, since the roots of their children are marked: so runs of children that overlap are
 // gone through once. Nothing here knows of marks: what holds of all slots that are passed over holds of all that are passed over afterwards.
 ghost use Rattle.std.specs.Prelude.{◌≡◌, ◌≤◌, ◌<◌, get_or, set};

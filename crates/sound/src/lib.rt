@@ -1,3 +1,4 @@
+#![tactic(auto)]
 // Refusals 2 and 8, which every call on a store can answer: of a chart and texts that break a limit, and of a store that is not sound.
 // Any numbers at all may be lent. Capacities are tested first, and a node's width before its children, so no test looks at more than 4,096 nodes with
 // 255 children each.

@@ -1,3 +1,4 @@
+#![tactic(auto)]
 // States held under names, by their places in a names buffer: the present state is written to a place, put back from one, a place is freed, and so are all.
 // What each does is what scope's definitions say of the store and of the book that the buffer holds. None tests: what it asks is in its `requires`.
 // Of a state the used words are copied, once each way.

@@ -1,3 +1,4 @@
+#![tactic(auto)]
 // The store's own layer, between its words and the calls. specs/Holds says what it is that three lent slices hold a store, and what a core function
 // leaves of them; proofs/Laws has the steps from one such store to the next. Beside it stand lists that are lent, an entry of four words a child.
 ghost use Rattle.std.specs.Prelude.{◌≡◌};

@@ -1,3 +1,4 @@
+#![tactic(auto)]
 // `export`: types of a tested store copied into a fresh one, "which the call itself opens in the destination's buffers whatever they held". It tests its
 // arguments and refuses, or copies as document 01 says; the source is only read. Refusals come in 01's order: 1, 3, 4, 10, 11 and 7.
 ghost use Rattle.std.specs.Prelude.{◌≡◌, length};

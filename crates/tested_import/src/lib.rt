@@ -1,3 +1,4 @@
+#![tactic(auto)]
 // `import`: types of another store brought into this one, where both are tested. It tests its arguments and refuses, or copies as document 01 says. Refusals
 // come in 01's order: 3 and 4 of both lists, 6, 10, 11 and 7. Source and destination "read the same chart and texts".
 ghost use Rattle.std.specs.Prelude.{◌≡◌, false, List, length};

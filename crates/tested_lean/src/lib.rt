@@ -1,3 +1,4 @@
+#![tactic(auto)]
 // The calls on a tested store that look at its header and its nodes alone, with no more lent to them: `new_var`, `error`, `nil`, `find`, `find_mut`. Each tests what
 // its form with all of the store tests, and answers the same, with every chart, texts and children's words with which the words pass the tests.
 ghost use Rattle.std.specs.Prelude.{◌≡◌, List, [], ◌∷◌, ℕ, ◌≤◌, length};

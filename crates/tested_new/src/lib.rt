@@ -1,3 +1,4 @@
+#![tactic(auto)]
 // `new`, `new_struct` and `new_union` on a tested store: each tests its arguments and refuses, or makes the node that document 01 says. Refusals come in the
 // order 3, 4, 5, 10, 11. A list may be of any length: 3 is tested over all of it, and only then that it is no wider than 255.
 ghost use Rattle.std.specs.Prelude.{◌≡◌, ◌≤◌};

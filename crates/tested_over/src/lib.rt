@@ -1,3 +1,4 @@
+#![tactic(auto)]
 // A kind over listed types whose children have no names, as a Tuple, a Struct or a Ref, on a tested store: the types are put straight into the store's words, and
 // no entries are laid out. It tests 3, 4, 5, 10 and 11 as `new` does.
 ghost use Rattle.std.specs.Prelude.{◌≡◌, List, ℕ, ◌+◌, ◌≤◌, length};

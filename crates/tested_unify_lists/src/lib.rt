@@ -1,3 +1,4 @@
+#![tactic(auto)]
 // The calls that unify lent lists of types, entries and signatures on a tested store: each tests its arguments and refuses with 3 or 4, or does and answers what
 // document 01 says. Each has a form with a lent memory, any slice whatever it holds, and the same answer and nodes.
 ghost use Rattle.scope.specs.Types.{ty_of};

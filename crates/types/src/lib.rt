@@ -1,3 +1,4 @@
+#![tactic(auto)]
 // "A type is a node number with an inversion bit, and node numbers, types and inversion flags are never exchanged for one another."
 // Beside them the answers of unify. The words and numbers mean what scope's definitions say.
 ghost use Rattle.std.specs.Prelude.{◌≡◌, true};
@@ -7,19 +8,19 @@ ghost use Rattle.scope.specs.Answers.{both, of_bool};
 ghost use Rattle.types.specs.Answers.{answer_of, number_of};
 
 // A type variable, or its inverse: the high bit denotes the inverse, and the remaining bits are a TypeIdx.
-#[derive(Drop)]
+#[derive(Clone, Copy)]
 pub struct Type(pub u32);
 
-#[derive(Drop)]
+#[derive(Clone, Copy)]
 pub struct TypeIdx(pub u32);
 
-#[derive(Drop)]
+#[derive(Clone, Copy)]
 pub struct Inverted(pub bool);
 
 pub const INV_BIT: u32 = 0x8000_0000;
 
 // An impl type whose types are lent beside it: a trait, by its number, or an error.
-#[derive(Drop)]
+#[derive(Clone, Copy)]
 pub enum Impl {
     Trait(u32),
     Error,
@@ -70,7 +71,7 @@ impl Type {
     }
 }
 
-#[derive(Drop)]
+#[derive(Clone, Copy)]
 pub enum UnifyResult {
     Success,
     Failure,

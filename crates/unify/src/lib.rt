@@ -1,3 +1,4 @@
+#![tactic(auto)]
 // "The functions that unify a pair, a run and an object call each other in turn", depth falling from the node count. Two roots without kinds merge at once, in the
 // loops too. What comes before the children is `unify_enter`, apart from the cycle, and so its marks stay out of the cycle's frames: an answer, or what two roots ask for.
 // Then their children are unified, then the answer is settled. The words of the nodes change as scope's `unify` says of the nodes. Beside them goes a memory: a pair that

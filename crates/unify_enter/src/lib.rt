@@ -1,3 +1,4 @@
+#![tactic(auto)]
 // Two types before their children: an answer, or the children of two roots, to be unified first. This is apart from the cycle of `unify`, whose frames and proof stay
 // small by that.
 pub mod walks;
@@ -13,7 +14,7 @@ use recall::Recalled;
 use types::{Type, UnifyResult};
 
 // What two types ask for: an answer, or children that are to be unified first, the memory's clock before them, and the two roots.
-#[derive(Drop)]
+#[derive(Clone, Copy)]
 pub enum Entered {
     Done(UnifyResult),
     Kids(Steps, u32, Type, Type),

@@ -1,3 +1,4 @@
+#![tactic(auto)]
 // What other callers unify: a pair as deep as there are nodes, and lent lists of types and of entries. Each is what scope's definition says, whatever a memory
 // recalls of it.
 ghost use Rattle.std.specs.Prelude.{◌≡◌, ◌≤◌, [], ◌∷◌};

@@ -1,3 +1,4 @@
+#![tactic(auto)]
 // What a type leads to: `occurs` and `self_inverse`, by a look at a root's children where that tells, and else by a walk that marks each root it meets. Beside them
 // what one root tells: `is_nil`, and `get_mod`, which looks through Refs. Each gives what scope's definition gives of the n nodes in ws, whose children lie in ks.
 ghost use Rattle.std.specs.Prelude.{◌≡◌, ◌≤◌, ◌<◌, length};
@@ -18,7 +19,7 @@ use scope::MAX_NODES;
 use types::{Type, TypeIdx};
 
 // get_mod's answer: no definition, a definition's def number, or an error.
-#[derive(Drop)]
+#[derive(Clone, Copy)]
 pub enum Mod {
     Nothing,
     Def(u32),
