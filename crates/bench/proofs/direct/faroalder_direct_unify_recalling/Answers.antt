@@ -1,0 +1,16 @@
+-- `bench::direct::faroalder_direct_unify_recalling` meets its contract: a memory that has just begun holds nothing, and its number gives the answer back.
+-- Assumes nothing.
+use borrow.Author.Rules.{rules}
+use Rattle.unify_lists.proofs.CallerLaws.{inside_pair}
+use Rattle.bench.proofs.Laws.{number_result}
+use Rattle.bench.proofs.direct.faroalder_direct_unify_recalling.Goals as goal
+
+pub unify_all-requires : goal.unify_all-requires
+unify_all-requires c =
+    let given = c.requires in
+    inside_pair given.words c.begin.ensures _ _ given.first given.second
+
+pub returns : goal.returns
+returns c =
+    let n = number_result c.unify_all.result c.number.result c.number.ensures in
+    (n.0, rw n.1 c.unify_all.ensures.leaves)

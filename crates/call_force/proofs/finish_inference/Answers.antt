@@ -1,0 +1,13 @@
+-- `call_force::finish_inference` meets its contract: where 2 and 8 do not stand the store is tested, and the form for such a store answers.
+-- Assumes nothing.
+use borrow.Author.Rules.{rules}
+use Rattle.scope.specs.Calls.{finish_inference_call}
+use Rattle.promise.proofs.BackLaws.{tested, did_back}
+use Rattle.call_force.proofs.finish_inference.Goals as goal
+
+pub returns-then-broken-ne-NO_REFUSAL : goal.returns-then-broken-ne-NO_REFUSAL
+unfolding finish_inference_call
+returns-then-broken-ne-NO_REFUSAL c = did_back _ _ _ _ _ c.refusal-broken.ensures c.if-broken-ne-NO_REFUSAL.true _ _
+
+pub finish_inference-requires : goal.finish_inference-requires
+finish_inference-requires c = tested c.refusal-broken.ensures c.if-broken-ne-NO_REFUSAL.false

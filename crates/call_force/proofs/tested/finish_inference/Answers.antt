@@ -1,0 +1,21 @@
+-- `call_force::tested::finish_inference` meets its contract: a tested store is clean, and there is nothing to refuse.
+-- Assumes nothing.
+use mathlib.Core.Path.{refl}
+use mathlib.Core.List.{[]}
+use borrow.Author.Rules.{rules}
+use Rattle.scope.specs.Calls.{finish_inference_call}
+use Rattle.sound.specs.Tests.{env_in}
+use Rattle.promise.proofs.Laws.{tested_clean}
+use Rattle.promise.proofs.CallLaws.{call_done}
+use Rattle.call_force.proofs.tested.Laws.{finishing}
+use Rattle.call_force.proofs.tested.finish_inference.Goals as goal
+
+pub finish_inference-requires : goal.finish_inference-requires
+finish_inference-requires c = tested_clean c.requires
+
+pub returns : goal.returns
+unfolding finish_inference_call
+returns c = let pre = c.requires in
+    let a = c.args in
+    let e = env_in a.chart.now a.beside a.rule.now a.text.now in
+    call_done e a.h.now a.ws.now a.ks.now (λ s. []) finishing 0 pre.passed refl refl c.finish_inference.ensures

@@ -1,0 +1,13 @@
+-- `call_make::error` meets its contract: where 2 and 8 do not stand the store is tested, and the form for such a store answers.
+-- Assumes nothing.
+use borrow.Author.Rules.{rules}
+use Rattle.scope.specs.Calls.{error_call}
+use Rattle.promise.proofs.BackLaws.{tested, did_back}
+use Rattle.call_make.proofs.error.Goals as goal
+
+pub returns-then-broken-ne-NO_REFUSAL : goal.returns-then-broken-ne-NO_REFUSAL
+unfolding error_call
+returns-then-broken-ne-NO_REFUSAL c = did_back _ _ _ _ _ c.refusal-broken.ensures c.if-broken-ne-NO_REFUSAL.true _ _
+
+pub error-requires : goal.error-requires
+error-requires c = tested c.refusal-broken.ensures c.if-broken-ne-NO_REFUSAL.false

@@ -1,0 +1,12 @@
+-- `call_read::tested::child_of_kind` meets its contract: below the number of children lies one, and past it none.
+-- Assumes nothing.
+use borrow.Author.Rules.{rules}
+use Rattle.call_read.proofs.tested.NameLaws.{kid_is, kid_past}
+use Rattle.call_read.proofs.tested.child_of_kind.Goals as goal
+
+pub returns-then-j-kind : goal.returns-then-j-kind
+returns-then-j-kind c = let a = c.args in
+    kid_is a.ks.now a.kind a.j c.child_of.result c.if-j-kind.true c.child_of.ensures
+
+pub returns : goal.returns
+returns c = kid_past c.args.ks.now c.args.kind c.args.j c.if-j-kind.false

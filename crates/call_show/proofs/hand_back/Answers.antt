@@ -1,0 +1,12 @@
+-- `call_show::hand_back` meets its contract: the part's length is partIn's, which the buffer has.
+-- Assumes nothing.
+use mathlib.Core.Path.{refl, sym}
+use lib.Seq.{length-take-le}
+use borrow.Author.Rules.{rules}
+use Rattle.call_show.proofs.hand_back.Goals as goal
+
+pub slice_bounds-result-end : goal.slice_bounds-result-end
+slice_bounds-result-end c = sym (length-take-le _ _ (rw c.part_in-n.ensures c.requires))
+
+pub returns : goal.returns
+returns c = (record { told = c.code_in.ensures; front = rw c.part_in-n.ensures refl }, refl)

@@ -1,0 +1,6 @@
+-- `chart::dual_at` meets its contract: the flag is the word that was read. Assumes nothing.
+use borrow.Author.Rules.{rules}
+use Rattle.chart.proofs.dual_at.Goals as goal
+
+pub returns : goal.returns
+returns c = rw c.word.ensures

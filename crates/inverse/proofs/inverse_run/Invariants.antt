@@ -1,0 +1,19 @@
+-- `inverse::inverse_run` meets its contract. The invariant: the run that is walked and those above it tell what all children tell. The measure: a visit goes one
+-- level down at most.
+-- Assumes nothing.
+use mathlib.Core.Path.{refl}
+use Prim.Native.Nat.{◌+◌, ◌*◌}
+use native.Mathlib.Omega.{arith}
+use borrow.Author.Rules.{rules}
+use Rattle.layout.specs.Words.{decode}
+use Rattle.layout.proofs.LinkLaws.{clean_linked}
+use Rattle.inverse.specs.Judged.{kids_in, self_below}
+use Rattle.inverse.proofs.RunLaws.{Going, going_start, going_clear, going_up, going_met, going_good, going_down}
+use Rattle.inverse.proofs.RunLaws.{tries_deep, tries_met, tries_clear, told_zero, told_bad, told_good, told_run}
+use Rattle.inverse.proofs.inverse_run.Given as goal
+
+abbrev pub invariant-loop-left : goal.invariant-loop-left
+invariant-loop-left l = Going (self_below l.param (decode l.ws l.ks l.n)) l.ks (kids_in l.ks l.first l.count) l.most l.nexts l.ends l.level l.next l.end l.left
+
+abbrev pub decreases-loop-left : goal.decreases-loop-left
+decreases-loop-left l = 2 * l.left + l.level

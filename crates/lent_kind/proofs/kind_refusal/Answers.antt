@@ -1,0 +1,34 @@
+-- `lent_kind::kind_refusal` meets its contract: entries that are not whole and names that the kind does not have are a name too many; else the kind is the
+-- one that the entries' words mean, which `makeable` tests.
+-- Assumes nothing.
+use borrow.Author.Rules.{rules}
+use borrow.Author.Tests.{not-true, not-false}
+use Rattle.lent_kind.proofs.Laws.{torn_refused, unclean_refused, unmade_refused, undefined_refused, kind_passed}
+use Rattle.lent_kind.proofs.kind_refusal.Goals as goal
+
+pub returns-then-entries-ne0 : goal.returns-then-entries-ne0
+returns-then-entries-ne0 c = let a = c.args in
+    torn_refused a.chart.now a.rule.now a.text.now a.k a.entries.now c.if-entries-ne0.true
+
+pub returns-then-not-names_clean : goal.returns-then-not-names_clean
+returns-then-not-names_clean c = let a = c.args in
+    unclean_refused a.chart.now a.rule.now a.text.now a.k a.entries.now c.flagged.ensures c.kind_of-kind.ensures c.if-entries-ne0.false
+    c.names_clean.ensures (not-true c.names_clean.result c.if-not-names_clean.true-raw)
+
+pub returns-then-not-can_be_made : goal.returns-then-not-can_be_made
+returns-then-not-can_be_made c = let a = c.args in
+    unmade_refused a.chart.now a.rule.now a.text.now a.k a.entries.now c.flagged.ensures c.kind_of-kind.ensures c.if-entries-ne0.false
+    c.names_clean.ensures (not-false c.names_clean.result c.if-not-names_clean.false-raw) c.can_be_made.ensures
+    (not-true c.can_be_made.result c.if-not-can_be_made.true-raw)
+
+pub returns-then-not-is_defined : goal.returns-then-not-is_defined
+returns-then-not-is_defined c = let a = c.args in
+    undefined_refused a.chart.now a.rule.now a.text.now a.k a.entries.now c.flagged.ensures c.kind_of-kind.ensures c.if-entries-ne0.false
+    c.names_clean.ensures (not-false c.names_clean.result c.if-not-names_clean.false-raw) c.can_be_made.ensures c.is_defined.ensures
+    (not-false c.can_be_made.result c.if-not-can_be_made.false-raw) (not-true c.is_defined.result c.if-not-is_defined.true-raw)
+
+pub returns : goal.returns
+returns c = let a = c.args in
+    kind_passed a.chart.now a.rule.now a.text.now a.k a.entries.now c.flagged.ensures c.kind_of-kind.ensures c.if-entries-ne0.false
+    c.names_clean.ensures (not-false c.names_clean.result c.if-not-names_clean.false-raw) c.can_be_made.ensures c.is_defined.ensures
+    (not-false c.can_be_made.result c.if-not-can_be_made.false-raw) (not-false c.is_defined.result c.if-not-is_defined.false-raw)

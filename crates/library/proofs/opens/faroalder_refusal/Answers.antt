@@ -1,0 +1,6 @@
+-- `library::opens::faroalder_refusal` meets its contract: it is `sound::refusal`. Assumes nothing.
+use borrow.Author.Rules.{rules}
+use Rattle.library.proofs.opens.faroalder_refusal.Goals as goal
+
+pub returns : goal.returns
+returns c = rw c.beside_of-beside.ensures at c.refusal.ensures

@@ -1,0 +1,12 @@
+-- `library::tested_recalls::faroalder_tested_unify_impl_type_recalling` meets its contract: it is `call_impl::tested::unify_impl_type_recalling`, its number gives
+-- its answer back, and what it asks for is asked here. Assumes nothing.
+use borrow.Author.Rules.{rules}
+use Rattle.library.proofs.tested_recalls.faroalder_tested_unify_impl_type_recalling.Goals as goal
+
+pub unify_impl_type_recalling-requires : goal.unify_impl_type_recalling-requires
+unify_impl_type_recalling-requires c =
+    rw c.beside_of-beside.ensures c.requires
+
+pub returns : goal.returns
+returns c =
+    rw c.unify_number.ensures (rw (c.beside_of-beside.ensures, c.impl_of.ensures, c.impl_of-2.ensures) at c.unify_impl_type_recalling.ensures)

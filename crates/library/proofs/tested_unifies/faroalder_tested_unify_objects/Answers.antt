@@ -1,0 +1,11 @@
+-- `library::tested_unifies::faroalder_tested_unify_objects` meets its contract: it is `tested_unify_lists::unify_objects`, its number gives its answer back,
+-- and what it asks for is asked here. Assumes nothing.
+use borrow.Author.Rules.{rules}
+use Rattle.library.proofs.tested_unifies.faroalder_tested_unify_objects.Goals as goal
+
+pub unify_objects-requires : goal.unify_objects-requires
+unify_objects-requires c = rw c.beside_of-beside.ensures c.requires
+
+pub returns : goal.returns
+returns c =
+    rw c.unify_number.ensures (rw (c.beside_of-beside.ensures, c.inverted_of-inv.ensures) at c.unify_objects.ensures)

@@ -1,0 +1,20 @@
+-- `make::error_once` meets its contract. A type that is remembered is returned and nothing changes; else there are the words for one node more, which is pushed.
+-- Assumes nothing.
+use mathlib.Core.Path.{refl, sym, ◌∙◌}
+use Rattle.make.proofs.MakeLaws.{once_same, once_new}
+use borrow.Author.Rules.{rules}
+use Rattle.make.proofs.error_once.Goals as goal
+
+pub enum_told-1 : goal.enum_told-1
+enum_told-1 c = search rules
+
+pub push_bare-requires : goal.push_bare-requires
+push_bare-requires c =
+    rw c.read_header-x.ensures (c.requires.pushable (sym c.error_made-was.ensures ∙ c.in-Nothing.is))
+
+pub returns-in-Is : goal.returns-in-Is
+returns-in-Is c = once_same (sym c.error_made-was.ensures ∙ c.in-Is.is)
+
+pub returns-in-Nothing : goal.returns-in-Nothing
+returns-in-Nothing c =
+    once_new (sym c.error_made-was.ensures ∙ c.in-Nothing.is) refl (rw c.read_header-x.ensures at c.push_bare.ensures)

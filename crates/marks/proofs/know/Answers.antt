@@ -1,0 +1,9 @@
+-- `marks::know` meets its contract: one bit is set, of a word before the entries.
+-- Assumes nothing.
+use Rattle.marks.proofs.Laws.{marked}
+use borrow.Author.Rules.{rules}
+use Rattle.marks.proofs.know.Goals as goal
+
+pub returns : goal.returns
+returns c =
+    marked c.requires c.open_marks.ensures c.at.ensures c.put.ensures

@@ -1,0 +1,24 @@
+-- `needs::count` meets its contract. The measure is the depth. A root that is not counted is counted before its children are walked from; the loop's
+-- invariant: what is left of them gives what all of them give, and what the cache keeps are roots.
+-- Assumes nothing.
+use mathlib.Core.Path.{◌≡◌, refl, ◌∙◌}
+use Prim.Native.Nat.{ℕ, ◌-◌, ◌<◌}
+use native.Mathlib.Omega.{arith}
+use lib.ListN.{length}
+use borrow.Author.Rules.{rules}
+use borrow.Author.Tests.{not-false}
+use Rattle.layout.proofs.LinkLaws.{clean_linked}
+use Rattle.roots.specs.Kept.{Cached}
+use Rattle.needs.proofs.CountLaws.{Turn, turn_next, kid_next, root_is}
+use Rattle.needs.proofs.CountLaws.{count_shallow, count_met, count_replaced, count_lacking, node_fits, node_turn, count_node}
+use Rattle.needs.proofs.RootLaws.{kids_in}
+use Rattle.needs.proofs.+count.Given as goal
+
+abbrev pub decreases-count : goal.decreases-count
+decreases-count l = l.depth
+
+abbrev pub invariant-loop-j : goal.invariant-loop-j
+invariant-loop-j l = Turn l.ws l.ks l.n l.params (l.depth - 1) (kids_in l.ks l.first l.kids) l.initial.marks l.initial.all l.marks l.all l.j × Cached l.ws l.n l.cache × (length l.cache ≡ length l.initial.cache)
+
+abbrev pub decreases-loop-j : goal.decreases-loop-j
+decreases-loop-j l = l.kids - l.j

@@ -1,0 +1,11 @@
+-- `needs::is_met` meets its contract: from a root that is counted the walk does nothing.
+-- Assumes nothing.
+use borrow.Author.Rules.{rules}
+use Rattle.needs.proofs.CountLaws.{root_is, count_met}
+use Rattle.needs.proofs.is_met.Goals as goal
+
+pub returns : goal.returns
+returns c = (
+  record { is = λ e ks p sum depth. count_met _ ks _ _ p sum _ depth _ (root_is c.find_by.ensures.0 c.idx.ensures ks) c.is_counted.ensures e },
+  c.find_by.ensures.1,
+)

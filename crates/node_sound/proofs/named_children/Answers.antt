@@ -1,0 +1,50 @@
+-- `node_sound::named_children` meets its contract. The loop's invariant: the children after the first and before the next follow, each the one before it.
+-- Assumes nothing.
+use mathlib.Core.Bool.{false≢true}
+use Prim.Native.Nat.{◌-◌}
+use native.Mathlib.Omega.{arith}
+use borrow.Author.Rules.{rules}
+use borrow.Author.Tests.{not-false}
+use Rattle.names.specs.Place.{texts}
+use Rattle.names.proofs.Tests.{passes}
+use Rattle.node_sound.proofs.Laws.{first_at, Gone, gone_none, gone_more}
+use Rattle.node_sound.proofs.named_children.Goals as goal
+
+pub returns-then-e-a : goal.returns-then-e-a
+returns-then-e-a c = let none = c.if-e-a.true in
+    (λ _. record { first = λ l. absurd (omega (arith, none, l)); others = λ j l m. absurd (omega (arith, none, l, m)) }, c.requires.0)
+
+pub returns-then-not-named_child : goal.returns-then-not-named_child
+returns-then-not-named_child c = (λ t. absurd (false≢true t), c.requires.0)
+
+pub overflow_add-next : goal.overflow_add-next
+overflow_add-next c = omega (arith, c.requires.1, c.if-e-a.false)
+
+pub loop-next-init : goal.loop-next-init
+loop-next-init c =
+    gone_none c.args.n c.args.a c.requires.0
+
+pub overflow_add-next-in-loop-next : goal.overflow_add-next-in-loop-next
+overflow_add-next-in-loop-next c = omega (arith, c.requires.1, c.loop-next-test.true)
+
+pub next_child-requires : goal.next_child-requires
+next_child-requires c = let gone = c.loop-next.invariant in
+    let end = c.requires.1 in
+    record { known = gone.known; some = omega (arith, gone.low); few = omega (arith, end, c.loop-next-test.true) }
+
+pub returns-then-not-next_child : goal.returns-then-not-next_child
+returns-then-not-next_child c = (λ t. absurd (false≢true t), c.next_child.ensures.1)
+
+pub loop-next-smaller : goal.loop-next-smaller
+loop-next-smaller c = omega (arith, c.loop-next-test.true)
+
+pub loop-next-preserved : goal.loop-next-preserved
+loop-next-preserved c = let next = c.next_child.ensures in
+    gone_more c.loop-next.invariant next.1 (next.0 c.if-not-next_child.false)
+
+pub returns : goal.returns
+returns c = let a = c.args in
+    let x = texts a.rule.now a.text.now in
+    let gone = c.loop-next.invariant in
+    let first = first_at a.ks.now a.a c.child_at.result c.child_at.ensures x a.n (passes c.named_child.ensures c.if-not-named_child.false-raw) in
+    (λ _. record { first = λ _. first; others = λ j l m. gone.each j l (omega (arith, m, c.loop-next-test.false)) }, gone.known)

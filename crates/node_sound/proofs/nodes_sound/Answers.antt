@@ -1,0 +1,49 @@
+-- `node_sound::nodes_sound` meets its contract. The loop's invariant: the nodes below i pass, and what was seen is so. The measure is what is left of them.
+-- Assumes nothing.
+use mathlib.Core.Path.{◌≡◌}
+use mathlib.Core.Bool.{true}
+use Prim.Native.Nat.{ℕ, ◌-◌, ◌≤◌, ◌<◌}
+use native.Mathlib.Omega.{arith}
+use borrow.Author.Count.{below_more}
+use Rattle.names.specs.Place.{texts}
+use Rattle.names.proofs.Tests.{passes, fails}
+use Rattle.chart.specs.Env.{chart_in}
+use Rattle.layout.specs.Words.{decode}
+use Rattle.layout.proofs.Lists.{all_stop, all_done}
+use Rattle.layout.proofs.Laws.{length_decode}
+use Rattle.node_sound.specs.Tests.{node_test, TrueSeen}
+use Rattle.node_sound.proofs.Laws.{seen_none}
+use Rattle.node_sound.proofs.nodes_sound.Goals as goal
+
+pub loop-i-init : goal.loop-i-init
+loop-i-init c = (omega arith, (λ u h. absurd (omega arith)), seen_none _ _)
+
+pub node_sound-requires : goal.node_sound-requires
+node_sound-requires c =
+    (c.requires.0, c.loop-i-test.true, c.requires.1, c.loop-i.invariant.2)
+
+pub returns-then-not-node_sound : goal.returns-then-not-node_sound
+returns-then-not-node_sound c = let a = c.args in
+    let ns = decode a.ws.now a.ks.now a.n in
+    let l = length_decode a.ws.now a.ks.now a.n in
+    let test = node_test (chart_in a.chart.now a.rule.now a.text.now) a.ws.now a.ks.now a.c ns in
+    all_stop test a.n c.loop-i.i c.loop-i-test.true (fails (c.node_sound.ensures.0 ns l) c.if-not-node_sound.true-raw)
+
+pub overflow_add-i : goal.overflow_add-i
+overflow_add-i c = omega (arith, c.loop-i-test.true)
+
+pub loop-i-smaller : goal.loop-i-smaller
+loop-i-smaller c = omega (arith, c.loop-i-test.true)
+
+pub loop-i-preserved : goal.loop-i-preserved
+loop-i-preserved c = let a = c.args in
+    let ns = decode a.ws.now a.ks.now a.n in
+    let l = length_decode a.ws.now a.ks.now a.n in
+    let node = c.node_sound.ensures in
+    (omega (arith, c.loop-i-test.true), below_more _ _ c.loop-i.invariant.1 (passes (node.0 ns l) c.if-not-node_sound.false-raw), node.1)
+
+pub returns : goal.returns
+returns c = let a = c.args in
+    let ns = decode a.ws.now a.ks.now a.n in
+    let test = node_test (chart_in a.chart.now a.rule.now a.text.now) a.ws.now a.ks.now a.c ns in
+    all_done test a.n c.loop-i.i c.loop-i-test.false c.loop-i.invariant.1

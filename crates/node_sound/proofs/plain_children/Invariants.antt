@@ -1,0 +1,20 @@
+-- `node_sound::plain_children` meets its contract. The loop's invariant: `plain` says of the children before i what it is to say of all, with those from i
+-- on. The measure is what is left of them.
+-- Assumes nothing.
+use mathlib.Core.Path.{◌≡◌, refl, sym, ap, ◌∙◌}
+use mathlib.Core.Bool.{◌&&◌, false≢true}
+use Prim.Native.Nat.{◌-◌}
+use native.Mathlib.Omega.{arith}
+use borrow.Author.Rules.{rules}
+use Rattle.scope.specs.Base.{all, from}
+use Rattle.names.proofs.Tests.{passes, fails}
+use Rattle.layout.specs.Words.{slot_at}
+use Rattle.clean.proofs.Laws.{flag_step, flag_stop, flag_end}
+use Rattle.node_sound.specs.Tests.{plain_slot}
+use Rattle.node_sound.proofs.plain_children.Given as goal
+
+abbrev pub invariant-loop-i : goal.invariant-loop-i
+invariant-loop-i l = all (λ j. plain_slot l.n (slot_at l.ks j)) (from l.a (l.e - l.a)) ≡ (l.plain && all (λ j. plain_slot l.n (slot_at l.ks j)) (from l.i (l.e - l.i)))
+
+abbrev pub decreases-loop-i : goal.decreases-loop-i
+decreases-loop-i l = l.e - l.i

@@ -1,0 +1,18 @@
+-- `roots::find_path` meets its contract: the root of its node, inverted as the type is.
+-- Assumes nothing.
+use Rattle.types.proofs.Laws.{idx_below}
+use Rattle.roots.proofs.KeptLaws.{found_flip}
+use borrow.Author.Rules.{rules}
+use Rattle.roots.proofs.find_path.Goals as goal
+
+pub top_by-requires : goal.top_by-requires
+top_by-requires c =
+    (c.requires.0, (c.requires.1, rw c.idx-i.ensures (idx_below c.args.t.0)))
+
+pub keep_path-requires : goal.keep_path-requires
+keep_path-requires c =
+    (c.requires.0, (c.requires.1, c.top_by.ensures.told _ c.in-Is.is))
+
+pub returns : goal.returns
+returns c =
+    (found_flip c.args.t c.idx-i.ensures c.inv.ensures (c.top_by.ensures.told _ c.in-Is.is) c.invert_if.ensures, c.keep_path.ensures)

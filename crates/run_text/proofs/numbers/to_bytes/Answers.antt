@@ -1,0 +1,15 @@
+-- `run_text::numbers::to_bytes` meets its contract: as many are copied as there is room for. The measure is what is left to copy.
+-- Assumes nothing.
+use mathlib.Core.Path.{◌≡◌}
+use Prim.Native.Nat.{◌-◌, ◌≤◌}
+use lib.ListN.{length}
+use native.Mathlib.Omega.{arith}
+use borrow.Author.Rules.{rules}
+use Rattle.run_text.proofs.NumberLaws.{counts}
+use Rattle.run_text.proofs.numbers.to_bytes.Goals as goal
+
+pub loop-i-smaller : goal.loop-i-smaller
+loop-i-smaller c = omega arith
+
+pub returns : goal.returns
+returns c = counts _ _ (omega arith)

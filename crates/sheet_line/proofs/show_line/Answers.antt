@@ -1,0 +1,33 @@
+-- `sheet_line::show_line` meets its contract: the text, or the refusal over what `show` left.
+-- Assumes nothing.
+use mathlib.Core.Path.{sym}
+use lib.ListN.{take}
+use lib.Seq.{length-take-le}
+use Rattle.scope.specs.Limits.{SHEET_TEXT}
+use Rattle.scope.specs.Types.{ty_of}
+use Rattle.scope.specs.Calls.{show_call}
+use Rattle.layout.specs.Words.{store_in}
+use Rattle.sheet_calls.proofs.StoreLaws.{sheet_tested, as_printed}
+use Rattle.sheet_line.proofs.ShowLaws.{shown_fits, shown_back}
+use borrow.Author.Rules.{rules}
+use Rattle.sheet_line.proofs.show_line.Goals as goal
+
+-- LEFT slice-aggregate-show-4
+-- slice-aggregate-show-4 c =
+--     let start = c.before.before.before.before.before.before.before.before.before in
+--     sym (length-take-le SHEET_TEXT start.args.out.now start.requires.1)
+
+pub show-shown-requires : goal.show-shown-requires
+show-shown-requires c = rw c.beside.ensures (sheet_tested c.requires.sheet_store)
+
+pub returns-in-Is : goal.returns-in-Is
+returns-in-Is c =
+    let a = c.args in
+    let p = as_printed c.requires.sheet_store c.beside.ensures (λ e l. show_call e l (ty_of a.t.0) (take SHEET_TEXT a.out.now)) c.show-shown.ensures in
+    shown_fits (store_in a.h.now a.ws.now a.ks.now) (ty_of a.t.0) a.out.now c.requires.in_bounds (rw c.in-Is.is at p)
+
+pub returns-in-Refused : goal.returns-in-Refused
+returns-in-Refused c =
+    let a = c.args in
+    let p = as_printed c.requires.sheet_store c.beside.ensures (λ e l. show_call e l (ty_of a.t.0) (take SHEET_TEXT a.out.now)) c.show-shown.ensures in
+    shown_back (store_in a.h.now a.ws.now a.ks.now) (ty_of a.t.0) a.out.now c.requires.in_bounds (rw c.in-Refused.is at p) c.put_refused.ensures

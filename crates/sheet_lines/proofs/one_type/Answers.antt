@@ -1,0 +1,20 @@
+-- `sheet_lines::one_type` meets its contract: the tests stand in the definition's order, after that for a tuple.
+-- Assumes nothing.
+use borrow.Author.Rules.{rules}
+use native.Mathlib.Omega.{arith}
+use Rattle.sheet_lines.proofs.Laws as laws
+use Rattle.sheet_lines.proofs.one_type.Goals as goal
+
+pub returns-then-same_bytes : goal.returns-then-same_bytes
+returns-then-same_bytes c = let e1 = laws.said c.same_bytes.ensures c.if-same_bytes.true in
+    record { beside = λ nt out q. record { means = rw (nt, e1) (laws.ref_means out q); fits = laws.ref_fits out q } }
+
+pub returns-then-same_bytes-2 : goal.returns-then-same_bytes-2
+returns-then-same_bytes-2 c = let e1 = laws.said c.same_bytes.ensures c.if-same_bytes.false in
+    let e2 = laws.said c.same_bytes-2.ensures c.if-same_bytes-2.true in
+    record { beside = λ nt out q. record { means = rw (nt, e1, e2); fits = tt } }
+
+pub returns : goal.returns
+returns c = let e1 = laws.said c.same_bytes.ensures c.if-same_bytes.false in
+    let e2 = laws.said c.same_bytes-2.ensures c.if-same_bytes-2.false in
+    record { beside = λ nt out q. record { means = rw (nt, e1, e2); fits = tt } }

@@ -1,0 +1,12 @@
+-- `sheet_lines::two_types` meets its contract: the test stands after that for a tuple.
+-- Assumes nothing.
+use borrow.Author.Rules.{rules}
+use native.Mathlib.Omega.{arith}
+use Rattle.sheet_lines.proofs.Laws as laws
+use Rattle.sheet_lines.proofs.two_types.Goals as goal
+
+pub returns-then-same_bytes : goal.returns-then-same_bytes
+returns-then-same_bytes c = record { beside = λ nt out. record { means = rw (nt, laws.said c.same_bytes.ensures c.if-same_bytes.true); fits = tt } }
+
+pub returns : goal.returns
+returns c = record { beside = λ nt out. record { means = rw (nt, laws.said c.same_bytes.ensures c.if-same_bytes.false); fits = tt } }

@@ -1,0 +1,11 @@
+-- `sheet_say::put_refused` meets its contract: eight bytes, then the number.
+-- Assumes nothing.
+use native.Mathlib.Omega.{arith}
+use Rattle.scope.specs.Text.{text}
+use Rattle.sheet_say.proofs.Laws.{front_number}
+use borrow.Author.Rules.{rules}
+use Rattle.sheet_say.proofs.put_refused.Goals as goal
+
+pub returns : goal.returns
+returns c =
+    front_number c.requires (text "refused ") c.args.n (omega arith) c.put-at.ensures c.put_decimal.ensures

@@ -1,0 +1,32 @@
+-- `show::show_by` meets its contract. The measure is the depth. A kind is written child after child; the loop's invariant: what is left to write
+-- gives, appended, what the whole gives, and what the cache keeps are roots.
+-- Assumes nothing.
+use mathlib.Core.Path.{◌≡◌, refl, ap, ◌∙◌}
+use mathlib.Core.Bool.{◌&&◌}
+use Prim.Native.Nat.{◌-◌}
+use native.Mathlib.Omega.{arith}
+use lib.ListN.{length}
+use borrow.Author.Rules.{rules}
+use Rattle.scope.specs.Base.{xor}
+use Rattle.scope.specs.Show.{show_f}
+use Rattle.names.specs.Place.{texts}
+use Rattle.chart.specs.Env.{env_of}
+use Rattle.layout.specs.Words.{decode}
+use Rattle.layout.proofs.LinkLaws.{clean_linked}
+use Rattle.roots.specs.Kept.{Cached}
+use Rattle.append.proofs.Laws.{append_full}
+use Rattle.show_parts.specs.Parts.{gap_of, close_of}
+use Rattle.show.specs.Level.{kid_of}
+use Rattle.show.proofs.Turns.{Turn, turn_start, turn_next, turn_end, show_shallow, show_unknown, show_known, level_put, kid_shown}
+use Prim.Native.Nat.{ℕ, ◌<◌}
+use Rattle.show.proofs.+show_by.Given as goal
+
+abbrev pub decreases-show_by : goal.decreases-show_by
+decreases-show_by l = l.depth
+
+abbrev pub invariant-loop-j : goal.invariant-loop-j
+invariant-loop-j l = Turn (gap_of (texts l.rule l.text) l.ks l.kind) (λ m. show_f (env_of l.chart l.beside l.rule l.text) (l.depth - 1) (decode l.ws l.ks l.n) (kid_of l.ks l.kind l.deep.0 m))
+    (close_of l.kind l.count) l.count l.initial.buf l.initial.p l.buf l.p l.j × Cached l.ws l.n l.cache × (length l.cache ≡ length l.initial.cache)
+
+abbrev pub decreases-loop-j : goal.decreases-loop-j
+decreases-loop-j l = l.count - l.j

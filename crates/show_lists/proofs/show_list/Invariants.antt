@@ -1,0 +1,21 @@
+-- `show_lists::show_list` meets its contract. The loop's invariant: what is left to write gives, appended, what the whole gives.
+-- Assumes nothing.
+use mathlib.Core.Path.{◌∙◌}
+use mathlib.Core.List.{[]}
+use Prim.Native.Nat.{◌-◌}
+use native.Mathlib.Omega.{arith}
+use lib.ListN.{length}
+use borrow.Author.Rules.{rules}
+use Rattle.scope.specs.Show.{show}
+use Rattle.chart.specs.Env.{env_of}
+use Rattle.layout.specs.Words.{decode}
+use Rattle.show.proofs.Turns.{Turn, turn_start, turn_next}
+use Rattle.show_names.specs.Names.{comma}
+use Rattle.show_lists.proofs.Lists.{item, comma_any, list_end}
+use Rattle.show_lists.proofs.show_list.Given as goal
+
+abbrev pub invariant-loop-j : goal.invariant-loop-j
+invariant-loop-j l = Turn comma (item (show (env_of l.chart l.beside l.rule l.text) (decode l.ws l.ks l.n)) l.xs) [] (length l.xs) l.initial.buf l.initial.p l.buf l.p l.j
+
+abbrev pub decreases-loop-j : goal.decreases-loop-j
+decreases-loop-j l = length l.xs - l.j

@@ -1,0 +1,21 @@
+-- `show_lists::show_params` meets its contract. The loop's invariant: what is left to write gives, appended, what the whole gives.
+-- Assumes nothing.
+use mathlib.Core.Path.{ap, subst, ◌∙◌}
+use mathlib.Core.List.{[]}
+use Prim.Native.Nat.{◌-◌}
+use native.Mathlib.Omega.{arith}
+use borrow.Author.Rules.{rules}
+use Rattle.scope.specs.Show.{show}
+use Rattle.names.specs.Place.{texts}
+use Rattle.chart.specs.Env.{env_of}
+use Rattle.layout.specs.Words.{decode}
+use Rattle.show.proofs.Turns.{Turn, turn_start, turn_next}
+use Rattle.show_names.specs.Names.{comma}
+use Rattle.show_lists.proofs.Lists.{child, child_read, params_end}
+use Rattle.show_lists.proofs.show_params.Given as goal
+
+abbrev pub invariant-loop-j : goal.invariant-loop-j
+invariant-loop-j l = Turn comma (child (show (env_of l.chart l.beside l.rule l.text) (decode l.ws l.ks l.n)) l.ks l.k l.i.0) [] l.k.count l.initial.buf l.initial.p l.buf l.p l.j
+
+abbrev pub decreases-loop-j : goal.decreases-loop-j
+decreases-loop-j l = l.k.count - l.j

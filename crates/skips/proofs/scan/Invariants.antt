@@ -1,0 +1,15 @@
+-- `skips::scan` meets its contract. The loop's invariant: the nodes of the children so far have been told.
+-- Assumes nothing.
+use Prim.Native.Nat.{◌-◌}
+use native.Mathlib.Omega.{arith}
+use borrow.Author.Tests.{not-false}
+use Rattle.skips.specs.Table.{Scanned}
+use Rattle.skips.proofs.Laws.{scanned_start, scanned_next}
+use borrow.Author.Rules.{rules}
+use Rattle.skips.proofs.scan.Given as goal
+
+abbrev pub invariant-loop-t : goal.invariant-loop-t
+invariant-loop-t l = Scanned l.ks l.seen l.s l.end l.t
+
+abbrev pub decreases-loop-t : goal.decreases-loop-t
+decreases-loop-t l = l.end - l.t

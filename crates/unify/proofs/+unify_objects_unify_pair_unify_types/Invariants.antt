@@ -1,0 +1,43 @@
+-- The cycle `unify_objects`, `unify_pair`, `unify_types` meets its contracts. The measure is twice the depth, and one more for a run and an object. A loop's invariant:
+-- the pairs that are left give what the whole gives, from words and a memory that still meet what is asked. Each place that a proof looks back to has a name: `start`,
+-- `entered` (the two types before their children), `steps` (what their roots ask for), `loop`, `turn` (its test), `pair` (two types), `tried` (at once), `unified`, `settled`.
+-- Assumes nothing.
+use mathlib.Core.Path.{◌≡◌, refl, ◌∙◌}
+use native.Mathlib.Omega.{arith}
+use native.Mathlib.Nat.{pos_of_ne-zero}
+use borrow.Author.Rules.{rules}
+use lib.ListN.{length}
+use borrow.Author.Tests.{not-true, not-false}
+use Rattle.scope.specs.Types.{ty_of}
+use Rattle.names.specs.Place.{texts}
+use Rattle.unify_enter.specs.Enters.{Left}
+use Rattle.unify_enter.proofs.Laws.{entered_done, entered_kids}
+use Rattle.unify.proofs.QuickLaws.{quick_adds, quick_merged, quick_asked, quick_not}
+use Rattle.unify.proofs.RunLaws.{both_success, RunLeft, RunNext, run_fails, run_start, run_pair, run_asks, run_next, run_ends}
+use Rattle.unify.proofs.RunLaws.{ObjectLeft, ObjectNext, stored_start, object_none, object_pair, object_asks, object_next, stored_ends}
+use Rattle.unify.proofs.StepLaws.{answer_settles, way_answer, object_asked, object_settles, way_object, run_asked, run_settles, way_run}
+use Prim.Native.Nat.{ℕ, ◌+◌, ◌-◌, ◌*◌, ◌<◌, ◌≤◌}
+use Rattle.unify.proofs.+unify_objects_unify_pair_unify_types.Given as goal
+
+abbrev pub decreases-unify_objects : goal.decreases-unify_objects
+decreases-unify_objects l = 2 * l.depth + 1
+
+abbrev pub decreases-unify_pair : goal.decreases-unify_pair
+decreases-unify_pair l = 2 * l.depth
+
+abbrev pub decreases-unify_types : goal.decreases-unify_types
+decreases-unify_types l = 2 * l.depth + 1
+
+abbrev pub invariant-unify_objects-loop-j : goal.invariant-unify_objects-loop-j
+invariant-unify_objects-loop-j l = (length l.ws ≡ length l.initial.ws) × (length l.memory ≡ length l.initial.memory)
+    × ObjectLeft (texts l.rule l.text) l.ks l.ks l.initial.ws l.ks l.initial.memory l.n l.depth l.s l.ws l.memory l.r l.j
+
+abbrev pub decreases-unify_objects-loop-j : goal.decreases-unify_objects-loop-j
+decreases-unify_objects-loop-j l = l.s.na - l.j
+
+abbrev pub invariant-unify_types-loop-i : goal.invariant-unify_types-loop-i
+invariant-unify_types-loop-i l = (length l.ws ≡ length l.initial.ws) × (length l.memory ≡ length l.initial.memory)
+    × RunLeft (texts l.rule l.text) l.initial.ws l.ks l.initial.memory l.n l.depth l.s l.ws l.memory l.r l.i
+
+abbrev pub decreases-unify_types-loop-i : goal.decreases-unify_types-loop-i
+decreases-unify_types-loop-i l = l.s.na - l.i

@@ -1,0 +1,16 @@
+-- `unify_enter::walks::walk_on` meets its contract: what the memory tells, an answer of a walk that is noted where it is a Failure, or a merge of which the memory is told.
+-- Assumes nothing.
+use Rattle.unify_enter.proofs.walks.Laws.{walk_told, walk_done, walk_binds}
+use borrow.Author.Rules.{rules}
+use Rattle.unify_enter.proofs.walks.walk_on.Goals as goal
+
+pub returns-in-Is : goal.returns-in-Is
+returns-in-Is c = walk_told c.requires c.look-known.ensures c.in-Is.is
+
+pub returns-in-Done : goal.returns-in-Done
+returns-in-Done c =
+    walk_done c.requires c.walk_roots-w.ensures c.in-Done.is c.walked.ensures
+
+pub returns-in-Bind : goal.returns-in-Bind
+returns-in-Bind c =
+    walk_binds c.requires c.walk_roots-w.ensures c.in-Bind.is c.bind.ensures c.changed.ensures
