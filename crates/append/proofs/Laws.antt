@@ -80,15 +80,9 @@ append_full buf at p full = record { keeps = keeps }
           place = omega (arith, h.place, e.1, l);
         }
 
--- n bytes of a piece, as src, copied to the buffer's part from `at` on, which is all that is left of it and then is last
-pub part_copied : (buf : List ℕ) (at : ℕ) (piece : List ℕ) (n : ℕ) (src last : List ℕ) → src ≡ take n piece → length src ≡ n
-    → last ≡ take (length src) src ++ drop (length src) (take (length buf - at) (drop at buf))
-    → put_mid at (length buf - at) buf last ≡ paste buf at piece n
-part_copied buf at piece n src last is long copy =
-    let past : length (drop at buf) ≤ length buf - at = rw (length-drop at buf) (omega arith) in
-    let whole : take (length src) src ≡ src = take_all (length src) src (omega arith) in
-    rw (copy, whole, long, take_all (length buf - at) (drop at buf) past, drop_of_length-le (drop at buf) past, append-nil, is, drop-drop n at buf)
-    (sym (append_assoc (take at buf) (take n piece) (drop (at + n) buf)))
+-- n bytes of a piece copied over the k bytes from `at` on, which are as many and then are last
+pub part_copied : (buf : List ℕ) (at : ℕ) (piece : List ℕ) (n k : ℕ) (last : List ℕ) → k ≡ n → last ≡ take n piece → put_mid at k buf last ≡ paste buf at piece n
+part_copied buf at piece n k last whole copy = rw (whole, copy, drop-drop n at buf) (sym (append_assoc (take at buf) (take n piece) (drop (at + n) buf)))
 
 -- n bytes of a piece after a text that fits
 copied_after : (buf₀ buf : List ℕ) (at : ℕ) (bs piece : List ℕ) (n : ℕ) → SoFar buf₀ buf at bs → at ≤ length buf

@@ -1,6 +1,6 @@
 -- `append::put` meets its contract: where the text has not outgrown the buffer, the piece, or as much of it as there is room for, is copied to what is left.
 -- Assumes nothing.
-use mathlib.Core.Path.{◌≡◌, refl, sym}
+use mathlib.Core.Path.{◌≡◌, refl, sym, ◌∙◌}
 use Prim.Native.Nat.{◌-◌, ◌≤◌}
 use native.Mathlib.Omega.{arith}
 use borrow.Author.Rules.{rules}
@@ -15,21 +15,6 @@ returns-then-is_full c = laws.append_full _ _ _ (laws.is_over c.is_full.ensures 
 pub overflow_sub-room : goal.overflow_sub-room
 overflow_sub-room c = laws.has_room c.is_full.ensures c.if-is_full.false
 
--- LEFT slice-aggregate-copy
--- slice-aggregate-copy c = sym (length-take-le _ _ (omega arith))
-
--- LEFT overflow-sub-copy
--- sub-copy c = laws.has_room c.before.before.before.is-full.ensures c.before.before.if1.false
-
--- LEFT slice-bounds-copy-start
--- part-copy-start c = laws.has_room c.before.before.before.is-full.ensures c.before.before.if1.false
-
--- LEFT copy-requires
--- copy-requires c κs =
---     let a = c.before.before.before.before.before.before.before.before.args in
---     let n = length a.buf.now - a.at in
---     omega (arith, length-take n a.piece.now, length-take n (drop a.at a.buf.now), length-drop a.at a.buf.now)
-
 pub shape_of-buf-then-room-piece : goal.shape_of-buf-then-room-piece
 shape_of-buf-then-room-piece c = search rules
 
@@ -37,23 +22,16 @@ pub returns-then-room-piece : goal.returns-then-room-piece
 returns-then-room-piece c = let a = c.args in
     let room : a.at ≤ length a.buf.now = laws.has_room c.is_full.ensures c.if-is_full.false in
     let n = length a.buf.now - a.at in
-    let copy = c.before.before.copy in
-    let long : length (take n a.piece.now) ≡ n = length-take-le _ _ (omega arith) in
+    let copy = c.copy_from_slice in
     laws.append_cut a.buf.now a.at a.piece.now n _ _ (omega (arith, room)) (omega arith)
-    (laws.part_copied a.buf.now a.at a.piece.now n (take n a.piece.now) copy.new.1.0 refl long copy.ensures.1)
+    (laws.part_copied a.buf.now a.at a.piece.now n _ copy.new.self refl copy.ensures.after)
     (omega (arith, shape_of-buf-then-room-piece c))
-
--- LEFT overflow-sub-copy-2
--- sub-copy-2 c = laws.has_room c.before.before.is-full.ensures c.before.if1.false
-
--- LEFT slice-bounds-copy-start-2
--- part-copy-start-2 c = laws.has_room c.before.before.is-full.ensures c.before.if1.false
 
 pub returns : goal.returns
 returns c = let a = c.args in
     let room : a.at ≤ length a.buf.now = laws.has_room c.is_full.ensures c.if-is_full.false in
     let n = length a.piece.now in
-    let copy = c.before.before.copy2 in
+    let copy = c.copy_from_slice-2 in
     let whole : a.piece.now ≡ take n a.piece.now = sym (take_all n a.piece.now (omega arith)) in
     laws.append_copied a.buf.now a.at a.piece.now n _ _ (omega (arith, room)) refl
-    (laws.part_copied a.buf.now a.at a.piece.now n a.piece.now copy.new.1.0 whole refl copy.ensures.1) refl
+    (laws.part_copied a.buf.now a.at a.piece.now n _ copy.new.self (omega arith) (copy.ensures.after ∙ whole)) refl
