@@ -41,10 +41,10 @@ pub shape_of-h : goal.shape_of-h
 shape_of-h c =
     omega (
       arith,
-      c.remember.auto.0,
-      c.copy_all.auto.1.1.1.1.1.1.1.0,
-      c.copy_remembered-nil.auto.1.1.1.1.1.0,
-      c.copy_remembered-error.auto.1.1.1.1.1.0,
+      c.remember.auto.h,
+      c.copy_all.auto.h,
+      c.copy_remembered-nil.auto.h,
+      c.copy_remembered-error.auto.h,
       at_open.«open».auto.0,
     )
 
@@ -52,9 +52,9 @@ pub shape_of-ws : goal.shape_of-ws
 shape_of-ws c =
     omega (
       arith,
-      c.copy_all.auto.1.1.1.1.1.1.1.1.0,
-      c.copy_remembered-nil.auto.1.1.1.1.1.1.0,
-      c.copy_remembered-error.auto.1.1.1.1.1.1.0,
+      c.copy_all.auto.ws,
+      c.copy_remembered-nil.auto.ws,
+      c.copy_remembered-error.auto.ws,
       at_open.«open».auto.1.0,
     )
 
@@ -62,14 +62,14 @@ pub shape_of-ks : goal.shape_of-ks
 shape_of-ks c =
     omega (
       arith,
-      c.copy_all.auto.1.1.1.1.1.1.1.1.1.0,
-      c.copy_remembered-nil.auto.1.1.1.1.1.1.1.0,
-      c.copy_remembered-error.auto.1.1.1.1.1.1.1.0,
+      c.copy_all.auto.ks,
+      c.copy_remembered-nil.auto.ks,
+      c.copy_remembered-error.auto.ks,
       at_open.«open».auto.1.1.0,
     )
 
 pub shape_of-out : goal.shape_of-out
-shape_of-out c = c.copy_all.auto.1.1.1.1.1.1.1.1.1.1.1.0
+shape_of-out c = c.copy_all.auto.out
 
 pub returns : goal.returns
 returns c =

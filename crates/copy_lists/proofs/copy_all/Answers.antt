@@ -50,13 +50,13 @@ loop-i-preserved c = (
       (listed_below c.args.ts.now c.loop-i.i c.loop-i-test.true)
       (omega (arith, c.loop-i.invariant.0.wide, c.requires.1))
       (record {
-        tables = c.copy-next.auto.1.1.1.1.1.1.0;
-        heads = c.copy-next.auto.1.1.1.1.1.1.1.0;
-        nodes = c.copy-next.auto.1.1.1.1.1.1.1.1.0;
-        kids = c.copy-next.auto.1.1.1.1.1.1.1.1.1.0;
+        tables = c.copy-next.auto.table;
+        heads = c.copy-next.auto.h;
+        nodes = c.copy-next.auto.ws;
+        kids = c.copy-next.auto.ks;
       }),
   c.copy-next.ensures.1,
-  c.copy-next.auto.1.1.1.1.1.0 ∙ c.loop-i.invariant.2,
+  c.copy-next.auto.cache ∙ c.loop-i.invariant.2,
 )
 
 pub shape_of-cache : goal.shape_of-cache

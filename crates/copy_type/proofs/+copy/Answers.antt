@@ -74,13 +74,13 @@ loop-j-preserved t c = (
   filling_next c.loop-j.invariant.0 c.loop-j-test.true _ (kid_next c.args.sk.now _ _ _ c.child.result c.loop-j-test.true c.child.ensures)
       c.copy-next.ensures.0 c.move_child.ensures
       (record {
-        tables = c.copy-next.auto.1.1.1.1.1.1.0;
-        heads = c.copy-next.auto.1.1.1.1.1.1.1.0;
-        nodes = c.copy-next.auto.1.1.1.1.1.1.1.1.0;
-        kids = c.move_child.auto.1.1.0 ∙ c.copy-next.auto.1.1.1.1.1.1.1.1.1.0;
+        tables = c.copy-next.auto.table;
+        heads = c.copy-next.auto.h;
+        nodes = c.copy-next.auto.ws;
+        kids = c.move_child.auto.ks ∙ c.copy-next.auto.ks;
       }),
   c.copy-next.ensures.1,
-  c.copy-next.auto.1.1.1.1.1.0 ∙ c.loop-j.invariant.2,
+  c.copy-next.auto.cache ∙ c.loop-j.invariant.2,
 )
 
 pub end-requires : goal.end-requires
@@ -96,19 +96,19 @@ returns-in-Is t c = (
 
 pub shape_of-cache-after-loop-j : goal.shape_of-cache-after-loop-j
 shape_of-cache-after-loop-j t c =
-    c.loop-j.invariant.2 ∙ c.find_by-root.auto.1.1.0
+    c.loop-j.invariant.2 ∙ c.find_by-root.auto.cache
 
 pub shape_of-table-after-loop-j : goal.shape_of-table-after-loop-j
 shape_of-table-after-loop-j t c =
-    c.loop-j.invariant.0.long.tables ∙ c.begin-new.auto.0
+    c.loop-j.invariant.0.long.tables ∙ c.begin-new.auto.table
 
 pub shape_of-h : goal.shape_of-h
 shape_of-h t c =
-    c.loop-j.invariant.0.long.heads ∙ c.begin-new.auto.1.0
+    c.loop-j.invariant.0.long.heads ∙ c.begin-new.auto.h
 
 pub shape_of-ws : goal.shape_of-ws
 shape_of-ws t c =
-    c.end.auto.1.1.1.1.0 ∙ (c.loop-j.invariant.0.long.nodes ∙ c.begin-new.auto.1.1.0)
+    c.end.auto.ws ∙ (c.loop-j.invariant.0.long.nodes ∙ c.begin-new.auto.ws)
 
 pub shape_of-ks : goal.shape_of-ks
 shape_of-ks t c = c.loop-j.invariant.0.long.kids

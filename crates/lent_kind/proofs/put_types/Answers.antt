@@ -28,7 +28,7 @@ loop-i-smaller c = omega arith
 pub loop-i-preserved : goal.loop-i-preserved
 loop-i-preserved c =
     let a = c.args in
-    (omega arith, (c.put_child.auto.0 ∙ c.loop-i.invariant.1.0, listed_more a.types.now c.loop-i.i c.loop-i.invariant.1.1 (omega arith) refl c.put_child.ensures))
+    (omega arith, (c.put_child.auto.ks ∙ c.loop-i.invariant.1.0, listed_more a.types.now c.loop-i.i c.loop-i.invariant.1.1 (omega arith) refl c.put_child.ensures))
 
 pub shape_of-es : goal.shape_of-es
 shape_of-es c = c.loop-i.invariant.1.0

@@ -20,4 +20,4 @@ push-requires c =
 pub returns : goal.returns
 returns c =
     kind_made_lem c.requires c.children_made-first.ensures c.entry_count-n.ensures c.put_children.ensures
-    c.put_children.auto.0 c.kind_of.ensures c.push.ensures
+    c.put_children.auto.ks c.kind_of.ensures c.push.ensures

@@ -28,7 +28,7 @@ loop-i-smaller c = omega arith
 pub loop-i-preserved : goal.loop-i-preserved
 loop-i-preserved c = let a = c.args in
     let more = put_more a.entries.now a.first c.loop-i.i c.loop-i.invariant.1.1 (omega arith) c.child_at.ensures c.put_child.ensures in
-    (omega arith, (c.put_child.auto.0 ∙ c.loop-i.invariant.1.0, more))
+    (omega arith, (c.put_child.auto.ks ∙ c.loop-i.invariant.1.0, more))
 
 pub shape_of-ks : goal.shape_of-ks
 shape_of-ks c = c.loop-i.invariant.1.0

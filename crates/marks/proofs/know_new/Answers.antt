@@ -21,7 +21,7 @@ loop-i-smaller-then-found-k-eq1 c = omega (arith, c.loop-i-test.true)
 
 pub loop-i-preserved-then-found-k-eq1 : goal.loop-i-preserved-then-found-k-eq1
 loop-i-preserved-then-found-k-eq1 c =
-    (c.know.auto.0 ∙ c.loop-i.invariant.0, new_more c.loop-i.invariant.1 c.if-found-k-eq1.true c.know.ensures)
+    (c.know.auto.m ∙ c.loop-i.invariant.0, new_more c.loop-i.invariant.1 c.if-found-k-eq1.true c.know.ensures)
 
 pub loop-i-smaller-else-found-k-eq1 : goal.loop-i-smaller-else-found-k-eq1
 loop-i-smaller-else-found-k-eq1 c = omega (arith, c.loop-i-test.true)

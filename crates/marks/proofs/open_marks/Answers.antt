@@ -20,10 +20,10 @@ loop-i-smaller c = omega (arith, c.loop-i-test.true)
 
 pub loop-i-preserved : goal.loop-i-preserved
 loop-i-preserved c =
-    (c.put.auto.0 ∙ c.loop-i.invariant.0, open_next c.loop-i.invariant.1 c.loop-i-test.true c.put.ensures)
+    (c.put.auto.m ∙ c.loop-i.invariant.0, open_next c.loop-i.invariant.1 c.loop-i-test.true c.put.ensures)
 
 pub shape_of-m : goal.shape_of-m
-shape_of-m c = c.put-2.auto.0 ∙ c.loop-i.invariant.0
+shape_of-m c = c.put-2.auto.m ∙ c.loop-i.invariant.0
 
 pub returns : goal.returns
 returns c =

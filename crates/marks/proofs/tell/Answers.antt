@@ -24,7 +24,7 @@ loop-p-smaller c = omega (arith, c.loop-p-test.true)
 
 pub loop-p-preserved : goal.loop-p-preserved
 loop-p-preserved c =
-    (c.tell_word.auto.1.1.0 ∙ c.loop-p.invariant.0, tells_then c.loop-p.invariant.1 c.tell_word.ensures)
+    (c.tell_word.auto.found ∙ c.loop-p.invariant.0, tells_then c.loop-p.invariant.1 c.tell_word.ensures)
 
 pub shape_of-found : goal.shape_of-found
 shape_of-found c = c.loop-p.invariant.0

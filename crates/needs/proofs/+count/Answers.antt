@@ -64,7 +64,7 @@ pub count-all-requires : goal.count-all-requires
 count-all-requires t c = (
   omega (arith, c.requires.0, c.if-depth-eq0.false),
   (
-    record { source = c.requires.1.0.source; long = omega (arith, c.requires.1.0.long, c.mark.auto.0, c.loop-j.invariant.0.long); small = c.loop-j.invariant.0.small },
+    record { source = c.requires.1.0.source; long = omega (arith, c.requires.1.0.long, c.mark.auto.marks, c.loop-j.invariant.0.long); small = c.loop-j.invariant.0.small },
     c.is_met.ensures.1,
   ),
 )
@@ -76,9 +76,9 @@ loop-j-smaller-then-not-is_met t c =
 pub loop-j-preserved-then-not-is_met : goal.loop-j-preserved-then-not-is_met
 loop-j-preserved-then-not-is_met t c = (
   turn_next c.loop-j.invariant.0 c.requires.1.0.source (kid_next c.args.ks.now _ _ _ c.child.result c.loop-j-test.true c.child.ensures)
-      c.count-all.ensures.0 c.count-all.auto.1.1.1.1.1.0,
+      c.count-all.ensures.0 c.count-all.auto.marks,
   c.count-all.ensures.1,
-  c.count-all.auto.1.1.1.1.0 ∙ (c.is_met.auto.1.1.0 ∙ c.loop-j.invariant.2),
+  c.count-all.auto.cache ∙ (c.is_met.auto.cache ∙ c.loop-j.invariant.2),
 )
 
 pub loop-j-smaller : goal.loop-j-smaller
@@ -89,7 +89,7 @@ loop-j-preserved t c = (
   turn_next c.loop-j.invariant.0 c.requires.1.0.source (kid_next c.args.ks.now _ _ _ c.child.result c.loop-j-test.true c.child.ensures)
       (c.is_met.ensures.0.is c.if-not-is_met.false c.args.ks.now _ _ _) refl,
   c.is_met.ensures.1,
-  c.is_met.auto.1.1.0 ∙ c.loop-j.invariant.2,
+  c.is_met.auto.cache ∙ c.loop-j.invariant.2,
 )
 
 pub returns-in-Replaced : goal.returns-in-Replaced
@@ -108,11 +108,11 @@ returns-in-Missing t c = (
 
 pub shape_of-cache-after-loop-j : goal.shape_of-cache-after-loop-j
 shape_of-cache-after-loop-j t c =
-    c.loop-j.invariant.2 ∙ c.find_by.auto.1.1.0
+    c.loop-j.invariant.2 ∙ c.find_by.auto.cache
 
 pub shape_of-marks-after-loop-j : goal.shape_of-marks-after-loop-j
 shape_of-marks-after-loop-j t c =
-    c.loop-j.invariant.0.long ∙ c.mark.auto.0
+    c.loop-j.invariant.0.long ∙ c.mark.auto.marks
 
 pub returns-after-loop-j : goal.returns-after-loop-j
 returns-after-loop-j t c = (

@@ -35,9 +35,9 @@ loop-i-smaller c = omega arith
 pub loop-i-preserved : goal.loop-i-preserved
 loop-i-preserved c = (
   turn_next c.loop-i.invariant.0 c.requires.0.source (listed_next c.args.ts.now c.loop-i.i c.loop-i-test.true)
-      c.count-all.ensures.0 c.count-all.auto.1.1.1.1.1.0,
+      c.count-all.ensures.0 c.count-all.auto.marks,
   c.count-all.ensures.1,
-  c.count-all.auto.1.1.1.1.0 ∙ c.loop-i.invariant.2,
+  c.count-all.auto.cache ∙ c.loop-i.invariant.2,
 )
 
 pub shape_of-cache : goal.shape_of-cache

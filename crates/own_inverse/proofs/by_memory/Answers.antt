@@ -6,7 +6,7 @@ use borrow.Author.Rules.{rules}
 use Rattle.own_inverse.proofs.by_memory.Goals as goal
 
 pub by_marks-requires : goal.by_marks-requires
-by_marks-requires c = memory_asks c.requires c.tell.auto.1.0 c.tell.ensures
+by_marks-requires c = memory_asks c.requires c.tell.auto.found c.tell.ensures
 
 pub returns-then-not-by_marks : goal.returns-then-not-by_marks
 returns-then-not-by_marks c = memory_not c.requires c.by_marks.ensures c.if-not-by_marks.true

@@ -50,7 +50,7 @@ loop-s-preserved-then-far-gt0 t c = (
   keeps_pass c.loop-s.invariant.1 c.pass-far.ensures,
   c.loop-s.invariant.2,
   c.loop-s.invariant.3,
-  c.pass-far.auto.0 ∙ c.loop-s.invariant.4,
+  c.pass-far.auto.skip ∙ c.loop-s.invariant.4,
   c.loop-s.invariant.5,
 )
 
@@ -72,9 +72,9 @@ loop-s-preserved-in-Met t c = (
       (turn_met c.args.depth c.loop-s.invariant.0 c.child_at.result c.loop-s-test.true c.child_at.ensures c.meet.ensures c.in-Met.is)
       (keeps_met (keeps_pass c.loop-s.invariant.1 c.pass-far.ensures) c.meet.ensures c.in-Met.is) c.stretch-s.ensures.scanned,
   keeps_stretch (keeps_met (keeps_pass c.loop-s.invariant.1 c.pass-far.ensures) c.meet.ensures c.in-Met.is) c.stretch-s.ensures,
-  c.meet.auto.1.1.0 ∙ c.loop-s.invariant.2,
-  c.meet.auto.1.1.1.1.0 ∙ c.loop-s.invariant.3,
-  c.stretch-s.auto.1.1.0 ∙ (c.pass-far.auto.0 ∙ c.loop-s.invariant.4),
+  c.meet.auto.cache ∙ c.loop-s.invariant.2,
+  c.meet.auto.seen ∙ c.loop-s.invariant.3,
+  c.stretch-s.auto.skip ∙ (c.pass-far.auto.skip ∙ c.loop-s.invariant.4),
   c.loop-s.invariant.5,
 )
 
@@ -98,12 +98,12 @@ pub loop-s-preserved : goal.loop-s-preserved
 loop-s-preserved t c = (
   turn_stretch c.args.depth c.loop-s.s
       (turn_new c.args.depth c.loop-s.invariant.0 c.child_at.result c.loop-s-test.true c.child_at.ensures c.meet.ensures c.if-depth-eq0.false c.in-New.is
-      c.mark_below.ensures.0 c.mark_below.auto.1.1.1.1.0)
+      c.mark_below.ensures.0 c.mark_below.auto.marks)
       c.mark_below.ensures.1 c.stretch-s-in-New.ensures.scanned,
   keeps_stretch c.mark_below.ensures.1 c.stretch-s-in-New.ensures,
-  c.mark_below.auto.1.1.1.0 ∙ (c.meet.auto.1.1.0 ∙ c.loop-s.invariant.2),
-  c.mark_below.auto.1.1.1.1.1.0 ∙ (c.meet.auto.1.1.1.1.0 ∙ c.loop-s.invariant.3),
-  c.stretch-s-in-New.auto.1.1.0 ∙ (c.mark_below.auto.1.1.1.1.1.1.0 ∙ (c.pass-far.auto.0 ∙ c.loop-s.invariant.4)),
+  c.mark_below.auto.cache ∙ (c.meet.auto.cache ∙ c.loop-s.invariant.2),
+  c.mark_below.auto.seen ∙ (c.meet.auto.seen ∙ c.loop-s.invariant.3),
+  c.stretch-s-in-New.auto.skip ∙ (c.mark_below.auto.skip ∙ (c.pass-far.auto.skip ∙ c.loop-s.invariant.4)),
   c.loop-s.invariant.5,
 )
 

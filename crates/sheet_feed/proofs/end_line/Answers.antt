@@ -13,4 +13,4 @@ slice_bounds-run_line-end c =
 
 pub returns : goal.returns
 returns c =
-    line_ran c.requires.line_len c.kept-e.ensures (omega (arith, c.run_line-n.auto.1.1.1.1.1.0, c.requires.in_bounds)) c.run_line-n.ensures
+    line_ran c.requires.line_len c.kept-e.ensures (omega (arith, c.run_line-n.auto.out, c.requires.in_bounds)) c.run_line-n.ensures

@@ -54,13 +54,13 @@ run_line-n-requires c = let turn = c.loop-i.invariant in
 
 pub slice_bounds-text-end : goal.slice_bounds-text-end
 slice_bounds-text-end c =
-    omega (arith, c.run_line-n.ensures.printed.short, c.run_line-n.auto.1.1.1.1.1.0, c.loop-i.invariant.1.text)
+    omega (arith, c.run_line-n.ensures.printed.short, c.run_line-n.auto.out, c.loop-i.invariant.1.text)
 
 pub slice_bounds-put-end : goal.slice_bounds-put-end
 slice_bounds-put-end c =
     let text = c.run_line-n.new.out in
     let long = c.loop-i.invariant.1.text in
-    sym (length-take-le c.run_line-n.result text (omega (arith, c.run_line-n.ensures.printed.short, c.run_line-n.auto.1.1.1.1.1.0, long)))
+    sym (length-take-le c.run_line-n.result text (omega (arith, c.run_line-n.ensures.printed.short, c.run_line-n.auto.out, long)))
 
 pub loop-i-smaller : goal.loop-i-smaller
 loop-i-smaller c =

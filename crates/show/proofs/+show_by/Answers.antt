@@ -74,18 +74,18 @@ loop-j-preserved t c =
     let deep = c.xor-i.result.0 && c.self_dual-dual.result in (
       turn_next _ _ _ _ c.loop-j.invariant.0 c.loop-j-test.true c.put_gap-q.ensures
           (kid_shown e (a.depth - 1) (decode a.ws.now a.ks.now a.n) a.ks.now k deep c.loop-j.j c.child_of.result c.invert_if.result.0 c.invert_if.ensures c.child_of.ensures c.show_by-p.ensures.0)
-          (c.show_by-p.auto.1.1.1.1.1.1.1.1.0 ∙ c.put_gap-q.auto.1.1.1.0 ∙ c.loop-j.invariant.0.long),
+          (c.show_by-p.auto.buf ∙ c.put_gap-q.auto.buf ∙ c.loop-j.invariant.0.long),
       c.show_by-p.ensures.1,
-      c.show_by-p.auto.1.1.1.1.1.1.1.0 ∙ c.loop-j.invariant.2,
+      c.show_by-p.auto.cache ∙ c.loop-j.invariant.2,
     )
 
 pub shape_of-cache : goal.shape_of-cache
 shape_of-cache t c =
-    c.loop-j.invariant.2 ∙ (c.shown-count.auto.1.1.1.0 ∙ c.find_by-root.auto.1.1.0)
+    c.loop-j.invariant.2 ∙ (c.shown-count.auto.cache ∙ c.find_by-root.auto.cache)
 
 pub shape_of-buf : goal.shape_of-buf
 shape_of-buf t c =
-    c.put_close.auto.0 ∙ c.loop-j.invariant.0.long ∙ c.put_lead-p.auto.1.1.1.1.0
+    c.put_close.auto.buf ∙ c.loop-j.invariant.0.long ∙ c.put_lead-p.auto.buf
 
 pub returns : goal.returns
 returns t c =

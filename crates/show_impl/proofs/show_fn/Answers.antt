@@ -42,14 +42,14 @@ show_all-requires c = c.requires
 
 pub shape_of-buf : goal.shape_of-buf
 shape_of-buf c = let said =
-    c.put-said.auto.0 in
+    c.put-said.auto.buf in
     let of =
-    c.show_all-of.auto.1.1.1.1.1.1.1.0 in
+    c.show_all-of.auto.buf in
     let opened =
-    c.put_byte-opened.auto.0 in
+    c.put_byte-opened.auto.buf in
     let listed =
-    c.show_params-listed.auto.1.1.1.1.1.1.1.0 in
-    c.show_all.auto.1.1.1.1.1.1.1.0 ∙ c.put-arrow.auto.0 ∙ c.put_byte-closed.auto.0 ∙ listed ∙ opened ∙ of ∙ said
+    c.show_params-listed.auto.buf in
+    c.show_all.auto.buf ∙ c.put-arrow.auto.buf ∙ c.put_byte-closed.auto.buf ∙ listed ∙ opened ∙ of ∙ said
 
 pub returns : goal.returns
 returns c = let a =

@@ -25,7 +25,7 @@ loop-j-smaller c = omega (arith, c.loop-j-test.true)
 
 pub loop-j-preserved : goal.loop-j-preserved
 loop-j-preserved c = turn_next _ _ _ _ c.loop-j.invariant c.loop-j-test.true (rw (comma_any _) at c.put_comma-q.ensures) c.show_all-p.ensures
-    (c.show_all-p.auto.1.1.1.1.1.1.1.0 ∙ c.put_comma-q.auto.0 ∙ c.loop-j.invariant.long)
+    (c.show_all-p.auto.buf ∙ c.put_comma-q.auto.buf ∙ c.loop-j.invariant.long)
 
 pub shape_of-buf : goal.shape_of-buf
 shape_of-buf c = c.loop-j.invariant.long

@@ -34,7 +34,7 @@ loop-j-preserved c = let a = c.args in
     turn_next _ _ _ _ c.loop-j.invariant c.loop-j-test.true c.put_comma-q.ensures
     (child_read (show (env_of a.chart.now a.beside a.rule.now a.text.now) (decode a.ws.now a.ks.now a.n))
     a.ks.now a.k a.i.0 c.loop-j.j c.child_of.result c.invert_if.result.0 c.invert_if.ensures c.child_of.ensures c.show_all-p.ensures)
-    (c.show_all-p.auto.1.1.1.1.1.1.1.0 ∙ c.put_comma-q.auto.0 ∙ c.loop-j.invariant.long)
+    (c.show_all-p.auto.buf ∙ c.put_comma-q.auto.buf ∙ c.loop-j.invariant.long)
 
 pub shape_of-buf : goal.shape_of-buf
 shape_of-buf c = c.loop-j.invariant.long

@@ -11,7 +11,7 @@ loop-rest-init c = spelling_start _ _ _ (search rules)
 
 pub loop-rest-preserved : goal.loop-rest-preserved
 loop-rest-preserved c =
-    spelling_next c.loop-rest.invariant c.loop-rest-test.true c.put_byte-p.ensures (c.put_byte-p.auto.0 ∙ c.loop-rest.invariant.long)
+    spelling_next c.loop-rest.invariant c.loop-rest-test.true c.put_byte-p.ensures (c.put_byte-p.auto.buf ∙ c.loop-rest.invariant.long)
 
 pub shape_of-buf : goal.shape_of-buf
 shape_of-buf c = c.loop-rest.invariant.long

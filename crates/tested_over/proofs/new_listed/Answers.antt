@@ -22,5 +22,5 @@ push-requires c =
 
 pub returns : goal.returns
 returns c =
-    list_made c.args.types.now c.requires c.children_made-first.ensures c.put_listed.ensures c.put_listed.auto.0
+    list_made c.args.types.now c.requires c.children_made-first.ensures c.put_listed.ensures c.put_listed.auto.ks
     c.kind_of.ensures c.push.ensures

@@ -36,7 +36,7 @@ loop-i-preserved c =
     let is = sym (entry_is ts c.loop-i.i (omega arith)) in (
       omega arith,
       (
-        c.put_child.auto.0 ∙ c.loop-i.invariant.1.0,
+        c.put_child.auto.ks ∙ c.loop-i.invariant.1.0,
         put_more (entries_of ts) c.args.first c.loop-i.i c.loop-i.invariant.1.1 (omega arith) is
             c.put_child.ensures,
       ),

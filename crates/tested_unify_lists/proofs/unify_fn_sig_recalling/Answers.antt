@@ -19,5 +19,5 @@ pub returns : goal.returns
 returns c =
     let p = passed c.requires c.read_header-x.ensures in
     unify_done p (signatures_form _ _ _ _) c.signatures-refused.ensures
-    c.if-refused-ne-NO_REFUSAL.false c.unify_fn_sig.auto.0
+    c.if-refused-ne-NO_REFUSAL.false c.unify_fn_sig.auto.ws
     c.unify_fn_sig.ensures.leaves

@@ -25,6 +25,6 @@ pub returns : goal.returns
 returns c =
     let p = passed c.requires c.read_header-x.ensures in
     unify_done p (objects_form _ _ _) (objects_beside p _ _ c.objects-refused.ensures)
-    c.if-refused-ne-NO_REFUSAL.false c.unify_entries.auto.0
+    c.if-refused-ne-NO_REFUSAL.false c.unify_entries.auto.ws
     (objects_leave (lent_words p) c.begin.ensures (chart_in [] c.args.rule.now c.args.text.now) c.args.xs.now
     c.args.ys.now c.objects-refused.ensures c.if-refused-ne-NO_REFUSAL.false c.args.inv.0 c.unify_entries.ensures.leaves)

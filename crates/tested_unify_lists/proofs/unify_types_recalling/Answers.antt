@@ -19,5 +19,5 @@ pub returns : goal.returns
 returns c =
     let p = passed c.requires c.read_header-x.ensures in
     unify_done p (types_form _ _ _) c.lists-refused.ensures
-    c.if-refused-ne-NO_REFUSAL.false c.unify_lists.auto.0
+    c.if-refused-ne-NO_REFUSAL.false c.unify_lists.auto.ws
     c.unify_lists.ensures.leaves

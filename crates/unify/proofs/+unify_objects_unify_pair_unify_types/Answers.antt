@@ -66,8 +66,8 @@ unify_objects-loop-j-smaller-then-not-quick t c =
 
 pub unify_objects-loop-j-preserved-then-not-quick : goal.unify_objects-loop-j-preserved-then-not-quick
 unify_objects-loop-j-preserved-then-not-quick t c = (
-  c.unify_pair.auto.0 ∙ (c.quick.auto.0 ∙ c.loop-j.invariant.0),
-  c.unify_pair.auto.1.1.1.1.1.0 ∙ (c.quick.auto.1.1.0 ∙ c.loop-j.invariant.1),
+  c.unify_pair.auto.ws ∙ (c.quick.auto.ws ∙ c.loop-j.invariant.0),
+  c.unify_pair.auto.memory ∙ (c.quick.auto.memory ∙ c.loop-j.invariant.1),
   object_next (name_there t pair) (quick_not c.quick.ensures c.if-not-quick.true c.unify_pair.ensures) c.and-r.ensures,
 )
 
@@ -78,8 +78,8 @@ unify_objects-loop-j-smaller-else-not-quick t c =
 pub unify_objects-loop-j-preserved-else-not-quick : goal.unify_objects-loop-j-preserved-else-not-quick
 unify_objects-loop-j-preserved-else-not-quick t c =
     let next = name_there t pair in (
-      c.quick.auto.0 ∙ c.loop-j.invariant.0,
-      c.quick.auto.1.1.0 ∙ c.loop-j.invariant.1,
+      c.quick.auto.ws ∙ c.loop-j.invariant.0,
+      c.quick.auto.memory ∙ c.loop-j.invariant.1,
       object_next next (quick_merged (object_asks next) c.quick.ensures c.if-not-quick.false) (both_success _),
     )
 
@@ -171,11 +171,11 @@ unify_pair-returns-in-Done t c = entered_done _ _ _ (done t c.before).enter.ensu
 
 pub unify_pair-shape_of-ws-in-Answer : goal.unify_pair-shape_of-ws-in-Answer
 unify_pair-shape_of-ws-in-Answer t c =
-    c.settle.auto.0 ∙ (entered t steps).enter.auto.0
+    c.settle.auto.ws ∙ (entered t steps).enter.auto.0
 
 pub unify_pair-shape_of-memory-in-Answer : goal.unify_pair-shape_of-memory-in-Answer
 unify_pair-shape_of-memory-in-Answer t c =
-    c.settle.auto.1.1.0 ∙ (entered t steps).enter.auto.1.1.1.1.1.0
+    c.settle.auto.memory ∙ (entered t steps).enter.auto.1.1.1.1.1.0
 
 pub unify_pair-returns-in-Answer : goal.unify_pair-returns-in-Answer
 unify_pair-returns-in-Answer t c =
@@ -183,11 +183,11 @@ unify_pair-returns-in-Answer t c =
 
 pub unify_pair-shape_of-ws-in-Object : goal.unify_pair-shape_of-ws-in-Object
 unify_pair-shape_of-ws-in-Object t c =
-    c.settle-in-Object.auto.0 ∙ (c.unify_objects-r.auto.0 ∙ (entered t steps).enter.auto.0)
+    c.settle-in-Object.auto.ws ∙ (c.unify_objects-r.auto.ws ∙ (entered t steps).enter.auto.0)
 
 pub unify_pair-shape_of-memory-in-Object : goal.unify_pair-shape_of-memory-in-Object
 unify_pair-shape_of-memory-in-Object t c =
-    c.settle-in-Object.auto.1.1.0 ∙ (c.unify_objects-r.auto.1.1.1.1.1.0 ∙ (entered t steps).enter.auto.1.1.1.1.1.0)
+    c.settle-in-Object.auto.memory ∙ (c.unify_objects-r.auto.memory ∙ (entered t steps).enter.auto.1.1.1.1.1.0)
 
 pub unify_pair-returns-in-Object : goal.unify_pair-returns-in-Object
 unify_pair-returns-in-Object t c =
@@ -195,11 +195,11 @@ unify_pair-returns-in-Object t c =
 
 pub unify_pair-shape_of-ws-in-Run : goal.unify_pair-shape_of-ws-in-Run
 unify_pair-shape_of-ws-in-Run t c =
-    c.settle-in-Run.auto.0 ∙ (c.unify_types.auto.0 ∙ (entered t steps).enter.auto.0)
+    c.settle-in-Run.auto.ws ∙ (c.unify_types.auto.ws ∙ (entered t steps).enter.auto.0)
 
 pub unify_pair-shape_of-memory-in-Run : goal.unify_pair-shape_of-memory-in-Run
 unify_pair-shape_of-memory-in-Run t c =
-    c.settle-in-Run.auto.1.1.0 ∙ (c.unify_types.auto.1.1.1.1.1.0 ∙ (entered t steps).enter.auto.1.1.1.1.1.0)
+    c.settle-in-Run.auto.memory ∙ (c.unify_types.auto.memory ∙ (entered t steps).enter.auto.1.1.1.1.1.0)
 
 pub unify_pair-returns-in-Run : goal.unify_pair-returns-in-Run
 unify_pair-returns-in-Run t c =
@@ -244,16 +244,16 @@ unify_types-unify_pair-requires t c =
 
 pub unify_types-loop-i-preserved-then-not-quick : goal.unify_types-loop-i-preserved-then-not-quick
 unify_types-loop-i-preserved-then-not-quick t c = (
-  c.unify_pair.auto.0 ∙ (c.quick.auto.0 ∙ c.loop-i.invariant.0),
-  c.unify_pair.auto.1.1.1.1.1.0 ∙ (c.quick.auto.1.1.0 ∙ c.loop-i.invariant.1),
+  c.unify_pair.auto.ws ∙ (c.quick.auto.ws ∙ c.loop-i.invariant.0),
+  c.unify_pair.auto.memory ∙ (c.quick.auto.memory ∙ c.loop-i.invariant.1),
   run_next (kids_there t pair) (quick_not c.quick.ensures c.if-not-quick.true c.unify_pair.ensures) c.and-r.ensures,
 )
 
 pub unify_types-loop-i-preserved : goal.unify_types-loop-i-preserved
 unify_types-loop-i-preserved t c =
     let next = kids_there t pair in (
-      c.quick.auto.0 ∙ c.loop-i.invariant.0,
-      c.quick.auto.1.1.0 ∙ c.loop-i.invariant.1,
+      c.quick.auto.ws ∙ c.loop-i.invariant.0,
+      c.quick.auto.memory ∙ c.loop-i.invariant.1,
       run_next next (quick_merged (run_asks next) c.quick.ensures c.if-not-quick.false) (both_success _),
     )
 

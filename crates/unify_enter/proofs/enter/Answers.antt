@@ -61,10 +61,10 @@ pub walk_pair-requires : goal.walk_pair-requires
 walk_pair-requires c = walk_asks (bare-there c.before.before) refl
 
 pub shape_of-ws-then-bare_roots : goal.shape_of-ws-then-bare_roots
-shape_of-ws-then-bare_roots c = c.walk_pair.auto.0
+shape_of-ws-then-bare_roots c = c.walk_pair.auto.ws
 
 pub shape_of-memory-then-bare_roots : goal.shape_of-memory-then-bare_roots
-shape_of-memory-then-bare_roots c = c.walk_pair.auto.1.1.1.0
+shape_of-memory-then-bare_roots c = c.walk_pair.auto.memory
 
 pub returns-then-bare_roots : goal.returns-then-bare_roots
 returns-then-bare_roots c = way_walk (bare-there c.before.before.before.before.before.before.before) refl c.walk_pair.ensures
@@ -97,11 +97,11 @@ in_steps-requires c = kids_spans (met-there c.before.before.before.before.before
 
 pub shape_of-ws-in-Walk : goal.shape_of-ws-in-Walk
 shape_of-ws-in-Walk c =
-    c.walk_pair-in-Walk.auto.0 ∙ long-there b15
+    c.walk_pair-in-Walk.auto.ws ∙ long-there b15
 
 pub shape_of-memory-in-Walk : goal.shape_of-memory-in-Walk
 shape_of-memory-in-Walk c =
-    c.walk_pair-in-Walk.auto.1.1.1.0 ∙ kept_there b15
+    c.walk_pair-in-Walk.auto.memory ∙ kept_there b15
 
 pub returns-in-Walk : goal.returns-in-Walk
 returns-in-Walk c =

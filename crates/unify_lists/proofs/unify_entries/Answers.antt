@@ -49,7 +49,7 @@ unify-requires c = object_asks (name_there c)
 
 pub loop-j-preserved-in-Is : goal.loop-j-preserved-in-Is
 loop-j-preserved-in-Is c =
-    (c.unify.auto.0 ∙ c.loop-j.invariant.0, c.unify.auto.1.1.1.1.1.0 ∙ c.loop-j.invariant.1, object_next (name_there u.before) c.unify.ensures c.and-r.ensures)
+    (c.unify.auto.ws ∙ c.loop-j.invariant.0, c.unify.auto.memory ∙ c.loop-j.invariant.1, object_next (name_there u.before) c.unify.ensures c.and-r.ensures)
 
 pub enum_told-1 : goal.enum_told-1
 enum_told-1 c = search rules

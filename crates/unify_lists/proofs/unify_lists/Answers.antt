@@ -29,7 +29,7 @@ unify-requires c = list_asks (pair-there c.before.before)
 
 pub loop-i-preserved : goal.loop-i-preserved
 loop-i-preserved c =
-    (c.unify.auto.0 ∙ c.loop-i.invariant.0, c.unify.auto.1.1.1.1.1.0 ∙ c.loop-i.invariant.1, list_next (pair-there u.before.before.before) c.unify.ensures c.and-r.ensures)
+    (c.unify.auto.ws ∙ c.loop-i.invariant.0, c.unify.auto.memory ∙ c.loop-i.invariant.1, list_next (pair-there u.before.before.before) c.unify.ensures c.and-r.ensures)
 
 pub shape_of-ws : goal.shape_of-ws
 shape_of-ws c = c.loop-i.invariant.0

@@ -19,5 +19,5 @@ pub returns : goal.returns
 returns c =
     let p = passed c.requires c.read_header-x.ensures in
     unify_done p (impls_form _ _) (impls_beside p _ _ c.impls-refused.ensures)
-    c.if-refused-ne-NO_REFUSAL.false c.unify_impl_type.auto.0
+    c.if-refused-ne-NO_REFUSAL.false c.unify_impl_type.auto.ws
     c.unify_impl_type.ensures.leaves

@@ -18,5 +18,5 @@ pub returns : goal.returns
 returns c =
     let p = passed c.requires c.read_header-x.ensures in
     unify_done p (unify_form _ _) c.pair-refused.ensures
-    c.if-refused-ne-NO_REFUSAL.false c.unify_all.auto.0
+    c.if-refused-ne-NO_REFUSAL.false c.unify_all.auto.ws
     c.unify_all.ensures.leaves
