@@ -1,18 +1,10 @@
--- `sheet::feed_all` is safe, ends and keeps what it promises. The loop's invariant: the store is sound, the buffer holds the bytes of the line so far, and the slices are
--- as long as they were. The measure is what is left of the piece.
--- Assumes nothing.
-use mathlib.Core.Path.{sym}
-use Prim.Native.Nat.{◌-◌, ◌≤◌}
-use native.Mathlib.Omega.{arith}
-use borrow.Author.Rules.{rules}
-use lib.ListN.{length, drop, length-take, length-drop}
-use lib.Seq.{length-take-le}
+-- The store is sound, and the buffer holds the bytes of the line so far. What is left of the piece gets less.
+use Rattle.std.proofs.Common.{◌≤◌, length}
 use Rattle.sheet.specs.Holding.{Goes}
-use Rattle.sheet.proofs.Laws.{begins, goes_more, Long, long_same, long_on}
 use Rattle.sheet.proofs.feed_all.Given as goal
 
 abbrev pub invariant-loop-left : goal.invariant-loop-left
-invariant-loop-left l = Goes l.h l.ws l.ks l.line l.p × Long l.initial.h l.initial.ws l.initial.ks l.initial.memory l.initial.line l.initial.text l.h l.ws l.ks l.memory l.line l.text × (l.left ≤ length l.piece)
+invariant-loop-left g l = Goes l.h l.ws l.ks l.line l.p × (l.left ≤ length l.piece)
 
 abbrev pub decreases-loop-left : goal.decreases-loop-left
-decreases-loop-left l = l.left
+decreases-loop-left g l = l.left

@@ -1,17 +1,6 @@
--- `sheet::serve` is safe and ends. The loop's invariant: the store is sound, the buffer holds the bytes of the line so far, and the slices are as long as they were. The
--- measure is the number of reads that are left.
--- Assumes nothing.
-use mathlib.Core.Path.{◌≡◌, refl, sym}
-use native.Mathlib.Omega.{arith}
-use borrow.Author.Rules.{rules}
-use lib.ListN.{length}
-use lib.Seq.{length-take-le}
+-- The store is sound, and the buffer holds the bytes of the line so far.
 use Rattle.sheet.specs.Holding.{Goes}
-use Rattle.sheet.proofs.Laws.{begins, Long, long_same, long_on}
 use Rattle.sheet.proofs.serve.Given as goal
 
-abbrev pub invariant-loop-turns : goal.invariant-loop-turns
-invariant-loop-turns l = Goes l.ws l.ks l.memory l.piece l.turns × Long l.initial.h l.initial.ws l.initial.ks l.initial.memory l.initial.line l.initial.text l.ws l.ks l.memory l.line l.piece l.at × (length l.text ≡ length l.initial.piece)
-
-abbrev pub decreases-loop-turns : goal.decreases-loop-turns
-decreases-loop-turns l = turns
+abbrev pub invariant-loop : goal.invariant-loop
+invariant-loop g l = Goes l.h l.ws l.ks l.line l.at
