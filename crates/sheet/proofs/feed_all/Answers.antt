@@ -12,6 +12,6 @@ returns-in-More g c =
 
 pub loop-left-preserved : goal.loop-left-preserved
 loop-left-preserved g c = (
-      record { store = c.in-Line.ensures.sound; holds = begins c.feed-f.new.line },
-      omega (arith, c.loop-left.invariant.1),
-    )
+  record { store = c.in-Line.ensures.sound; holds = begins c.feed-f.new.line },
+  omega (arith, c.loop-left.invariant.1),
+)
