@@ -24,9 +24,9 @@ pub count_number-requires : goal.count_number-requires
 count_number-requires c =
     let b = c.args.buf.now in
     low_count c.show_impl_type.result b c.show_impl_type.new.buf c.counted-n.result c.counted-n.ensures
-    c.show_impl_type.auto.1.1.1.1.1.1.1.1.1.0 (impl_hands _ _ _ _ c.show_impl_type.result _ _ c.show_impl_type.ensures).room
+    c.show_impl_type.auto.buf (impl_hands _ _ _ _ c.show_impl_type.result _ _ c.show_impl_type.ensures).room
 
 pub returns : goal.returns
 returns c =
     rw c.count_number.ensures
-    (cut_promised c.args.buf.now _ _ c.counted-n.ensures c.show_impl_type.auto.1.1.1.1.1.1.1.1.1.0 (rw (c.beside_of-beside.ensures, c.impl_of.ensures) at c.show_impl_type.ensures))
+    (cut_promised c.args.buf.now _ _ c.counted-n.ensures c.show_impl_type.auto.buf (rw (c.beside_of-beside.ensures, c.impl_of.ensures) at c.show_impl_type.ensures))
