@@ -1,6 +1,5 @@
 -- `call_open::open` meets its contract: slices that pass the test are what `make` asks, and it leaves the store just opened.
 -- Assumes nothing.
-use borrow.Author.Rules.{rules}
 use Rattle.refusals.proofs.OpenLaws.{openable}
 use Rattle.call_open.proofs.OpenLaws.{open_back, open_done}
 use Rattle.call_open.proofs.open.Goals as goal

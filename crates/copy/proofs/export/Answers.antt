@@ -5,7 +5,6 @@ use native.Mathlib.Omega.{arith}
 use Rattle.scope.specs.Limits.{MAX_NODES}
 use Rattle.copy.proofs.WholeLaws.{error_copyable, nil_copyable, list_copyable, remember_long, export_is}
 use Rattle.roots.proofs.KeptLaws.{cached_zeros}
-use borrow.Author.Rules.{rules}
 use Rattle.copy.proofs.export.Goals as goal
 
 pub open-requires : goal.open-requires

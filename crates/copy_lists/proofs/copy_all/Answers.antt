@@ -5,14 +5,10 @@ use Prim.Native.Nat.{◌-◌}
 use native.Mathlib.Omega.{arith}
 use lib.ListN.{length, length-map}
 use Rattle.scope.specs.Types.{ty_of}
-use Rattle.store.specs.Entries.{types_in}
 use Rattle.store.proofs.EntryLaws.{listed_below}
 use Rattle.needs.proofs.SourceLaws.{listed_next}
-use Rattle.copy_parts.specs.Places.{list_of}
-use Rattle.copy_lists.proofs.ListLaws.{Listing, listing_start, listing_copyable, listing_next, listing_end}
-use mathlib.Core.Path.{◌≡◌, refl, ◌∙◌}
-use Rattle.roots.specs.Kept.{Cached}
-use borrow.Author.Rules.{rules}
+use Rattle.copy_lists.proofs.ListLaws.{listing_start, listing_copyable, listing_next, listing_end}
+use mathlib.Core.Path.{refl, ◌∙◌}
 use Rattle.copy_lists.proofs.copy_all.Goals as goal
 
 pub loop-i-init : goal.loop-i-init

@@ -1,8 +1,6 @@
 -- `copy_parts::kind_place` meets its contract, one law for each way out: no list, no Param, a Param.
 -- Assumes nothing.
-use borrow.Author.Tests.{not-true, not-false}
 use Rattle.copy_parts.proofs.PlaceLaws.{place_unlisted, place_other, place_param}
-use borrow.Author.Rules.{rules}
 use Rattle.copy_parts.proofs.kind_place.Goals as goal
 
 pub returns-then-not-with : goal.returns-then-not-with

@@ -1,6 +1,5 @@
 -- `force::finish_node` meets its contract: the node that was read is put anew where it lacks a kind, as finish_words says.
 -- Assumes nothing.
-use borrow.Author.Rules.{rules}
 use Rattle.force.proofs.FinishLaws.{finish_put, finish_leave}
 use Rattle.force.proofs.finish_node.Goals as goal
 

@@ -1,11 +1,10 @@
 -- `heads::put_counts` meets its contract. Two stores from the front on leave what was stored, and the words after it.
 -- Assumes nothing.
-use mathlib.Core.List.{[], ◌∷◌}
+use mathlib.Core.List.{◌∷◌}
 use native.Mathlib.Omega.{arith}
 use lib.ListN.{length-set}
 use lib.Seq.{sets-eq}
 use Rattle.heads.specs.Heads.{put_counts}
-use borrow.Author.Rules.{rules}
 use Rattle.heads.proofs.put_counts.Goals as goal
 
 pub bounds-h-1 : goal.bounds-h-1

@@ -1,14 +1,13 @@
 -- `heads::put_unknown` meets its contract. The part that is lent is the unused slot, and comes back as put_at pastes it.
 -- Assumes nothing.
 use mathlib.Core.Path.{refl}
-use mathlib.Core.List.{[], ◌∷◌}
+use mathlib.Core.List.{◌∷◌}
 use Prim.Native.Nat.{◌+◌, ◌*◌}
 use native.Mathlib.Omega.{arith}
 use native.Mathlib.Nat.{add-sub_cancel_left}
 use borrow.Author.Tests.{lt-ltb}
 use Rattle.layout.specs.Meaning.{put_at}
 use Rattle.layout.proofs.Lists.{place_in}
-use borrow.Author.Rules.{rules}
 use Rattle.heads.proofs.put_unknown.Goals as goal
 
 pub bounds-s-1 : goal.bounds-s-1

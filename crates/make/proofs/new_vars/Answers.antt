@@ -1,13 +1,9 @@
 -- `make::new_vars` meets its contract. The loop's invariant: the slices hold what i variables leave, and their types' words stand at the front of
 -- `out`. The measure is what is left of the count.
 -- Assumes nothing.
-use Prim.Native.Nat.{◌≤◌, ◌-◌}
+use Prim.Native.Nat.{◌-◌}
 use native.Mathlib.Omega.{arith}
-use mathlib.Core.Path.{◌≡◌, refl, ◌∙◌}
-use lib.ListN.{length}
-use Rattle.scope.specs.Make.{new_vars}
-use Rattle.layout.specs.Words.{store_in}
-use Rattle.make.specs.Made.{MadeAllIs}
+use mathlib.Core.Path.{refl, ◌∙◌}
 use Rattle.make.proofs.VarLaws.{vars_none, vars_ready, vars_length, vars_more, vars_end}
 use Rattle.make.proofs.new_vars.Goals as goal
 

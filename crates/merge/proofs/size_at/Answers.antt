@@ -1,7 +1,6 @@
 -- `merge::size_at` meets its contract: it is what `size_of` ensures of the node that `node_at` reads at the type's number.
 -- Assumes nothing.
 use mathlib.Core.Path.{ap, ◌∙◌}
-use borrow.Author.Rules.{rules}
 use Rattle.layout.specs.Meaning.{node_size, read_at}
 use Rattle.merge.proofs.size_at.Goals as goal
 

@@ -1,7 +1,6 @@
 -- `plan::plan_of` meets its contract. Each way out is a law on two kinds; where the children are to be unified, the kinds met either because their
 -- inversions agree or because they cross, which `met` reads off the two ways past that test. Assumes nothing.
 use mathlib.Core.Logic.{⊎_elim}
-use borrow.Author.Rules.{rules}
 use Rattle.names.specs.Place.{texts}
 use Rattle.plan.specs.Meaning.{crosses_kind}
 use Rattle.plan.proofs.Laws.{Meets, free_plain, free_crossed, meets, plan_error, plan_against_error, plan_unequal, plan_crossed, plan_object, plan_closure, plan_run}

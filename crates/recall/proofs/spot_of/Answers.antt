@@ -4,7 +4,6 @@ use mathlib.Core.Path.{refl}
 use native.Mathlib.Omega.{arith}
 use Rattle.scope.specs.Types.{ty_of}
 use Rattle.recall.proofs.Laws.{placed_none, slot_fits, placed_at}
-use borrow.Author.Rules.{rules}
 use Rattle.recall.proofs.spot_of.Goals as goal
 
 pub returns-then-c-eq0 : goal.returns-then-c-eq0

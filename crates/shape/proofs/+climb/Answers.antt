@@ -2,11 +2,8 @@
 -- none where the parent has none. Each way out is a law.
 -- Assumes nothing.
 use mathlib.Core.Path.{sym, ◌∙◌}
-use borrow.Author.Tests.{not-true, not-false}
 use native.Mathlib.Omega.{arith}
-use borrow.Author.Rules.{rules}
 use Rattle.shape.proofs.Laws as laws
-use Prim.Native.Nat.{ℕ, ◌<◌}
 use Rattle.shape.proofs.+climb.Goals as goal
 
 pub at-requires : goal.at-requires

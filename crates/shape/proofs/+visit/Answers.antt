@@ -3,12 +3,9 @@
 -- Assumes nothing.
 use mathlib.Core.Path.{sym, ap, ◌∙◌}
 use native.Mathlib.Omega.{arith}
-use borrow.Author.Rules.{rules}
-use borrow.Author.Tests.{not-true, not-false}
-use Rattle.shape.specs.Read.{kids, root_of}
-use Rattle.shape.specs.Asks.{fresh}
+use Rattle.shape.specs.Read.{root_of}
 use Rattle.shape.proofs.VisitLaws as laws
-use Prim.Native.Nat.{ℕ, ◌-◌, ◌<◌}
+use Prim.Native.Nat.{◌-◌}
 use Rattle.shape.proofs.+visit.Goals as goal
 
 pub at-mark-requires : goal.at-mark-requires

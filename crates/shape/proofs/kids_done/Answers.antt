@@ -6,7 +6,6 @@ use mathlib.Core.Bool.{false≢true}
 use Prim.Native.Nat.{◌-◌}
 use native.Mathlib.Omega.{arith}
 use borrow.Author.Rules.{rules}
-use Rattle.shape.specs.Read.{kids}
 use Rattle.shape.proofs.VisitLaws as laws
 use Rattle.shape.proofs.kids_done.Goals as goal
 

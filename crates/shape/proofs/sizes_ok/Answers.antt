@@ -1,13 +1,12 @@
 -- `shape::sizes_ok` meets its contract. The loop's invariant: the sizes of the first v nodes fit the counts, which `tally` made of all nodes.
 -- Assumes nothing.
-use mathlib.Core.Path.{◌≡◌, sym, ◌∙◌}
+use mathlib.Core.Path.{sym, ◌∙◌}
 use mathlib.Core.Bool.{true}
-use Prim.Native.Nat.{ℕ, ◌-◌, ◌≤◌, ◌<◌}
+use Prim.Native.Nat.{◌-◌}
 use native.Mathlib.Omega.{arith}
 use borrow.Author.Rules.{rules}
 use borrow.Author.Count.{below_more}
 use Rattle.layout.proofs.Lists.{all_stop, all_done}
-use Rattle.shape.specs.Read.{size_fits}
 use Rattle.shape.proofs.Laws as laws
 use Rattle.shape.proofs.sizes_ok.Goals as goal
 

@@ -2,13 +2,11 @@
 -- as long as they were. The measure is what is left of the piece.
 -- Assumes nothing.
 use mathlib.Core.Path.{sym}
-use Prim.Native.Nat.{◌-◌, ◌≤◌}
+use Prim.Native.Nat.{◌-◌}
 use native.Mathlib.Omega.{arith}
-use borrow.Author.Rules.{rules}
 use lib.ListN.{length, drop, length-take, length-drop}
 use lib.Seq.{length-take-le}
-use Rattle.sheet.specs.Holding.{Goes}
-use Rattle.sheet.proofs.Laws.{begins, goes_more, Long, long_same, long_on}
+use Rattle.sheet.proofs.Laws.{begins, goes_more, long_same, long_on}
 use Rattle.sheet.proofs.feed_all.Goals as goal
 
 pub loop-left-init : goal.loop-left-init

@@ -2,7 +2,6 @@
 -- Assumes nothing.
 use native.Mathlib.Omega.{arith}
 use Rattle.sheet_calls.proofs.Laws.{start_sound}
-use borrow.Author.Rules.{rules}
 use Rattle.sheet_calls.proofs.start.Goals as goal
 
 pub open-requires : goal.open-requires

@@ -4,7 +4,6 @@
 -- Assumes nothing.
 use mathlib.Core.Path.{refl, sym}
 use native.Mathlib.Omega.{arith}
-use borrow.Author.Rules.{rules}
 use lib.ListN.{length, length-map}
 use Rattle.scope.specs.Types.{ty_of}
 use Rattle.scope.specs.Calls.{over}

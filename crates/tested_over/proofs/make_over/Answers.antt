@@ -1,8 +1,6 @@
 -- `tested_over::make_over` meets its contract: a refusal writes nothing, and a kind that passes is the one that the core is given.
 -- Assumes nothing.
-use mathlib.Core.List.{[]}
 use Rattle.tested_over.proofs.Laws.{over_refused, over_full, over_ready, over_made}
-use borrow.Author.Rules.{rules}
 use Rattle.tested_over.proofs.make_over.Goals as goal
 
 pub returns-then-unmade-ne-NO_REFUSAL : goal.returns-then-unmade-ne-NO_REFUSAL

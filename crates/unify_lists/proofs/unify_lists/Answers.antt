@@ -1,11 +1,9 @@
 -- `unify_lists::unify_lists` meets its contract. The invariant: the pairs from i on give what all give. The measure is what is left of the first list.
 -- Assumes nothing.
-use mathlib.Core.Path.{◌≡◌, refl, ◌∙◌}
+use mathlib.Core.Path.{refl, ◌∙◌}
 use Prim.Native.Nat.{◌-◌}
-use lib.ListN.{length}
 use Rattle.names.specs.Place.{texts}
-use Rattle.unify_lists.proofs.Laws.{ListLeft, ListNext, lists_differ, lists_start, list_pair, list_asks, list_next, lists_end}
-use borrow.Author.Rules.{rules}
+use Rattle.unify_lists.proofs.Laws.{ListNext, lists_differ, lists_start, list_pair, list_asks, list_next, lists_end}
 use Rattle.unify_lists.proofs.unify_lists.Goals as goal
 
 -- the next two types
