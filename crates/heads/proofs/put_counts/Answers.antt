@@ -1,6 +1,6 @@
 -- `heads::put_counts` meets its contract. Two stores from the front on leave what was stored, and the words after it.
 -- Assumes nothing.
-use mathlib.Core.List.{◌∷◌}
+use mathlib.Core.List.{[], ◌∷◌}
 use native.Mathlib.Omega.{arith}
 use lib.ListN.{length-set}
 use lib.Seq.{sets-eq}

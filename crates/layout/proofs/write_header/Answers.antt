@@ -1,7 +1,7 @@
 -- `layout::write_header` meets its contract. Eight stores from the front on leave what was stored, and the words after it.
 -- Assumes nothing.
 use mathlib.Core.Path.{refl}
-use mathlib.Core.List.{List, ◌∷◌}
+use mathlib.Core.List.{[], List, ◌∷◌}
 use Prim.Native.Nat.{ℕ, ◌%◌}
 use lib.Seq.{sets-eq}
 use Rattle.layout.specs.Meaning.{HALF, header_words, put_header}

@@ -1,5 +1,6 @@
 -- `lent_tests::bad_entries` meets its contract: too many entries, numbers past the last whole one, or else names as an object's kind has them.
 -- Assumes nothing.
+use mathlib.Core.List.{[]}
 use mathlib.Core.Path.{refl}
 use Rattle.chart.specs.Env.{chart_in}
 use Rattle.lent_tests.proofs.Laws.{entries_many, entries_torn, entries_named}

@@ -1,5 +1,6 @@
 -- `show_lists::show_list` meets its contract. The loop's invariant: what is left to write gives, appended, what the whole gives.
 -- Assumes nothing.
+use mathlib.Core.List.{[]}
 use Prim.Native.Nat.{◌-◌}
 use lib.ListN.{length}
 use Rattle.scope.specs.Show.{show}

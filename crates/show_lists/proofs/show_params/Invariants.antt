@@ -1,5 +1,6 @@
 -- `show_lists::show_params` meets its contract. The loop's invariant: what is left to write gives, appended, what the whole gives.
 -- Assumes nothing.
+use mathlib.Core.List.{[]}
 use Prim.Native.Nat.{◌-◌}
 use Rattle.scope.specs.Show.{show}
 use Rattle.chart.specs.Env.{env_of}

@@ -1,5 +1,6 @@
 -- `tested_over::make_over` meets its contract: a refusal writes nothing, and a kind that passes is the one that the core is given.
 -- Assumes nothing.
+use mathlib.Core.List.{[]}
 use Rattle.tested_over.proofs.Laws.{over_refused, over_full, over_ready, over_made}
 use Rattle.tested_over.proofs.make_over.Goals as goal
 

@@ -1,5 +1,6 @@
 -- `tested_unify_lists::unify_objects_recalling` meets its contract: as `unify`, over the entries of two objects.
 -- Assumes nothing.
+use mathlib.Core.List.{[]}
 use Rattle.chart.specs.Env.{chart_in}
 use Rattle.call_unify.proofs.tested.Laws.{passed, lent_words, back_own, unify_done}
 use Rattle.tested_unify_lists.proofs.Laws.{objects_ask, objects_leave, objects_beside, objects_form}

@@ -1,5 +1,6 @@
 -- `call_force::tested::finish_inference` meets its contract: a tested store is clean, and there is nothing to refuse.
 -- Assumes nothing.
+use mathlib.Core.List.{[]}
 use mathlib.Core.Path.{refl}
 use Rattle.scope.specs.Calls.{finish_inference_call}
 use Rattle.sound.specs.Tests.{env_in}

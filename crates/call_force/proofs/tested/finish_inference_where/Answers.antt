@@ -1,5 +1,6 @@
 -- `call_force::tested::finish_inference_where` meets its contract: a tested store is clean, and there is nothing to refuse.
 -- Assumes nothing.
+use mathlib.Core.List.{[]}
 use mathlib.Core.Path.{refl}
 use Rattle.scope.specs.Calls.{finish_where_call}
 use Rattle.sound.specs.Tests.{env_in}
