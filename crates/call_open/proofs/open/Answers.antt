@@ -15,4 +15,4 @@ open-requires c = let a = c.args in
 pub returns : goal.returns
 returns c = let a = c.args in
     let passed = c.if-code-ne-NO_REFUSAL.false in
-    open_done a.nodes a.children a.h.now a.ws.now a.ks.now c.opening-code.result c.opening-code.ensures passed c.before.before.before.before.before.before.«open».ensures
+    open_done a.nodes a.children a.h.now a.ws.now a.ks.now c.opening-code.result c.opening-code.ensures passed c.«open».ensures

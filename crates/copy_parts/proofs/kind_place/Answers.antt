@@ -11,4 +11,4 @@ returns-then-kind-ne-PARAM c = place_other c.if-kind-ne-PARAM.true
 
 pub returns : goal.returns
 returns c =
-    place_param c.if-not-with.false c.if-kind-ne-PARAM.false c.entry_IsPlace.ensures
+    place_param c.if-not-with.false c.if-kind-ne-PARAM.false c.entry_place.ensures

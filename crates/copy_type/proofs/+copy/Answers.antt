@@ -14,24 +14,24 @@ use Rattle.copy_type.proofs.+copy.Goals as goal
 
 pub returns-then-depth-eq0 : goal.returns-then-depth-eq0
 returns-then-depth-eq0 t c =
-    (copied_shallow c.requires.1.0 c.if-depth-eq0.true, c.requires.1.1)
+    (copied_shallow c.requires.0 c.if-depth-eq0.true, c.requires.1)
 
 pub find_by-root-requires : goal.find_by-root-requires
 find_by-root-requires t c =
-    (clean_linked _ _ _ _ c.requires.1.0.source, c.requires.1.1)
+    (clean_linked _ _ _ _ c.requires.0.source, c.requires.1)
 
 pub root_place-requires : goal.root_place-requires
 root_place-requires t c =
-    (c.requires.1.0.source.room, place_few c.requires.1.0 _)
+    (c.requires.0.source.room, place_few c.requires.0 _)
 
 pub begin-new-requires : goal.begin-new-requires
 begin-new-requires t c =
-    node_ready _ _ _ _ _ _ _ _ _ _ _ _ c.requires.1.0 c.if-depth-eq0.false c.find_by-root.ensures.0 c.root_place.ensures
+    node_ready _ _ _ _ _ _ _ _ _ _ _ _ c.requires.0 c.if-depth-eq0.false c.find_by-root.ensures.0 c.root_place.ensures
     c.in-Node.is
 
 pub loop-j-init : goal.loop-j-init
 loop-j-init t c = (
-  filling_start _ _ _ _ _ _ _ _ _ _ _ _ c.requires.1.0 c.if-depth-eq0.false c.find_by-root.ensures.0 c.root_place.ensures
+  filling_start _ _ _ _ _ _ _ _ _ _ _ _ c.requires.0 c.if-depth-eq0.false c.find_by-root.ensures.0 c.root_place.ensures
       c.in-Node.is c.idx-at.ensures (ap (λ (yy : Header). yy.children) c.read_header-from.ensures) c.begin-new.ensures,
   c.find_by-root.ensures.1,
   refl,
@@ -43,10 +43,10 @@ overflow_sub-depth t c =
 
 pub copy-next-requires : goal.copy-next-requires
 copy-next-requires t c = (
-  omega (arith, c.requires.0, c.if-depth-eq0.false),
+  omega (arith, c.if-depth-eq0.false),
   (
     kid_copyable c.loop-j.invariant.0 c.loop-j-test.true _
-        (kid_next c.args.sk.now _ _ _ c.child.result c.loop-j-test.true c.child.ensures) c.requires.1.0.source,
+        (kid_next c.args.sk.now _ _ _ c.child.result c.loop-j-test.true c.child.ensures) c.requires.0.source,
     c.loop-j.invariant.1,
   ),
 )
@@ -80,11 +80,11 @@ loop-j-preserved t c = (
 
 pub end-requires : goal.end-requires
 end-requires t c =
-    (c.requires.1.0.source.room, (clean_nodes _ _ _ c.loop-j.invariant.0.spared.clean).room)
+    (c.requires.0.source.room, (clean_nodes _ _ _ c.loop-j.invariant.0.spared.clean).room)
 
 pub returns-in-Is : goal.returns-in-Is
 returns-in-Is t c = (
-  copied_is _ _ _ _ _ _ _ _ _ _ _ _ c.requires.1.0 c.if-depth-eq0.false c.find_by-root.ensures.0
+  copied_is _ _ _ _ _ _ _ _ _ _ _ _ c.requires.0 c.if-depth-eq0.false c.find_by-root.ensures.0
       c.root_place.ensures c.in-Is.is,
   c.find_by-root.ensures.1,
 )
@@ -110,7 +110,7 @@ shape_of-ks t c = c.loop-j.invariant.0.long.kids
 
 pub returns-after-loop-j : goal.returns-after-loop-j
 returns-after-loop-j t c = (
-  copied_node _ _ _ _ _ _ _ _ _ _ _ _ c.requires.1.0 c.if-depth-eq0.false c.find_by-root.ensures.0 c.root_place.ensures
+  copied_node _ _ _ _ _ _ _ _ _ _ _ _ c.requires.0 c.if-depth-eq0.false c.find_by-root.ensures.0 c.root_place.ensures
       c.in-Node.is c.idx-at.ensures (ap (λ (yy : Header). yy.children) c.read_header-from.ensures) c.begin-new.ensures
       c.loop-j.invariant.0 c.loop-j-test.false c.inv.result c.idx.ensures c.end.ensures
       c.inv.ensures c.invert_if.ensures,

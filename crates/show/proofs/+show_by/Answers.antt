@@ -14,23 +14,23 @@ use Rattle.show.proofs.Turns.{turn_start, turn_next, turn_end, show_shallow, sho
 use Rattle.show.proofs.+show_by.Goals as goal
 
 pub returns-then-depth-eq0 : goal.returns-then-depth-eq0
-returns-then-depth-eq0 t c = (show_shallow _ _ _ _ _ _ c.if-depth-eq0.true, c.requires.1.1)
+returns-then-depth-eq0 t c = (show_shallow _ _ _ _ _ _ c.if-depth-eq0.true, c.requires.1)
 
 pub returns-then-buf-at : goal.returns-then-buf-at
-returns-then-buf-at t c = (append_full _ _ _ c.if-buf-at.true, c.requires.1.1)
+returns-then-buf-at t c = (append_full _ _ _ c.if-buf-at.true, c.requires.1)
 
 pub find_by-root-requires : goal.find_by-root-requires
 find_by-root-requires t c =
-    (clean_linked _ _ _ _ c.requires.1.0.clean, c.requires.1.1)
+    (clean_linked _ _ _ _ c.requires.0.clean, c.requires.1)
 
 pub held_at-requires : goal.held_at-requires
-held_at-requires t c = c.requires.1.0.clean.room
+held_at-requires t c = c.requires.0.clean.room
 
 pub returns-in_default : goal.returns-in_default
 returns-in_default t c =
     let a = c.args in
     let e = env_of a.chart.now a.beside a.rule.now a.text.now in
-    let st = c.requires.1.0 in
+    let st = c.requires.0 in
     let unknown =
     show_unknown st e a.depth a.t.0 c.if-depth-eq0.false c.find_by-root.result.0 c.idx.result.0 c.find_by-root.ensures.0 c.idx.ensures c.held_at.result c.held_at.ensures
     c.in_default.is in
@@ -38,7 +38,7 @@ returns-in_default t c =
 
 pub shown-count-requires : goal.shown-count-requires
 shown-count-requires t c =
-    (c.requires.1.0, c.find_by-root.ensures.1)
+    (c.requires.0, c.find_by-root.ensures.1)
 
 pub loop-j-init : goal.loop-j-init
 loop-j-init t c = (turn_start _ _ _ _ _ _, c.shown-count.ensures.1, refl)
@@ -49,7 +49,7 @@ overflow_sub-depth t c =
 
 pub show_by-p-requires : goal.show_by-p-requires
 show_by-p-requires t c =
-    (omega (arith, c.requires.0, c.if-depth-eq0.false), (c.requires.1.0, c.loop-j.invariant.1))
+    (omega (arith, c.if-depth-eq0.false), (c.requires.0, c.loop-j.invariant.1))
 
 pub overflow_add-j : goal.overflow_add-j
 overflow_add-j t c =
@@ -83,7 +83,7 @@ pub returns : goal.returns
 returns t c =
     let a = c.args in
     let e = env_of a.chart.now a.beside a.rule.now a.text.now in
-    let st = c.requires.1.0 in
+    let st = c.requires.0 in
     let is = c.inv-1.given in
     let known =
     show_known st e a.depth a.t.0 c.if-depth-eq0.false c.find_by-root.result.0 c.idx.result.0 c.find_by-root.ensures.0 c.idx.ensures c.held_at.result c.held_at.ensures

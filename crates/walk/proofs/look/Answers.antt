@@ -40,7 +40,7 @@ loop-j-preserved c =
     left_no c.loop-j.invariant c.child_of.result c.loop-j-test.true c.child_of.ensures
     (kid_leaf (ty_of c.child_of.result.ty.0) c.requires.0 c.requires.1
     (root_is (c.near.ensures.found _ c.in-Is.is) c.idx-i.ensures _) c.if-i-x.false
-    at-is-leaf.is_IsLeaf.ensures c.if-not-is_leaf.false)
+    c.is_leaf.ensures c.if-not-is_leaf.false)
 
 pub returns : goal.returns
 returns c = looked_clear (left_end c.loop-j.invariant (omega (arith, c.loop-j-test.false)))

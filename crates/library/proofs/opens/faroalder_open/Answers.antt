@@ -2,4 +2,4 @@
 use Rattle.library.proofs.opens.faroalder_open.Goals as goal
 
 pub returns : goal.returns
-returns c = rw c.done_number.ensures c.before.before.before.before.before.before.before.«open».ensures
+returns c = rw c.done_number.ensures c.«open».ensures
