@@ -6,4 +6,4 @@ use Rattle.merge.proofs.size_at.Goals as goal
 
 pub returns : goal.returns
 returns c = let a = c.args in
-    c.type_size.ensures ∙ ap node_size (c.node_at.ensures ∙ ap (read_at a.ws.now a.n) c.idx.ensures)
+    c.size_of.ensures ∙ ap node_size (c.node_at.ensures ∙ ap (read_at a.ws.now a.n) c.idx.ensures)
