@@ -3,7 +3,6 @@
 use Rattle.scope.specs.Limits.{MAX_NODES}
 use Rattle.copy.proofs.WholeLaws.{import_copyable, import_is}
 use Rattle.roots.proofs.KeptLaws.{cached_zeros}
-use borrow.Author.Rules.{rules}
 use Rattle.copy.proofs.import.Goals as goal
 
 pub copy_all-requires : goal.copy_all-requires

@@ -3,7 +3,6 @@
 use mathlib.Core.Path.{refl}
 use native.Mathlib.Omega.{arith}
 use Rattle.make.proofs.MakeLaws.{counted_push}
-use borrow.Author.Rules.{rules}
 use Rattle.make.proofs.push.Goals as goal
 
 pub returns : goal.returns

@@ -2,7 +2,6 @@
 -- Assumes nothing.
 use mathlib.Core.Path.{refl}
 use borrow.Author.Tests.{eq-eqb, ne_eqb, lt-ltb, le-ltb}
-use borrow.Author.Rules.{rules}
 use Rattle.show_names.specs.Names.{spelled_f}
 use Rattle.show_parts.specs.Parts.{front_of}
 use Rattle.show_parts.proofs.front.Goals as goal

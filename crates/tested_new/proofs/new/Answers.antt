@@ -2,7 +2,6 @@
 -- which looks at nothing beside the chart. The places: `header` read, the types `inside` or not, the list's `refusal`, `passed` where there is none, the kind `made`.
 -- Assumes nothing.
 use mathlib.Core.Path.{refl}
-use borrow.Author.Rules.{rules}
 use Rattle.sound.specs.Tests.{env_in}
 use Rattle.store.specs.Entries.{entry_count, entry_types}
 use Rattle.lent_kind.specs.Lent.{given}

@@ -1,6 +1,5 @@
 -- `tested_new::new_struct` meets its contract: a Struct's row has no names, and the call is `new` of a kind over the list.
 -- Assumes nothing.
-use borrow.Author.Rules.{rules}
 use Rattle.scope.specs.Calls.{new_struct_call}
 use Rattle.lent_kind.proofs.ListLaws.{struct_row}
 use Rattle.tested_new.proofs.new_struct.Goals as goal

@@ -2,7 +2,6 @@
 -- Assumes nothing.
 use mathlib.Core.Path.{refl}
 use Rattle.tested_over.proofs.Laws.{row_names, nameless, over_named, over_listed, over_narrow, over_done, over_within}
-use borrow.Author.Rules.{rules}
 use Rattle.tested_over.proofs.new_over.Goals as goal
 
 pub returns-then-names-ne-NO_NAMES : goal.returns-then-names-ne-NO_NAMES

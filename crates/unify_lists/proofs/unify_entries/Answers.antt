@@ -1,12 +1,11 @@
 -- `unify_lists::unify_entries` meets its contract. The invariant: what the names from j on ask gives what all ask, as for two objects of one store; the first object's
 -- entries lie in xs, the second's in ys. The measure is what is left of the first object.
 -- Assumes nothing.
-use mathlib.Core.Path.{◌≡◌, refl, ◌∙◌}
+use mathlib.Core.Path.{refl, ◌∙◌}
 use Prim.Native.Nat.{◌-◌}
-use lib.ListN.{length}
 use Rattle.names.specs.Place.{texts}
 use Rattle.unify_lists.specs.Lent.{from_first}
-use Rattle.unify.proofs.RunLaws.{ObjectLeft, ObjectNext, object_none, object_pair, object_asks, object_next}
+use Rattle.unify.proofs.RunLaws.{ObjectNext, object_none, object_pair, object_asks, object_next}
 use Rattle.unify_lists.proofs.Laws.{entries_start, entries_end}
 use native.Mathlib.Omega.{arith}
 use borrow.Author.Rules.{rules}
@@ -49,7 +48,7 @@ unify-requires c = object_asks (name_there c)
 
 pub loop-j-preserved-in-Is : goal.loop-j-preserved-in-Is
 loop-j-preserved-in-Is c =
-    (c.unify.auto.0 ∙ c.loop-j.invariant.0, c.unify.auto.1.1.1.1.1.0 ∙ c.loop-j.invariant.1, object_next (name_there u.before) c.unify.ensures c.and-r.ensures)
+    (c.unify.auto.ws ∙ c.loop-j.invariant.0, c.unify.auto.memory ∙ c.loop-j.invariant.1, object_next (name_there u.before) c.unify.ensures c.and-r.ensures)
 
 pub enum_told-1 : goal.enum_told-1
 enum_told-1 c = search rules

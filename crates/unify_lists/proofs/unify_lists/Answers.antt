@@ -1,11 +1,9 @@
 -- `unify_lists::unify_lists` meets its contract. The invariant: the pairs from i on give what all give. The measure is what is left of the first list.
 -- Assumes nothing.
-use mathlib.Core.Path.{◌≡◌, refl, ◌∙◌}
+use mathlib.Core.Path.{refl, ◌∙◌}
 use Prim.Native.Nat.{◌-◌}
-use lib.ListN.{length}
 use Rattle.names.specs.Place.{texts}
-use Rattle.unify_lists.proofs.Laws.{ListLeft, ListNext, lists_differ, lists_start, list_pair, list_asks, list_next, lists_end}
-use borrow.Author.Rules.{rules}
+use Rattle.unify_lists.proofs.Laws.{ListNext, lists_differ, lists_start, list_pair, list_asks, list_next, lists_end}
 use Rattle.unify_lists.proofs.unify_lists.Goals as goal
 
 -- the next two types
@@ -29,7 +27,7 @@ unify-requires c = list_asks (pair-there c.before.before)
 
 pub loop-i-preserved : goal.loop-i-preserved
 loop-i-preserved c =
-    (c.unify.auto.0 ∙ c.loop-i.invariant.0, c.unify.auto.1.1.1.1.1.0 ∙ c.loop-i.invariant.1, list_next (pair-there u.before.before.before) c.unify.ensures c.and-r.ensures)
+    (c.unify.auto.ws ∙ c.loop-i.invariant.0, c.unify.auto.memory ∙ c.loop-i.invariant.1, list_next (pair-there u.before.before.before) c.unify.ensures c.and-r.ensures)
 
 pub shape_of-ws : goal.shape_of-ws
 shape_of-ws c = c.loop-i.invariant.0

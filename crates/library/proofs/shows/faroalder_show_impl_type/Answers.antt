@@ -6,7 +6,6 @@ use lib.Seq.{length-take-le}
 use Rattle.call_show.proofs.Laws.{impl_hands}
 use Rattle.c_words.proofs.Laws.{counted_few, cut_promised}
 use Rattle.library.proofs.Laws.{low_count}
-use borrow.Author.Rules.{rules}
 use Rattle.library.proofs.shows.faroalder_show_impl_type.Goals as goal
 
 pub slice_bounds-show_impl_type-end : goal.slice_bounds-show_impl_type-end
@@ -21,9 +20,9 @@ pub count_number-requires : goal.count_number-requires
 count_number-requires c =
     let b = c.args.buf.now in
     low_count c.show_impl_type.result b c.show_impl_type.new.buf c.counted-n.result c.counted-n.ensures
-    c.show_impl_type.auto.1.1.1.1.1.1.1.1.1.0 (impl_hands _ _ _ _ c.show_impl_type.result _ _ c.show_impl_type.ensures).room
+    c.show_impl_type.auto.buf (impl_hands _ _ _ _ c.show_impl_type.result _ _ c.show_impl_type.ensures).room
 
 pub returns : goal.returns
 returns c =
     rw c.count_number.ensures
-    (cut_promised c.args.buf.now _ _ c.counted-n.ensures c.show_impl_type.auto.1.1.1.1.1.1.1.1.1.0 (rw (c.beside_of-beside.ensures, c.impl_of.ensures) at c.show_impl_type.ensures))
+    (cut_promised c.args.buf.now _ _ c.counted-n.ensures c.show_impl_type.auto.buf (rw (c.beside_of-beside.ensures, c.impl_of.ensures) at c.show_impl_type.ensures))

@@ -6,7 +6,6 @@ use lib.Seq.{length-take-le}
 use Rattle.call_show.proofs.Laws.{show_hands}
 use Rattle.c_words.proofs.Laws.{counted_few, cut_promised}
 use Rattle.library.proofs.Laws.{low_count}
-use borrow.Author.Rules.{rules}
 use Rattle.library.proofs.tested_shows.faroalder_tested_show.Goals as goal
 
 pub slice_bounds-show-end : goal.slice_bounds-show-end
@@ -22,8 +21,8 @@ show-requires c = rw c.beside_of-beside.ensures c.requires
 pub count_number-requires : goal.count_number-requires
 count_number-requires c = let b = c.args.buf.now in
     low_count c.show.result b c.show.new.buf c.counted-n.result c.counted-n.ensures
-    c.show.auto.1.1.1.1.1.1.1.1.0 (show_hands _ _ _ _ c.show.result _ _ c.show.ensures).room
+    c.show.auto.buf (show_hands _ _ _ _ c.show.result _ _ c.show.ensures).room
 
 pub returns : goal.returns
 returns c =
-    rw c.count_number.ensures (cut_promised c.args.buf.now _ _ c.counted-n.ensures c.show.auto.1.1.1.1.1.1.1.1.0 (rw c.beside_of-beside.ensures at c.show.ensures))
+    rw c.count_number.ensures (cut_promised c.args.buf.now _ _ c.counted-n.ensures c.show.auto.buf (rw c.beside_of-beside.ensures at c.show.ensures))
