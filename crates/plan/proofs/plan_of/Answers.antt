@@ -25,8 +25,8 @@ returns-then-k-eq-OBJECT c =
     plan_object _ _ _ _
     (meets _ _ _ _ c.if-k-eq-ERROR.false c.if-m-eq-ERROR.false c.same_kinds.result c.same_kinds.ensures c.if-not-same_kinds.false
     (elim c.if-inv.branch [
-        then-inv+else-not-crosses w ↦ free_crossed c.args.inv.0 w.crosses.result (crosses_kind c.args.k) w.crosses.ensures w.if-not-crosses.false
-        | else-inv w ↦ free_plain c.args.inv.0 (crosses_kind c.args.k) w.if-inv.false
+      | then-inv+else-not-crosses w ↦ free_crossed c.args.inv.0 w.crosses.result (crosses_kind c.args.k) w.crosses.ensures w.if-not-crosses.false
+      | else-inv w ↦ free_plain c.args.inv.0 (crosses_kind c.args.k) w.if-inv.false
     ]))
     c.if-k-eq-OBJECT.true
 
@@ -35,8 +35,8 @@ returns-then-k-eq-CLOSURE c =
     plan_closure _ _ _ _
     (meets _ _ _ _ c.if-k-eq-ERROR.false c.if-m-eq-ERROR.false c.same_kinds.result c.same_kinds.ensures c.if-not-same_kinds.false
     (elim c.if-inv.branch [
-        then-inv+else-not-crosses w ↦ free_crossed c.args.inv.0 w.crosses.result (crosses_kind c.args.k) w.crosses.ensures w.if-not-crosses.false
-        | else-inv w ↦ free_plain c.args.inv.0 (crosses_kind c.args.k) w.if-inv.false
+      | then-inv+else-not-crosses w ↦ free_crossed c.args.inv.0 w.crosses.result (crosses_kind c.args.k) w.crosses.ensures w.if-not-crosses.false
+      | else-inv w ↦ free_plain c.args.inv.0 (crosses_kind c.args.k) w.if-inv.false
     ]))
     c.if-k-eq-OBJECT.false c.if-k-eq-CLOSURE.true
 
@@ -45,7 +45,7 @@ returns c =
     plan_run _ _ _ _
     (meets _ _ _ _ c.if-k-eq-ERROR.false c.if-m-eq-ERROR.false c.same_kinds.result c.same_kinds.ensures c.if-not-same_kinds.false
     (elim c.if-inv.branch [
-        then-inv+else-not-crosses w ↦ free_crossed c.args.inv.0 w.crosses.result (crosses_kind c.args.k) w.crosses.ensures w.if-not-crosses.false
-        | else-inv w ↦ free_plain c.args.inv.0 (crosses_kind c.args.k) w.if-inv.false
+      | then-inv+else-not-crosses w ↦ free_crossed c.args.inv.0 w.crosses.result (crosses_kind c.args.k) w.crosses.ensures w.if-not-crosses.false
+      | else-inv w ↦ free_plain c.args.inv.0 (crosses_kind c.args.k) w.if-inv.false
     ]))
     c.if-k-eq-OBJECT.false c.if-k-eq-CLOSURE.false

@@ -36,8 +36,8 @@ pub unify_objects-unify_pair-requires : goal.unify_objects-unify_pair-requires
 unify_objects-unify_pair-requires t c = (
   omega arith,
   quick_asked (object_asks
-  (object_pair c.loop-j.invariant.2 c.loop-j-test.true c.kid_name.ensures c.seek_near-f.ensures c.in-Is.is c.kid-x.ensures c.invert_if-u.ensures))
-  c.quick.ensures c.if-not-quick.true,
+      (object_pair c.loop-j.invariant.2 c.loop-j-test.true c.kid_name.ensures c.seek_near-f.ensures c.in-Is.is c.kid-x.ensures c.invert_if-u.ensures))
+      c.quick.ensures c.if-not-quick.true,
 )
 
 pub unify_objects-loop-j-preserved-then-not-quick : goal.unify_objects-loop-j-preserved-then-not-quick
@@ -45,8 +45,8 @@ unify_objects-loop-j-preserved-then-not-quick t c = (
   search rules,
   search rules,
   object_next
-  (object_pair c.loop-j.invariant.2 c.loop-j-test.true c.kid_name.ensures c.seek_near-f.ensures c.in-Is.is c.kid-x.ensures c.invert_if-u.ensures)
-  (quick_not c.quick.ensures c.if-not-quick.true c.unify_pair.ensures) c.and-r.ensures,
+      (object_pair c.loop-j.invariant.2 c.loop-j-test.true c.kid_name.ensures c.seek_near-f.ensures c.in-Is.is c.kid-x.ensures c.invert_if-u.ensures)
+      (quick_not c.quick.ensures c.if-not-quick.true c.unify_pair.ensures) c.and-r.ensures,
 )
 
 pub unify_objects-loop-j-preserved-else-not-quick : goal.unify_objects-loop-j-preserved-else-not-quick
@@ -143,7 +143,7 @@ pub unify_types-unify_pair-requires : goal.unify_types-unify_pair-requires
 unify_types-unify_pair-requires t c = (
   omega arith,
   quick_asked (run_asks (run_pair c.loop-i.invariant.2 c.loop-i-test.true c.kid-x.ensures c.kid.ensures c.invert_if-y.ensures))
-  c.quick.ensures c.if-not-quick.true,
+      c.quick.ensures c.if-not-quick.true,
 )
 
 pub unify_types-loop-i-preserved-then-not-quick : goal.unify_types-loop-i-preserved-then-not-quick
@@ -151,7 +151,7 @@ unify_types-loop-i-preserved-then-not-quick t c = (
   search rules,
   search rules,
   run_next (run_pair c.loop-i.invariant.2 c.loop-i-test.true c.kid-x.ensures c.kid.ensures c.invert_if-y.ensures)
-  (quick_not c.quick.ensures c.if-not-quick.true c.unify_pair.ensures) c.and-r.ensures,
+      (quick_not c.quick.ensures c.if-not-quick.true c.unify_pair.ensures) c.and-r.ensures,
 )
 
 pub unify_types-loop-i-preserved : goal.unify_types-loop-i-preserved

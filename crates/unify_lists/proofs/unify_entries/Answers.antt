@@ -36,8 +36,8 @@ loop-j-preserved-in-Is c = (
   search rules,
   search rules,
   object_next
-  (object_pair c.loop-j.invariant.2 c.loop-j-test.true c.kid_name.ensures c.seek-f.ensures c.in-Is.is c.kid-x.ensures c.invert_if.ensures)
-  c.unify.ensures c.and-r.ensures,
+      (object_pair c.loop-j.invariant.2 c.loop-j-test.true c.kid_name.ensures c.seek-f.ensures c.in-Is.is c.kid-x.ensures c.invert_if.ensures)
+      c.unify.ensures c.and-r.ensures,
 )
 
 pub loop-j-preserved : goal.loop-j-preserved
