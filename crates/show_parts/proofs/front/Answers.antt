@@ -52,7 +52,7 @@ returns-in-14 c = rw c.in-14.is refl
 
 pub returns-in_default : goal.returns-in_default
 unfolding front_of spelled_f
-returns-in_default c = let r = c.in_default.rest in
+returns-in_default c = let r = c.in_default.in_default-own.rest in
     rw (
       ne_eqb _ _ r.0.0.0.0.0.0.0.0.1,
       ne_eqb _ _ r.0.0.0.0.0.0.0.1,
