@@ -25,12 +25,12 @@ copy_remembered-nil-requires c = (
 )
 
 pub copy_all-requires : goal.copy_all-requires
-copy_all-requires c = (
-  list_copyable c.args.sh.now c.args.sw.now c.args.sk.now c.args.ts.now MAX_NODES c.requires c.read_header-x.ensures
-      c.requires.source.few c.«open».ensures c.copy_remembered-error.ensures.0 c.copy_remembered-nil.ensures.0,
-  c.requires.long,
-  c.copy_remembered-nil.ensures.1,
-)
+copy_all-requires c = record {
+  all_copyable = list_copyable c.args.sh.now c.args.sw.now c.args.sk.now c.args.ts.now MAX_NODES c.requires c.read_header-x.ensures
+      c.requires.source.few c.«open».ensures c.copy_remembered-error.ensures.0 c.copy_remembered-nil.ensures.0;
+  ts_in_bounds = c.requires.long;
+  cached = c.copy_remembered-nil.ensures.1;
+}
 
 pub remember-requires : goal.remember-requires
 remember-requires c =

@@ -33,7 +33,7 @@ loop-i-smaller c = omega arith
 
 pub loop-i-preserved : goal.loop-i-preserved
 loop-i-preserved c =
-    let more = vars_more c.args.span c.loop-i.i c.loop-i.invariant.1.1.1 c.new_var-t.ensures (omega (arith, c.requires.count_in_bounds)) (omega (arith, c.new_var-t.type-inv)) refl in
+    let more = vars_more c.args.span c.loop-i.i c.loop-i.invariant.1.1.1 c.new_var-t.ensures (omega (arith, c.requires.count_in_bounds)) (omega (arith, c.new_var-t.type_inv)) refl in
     (omega arith, (c.new_var-t.auto.h ∙ c.loop-i.invariant.1.0, (c.new_var-t.auto.ws ∙ c.loop-i.invariant.1.1.0, more)))
 
 pub shape_of-h : goal.shape_of-h

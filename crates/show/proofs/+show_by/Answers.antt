@@ -53,7 +53,7 @@ show_by-p-requires t c =
 
 pub overflow_add-j : goal.overflow_add-j
 overflow_add-j t c =
-    omega (arith, c.loop-j-test.true, c.shown-count.type-inv)
+    omega (arith, c.loop-j-test.true, c.shown-count.type_inv)
 
 pub loop-j-smaller : goal.loop-j-smaller
 loop-j-smaller t c = omega (arith, c.loop-j-test.true)

@@ -23,7 +23,7 @@ make_inside-requires c =
     let a = c.args in
     let e = env_in a.chart.now a.beside a.rule.now a.text.now in
     let narrow = listed_narrow c.entries_inside-inside.result (entry_count a.entries.now) c.list_refusal-listed.result c.list_refusal-listed.ensures c.if-listed-ne-NO_REFUSAL.false in
-    (lent_within e a.h.now a.ws.now a.ks.now c.requires.passed, narrow)
+    record { ready = lent_within e a.h.now a.ws.now a.ks.now c.requires.passed; entries_bound = narrow }
 
 pub returns : goal.returns
 returns c =

@@ -21,7 +21,7 @@ new_vars-requires c =
     let pre = c.requires in
     let a = c.args in
     let test = for_room a.count c.room-code.result pre (c.room-code.ensures a.ws.now a.ks.now) in
-    (vars_ready a.span a.count a.out.now test c.if-code-ne-NO_REFUSAL.false, c.if-out-count.false)
+    record { ready = vars_ready a.span a.count a.out.now test c.if-code-ne-NO_REFUSAL.false; count_in_bounds = c.if-out-count.false }
 
 pub returns : goal.returns
 returns c =
