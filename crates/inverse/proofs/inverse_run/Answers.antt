@@ -65,7 +65,7 @@ loop-left-smaller-in-Run c = omega (arith, c.loop-left-test.true)
 pub loop-left-preserved-in-Run : goal.loop-left-preserved-in-Run
 loop-left-preserved-in-Run c =
     going_down c.loop-left.invariant c.child_at.result c.if-next-end.true c.child_at.ensures c.loop-left-test.true (omega (arith, c.loop-left.invariant.levels, c.if-level-eq-LEVELS.false)) _ _
-    (omega (arith, c.known_told-1.given))
+    (omega arith)
     (told_zero c.requires c.find.ensures c.idx-root.ensures c.judge.ensures) (told_run c.requires c.find.ensures c.idx-root.ensures c.judge.ensures c.in-Run.is)
 
 pub returns-then-level-eq0 : goal.returns-then-level-eq0
