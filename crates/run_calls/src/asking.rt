@@ -5,6 +5,8 @@ use promise::DoneAnswer;
 use run_text::numbers::{after, word};
 use run_text::{numbers, writing};
 use scope::MAX_NODES;
+use std::io;
+use std::io::Write;
 use types::Type;
 
 pub(crate) const FIND: u32 = 30; // type, here and below
@@ -29,7 +31,8 @@ const FIND_RELATED: u32 = 40; // type, then a mark for each node
 // The figures, and every node.
 pub(crate) const STORE: u32 = 41;
 
-fn find_related_in<'a>(
+fn find_related_in<'a, W: Write>(
+    to: &mut W,
     chart: &[u32],
     beside: Beside,
     rule: &'a [u8],
@@ -39,14 +42,15 @@ fn find_related_in<'a>(
     ks: &[u32],
     marks: &mut [u8],
     t: Type,
-) {
+) -> io::Result<()> {
     match call_ask::find_related(chart, beside, rule, text, h, ws, ks, marks, t) {
-        DoneAnswer::Done => writing::marked(marks),
-        DoneAnswer::Refused(n) => writing::refused(n),
+        DoneAnswer::Done => writing::marked(to, marks),
+        DoneAnswer::Refused(n) => writing::refused(to, n),
     }
 }
 
-fn find_related<'a>(
+fn find_related<'a, W: Write>(
+    to: &mut W,
     chart: &[u32],
     beside: Beside,
     rule: &'a [u8],
@@ -55,10 +59,11 @@ fn find_related<'a>(
     ws: &[u32],
     ks: &[u32],
     a: &[u32],
-) {
+) -> io::Result<()> {
     let mut marks = [0u8; MAX_NODES];
     let n = numbers::to_bytes(after(a, 1), &mut marks);
     find_related_in(
+        to,
         chart,
         beside,
         rule,
@@ -68,11 +73,12 @@ fn find_related<'a>(
         ks,
         &mut marks[..n],
         Type(word(a, 0)),
-    );
+    )
 }
 
 // Every node, after the figures.
-pub(crate) fn store<'a>(
+pub(crate) fn store<'a, W: Write>(
+    to: &mut W,
     chart: &[u32],
     beside: Beside,
     rule: &'a [u8],
@@ -80,23 +86,23 @@ pub(crate) fn store<'a>(
     h: &[u32],
     ws: &[u32],
     ks: &[u32],
-) {
+) -> io::Result<()> {
     let f = call_read::figures(chart, beside, rule, text, h, ws, ks);
-    writing::figures_answer(f);
+    writing::figures_answer(to, f)?;
     let FiguresAnswer::Is(x) = f else {
-        return;
+        return Ok(());
     };
-    let mut i = 0;
-    while i < x.nodes {
-        writing::say(b"  ");
+    for i in 0..x.nodes {
+        writing::say(to, b"  ")?;
         let v = call_read::node(chart, beside, rule, text, h, ws, ks, Type(i));
-        writing::node_answer(v, ks, rule, text);
-        i += 1;
+        writing::node_answer(to, v, ks, rule, text)?;
     }
+    Ok(())
 }
 
 // What one node tells.
-fn node<'a>(
+fn node<'a, W: Write>(
+    to: &mut W,
     op: u32,
     chart: &[u32],
     beside: Beside,
@@ -106,41 +112,27 @@ fn node<'a>(
     ws: &[u32],
     ks: &[u32],
     a: &[u32],
-) {
+) -> io::Result<()> {
     let t = Type(word(a, 0));
     if op == NODE {
-        writing::node_answer(
-            call_read::node(chart, beside, rule, text, h, ws, ks, t),
-            ks,
-            rule,
-            text,
-        );
-        return;
+        let r = call_read::node(chart, beside, rule, text, h, ws, ks, t);
+        return writing::node_answer(to, r, ks, rule, text);
     }
     if op == CHILD {
-        writing::child_answer(call_read::child(
-            chart,
-            beside,
-            rule,
-            text,
-            h,
-            ws,
-            ks,
-            t,
-            word(a, 1),
-        ));
-        return;
+        let r = call_read::child(chart, beside, rule, text, h, ws, ks, t, word(a, 1));
+        return writing::child_answer(to, r);
     }
     if op == CHILD_NAME {
         let r = call_read::child_name(chart, beside, rule, text, h, ws, ks, t, word(a, 1));
-        writing::name_answer(r, rule, text);
-        return;
+        return writing::name_answer(to, r, rule, text);
     }
-    writing::figures_answer(call_read::figures(chart, beside, rule, text, h, ws, ks));
+    let r = call_read::figures(chart, beside, rule, text, h, ws, ks);
+    writing::figures_answer(to, r)
 }
 
 // What a type tells through its root.
-fn root<'a>(
+fn root<'a, W: Write>(
+    to: &mut W,
     op: u32,
     chart: &[u32],
     beside: Beside,
@@ -150,26 +142,27 @@ fn root<'a>(
     ws: &[u32],
     ks: &[u32],
     a: &[u32],
-) {
+) -> io::Result<()> {
     let t = Type(word(a, 0));
     if op == IS_NIL {
-        writing::bool_answer(call_ask::is_nil(chart, beside, rule, text, h, ws, ks, t));
-        return;
+        let r = call_ask::is_nil(chart, beside, rule, text, h, ws, ks, t);
+        return writing::bool_answer(to, r);
     }
     if op == SELF_INVERSE {
-        writing::bool_answer(call_ask::self_inverse(chart, beside, rule, text, h, ws, ks, t));
-        return;
+        let r = call_ask::self_inverse(chart, beside, rule, text, h, ws, ks, t);
+        return writing::bool_answer(to, r);
     }
     if op == SELF_INVERSE_PARAM {
         let param = word(a, 1) != 0;
         let r = call_ask::self_inverse_param(chart, beside, rule, text, h, ws, ks, t, param);
-        writing::bool_answer(r);
-        return;
+        return writing::bool_answer(to, r);
     }
-    writing::mod_answer(call_ask::get_mod(chart, beside, rule, text, h, ws, ks, t));
+    let r = call_ask::get_mod(chart, beside, rule, text, h, ws, ks, t);
+    writing::mod_answer(to, r)
 }
 
-pub(crate) fn call<'a>(
+pub(crate) fn call<'a, W: Write>(
+    to: &mut W,
     op: u32,
     chart: &[u32],
     beside: Beside,
@@ -179,23 +172,20 @@ pub(crate) fn call<'a>(
     ws: &[u32],
     ks: &[u32],
     a: &[u32],
-) {
+) -> io::Result<()> {
     if op == FIND {
         let t = Type(word(a, 0));
-        writing::type_answer(call_find::find(chart, beside, rule, text, h, ws, ks, t));
-        return;
+        let r = call_find::find(chart, beside, rule, text, h, ws, ks, t);
+        return writing::type_answer(to, r);
     }
     if op <= FIGURES {
-        node(op, chart, beside, rule, text, h, ws, ks, a);
-        return;
+        return node(to, op, chart, beside, rule, text, h, ws, ks, a);
     }
     if op <= GET_MOD {
-        root(op, chart, beside, rule, text, h, ws, ks, a);
-        return;
+        return root(to, op, chart, beside, rule, text, h, ws, ks, a);
     }
     if op == FIND_RELATED {
-        find_related(chart, beside, rule, text, h, ws, ks, a);
-        return;
+        return find_related(to, chart, beside, rule, text, h, ws, ks, a);
     }
-    store(chart, beside, rule, text, h, ws, ks);
+    store(to, chart, beside, rule, text, h, ws, ks)
 }

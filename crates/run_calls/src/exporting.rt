@@ -5,6 +5,8 @@ use promise::DoneAnswer;
 use run_text::numbers::{after, upto, word};
 use run_text::writing;
 use scope::MAX_LIST;
+use std::io;
+use std::io::Write;
 
 pub(crate) const EXPORT: u32 = 61; // nodes, children, room for answers, words lent of each slice, then types
 
@@ -15,7 +17,8 @@ const ROOM: usize = MAX_LIST + 1;
 const USED: u32 = 3_735_928_559;
 
 // The types, and every node of the fresh store.
-fn export_into<'a>(
+fn export_into<'a, W: Write>(
+    to: &mut W,
     chart: &[u32],
     beside: Beside,
     rule: &'a [u8],
@@ -28,22 +31,23 @@ fn export_into<'a>(
     ek: &mut [u32],
     a: &[u32],
     out: &mut [u32],
-) {
+) -> io::Result<()> {
     let ts = after(a, 6);
     let nodes = word(a, 0);
     let children = word(a, 1);
     let r = call_copy::export(
         chart, beside, rule, text, h, ws, ks, eh, ew, ek, nodes, children, ts, out,
     );
-    writing::listed(r, out, ts.len());
+    writing::listed(to, r, out, ts.len())?;
     match r {
-        DoneAnswer::Done => asking::store(chart, beside, rule, text, eh, ew, ek),
-        DoneAnswer::Refused(_) => {}
+        DoneAnswer::Done => asking::store(to, chart, beside, rule, text, eh, ew, ek),
+        DoneAnswer::Refused(_) => Ok(()),
     }
 }
 
 // Into as many of the words as the list says.
-fn export_lent<'a>(
+fn export_lent<'a, W: Write>(
+    to: &mut W,
     chart: &[u32],
     beside: Beside,
     rule: &'a [u8],
@@ -56,12 +60,13 @@ fn export_lent<'a>(
     ek: &mut [u32],
     a: &[u32],
     out: &mut [u32],
-) {
+) -> io::Result<()> {
     let room = upto(out, word(a, 2) as usize);
     let x = upto(eh, word(a, 3) as usize);
     let y = upto(ew, word(a, 4) as usize);
     let z = upto(ek, word(a, 5) as usize);
     export_into(
+        to,
         chart,
         beside,
         rule,
@@ -74,10 +79,11 @@ fn export_lent<'a>(
         &mut ek[..z],
         a,
         &mut out[..room],
-    );
+    )
 }
 
-pub(crate) fn export<'a>(
+pub(crate) fn export<'a, W: Write>(
+    to: &mut W,
     chart: &[u32],
     beside: Beside,
     rule: &'a [u8],
@@ -86,12 +92,12 @@ pub(crate) fn export<'a>(
     ws: &[u32],
     ks: &[u32],
     a: &[u32],
-) {
+) -> io::Result<()> {
     let mut eh = [USED; HEAD];
     let mut ew = [USED; NODES];
     let mut ek = [USED; KIDS];
     let mut out = [0u32; ROOM];
     export_lent(
-        chart, beside, rule, text, h, ws, ks, &mut eh, &mut ew, &mut ek, a, &mut out,
-    );
+        to, chart, beside, rule, text, h, ws, ks, &mut eh, &mut ew, &mut ek, a, &mut out,
+    )
 }

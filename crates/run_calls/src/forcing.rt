@@ -4,6 +4,8 @@ use promise::DoneAnswer;
 use run_text::numbers::word;
 use run_text::{numbers, writing};
 use scope::MAX_NODES;
+use std::io;
+use std::io::Write;
 use types::Type;
 
 pub(crate) const FORCE_KIND: u32 = 19; // type
@@ -17,7 +19,8 @@ pub(crate) fn finishes(op: u32) -> bool {
     op == FINISH || op == FINISH_WHERE
 }
 
-pub(crate) fn force<'a>(
+pub(crate) fn force<'a, W: Write>(
+    to: &mut W,
     chart: &[u32],
     beside: Beside,
     rule: &'a [u8],
@@ -26,9 +29,9 @@ pub(crate) fn force<'a>(
     ws: &mut [u32],
     ks: &[u32],
     a: &[u32],
-) {
+) -> io::Result<()> {
     let r = call_force::force_kind(chart, beside, rule, text, h, ws, ks, Type(word(a, 0)));
-    writing::forced_answer(r, ks, rule, text);
+    writing::forced_answer(to, r, ks, rule, text)
 }
 
 pub(crate) fn finish<'a>(

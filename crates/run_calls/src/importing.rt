@@ -3,13 +3,16 @@ use chart::Beside;
 use run_text::numbers::{after, first, upto, word};
 use run_text::writing;
 use scope::MAX_LIST;
+use std::io;
+use std::io::Write;
 
 pub(crate) const IMPORT: u32 = 60; // room for answers, 1 with a parameter list, how many types, these, then the entries
 
 // One more than a list may have.
 const ROOM: usize = MAX_LIST + 1;
 
-fn import_into<'a>(
+fn import_into<'a, W: Write>(
+    to: &mut W,
     chart: &[u32],
     beside: Beside,
     rule: &'a [u8],
@@ -22,7 +25,7 @@ fn import_into<'a>(
     sk: &[u32],
     a: &[u32],
     out: &mut [u32],
-) {
+) -> io::Result<()> {
     let given = after(a, 3);
     let ts = first(given, word(a, 2) as usize);
     let params = after(given, ts.len());
@@ -42,11 +45,12 @@ fn import_into<'a>(
         params,
         out,
     );
-    writing::listed(r, out, ts.len());
+    writing::listed(to, r, out, ts.len())
 }
 
 // Out of the words sh, sw, sk.
-pub(crate) fn import<'a>(
+pub(crate) fn import<'a, W: Write>(
+    to: &mut W,
     chart: &[u32],
     beside: Beside,
     rule: &'a [u8],
@@ -58,10 +62,11 @@ pub(crate) fn import<'a>(
     sw: &[u32],
     sk: &[u32],
     a: &[u32],
-) {
+) -> io::Result<()> {
     let mut out = [0u32; ROOM];
     let room = upto(&out, word(a, 0) as usize);
     import_into(
+        to,
         chart,
         beside,
         rule,
@@ -74,5 +79,5 @@ pub(crate) fn import<'a>(
         sk,
         a,
         &mut out[..room],
-    );
+    )
 }

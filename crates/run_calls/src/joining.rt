@@ -3,6 +3,8 @@ use call_unify::UnifyAnswer;
 use chart::Beside;
 use run_text::numbers::{after, first, word};
 use run_text::writing;
+use std::io;
+use std::io::Write;
 use types::{Impl, Inverted, Type};
 
 const FIND_MUT: u32 = 31; // type
@@ -72,7 +74,8 @@ fn signatures<'a>(
     call_unify_lists::unify_fn_sig(chart, beside, rule, text, h, ws, ks, xs, x, ys, y)
 }
 
-fn impls<'a>(
+fn impls<'a, W: Write>(
+    to: &mut W,
     op: u32,
     chart: &[u32],
     beside: Beside,
@@ -82,7 +85,7 @@ fn impls<'a>(
     ws: &mut [u32],
     ks: &[u32],
     a: &[u32],
-) {
+) -> io::Result<()> {
     let p = impl_of(word(a, 0), word(a, 1));
     let q = impl_of(word(a, 2), word(a, 3));
     let n = word(a, 4) as usize;
@@ -91,10 +94,10 @@ fn impls<'a>(
     let ys = after(both, n);
     if op == UNIFY_IMPL_TYPE {
         let r = call_impl::unify_impl_type(chart, beside, rule, text, h, ws, ks, p, xs, q, ys);
-        writing::unify_answer(r);
-        return;
+        return writing::unify_answer(to, r);
     }
-    writing::bool_answer(call_impl::approx_eq(chart, beside, rule, text, h, ws, ks, p, xs, q, ys));
+    let r = call_impl::approx_eq(chart, beside, rule, text, h, ws, ks, p, xs, q, ys);
+    writing::bool_answer(to, r)
 }
 
 fn pair<'a>(
@@ -112,7 +115,8 @@ fn pair<'a>(
     call_unify::unify(chart, beside, rule, text, h, ws, ks, x, y)
 }
 
-pub(crate) fn call<'a>(
+pub(crate) fn call<'a, W: Write>(
+    to: &mut W,
     op: u32,
     chart: &[u32],
     beside: Beside,
@@ -122,23 +126,23 @@ pub(crate) fn call<'a>(
     ws: &mut [u32],
     ks: &[u32],
     a: &[u32],
-) {
+) -> io::Result<()> {
     if op == FIND_MUT {
         let t = Type(word(a, 0));
-        writing::type_answer(call_find::find_mut(chart, beside, rule, text, h, ws, ks, t));
-        return;
+        let r = call_find::find_mut(chart, beside, rule, text, h, ws, ks, t);
+        return writing::type_answer(to, r);
     }
     if op == UNIFY {
-        writing::unify_answer(pair(chart, beside, rule, text, h, ws, ks, a));
-        return;
+        let r = pair(chart, beside, rule, text, h, ws, ks, a);
+        return writing::unify_answer(to, r);
     }
     if op <= UNIFY_OBJECTS {
-        writing::unify_answer(lists(op, chart, beside, rule, text, h, ws, ks, a));
-        return;
+        let r = lists(op, chart, beside, rule, text, h, ws, ks, a);
+        return writing::unify_answer(to, r);
     }
     if op == UNIFY_FN_SIG {
-        writing::unify_answer(signatures(chart, beside, rule, text, h, ws, ks, a));
-        return;
+        let r = signatures(chart, beside, rule, text, h, ws, ks, a);
+        return writing::unify_answer(to, r);
     }
-    impls(op, chart, beside, rule, text, h, ws, ks, a);
+    impls(to, op, chart, beside, rule, text, h, ws, ks, a)
 }

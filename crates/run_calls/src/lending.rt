@@ -78,10 +78,8 @@ pub(crate) fn part(s: &[u32], p: Place) -> &[u32] {
 
 fn sigils_of(a: &[u32]) -> [u32; 12] {
     let mut s = [0u32; 12];
-    let mut i = 0;
-    while i < 12 {
+    for i in 0..12 {
         s[i] = word(a, i);
-        i += 1;
     }
     s
 }

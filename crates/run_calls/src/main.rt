@@ -20,6 +20,8 @@ use layout::{CHILD_WORDS, HEAD_WORDS, NODE_WORDS};
 use run_text::numbers::{after, first, numbers, set, to_bytes, upto, word};
 use run_text::writing;
 use scope::{MAX_CHILDREN, MAX_NODES};
+use std::io;
+use std::io::{BufWriter, Read, Write};
 
 const POKE: u32 = 5; // slice 0 to 2, or 3 for the names buffer, word, what it becomes
 
@@ -47,7 +49,7 @@ const BOOK: usize = 56_000;
 // Room for a text, and for the list as text and as numbers.
 const BYTES: usize = 4096;
 
-const INPUT: usize = 131_072;
+const INPUT: u64 = 131_072;
 
 const NUMBERS: usize = 32_768;
 
@@ -64,14 +66,15 @@ fn poke(h: &mut [u32], ws: &mut [u32], ks: &mut [u32], bs: &mut [u32], a: &[u32]
 }
 
 // Every word that is lent.
-fn words(h: &[u32], ws: &[u32], ks: &[u32]) {
-    writing::words(h);
-    writing::words(ws);
-    writing::words(ks);
+fn words<W: Write>(to: &mut W, h: &[u32], ws: &[u32], ks: &[u32]) -> io::Result<()> {
+    writing::words(to, h)?;
+    writing::words(to, ws)?;
+    writing::words(to, ks)
 }
 
 // The calls that write no word of a store.
-fn reading<'a>(
+fn reading<'a, W: Write>(
+    to: &mut W,
     op: u32,
     chart: &[u32],
     beside: Beside,
@@ -81,23 +84,24 @@ fn reading<'a>(
     ws: &[u32],
     ks: &[u32],
     a: &[u32],
-) {
+) -> io::Result<()> {
     match op {
-        WORDS => words(h, ws, ks),
-        CASE => writing::case(word(a, 0)),
-        exporting::EXPORT => exporting::export(chart, beside, rule, text, h, ws, ks, a),
+        WORDS => words(to, h, ws, ks),
+        CASE => writing::case(to, word(a, 0)),
+        exporting::EXPORT => exporting::export(to, chart, beside, rule, text, h, ws, ks, a),
         asking::FIND..=asking::STORE => {
-            asking::call(op, chart, beside, rule, text, h, ws, ks, a);
+            asking::call(to, op, chart, beside, rule, text, h, ws, ks, a)
         }
         printing::SHOW..=printing::SHOW_IMPL_TYPE_PART => {
-            printing::call(op, chart, beside, rule, text, h, ws, ks, a);
+            printing::call(to, op, chart, beside, rule, text, h, ws, ks, a)
         }
-        _ => {}
+        _ => Ok(()),
     }
 }
 
 // And those that write nodes alone.
-fn changing<'a>(
+fn changing<'a, W: Write>(
+    to: &mut W,
     op: u32,
     chart: &[u32],
     beside: Beside,
@@ -107,20 +111,20 @@ fn changing<'a>(
     ws: &mut [u32],
     ks: &[u32],
     a: &[u32],
-) {
+) -> io::Result<()> {
     if forcing::finishes(op) {
-        writing::done(forcing::finish(op, chart, beside, rule, text, h, ws, ks, a));
-        return;
+        let r = forcing::finish(op, chart, beside, rule, text, h, ws, ks, a);
+        return writing::done(to, r);
     }
     if joining::is(op) {
-        joining::call(op, chart, beside, rule, text, h, ws, ks, a);
-        return;
+        return joining::call(to, op, chart, beside, rule, text, h, ws, ks, a);
     }
-    reading(op, chart, beside, rule, text, h, ws, ks, a);
+    reading(to, op, chart, beside, rule, text, h, ws, ks, a)
 }
 
 // And those that write the header too.
-fn adding<'a>(
+fn adding<'a, W: Write>(
+    to: &mut W,
     op: u32,
     chart: &[u32],
     beside: Beside,
@@ -130,19 +134,21 @@ fn adding<'a>(
     ws: &mut [u32],
     ks: &[u32],
     a: &[u32],
-) {
+) -> io::Result<()> {
     match op {
-        making::NEW_VARS => making::new_vars(chart, beside, rule, text, h, ws, ks, a),
+        making::NEW_VARS => making::new_vars(to, chart, beside, rule, text, h, ws, ks, a),
         making::NEW_VAR | making::ERROR | making::NIL => {
-            writing::type_answer(making::plain(op, chart, beside, rule, text, h, ws, ks, a));
+            let r = making::plain(op, chart, beside, rule, text, h, ws, ks, a);
+            writing::type_answer(to, r)
         }
-        forcing::FORCE_KIND => forcing::force(chart, beside, rule, text, h, ws, ks, a),
-        _ => changing(op, chart, beside, rule, text, h, ws, ks, a),
+        forcing::FORCE_KIND => forcing::force(to, chart, beside, rule, text, h, ws, ks, a),
+        _ => changing(to, op, chart, beside, rule, text, h, ws, ks, a),
     }
 }
 
 // And those that write all; sh, sw, sk are the other store's words, bs those of the names buffer.
-fn call<'a>(
+fn call<'a, W: Write>(
+    to: &mut W,
     op: u32,
     chart: &[u32],
     beside: Beside,
@@ -156,26 +162,34 @@ fn call<'a>(
     sw: &[u32],
     sk: &[u32],
     a: &[u32],
-) {
+) -> io::Result<()> {
     if naming::is(op) {
-        writing::done(naming::call(op, chart, beside, rule, text, h, ws, ks, bs, a));
-        return;
+        let r = naming::call(op, chart, beside, rule, text, h, ws, ks, bs, a);
+        return writing::done(to, r);
     }
     match op {
-        POKE => poke(h, ws, ks, bs, a),
-        making::OPEN => writing::done(making::open(h, ws, ks, a)),
+        POKE => {
+            poke(h, ws, ks, bs, a);
+            Ok(())
+        }
+        making::OPEN => {
+            let r = making::open(h, ws, ks, a);
+            writing::done(to, r)
+        }
         making::NEW | making::NEW_STRUCT | making::NEW_UNION => {
-            writing::type_answer(making::kind(op, chart, beside, rule, text, h, ws, ks, a));
+            let r = making::kind(op, chart, beside, rule, text, h, ws, ks, a);
+            writing::type_answer(to, r)
         }
         importing::IMPORT => {
-            importing::import(chart, beside, rule, text, h, ws, ks, sh, sw, sk, a);
-        },
-        _ => adding(op, chart, beside, rule, text, h, ws, ks, a),
+            importing::import(to, chart, beside, rule, text, h, ws, ks, sh, sw, sk, a)
+        }
+        _ => adding(to, op, chart, beside, rule, text, h, ws, ks, a),
     }
 }
 
 // A call on what is lent of the store in hand.
-fn on<'a>(
+fn on<'a, W: Write>(
+    to: &mut W,
     op: u32,
     chart: &[u32],
     rule: &'a [u8],
@@ -187,7 +201,7 @@ fn on<'a>(
     bs: &mut [u32],
     o: &[u32],
     a: &[u32],
-) {
+) -> io::Result<()> {
     let here = l.here;
     let there = l.there;
     let sh = first(o, there.head);
@@ -198,6 +212,7 @@ fn on<'a>(
     let z = upto(ks, here.kids);
     let b = upto(bs, here.names);
     call(
+        to,
         op,
         chart,
         l.beside,
@@ -211,11 +226,12 @@ fn on<'a>(
         sw,
         sk,
         a,
-    );
+    )
 }
 
 // The same, with what is lent of chart and texts among the list's numbers s.
-fn act(
+fn act<W: Write>(
+    to: &mut W,
     s: &[u32],
     op: u32,
     l: Lent,
@@ -225,12 +241,13 @@ fn act(
     bs: &mut [u32],
     o: &[u32],
     a: &[u32],
-) {
+) -> io::Result<()> {
     let mut rule = [0u8; BYTES];
     let mut text = [0u8; BYTES];
     let r = to_bytes(part(s, l.rule), &mut rule);
     let t = to_bytes(part(s, l.text), &mut text);
     on(
+        to,
         op,
         part(s, l.chart),
         &rule[..r],
@@ -242,7 +259,7 @@ fn act(
         bs,
         o,
         a,
-    );
+    )
 }
 
 // Where a call's numbers stand: behind its own and their count.
@@ -289,7 +306,8 @@ fn exchange(x: &mut [u32], o: &mut [u32], from: usize) {
 }
 
 // The call that stands there, on what is lent, and what is lent from now on.
-fn turn(
+fn turn<W: Write>(
+    to: &mut W,
     s: &[u32],
     at: usize,
     l: Lent,
@@ -298,46 +316,57 @@ fn turn(
     ks: &mut [u32],
     bs: &mut [u32],
     o: &mut [u32],
-) -> Lent {
+) -> io::Result<Lent> {
     let op = word(s, at);
     let a = given(s, at);
     let m = lend(op, l, behind(at), a);
     if op <= LEND {
-        return m;
+        return Ok(m);
     }
     if op == SWAP {
         exchange(h, o, 0);
         exchange(ws, o, NODES_AT);
         exchange(ks, o, KIDS_AT);
-        return m;
+        return Ok(m);
     }
-    act(s, op, l, h, ws, ks, bs, o, a);
-    m
+    act(to, s, op, l, h, ws, ks, bs, o, a)?;
+    Ok(m)
 }
 
 // The calls one after the other, on these buffers.
-fn turns(s: &[u32], h: &mut [u32], ws: &mut [u32], ks: &mut [u32], bs: &mut [u32], o: &mut [u32]) {
+fn turns<W: Write>(
+    to: &mut W,
+    s: &[u32],
+    h: &mut [u32],
+    ws: &mut [u32],
+    ks: &mut [u32],
+    bs: &mut [u32],
+    o: &mut [u32],
+) -> io::Result<()> {
     let mut l = nothing_lent();
     let mut at = 0;
     while at < s.len() {
-        l = turn(s, at, l, h, ws, ks, bs, o);
+        l = turn(to, s, at, l, h, ws, ks, bs, o)?;
         at = next(s, at);
     }
+    Ok(())
 }
 
-fn run(s: &[u32]) {
+fn run<W: Write>(to: &mut W, s: &[u32]) -> io::Result<()> {
     let mut h = [0u32; HEAD];
     let mut ws = [0u32; NODES];
     let mut ks = [0u32; KIDS];
     let mut bs = [0u32; BOOK];
     let mut o = [0u32; OTHER];
-    turns(s, &mut h, &mut ws, &mut ks, &mut bs, &mut o);
+    turns(to, s, &mut h, &mut ws, &mut ks, &mut bs, &mut o)
 }
 
-fn main() {
-    let mut input = [0u8; INPUT];
-    let got = io::read_full(0, &mut input);
+fn main(rt: HostRuntime) -> io::Result<()> {
+    let mut input = Vec::new(rt.alloc());
+    rt.stdin().take(INPUT).read_to_end(&mut input)?;
     let mut s = [0u32; NUMBERS];
-    let n = numbers(&input[..got], &mut s);
-    run(first(&s, n));
+    let n = numbers(input.as_slice(), &mut s);
+    let mut to = BufWriter::new(rt.alloc(), rt.stdout())?;
+    run(&mut to, first(&s, n))?;
+    to.flush()
 }

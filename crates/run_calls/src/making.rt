@@ -6,6 +6,8 @@ use promise::{DoneAnswer, TypeAnswer};
 use run_text::numbers::{after, word};
 use run_text::{numbers, writing};
 use scope::MAX_NODES;
+use std::io;
+use std::io::Write;
 
 pub(crate) const OPEN: u32 = 10; // nodes, children
 
@@ -37,7 +39,8 @@ fn kind_args(a: &[u32]) -> KindArgs {
     }
 }
 
-fn new_vars_into<'a>(
+fn new_vars_into<'a, W: Write>(
+    to: &mut W,
     chart: &[u32],
     beside: Beside,
     rule: &'a [u8],
@@ -47,13 +50,14 @@ fn new_vars_into<'a>(
     ks: &[u32],
     a: &[u32],
     out: &mut [u32],
-) {
+) -> io::Result<()> {
     let n = word(a, 1);
     let r = call_make::new_vars(chart, beside, rule, text, h, ws, ks, word(a, 0), n, out);
-    writing::listed(r, out, n as usize);
+    writing::listed(to, r, out, n as usize)
 }
 
-pub(crate) fn new_vars<'a>(
+pub(crate) fn new_vars<'a, W: Write>(
+    to: &mut W,
     chart: &[u32],
     beside: Beside,
     rule: &'a [u8],
@@ -62,10 +66,21 @@ pub(crate) fn new_vars<'a>(
     ws: &mut [u32],
     ks: &[u32],
     a: &[u32],
-) {
+) -> io::Result<()> {
     let mut out = [0u32; MAX_NODES];
     let room = numbers::upto(&out, word(a, 2) as usize);
-    new_vars_into(chart, beside, rule, text, h, ws, ks, a, &mut out[..room]);
+    new_vars_into(
+        to,
+        chart,
+        beside,
+        rule,
+        text,
+        h,
+        ws,
+        ks,
+        a,
+        &mut out[..room],
+    )
 }
 
 pub(crate) fn open(h: &mut [u32], ws: &mut [u32], ks: &mut [u32], a: &[u32]) -> DoneAnswer {

@@ -3,6 +3,8 @@ use chart::Beside;
 use promise::CountAnswer;
 use run_text::numbers::{after, word};
 use run_text::{numbers, writing};
+use std::io;
+use std::io::Write;
 use types::{Impl, Type};
 
 pub(crate) const SHOW: u32 = 70; // how long the buffer is, type
@@ -17,32 +19,23 @@ const ROOM: usize = 4096;
 
 const DOT: u8 = 46;
 
-const OUT: i32 = 1;
-
 // Bytes between bars, to the line's end.
-fn bytes(s: &[u8]) {
-    writing::say(b" |");
-    writing::say(s);
-    writing::say(b"|\n");
+fn bytes<W: Write>(to: &mut W, s: &[u8]) -> io::Result<()> {
+    writing::say(to, b" |")?;
+    writing::say(to, s)?;
+    writing::say(to, b"|\n")
 }
 
-fn count(a: CountAnswer) {
+fn count<W: Write>(to: &mut W, a: CountAnswer) -> io::Result<()> {
     match a {
-        CountAnswer::Is(n) => {
-            writing::say(b"length ");
-            io::print_decimal(OUT, n as u64);
-        }
-        CountAnswer::Refused(n) => {
-            writing::say(b"refused ");
-            writing::number(n);
-        }
+        CountAnswer::Is(n) => write!(to, "length {n}"),
+        CountAnswer::Refused(n) => write!(to, "refused {n}"),
     }
 }
 
 // The number beside a part.
-fn code(n: u32) {
-    writing::say(b"code ");
-    writing::number(n);
+fn code<W: Write>(to: &mut W, n: u32) -> io::Result<()> {
+    write!(to, "code {n}")
 }
 
 fn impl_of(a: &[u32]) -> Impl {
@@ -52,7 +45,8 @@ fn impl_of(a: &[u32]) -> Impl {
     Impl::Trait(word(a, 2))
 }
 
-fn whole<'a>(
+fn whole<'a, W: Write>(
+    to: &mut W,
     op: u32,
     chart: &[u32],
     beside: Beside,
@@ -63,20 +57,22 @@ fn whole<'a>(
     ks: &[u32],
     buf: &mut [u8],
     a: &[u32],
-) {
+) -> io::Result<()> {
     if op == SHOW {
         let t = Type(word(a, 1));
-        count(call_show::show(chart, beside, rule, text, h, ws, ks, t, buf));
-        bytes(buf);
-        return;
+        let r = call_show::show(chart, beside, rule, text, h, ws, ks, t, buf);
+        count(to, r)?;
+        return bytes(to, buf);
     }
     let i = impl_of(a);
     let xs = after(a, 3);
-    count(call_show::show_impl_type(chart, beside, rule, text, h, ws, ks, i, xs, buf));
-    bytes(buf);
+    let r = call_show::show_impl_type(chart, beside, rule, text, h, ws, ks, i, xs, buf);
+    count(to, r)?;
+    bytes(to, buf)
 }
 
-fn part<'a>(
+fn part<'a, W: Write>(
+    to: &mut W,
     op: u32,
     chart: &[u32],
     beside: Beside,
@@ -87,25 +83,25 @@ fn part<'a>(
     ks: &[u32],
     buf: &mut [u8],
     a: &[u32],
-) {
+) -> io::Result<()> {
     let mut n: u32 = 0;
     if op == SHOW_PART {
         let t = Type(word(a, 1));
         let p = call_show::show_part(chart, beside, rule, text, h, ws, ks, t, buf, &mut n);
-        code(n);
-        bytes(p);
-        return;
+        code(to, n)?;
+        return bytes(to, p);
     }
     let i = impl_of(a);
     let xs = after(a, 3);
     let p = call_show::show_impl_type_part(
         chart, beside, rule, text, h, ws, ks, i, xs, buf, &mut n,
     );
-    code(n);
-    bytes(p);
+    code(to, n)?;
+    bytes(to, p)
 }
 
-pub(crate) fn call<'a>(
+pub(crate) fn call<'a, W: Write>(
+    to: &mut W,
     op: u32,
     chart: &[u32],
     beside: Beside,
@@ -115,12 +111,35 @@ pub(crate) fn call<'a>(
     ws: &[u32],
     ks: &[u32],
     a: &[u32],
-) {
+) -> io::Result<()> {
     let mut buf = [DOT; ROOM];
     let n = numbers::bytes_upto(&buf, word(a, 0) as usize);
     if op < SHOW_PART {
-        whole(op, chart, beside, rule, text, h, ws, ks, &mut buf[..n], a);
-        return;
+        return whole(
+            to,
+            op,
+            chart,
+            beside,
+            rule,
+            text,
+            h,
+            ws,
+            ks,
+            &mut buf[..n],
+            a,
+        );
     }
-    part(op, chart, beside, rule, text, h, ws, ks, &mut buf[..n], a);
+    part(
+        to,
+        op,
+        chart,
+        beside,
+        rule,
+        text,
+        h,
+        ws,
+        ks,
+        &mut buf[..n],
+        a,
+    )
 }

@@ -1,6 +1,5 @@
 // A list of calls as text: decimal numbers with anything else between them; from '#' to the line's end is for the reader. Its numbers, and parts of them.
-ghost use Rattle.std.specs.Prelude.{◌≡◌};
-ghost use Rattle.io.specs.Counts.{IsPrefixLen};
+ghost use Rattle.std.specs.Prelude.{◌≡◌, ◌≤◌, length};
 
 const NEWLINE: u8 = 10;
 
@@ -88,11 +87,8 @@ pub fn numbers(text: &[u8], out: &mut [u32]) -> usize {
         digits: false,
         remark: false,
     };
-    let mut i = 0;
-    while i < text.len() {
-        let b = text[i];
-        i += 1;
-        s = step(out, s, b);
+    for b in text {
+        s = step(out, s, *b);
     }
     s.count
 }
@@ -123,26 +119,24 @@ pub fn first(s: &[u32], n: usize) -> &[u32] {
 
 // How many of n words there are; of n bytes below.
 pub fn upto(s: &[u32], n: usize) -> usize
-    ensures { IsPrefixLen result s.now }
+    ensures { result ≤ length s.now }
 {
     if n < s.len() { n } else { s.len() }
 }
 
 pub fn bytes_upto(s: &[u8], n: usize) -> usize
-    ensures { IsPrefixLen result s.now }
+    ensures { result ≤ length s.now }
 {
     if n < s.len() { n } else { s.len() }
 }
 
 // The numbers as bytes, and how many.
 pub fn to_bytes(s: &[u32], out: &mut [u8]) -> usize
-    ensures { IsPrefixLen result out.new }
+    ensures { result ≤ length out.new }
 {
     let n = bytes_upto(out, s.len());
-    let mut i = 0;
-    while i < n {
+    for i in 0..n {
         out[i] = (word(s, i) % 256) as u8;
-        i += 1;
     }
     n
 }

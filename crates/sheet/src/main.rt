@@ -9,10 +9,11 @@ ghost use Rattle.sheet_feed.specs.Fed.{LINE_KEPT};
 ghost use Rattle.sheet.specs.Holding.{Holding, Kept};
 
 use layout::HEAD_WORDS;
-use libc::{STDIN_FILENO, STDOUT_FILENO};
 use scope::SHEET_TEXT;
 use sheet_feed::{Fed, LINE_KEPT};
 use sheet_line::{SHEET_CHILD_WORDS, SHEET_MEMORY_WORDS, SHEET_NODE_WORDS};
+use std::io;
+use std::io::{Read, Write};
 
 // A text and its newline.
 const TEXT: usize = SHEET_TEXT + 1;
@@ -29,7 +30,8 @@ enum Went {
 
 // A piece of the input, line by line. The buffer holds the bytes of the line so far and no others, before the piece and after it: so each line that is run
 // is the bytes of that line.
-fn feed_all(
+fn feed_all<W: Write>(
+    to: &mut W,
     h: &mut [u32],
     ws: &mut [u32],
     ks: &mut [u32],
@@ -55,7 +57,7 @@ fn feed_all(
                 return Went::On(q);
             }
             Fed::Line(n, k) => {
-                if !io::write_all(STDOUT_FILENO, &text[..n]) {
+                if to.write_all(&text[..n]).is_err() {
                     return Went::Closed;
                 }
                 p = 0;
@@ -68,7 +70,9 @@ fn feed_all(
 
 // Reads and answers until there is no more to do. A proved loop has to end, and nothing says that the input does: so reads are counted down, from a number that
 // no run uses up.
-fn serve(
+fn serve<R: Read, W: Write>(
+    from: &mut R,
+    to: &mut W,
     h: &mut [u32],
     ws: &mut [u32],
     ks: &mut [u32],
@@ -76,35 +80,29 @@ fn serve(
     line: &mut [u8],
     piece: &mut [u8],
     text: &mut [u8],
-)
+) -> io::Result<()>
     requires sheet_store { SheetStore h.old ws.old ks.old }
     requires in_bounds { SHEET_TEXT < length text.old }
     requires line_len { length line.old ≡ LINE_KEPT }
 {
     let mut at: usize = 0;
-    let mut turns = u64::MAX;
-    while turns > 0 {
-        turns -= 1;
-        let got = libc::read(STDIN_FILENO, piece);
-        if got < 0 {
-            os::fail(b"sheet: standard input");
-            return;
-        }
+    for _ in 0..u64::MAX {
+        let got = from.read(piece)?;
         if got == 0 {
             let n = sheet_feed::feed_end(h, ws, ks, memory, line, at, text);
-            io::write_all(STDOUT_FILENO, &text[..n]);
-            return;
+            let _ = to.write_all(&text[..n]);
+            return Ok(());
         }
-        let n = io::count(got, piece);
-        let w = feed_all(h, ws, ks, memory, line, at, &piece[..n], text);
+        let w = feed_all(to, h, ws, ks, memory, line, at, &piece[..got], text);
         let Went::On(p) = w else {
-            return;
+            return Ok(());
         };
         at = p;
     }
+    Ok(())
 }
 
-fn main() {
+fn main(rt: HostRuntime) -> io::Result<()> {
     let mut h = [0u32; HEAD_WORDS];
     let mut ws = [0u32; SHEET_NODE_WORDS];
     let mut ks = [0u32; SHEET_CHILD_WORDS];
@@ -114,6 +112,8 @@ fn main() {
     let mut piece = [0u8; PIECE];
     let mut text = [0u8; TEXT];
     serve(
+        &mut rt.stdin(),
+        &mut rt.stdout(),
         &mut h,
         &mut ws,
         &mut ks,
@@ -121,5 +121,5 @@ fn main() {
         &mut line,
         &mut piece,
         &mut text,
-    );
+    )
 }

@@ -1,12 +1,9 @@
 -- `lent_kind::put_types` meets its contract. The loop's invariant: the first i types stand as entries, and the words are as many. The measure is what is left
 -- of the types.
 -- Assumes nothing.
-use mathlib.Core.Path.{◌≡◌, refl, ◌∙◌}
-use Prim.Native.Nat.{◌≤◌, ◌-◌}
+use mathlib.Core.Path.{refl, ◌∙◌}
+use Prim.Native.Nat.{◌-◌}
 use native.Mathlib.Omega.{arith}
-use lib.ListN.{length}
-use borrow.Author.Rules.{rules}
-use Rattle.lent_kind.specs.Lent.{TypesPut}
 use Rattle.lent_kind.proofs.ListLaws.{listed_none, listed_more, listed_end}
 use Rattle.lent_kind.proofs.put_types.Goals as goal
 
@@ -28,7 +25,7 @@ loop-i-smaller c = omega arith
 pub loop-i-preserved : goal.loop-i-preserved
 loop-i-preserved c =
     let a = c.args in
-    (omega arith, (c.put_child.auto.0 ∙ c.loop-i.invariant.1.0, listed_more a.types.now c.loop-i.i c.loop-i.invariant.1.1 (omega arith) refl c.put_child.ensures))
+    (omega arith, (c.put_child.auto.ks ∙ c.loop-i.invariant.1.0, listed_more a.types.now c.loop-i.i c.loop-i.invariant.1.1 (omega arith) refl c.put_child.ensures))
 
 pub shape_of-es : goal.shape_of-es
 shape_of-es c = c.loop-i.invariant.1.0

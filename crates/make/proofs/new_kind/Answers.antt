@@ -3,7 +3,6 @@
 -- Assumes nothing.
 use Rattle.make.proofs.MakeLaws.{pushable_in}
 use Rattle.make.proofs.NewLaws.{kind_head, entries_ready, children_room, kind_made_lem}
-use borrow.Author.Rules.{rules}
 use Rattle.make.proofs.new_kind.Goals as goal
 
 pub children_made-first-requires : goal.children_made-first-requires
@@ -20,4 +19,4 @@ push-requires c =
 pub returns : goal.returns
 returns c =
     kind_made_lem c.requires c.children_made-first.ensures c.entry_count-n.ensures c.put_children.ensures
-    c.put_children.auto.0 c.kind_of.ensures c.push.ensures
+    c.put_children.auto.ks c.kind_of.ensures c.push.ensures

@@ -1,12 +1,9 @@
 -- `make::put_children` meets its contract. The loop's invariant: the first i entries stand, the slots before `first` and after them are as they
 -- were, and the words are as many. The measure is what is left of the entries.
 -- Assumes nothing.
-use mathlib.Core.Path.{◌≡◌, refl, ◌∙◌}
-use Prim.Native.Nat.{◌≤◌, ◌-◌}
+use mathlib.Core.Path.{refl, ◌∙◌}
+use Prim.Native.Nat.{◌-◌}
 use native.Mathlib.Omega.{arith}
-use lib.ListN.{length}
-use borrow.Author.Rules.{rules}
-use Rattle.make.specs.Given.{Put}
 use Rattle.make.proofs.NewLaws.{put_none, put_more, put_end}
 use Rattle.make.proofs.put_children.Goals as goal
 
@@ -28,7 +25,7 @@ loop-i-smaller c = omega arith
 pub loop-i-preserved : goal.loop-i-preserved
 loop-i-preserved c = let a = c.args in
     let more = put_more a.entries.now a.first c.loop-i.i c.loop-i.invariant.1.1 (omega arith) c.child_at.ensures c.put_child.ensures in
-    (omega arith, (c.put_child.auto.0 ∙ c.loop-i.invariant.1.0, more))
+    (omega arith, (c.put_child.auto.ks ∙ c.loop-i.invariant.1.0, more))
 
 pub shape_of-ks : goal.shape_of-ks
 shape_of-ks c = c.loop-i.invariant.1.0

@@ -1,13 +1,9 @@
 -- `marks::know_new` meets its contract. The invariant: no mark is new but those of nodes whose byte is 1. The measure is how many nodes are left.
 -- Assumes nothing.
-use mathlib.Core.Path.{◌≡◌, refl, ◌∙◌}
+use mathlib.Core.Path.{refl, ◌∙◌}
 use Prim.Native.Nat.{◌-◌}
 use native.Mathlib.Omega.{arith}
-use lib.ListN.{length}
-use Rattle.scope.specs.Limits.{MAX_NODES}
-use Rattle.marks.specs.Marks.{MarkedNew}
 use Rattle.marks.proofs.Laws.{new_same, new_more}
-use borrow.Author.Rules.{rules}
 use Rattle.marks.proofs.know_new.Goals as goal
 
 pub loop-i-init : goal.loop-i-init
@@ -21,7 +17,7 @@ loop-i-smaller-then-found-k-eq1 c = omega (arith, c.loop-i-test.true)
 
 pub loop-i-preserved-then-found-k-eq1 : goal.loop-i-preserved-then-found-k-eq1
 loop-i-preserved-then-found-k-eq1 c =
-    (c.know.auto.0 ∙ c.loop-i.invariant.0, new_more c.loop-i.invariant.1 c.if-found-k-eq1.true c.know.ensures)
+    (c.know.auto.m ∙ c.loop-i.invariant.0, new_more c.loop-i.invariant.1 c.if-found-k-eq1.true c.know.ensures)
 
 pub loop-i-smaller-else-found-k-eq1 : goal.loop-i-smaller-else-found-k-eq1
 loop-i-smaller-else-found-k-eq1 c = omega (arith, c.loop-i-test.true)

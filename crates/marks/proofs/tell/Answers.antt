@@ -1,13 +1,9 @@
 -- `marks::tell` meets its contract. The invariant: no byte changed but those of marked nodes. The measure is how many words are left.
 -- Assumes nothing.
-use mathlib.Core.Path.{◌≡◌, refl, sym, ◌∙◌}
-use Prim.Native.Nat.{◌-◌, ◌/◌}
+use mathlib.Core.Path.{refl, sym, ◌∙◌}
+use Prim.Native.Nat.{◌-◌}
 use native.Mathlib.Omega.{arith}
-use lib.ListN.{length}
-use Rattle.scope.specs.Limits.{MAX_NODES}
-use Rattle.marks.specs.Marks.{BITS, Tells}
 use Rattle.marks.proofs.Laws.{tells_same, tells_then}
-use borrow.Author.Rules.{rules}
 use Rattle.marks.proofs.tell.Goals as goal
 
 pub returns-then-at-ne1 : goal.returns-then-at-ne1
@@ -24,7 +20,7 @@ loop-p-smaller c = omega (arith, c.loop-p-test.true)
 
 pub loop-p-preserved : goal.loop-p-preserved
 loop-p-preserved c =
-    (c.tell_word.auto.1.1.0 ∙ c.loop-p.invariant.0, tells_then c.loop-p.invariant.1 c.tell_word.ensures)
+    (c.tell_word.auto.found ∙ c.loop-p.invariant.0, tells_then c.loop-p.invariant.1 c.tell_word.ensures)
 
 pub shape_of-found : goal.shape_of-found
 shape_of-found c = c.loop-p.invariant.0

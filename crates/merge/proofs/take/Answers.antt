@@ -9,7 +9,7 @@ enum_told-1 c = search rules
 
 pub put_node-requires-in-Is : goal.put_node-requires-in-Is
 put_node-requires-in-Is c =
-    rw c.put_node.auto.0 c.requires.room
+    rw c.put_node.auto.ws c.requires.room
 
 pub returns-in-Nothing : goal.returns-in-Nothing
 returns-in-Nothing c =

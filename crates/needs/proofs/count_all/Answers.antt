@@ -1,12 +1,9 @@
 -- `needs::count_all` meets its contract. The loop's invariant: what is left of the list gives what the whole list gives. The measure is what is left
 -- of its length. Assumes nothing.
-use mathlib.Core.Path.{◌≡◌, refl, ◌∙◌}
+use mathlib.Core.Path.{refl, ◌∙◌}
 use Prim.Native.Nat.{◌-◌}
 use native.Mathlib.Omega.{arith}
-use lib.ListN.{length}
-use Rattle.store.specs.Entries.{types_in}
-use Rattle.roots.specs.Kept.{Cached}
-use Rattle.needs.proofs.CountLaws.{Turn, turn_start, turn_next}
+use Rattle.needs.proofs.CountLaws.{turn_start, turn_next}
 use Rattle.needs.proofs.SourceLaws.{listed_next, all_counted}
 use Rattle.needs.proofs.count_all.Goals as goal
 
@@ -35,9 +32,9 @@ loop-i-smaller c = omega arith
 pub loop-i-preserved : goal.loop-i-preserved
 loop-i-preserved c = (
   turn_next c.loop-i.invariant.0 c.requires.0.source (listed_next c.args.ts.now c.loop-i.i c.loop-i-test.true)
-      c.count-all.ensures.0 c.count-all.auto.1.1.1.1.1.0,
+      c.count-all.ensures.0 c.count-all.auto.marks,
   c.count-all.ensures.1,
-  c.count-all.auto.1.1.1.1.0 ∙ c.loop-i.invariant.2,
+  c.count-all.auto.cache ∙ c.loop-i.invariant.2,
 )
 
 pub shape_of-cache : goal.shape_of-cache

@@ -4,7 +4,6 @@ use native.Mathlib.Omega.{arith}
 use Rattle.scope.specs.Limits.{MAX_NODES}
 use Rattle.roots.proofs.KeptLaws.{cached_zeros}
 use Rattle.needs.proofs.SourceLaws.{start_countable, all_countable, export_source, export_needs}
-use borrow.Author.Rules.{rules}
 use Rattle.needs.proofs.of_export.Goals as goal
 
 pub count_remembered-first-requires : goal.count_remembered-first-requires
@@ -19,14 +18,14 @@ pub count_remembered-next-requires : goal.count_remembered-next-requires
 count_remembered-next-requires c =
     let z = export_source c.args.h.now c.args.ws.now c.args.ks.now c.args.ts.now c.read_header-x.ensures c.requires in
     let k = start_countable {m = MAX_NODES} z (omega arith) c.nothing.ensures in
-    (all_countable k c.count_remembered-first.ensures.0 c.count_remembered-first.auto.1.1.1.1.0, c.count_remembered-first.ensures.1)
+    (all_countable k c.count_remembered-first.ensures.0 c.count_remembered-first.auto.marks, c.count_remembered-first.ensures.1)
 
 pub count_all-requires : goal.count_all-requires
 count_all-requires c =
     let z = export_source c.args.h.now c.args.ws.now c.args.ks.now c.args.ts.now c.read_header-x.ensures c.requires in
     let k = start_countable {m = MAX_NODES} z (omega arith) c.nothing.ensures in (
-      all_countable (all_countable k c.count_remembered-first.ensures.0 c.count_remembered-first.auto.1.1.1.1.0)
-          c.count_remembered-next.ensures.0 c.count_remembered-next.auto.1.1.1.1.0,
+      all_countable (all_countable k c.count_remembered-first.ensures.0 c.count_remembered-first.auto.marks)
+          c.count_remembered-next.ensures.0 c.count_remembered-next.auto.marks,
       c.count_remembered-next.ensures.1,
     )
 

@@ -1,12 +1,10 @@
 -- `own_inverse::by_memory` meets its contract: a walk beside the memory's marks, after which every root that it met is marked, if it was good.
 -- Assumes nothing.
-use borrow.Author.Tests.{not-true, not-false}
 use Rattle.own_inverse.proofs.Laws.{memory_asks, memory_not, memory_all}
-use borrow.Author.Rules.{rules}
 use Rattle.own_inverse.proofs.by_memory.Goals as goal
 
 pub by_marks-requires : goal.by_marks-requires
-by_marks-requires c = memory_asks c.requires c.tell.auto.1.0 c.tell.ensures
+by_marks-requires c = memory_asks c.requires c.tell.auto.found c.tell.ensures
 
 pub returns-then-not-by_marks : goal.returns-then-not-by_marks
 returns-then-not-by_marks c = memory_not c.requires c.by_marks.ensures c.if-not-by_marks.true

@@ -1,8 +1,6 @@
 -- `run_calls::exchange` is safe and ends: the measure is what is left of the words, and lengths stay.
 -- Assumes nothing.
 use Prim.Native.Nat.{◌-◌}
-use native.Mathlib.Omega.{arith}
-use borrow.Author.Rules.{rules}
 use mathlib.Core.Path.{◌≡◌}
 use lib.ListN.{length}
 use Rattle.run_calls.proofs.exchange.Given as goal

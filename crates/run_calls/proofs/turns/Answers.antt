@@ -2,9 +2,6 @@
 -- Assumes nothing.
 use Prim.Native.Nat.{◌-◌}
 use native.Mathlib.Omega.{arith}
-use borrow.Author.Rules.{rules}
-use mathlib.Core.Path.{◌≡◌}
-use lib.ListN.{length}
 use Rattle.run_calls.proofs.turns.Goals as goal
 
 pub loop-at-smaller : goal.loop-at-smaller

@@ -2,13 +2,11 @@
 -- as long as they were. The measure is what is left of the piece.
 -- Assumes nothing.
 use mathlib.Core.Path.{sym}
-use Prim.Native.Nat.{◌-◌, ◌≤◌}
+use Prim.Native.Nat.{◌-◌}
 use native.Mathlib.Omega.{arith}
-use borrow.Author.Rules.{rules}
 use lib.ListN.{length, drop, length-take, length-drop}
 use lib.Seq.{length-take-le}
-use Rattle.sheet.specs.Holding.{Goes}
-use Rattle.sheet.proofs.Laws.{begins, goes_more, Long, long_same, long_on}
+use Rattle.sheet.proofs.Laws.{begins, goes_more, long_same, long_on}
 use Rattle.sheet.proofs.feed_all.Goals as goal
 
 pub loop-left-init : goal.loop-left-init
@@ -31,27 +29,27 @@ feed-f-requires c = let inv = c.loop-left.invariant in
 
 pub shape_of-h-in-More : goal.shape_of-h-in-More
 shape_of-h-in-More c =
-    omega (arith, c.feed-f.auto.0, c.loop-left.invariant.1.head)
+    omega (arith, c.feed-f.auto.h, c.loop-left.invariant.1.head)
 
 pub shape_of-ws-in-More : goal.shape_of-ws-in-More
 shape_of-ws-in-More c =
-    omega (arith, c.feed-f.auto.1.0, c.loop-left.invariant.1.nodes)
+    omega (arith, c.feed-f.auto.ws, c.loop-left.invariant.1.nodes)
 
 pub shape_of-ks-in-More : goal.shape_of-ks-in-More
 shape_of-ks-in-More c =
-    omega (arith, c.feed-f.auto.1.1.0, c.loop-left.invariant.1.kids)
+    omega (arith, c.feed-f.auto.ks, c.loop-left.invariant.1.kids)
 
 pub shape_of-memory-in-More : goal.shape_of-memory-in-More
 shape_of-memory-in-More c =
-    omega (arith, c.feed-f.auto.1.1.1.0, c.loop-left.invariant.1.memory)
+    omega (arith, c.feed-f.auto.memory, c.loop-left.invariant.1.memory)
 
 pub shape_of-line-in-More : goal.shape_of-line-in-More
 shape_of-line-in-More c =
-    omega (arith, c.feed-f.auto.1.1.1.1.0, c.loop-left.invariant.1.line)
+    omega (arith, c.feed-f.auto.line, c.loop-left.invariant.1.line)
 
 pub shape_of-text-in-More : goal.shape_of-text-in-More
 shape_of-text-in-More c =
-    omega (arith, c.feed-f.auto.1.1.1.1.1.1.1.0, c.loop-left.invariant.1.text)
+    omega (arith, c.feed-f.auto.text, c.loop-left.invariant.1.text)
 
 pub returns-in-More : goal.returns-in-More
 returns-in-More c =
@@ -74,27 +72,27 @@ slice_bounds-write_all-end-in-Line c =
 
 pub shape_of-h-then-not-write_all : goal.shape_of-h-then-not-write_all
 shape_of-h-then-not-write_all c =
-    omega (arith, c.feed-f.auto.0, c.loop-left.invariant.1.head)
+    omega (arith, c.feed-f.auto.h, c.loop-left.invariant.1.head)
 
 pub shape_of-ws-then-not-write_all : goal.shape_of-ws-then-not-write_all
 shape_of-ws-then-not-write_all c =
-    omega (arith, c.feed-f.auto.1.0, c.loop-left.invariant.1.nodes)
+    omega (arith, c.feed-f.auto.ws, c.loop-left.invariant.1.nodes)
 
 pub shape_of-ks-then-not-write_all : goal.shape_of-ks-then-not-write_all
 shape_of-ks-then-not-write_all c =
-    omega (arith, c.feed-f.auto.1.1.0, c.loop-left.invariant.1.kids)
+    omega (arith, c.feed-f.auto.ks, c.loop-left.invariant.1.kids)
 
 pub shape_of-memory-then-not-write_all : goal.shape_of-memory-then-not-write_all
 shape_of-memory-then-not-write_all c =
-    omega (arith, c.feed-f.auto.1.1.1.0, c.loop-left.invariant.1.memory)
+    omega (arith, c.feed-f.auto.memory, c.loop-left.invariant.1.memory)
 
 pub shape_of-line-then-not-write_all : goal.shape_of-line-then-not-write_all
 shape_of-line-then-not-write_all c =
-    omega (arith, c.feed-f.auto.1.1.1.1.0, c.loop-left.invariant.1.line)
+    omega (arith, c.feed-f.auto.line, c.loop-left.invariant.1.line)
 
 pub shape_of-text-then-not-write_all : goal.shape_of-text-then-not-write_all
 shape_of-text-then-not-write_all c =
-    omega (arith, c.feed-f.auto.1.1.1.1.1.1.1.0, c.loop-left.invariant.1.text)
+    omega (arith, c.feed-f.auto.text, c.loop-left.invariant.1.text)
 
 pub returns-then-not-write_all : goal.returns-then-not-write_all
 returns-then-not-write_all c = tt

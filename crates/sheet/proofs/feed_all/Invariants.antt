@@ -1,14 +1,10 @@
 -- `sheet::feed_all` is safe, ends and keeps what it promises. The loop's invariant: the store is sound, the buffer holds the bytes of the line so far, and the slices are
 -- as long as they were. The measure is what is left of the piece.
 -- Assumes nothing.
-use mathlib.Core.Path.{sym}
 use Prim.Native.Nat.{◌-◌, ◌≤◌}
-use native.Mathlib.Omega.{arith}
-use borrow.Author.Rules.{rules}
-use lib.ListN.{length, drop, length-take, length-drop}
-use lib.Seq.{length-take-le}
+use lib.ListN.{length}
 use Rattle.sheet.specs.Holding.{Goes}
-use Rattle.sheet.proofs.Laws.{begins, goes_more, Long, long_same, long_on}
+use Rattle.sheet.proofs.Laws.{Long}
 use Rattle.sheet.proofs.feed_all.Given as goal
 
 abbrev pub invariant-loop-left : goal.invariant-loop-left

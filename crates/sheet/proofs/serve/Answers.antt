@@ -1,13 +1,10 @@
 -- `sheet::serve` is safe and ends. The loop's invariant: the store is sound, the buffer holds the bytes of the line so far, and the slices are as long as they were. The
 -- measure is the number of reads that are left.
 -- Assumes nothing.
-use mathlib.Core.Path.{◌≡◌, refl, sym}
+use mathlib.Core.Path.{refl, sym}
 use native.Mathlib.Omega.{arith}
-use borrow.Author.Rules.{rules}
-use lib.ListN.{length}
 use lib.Seq.{length-take-le}
-use Rattle.sheet.specs.Holding.{Goes}
-use Rattle.sheet.proofs.Laws.{begins, Long, long_same, long_on}
+use Rattle.sheet.proofs.Laws.{begins, long_same, long_on}
 use Rattle.sheet.proofs.serve.Goals as goal
 
 pub loop-turns-init : goal.loop-turns-init
@@ -51,19 +48,19 @@ slice_bounds-write_all-end-then-got-eq0 c =
 
 pub shape_of-h-then-got-eq0 : goal.shape_of-h-then-got-eq0
 shape_of-h-then-got-eq0 c =
-    omega (arith, c.feed_end-n.auto.0, c.loop-turns.invariant.1.head)
+    omega (arith, c.feed_end-n.auto.h, c.loop-turns.invariant.1.head)
 
 pub shape_of-ws-then-got-eq0 : goal.shape_of-ws-then-got-eq0
 shape_of-ws-then-got-eq0 c =
-    omega (arith, c.feed_end-n.auto.1.0, c.loop-turns.invariant.1.nodes)
+    omega (arith, c.feed_end-n.auto.ws, c.loop-turns.invariant.1.nodes)
 
 pub shape_of-ks-then-got-eq0 : goal.shape_of-ks-then-got-eq0
 shape_of-ks-then-got-eq0 c =
-    omega (arith, c.feed_end-n.auto.1.1.0, c.loop-turns.invariant.1.kids)
+    omega (arith, c.feed_end-n.auto.ks, c.loop-turns.invariant.1.kids)
 
 pub shape_of-memory-then-got-eq0 : goal.shape_of-memory-then-got-eq0
 shape_of-memory-then-got-eq0 c =
-    omega (arith, c.feed_end-n.auto.1.1.1.0, c.loop-turns.invariant.1.memory)
+    omega (arith, c.feed_end-n.auto.memory, c.loop-turns.invariant.1.memory)
 
 pub shape_of-line-then-got-eq0 : goal.shape_of-line-then-got-eq0
 shape_of-line-then-got-eq0 c =
@@ -75,7 +72,7 @@ shape_of-piece-then-got-eq0 c =
 
 pub shape_of-text-then-got-eq0 : goal.shape_of-text-then-got-eq0
 shape_of-text-then-got-eq0 c =
-    omega (arith, c.feed_end-n.auto.1.1.1.1.1.1.0, c.loop-turns.invariant.1.text)
+    omega (arith, c.feed_end-n.auto.text, c.loop-turns.invariant.1.text)
 
 pub returns-then-got-eq0 : goal.returns-then-got-eq0
 returns-then-got-eq0 c = tt
@@ -86,23 +83,23 @@ feed_all-w-requires c =
 
 pub shape_of-h-in_default : goal.shape_of-h-in_default
 shape_of-h-in_default c =
-    omega (arith, c.feed_all-w.auto.0, c.loop-turns.invariant.1.head)
+    omega (arith, c.feed_all-w.auto.h, c.loop-turns.invariant.1.head)
 
 pub shape_of-ws-in_default : goal.shape_of-ws-in_default
 shape_of-ws-in_default c =
-    omega (arith, c.feed_all-w.auto.1.0, c.loop-turns.invariant.1.nodes)
+    omega (arith, c.feed_all-w.auto.ws, c.loop-turns.invariant.1.nodes)
 
 pub shape_of-ks-in_default : goal.shape_of-ks-in_default
 shape_of-ks-in_default c =
-    omega (arith, c.feed_all-w.auto.1.1.0, c.loop-turns.invariant.1.kids)
+    omega (arith, c.feed_all-w.auto.ks, c.loop-turns.invariant.1.kids)
 
 pub shape_of-memory-in_default : goal.shape_of-memory-in_default
 shape_of-memory-in_default c =
-    omega (arith, c.feed_all-w.auto.1.1.1.0, c.loop-turns.invariant.1.memory)
+    omega (arith, c.feed_all-w.auto.memory, c.loop-turns.invariant.1.memory)
 
 pub shape_of-line-in_default : goal.shape_of-line-in_default
 shape_of-line-in_default c =
-    omega (arith, c.feed_all-w.auto.1.1.1.1.0, c.loop-turns.invariant.1.line)
+    omega (arith, c.feed_all-w.auto.line, c.loop-turns.invariant.1.line)
 
 pub shape_of-piece-in_default : goal.shape_of-piece-in_default
 shape_of-piece-in_default c =
@@ -110,7 +107,7 @@ shape_of-piece-in_default c =
 
 pub shape_of-text-in_default : goal.shape_of-text-in_default
 shape_of-text-in_default c =
-    omega (arith, c.feed_all-w.auto.1.1.1.1.1.1.1.0, c.loop-turns.invariant.1.text)
+    omega (arith, c.feed_all-w.auto.text, c.loop-turns.invariant.1.text)
 
 pub returns-in_default : goal.returns-in_default
 returns-in_default c = tt

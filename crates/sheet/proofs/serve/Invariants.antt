@@ -1,13 +1,10 @@
 -- `sheet::serve` is safe and ends. The loop's invariant: the store is sound, the buffer holds the bytes of the line so far, and the slices are as long as they were. The
 -- measure is the number of reads that are left.
 -- Assumes nothing.
-use mathlib.Core.Path.{◌≡◌, refl, sym}
-use native.Mathlib.Omega.{arith}
-use borrow.Author.Rules.{rules}
+use mathlib.Core.Path.{◌≡◌}
 use lib.ListN.{length}
-use lib.Seq.{length-take-le}
 use Rattle.sheet.specs.Holding.{Goes}
-use Rattle.sheet.proofs.Laws.{begins, Long, long_same, long_on}
+use Rattle.sheet.proofs.Laws.{Long}
 use Rattle.sheet.proofs.serve.Given as goal
 
 abbrev pub invariant-loop-turns : goal.invariant-loop-turns

@@ -4,7 +4,6 @@ use mathlib.Core.Path.{sym}
 use native.Mathlib.Omega.{arith}
 use lib.Seq.{length-take-le}
 use Rattle.sheet_feed.proofs.FeedLaws.{line_ran}
-use borrow.Author.Rules.{rules}
 use Rattle.sheet_feed.proofs.end_line.Goals as goal
 
 pub slice_bounds-run_line-end : goal.slice_bounds-run_line-end
@@ -13,4 +12,4 @@ slice_bounds-run_line-end c =
 
 pub returns : goal.returns
 returns c =
-    line_ran c.requires.line_len c.kept-e.ensures (omega (arith, c.run_line-n.auto.1.1.1.1.1.0, c.requires.in_bounds)) c.run_line-n.ensures
+    line_ran c.requires.line_len c.kept-e.ensures (omega (arith, c.run_line-n.auto.out, c.requires.in_bounds)) c.run_line-n.ensures

@@ -5,7 +5,6 @@ use native.Mathlib.Omega.{arith}
 use lib.Seq.{length-take-le}
 use Rattle.sheet_lines.proofs.Laws.{place_within}
 use Rattle.sheet_feed.proofs.FeedLaws.{goes_on, line_ended}
-use borrow.Author.Rules.{rules}
 use Rattle.sheet_feed.proofs.feed.Goals as goal
 
 pub slice_bounds-put-end : goal.slice_bounds-put-end
@@ -18,7 +17,7 @@ returns-then-piece-e c =
 
 pub end_line-n-requires : goal.end_line-n-requires
 end_line-n-requires c =
-    (c.requires.sheet_store, (c.requires.in_bounds, omega (arith, c.put-q.auto.0, c.requires.line_len)))
+    (c.requires.sheet_store, (c.requires.in_bounds, omega (arith, c.put-q.auto.buf, c.requires.line_len)))
 
 pub returns : goal.returns
 returns c =

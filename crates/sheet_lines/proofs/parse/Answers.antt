@@ -41,7 +41,7 @@ slice_bounds-line_of-end c = let line = c.args.line.now in
 
 pub line_of-requires : goal.line_of-requires
 line_of-requires c = let f = c.types_from.ensures.fits in
-    let l = c.types_from.auto.1.1.0 in
+    let l = c.types_from.auto.out in
     let room = c.requires in
     (rw c.in-Are.is at f, omega (arith, l, room))
 

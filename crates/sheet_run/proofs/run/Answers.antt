@@ -5,11 +5,10 @@ use mathlib.Core.Path.{refl, sym}
 use Prim.Native.Nat.{◌-◌}
 use native.Mathlib.Omega.{arith}
 use borrow.Author.Rules.{rules}
-use lib.ListN.{length}
 use lib.Seq.{length-take-le}
 use Rattle.sheet_lines.proofs.Laws.{place_within}
 use Rattle.append.proofs.Laws.{so_far_length, is_over, has_room}
-use Rattle.sheet_run.proofs.RunLaws.{Long, start_on, Turn, turn_first, turn_next, run_full, run_fits}
+use Rattle.sheet_run.proofs.RunLaws.{start_on, turn_first, turn_next, run_full, run_fits}
 use Rattle.sheet_run.proofs.run.Goals as goal
 
 pub loop-i-init : goal.loop-i-init
@@ -54,13 +53,13 @@ run_line-n-requires c = let turn = c.loop-i.invariant in
 
 pub slice_bounds-text-end : goal.slice_bounds-text-end
 slice_bounds-text-end c =
-    omega (arith, c.run_line-n.ensures.printed.short, c.run_line-n.auto.1.1.1.1.1.0, c.loop-i.invariant.1.text)
+    omega (arith, c.run_line-n.ensures.printed.short, c.run_line-n.auto.out, c.loop-i.invariant.1.text)
 
 pub slice_bounds-put-end : goal.slice_bounds-put-end
 slice_bounds-put-end c =
     let text = c.run_line-n.new.out in
     let long = c.loop-i.invariant.1.text in
-    sym (length-take-le c.run_line-n.result text (omega (arith, c.run_line-n.ensures.printed.short, c.run_line-n.auto.1.1.1.1.1.0, long)))
+    sym (length-take-le c.run_line-n.result text (omega (arith, c.run_line-n.ensures.printed.short, c.run_line-n.auto.out, long)))
 
 pub loop-i-smaller : goal.loop-i-smaller
 loop-i-smaller c =

@@ -1,7 +1,6 @@
 -- `show_impl::show_fn` meets its contract: its pieces are those of the fn form, in their order; a return that is nil is not shown.
 -- Assumes nothing.
 use mathlib.Core.Path.{sym, ◌∙◌}
-use borrow.Author.Rules.{rules}
 use Rattle.scope.specs.Types.{ty_of}
 use Rattle.scope.specs.Force.{is_nil}
 use Rattle.scope.specs.Show.{show}
@@ -42,14 +41,14 @@ show_all-requires c = c.requires
 
 pub shape_of-buf : goal.shape_of-buf
 shape_of-buf c = let said =
-    c.put-said.auto.0 in
+    c.put-said.auto.buf in
     let of =
-    c.show_all-of.auto.1.1.1.1.1.1.1.0 in
+    c.show_all-of.auto.buf in
     let opened =
-    c.put_byte-opened.auto.0 in
+    c.put_byte-opened.auto.buf in
     let listed =
-    c.show_params-listed.auto.1.1.1.1.1.1.1.0 in
-    c.show_all.auto.1.1.1.1.1.1.1.0 ∙ c.put-arrow.auto.0 ∙ c.put_byte-closed.auto.0 ∙ listed ∙ opened ∙ of ∙ said
+    c.show_params-listed.auto.buf in
+    c.show_all.auto.buf ∙ c.put-arrow.auto.buf ∙ c.put_byte-closed.auto.buf ∙ listed ∙ opened ∙ of ∙ said
 
 pub returns : goal.returns
 returns c = let a =

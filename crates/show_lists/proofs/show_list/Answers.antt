@@ -1,17 +1,10 @@
 -- `show_lists::show_list` meets its contract. The loop's invariant: what is left to write gives, appended, what the whole gives.
 -- Assumes nothing.
 use mathlib.Core.Path.{◌∙◌}
-use mathlib.Core.List.{[]}
 use Prim.Native.Nat.{◌-◌}
 use native.Mathlib.Omega.{arith}
-use lib.ListN.{length}
-use borrow.Author.Rules.{rules}
-use Rattle.scope.specs.Show.{show}
-use Rattle.chart.specs.Env.{env_of}
-use Rattle.layout.specs.Words.{decode}
-use Rattle.show.proofs.Turns.{Turn, turn_start, turn_next}
-use Rattle.show_names.specs.Names.{comma}
-use Rattle.show_lists.proofs.Lists.{item, comma_any, list_end}
+use Rattle.show.proofs.Turns.{turn_start, turn_next}
+use Rattle.show_lists.proofs.Lists.{comma_any, list_end}
 use Rattle.show_lists.proofs.show_list.Goals as goal
 
 pub loop-j-init : goal.loop-j-init
@@ -25,7 +18,7 @@ loop-j-smaller c = omega (arith, c.loop-j-test.true)
 
 pub loop-j-preserved : goal.loop-j-preserved
 loop-j-preserved c = turn_next _ _ _ _ c.loop-j.invariant c.loop-j-test.true (rw (comma_any _) at c.put_comma-q.ensures) c.show_all-p.ensures
-    (c.show_all-p.auto.1.1.1.1.1.1.1.0 ∙ c.put_comma-q.auto.0 ∙ c.loop-j.invariant.long)
+    (c.show_all-p.auto.buf ∙ c.put_comma-q.auto.buf ∙ c.loop-j.invariant.long)
 
 pub shape_of-buf : goal.shape_of-buf
 shape_of-buf c = c.loop-j.invariant.long

@@ -1,17 +1,14 @@
 -- `show_lists::show_params` meets its contract. The loop's invariant: what is left to write gives, appended, what the whole gives.
 -- Assumes nothing.
-use mathlib.Core.Path.{ap, subst, ◌∙◌}
-use mathlib.Core.List.{[]}
+use mathlib.Core.Path.{◌∙◌}
 use Prim.Native.Nat.{◌-◌}
 use native.Mathlib.Omega.{arith}
-use borrow.Author.Rules.{rules}
 use Rattle.scope.specs.Show.{show}
 use Rattle.names.specs.Place.{texts}
 use Rattle.chart.specs.Env.{env_of}
 use Rattle.layout.specs.Words.{decode}
-use Rattle.show.proofs.Turns.{Turn, turn_start, turn_next}
-use Rattle.show_names.specs.Names.{comma}
-use Rattle.show_lists.proofs.Lists.{child, child_read, params_end}
+use Rattle.show.proofs.Turns.{turn_start, turn_next}
+use Rattle.show_lists.proofs.Lists.{child_read, params_end}
 use Rattle.show_lists.proofs.show_params.Goals as goal
 
 pub loop-j-init : goal.loop-j-init
@@ -34,7 +31,7 @@ loop-j-preserved c = let a = c.args in
     turn_next _ _ _ _ c.loop-j.invariant c.loop-j-test.true c.put_comma-q.ensures
     (child_read (show (env_of a.chart.now a.beside a.rule.now a.text.now) (decode a.ws.now a.ks.now a.n))
     a.ks.now a.k a.i.0 c.loop-j.j c.child_of.result c.invert_if.result.0 c.invert_if.ensures c.child_of.ensures c.show_all-p.ensures)
-    (c.show_all-p.auto.1.1.1.1.1.1.1.0 ∙ c.put_comma-q.auto.0 ∙ c.loop-j.invariant.long)
+    (c.show_all-p.auto.buf ∙ c.put_comma-q.auto.buf ∙ c.loop-j.invariant.long)
 
 pub shape_of-buf : goal.shape_of-buf
 shape_of-buf c = c.loop-j.invariant.long

@@ -1,7 +1,6 @@
 -- `show_parts::put_lead` meets its contract: a ~ or none, and the pieces one after the other.
 -- Assumes nothing.
 use mathlib.Core.Path.{◌∙◌}
-use borrow.Author.Rules.{rules}
 use Rattle.chart.specs.Env.{env_of}
 use Rattle.append.proofs.Laws.{append_then}
 use Rattle.show_names.specs.Names.{spelled_f}
@@ -27,7 +26,7 @@ returns-then-k-eq-TUPLE c =
 
 pub shape_of-buf-then-k-ne-CLOSURE : goal.shape_of-buf-then-k-ne-CLOSURE
 shape_of-buf-then-k-ne-CLOSURE c =
-    c.put_short-p.auto.0 ∙ c.put_name-named.auto.1.1.0 ∙ c.put_short-said.auto.0 ∙ c.put_short-turned.auto.0
+    c.put_short-p.auto.buf ∙ c.put_name-named.auto.buf ∙ c.put_short-said.auto.buf ∙ c.put_short-turned.auto.buf
 
 pub returns-then-k-ne-CLOSURE : goal.returns-then-k-ne-CLOSURE
 unfolding own_name
@@ -40,7 +39,7 @@ returns-then-k-ne-CLOSURE c =
 
 pub shape_of-buf : goal.shape_of-buf
 shape_of-buf c =
-    c.put_short.auto.0 ∙ c.put_decimal-numbered.auto.0 ∙ c.put_short-p.auto.0 ∙ c.put_name-named.auto.1.1.0 ∙ c.put_short-said.auto.0 ∙ c.put_short-turned.auto.0
+    c.put_short.auto.buf ∙ c.put_decimal-numbered.auto.buf ∙ c.put_short-p.auto.buf ∙ c.put_name-named.auto.buf ∙ c.put_short-said.auto.buf ∙ c.put_short-turned.auto.buf
 
 pub returns : goal.returns
 unfolding own_name spelled_f

@@ -1,7 +1,6 @@
 -- `tested_import::refusal` meets its contract: both lists, then what is needed of stores that are sound.
 -- Assumes nothing.
 use mathlib.Core.Path.{refl}
-use borrow.Author.Rules.{rules}
 use Rattle.tested_import.proofs.TestLaws.{stores_tested}
 use Rattle.tested_import.proofs.Laws.{refused_lists, needs_asks, refused_needs}
 use Rattle.tested_import.proofs.refusal.Goals as goal

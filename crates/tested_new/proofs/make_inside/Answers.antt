@@ -1,6 +1,5 @@
 -- `tested_new::make_inside` meets its contract: a refusal writes nothing, and a kind that passes is the one that the core is given.
 -- Assumes nothing.
-use borrow.Author.Rules.{rules}
 use Rattle.tested_new.proofs.Laws.{inside_refused, inside_full, inside_ready, inside_made}
 use Rattle.tested_new.proofs.make_inside.Goals as goal
 

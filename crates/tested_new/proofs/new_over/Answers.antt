@@ -4,7 +4,6 @@
 -- Assumes nothing.
 use mathlib.Core.Path.{refl, sym}
 use native.Mathlib.Omega.{arith}
-use borrow.Author.Rules.{rules}
 use lib.ListN.{length, length-map}
 use Rattle.scope.specs.Types.{ty_of}
 use Rattle.scope.specs.Calls.{over}
@@ -41,7 +40,7 @@ pub slice_bounds-make_inside-end : goal.slice_bounds-make_inside-end
 slice_bounds-make_inside-end c =
     let a = c.args in
     let narrow = listed_narrow c.types_inside-inside.result (length a.types.now) c.list_refusal-refused.result c.list_refusal-refused.ensures c.if-refused-ne-NO_REFUSAL.false in
-    sym (part_long a.types.now c.put_types.new.es c.put_types.ensures (omega (arith, c.put_types.auto.0, narrow)))
+    sym (part_long a.types.now c.put_types.new.es c.put_types.ensures (omega (arith, c.put_types.auto.es, narrow)))
 
 pub make_inside-requires : goal.make_inside-requires
 make_inside-requires c =
@@ -49,7 +48,7 @@ make_inside-requires c =
     let narrow = listed_narrow c.types_inside-inside.result (length a.types.now) c.list_refusal-refused.result c.list_refusal-refused.ensures c.if-refused-ne-NO_REFUSAL.false in
     let e = env_in a.chart.now a.beside a.rule.now a.text.now in
     let within = lent_within e a.h.now a.ws.now a.ks.now c.requires.tested.passed in
-    (within, part_narrow a.types.now c.put_types.new.es c.put_types.ensures (omega (arith, c.put_types.auto.0, narrow)) narrow)
+    record { ready = within; entries_bound = part_narrow a.types.now c.put_types.new.es c.put_types.ensures (omega (arith, c.put_types.auto.es, narrow)) narrow }
 
 pub returns : goal.returns
 returns c =
@@ -58,6 +57,6 @@ returns c =
     new_promised a.chart.now a.beside a.rule.now a.text.now a.h.now a.ws.now a.ks.now
     (over a.code a.number (types_in a.types.now)) 0 c.requires.tested.passed refl c.read_header-x.ensures
     (types_in a.types.now) refl (length-map a.types.now ty_of) c.types_inside-inside.ensures c.list_refusal-refused.ensures c.if-refused-ne-NO_REFUSAL.false
-    (part_given a.types.now c.put_types.new.es c.put_types.ensures (omega (arith, c.put_types.auto.0, narrow)) a.code a.number c.requires.code_value
+    (part_given a.types.now c.put_types.new.es c.put_types.ensures (omega (arith, c.put_types.auto.es, narrow)) a.code a.number c.requires.code_value
     c.plain_args-k.ensures)
     c.make_inside.ensures

@@ -1,12 +1,9 @@
 -- `tested_over::put_listed` meets its contract. The loop's invariant: the first i types stand as entries without names, the slots before `first` and after them are
 -- as they were, and the words are as many. The measure is what is left of the types.
 -- Assumes nothing.
-use mathlib.Core.Path.{◌≡◌, refl, sym, ◌∙◌}
-use Prim.Native.Nat.{◌≤◌, ◌-◌}
+use mathlib.Core.Path.{refl, sym, ◌∙◌}
+use Prim.Native.Nat.{◌-◌}
 use native.Mathlib.Omega.{arith}
-use lib.ListN.{length}
-use borrow.Author.Rules.{rules}
-use Rattle.make.specs.Given.{Put}
 use Rattle.make.proofs.NewLaws.{put_none, put_more, put_end}
 use Rattle.tested_over.specs.Over.{entries_of}
 use Rattle.tested_over.proofs.EntryLaws.{entry_is}
@@ -36,7 +33,7 @@ loop-i-preserved c =
     let is = sym (entry_is ts c.loop-i.i (omega arith)) in (
       omega arith,
       (
-        c.put_child.auto.0 ∙ c.loop-i.invariant.1.0,
+        c.put_child.auto.ks ∙ c.loop-i.invariant.1.0,
         put_more (entries_of ts) c.args.first c.loop-i.i c.loop-i.invariant.1.1 (omega arith) is
             c.put_child.ensures,
       ),

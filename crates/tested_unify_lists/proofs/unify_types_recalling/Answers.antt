@@ -2,7 +2,6 @@
 -- Assumes nothing.
 use Rattle.call_unify.proofs.tested.Laws.{passed, lent_words, back_own, unify_done}
 use Rattle.tested_unify_lists.proofs.Laws.{lists_ask, types_form}
-use borrow.Author.Rules.{rules}
 use Rattle.tested_unify_lists.proofs.unify_types_recalling.Goals as goal
 
 pub returns-then-refused-ne-NO_REFUSAL : goal.returns-then-refused-ne-NO_REFUSAL
@@ -19,5 +18,5 @@ pub returns : goal.returns
 returns c =
     let p = passed c.requires c.read_header-x.ensures in
     unify_done p (types_form _ _ _) c.lists-refused.ensures
-    c.if-refused-ne-NO_REFUSAL.false c.unify_lists.auto.0
+    c.if-refused-ne-NO_REFUSAL.false c.unify_lists.auto.ws
     c.unify_lists.ensures.leaves

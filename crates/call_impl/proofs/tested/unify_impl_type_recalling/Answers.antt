@@ -2,7 +2,6 @@
 -- Assumes nothing.
 use Rattle.call_unify.proofs.tested.Laws.{passed, lent_words, back_own, unify_done}
 use Rattle.call_impl.proofs.tested.Laws.{impls_ask, impls_beside, impls_form}
-use borrow.Author.Rules.{rules}
 use Rattle.call_impl.proofs.tested.unify_impl_type_recalling.Goals as goal
 
 pub returns-then-refused-ne-NO_REFUSAL : goal.returns-then-refused-ne-NO_REFUSAL
@@ -19,5 +18,5 @@ pub returns : goal.returns
 returns c =
     let p = passed c.requires c.read_header-x.ensures in
     unify_done p (impls_form _ _) (impls_beside p _ _ c.impls-refused.ensures)
-    c.if-refused-ne-NO_REFUSAL.false c.unify_impl_type.auto.0
+    c.if-refused-ne-NO_REFUSAL.false c.unify_impl_type.auto.ws
     c.unify_impl_type.ensures.leaves

@@ -1,5 +1,4 @@
 -- `library::opens::faroalder_open` meets its contract: it is `call_open::open`, and its number gives its answer back. Assumes nothing.
-use borrow.Author.Rules.{rules}
 use Rattle.library.proofs.opens.faroalder_open.Goals as goal
 
 pub returns : goal.returns

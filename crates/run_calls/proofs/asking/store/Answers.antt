@@ -2,7 +2,6 @@
 -- Assumes nothing.
 use Prim.Native.Nat.{◌-◌}
 use native.Mathlib.Omega.{arith}
-use borrow.Author.Rules.{rules}
 use Rattle.run_calls.proofs.asking.store.Goals as goal
 
 pub loop-i-smaller : goal.loop-i-smaller

@@ -1,8 +1,6 @@
 -- `run_calls::asking::store` is safe and ends: the measure is what is left of the nodes.
 -- Assumes nothing.
 use Prim.Native.Nat.{◌-◌}
-use native.Mathlib.Omega.{arith}
-use borrow.Author.Rules.{rules}
 use Rattle.run_calls.proofs.asking.store.Given as goal
 
 abbrev pub invariant-loop-i : goal.invariant-loop-i

@@ -1,8 +1,6 @@
 -- `run_calls::lending::sigils_of` is safe and ends: the measure is what is left of the twelve.
 -- Assumes nothing.
 use Prim.Native.Nat.{◌-◌}
-use native.Mathlib.Omega.{arith}
-use borrow.Author.Rules.{rules}
 use Rattle.run_calls.proofs.lending.sigils_of.Given as goal
 
 abbrev pub invariant-loop-i : goal.invariant-loop-i

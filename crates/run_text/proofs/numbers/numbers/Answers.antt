@@ -1,10 +1,7 @@
 -- `run_text::numbers::numbers` is safe and ends: the measure is what is left of the text, and the room for numbers stays.
 -- Assumes nothing.
-use mathlib.Core.Path.{◌≡◌}
 use Prim.Native.Nat.{◌-◌}
 use native.Mathlib.Omega.{arith}
-use borrow.Author.Rules.{rules}
-use lib.ListN.{length}
 use Rattle.run_text.proofs.numbers.numbers.Goals as goal
 
 pub loop-i-smaller : goal.loop-i-smaller

@@ -1,10 +1,7 @@
 -- `run_text::numbers::to_bytes` meets its contract: as many are copied as there is room for. The measure is what is left to copy.
 -- Assumes nothing.
-use mathlib.Core.Path.{◌≡◌}
-use Prim.Native.Nat.{◌-◌, ◌≤◌}
-use lib.ListN.{length}
+use Prim.Native.Nat.{◌-◌}
 use native.Mathlib.Omega.{arith}
-use borrow.Author.Rules.{rules}
 use Rattle.run_text.proofs.NumberLaws.{counts}
 use Rattle.run_text.proofs.numbers.to_bytes.Goals as goal
 

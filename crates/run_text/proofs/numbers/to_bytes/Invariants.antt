@@ -3,9 +3,6 @@
 use mathlib.Core.Path.{◌≡◌}
 use Prim.Native.Nat.{◌-◌, ◌≤◌}
 use lib.ListN.{length}
-use native.Mathlib.Omega.{arith}
-use borrow.Author.Rules.{rules}
-use Rattle.run_text.proofs.NumberLaws.{counts}
 use Rattle.run_text.proofs.numbers.to_bytes.Given as goal
 
 abbrev pub invariant-loop-i : goal.invariant-loop-i

@@ -2,7 +2,6 @@
 -- Assumes nothing.
 use Prim.Native.Nat.{◌-◌}
 use native.Mathlib.Omega.{arith}
-use borrow.Author.Rules.{rules}
 use Rattle.run_text.proofs.writing.children.Goals as goal
 
 pub loop-j-smaller : goal.loop-j-smaller

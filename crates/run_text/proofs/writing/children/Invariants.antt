@@ -1,8 +1,6 @@
 -- `run_text::writing::children` is safe and ends: the measure is what is left of the children.
 -- Assumes nothing.
 use Prim.Native.Nat.{◌-◌}
-use native.Mathlib.Omega.{arith}
-use borrow.Author.Rules.{rules}
 use Rattle.run_text.proofs.writing.children.Given as goal
 
 abbrev pub invariant-loop-j : goal.invariant-loop-j

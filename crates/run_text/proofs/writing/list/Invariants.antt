@@ -1,8 +1,6 @@
 -- `run_text::writing::list` is safe and ends: the measure is what is left of the list.
 -- Assumes nothing.
 use Prim.Native.Nat.{◌-◌}
-use native.Mathlib.Omega.{arith}
-use borrow.Author.Rules.{rules}
 use Rattle.run_text.proofs.writing.list.Given as goal
 
 abbrev pub invariant-loop-i : goal.invariant-loop-i
