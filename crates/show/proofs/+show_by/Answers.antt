@@ -84,10 +84,9 @@ returns t c =
     let a = c.args in
     let e = env_of a.chart.now a.beside a.rule.now a.text.now in
     let st = c.requires.0 in
-    let is = c.inv-1.given in
     let known =
     show_known st e a.depth a.t.0 c.if-depth-eq0.false c.find_by-root.result.0 c.idx.result.0 c.find_by-root.ensures.0 c.idx.ensures c.held_at.result c.held_at.ensures
-    is.0.0 is.0.1.0 is.1 c.xor-i.result.0 (c.xor-i.result.0 && c.self_dual-dual.result) c.shown-count.result
-    (c.xor-i.ensures ∙ ap (xor is.0.0.0) c.inv.ensures) (ap (λ d. c.xor-i.result.0 && d) c.self_dual-dual.ensures) c.shown-count.ensures.0 in
+    c.in-Is.inv c.in-Is.kind c.in-Is.is c.xor-i.result.0 (c.xor-i.result.0 && c.self_dual-dual.result) c.shown-count.result
+    (c.xor-i.ensures ∙ ap (xor c.in-Is.inv.0) c.inv.ensures) (ap (λ d. c.xor-i.result.0 && d) c.self_dual-dual.ensures) c.shown-count.ensures.0 in
     let rest = turn_end _ _ _ _ c.loop-j.invariant.0 c.loop-j-test.false c.put_close.ensures in
-    (rw known (level_put _ _ is.0.1.0 c.xor-i.result.0 c.self_dual-dual.result c.self_dual-dual.ensures c.put_lead-p.ensures rest), c.loop-j.invariant.1)
+    (rw known (level_put _ _ c.in-Is.kind c.xor-i.result.0 c.self_dual-dual.result c.self_dual-dual.ensures c.put_lead-p.ensures rest), c.loop-j.invariant.1)
