@@ -17,7 +17,7 @@ pub new_kind-requires : goal.new_kind-requires
 new_kind-requires c = let a = c.args in
     let pre = c.requires in
     inside_ready a.chart.now a.rule.now a.text.now a.h.now a.ws.now a.ks.now a.k a.entries.now c.kind_refusal-unmade.result
-    c.kind_refusal-unmade.ensures c.if-unmade-ne-NO_REFUSAL.false c.room-full.result c.room-full.ensures c.if-full-ne-NO_REFUSAL.false c.flagged.ensures pre.0
+    c.kind_refusal-unmade.ensures c.if-unmade-ne-NO_REFUSAL.false c.room-full.result c.room-full.ensures c.if-full-ne-NO_REFUSAL.false c.flagged.ensures pre.ready
 
 pub returns : goal.returns
 returns c =
