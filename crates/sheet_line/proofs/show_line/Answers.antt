@@ -9,11 +9,6 @@ use Rattle.sheet_calls.proofs.StoreLaws.{sheet_tested, as_printed}
 use Rattle.sheet_line.proofs.ShowLaws.{shown_fits, shown_back}
 use Rattle.sheet_line.proofs.show_line.Goals as goal
 
--- LEFT slice-aggregate-show-4
--- slice-aggregate-show-4 c =
---     let start = c.before.before.before.before.before.before.before.before.before in
---     sym (length-take-le SHEET_TEXT start.args.out.now start.requires.1)
-
 pub show-shown-requires : goal.show-shown-requires
 show-shown-requires c = rw c.beside.ensures (sheet_tested c.requires.sheet_store)
 
