@@ -61,30 +61,30 @@ BUFFER = "(replicate 4096 0)"
 # each call's term, from its arguments; `source` names the source's store
 CALLS = {
     "new": lambda a, s: f"make (new {new_kind(a['kind'])})",
-    "new_var": lambda a, s: f"make (newVar {a['span']})",
-    "new_vars": lambda a, s: f"make (newVars {a['span']} {a['count']} {LIST})",
-    "new_struct": lambda a, s: f"make (newStruct {a['record']} {tys(a['kids'])})",
-    "new_union": lambda a, s: f"make (newUnion {a['record']} {tys(a['kids'])})",
+    "new_var": lambda a, s: f"make (new_var {a['span']})",
+    "new_vars": lambda a, s: f"make (new_vars {a['span']} {a['count']} {LIST})",
+    "new_struct": lambda a, s: f"make (new_struct {a['record']} {tys(a['kids'])})",
+    "new_union": lambda a, s: f"make (new_union {a['record']} {tys(a['kids'])})",
     "error": lambda a, s: "make error",
     "nil": lambda a, s: "make nil",
     "unify": lambda a, s: f"unify {ty(a['a'])} {ty(a['b'])}",
-    "unify_types": lambda a, s: f"later (unifyTypes {tys(a['a'])} {tys(a['b'])} {bool_(a['inv'])})",
-    "unify_objects": lambda a, s: f"later (unifyObjects {fields(a['a'])} {fields(a['b'])} {bool_(a['inv'])})",
-    "unify_impl_type": lambda a, s: f"later (unifyImplType {impl(a['a'])} {impl(a['b'])})",
-    "unify_fn_sig": lambda a, s: (f"later (unifyFnSig {tys(a['a']['params'])} {ty(a['a']['ret'])} "
+    "unify_types": lambda a, s: f"later (unify_types {tys(a['a'])} {tys(a['b'])} {bool_(a['inv'])})",
+    "unify_objects": lambda a, s: f"later (unify_objects {fields(a['a'])} {fields(a['b'])} {bool_(a['inv'])})",
+    "unify_impl_type": lambda a, s: f"later (unify_impl_type {impl(a['a'])} {impl(a['b'])})",
+    "unify_fn_sig": lambda a, s: (f"later (unify_fn_sig {tys(a['a']['params'])} {ty(a['a']['ret'])} "
                                   f"{tys(a['b']['params'])} {ty(a['b']['ret'])})"),
-    "force_kind": lambda a, s: f"forceKind {ty(a['type'])}",
-    "finish_inference": lambda a, s: "later finishInference",
-    "finish_inference_where": lambda a, s: f"later (finishWhere {numbers(a['bytes'])})",
+    "force_kind": lambda a, s: f"force_kind {ty(a['type'])}",
+    "finish_inference": lambda a, s: "later finish_inference",
+    "finish_inference_where": lambda a, s: f"later (finish_where {numbers(a['bytes'])})",
     "find": lambda a, s: f"read (find {ty(a['type'])})",
-    "find_mut": lambda a, s: f"read (findMut {ty(a['type'])})",
-    "self_inverse": lambda a, s: f"later (selfInverse {ty(a['type'])} {bool_(a['param'])})",
-    "is_nil": lambda a, s: f"later (isNil {ty(a['type'])})",
-    "get_mod": lambda a, s: f"later (getMod {ty(a['type'])})",
-    "approx_eq": lambda a, s: f"later (approxEq {impl(a['a'])} {impl(a['b'])})",
-    "find_related": lambda a, s: f"later (findRelated {ty(a['type'])} {marks(a['marks'])})",
+    "find_mut": lambda a, s: f"read (find_mut {ty(a['type'])})",
+    "self_inverse": lambda a, s: f"later (self_inverse {ty(a['type'])} {bool_(a['param'])})",
+    "is_nil": lambda a, s: f"later (is_nil {ty(a['type'])})",
+    "get_mod": lambda a, s: f"later (get_mod {ty(a['type'])})",
+    "approx_eq": lambda a, s: f"later (approx_eq {impl(a['a'])} {impl(a['b'])})",
+    "find_related": lambda a, s: f"later (find_related {ty(a['type'])} {marks(a['marks'])})",
     "show": lambda a, s: f"later (show {ty(a['type'])} {BUFFER})",
-    "show_impl_type": lambda a, s: f"later (showImplType {impl(a['impl'])} {BUFFER})",
+    "show_impl_type": lambda a, s: f"later (show_impl_type {impl(a['impl'])} {BUFFER})",
     "import": lambda a, s: f"import (reads {s}) {tys(a['types'])} {option(a['params'], tys)} {LIST}",
     "export": lambda a, s: f"read (export {ROOM} true {tys(a['types'])} {LIST})",
 }
@@ -117,7 +117,7 @@ def store(s):
 
 
 def mod(a):
-    return {"none": "none-mod", "error": "error-mod", "def": f"(mod-of {a['def']})"}[a["mod"]]
+    return {"none": "none_mod", "error": "error_mod", "def": f"(mod_of {a['def']})"}[a["mod"]]
 
 
 ANSWERS = {
@@ -126,7 +126,7 @@ ANSWERS = {
     "unify": lambda a: f"answer {a['unify']}",
     "bool": lambda a: f"flag {bool_(a['bool'])}",
     "done": lambda a: "nothing",
-    "mod": lambda a: f"mod-is {mod(a)}",
+    "mod": lambda a: f"mod_is {mod(a)}",
     "nodes": lambda a: f"marked {marks(a['nodes'])}",
     "text": lambda a: f"shown {numbers(a['bytes'])}",
     "forced": lambda a: f"forced {bool_(a['inv'])} {kind(a['kind'])} {option(a['report'], str)}",
@@ -144,6 +144,6 @@ def record(r):
 
 
 def env(c):
-    return (f"record\n  {{ records = {list_(record(r) for r in c['records'])}\n  ; fnTrait = {c['fn_trait']}\n"
+    return (f"record\n  {{ records = {list_(record(r) for r in c['records'])}\n  ; fn_trait = {c['fn_trait']}\n"
             f"  ; sigils = {list_(name(n) for n in c['sigils'])}\n"
             f"  ; texts = record {{ rule = {numbers(c['texts'][0])}; chart = {numbers(c['texts'][1])} }} }}")

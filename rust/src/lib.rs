@@ -31,8 +31,8 @@
 //!
 //! # Linking
 //!
-//! The crate links `liblibrary.a`, which `rt staticlib library` writes to `../target/staticlib`; `FAROALDER_LIB_DIR`
-//! names another folder.
+//! The crate links `liblibrary.a`, which `rt lib` in `../crates/library` writes to its `out`; `FAROALDER_LIB_DIR` names
+//! another folder.
 
 mod answers;
 mod chart;

@@ -106,6 +106,7 @@ module _ (x : Texts) (p : List ℕ) (ns : List (Option Name)) (j : ℕ) (n : Nam
   pub up_step : name_ok x n ≡ true → lt_bytes p (bytes x n) ≡ true → up_from x p (drop j ns) ≡ up_from x (bytes x n) (drop (j + 1) ns)
   unfolding ascending
   up_step o l = rw (cons, named_or x n, bytes_or_lem x n, o, l)
+      (ap (λ (b : List ℕ). all (named x) (drop (j + 1) ns) && ascending (b ∷ map (bytes_or x) (drop (j + 1) ns))) (bytes_or_lem x n))
 
   pub up_unnamed : name_ok x n ≡ false → up_from x p (drop j ns) ≡ false
   up_unnamed o = rw (cons, named_or x n, o)

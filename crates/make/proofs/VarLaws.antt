@@ -1,7 +1,7 @@
 -- A run of variables is made at its end as well as at its front: one variable more is new_var on the store that the others left, and its type comes
 -- after theirs. So a loop that makes one after the other makes what new_vars says.
 -- Assumes nothing.
-use mathlib.Core.Path.{◌≡◌, refl, ap, ◌∙◌}
+use mathlib.Core.Path.{◌≡◌, refl, ap, sym, subst, ◌∙◌}
 use mathlib.Core.List.{List, [], ◌∷◌, ◌++◌, map, map-append, append_assoc}
 use Prim.Native.Nat.{ℕ, zero, suc, ◌+◌, ◌<◌, ◌≤◌}
 use native.Mathlib.Omega.{arith}
@@ -52,7 +52,8 @@ var_left s o n p l = record {
 vars_left : (s : Store) (p n : ℕ) → Left s (new_vars s p n).store n
 unfolding new_vars
 vars_left s p zero = record { nodes = omega arith; children = refl; node_room = refl; child_room = refl }
-vars_left s p (suc n) = rw (vars_suc s p n) (var_left s (new_vars s p n).store n p (vars_left s p n))
+vars_left s p (suc n) =
+    subst (λ (r : MadeAll). Left s r.store (suc n)) (sym (vars_suc s p n)) (var_left s (new_vars s p n).store n p (vars_left s p n))
 
 vars_types : (s : Store) (p n : ℕ) → length (new_vars s p n).types ≡ n
 unfolding new_vars

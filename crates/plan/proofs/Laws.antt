@@ -7,7 +7,7 @@ use mathlib.Core.List.{List, []}
 use Prim.Native.Nat.{ℕ, zero, suc, ◌≤◌}
 use native.Mathlib.Omega.{arith}
 use lib.Dec.{eqb}
-use borrow.Author.Tests.{eq-eqb, ne_eqb, eqb-true, not-true, not-false}
+use borrow.Author.Tests.{eq-eqb, ne_eqb, eqb-true}
 use Rattle.scope.specs.Base.{pick}
 use Rattle.scope.specs.Names.{Texts, bytes, eq_bytes}
 use Rattle.scope.specs.Kinds.{TUPLE, OBJECT, STRUCT, UNION, CLOSURE, KEY, IF_CONST, DEFAULT, ERROR, DUAL, AS_CHART, row_of, rows, dual_by, self_dual}
@@ -109,8 +109,8 @@ pub record Meets (x : Texts) (k m : Kind) (i : Bool) : Type 0 where
 pub free_plain : (i t : Bool) → i ≡ false → (not i || t) ≡ true
 free_plain i t e = rw e
 
-pub free_crossed : (i r t : Bool) → r ≡ t → not r ≡ false → (not i || t) ≡ true
-free_crossed i r t e h = rw (sym e ∙ not-false r h) (or-true (not i))
+pub free_crossed : (i r t : Bool) → r ≡ t → r ≡ true → (not i || t) ≡ true
+free_crossed i r t e h = rw (sym e ∙ h) (or-true (not i))
 
 module _ (x : Texts) (k m : Kind) (i : Bool) where
   pub plan_error : k.code ≡ ERROR → Planned x k m i (Answer Indeterminate)
@@ -122,22 +122,22 @@ module _ (x : Texts) (k m : Kind) (i : Bool) where
   plan_against_error h e = record { means = λ ks. rw (ne_eqb k.code ERROR h, eq-eqb m.code ERROR e); over = tt }
 
   module _ (h : k.code ≡ ERROR → ⊥) (g : m.code ≡ ERROR → ⊥) where
-    pub plan_unequal : (r : Bool) → SameKinds x k m r → not r ≡ true → Planned x k m i (Answer Failure)
+    pub plan_unequal : (r : Bool) → SameKinds x k m r → r ≡ false → Planned x k m i (Answer Failure)
     unfolding plan_means scope.plan kind_means
     plan_unequal r s e = record {
-      means = λ ks. rw (ne_eqb k.code ERROR h, ne_eqb m.code ERROR g, sym (s.is ks) ∙ not-true r e);
+      means = λ ks. rw (ne_eqb k.code ERROR h, ne_eqb m.code ERROR g, sym (s.is ks) ∙ e);
       over = tt;
     }
 
-    pub plan_crossed : (r t : Bool) → SameKinds x k m r → i ≡ true → t ≡ crosses_kind k → not t ≡ true → Planned x k m i (Answer Failure)
+    pub plan_crossed : (r t : Bool) → SameKinds x k m r → i ≡ true → t ≡ crosses_kind k → t ≡ false → Planned x k m i (Answer Failure)
     unfolding plan_means scope.plan scope.crosses self_dual kind_means
     plan_crossed r t s e f n = record {
-      means = λ ks. rw (ne_eqb k.code ERROR h, ne_eqb m.code ERROR g, e, sym f ∙ not-true t n, and-false (same_head x (kind_means ks k).head (kind_means ks m).head));
+      means = λ ks. rw (ne_eqb k.code ERROR h, ne_eqb m.code ERROR g, e, sym f ∙ n, and-false (same_head x (kind_means ks k).head (kind_means ks m).head));
       over = tt;
     }
 
-    pub meets : (r : Bool) → SameKinds x k m r → not r ≡ false → (not i || crosses_kind k) ≡ true → Meets x k m i
-    meets r s e f = record { sound = (h, g); same = record { is = λ ks. sym (not-false r e) ∙ s.is ks }; free = f }
+    pub meets : (r : Bool) → SameKinds x k m r → r ≡ true → (not i || crosses_kind k) ≡ true → Meets x k m i
+    meets r s e f = record { sound = (h, g); same = record { is = λ ks. sym e ∙ s.is ks }; free = f }
 
   -- two kinds that meet: what is to be done with their children
 

@@ -1,7 +1,6 @@
 #![tactic(auto)]
 // The chart as a slice of structs: "The chart is a lent slice of records, one for each definition". `load` writes the words that every call takes, ten a
-// record, over any records at all; two readers copy a record, or its sort, out. Each function here that takes the slice is proved by a walk of its code by
-// hand, so nothing else takes it, and everything above works on words.
+// record, over any records at all; two readers copy a record, or its sort, out. Nothing else takes the slice: everything above works on words.
 ghost use Rattle.std.specs.Prelude.{◌≡◌, ◌+◌, ◌*◌, ◌≤◌, ◌<◌, length, get_or};
 ghost use Rattle.std.proofs.lemmas.List.Edits.{sets};
 ghost use Rattle.chart.specs.Words.{«RECORD_WORDS»};

@@ -116,10 +116,10 @@ module _ (d : ℕ) (ns : List Node) {ks : List ℕ} {s₀ e : ℕ} {ms₀ ms : L
 
   pub turn_pass : {s : ℕ} (r : ℕ) → Turn (related_f d ns) ks s₀ e ms₀ ms s → ((x : ℕ) → s ≤ x → x < s + r → slot_marked ns ks ms x ≡ true)
       → Turn (related_f d ns) ks s₀ e ms₀ ms (s + r)
-  turn_pass {s} zero c h = let z : s + zero ≡ s = omega arith in rw z c
-  turn_pass {s} (suc r) c h =
+  turn_pass {s = s} zero c h = let z : s + zero ≡ s = omega arith in rw z c
+  turn_pass {s = s} (suc r) c h =
       let z : s + suc r ≡ s + 1 + r = omega arith in
-      rw z (turn_pass r (pass_one c (h s (omega arith) (omega arith))) (λ x l u. h x (omega arith) (omega arith)))
+      rw z (turn_pass {s = s + 1} r (pass_one c (h s (omega arith) (omega arith))) (λ x l u. h x (omega arith) (omega arith)))
 
 -- a slot, and those after it whose children's nodes have been told
 pub turn_stretch : (d : ℕ) {ws ks : List ℕ} {n s₀ e r : ℕ} {ms₀ cache ms seen skip : List ℕ} (s : ℕ) → Turn (related_f d (decode ws ks n)) ks s₀ e ms₀ ms (s + 1)

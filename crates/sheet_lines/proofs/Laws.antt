@@ -22,9 +22,8 @@ use Rattle.scope.specs.Sheet as sheet
 use Rattle.scope.specs.Sheet.{lines, words, is_digit, value_from, no_leading_zero, node_word, type_word, type_words, plain_line, one_type, two_types, with_types, words_line, parse, sheet_line}
 use Rattle.scope.proofs.NameLaws.{eq_bytes_lem}
 use Rattle.names.proofs.Tests.{both}
-use Rattle.bytes.specs.Bytes.{slice, index_of, index_after}
 use Rattle.scope.specs.Limits.{MAX_LINE, MAX_DIGITS}
-use Rattle.sheet_lines.specs.Places.{next_place, words_from}
+use Rattle.sheet_lines.specs.Places.{index_of, next_place, words_from}
 use Rattle.types.specs.declared.«Type».{«Type»}
 use Rattle.sheet_lines.specs.Limits.{LINE_TYPES}
 use Rattle.sheet_lines.specs.Meaning.{kind_line, Over, Parsed}
@@ -47,18 +46,27 @@ place_past b s i h =
     let past : length s ≤ i = omega arith in
     rw (drop_of_length-le s past) (omega arith)
 
--- what was looked through is all that is left
-pub place_found : (b : ℕ) (s : List ℕ) (i r : ℕ) → r ≡ i + index_of b (slice i (length s) s) → r ≡ next_place b s i
-unfolding slice
-place_found b s i r e = e ∙ ap (λ (l : List ℕ). i + index_of b (drop i l)) (take_all (length s) s (omega arith))
+-- the byte at a place within is the one that is sought, or another
+pub place_here : (b : ℕ) (s : List ℕ) (i : ℕ) → i < length s → get_or s i 0 ≡ b → i ≡ next_place b s i
+unfolding index_of
+place_here b s i l e = rw (drop-cons s i 0 l, eq-eqb (get_or s i 0) b e) (omega arith)
+
+pub place_next : (b : ℕ) (s : List ℕ) (i : ℕ) → i < length s → (get_or s i 0 ≡ b → ⊥) → next_place b s (i + 1) ≡ next_place b s i
+unfolding index_of
+place_next b s i l e = rw (add-one, drop-cons s i 0 l, ne_eqb (get_or s i 0) b e) (omega arith)
+
+-- nothing stands from the end on
+pub place_none : (b : ℕ) (s : List ℕ) (i : ℕ) → length s ≤ i → i ≡ next_place b s i
+unfolding index_of
+place_none b s i h = rw (drop_of_length-le s h) (omega arith)
 
 run_within_by : (b x : ℕ) (xs : List ℕ) (t : Bool) → eqb x b ≡ t → index_of b xs ≤ length xs → index_of b (x ∷ xs) ≤ suc (length xs)
-unfolding index_of index_after
+unfolding index_of
 run_within_by b x xs true e h = rw e (omega arith)
 run_within_by b x xs false e h = rw e (omega arith)
 
 run_within : (b : ℕ) (s : List ℕ) → index_of b s ≤ length s
-unfolding index_of index_after
+unfolding index_of
 run_within b [] = omega arith
 run_within b (x ∷ xs) = run_within_by b x xs (eqb x b) refl (run_within b xs)
 
@@ -79,13 +87,13 @@ words_split_by :
     eqb b 32 ≡ t →
     words bs ≡ take (index_of 32 bs) bs ∷ words_from bs (suc (index_of 32 bs)) →
     words (b ∷ bs) ≡ take (index_of 32 (b ∷ bs)) (b ∷ bs) ∷ words_from (b ∷ bs) (suc (index_of 32 (b ∷ bs)))
-unfolding words words_from index_of index_after
+unfolding words words_from index_of
 words_split_by b bs true e h = rw (e, le-leb 1 (suc (length bs)) (omega arith))
 words_split_by b bs false e h = rw (e, h, leb-suc-suc (suc (index_of 32 bs)) (length bs))
 
 -- a line's first word, and the others
 words_split : (l : List ℕ) → words l ≡ take (index_of 32 l) l ∷ words_from l (suc (index_of 32 l))
-unfolding words words_from index_of index_after
+unfolding words words_from index_of
 words_split [] = refl
 words_split (b ∷ bs) = words_split_by b bs (eqb b 32) refl (words_split bs)
 
@@ -130,7 +138,7 @@ lines_split_by :
     eqb b 10 ≡ t →
     (1 ≤ length bs → lines bs ≡ take (index_of 10 bs) bs ∷ lines (drop (suc (index_of 10 bs)) bs)) →
     lines (b ∷ bs) ≡ take (index_of 10 (b ∷ bs)) (b ∷ bs) ∷ lines (drop (suc (index_of 10 (b ∷ bs))) (b ∷ bs))
-unfolding lines index_of index_after
+unfolding lines index_of
 lines_split_by b bs true e h = rw e
 lines_split_by b [] false e h = rw e
 lines_split_by b (c ∷ bs) false e h = rw (e, h (omega arith))
@@ -331,7 +339,7 @@ tuple_types (t ∷ u ∷ []) = refl
 tuple_types (t ∷ u ∷ v ∷ ts) = refl
 
 pub with_tuple : (w : List ℕ) (ts : List Ty) → eq_bytes w (text "tuple") ≡ true → sheet.Line.tuple ts ≡ with_types w (some ts)
-with_tuple w ts h = rw (eq_bytes_lem w (text "tuple") h) (sym (tuple_types ts))
+with_tuple w ts h = sym (ap (λ (v : List ℕ). with_types v (some ts)) (eq_bytes_lem w (text "tuple") h) ∙ tuple_types ts)
 
 -- a kind's line and the call that makes it
 

@@ -1,8 +1,12 @@
 -- Where a byte stands next, and the words of a line from a place on.
-use Rattle.std.specs.Prelude.{List, [], ℕ, ◌+◌, leb, length, drop}
-use Rattle.bytes.specs.Bytes.{index_of}
+use Rattle.std.specs.Prelude.{List, [], ◌∷◌, ℕ, suc, ◌+◌, eqb, leb, length, drop}
 use Rattle.scope.specs.Base.{pick}
 use Rattle.scope.specs.Sheet.{words}
+
+-- how many elements stand before the first b: all, where there is none
+unfoldable pub index_of : ℕ → List ℕ → ℕ
+index_of b [] = 0
+index_of b (x ∷ xs) = pick (eqb x b) 0 (suc (index_of b xs))
 
 -- the first place from i on where b stands; the list's length if there is none and i is not past it
 abbrev pub next_place : ℕ → List ℕ → ℕ → ℕ

@@ -71,7 +71,10 @@ fn next_place(s: &[u8], from: usize, byte: u8) -> usize
         return from;
     }
     let mut i = from;
-    while i < s.len() && s[i] != byte {
+    while i < s.len() {
+        if s[i] == byte {
+            return i;
+        }
         i += 1;
     }
     i

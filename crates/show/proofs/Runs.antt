@@ -1,6 +1,6 @@
 -- Items with commas between them are written one after another, each with what stands before it: a run of children, one after its definition's name, a
 -- tuple, an object, a signature, an if const. Assumes nothing.
-use mathlib.Core.Path.{◌≡◌, refl, sym, ap, ◌∙◌}
+use mathlib.Core.Path.{◌≡◌, refl, sym, ap, subst, ◌∙◌}
 use mathlib.Core.Bool.{Bool, true, false}
 use mathlib.Core.List.{List, [], ◌∷◌, ◌++◌, map, append_assoc, append-nil}
 use Prim.Native.Nat.{ℕ, zero, suc, ◌+◌, ◌-◌, ◌≤◌, ◌<◌}
@@ -43,10 +43,10 @@ map-map f h (x ∷ l) = rw (map-map f h l)
 -- the last child apart
 children_last : (gap item : ℕ → List ℕ) (close : List ℕ) (n j : ℕ) → children gap item close (suc n) j ≡ children gap item (gap (j + n) ++ (item (j + n) ++ close)) n j
 unfolding children
-children_last gap item close zero j = rw add-zero
+children_last gap item close zero j = ap (λ (k : ℕ). gap k ++ (item k ++ close)) (sym (add-zero j))
 children_last gap item close (suc n) j =
     let s : j + suc n ≡ suc j + n = omega arith in
-    ap (λ (z : List ℕ). gap j ++ (item j ++ z)) (children_last gap item close n (suc j) ∙ rw s)
+    ap (λ (z : List ℕ). gap j ++ (item j ++ z)) (children_last gap item close n (suc j) ∙ ap (λ (k : ℕ). children gap item (gap k ++ (item k ++ close)) n (suc j)) (sym s))
 
 -- a run of items, each at its place
 module _ (g : Ty → List ℕ) (F : ℕ → List Piece) (gap item : ℕ → List ℕ) (close : List ℕ) (a N : ℕ)
@@ -101,7 +101,7 @@ module _ (g : Ty → List ℕ) (x : Texts) (i : Bool) (ks : List ℕ) (a : ℕ) 
     unfolding render children
     params_run zero = refl
     params_run (suc n) =
-        rw (suc_zero n)
+        subst (λ (b : Bool). render g (params i (tys (suc n))) ≡ pick b [] (text "[") ++ children gap kid (pick b [] (text "]")) (suc n) 0) (sym (suc_zero n))
         (ap (λ (z : List ℕ). text "[" ++ z) (render_append g (commas i (tys (suc n))) (fixed (text "]") ∷ []) ∙ commas_run (text "]") (suc n)))
 
     pub tuple_run : (n : ℕ) → render g (tuple i (tys n)) ≡ text "(" ++ children gap kid (pick (eqb n 1) (text ",)") (text ")")) n 0
@@ -136,7 +136,10 @@ module _ (g : Ty → List ℕ) (x : Texts) (i : Bool) (ks : List ℕ) (a : ℕ) 
     unfolding render children
     object_run zero h = refl
     object_run (suc n) h =
-        rw (suc_zero n)
+        subst
+        (λ (b : Bool). render g (object x i (map slot_name (slots ks a (suc n))) (tys (suc n)))
+        ≡ pick b (text "{}") (text "{ ") ++ children gap kid (pick b [] (text " }")) (suc n) 0)
+        (sym (suc_zero n))
         (ap (λ (z : List ℕ). text "{ " ++ z)
         (render_append g (joined (entries x i (map slot_name (slots ks a (suc n))) (tys (suc n)))) (fixed (text " }") ∷ []) ∙ entries_run (text " }") (suc n) h))
 
@@ -194,7 +197,11 @@ module _ (g : Ty → List ℕ) (x : Texts) (nil : Ty → Bool) (ks : List ℕ) (
   signature_run (suc n) named ret false h =
       let s : suc n - 1 ≡ n = omega arith in
       let w : nil (ty_of (slot_at ks (a + n)).type) ≡ false = rw s at h in
-      rw (suc_zero n, le-ltb (suc n) (suc n) (omega arith)) (signature_ret n (λ j l. named j (omega arith)) (ret n (omega arith)) w)
+      rw suc_zero
+      (subst
+      (λ (b : Bool). written n (λ j l. named j (omega arith)) (ret n (omega arith)) ≡ text "(" ++ children gap (kid g x false ks a) (pick b (text ")") []) (suc n) 0)
+      (sym (le-ltb (suc n) (suc n) (omega arith)))
+      (signature_ret n (λ j l. named j (omega arith)) (ret n (omega arith)) w))
 
 -- if const: one or both of two
 module _ (g : Ty → List ℕ) (e : Env) (nil : Ty → Bool) (i : Bool) (h : Head) (ks : List ℕ) (a : ℕ) (gap : ℕ → List ℕ)

@@ -14,7 +14,7 @@ use Rattle.call_states.specs.Promise.{NamesOpened}
 use Rattle.theorem.specs.Memory.{memory_of, roomy, Did}
 use Rattle.theorem.specs.Steps as ran
 use Rattle.theorem.specs.DeskSteps as desk
-use Rattle.theorem.specs.CallContracts.{Contracts, arg1, arg2, arg3, arg4, arg5, arg6, arg7, other_words}
+use Rattle.theorem.specs.CallContracts.{Contracts, arg1, arg2, arg3, arg4, arg5, arg6, arg7, source_words, other_words}
 
 pub contracts : Contracts
 contracts = record {
@@ -39,7 +39,7 @@ contracts = record {
   unify_recalling = record { free = λ κs a. tt; is = λ κs a r x p. ran.unify (arg2 a) (arg3 a) r p };
   import = record {
     free = λ κs a. tt;
-    is = λ κs a r x p. ran.import (other_words a) (arg4 a).now (arg5 a) (arg6 a).now (arg7 a).now (arg7 x).now r p;
+    is = λ κs a r x p. ran.import (source_words a) (arg4 a).now (arg5 a) (arg6 a).now (arg7 a).now (arg7 x).now r p;
   };
   find = record { free = λ κs a. tt; is = λ κs a r x p. ran.find (arg1 a) r p };
   find_mut = record { free = λ κs a. tt; is = λ κs a r x p. ran.find_mut (arg1 a) r p };

@@ -39,103 +39,103 @@ use Rattle.theorem.specs.Memory.{Memory, Fixed, env, lent, held, roomy, Opened, 
 use Rattle.theorem.specs.Runs.{Runs}
 use Rattle.theorem.specs.DeskSteps.{DeskMemory, TestedDesk, OpenedNames}
 use Rattle.theorem.specs.DeskRuns.{DeskRuns}
-use Rattle.theorem.specs.CallContracts.{Slice, Args, fixed_in, words_in, other_words, desk_in}
+use Rattle.theorem.specs.CallContracts.{Args, fixed_in, words_read, nodes_in, head_in, words_in, source_words, desk_names, desk_store, desk_in}
 
 -- of a form that asks A of its arguments and whose callers learn L: it asks no more than T, and whatever is learnt is S
 pub record Form {n : ℕ} (ps : List (ParamKind n)) (r : ResultKind n) (T A : In n ps) (L S : Out n ps r) : Type 0 where
   pub asks : (κs : Lfts n) (a : Dens κs ps) → T κs a → A κs a
   pub is : (κs : Lfts n) (a : Dens κs ps) (z : (res_t r κs).Denot) (x : AtExit (ended_of n ps r) κs) → L κs a z x → S κs a z x
 
--- what was lent passes the tests
-abbrev pub OnTested : {R : Type 0} → Args R → Type 0
-OnTested a = TestedWords (fixed_in a) (words_in a)
+-- what was lent passes the tests, on the words m
+abbrev pub OnTested : {H W K R : Type 0} → Args H W K R → Memory → Type 0
+OnTested a m = TestedWords (fixed_in a) m
 
 -- with its names buffer
-abbrev pub OnTestedDesk : {R : Type 0} → Args (Slice × R) → Type 0
-OnTestedDesk a = TestedDesk (fixed_in a) (desk_in a)
+abbrev pub OnTestedDesk : {H W K R : Type 0} → Args H W K R → DeskMemory → Type 0
+OnTestedDesk a d = TestedDesk (fixed_in a) d
 
 pub record TestedForms : Type 0 where
-  pub new : Form tested_new.new.Kinds.ps tested_new.new.Kinds.r (λ κs a. OnTested a)
+  pub new : Form tested_new.new.Kinds.ps tested_new.new.Kinds.r (λ κs a. OnTested a (words_in a))
       tested_new.new.Reads.Asked tested_new.new.Reads.Learnt call_new.new.Reads.Learnt
-  pub new_var : Form tested_make.new_var.Kinds.ps tested_make.new_var.Kinds.r (λ κs a. OnTested a)
+  pub new_var : Form tested_make.new_var.Kinds.ps tested_make.new_var.Kinds.r (λ κs a. OnTested a (head_in a))
       tested_make.new_var.Reads.Asked tested_make.new_var.Reads.Learnt call_make.new_var.Reads.Learnt
-  pub new_struct : Form tested_new.new_struct.Kinds.ps tested_new.new_struct.Kinds.r (λ κs a. OnTested a)
+  pub new_struct : Form tested_new.new_struct.Kinds.ps tested_new.new_struct.Kinds.r (λ κs a. OnTested a (words_in a))
       tested_new.new_struct.Reads.Asked tested_new.new_struct.Reads.Learnt call_new.new_struct.Reads.Learnt
-  pub new_union : Form tested_new.new_union.Kinds.ps tested_new.new_union.Kinds.r (λ κs a. OnTested a)
+  pub new_union : Form tested_new.new_union.Kinds.ps tested_new.new_union.Kinds.r (λ κs a. OnTested a (words_in a))
       tested_new.new_union.Reads.Asked tested_new.new_union.Reads.Learnt call_new.new_union.Reads.Learnt
-  pub new_vars : Form tested_make.new_vars.Kinds.ps tested_make.new_vars.Kinds.r (λ κs a. OnTested a)
+  pub new_vars : Form tested_make.new_vars.Kinds.ps tested_make.new_vars.Kinds.r (λ κs a. OnTested a (head_in a))
       tested_make.new_vars.Reads.Asked tested_make.new_vars.Reads.Learnt call_make.new_vars.Reads.Learnt
-  pub error : Form tested_make.error.Kinds.ps tested_make.error.Kinds.r (λ κs a. OnTested a)
+  pub error : Form tested_make.error.Kinds.ps tested_make.error.Kinds.r (λ κs a. OnTested a (head_in a))
       tested_make.error.Reads.Asked tested_make.error.Reads.Learnt call_make.error.Reads.Learnt
-  pub nil : Form tested_make.nil.Kinds.ps tested_make.nil.Kinds.r (λ κs a. OnTested a)
+  pub nil : Form tested_make.nil.Kinds.ps tested_make.nil.Kinds.r (λ κs a. OnTested a (head_in a))
       tested_make.nil.Reads.Asked tested_make.nil.Reads.Learnt call_make.nil.Reads.Learnt
-  pub force_kind : Form tested_force.force_kind.Kinds.ps tested_force.force_kind.Kinds.r (λ κs a. OnTested a)
+  pub force_kind : Form tested_force.force_kind.Kinds.ps tested_force.force_kind.Kinds.r (λ κs a. OnTested a (head_in a))
       tested_force.force_kind.Reads.Asked tested_force.force_kind.Reads.Learnt call_force.force_kind.Reads.Learnt
-  pub unify : Form tested_unify.unify.Kinds.ps tested_unify.unify.Kinds.r (λ κs a. OnTested a)
+  pub unify : Form tested_unify.unify.Kinds.ps tested_unify.unify.Kinds.r (λ κs a. OnTested a (nodes_in a))
       tested_unify.unify.Reads.Asked tested_unify.unify.Reads.Learnt call_unify.unify.Reads.Learnt
-  pub unify_recalling : Form tested_unify.unify_recalling.Kinds.ps tested_unify.unify_recalling.Kinds.r (λ κs a. OnTested a)
+  pub unify_recalling : Form tested_unify.unify_recalling.Kinds.ps tested_unify.unify_recalling.Kinds.r (λ κs a. OnTested a (nodes_in a))
       tested_unify.unify_recalling.Reads.Asked tested_unify.unify_recalling.Reads.Learnt call_unify.unify_recalling.Reads.Learnt
   -- both stores are tested
-  pub import : Form tested_import.import.Kinds.ps tested_import.import.Kinds.r (λ κs a. OnTested a × TestedWords (fixed_in a) (other_words a))
+  pub import : Form tested_import.import.Kinds.ps tested_import.import.Kinds.r (λ κs a. OnTested a (words_in a) × TestedWords (fixed_in a) (source_words a))
       tested_import.import.Reads.Asked tested_import.import.Reads.Learnt call_copy.import.Reads.Learnt
-  pub find : Form tested_find.find.Kinds.ps tested_find.find.Kinds.r (λ κs a. OnTested a)
+  pub find : Form tested_find.find.Kinds.ps tested_find.find.Kinds.r (λ κs a. OnTested a (words_read a))
       tested_find.find.Reads.Asked tested_find.find.Reads.Learnt call_find.find.Reads.Learnt
-  pub find_mut : Form tested_find.find_mut.Kinds.ps tested_find.find_mut.Kinds.r (λ κs a. OnTested a)
+  pub find_mut : Form tested_find.find_mut.Kinds.ps tested_find.find_mut.Kinds.r (λ κs a. OnTested a (nodes_in a))
       tested_find.find_mut.Reads.Asked tested_find.find_mut.Reads.Learnt call_find.find_mut.Reads.Learnt
-  pub node : Form tested_read.node.Kinds.ps tested_read.node.Kinds.r (λ κs a. OnTested a)
+  pub node : Form tested_read.node.Kinds.ps tested_read.node.Kinds.r (λ κs a. OnTested a (words_read a))
       tested_read.node.Reads.Asked tested_read.node.Reads.Learnt call_read.node.Reads.Learnt
-  pub child : Form tested_read.child.Kinds.ps tested_read.child.Kinds.r (λ κs a. OnTested a)
+  pub child : Form tested_read.child.Kinds.ps tested_read.child.Kinds.r (λ κs a. OnTested a (words_read a))
       tested_read.child.Reads.Asked tested_read.child.Reads.Learnt call_read.child.Reads.Learnt
-  pub child_name : Form tested_read.child_name.Kinds.ps tested_read.child_name.Kinds.r (λ κs a. OnTested a)
+  pub child_name : Form tested_read.child_name.Kinds.ps tested_read.child_name.Kinds.r (λ κs a. OnTested a (words_read a))
       tested_read.child_name.Reads.Asked tested_read.child_name.Reads.Learnt call_read.child_name.Reads.Learnt
-  pub figures : Form tested_read.figures.Kinds.ps tested_read.figures.Kinds.r (λ κs a. OnTested a)
+  pub figures : Form tested_read.figures.Kinds.ps tested_read.figures.Kinds.r (λ κs a. OnTested a (words_read a))
       tested_read.figures.Reads.Asked tested_read.figures.Reads.Learnt call_read.figures.Reads.Learnt
-  pub export : Form tested_export.export.Kinds.ps tested_export.export.Kinds.r (λ κs a. OnTested a)
+  pub export : Form tested_export.export.Kinds.ps tested_export.export.Kinds.r (λ κs a. OnTested a (words_read a))
       tested_export.export.Reads.Asked tested_export.export.Reads.Learnt call_copy.export.Reads.Learnt
-  pub unify_types : Form tested_unify_lists.unify_types.Kinds.ps tested_unify_lists.unify_types.Kinds.r (λ κs a. OnTested a)
+  pub unify_types : Form tested_unify_lists.unify_types.Kinds.ps tested_unify_lists.unify_types.Kinds.r (λ κs a. OnTested a (nodes_in a))
       tested_unify_lists.unify_types.Reads.Asked tested_unify_lists.unify_types.Reads.Learnt call_unify_lists.unify_types.Reads.Learnt
-  pub unify_types_recalling : Form tested_unify_lists.unify_types_recalling.Kinds.ps tested_unify_lists.unify_types_recalling.Kinds.r (λ κs a. OnTested a)
+  pub unify_types_recalling : Form tested_unify_lists.unify_types_recalling.Kinds.ps tested_unify_lists.unify_types_recalling.Kinds.r (λ κs a. OnTested a (nodes_in a))
       tested_unify_lists.unify_types_recalling.Reads.Asked tested_unify_lists.unify_types_recalling.Reads.Learnt call_unify_lists.unify_types_recalling.Reads.Learnt
-  pub unify_objects : Form tested_unify_lists.unify_objects.Kinds.ps tested_unify_lists.unify_objects.Kinds.r (λ κs a. OnTested a)
+  pub unify_objects : Form tested_unify_lists.unify_objects.Kinds.ps tested_unify_lists.unify_objects.Kinds.r (λ κs a. OnTested a (nodes_in a))
       tested_unify_lists.unify_objects.Reads.Asked tested_unify_lists.unify_objects.Reads.Learnt call_unify_lists.unify_objects.Reads.Learnt
-  pub unify_objects_recalling : Form tested_unify_lists.unify_objects_recalling.Kinds.ps tested_unify_lists.unify_objects_recalling.Kinds.r (λ κs a. OnTested a)
+  pub unify_objects_recalling : Form tested_unify_lists.unify_objects_recalling.Kinds.ps tested_unify_lists.unify_objects_recalling.Kinds.r (λ κs a. OnTested a (nodes_in a))
       tested_unify_lists.unify_objects_recalling.Reads.Asked tested_unify_lists.unify_objects_recalling.Reads.Learnt call_unify_lists.unify_objects_recalling.Reads.Learnt
-  pub unify_impl_type : Form tested_impl.unify_impl_type.Kinds.ps tested_impl.unify_impl_type.Kinds.r (λ κs a. OnTested a)
+  pub unify_impl_type : Form tested_impl.unify_impl_type.Kinds.ps tested_impl.unify_impl_type.Kinds.r (λ κs a. OnTested a (nodes_in a))
       tested_impl.unify_impl_type.Reads.Asked tested_impl.unify_impl_type.Reads.Learnt call_impl.unify_impl_type.Reads.Learnt
-  pub unify_impl_type_recalling : Form tested_impl.unify_impl_type_recalling.Kinds.ps tested_impl.unify_impl_type_recalling.Kinds.r (λ κs a. OnTested a)
+  pub unify_impl_type_recalling : Form tested_impl.unify_impl_type_recalling.Kinds.ps tested_impl.unify_impl_type_recalling.Kinds.r (λ κs a. OnTested a (nodes_in a))
       tested_impl.unify_impl_type_recalling.Reads.Asked tested_impl.unify_impl_type_recalling.Reads.Learnt call_impl.unify_impl_type_recalling.Reads.Learnt
-  pub unify_fn_sig : Form tested_unify_lists.unify_fn_sig.Kinds.ps tested_unify_lists.unify_fn_sig.Kinds.r (λ κs a. OnTested a)
+  pub unify_fn_sig : Form tested_unify_lists.unify_fn_sig.Kinds.ps tested_unify_lists.unify_fn_sig.Kinds.r (λ κs a. OnTested a (nodes_in a))
       tested_unify_lists.unify_fn_sig.Reads.Asked tested_unify_lists.unify_fn_sig.Reads.Learnt call_unify_lists.unify_fn_sig.Reads.Learnt
-  pub unify_fn_sig_recalling : Form tested_unify_lists.unify_fn_sig_recalling.Kinds.ps tested_unify_lists.unify_fn_sig_recalling.Kinds.r (λ κs a. OnTested a)
+  pub unify_fn_sig_recalling : Form tested_unify_lists.unify_fn_sig_recalling.Kinds.ps tested_unify_lists.unify_fn_sig_recalling.Kinds.r (λ κs a. OnTested a (nodes_in a))
       tested_unify_lists.unify_fn_sig_recalling.Reads.Asked tested_unify_lists.unify_fn_sig_recalling.Reads.Learnt call_unify_lists.unify_fn_sig_recalling.Reads.Learnt
-  pub finish_inference : Form tested_force.finish_inference.Kinds.ps tested_force.finish_inference.Kinds.r (λ κs a. OnTested a)
+  pub finish_inference : Form tested_force.finish_inference.Kinds.ps tested_force.finish_inference.Kinds.r (λ κs a. OnTested a (nodes_in a))
       tested_force.finish_inference.Reads.Asked tested_force.finish_inference.Reads.Learnt call_force.finish_inference.Reads.Learnt
-  pub finish_inference_where : Form tested_force.finish_inference_where.Kinds.ps tested_force.finish_inference_where.Kinds.r (λ κs a. OnTested a)
+  pub finish_inference_where : Form tested_force.finish_inference_where.Kinds.ps tested_force.finish_inference_where.Kinds.r (λ κs a. OnTested a (nodes_in a))
       tested_force.finish_inference_where.Reads.Asked tested_force.finish_inference_where.Reads.Learnt call_force.finish_inference_where.Reads.Learnt
-  pub find_related : Form tested_ask.find_related.Kinds.ps tested_ask.find_related.Kinds.r (λ κs a. OnTested a)
+  pub find_related : Form tested_ask.find_related.Kinds.ps tested_ask.find_related.Kinds.r (λ κs a. OnTested a (words_read a))
       tested_ask.find_related.Reads.Asked tested_ask.find_related.Reads.Learnt call_ask.find_related.Reads.Learnt
-  pub self_inverse_param : Form tested_ask.self_inverse_param.Kinds.ps tested_ask.self_inverse_param.Kinds.r (λ κs a. OnTested a)
+  pub self_inverse_param : Form tested_ask.self_inverse_param.Kinds.ps tested_ask.self_inverse_param.Kinds.r (λ κs a. OnTested a (words_read a))
       tested_ask.self_inverse_param.Reads.Asked tested_ask.self_inverse_param.Reads.Learnt call_ask.self_inverse_param.Reads.Learnt
-  pub self_inverse_lem : Form tested_ask.self_inverse.Kinds.ps tested_ask.self_inverse.Kinds.r (λ κs a. OnTested a)
+  pub self_inverse_lem : Form tested_ask.self_inverse.Kinds.ps tested_ask.self_inverse.Kinds.r (λ κs a. OnTested a (words_read a))
       tested_ask.self_inverse.Reads.Asked tested_ask.self_inverse.Reads.Learnt call_ask.self_inverse.Reads.Learnt
-  pub is_nil : Form tested_ask.is_nil.Kinds.ps tested_ask.is_nil.Kinds.r (λ κs a. OnTested a)
+  pub is_nil : Form tested_ask.is_nil.Kinds.ps tested_ask.is_nil.Kinds.r (λ κs a. OnTested a (words_read a))
       tested_ask.is_nil.Reads.Asked tested_ask.is_nil.Reads.Learnt call_ask.is_nil.Reads.Learnt
-  pub get_mod : Form tested_ask.get_mod.Kinds.ps tested_ask.get_mod.Kinds.r (λ κs a. OnTested a)
+  pub get_mod : Form tested_ask.get_mod.Kinds.ps tested_ask.get_mod.Kinds.r (λ κs a. OnTested a (words_read a))
       tested_ask.get_mod.Reads.Asked tested_ask.get_mod.Reads.Learnt call_ask.get_mod.Reads.Learnt
-  pub approx_eq : Form tested_impl.approx_eq.Kinds.ps tested_impl.approx_eq.Kinds.r (λ κs a. OnTested a)
+  pub approx_eq : Form tested_impl.approx_eq.Kinds.ps tested_impl.approx_eq.Kinds.r (λ κs a. OnTested a (words_read a))
       tested_impl.approx_eq.Reads.Asked tested_impl.approx_eq.Reads.Learnt call_impl.approx_eq.Reads.Learnt
-  pub show : Form tested_show.show.Kinds.ps tested_show.show.Kinds.r (λ κs a. OnTested a)
+  pub show : Form tested_show.show.Kinds.ps tested_show.show.Kinds.r (λ κs a. OnTested a (words_read a))
       tested_show.show.Reads.Asked tested_show.show.Reads.Learnt call_show.show.Reads.Learnt
-  pub show_impl_type : Form tested_show.show_impl_type.Kinds.ps tested_show.show_impl_type.Kinds.r (λ κs a. OnTested a)
+  pub show_impl_type : Form tested_show.show_impl_type.Kinds.ps tested_show.show_impl_type.Kinds.r (λ κs a. OnTested a (words_read a))
       tested_show.show_impl_type.Reads.Asked tested_show.show_impl_type.Reads.Learnt call_show.show_impl_type.Reads.Learnt
   -- store and names buffer are tested
-  pub name_state : Form tested_states.name_state.Kinds.ps tested_states.name_state.Kinds.r (λ κs a. OnTestedDesk a)
+  pub name_state : Form tested_states.name_state.Kinds.ps tested_states.name_state.Kinds.r (λ κs a. OnTestedDesk a (desk_names a))
       tested_states.name_state.Reads.Asked tested_states.name_state.Reads.Learnt call_states.name_state.Reads.Learnt
-  pub return_to : Form tested_states.return_to.Kinds.ps tested_states.return_to.Kinds.r (λ κs a. OnTestedDesk a)
+  pub return_to : Form tested_states.return_to.Kinds.ps tested_states.return_to.Kinds.r (λ κs a. OnTestedDesk a (desk_store a))
       tested_states.return_to.Reads.Asked tested_states.return_to.Reads.Learnt call_states.return_to.Reads.Learnt
-  pub drop_name : Form tested_states.drop_name.Kinds.ps tested_states.drop_name.Kinds.r (λ κs a. OnTestedDesk a)
+  pub drop_name : Form tested_states.drop_name.Kinds.ps tested_states.drop_name.Kinds.r (λ κs a. OnTestedDesk a (desk_names a))
       tested_states.drop_name.Reads.Asked tested_states.drop_name.Reads.Learnt call_states.drop_name.Reads.Learnt
-  pub reset : Form tested_states.reset.Kinds.ps tested_states.reset.Kinds.r (λ κs a. OnTestedDesk a)
+  pub reset : Form tested_states.reset.Kinds.ps tested_states.reset.Kinds.r (λ κs a. OnTestedDesk a (desk_in a))
       tested_states.reset.Reads.Asked tested_states.reset.Reads.Learnt call_states.reset.Reads.Learnt
 
 pub record StaysTested : Type 0 where

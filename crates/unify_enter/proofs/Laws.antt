@@ -40,7 +40,7 @@ use Rattle.merge.specs.Meaning.{Adds}
 use Rattle.plan.specs.declared.Plan.{Plan}
 use Rattle.meeting.specs.Asks.{SoundWords, Pair, Tops}
 use Rattle.meeting.specs.Steps.{PlanSpans, Stepped}
-use Rattle.meeting.specs.Meets.{met_by, MeetReady}
+use Rattle.meeting.specs.Meets.{met_by, Met, MeetReady}
 use Rattle.meeting.specs.declared.Steps.{Steps}
 use Rattle.meeting.specs.declared.Meeting.{Meeting}
 use Rattle.meeting.specs.declared.Meeting.TheVariants as meetings
@@ -180,6 +180,10 @@ climbed_here {x} {ws} {ks} {m} {n} {d} {p} {q} w h t = record {
   recalls = w.recalls;
   since = since_same;
 }
+
+pub at_roots : {x : Texts} {ws ks m ws₂ m₂ : List ℕ} {n d : ℕ} {p q : Ty} {a b : ℕ} {k : Meeting} → Climbed x ws ks m ws₂ m₂ n d p q a b
+    → Met x ws₂ ks n (ty_of a) (ty_of b) k → AtRoots x ws ks m ws₂ m₂ n d p q a b k
+at_roots u h = record { up = u; met = h }
 
 -- the ways out
 

@@ -4,8 +4,8 @@ use mathlib.Core.Path.{◌≡◌, refl, sym, ◌∙◌}
 use Prim.Native.Nat.{◌-◌, ◌≤◌}
 use native.Mathlib.Omega.{arith}
 use borrow.Author.Rules.{rules}
-use lib.ListN.{length, take, drop, length-take, length-drop}
-use lib.Seq.{take_all, length-take-le}
+use lib.ListN.{length, take}
+use lib.Seq.{take_all}
 use Rattle.append.proofs.Laws as laws
 use Rattle.append.proofs.put.Goals as goal
 

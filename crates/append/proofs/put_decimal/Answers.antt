@@ -2,12 +2,12 @@
 -- most one digit more than there are places before. The measure is what is left.
 -- Assumes nothing.
 use mathlib.Core.Path.{◌≡◌, refl, sym}
-use mathlib.Core.List.{◌++◌, append-nil}
-use Prim.Native.Nat.{◌+◌, ◌^◌, ◌<◌}
+use mathlib.Core.List.{append-nil}
+use Prim.Native.Nat.{◌<◌}
 use native.Mathlib.Omega.{arith}
 use borrow.Author.Rules.{rules}
-use lib.ListN.{length, set, drop, length-set}
-use Rattle.scope.specs.Show.{decimal_f, decimal}
+use lib.ListN.{length, set, length-set}
+use Rattle.scope.specs.Show.{decimal}
 use Rattle.append.proofs.Laws as laws
 use Rattle.append.proofs.put_decimal.Goals as goal
 

@@ -1,14 +1,11 @@
 -- `append::put_decimal` meets its contract: before each turn the digits found and the decimals of what is left are the number's; what is left has at
 -- most one digit more than there are places before. The measure is what is left.
 -- Assumes nothing.
-use mathlib.Core.Path.{◌≡◌, refl, sym}
-use mathlib.Core.List.{◌++◌, append-nil}
+use mathlib.Core.Path.{◌≡◌}
+use mathlib.Core.List.{◌++◌}
 use Prim.Native.Nat.{◌+◌, ◌^◌, ◌<◌}
-use native.Mathlib.Omega.{arith}
-use borrow.Author.Rules.{rules}
-use lib.ListN.{length, set, drop, length-set}
+use lib.ListN.{length, drop}
 use Rattle.scope.specs.Show.{decimal_f, decimal}
-use Rattle.append.proofs.Laws as laws
 use Rattle.append.proofs.put_decimal.Given as goal
 
 abbrev pub invariant-loop-m : goal.invariant-loop-m

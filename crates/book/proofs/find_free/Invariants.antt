@@ -1,16 +1,12 @@
 -- `book::find_free` meets its contract. The invariant: what is found from place i on is what is found in the whole. The measure is how many places are left.
 -- Assumes nothing.
-use mathlib.Core.Path.{◌≡◌, sym, ◌∙◌}
+use mathlib.Core.Path.{◌≡◌}
 use Prim.Native.Nat.{◌-◌, ◌≤◌}
-use native.Mathlib.Omega.{arith}
 use Rattle.scope.specs.Limits.{MAX_STATES}
 use Rattle.scope.specs.States.{is_free, place_where}
 use Rattle.book.specs.Words.{places_in}
 use Rattle.book.specs.Places.{place_of}
-use Rattle.book.proofs.Places.{book_lies}
-use Rattle.book.proofs.Names.{place_free, place_held}
-use Rattle.book.proofs.Search.{found_from, search_start, search_found, search_on, search_end}
-use borrow.Author.Rules.{rules}
+use Rattle.book.proofs.Search.{found_from}
 use Rattle.book.proofs.find_free.Given as goal
 
 abbrev pub invariant-loop-i : goal.invariant-loop-i

@@ -1,17 +1,12 @@
 -- `book::find_name` meets its contract. The invariant: what is found from place i on is what is found in the whole. The measure is how many places are left.
 -- Assumes nothing.
-use mathlib.Core.Path.{◌≡◌, sym, ◌∙◌}
-use mathlib.Core.Bool.{true, false}
+use mathlib.Core.Path.{◌≡◌}
 use Prim.Native.Nat.{◌-◌, ◌≤◌}
-use native.Mathlib.Omega.{arith}
 use Rattle.scope.specs.Limits.{MAX_STATES}
 use Rattle.scope.specs.States.{under, place_where}
 use Rattle.book.specs.Words.{places_in}
 use Rattle.book.specs.Places.{place_of}
-use Rattle.book.proofs.Places.{book_lies}
-use Rattle.book.proofs.Names.{place_name, place_under}
-use Rattle.book.proofs.Search.{found_from, search_start, search_found, search_on, search_end}
-use borrow.Author.Rules.{rules}
+use Rattle.book.proofs.Search.{found_from}
 use Rattle.book.proofs.find_name.Given as goal
 
 abbrev pub invariant-loop-i : goal.invariant-loop-i

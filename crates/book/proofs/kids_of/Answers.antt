@@ -1,6 +1,5 @@
 -- `book::kids_of` meets its contract. The part that is read is from where the children begin to the end of the place.
 -- Assumes nothing.
-use borrow.Author.Rules.{rules}
 use Rattle.book.proofs.kids_of.Goals as goal
 
 pub returns : goal.returns

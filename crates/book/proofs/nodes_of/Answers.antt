@@ -1,6 +1,5 @@
 -- `book::nodes_of` meets its contract. The part that is read ends where the children begin.
 -- Assumes nothing.
-use borrow.Author.Rules.{rules}
 use Rattle.book.proofs.nodes_of.Goals as goal
 
 pub returns : goal.returns

@@ -3,7 +3,6 @@
 use native.Mathlib.Omega.{arith}
 use native.Mathlib.Numerals.{add-one}
 use Rattle.book.proofs.Geometry.{place_next, place_inside}
-use borrow.Author.Rules.{rules}
 use Rattle.book.proofs.place.Goals as goal
 
 pub offset_bounds-bs-a : goal.offset_bounds-bs-a

@@ -1,12 +1,10 @@
 -- `book::put_name` meets its contract. The invariant: the first i bytes are written and the words behind them are as they were. The measure is what is left.
 -- Assumes nothing.
-use mathlib.Core.Path.{◌≡◌, ap, ◌∙◌}
-use Prim.Native.Nat.{◌-◌, ◌≤◌}
+use mathlib.Core.Path.{ap, ◌∙◌}
+use Prim.Native.Nat.{◌-◌}
 use native.Mathlib.Omega.{arith}
 use lib.ListN.{length, set, length-set}
-use Rattle.scope.specs.Limits.{MAX_STATE_NAME}
-use Rattle.book.proofs.Search.{bytes_put, put_bytes_start, put_bytes_length, put_byte, put_bytes_end}
-use borrow.Author.Rules.{rules}
+use Rattle.book.proofs.Search.{put_bytes_start, put_bytes_length, put_byte, put_bytes_end}
 use Rattle.book.proofs.put_name.Goals as goal
 
 pub loop-i-init : goal.loop-i-init

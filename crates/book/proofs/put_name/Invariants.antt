@@ -1,12 +1,9 @@
 -- `book::put_name` meets its contract. The invariant: the first i bytes are written and the words behind them are as they were. The measure is what is left.
 -- Assumes nothing.
-use mathlib.Core.Path.{◌≡◌, ap, ◌∙◌}
+use mathlib.Core.Path.{◌≡◌}
 use Prim.Native.Nat.{◌-◌, ◌≤◌}
-use native.Mathlib.Omega.{arith}
-use lib.ListN.{length, set, length-set}
 use Rattle.scope.specs.Limits.{MAX_STATE_NAME}
-use Rattle.book.proofs.Search.{bytes_put, put_bytes_start, put_bytes_length, put_byte, put_bytes_end}
-use borrow.Author.Rules.{rules}
+use Rattle.book.proofs.Search.{bytes_put}
 use Rattle.book.proofs.put_name.Given as goal
 
 abbrev pub invariant-loop-i : goal.invariant-loop-i

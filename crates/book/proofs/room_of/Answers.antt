@@ -1,6 +1,5 @@
 -- `book::room_of` meets its contract. Each capacity is the word that `word` returns.
 -- Assumes nothing.
-use borrow.Author.Rules.{rules}
 use Rattle.book.proofs.room_of.Goals as goal
 
 pub returns : goal.returns

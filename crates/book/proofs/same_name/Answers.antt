@@ -1,12 +1,11 @@
 -- `book::same_name` meets its contract. The invariant: from byte i on the two say what they say as a whole. The measure is what is left of the name.
 -- Assumes nothing.
 use mathlib.Core.Path.{◌≡◌, refl, sym, ◌∙◌}
-use Prim.Native.Nat.{◌+◌, ◌-◌, ◌≤◌}
+use Prim.Native.Nat.{◌+◌, ◌-◌}
 use native.Mathlib.Omega.{arith}
 use lib.ListN.{get_or}
 use Rattle.book.specs.Words.{name_length_in}
-use Rattle.book.proofs.Names.{Same, compare_free, compare_length, compare_stop, compare_step, compare_end}
-use borrow.Author.Rules.{rules}
+use Rattle.book.proofs.Names.{compare_free, compare_length, compare_stop, compare_step, compare_end}
 use Rattle.book.proofs.same_name.Goals as goal
 
 pub returns-then-n-eq0 : goal.returns-then-n-eq0

@@ -1,12 +1,11 @@
 -- `book::same_names` meets its contract. The invariant is that of `same_name`, with the other place's name for the bytes.
 -- Assumes nothing.
 use mathlib.Core.Path.{◌≡◌, refl, sym, ◌∙◌}
-use Prim.Native.Nat.{◌+◌, ◌-◌, ◌≤◌}
+use Prim.Native.Nat.{◌+◌, ◌-◌}
 use native.Mathlib.Omega.{arith}
 use lib.ListN.{get_or}
 use Rattle.book.specs.Words.{name_length_in, name_bytes_in}
-use Rattle.book.proofs.Names.{Same, name_length_lem, name_word, compare_free, compare_length, compare_stop, compare_step, compare_end}
-use borrow.Author.Rules.{rules}
+use Rattle.book.proofs.Names.{name_length_lem, name_word, compare_free, compare_length, compare_stop, compare_step, compare_end}
 use Rattle.book.proofs.same_names.Goals as goal
 
 pub returns-then-length-eq0 : goal.returns-then-length-eq0

@@ -1,16 +1,14 @@
 -- `book_sound::below` meets its contract. The invariant: the words from i to e pass just where those from a to e do. The measure is what is left.
 -- Assumes nothing.
-use mathlib.Core.Path.{◌≡◌, refl, sym, ◌∙◌}
+use mathlib.Core.Path.{refl, sym, ◌∙◌}
 use mathlib.Core.Bool.{Bool}
 use Prim.Native.Nat.{ℕ, ◌-◌}
 use native.Mathlib.Omega.{arith}
 use lib.ListN.{get_or}
 use borrow.Author.Tests.{lt-ltb, le-ltb}
-use Rattle.scope.specs.Base.{all, from}
 use Rattle.clean.proofs.Laws.{run_step, run_stop, run_end}
 use Rattle.book_sound.specs.Tests.{is_below}
 use Rattle.book_sound.proofs.PlaceLaws.{below_run}
-use borrow.Author.Rules.{rules}
 use Rattle.book_sound.proofs.below.Goals as goal
 
 pub loop-i-init : goal.loop-i-init

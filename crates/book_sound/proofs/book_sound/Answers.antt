@@ -3,7 +3,6 @@
 use mathlib.Core.Path.{sym, ◌∙◌}
 use Rattle.chart.specs.Env.{chart_in}
 use Rattle.book_sound.proofs.Laws as laws
-use borrow.Author.Rules.{rules}
 use Rattle.book_sound.proofs.book_sound.Goals as goal
 
 pub returns-then-bs-book_words : goal.returns-then-bs-book_words

@@ -3,7 +3,6 @@
 use mathlib.Core.Path.{sym}
 use native.Mathlib.Omega.{arith}
 use Rattle.book_sound.proofs.PlaceLaws.{name_long, name_first, name_last}
-use borrow.Author.Rules.{rules}
 use Rattle.book_sound.proofs.name_clean.Goals as goal
 
 pub returns-then-n-gt-MAX_STATE_NAME : goal.returns-then-n-gt-MAX_STATE_NAME

@@ -1,15 +1,13 @@
 -- `book_sound::name_once` meets its contract. The invariant: the places from j on pass just where those behind place i do. The measure is how many are left.
 -- Assumes nothing.
-use mathlib.Core.Path.{◌≡◌, refl, sym, ◌∙◌}
-use Prim.Native.Nat.{suc, ◌-◌}
+use mathlib.Core.Path.{refl, sym, ◌∙◌}
+use Prim.Native.Nat.{◌-◌}
 use native.Mathlib.Omega.{arith}
-use Rattle.scope.specs.Base.{all, from}
 use Rattle.scope.specs.Limits.{MAX_STATES}
 use Rattle.clean.proofs.Laws.{run_step, run_stop, run_end}
 use Rattle.book.proofs.Places.{book_lies}
 use Rattle.book.proofs.Names.{place_name}
 use Rattle.book_sound.proofs.NameLaws.{other_name, other_told, once_start, once_run}
-use borrow.Author.Rules.{rules}
 use Rattle.book_sound.proofs.name_once.Goals as goal
 
 pub overflow_add-j : goal.overflow_add-j

@@ -1,13 +1,9 @@
 -- `book_sound::names_differ` meets its contract. The invariant: the places from i on pass just where all do. The measure is how many are left.
 -- Assumes nothing.
-use mathlib.Core.Path.{◌≡◌, refl, sym, ◌∙◌}
+use mathlib.Core.Path.{refl, sym, ◌∙◌}
 use Prim.Native.Nat.{◌-◌}
-use Rattle.scope.specs.Limits.{MAX_STATES}
-use Rattle.scope.specs.States.{names_differ}
 use Rattle.names.proofs.Tests.{passes, fails}
-use Rattle.book.specs.Words.{places_in}
-use Rattle.book_sound.proofs.NameLaws.{differ_from, differ_step, differ_stop, differ_end}
-use borrow.Author.Rules.{rules}
+use Rattle.book_sound.proofs.NameLaws.{differ_step, differ_stop, differ_end}
 use Rattle.book_sound.proofs.names_differ.Goals as goal
 
 pub loop-i-init : goal.loop-i-init

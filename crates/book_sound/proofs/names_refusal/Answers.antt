@@ -3,7 +3,6 @@
 use Rattle.names.proofs.Tests.{passes, fails}
 use Rattle.book.specs.Words.{lent_book_of}
 use Rattle.book_sound.proofs.Laws.{names_back, names_unsound, names_pass}
-use borrow.Author.Rules.{rules}
 use Rattle.book_sound.proofs.names_refusal.Goals as goal
 
 pub returns-then-r-ne-NO_REFUSAL : goal.returns-then-r-ne-NO_REFUSAL

@@ -6,7 +6,6 @@ use Rattle.chart.specs.Env.{chart_in}
 use Rattle.layout.specs.Meaning.{header_in}
 use Rattle.book.specs.Words.{name_length_in}
 use Rattle.book_sound.proofs.PlaceLaws.{ok_free, ok_name, ok_nodes, ok_children, ok_node_count, ok_child_count, ok_sound}
-use borrow.Author.Rules.{rules}
 use Rattle.book_sound.proofs.place_sound.Goals as goal
 
 pub returns-then-name_length-eq0 : goal.returns-then-name_length-eq0

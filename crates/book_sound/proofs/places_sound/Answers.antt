@@ -1,17 +1,15 @@
 -- `book_sound::places_sound` meets its contract. The invariant: the places from i on pass just where all do. The measure is how many are left.
 -- Assumes nothing.
-use mathlib.Core.Path.{◌≡◌, refl, sym, ◌∙◌}
+use mathlib.Core.Path.{refl, sym, ◌∙◌}
 use mathlib.Core.Bool.{Bool}
 use Prim.Native.Nat.{ℕ, ◌-◌}
-use Rattle.scope.specs.Base.{all, from}
 use Rattle.scope.specs.Limits.{MAX_STATES}
 use Rattle.names.proofs.Tests.{passes, fails}
 use Rattle.chart.specs.Env.{chart_in}
 use Rattle.clean.proofs.Laws.{run_step, run_stop, run_end}
 use Rattle.book.specs.Words.{place_at}
 use Rattle.book.proofs.Places.{place_length}
-use Rattle.book_sound.specs.Tests.{place_ok, places_ok}
-use borrow.Author.Rules.{rules}
+use Rattle.book_sound.specs.Tests.{place_ok}
 use Rattle.book_sound.proofs.places_sound.Goals as goal
 
 pub loop-i-init : goal.loop-i-init

@@ -1,5 +1,4 @@
 -- `c_outs::figures_out` meets its contract: each word is a figure. Assumes nothing.
-use borrow.Author.Rules.{rules}
 use Rattle.c_outs.proofs.figures_out.Goals as goal
 
 pub returns : goal.returns

@@ -1,5 +1,4 @@
 -- `c_outs::kind_out` meets its contract: each word is a field, yes as 1. Assumes nothing.
-use borrow.Author.Rules.{rules}
 use Rattle.c_outs.proofs.kind_out.Goals as goal
 
 pub returns : goal.returns

@@ -1,5 +1,4 @@
 -- `c_outs::tell_figures` meets its contract: each case's number and words are the law's. Assumes nothing.
-use borrow.Author.Rules.{rules}
 use Rattle.c_outs.proofs.Laws.{figures_told}
 use Rattle.c_outs.proofs.tell_figures.Goals as goal
 

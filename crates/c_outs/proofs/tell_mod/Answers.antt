@@ -1,5 +1,4 @@
 -- `c_outs::tell_mod` meets its contract: each case's number and words are the law's. Assumes nothing.
-use borrow.Author.Rules.{rules}
 use Rattle.c_outs.proofs.Laws.{mod_told}
 use Rattle.c_outs.proofs.tell_mod.Goals as goal
 

@@ -1,5 +1,4 @@
 -- `c_outs::tell_node` meets its contract: each case's number and words are the law's. Assumes nothing.
-use borrow.Author.Rules.{rules}
 use Rattle.c_outs.proofs.Laws.{node_told}
 use Rattle.c_outs.proofs.tell_node.Goals as goal
 

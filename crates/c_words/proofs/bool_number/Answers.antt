@@ -3,7 +3,6 @@ use native.Mathlib.Omega.{arith}
 use lib.Dec.{eqb}
 use Rattle.promise.specs.declared.BoolAnswer.TheVariants.{Is, Refused}
 use Rattle.c_words.proofs.Laws.{number_bool, number_refused}
-use borrow.Author.Rules.{rules}
 use Rattle.c_words.proofs.bool_number.Goals as goal
 
 pub returns-in-Is : goal.returns-in-Is

@@ -7,7 +7,6 @@ use borrow.Author.Tests.{ltb-true}
 use Rattle.promise.specs.declared.CountAnswer.TheVariants.{Is, Refused}
 use Rattle.c_words.specs.Numbers.{REFUSED, count_low}
 use Rattle.c_words.proofs.Laws.{number_value, number_refused}
-use borrow.Author.Rules.{rules}
 use Rattle.c_words.proofs.count_number.Goals as goal
 
 pub returns-in-Is : goal.returns-in-Is

@@ -1,5 +1,4 @@
 -- `c_words::inverted_of` meets its contract: it is `is_set`. Assumes nothing.
-use borrow.Author.Rules.{rules}
 use Rattle.c_words.proofs.inverted_of.Goals as goal
 
 pub returns : goal.returns

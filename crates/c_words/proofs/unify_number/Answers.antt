@@ -2,7 +2,6 @@
 -- Assumes nothing.
 use mathlib.Core.Path.{ap, ◌∙◌}
 use native.Mathlib.Omega.{arith}
-use borrow.Author.Rules.{rules}
 use Rattle.call_unify.specs.declared.UnifyAnswer.TheVariants.{Is, Refused}
 use Rattle.c_words.specs.Numbers.{RESULTS, result_in}
 use Rattle.c_words.proofs.Laws.{number_value, number_refused, number_result}

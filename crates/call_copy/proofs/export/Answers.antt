@@ -1,7 +1,6 @@
 -- `call_copy::export` meets its contract: the opening is tested first; where 2 and 8 do not stand the source is tested, and the form for such a source
 -- answers.
 -- Assumes nothing.
-use borrow.Author.Rules.{rules}
 use Rattle.promise.proofs.BackLaws.{tested}
 use Rattle.tested_export.proofs.Laws.{refused_opening, refused_source, export_back}
 use Rattle.call_copy.proofs.export.Goals as goal

@@ -1,6 +1,5 @@
 -- `call_copy::import` meets its contract: where 2, 8 and 9 do not stand both stores are tested, and the form for such stores answers.
 -- Assumes nothing.
-use borrow.Author.Rules.{rules}
 use Rattle.copy_parts.specs.Places.{list_of}
 use Rattle.call_copy.proofs.Laws.{stores_back, both_tested}
 use Rattle.call_copy.proofs.import.Goals as goal

@@ -1,6 +1,5 @@
 -- `call_copy::stores` meets its contract: 2 and 8 come first, and the source is asked with the chart that passed them.
 -- Assumes nothing.
-use borrow.Author.Rules.{rules}
 use Rattle.call_copy.proofs.Laws.{stores_lent, stores_source, stores_pass}
 use Rattle.call_copy.proofs.stores.Goals as goal
 

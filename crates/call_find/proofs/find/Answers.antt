@@ -1,6 +1,5 @@
 -- `call_find::find` meets its contract: where 2 and 8 do not stand the store is tested, and the form for such a store answers.
 -- Assumes nothing.
-use borrow.Author.Rules.{rules}
 use Rattle.scope.specs.Calls.{find_call}
 use Rattle.promise.proofs.BackLaws.{tested, told_back}
 use Rattle.call_find.proofs.find.Goals as goal

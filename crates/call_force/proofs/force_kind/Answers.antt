@@ -1,7 +1,6 @@
 -- `call_force::force_kind` meets its contract: where 2 and 8 do not stand the store is tested, and the form for such a store answers.
 -- Assumes nothing.
 use mathlib.Core.Path.{refl}
-use borrow.Author.Rules.{rules}
 use Rattle.scope.specs.Calls.{force_kind_call}
 use Rattle.promise.proofs.BackLaws.{tested, did_back}
 use Rattle.call_force.proofs.force_kind.Goals as goal

@@ -1,6 +1,5 @@
 -- `call_impl::unify_impl_type_recalling` meets its contract: where 2 and 8 do not stand the store is tested, and the form for such a store answers.
 -- Assumes nothing.
-use borrow.Author.Rules.{rules}
 use Rattle.scope.specs.Calls.{unify_impl_type_call}
 use Rattle.promise.proofs.BackLaws.{tested, did_back}
 use Rattle.call_impl.proofs.unify_impl_type_recalling.Goals as goal

@@ -1,6 +1,5 @@
 -- `call_make::new_vars` meets its contract: where 2 and 8 do not stand the store is tested, and the form for such a store answers.
 -- Assumes nothing.
-use borrow.Author.Rules.{rules}
 use Rattle.scope.specs.Calls.{new_vars_call}
 use Rattle.promise.proofs.BackLaws.{tested, list_back}
 use Rattle.call_make.proofs.new_vars.Goals as goal

@@ -1,6 +1,5 @@
 -- `call_new::new_struct` meets its contract: where 2 and 8 do not stand the store is tested, and the form for such a store answers.
 -- Assumes nothing.
-use borrow.Author.Rules.{rules}
 use Rattle.scope.specs.Calls.{new_call, new_struct_call}
 use Rattle.promise.proofs.BackLaws.{tested, did_back}
 use Rattle.call_new.proofs.new_struct.Goals as goal

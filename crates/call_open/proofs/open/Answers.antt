@@ -1,6 +1,5 @@
 -- `call_open::open` meets its contract: slices that pass the test are what `make` asks, and it leaves the store just opened.
 -- Assumes nothing.
-use borrow.Author.Rules.{rules}
 use Rattle.refusals.proofs.OpenLaws.{openable}
 use Rattle.call_open.proofs.OpenLaws.{open_back, open_done}
 use Rattle.call_open.proofs.open.Goals as goal
@@ -16,4 +15,4 @@ open-requires c = let a = c.args in
 pub returns : goal.returns
 returns c = let a = c.args in
     let passed = c.if-code-ne-NO_REFUSAL.false in
-    open_done a.nodes a.children a.h.now a.ws.now a.ks.now c.opening-code.result c.opening-code.ensures passed c.before.before.before.before.before.before.«open».ensures
+    open_done a.nodes a.children a.h.now a.ws.now a.ks.now c.opening-code.result c.opening-code.ensures passed c.«open».ensures

@@ -1,6 +1,5 @@
 -- `call_read::child` meets its contract: where 2 and 8 do not stand the store is tested, and the form for such a store answers.
 -- Assumes nothing.
-use borrow.Author.Rules.{rules}
 use Rattle.scope.specs.Calls.{child_call}
 use Rattle.promise.proofs.BackLaws.{tested, told_back}
 use Rattle.call_read.proofs.child.Goals as goal

@@ -2,7 +2,6 @@
 -- Assumes nothing.
 use mathlib.Core.Path.{refl, sym}
 use lib.Seq.{length-take-le}
-use borrow.Author.Rules.{rules}
 use Rattle.call_show.proofs.hand_back.Goals as goal
 
 pub slice_bounds-result-end : goal.slice_bounds-result-end

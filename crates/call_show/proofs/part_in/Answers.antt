@@ -2,7 +2,6 @@
 -- Assumes nothing.
 use mathlib.Core.Path.{refl}
 use borrow.Author.Tests.{ne_eqb}
-use borrow.Author.Rules.{rules}
 use Rattle.call_show.proofs.part_in.Goals as goal
 
 pub returns-in-Is : goal.returns-in-Is

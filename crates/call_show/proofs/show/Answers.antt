@@ -1,6 +1,5 @@
 -- `call_show::show` meets its contract: where 2 and 8 do not stand the store is tested, and the form for such a store answers.
 -- Assumes nothing.
-use borrow.Author.Rules.{rules}
 use Rattle.scope.specs.Calls.{show_call}
 use Rattle.promise.proofs.BackLaws.{tested, print_back}
 use Rattle.call_show.proofs.show.Goals as goal

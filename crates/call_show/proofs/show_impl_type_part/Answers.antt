@@ -1,7 +1,6 @@
 -- `call_show::show_impl_type_part` meets its contract: what the first form promises of the buffer, its part promises.
 -- Assumes nothing.
 use Rattle.types.specs.Impls.{impl_means}
-use borrow.Author.Rules.{rules}
 use Rattle.layout.specs.Words.{lent_of}
 use Rattle.sound.specs.Tests.{env_in}
 use Rattle.call_show.proofs.Laws.{impl_hands, hand_promised}

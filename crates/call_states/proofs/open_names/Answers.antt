@@ -1,7 +1,6 @@
 -- `call_states::open_names` meets its contract: a slice that passes the test is long enough, and no name is held then.
 -- Assumes nothing.
 use Rattle.call_states.proofs.Laws.{open_back, open_words, open_done}
-use borrow.Author.Rules.{rules}
 use Rattle.call_states.proofs.open_names.Goals as goal
 
 pub returns-then-short-ne-NO_REFUSAL : goal.returns-then-short-ne-NO_REFUSAL

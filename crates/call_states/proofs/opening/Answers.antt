@@ -5,7 +5,6 @@ use lib.ListN.{length}
 use borrow.Author.Tests.{le-leb, lt-leb}
 use Rattle.refusals.proofs.OpenLaws.{many_nodes, many_children, words_short, words_enough}
 use Rattle.book.specs.Words.{book_words}
-use borrow.Author.Rules.{rules}
 use Rattle.call_states.proofs.opening.Goals as goal
 
 pub returns-then-nodes-gt-MAX_NODES : goal.returns-then-nodes-gt-MAX_NODES

@@ -4,7 +4,6 @@ use Rattle.layout.specs.Words.{lent_of}
 use Rattle.sound.specs.Tests.{env_in}
 use Rattle.book.specs.Words.{lent_book_of}
 use Rattle.call_states.proofs.Laws.{names_tested, return_back}
-use borrow.Author.Rules.{rules}
 use Rattle.call_states.proofs.return_to.Goals as goal
 
 pub returns-then-broken-ne-NO_REFUSAL : goal.returns-then-broken-ne-NO_REFUSAL

@@ -3,7 +3,6 @@
 use Rattle.scope.specs.Limits.{MAX_NODES}
 use mathlib.Core.Path.{refl}
 use borrow.Author.Tests.{le-leb, lt-leb}
-use borrow.Author.Rules.{rules}
 use Rattle.call_unify.proofs.memory_words.Goals as goal
 
 pub returns-then-n-le-MAX_NODES : goal.returns-then-n-le-MAX_NODES

@@ -1,5 +1,4 @@
 -- `chart::chart_ok` meets its contract: the tests are those of the definition, in its order, and each way out goes by those before it. Assumes nothing.
-use borrow.Author.Rules.{rules}
 use borrow.Author.Tests.{eq-eqb, ne_eqb}
 use Prim.Native.Nat.{◌%◌}
 use lib.ListN.{length}

@@ -1,5 +1,4 @@
 -- `chart::dual_at` meets its contract: the flag is the word that was read. Assumes nothing.
-use borrow.Author.Rules.{rules}
 use Rattle.chart.proofs.dual_at.Goals as goal
 
 pub returns : goal.returns

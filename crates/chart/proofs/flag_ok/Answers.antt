@@ -1,5 +1,4 @@
 -- `chart::flag_ok` meets its contract: the test of the sort chooses between the two tests of the flag. Assumes nothing.
-use borrow.Author.Rules.{rules}
 use borrow.Author.Tests.{eq-eqb, ne_eqb}
 use Rattle.scope.specs.Chart.{STRUCT_SORT, UNION_SORT}
 use Rattle.chart.proofs.flag_ok.Goals as goal

@@ -1,5 +1,4 @@
 -- `chart::fn_trait_ok` meets its contract: none, or a trait's record. Assumes nothing.
-use borrow.Author.Rules.{rules}
 use borrow.Author.Tests.{eq-eqb, ne_eqb}
 use Rattle.scope.specs.Limits.{NONE}
 use Rattle.chart.proofs.fn_trait_ok.Goals as goal

@@ -1,5 +1,4 @@
 -- `chart::is_trait` meets its contract: the sort is the word that was read. Assumes nothing.
-use borrow.Author.Rules.{rules}
 use Rattle.chart.proofs.is_trait.Goals as goal
 
 pub returns : goal.returns

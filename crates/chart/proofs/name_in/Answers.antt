@@ -1,5 +1,4 @@
 -- `chart::name_in` meets its contract: a name is three words in a row. Assumes nothing.
-use borrow.Author.Rules.{rules}
 use Rattle.chart.proofs.Laws as laws
 use Rattle.chart.proofs.name_in.Goals as goal
 

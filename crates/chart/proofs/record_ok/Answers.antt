@@ -1,7 +1,6 @@
 -- `chart::record_ok` meets its contract: the tests are those of the definition, in its order, and each way out goes by those before it. Assumes nothing.
 use mathlib.Core.Path.{◌≡◌}
 use mathlib.Core.Bool.{Bool}
-use borrow.Author.Rules.{rules}
 use Rattle.scope.specs.Names.{Texts, Name, name_ok}
 use Rattle.scope.specs.Chart.{record_ok, TRAIT_FN_SORT}
 use Rattle.names.proofs.Tests.{passes, fails, within, beyond}

@@ -1,16 +1,12 @@
 -- `chart::records_ok` meets its contract. The loop's invariant: the records from n on pass if and only if all of them do. The measure is what is left of
 -- them. Assumes nothing.
-use mathlib.Core.Path.{◌≡◌, refl, sym, ◌∙◌}
+use mathlib.Core.Path.{refl, sym, ◌∙◌}
 use native.Mathlib.Omega.{arith}
-use borrow.Author.Rules.{rules}
-use Prim.Native.Nat.{◌≤◌, ◌-◌}
-use lib.ListN.{length, drop}
-use Rattle.scope.specs.Base.{all}
+use Prim.Native.Nat.{◌-◌}
 use Rattle.scope.specs.Chart.{record_ok, no_record}
 use Rattle.names.proofs.Tests.{passes, fails, all_step, all_fails, all_end}
 use Rattle.chart.specs.Words.{records_of}
 use Rattle.chart.specs.Env.{chart_in}
-use Rattle.chart.proofs.Laws as laws
 use Rattle.chart.proofs.records_ok.Goals as goal
 
 pub loop-n-init : goal.loop-n-init

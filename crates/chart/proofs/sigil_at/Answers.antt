@@ -1,5 +1,4 @@
 -- `chart::sigil_at` meets its contract: a sigil is three words in a row, and past the fourth there is none. Assumes nothing.
-use borrow.Author.Rules.{rules}
 use mathlib.Core.Path.{sym}
 use native.Mathlib.Omega.{arith}
 use Rattle.chart.proofs.Laws as laws

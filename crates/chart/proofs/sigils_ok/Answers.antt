@@ -1,11 +1,8 @@
 -- `chart::sigils_ok` meets its contract. The loop's invariant: the sigils from i on pass if and only if all four do. The measure is what is left of
 -- them. Assumes nothing.
-use mathlib.Core.Path.{◌≡◌, refl, sym, ◌∙◌}
+use mathlib.Core.Path.{refl, sym, ◌∙◌}
 use native.Mathlib.Omega.{arith}
-use borrow.Author.Rules.{rules}
-use Prim.Native.Nat.{◌≤◌, ◌-◌}
-use lib.ListN.{drop}
-use Rattle.scope.specs.Base.{all}
+use Prim.Native.Nat.{◌-◌}
 use Rattle.scope.specs.Names.{name}
 use Rattle.scope.specs.Chart.{sigil_ok}
 use Rattle.names.specs.Place.{texts}

@@ -1,5 +1,4 @@
 -- `chart::trait_ok` meets its contract: the test of the sort chooses between the two tests of the trait. Assumes nothing.
-use borrow.Author.Rules.{rules}
 use borrow.Author.Tests.{eq-eqb, ne_eqb}
 use Rattle.scope.specs.Chart.{TRAIT_FN_SORT}
 use Rattle.chart.proofs.trait_ok.Goals as goal

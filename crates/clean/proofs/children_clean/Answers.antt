@@ -1,11 +1,8 @@
 -- `clean::children_clean` meets its contract. The invariant: the children from i to e pass just where those from a to e do.
 -- The measure is what is left.
 -- Assumes nothing.
-use mathlib.Core.Path.{◌≡◌, refl, sym, ap, ◌∙◌}
+use mathlib.Core.Path.{refl, sym, ap, ◌∙◌}
 use Prim.Native.Nat.{◌-◌}
-use borrow.Author.Rules.{rules}
-use borrow.Author.Tests.{not-true, not-false}
-use Rattle.scope.specs.Base.{all, from}
 use Rattle.clean.specs.Parts.{slot_clean_if}
 use Rattle.clean.proofs.Laws.{child_clean, run_step, run_stop, run_end, slots_run}
 use Rattle.clean.proofs.children_clean.Goals as goal

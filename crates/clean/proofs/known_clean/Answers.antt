@@ -3,7 +3,6 @@
 -- Assumes nothing.
 use borrow.Author.Tests.{le-leb, lt-leb}
 use Rattle.clean.proofs.Laws.{known_parts, known_names}
-use borrow.Author.Rules.{rules}
 use Rattle.clean.proofs.known_clean.Goals as goal
 
 pub returns-then-c-x : goal.returns-then-c-x

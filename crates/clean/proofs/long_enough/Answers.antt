@@ -2,7 +2,6 @@
 -- Assumes nothing.
 use borrow.Author.Tests.{le-leb, lt-leb}
 use Rattle.clean.proofs.Laws.{long_by}
-use borrow.Author.Rules.{rules}
 use Rattle.clean.proofs.long_enough.Goals as goal
 
 pub returns-then-h-lt-HEAD_WORDS : goal.returns-then-h-lt-HEAD_WORDS

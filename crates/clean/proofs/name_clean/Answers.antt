@@ -1,7 +1,7 @@
 -- `clean::name_clean` meets its contract. A length that is not 0 leaves only the question whether there may be a name; at 0 the other two words
 -- are tested.
 -- Assumes nothing.
-use mathlib.Core.Path.{sym, ◌∙◌}
+use mathlib.Core.Path.{sym}
 use borrow.Author.Tests.{eq-eqb, ne_eqb}
 use Rattle.clean.proofs.Laws.{name_none, name_some}
 use Rattle.clean.proofs.name_clean.Goals as goal

@@ -1,10 +1,8 @@
 -- `clean::named_children` meets its contract: its tests are those that `named_of` picks by; of no children none has a name.
 -- Assumes nothing.
-use mathlib.Core.Path.{sym}
 use native.Mathlib.Omega.{arith}
 use borrow.Author.Tests.{eq-eqb, ne_eqb}
 use Rattle.clean.proofs.Laws.{named_most}
-use borrow.Author.Rules.{rules}
 use Rattle.clean.proofs.named_children.Goals as goal
 
 pub returns-then-names-eq-CHILD_NAMES : goal.returns-then-names-eq-CHILD_NAMES

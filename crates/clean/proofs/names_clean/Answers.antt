@@ -5,7 +5,6 @@ use mathlib.Core.Path.{ap}
 use native.Mathlib.Omega.{arith}
 use borrow.Author.Tests.{not-true, not-false}
 use Rattle.clean.proofs.Laws.{named_most, names_run}
-use borrow.Author.Rules.{rules}
 use Rattle.clean.proofs.names_clean.Goals as goal
 
 pub overflow_add-named : goal.overflow_add-named

@@ -4,7 +4,6 @@
 use mathlib.Core.Path.{sym, ◌∙◌}
 use native.Mathlib.Nat.{add-sub_cancel_left}
 use Rattle.clean.proofs.Laws.{node_known, node_plain}
-use borrow.Author.Rules.{rules}
 use Rattle.clean.proofs.node_clean.Goals as goal
 
 pub returns-then-x-eq-KNOWN_TAG : goal.returns-then-x-eq-KNOWN_TAG

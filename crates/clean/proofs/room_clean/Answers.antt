@@ -1,7 +1,6 @@
 -- `clean::room_clean` meets its contract: slices that are long enough are tested for unused words, as `room_clean` does.
 -- Assumes nothing.
 use mathlib.Core.Path.{sym, ◌∙◌}
-use borrow.Author.Rules.{rules}
 use Rattle.layout.proofs.StoreLaws.{lies}
 use Rattle.clean.proofs.room_clean.Goals as goal
 

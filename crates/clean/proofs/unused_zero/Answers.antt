@@ -3,7 +3,6 @@
 use mathlib.Core.Path.{ap}
 use native.Mathlib.Omega.{arith}
 use Rattle.clean.proofs.Laws.{unused_by}
-use borrow.Author.Rules.{rules}
 use Rattle.clean.proofs.unused_zero.Goals as goal
 
 pub zero_between-requires : goal.zero_between-requires

@@ -1,13 +1,11 @@
 -- `clean::zero_between` meets its contract. The invariant: the words before i are zero if `zero` says so, and it says so with those from i to e just where
 -- all words from a to e are. The measure is what is left.
 -- Assumes nothing.
-use mathlib.Core.Path.{◌≡◌, refl, sym, ◌∙◌}
+use mathlib.Core.Path.{◌≡◌}
 use mathlib.Core.Bool.{◌&&◌}
 use Prim.Native.Nat.{◌-◌}
-use borrow.Author.Rules.{rules}
-use borrow.Author.Tests.{eq-eqb, ne_eqb}
 use Rattle.scope.specs.Base.{all, from}
-use Rattle.clean.proofs.Laws.{zero_at, flag_step, flag_stop, flag_end, zeros_run}
+use Rattle.clean.proofs.Laws.{zero_at}
 use Rattle.clean.proofs.zero_between.Given as goal
 
 abbrev pub invariant-loop-i : goal.invariant-loop-i

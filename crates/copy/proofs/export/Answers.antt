@@ -5,7 +5,6 @@ use native.Mathlib.Omega.{arith}
 use Rattle.scope.specs.Limits.{MAX_NODES}
 use Rattle.copy.proofs.WholeLaws.{error_copyable, nil_copyable, list_copyable, remember_long, export_is}
 use Rattle.roots.proofs.KeptLaws.{cached_zeros}
-use borrow.Author.Rules.{rules}
 use Rattle.copy.proofs.export.Goals as goal
 
 pub open-requires : goal.open-requires
@@ -14,65 +13,32 @@ open-requires c = c.requires.openable
 pub copy_remembered-error-requires : goal.copy_remembered-error-requires
 copy_remembered-error-requires c = (
   error_copyable c.args.sh.now c.args.sw.now c.args.sk.now c.args.ts.now MAX_NODES c.requires c.read_header-x.ensures
-      c.requires.source.few at_open.«open».ensures,
+      c.requires.source.few c.«open».ensures,
   cached_zeros _ _ MAX_NODES,
 )
 
 pub copy_remembered-nil-requires : goal.copy_remembered-nil-requires
 copy_remembered-nil-requires c = (
   nil_copyable c.args.sh.now c.args.sw.now c.args.sk.now c.args.ts.now MAX_NODES c.requires c.read_header-x.ensures
-      c.requires.source.few at_open.«open».ensures c.copy_remembered-error.ensures.0,
+      c.requires.source.few c.«open».ensures c.copy_remembered-error.ensures.0,
   c.copy_remembered-error.ensures.1,
 )
 
 pub copy_all-requires : goal.copy_all-requires
-copy_all-requires c = (
-  list_copyable c.args.sh.now c.args.sw.now c.args.sk.now c.args.ts.now MAX_NODES c.requires c.read_header-x.ensures
-      c.requires.source.few at_open.«open».ensures c.copy_remembered-error.ensures.0 c.copy_remembered-nil.ensures.0,
-  (c.requires.long, c.copy_remembered-nil.ensures.1),
-)
+copy_all-requires c = record {
+  all_copyable = list_copyable c.args.sh.now c.args.sw.now c.args.sk.now c.args.ts.now MAX_NODES c.requires c.read_header-x.ensures
+      c.requires.source.few c.«open».ensures c.copy_remembered-error.ensures.0 c.copy_remembered-nil.ensures.0;
+  ts_in_bounds = c.requires.long;
+  cached = c.copy_remembered-nil.ensures.1;
+}
 
 pub remember-requires : goal.remember-requires
 remember-requires c =
     remember_long c.args.sh.now c.args.sw.now c.args.sk.now c.args.ts.now MAX_NODES c.requires c.read_header-x.ensures
-    c.requires.source.few at_open.«open».ensures c.copy_remembered-error.ensures.0 c.copy_remembered-nil.ensures.0 c.copy_all.ensures.0
-
-pub shape_of-h : goal.shape_of-h
-shape_of-h c =
-    omega (
-      arith,
-      c.remember.auto.h,
-      c.copy_all.auto.h,
-      c.copy_remembered-nil.auto.h,
-      c.copy_remembered-error.auto.h,
-      at_open.«open».auto.0,
-    )
-
-pub shape_of-ws : goal.shape_of-ws
-shape_of-ws c =
-    omega (
-      arith,
-      c.copy_all.auto.ws,
-      c.copy_remembered-nil.auto.ws,
-      c.copy_remembered-error.auto.ws,
-      at_open.«open».auto.1.0,
-    )
-
-pub shape_of-ks : goal.shape_of-ks
-shape_of-ks c =
-    omega (
-      arith,
-      c.copy_all.auto.ks,
-      c.copy_remembered-nil.auto.ks,
-      c.copy_remembered-error.auto.ks,
-      at_open.«open».auto.1.1.0,
-    )
-
-pub shape_of-out : goal.shape_of-out
-shape_of-out c = c.copy_all.auto.out
+    c.requires.source.few c.«open».ensures c.copy_remembered-error.ensures.0 c.copy_remembered-nil.ensures.0 c.copy_all.ensures.0
 
 pub returns : goal.returns
 returns c =
     export_is c.args.sh.now c.args.sw.now c.args.sk.now c.args.ts.now MAX_NODES c.requires c.read_header-x.ensures
-    c.requires.source.few at_open.«open».ensures c.copy_remembered-error.ensures.0 c.copy_remembered-nil.ensures.0
+    c.requires.source.few c.«open».ensures c.copy_remembered-error.ensures.0 c.copy_remembered-nil.ensures.0
     c.copy_all.ensures.0 c.remember.ensures

@@ -3,12 +3,11 @@
 use Rattle.scope.specs.Limits.{MAX_NODES}
 use Rattle.copy.proofs.WholeLaws.{import_copyable, import_is}
 use Rattle.roots.proofs.KeptLaws.{cached_zeros}
-use borrow.Author.Rules.{rules}
 use Rattle.copy.proofs.import.Goals as goal
 
 pub copy_all-requires : goal.copy_all-requires
 copy_all-requires c =
-    (import_copyable MAX_NODES c.requires c.requires.source.few, (c.requires.long, cached_zeros _ _ MAX_NODES))
+    record { all_copyable = import_copyable MAX_NODES c.requires c.requires.source.few; ts_in_bounds = c.requires.long; cached = cached_zeros _ _ MAX_NODES }
 
 pub returns : goal.returns
 returns c =

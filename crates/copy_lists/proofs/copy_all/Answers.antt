@@ -5,14 +5,10 @@ use Prim.Native.Nat.{◌-◌}
 use native.Mathlib.Omega.{arith}
 use lib.ListN.{length, length-map}
 use Rattle.scope.specs.Types.{ty_of}
-use Rattle.store.specs.Entries.{types_in}
 use Rattle.store.proofs.EntryLaws.{listed_below}
 use Rattle.needs.proofs.SourceLaws.{listed_next}
-use Rattle.copy_parts.specs.Places.{list_of}
-use Rattle.copy_lists.proofs.ListLaws.{Listing, listing_start, listing_copyable, listing_next, listing_end}
-use mathlib.Core.Path.{◌≡◌, refl, ◌∙◌}
-use Rattle.roots.specs.Kept.{Cached}
-use borrow.Author.Rules.{rules}
+use Rattle.copy_lists.proofs.ListLaws.{listing_start, listing_copyable, listing_next, listing_end}
+use mathlib.Core.Path.{refl, ◌∙◌}
 use Rattle.copy_lists.proofs.copy_all.Goals as goal
 
 pub loop-i-init : goal.loop-i-init
@@ -31,15 +27,15 @@ copy-next-requires c =
 
 pub offset_bounds-out-i : goal.offset_bounds-out-i
 offset_bounds-out-i c =
-    omega (arith, c.loop-i-test.true, at-good.well-formed.1.1.1.1.1.1.1.1.1.1.0)
+    omega (arith, c.loop-i-test.true)
 
 pub bounds-out-i : goal.bounds-out-i
 bounds-out-i c =
-    omega (arith, c.loop-i-test.true, c.loop-i.invariant.0.wide, c.requires.1)
+    omega (arith, c.loop-i-test.true, c.loop-i.invariant.0.wide, c.requires.ts_in_bounds)
 
 pub overflow_add-i : goal.overflow_add-i
 overflow_add-i c =
-    omega (arith, c.loop-i-test.true, at-good.well-formed.1.1.1.1.1.1.1.1.1.1.0)
+    omega (arith, c.loop-i-test.true)
 
 pub loop-i-smaller : goal.loop-i-smaller
 loop-i-smaller c = omega arith
@@ -48,7 +44,7 @@ pub loop-i-preserved : goal.loop-i-preserved
 loop-i-preserved c = (
   listing_next c.loop-i.invariant.0 _ (listed_next c.args.ts.now c.loop-i.i c.loop-i-test.true) c.copy-next.ensures.0
       (listed_below c.args.ts.now c.loop-i.i c.loop-i-test.true)
-      (omega (arith, c.loop-i.invariant.0.wide, c.requires.1))
+      (omega (arith, c.loop-i.invariant.0.wide, c.requires.ts_in_bounds))
       (record {
         tables = c.copy-next.auto.table;
         heads = c.copy-next.auto.h;

@@ -2,17 +2,12 @@
 -- front of the answer's list. The measure is what is left of its length.
 -- Assumes nothing.
 use Prim.Native.Nat.{◌-◌}
-use native.Mathlib.Omega.{arith}
-use lib.ListN.{length, length-map}
-use Rattle.scope.specs.Types.{ty_of}
+use lib.ListN.{length}
 use Rattle.store.specs.Entries.{types_in}
-use Rattle.store.proofs.EntryLaws.{listed_below}
-use Rattle.needs.proofs.SourceLaws.{listed_next}
 use Rattle.copy_parts.specs.Places.{list_of}
-use Rattle.copy_lists.proofs.ListLaws.{Listing, listing_start, listing_copyable, listing_next, listing_end}
-use mathlib.Core.Path.{◌≡◌, refl, ◌∙◌}
+use Rattle.copy_lists.proofs.ListLaws.{Listing}
+use mathlib.Core.Path.{◌≡◌}
 use Rattle.roots.specs.Kept.{Cached}
-use borrow.Author.Rules.{rules}
 use Rattle.copy_lists.proofs.copy_all.Given as goal
 
 abbrev pub invariant-loop-i : goal.invariant-loop-i

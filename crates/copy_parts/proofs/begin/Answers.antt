@@ -3,7 +3,6 @@
 use native.Mathlib.Omega.{arith}
 use Rattle.make.proofs.MakeLaws.{blank_ready, blank_made}
 use Rattle.copy_parts.proofs.StepLaws.{begin_fits, begin_is}
-use borrow.Author.Rules.{rules}
 use Rattle.copy_parts.proofs.begin.Goals as goal
 
 pub push_unknown-new-requires : goal.push_unknown-new-requires

@@ -2,7 +2,6 @@
 -- Assumes nothing.
 use mathlib.Core.Path.{sym}
 use lib.ListN.{get_or-eq_default}
-use borrow.Author.Rules.{rules}
 use Rattle.copy_parts.proofs.copy_of.Goals as goal
 
 pub returns-else-at-table : goal.returns-else-at-table

@@ -3,7 +3,6 @@
 use mathlib.Core.Path.{◌∙◌}
 use Rattle.scope.specs.Types.{flip}
 use Rattle.copy_parts.proofs.PlaceLaws.{place_missing, place_entry}
-use borrow.Author.Rules.{rules}
 use Rattle.copy_parts.proofs.entry_place.Goals as goal
 
 pub returns-then-params-at : goal.returns-then-params-at

@@ -1,8 +1,6 @@
 -- `copy_parts::kind_place` meets its contract, one law for each way out: no list, no Param, a Param.
 -- Assumes nothing.
-use borrow.Author.Tests.{not-true, not-false}
 use Rattle.copy_parts.proofs.PlaceLaws.{place_unlisted, place_other, place_param}
-use borrow.Author.Rules.{rules}
 use Rattle.copy_parts.proofs.kind_place.Goals as goal
 
 pub returns-then-not-with : goal.returns-then-not-with
@@ -13,4 +11,4 @@ returns-then-kind-ne-PARAM c = place_other c.if-kind-ne-PARAM.true
 
 pub returns : goal.returns
 returns c =
-    place_param c.if-not-with.false c.if-kind-ne-PARAM.false c.entry_IsPlace.ensures
+    place_param c.if-not-with.false c.if-kind-ne-PARAM.false c.entry_place.ensures

@@ -3,7 +3,6 @@
 use mathlib.Core.Path.{ap}
 use Rattle.scope.specs.Sound.{Slot}
 use Rattle.copy_parts.specs.Steps.{retyped}
-use borrow.Author.Rules.{rules}
 use Rattle.copy_parts.proofs.move_child.Goals as goal
 
 pub returns : goal.returns

@@ -2,7 +2,6 @@
 -- Assumes nothing.
 use mathlib.Core.Path.{refl, sym}
 use lib.Seq.{set_out}
-use borrow.Author.Rules.{rules}
 use Rattle.copy_parts.proofs.note.Goals as goal
 
 pub returns-then-at-table : goal.returns-then-at-table

@@ -1,7 +1,6 @@
 -- `copy_parts::root_place` meets its contract: the table's number says whether there is a copy.
 -- Assumes nothing.
 use Rattle.copy_parts.proofs.PlaceLaws.{place_copied, place_new}
-use borrow.Author.Rules.{rules}
 use Rattle.copy_parts.proofs.root_place.Goals as goal
 
 pub returns-then-was-ne0 : goal.returns-then-was-ne0

@@ -1,42 +1,37 @@
 -- `copy_type::copy` meets its contract. The measure is the depth. A root that has no copy is begun before its children are copied; the loop's invariant is
 -- `Filling`: what is left of them gives what all of them give, and those done stand in the run reserved for them. Beside it the cache keeps roots.
 -- Assumes nothing.
-use mathlib.Core.Path.{◌≡◌, refl, ap, ◌∙◌}
+use mathlib.Core.Path.{refl, ap, ◌∙◌}
 use Prim.Native.Nat.{◌-◌}
 use native.Mathlib.Omega.{arith}
-use lib.ListN.{length}
-use borrow.Author.Rules.{rules}
 use Rattle.layout.specs.declared.Header.{Header}
 use Rattle.layout.proofs.LinkLaws.{clean_linked}
 use Rattle.layout.proofs.StoreLaws.{clean_nodes}
-use Rattle.roots.specs.Kept.{Cached}
 use Rattle.needs.proofs.CountLaws.{kid_next}
-use Rattle.copy_parts.specs.Places.{list_of}
-use Rattle.copy_type.proofs.FillLaws.{Filling, kids_few, kid_copyable, kid_room, filling_next}
+use Rattle.copy_type.proofs.FillLaws.{kids_few, kid_copyable, kid_room, filling_next}
 use Rattle.copy_type.proofs.NodeLaws.{copied_shallow, place_few, copied_is, node_ready, filling_start, copied_node}
-use Prim.Native.Nat.{ℕ, ◌<◌}
 use Rattle.copy_type.proofs.+copy.Goals as goal
 
 pub returns-then-depth-eq0 : goal.returns-then-depth-eq0
 returns-then-depth-eq0 t c =
-    (copied_shallow c.requires.1.0 c.if-depth-eq0.true, c.requires.1.1)
+    (copied_shallow c.requires.0 c.if-depth-eq0.true, c.requires.1)
 
 pub find_by-root-requires : goal.find_by-root-requires
 find_by-root-requires t c =
-    (clean_linked _ _ _ _ c.requires.1.0.source, c.requires.1.1)
+    (clean_linked _ _ _ _ c.requires.0.source, c.requires.1)
 
 pub root_place-requires : goal.root_place-requires
 root_place-requires t c =
-    (c.requires.1.0.source.room, place_few c.requires.1.0 _)
+    (c.requires.0.source.room, place_few c.requires.0 _)
 
 pub begin-new-requires : goal.begin-new-requires
 begin-new-requires t c =
-    node_ready _ _ _ _ _ _ _ _ _ _ _ _ c.requires.1.0 c.if-depth-eq0.false c.find_by-root.ensures.0 c.root_place.ensures
+    node_ready _ _ _ _ _ _ _ _ _ _ _ _ c.requires.0 c.if-depth-eq0.false c.find_by-root.ensures.0 c.root_place.ensures
     c.in-Node.is
 
 pub loop-j-init : goal.loop-j-init
 loop-j-init t c = (
-  filling_start _ _ _ _ _ _ _ _ _ _ _ _ c.requires.1.0 c.if-depth-eq0.false c.find_by-root.ensures.0 c.root_place.ensures
+  filling_start _ _ _ _ _ _ _ _ _ _ _ _ c.requires.0 c.if-depth-eq0.false c.find_by-root.ensures.0 c.root_place.ensures
       c.in-Node.is c.idx-at.ensures (ap (λ (yy : Header). yy.children) c.read_header-from.ensures) c.begin-new.ensures,
   c.find_by-root.ensures.1,
   refl,
@@ -48,10 +43,10 @@ overflow_sub-depth t c =
 
 pub copy-next-requires : goal.copy-next-requires
 copy-next-requires t c = (
-  omega (arith, c.requires.0, c.if-depth-eq0.false),
+  omega (arith, c.if-depth-eq0.false),
   (
     kid_copyable c.loop-j.invariant.0 c.loop-j-test.true _
-        (kid_next c.args.sk.now _ _ _ c.child.result c.loop-j-test.true c.child.ensures) c.requires.1.0.source,
+        (kid_next c.args.sk.now _ _ _ c.child.result c.loop-j-test.true c.child.ensures) c.requires.0.source,
     c.loop-j.invariant.1,
   ),
 )
@@ -85,11 +80,11 @@ loop-j-preserved t c = (
 
 pub end-requires : goal.end-requires
 end-requires t c =
-    (c.requires.1.0.source.room, (clean_nodes _ _ _ c.loop-j.invariant.0.spared.clean).room)
+    (c.requires.0.source.room, (clean_nodes _ _ _ c.loop-j.invariant.0.spared.clean).room)
 
 pub returns-in-Is : goal.returns-in-Is
 returns-in-Is t c = (
-  copied_is _ _ _ _ _ _ _ _ _ _ _ _ c.requires.1.0 c.if-depth-eq0.false c.find_by-root.ensures.0
+  copied_is _ _ _ _ _ _ _ _ _ _ _ _ c.requires.0 c.if-depth-eq0.false c.find_by-root.ensures.0
       c.root_place.ensures c.in-Is.is,
   c.find_by-root.ensures.1,
 )
@@ -115,7 +110,7 @@ shape_of-ks t c = c.loop-j.invariant.0.long.kids
 
 pub returns-after-loop-j : goal.returns-after-loop-j
 returns-after-loop-j t c = (
-  copied_node _ _ _ _ _ _ _ _ _ _ _ _ c.requires.1.0 c.if-depth-eq0.false c.find_by-root.ensures.0 c.root_place.ensures
+  copied_node _ _ _ _ _ _ _ _ _ _ _ _ c.requires.0 c.if-depth-eq0.false c.find_by-root.ensures.0 c.root_place.ensures
       c.in-Node.is c.idx-at.ensures (ap (λ (yy : Header). yy.children) c.read_header-from.ensures) c.begin-new.ensures
       c.loop-j.invariant.0 c.loop-j-test.false c.inv.result c.idx.ensures c.end.ensures
       c.inv.ensures c.invert_if.ensures,

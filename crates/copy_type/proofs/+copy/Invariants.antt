@@ -1,20 +1,12 @@
 -- `copy_type::copy` meets its contract. The measure is the depth. A root that has no copy is begun before its children are copied; the loop's invariant is
 -- `Filling`: what is left of them gives what all of them give, and those done stand in the run reserved for them. Beside it the cache keeps roots.
 -- Assumes nothing.
-use mathlib.Core.Path.{◌≡◌, refl, ap, ◌∙◌}
+use mathlib.Core.Path.{◌≡◌}
 use Prim.Native.Nat.{◌-◌}
-use native.Mathlib.Omega.{arith}
 use lib.ListN.{length}
-use borrow.Author.Rules.{rules}
-use Rattle.layout.specs.declared.Header.{Header}
-use Rattle.layout.proofs.LinkLaws.{clean_linked}
-use Rattle.layout.proofs.StoreLaws.{clean_nodes}
 use Rattle.roots.specs.Kept.{Cached}
-use Rattle.needs.proofs.CountLaws.{kid_next}
 use Rattle.copy_parts.specs.Places.{list_of}
-use Rattle.copy_type.proofs.FillLaws.{Filling, kids_few, kid_copyable, kid_room, filling_next}
-use Rattle.copy_type.proofs.NodeLaws.{copied_shallow, place_few, copied_is, node_ready, filling_start, copied_node}
-use Prim.Native.Nat.{ℕ, ◌<◌}
+use Rattle.copy_type.proofs.FillLaws.{Filling}
 use Rattle.copy_type.proofs.+copy.Given as goal
 
 abbrev pub decreases-copy : goal.decreases-copy

@@ -1,14 +1,13 @@
 -- `force::finish_inference` meets its contract. The loop's invariant: the first i nodes are finished, the others are as they were, and the slices
 -- hold that store. The measure is what is left of the nodes.
 -- Assumes nothing.
-use mathlib.Core.Path.{◌≡◌, ap}
-use Prim.Native.Nat.{◌≤◌, ◌-◌}
+use mathlib.Core.Path.{ap}
+use Prim.Native.Nat.{◌-◌}
 use native.Mathlib.Omega.{arith}
-use borrow.Author.Rules.{rules}
 use Rattle.scope.specs.Force.{finish_inference}
-use Rattle.layout.specs.Words.{nodes_made, store_in}
+use Rattle.layout.specs.Words.{store_in}
 use Rattle.layout.specs.declared.Header.{Header}
-use Rattle.force.proofs.FinishLaws.{Turned, turned_start, turned_room, inference_turn, inference_end}
+use Rattle.force.proofs.FinishLaws.{turned_start, turned_room, inference_turn, inference_end}
 use Rattle.force.proofs.finish_inference.Goals as goal
 
 pub loop-i-init : goal.loop-i-init

@@ -1,14 +1,11 @@
 -- `force::finish_inference_where` meets its contract. The loop's invariant: of the first nodes those are finished that the bytes choose, the others are
 -- as they were, and the slices hold that store. The measure is what is left of the nodes.
 -- Assumes nothing.
-use mathlib.Core.Path.{◌≡◌, ap}
+use mathlib.Core.Path.{◌≡◌}
 use Prim.Native.Nat.{◌≤◌, ◌-◌}
-use native.Mathlib.Omega.{arith}
-use borrow.Author.Rules.{rules}
 use Rattle.scope.specs.Force.{finish_where}
 use Rattle.layout.specs.Words.{nodes_made, store_in}
-use Rattle.layout.specs.declared.Header.{Header}
-use Rattle.force.proofs.FinishLaws.{Turned, turned_start, turned_room, where_turn, where_skip, where_end}
+use Rattle.force.proofs.FinishLaws.{Turned}
 use Rattle.force.proofs.finish_inference_where.Given as goal
 
 abbrev pub invariant-loop-next : goal.invariant-loop-next

@@ -24,7 +24,7 @@ returns-in-Known c =
 pub returns-in-Unknown : goal.returns-in-Unknown
 returns-in-Unknown c =
     force_reported c.args.h.now c.args.ws.now c.args.ks.now c.requires c.read_header-x.ensures c.find_mut-root.ensures c.idx-i.ensures c.node_at-node.ensures
-    c.state_of-state.ensures c.in-Unknown.is put.before.before.type_size.ensures c.put_node.ensures
+    c.state_of-state.ensures c.in-Unknown.is c.size_of.ensures c.put_node.ensures
     c.one_more.ensures c.with_reports.ensures c.write_header.ensures
 
 pub returns-in-InferenceFailed : goal.returns-in-InferenceFailed

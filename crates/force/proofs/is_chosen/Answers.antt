@@ -1,7 +1,6 @@
 -- `force::is_chosen` meets its contract. Past the bytes getD gives 0, which chooses nothing.
 -- Assumes nothing.
 use lib.ListN.{get_or-eq_default}
-use borrow.Author.Rules.{rules}
 use Rattle.force.proofs.is_chosen.Goals as goal
 
 pub returns-else-at-bytes : goal.returns-else-at-bytes

@@ -2,7 +2,6 @@
 -- Assumes nothing.
 use native.Mathlib.Numerals.{add-one}
 use borrow.Author.Tests.{lt-ltb, le-ltb}
-use borrow.Author.Rules.{rules}
 use Rattle.force.proofs.one_more.Goals as goal
 
 pub returns-then-n-lt-MAX_REPORTS : goal.returns-then-n-lt-MAX_REPORTS

@@ -5,7 +5,6 @@ use native.Mathlib.Omega.{arith}
 use lib.ListN.{length-set}
 use lib.Seq.{sets-eq}
 use Rattle.heads.specs.Heads.{put_counts}
-use borrow.Author.Rules.{rules}
 use Rattle.heads.proofs.put_counts.Goals as goal
 
 pub bounds-h-1 : goal.bounds-h-1

@@ -8,7 +8,6 @@ use native.Mathlib.Nat.{add-sub_cancel_left}
 use borrow.Author.Tests.{lt-ltb}
 use Rattle.layout.specs.Meaning.{put_at}
 use Rattle.layout.proofs.Lists.{place_in}
-use borrow.Author.Rules.{rules}
 use Rattle.heads.proofs.put_unknown.Goals as goal
 
 pub bounds-s-1 : goal.bounds-s-1

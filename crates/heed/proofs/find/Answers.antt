@@ -1,7 +1,6 @@
 -- `heed::find` meets its contract: what is near changes no node, and otherwise nothing is believed any more.
 -- Assumes nothing.
 use Rattle.heed.proofs.Laws.{found_near, found_far}
-use borrow.Author.Rules.{rules}
 use Rattle.heed.proofs.find.Goals as goal
 
 pub returns-in_default : goal.returns-in_default

@@ -1,8 +1,6 @@
 -- `heed::quick` meets its contract: it merges at a depth alone, and then nothing is believed any more.
 -- Assumes nothing.
-use borrow.Author.Tests.{not-true, not-false}
 use Rattle.heed.proofs.Laws.{quick_not, quick_stays, quick_merges}
-use borrow.Author.Rules.{rules}
 use Rattle.heed.proofs.quick.Goals as goal
 
 pub returns-then-depth-eq0 : goal.returns-then-depth-eq0

@@ -1,7 +1,6 @@
 -- `heed::settle` meets its contract: a Success merges and nothing is believed any more; another answer changes nothing and is noted.
 -- Assumes nothing.
 use Rattle.heed.proofs.Laws.{settled_merges, settled_notes, failure_apart, indeterminate_apart}
-use borrow.Author.Rules.{rules}
 use Rattle.heed.proofs.settle.Goals as goal
 
 pub returns-in-Success : goal.returns-in-Success

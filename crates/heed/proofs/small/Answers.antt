@@ -1,7 +1,6 @@
 -- `heed::small` meets its contract: where it merges, nothing is believed any more; of one nil nothing changes.
 -- Assumes nothing.
 use Rattle.heed.proofs.Laws.{small_nil, small_merges}
-use borrow.Author.Rules.{rules}
 use Rattle.heed.proofs.small.Goals as goal
 
 pub returns-then-slight : goal.returns-then-slight

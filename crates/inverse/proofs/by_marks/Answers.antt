@@ -1,7 +1,6 @@
 -- `inverse::by_marks` meets its contract: one walk, which marks the roots whose kinds are to be looked at.
 -- Assumes nothing.
 use Rattle.inverse.proofs.MarkedLaws.{marked_walk}
-use borrow.Author.Rules.{rules}
 use Rattle.inverse.proofs.by_marks.Goals as goal
 
 pub returns : goal.returns

@@ -1,7 +1,6 @@
 -- `inverse::good_kind` meets its contract: a Param as the flag says, a Tuple as scope's row does, which antt computes, and any other kind as its row does.
 -- Assumes nothing.
 use mathlib.Core.Path.{refl}
-use borrow.Author.Rules.{rules}
 use borrow.Author.Tests.{eq-eqb, ne_eqb}
 use Rattle.scope.specs.Kinds.{row_of, rows}
 use Rattle.inverse.proofs.good_kind.Goals as goal

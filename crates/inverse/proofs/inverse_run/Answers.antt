@@ -2,13 +2,10 @@
 -- level down at most.
 -- Assumes nothing.
 use mathlib.Core.Path.{refl}
-use Prim.Native.Nat.{◌+◌, ◌*◌}
 use native.Mathlib.Omega.{arith}
 use borrow.Author.Rules.{rules}
-use Rattle.layout.specs.Words.{decode}
 use Rattle.layout.proofs.LinkLaws.{clean_linked}
-use Rattle.inverse.specs.Judged.{kids_in, self_below}
-use Rattle.inverse.proofs.RunLaws.{Going, going_start, going_clear, going_up, going_met, going_good, going_down}
+use Rattle.inverse.proofs.RunLaws.{going_start, going_clear, going_up, going_met, going_good, going_down}
 use Rattle.inverse.proofs.RunLaws.{tries_deep, tries_met, tries_clear, told_zero, told_bad, told_good, told_run}
 use Rattle.inverse.proofs.inverse_run.Goals as goal
 
@@ -68,7 +65,7 @@ loop-left-smaller-in-Run c = omega (arith, c.loop-left-test.true)
 pub loop-left-preserved-in-Run : goal.loop-left-preserved-in-Run
 loop-left-preserved-in-Run c =
     going_down c.loop-left.invariant c.child_at.result c.if-next-end.true c.child_at.ensures c.loop-left-test.true (omega (arith, c.loop-left.invariant.levels, c.if-level-eq-LEVELS.false)) _ _
-    (omega (arith, c.known_told-1.given))
+    (omega arith)
     (told_zero c.requires c.find.ensures c.idx-root.ensures c.judge.ensures) (told_run c.requires c.find.ensures c.idx-root.ensures c.judge.ensures c.in-Run.is)
 
 pub returns-then-level-eq0 : goal.returns-then-level-eq0

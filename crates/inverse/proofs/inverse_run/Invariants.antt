@@ -1,15 +1,10 @@
 -- `inverse::inverse_run` meets its contract. The invariant: the run that is walked and those above it tell what all children tell. The measure: a visit goes one
 -- level down at most.
 -- Assumes nothing.
-use mathlib.Core.Path.{refl}
 use Prim.Native.Nat.{◌+◌, ◌*◌}
-use native.Mathlib.Omega.{arith}
-use borrow.Author.Rules.{rules}
 use Rattle.layout.specs.Words.{decode}
-use Rattle.layout.proofs.LinkLaws.{clean_linked}
 use Rattle.inverse.specs.Judged.{kids_in, self_below}
-use Rattle.inverse.proofs.RunLaws.{Going, going_start, going_clear, going_up, going_met, going_good, going_down}
-use Rattle.inverse.proofs.RunLaws.{tries_deep, tries_met, tries_clear, told_zero, told_bad, told_good, told_run}
+use Rattle.inverse.proofs.RunLaws.{Going}
 use Rattle.inverse.proofs.inverse_run.Given as goal
 
 abbrev pub invariant-loop-left : goal.invariant-loop-left

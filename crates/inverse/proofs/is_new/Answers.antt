@@ -1,7 +1,6 @@
 -- `inverse::is_new` meets its contract: past the end getD gives 0, which is no mark.
 -- Assumes nothing.
 use lib.ListN.{get_or-eq_default}
-use borrow.Author.Rules.{rules}
 use Rattle.inverse.proofs.is_new.Goals as goal
 
 pub returns : goal.returns

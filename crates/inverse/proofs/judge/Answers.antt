@@ -1,6 +1,5 @@
 -- `inverse::judge` meets its contract: what a root's kind tells without its children.
 -- Assumes nothing.
-use borrow.Author.Tests.{not-true, not-false}
 use Rattle.inverse.proofs.RunLaws.{judges_nothing, judges_no, judges_param, judges_bare, judges_run}
 use borrow.Author.Rules.{rules}
 use Rattle.inverse.proofs.judge.Goals as goal

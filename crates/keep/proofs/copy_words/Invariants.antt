@@ -1,11 +1,8 @@
 -- `keep::copy_words` meets its contract. The loop's invariant: the first i words are the source's and the others are as they were. The measure is what is
 -- left. Assumes nothing.
-use mathlib.Core.Path.{◌≡◌, refl}
+use mathlib.Core.Path.{◌≡◌}
 use Prim.Native.Nat.{◌≤◌, ◌-◌}
-use native.Mathlib.Omega.{arith}
-use borrow.Author.Rules.{rules}
 use Rattle.keep.specs.Kept.{copied}
-use Rattle.keep.proofs.Replace.{copying_length, copied_more, copied_end}
 use Rattle.keep.proofs.copy_words.Given as goal
 
 abbrev pub invariant-loop-i : goal.invariant-loop-i

@@ -1,7 +1,6 @@
 -- `keep::keep_head` meets its contract: the head that was read, with its counts as its capacities, is written.
 -- Assumes nothing.
 use mathlib.Core.Path.{ap, ◌∙◌}
-use borrow.Author.Rules.{rules}
 use Rattle.layout.specs.Meaning.{put_header}
 use Rattle.keep.specs.Kept.{kept_header}
 use Rattle.keep.proofs.keep_head.Goals as goal

@@ -1,6 +1,5 @@
 -- `keep::put_back` meets its contract: the kept words take the place of those in use, and the head says so.
 -- Assumes nothing.
-use borrow.Author.Rules.{rules}
 use Rattle.keep.proofs.BackLaws.{back_ready, back_ready_kids, back_head, back_became}
 use Rattle.keep.proofs.put_back.Goals as goal
 

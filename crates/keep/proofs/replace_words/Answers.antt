@@ -1,7 +1,6 @@
 -- `keep::replace_words` meets its contract: the words are copied, and where more were in use those behind are cleared in a part of their own.
 -- Assumes nothing.
 use mathlib.Core.Path.{◌∙◌}
-use borrow.Author.Rules.{rules}
 use Rattle.keep.proofs.Replace.{copied_replaced, part_replaced}
 use Rattle.keep.proofs.replace_words.Goals as goal
 

@@ -1,7 +1,6 @@
 -- `kind_sound::can_be_made` meets its contract: the tests are those of scope's definition, in its order, and each way out goes by those before it.
 -- Assumes nothing.
 use native.Mathlib.Omega.{arith}
-use borrow.Author.Rules.{rules}
 use borrow.Author.Tests.{lt-ltb, le-ltb, le-leb, lt-leb}
 use Rattle.scope.specs.Limits.{MAX_WIDTH, KINDS}
 use Rattle.names.proofs.Tests.{passes, fails}

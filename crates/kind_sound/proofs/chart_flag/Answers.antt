@@ -1,6 +1,5 @@
 -- `kind_sound::chart_flag` meets its contract: the row that was read is scope's, and the test on it is the one that `flag_of` picks by.
 -- Assumes nothing.
-use borrow.Author.Rules.{rules}
 use borrow.Author.Tests.{eq-eqb, ne_eqb}
 use Rattle.scope.specs.Kinds.{flag_of}
 use Rattle.kind_sound.proofs.chart_flag.Goals as goal

@@ -1,16 +1,13 @@
 -- `kind_sound::child_names_fit` meets its contract. The loop's invariant: the names from j on, with the last one passed before them, are ascending if and
 -- only if all names are. The measure is what is left of the children.
 -- Assumes nothing.
-use mathlib.Core.Path.{◌≡◌, sym, ◌∙◌}
+use mathlib.Core.Path.{sym, ◌∙◌}
 use Prim.Native.Nat.{◌-◌}
 use native.Mathlib.Omega.{arith}
-use borrow.Author.Rules.{rules}
-use lib.ListN.{drop}
 use Rattle.scope.specs.Names.{bytes}
-use Rattle.scope.specs.Kinds.{object_names_ok}
 use Rattle.names.specs.Place.{texts, name_of}
 use Rattle.names.proofs.Tests.{passes, fails}
-use Rattle.kind_sound.proofs.NameLaws.{child_names, name_below, names_past, name_there, up_from, up_start, up_end, up_step, up_unnamed, up_unordered}
+use Rattle.kind_sound.proofs.NameLaws.{child_names, name_below, names_past, name_there, up_start, up_end, up_step, up_unnamed, up_unordered}
 use Rattle.kind_sound.proofs.child_names_fit.Goals as goal
 
 pub loop-j-init : goal.loop-j-init

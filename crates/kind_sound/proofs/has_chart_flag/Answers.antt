@@ -1,6 +1,5 @@
 -- `kind_sound::has_chart_flag` meets its contract: the kind's flag is held against the chart's, as `flag_is` does.
 -- Assumes nothing.
-use borrow.Author.Rules.{rules}
 use Rattle.scope.specs.Kinds.{flag_is}
 use Rattle.layout.specs.Meaning.{kind_means}
 use Rattle.kind_sound.proofs.has_chart_flag.Goals as goal

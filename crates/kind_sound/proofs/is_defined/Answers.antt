@@ -1,7 +1,6 @@
 -- `kind_sound::is_defined` meets its contract: the sort that was read is the definition's, and `defined` is the test of that sort by the kind's row.
 -- Assumes nothing.
 use mathlib.Core.Path.{sym, ap, ◌∙◌}
-use borrow.Author.Rules.{rules}
 use Rattle.scope.specs.Kinds.{row_of}
 use Rattle.kinds.specs.Rows.{sort_fits}
 use Rattle.kinds.proofs.Laws.{defined_row}

@@ -4,9 +4,8 @@
 use mathlib.Core.Path.{refl}
 use Prim.Native.Nat.{◌-◌}
 use native.Mathlib.Omega.{arith}
-use borrow.Author.Rules.{rules}
 use Rattle.layout.specs.Meaning.{kind_means}
-use Rattle.refusals.proofs.InsideLaws.{Left, inside_stop, inside_next, inside_end}
+use Rattle.refusals.proofs.InsideLaws.{inside_stop, inside_next, inside_end}
 use Rattle.kind_sound.proofs.Laws.{kid_there, kid_below, kids_past}
 use Rattle.kind_sound.proofs.kids_inside.Goals as goal
 

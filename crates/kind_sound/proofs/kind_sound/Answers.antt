@@ -1,6 +1,5 @@
 -- `kind_sound::kind_sound` meets its contract: the tests are those of scope's definition, in its order, and each way out goes by those before it.
 -- Assumes nothing.
-use borrow.Author.Rules.{rules}
 use Rattle.names.proofs.Tests.{passes, fails}
 use Rattle.kind_sound.proofs.Laws.{kind_tests}
 use Rattle.kind_sound.proofs.kind_sound.Goals as goal

@@ -1,6 +1,5 @@
 -- `kind_sound::name_or_none` meets its contract: no name passes, and any other is tested as a name.
 -- Assumes nothing.
-use borrow.Author.Rules.{rules}
 use borrow.Author.Tests.{eq-eqb, ne_eqb}
 use Rattle.kind_sound.proofs.name_or_none.Goals as goal
 

@@ -1,7 +1,6 @@
 -- `kind_sound::names_fit` meets its contract. Each way out is a law on a kind whose row asks for these names; the row that was read is scope's.
 -- Assumes nothing.
 use mathlib.Core.Path.{sym, ap, ◌∙◌}
-use borrow.Author.Rules.{rules}
 use Rattle.scope.specs.Kinds.{Row}
 use Rattle.names.specs.Place.{texts}
 use Rattle.kind_sound.proofs.NameLaws.{own_names, child_names_lem, parameter_names, no_return, no_names}

@@ -1,13 +1,10 @@
 -- `kind_sound::parameter_names_fit` meets its contract. The loop's invariant: the names from j on pass if and only if all do. The measure is what is left
 -- of the parameters.
 -- Assumes nothing.
-use mathlib.Core.Path.{◌≡◌, refl, sym, ap, ◌∙◌}
+use mathlib.Core.Path.{refl, sym, ap, ◌∙◌}
 use mathlib.Core.Option.{none}
 use Prim.Native.Nat.{◌-◌}
 use native.Mathlib.Omega.{arith}
-use borrow.Author.Rules.{rules}
-use lib.ListN.{drop}
-use Rattle.scope.specs.Base.{all}
 use Rattle.scope.specs.Names.{named_or_none}
 use Rattle.names.specs.Place.{texts}
 use Rattle.names.proofs.Tests.{passes, fails, all_step, all_fails, all_end}

@@ -1,6 +1,5 @@
 -- `kinds::number_ok` meets its contract: the row that was read is scope's.
 -- Assumes nothing.
-use borrow.Author.Rules.{rules}
 use Rattle.kinds.proofs.number_ok.Goals as goal
 
 pub returns : goal.returns

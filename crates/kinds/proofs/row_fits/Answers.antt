@@ -1,6 +1,5 @@
 -- `kinds::row_fits` meets its contract: the row's shape is tested in the order in which `shape_fits` picks.
 -- Assumes nothing.
-use borrow.Author.Rules.{rules}
 use borrow.Author.Tests.{eq-eqb, ne_eqb}
 use Rattle.kinds.proofs.row_fits.Goals as goal
 

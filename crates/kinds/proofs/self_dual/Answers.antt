@@ -1,6 +1,5 @@
 -- `kinds::self_dual` meets its contract: the row that was read is scope's, and the test on it is the one that `dual_by` picks by.
 -- Assumes nothing.
-use borrow.Author.Rules.{rules}
 use borrow.Author.Tests.{eq-eqb, ne_eqb}
 use Rattle.kinds.proofs.self_dual.Goals as goal
 

@@ -1,6 +1,5 @@
 -- `kinds::shape_fits` meets its contract: the row that was read is scope's.
 -- Assumes nothing.
-use borrow.Author.Rules.{rules}
 use Rattle.kinds.proofs.shape_fits.Goals as goal
 
 pub returns : goal.returns

@@ -1,6 +1,5 @@
 -- `kinds::sort_fits` meets its contract: the row that was read is scope's, and a definition's sort is compared with its two.
 -- Assumes nothing.
-use borrow.Author.Rules.{rules}
 use borrow.Author.Tests.{eq-eqb, ne_eqb}
 use Rattle.kinds.proofs.sort_fits.Goals as goal
 

@@ -2,7 +2,6 @@
 -- and past the end getD gives zeros.
 -- Assumes nothing.
 use Rattle.layout.proofs.Cells.{slot_past, slot_part}
-use borrow.Author.Rules.{rules}
 use Rattle.layout.proofs.child_at.Goals as goal
 
 pub returns-then-whole-i : goal.returns-then-whole-i

@@ -3,7 +3,6 @@
 use mathlib.Core.Path.{sym}
 use native.Mathlib.Nat.{add-sub_cancel_left}
 use Rattle.layout.proofs.ChildLaws.{slot_words_lem}
-use borrow.Author.Rules.{rules}
 use Rattle.layout.proofs.child_there.Goals as goal
 
 pub returns : goal.returns

@@ -3,7 +3,6 @@
 use borrow.Author.Tests.{le-ltb}
 use Rattle.layout.specs.Meaning.{read_at}
 use Rattle.layout.proofs.Cells.{read_child, read_unknown, read_failed, read_known}
-use borrow.Author.Rules.{rules}
 use Rattle.layout.proofs.node_at.Goals as goal
 
 pub returns-then-n-i : goal.returns-then-n-i

@@ -6,7 +6,6 @@ use native.Mathlib.Nat.{add-sub_cancel_left}
 use Rattle.layout.specs.Meaning.{slot_words}
 use Rattle.layout.proofs.Lists.{place_in}
 use Rattle.layout.proofs.ChildLaws.{put_slot_lem}
-use borrow.Author.Rules.{rules}
 use Rattle.layout.proofs.put_child.Goals as goal
 
 pub bounds-s-1 : goal.bounds-s-1

@@ -4,7 +4,6 @@ use mathlib.Core.Path.{refl}
 use borrow.Author.Tests.{le-ltb}
 use Rattle.layout.specs.Meaning.{put_at}
 use Rattle.layout.proofs.Cells.{cell_place, put_words}
-use borrow.Author.Rules.{rules}
 use Rattle.layout.proofs.put_node.Goals as goal
 
 pub returns-then-n-i : goal.returns-then-n-i

@@ -1,6 +1,5 @@
 -- `layout::read_header` meets its contract. Each field is the word that `word` returns, or what it says of a type or of half a count.
 -- Assumes nothing.
-use borrow.Author.Rules.{rules}
 use Rattle.layout.proofs.read_header.Goals as goal
 
 pub returns : goal.returns

@@ -1,14 +1,13 @@
 -- `layout::write_header` meets its contract. Eight stores from the front on leave what was stored, and the words after it.
 -- Assumes nothing.
 use mathlib.Core.Path.{refl}
-use mathlib.Core.List.{List, [], ◌∷◌}
+use mathlib.Core.List.{[], List, ◌∷◌}
 use Prim.Native.Nat.{ℕ, ◌%◌}
 use lib.Seq.{sets-eq}
 use Rattle.layout.specs.Meaning.{HALF, header_words, put_header}
 use Rattle.layout.specs.Words.{HEAD_WORDS}
 use Rattle.layout.specs.declared.Header.{Header}
 use Rattle.layout.proofs.Lists.{place_there}
-use borrow.Author.Rules.{rules}
 use Rattle.layout.proofs.write_header.Goals as goal
 
 -- the words that are stored, of a header and of its remembered types' words

@@ -1,6 +1,5 @@
 -- `lent_kind::flagged` meets its contract: the flag is the one that `chart_flag` reads.
 -- Assumes nothing.
-use borrow.Author.Rules.{rules}
 use Rattle.lent_kind.proofs.flagged.Goals as goal
 
 pub returns : goal.returns

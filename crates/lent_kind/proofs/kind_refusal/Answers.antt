@@ -1,7 +1,6 @@
 -- `lent_kind::kind_refusal` meets its contract: entries that are not whole and names that the kind does not have are a name too many; else the kind is the
 -- one that the entries' words mean, which `makeable` tests.
 -- Assumes nothing.
-use borrow.Author.Rules.{rules}
 use borrow.Author.Tests.{not-true, not-false}
 use Rattle.lent_kind.proofs.Laws.{torn_refused, unclean_refused, unmade_refused, undefined_refused, kind_passed}
 use Rattle.lent_kind.proofs.kind_refusal.Goals as goal

@@ -1,12 +1,9 @@
 -- `lent_kind::put_types` meets its contract. The loop's invariant: the first i types stand as entries, and the words are as many. The measure is what is left
 -- of the types.
 -- Assumes nothing.
-use mathlib.Core.Path.{◌≡◌, refl, ◌∙◌}
-use Prim.Native.Nat.{◌≤◌, ◌-◌}
+use mathlib.Core.Path.{refl, ◌∙◌}
+use Prim.Native.Nat.{◌-◌}
 use native.Mathlib.Omega.{arith}
-use lib.ListN.{length}
-use borrow.Author.Rules.{rules}
-use Rattle.lent_kind.specs.Lent.{TypesPut}
 use Rattle.lent_kind.proofs.ListLaws.{listed_none, listed_more, listed_end}
 use Rattle.lent_kind.proofs.put_types.Goals as goal
 

@@ -1,10 +1,9 @@
 -- `lent_tests::bad_entries` meets its contract: too many entries, numbers past the last whole one, or else names as an object's kind has them.
 -- Assumes nothing.
-use mathlib.Core.Path.{refl}
 use mathlib.Core.List.{[]}
+use mathlib.Core.Path.{refl}
 use Rattle.chart.specs.Env.{chart_in}
 use Rattle.lent_tests.proofs.Laws.{entries_many, entries_torn, entries_named}
-use borrow.Author.Rules.{rules}
 use Rattle.lent_tests.proofs.bad_entries.Goals as goal
 
 pub returns-then-count-gt-MAX_LIST : goal.returns-then-count-gt-MAX_LIST

@@ -1,7 +1,6 @@
 -- `lent_tests::impls` meets its contract: each impl type is tested, and of two refusals the one that is tested first is given.
 -- Assumes nothing.
 use Rattle.lent_tests.proofs.Laws.{both_first, both_second}
-use borrow.Author.Rules.{rules}
 use Rattle.lent_tests.proofs.impls.Goals as goal
 
 pub returns-then-first-sooner : goal.returns-then-first-sooner

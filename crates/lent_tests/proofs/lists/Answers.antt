@@ -2,7 +2,6 @@
 -- Assumes nothing.
 use mathlib.Core.Path.{refl}
 use Rattle.lent_tests.proofs.Laws.{list_row, row_first, row_second, row_many, row_many_too, row_made}
-use borrow.Author.Rules.{rules}
 use Rattle.lent_tests.proofs.lists.Goals as goal
 
 pub returns-then-not-types_inside : goal.returns-then-not-types_inside

@@ -2,7 +2,6 @@
 -- Assumes nothing.
 use mathlib.Core.Path.{refl}
 use Rattle.lent_tests.proofs.Laws.{pair_row, row_first, row_second, row_inside}
-use borrow.Author.Rules.{rules}
 use Rattle.lent_tests.proofs.pair.Goals as goal
 
 pub returns-then-not-type_inside : goal.returns-then-not-type_inside

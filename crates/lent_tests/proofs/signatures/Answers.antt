@@ -1,7 +1,6 @@
 -- `lent_tests::signatures` meets its contract: the returns turn the call back, or the parameters decide.
 -- Assumes nothing.
 use Rattle.lent_tests.proofs.Laws.{sig_back, sig_on}
-use borrow.Author.Rules.{rules}
 use Rattle.lent_tests.proofs.signatures.Goals as goal
 
 pub returns-then-returns-ne-NO_REFUSAL : goal.returns-then-returns-ne-NO_REFUSAL

@@ -1,10 +1,8 @@
 -- `make::clear` meets its contract. The loop's invariant: the first i words are 0 and the others are as they were. The measure is what is left.
 -- Assumes nothing.
-use mathlib.Core.Path.{◌≡◌, refl}
-use Prim.Native.Nat.{◌≤◌, ◌-◌}
+use mathlib.Core.Path.{refl}
+use Prim.Native.Nat.{◌-◌}
 use native.Mathlib.Omega.{arith}
-use borrow.Author.Rules.{rules}
-use Rattle.make.specs.Header.{cleared}
 use Rattle.make.proofs.Blank.{cleared_length, cleared_more, cleared_end}
 use Rattle.make.proofs.clear.Goals as goal
 

@@ -1,11 +1,8 @@
 -- `make::clear` meets its contract. The loop's invariant: the first i words are 0 and the others are as they were. The measure is what is left.
 -- Assumes nothing.
-use mathlib.Core.Path.{◌≡◌, refl}
+use mathlib.Core.Path.{◌≡◌}
 use Prim.Native.Nat.{◌≤◌, ◌-◌}
-use native.Mathlib.Omega.{arith}
-use borrow.Author.Rules.{rules}
 use Rattle.make.specs.Header.{cleared}
-use Rattle.make.proofs.Blank.{cleared_length, cleared_more, cleared_end}
 use Rattle.make.proofs.clear.Given as goal
 
 abbrev pub invariant-loop-i : goal.invariant-loop-i

@@ -2,7 +2,6 @@
 -- Assumes nothing.
 use Rattle.store.proofs.Laws.{error_is}
 use Rattle.make.proofs.MakeLaws.{once_ready, error_made}
-use borrow.Author.Rules.{rules}
 use Rattle.make.proofs.error.Goals as goal
 
 pub error_once-requires : goal.error_once-requires

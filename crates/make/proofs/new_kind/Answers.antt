@@ -3,7 +3,6 @@
 -- Assumes nothing.
 use Rattle.make.proofs.MakeLaws.{pushable_in}
 use Rattle.make.proofs.NewLaws.{kind_head, entries_ready, children_room, kind_made_lem}
-use borrow.Author.Rules.{rules}
 use Rattle.make.proofs.new_kind.Goals as goal
 
 pub children_made-first-requires : goal.children_made-first-requires

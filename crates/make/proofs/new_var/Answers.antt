@@ -1,7 +1,6 @@
 -- `make::new_var` meets its contract: the next slot is not used, and the push of an Unknown is what the definition does.
 -- Assumes nothing.
 use Rattle.make.proofs.MakeLaws.{blank_ready, blank_made, var_made}
-use borrow.Author.Rules.{rules}
 use Rattle.make.proofs.new_var.Goals as goal
 
 pub push_unknown-requires : goal.push_unknown-requires

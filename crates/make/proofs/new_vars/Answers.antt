@@ -1,13 +1,9 @@
 -- `make::new_vars` meets its contract. The loop's invariant: the slices hold what i variables leave, and their types' words stand at the front of
 -- `out`. The measure is what is left of the count.
 -- Assumes nothing.
-use Prim.Native.Nat.{◌≤◌, ◌-◌}
+use Prim.Native.Nat.{◌-◌}
 use native.Mathlib.Omega.{arith}
-use mathlib.Core.Path.{◌≡◌, refl, ◌∙◌}
-use lib.ListN.{length}
-use Rattle.scope.specs.Make.{new_vars}
-use Rattle.layout.specs.Words.{store_in}
-use Rattle.make.specs.Made.{MadeAllIs}
+use mathlib.Core.Path.{refl, ◌∙◌}
 use Rattle.make.proofs.VarLaws.{vars_none, vars_ready, vars_length, vars_more, vars_end}
 use Rattle.make.proofs.new_vars.Goals as goal
 
@@ -37,7 +33,7 @@ loop-i-smaller c = omega arith
 
 pub loop-i-preserved : goal.loop-i-preserved
 loop-i-preserved c =
-    let more = vars_more c.args.span c.loop-i.i c.loop-i.invariant.1.1.1 c.new_var-t.ensures (omega (arith, c.requires.count_in_bounds)) (omega (arith, c.new_var-t.type-inv)) refl in
+    let more = vars_more c.args.span c.loop-i.i c.loop-i.invariant.1.1.1 c.new_var-t.ensures (omega (arith, c.requires.count_in_bounds)) (omega (arith, c.new_var-t.type_inv)) refl in
     (omega arith, (c.new_var-t.auto.h ∙ c.loop-i.invariant.1.0, (c.new_var-t.auto.ws ∙ c.loop-i.invariant.1.1.0, more)))
 
 pub shape_of-h : goal.shape_of-h

@@ -2,13 +2,11 @@
 -- `out`. The measure is what is left of the count.
 -- Assumes nothing.
 use Prim.Native.Nat.{◌≤◌, ◌-◌}
-use native.Mathlib.Omega.{arith}
-use mathlib.Core.Path.{◌≡◌, refl, ◌∙◌}
+use mathlib.Core.Path.{◌≡◌}
 use lib.ListN.{length}
 use Rattle.scope.specs.Make.{new_vars}
 use Rattle.layout.specs.Words.{store_in}
 use Rattle.make.specs.Made.{MadeAllIs}
-use Rattle.make.proofs.VarLaws.{vars_none, vars_ready, vars_length, vars_more, vars_end}
 use Rattle.make.proofs.new_vars.Given as goal
 
 abbrev pub invariant-loop-i : goal.invariant-loop-i

@@ -2,7 +2,6 @@
 -- Assumes nothing.
 use Rattle.store.proofs.Laws.{nil_is}
 use Rattle.make.proofs.MakeLaws.{once_ready, nil_made}
-use borrow.Author.Rules.{rules}
 use Rattle.make.proofs.nil.Goals as goal
 
 pub nil_once-requires : goal.nil_once-requires

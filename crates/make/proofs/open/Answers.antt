@@ -1,7 +1,6 @@
 -- `make::open` meets its contract. All words that the capacities need are cleared, and the header says that no node is made.
 -- Assumes nothing.
 use Rattle.make.proofs.OpenLaws.{open_became}
-use borrow.Author.Rules.{rules}
 use Rattle.make.proofs.open.Goals as goal
 
 pub returns : goal.returns

@@ -3,10 +3,9 @@
 use mathlib.Core.Path.{refl}
 use native.Mathlib.Omega.{arith}
 use Rattle.make.proofs.MakeLaws.{counted_push}
-use borrow.Author.Rules.{rules}
 use Rattle.make.proofs.push.Goals as goal
 
 pub returns : goal.returns
 returns c =
-    counted_push c.requires.head (omega (arith, c.type_inv.h 6)) c.nodes_made-n.ensures c.children_made-children.ensures refl
+    counted_push c.requires.head (omega (arith, c.slice_known-1.given 6)) c.nodes_made-n.ensures c.children_made-children.ensures refl
     c.put_node.ensures c.put_counts.ensures

@@ -2,7 +2,6 @@
 -- Assumes nothing.
 use mathlib.Core.Path.{refl}
 use Rattle.make.proofs.MakeLaws.{bare_push}
-use borrow.Author.Rules.{rules}
 use Rattle.make.proofs.push_bare.Goals as goal
 
 pub returns : goal.returns

@@ -3,15 +3,14 @@
 use mathlib.Core.Path.{refl}
 use native.Mathlib.Omega.{arith}
 use Rattle.make.proofs.MakeLaws.{counted_push}
-use borrow.Author.Rules.{rules}
 use Rattle.make.proofs.push_unknown.Goals as goal
 
 pub put_unknown-requires : goal.put_unknown-requires
 put_unknown-requires c = let p = c.requires in
-    rw c.nodes_made-n.ensures (omega (arith, p.pushable.node_len), p.slot)
+    rw c.nodes_made-n.ensures (record { i_in_bounds = omega (arith, p.pushable.node_len); i_value = p.slot })
 
 pub returns : goal.returns
 returns c =
-    counted_push c.requires.pushable.head (omega (arith, c.type_inv.h 6)) c.nodes_made-n.ensures c.children_made-children.ensures refl
+    counted_push c.requires.pushable.head (omega (arith, c.slice_known-1.given 6)) c.nodes_made-n.ensures c.children_made-children.ensures refl
     c.put_unknown.ensures
     c.put_counts.ensures

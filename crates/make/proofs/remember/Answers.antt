@@ -4,7 +4,6 @@ use mathlib.Core.Path.{ap, ◌∙◌}
 use Rattle.layout.specs.Meaning.{put_header}
 use Rattle.layout.specs.declared.Header.{Header}
 use Rattle.make.specs.Header.{with_remembered}
-use borrow.Author.Rules.{rules}
 use Rattle.make.proofs.remember.Goals as goal
 
 pub returns : goal.returns

@@ -1,7 +1,6 @@
 -- `make::reset` meets its contract. The used words are cleared and the others are 0, and the header keeps the capacities and the report count.
 -- Assumes nothing.
 use Rattle.make.proofs.OpenLaws.{reset_nodes, reset_children, reset_head, reset_became}
-use borrow.Author.Rules.{rules}
 use Rattle.make.proofs.reset.Goals as goal
 
 pub clear-requires : goal.clear-requires

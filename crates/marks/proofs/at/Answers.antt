@@ -1,7 +1,6 @@
 -- `marks::at` meets its contract: past the end getD gives 0.
 -- Assumes nothing.
 use lib.ListN.{get_or-eq_default}
-use borrow.Author.Rules.{rules}
 use Rattle.marks.proofs.at.Goals as goal
 
 pub returns : goal.returns

@@ -1,7 +1,6 @@
 -- `marks::know` meets its contract: one bit is set, of a word before the entries.
 -- Assumes nothing.
 use Rattle.marks.proofs.Laws.{marked}
-use borrow.Author.Rules.{rules}
 use Rattle.marks.proofs.know.Goals as goal
 
 pub returns : goal.returns

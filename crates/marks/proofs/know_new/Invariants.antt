@@ -1,13 +1,10 @@
 -- `marks::know_new` meets its contract. The invariant: no mark is new but those of nodes whose byte is 1. The measure is how many nodes are left.
 -- Assumes nothing.
-use mathlib.Core.Path.{◌≡◌, refl, ◌∙◌}
+use mathlib.Core.Path.{◌≡◌}
 use Prim.Native.Nat.{◌-◌}
-use native.Mathlib.Omega.{arith}
 use lib.ListN.{length}
 use Rattle.scope.specs.Limits.{MAX_NODES}
 use Rattle.marks.specs.Marks.{MarkedNew}
-use Rattle.marks.proofs.Laws.{new_same, new_more}
-use borrow.Author.Rules.{rules}
 use Rattle.marks.proofs.know_new.Given as goal
 
 abbrev pub invariant-loop-i : goal.invariant-loop-i

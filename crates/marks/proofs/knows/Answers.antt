@@ -1,7 +1,6 @@
 -- `marks::knows` meets its contract.
 -- Assumes nothing.
 use Rattle.marks.proofs.Laws.{said, said_no}
-use borrow.Author.Rules.{rules}
 use Rattle.marks.proofs.knows.Goals as goal
 
 pub returns-then-at-ne1 : goal.returns-then-at-ne1

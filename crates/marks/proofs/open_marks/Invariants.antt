@@ -1,12 +1,10 @@
 -- `marks::open_marks` meets its contract. The invariant: the words of the marks below i are 0. The measure is the number of such words left.
 -- Assumes nothing.
-use mathlib.Core.Path.{◌≡◌, refl, ◌∙◌}
+use mathlib.Core.Path.{◌≡◌}
 use Prim.Native.Nat.{◌-◌}
-use native.Mathlib.Omega.{arith}
 use lib.ListN.{length}
 use Rattle.marks.specs.Marks.{HEAD}
-use Rattle.marks.proofs.Laws.{Opening, opened_same, open_start, open_next, open_ends}
-use borrow.Author.Rules.{rules}
+use Rattle.marks.proofs.Laws.{Opening}
 use Rattle.marks.proofs.open_marks.Given as goal
 
 abbrev pub invariant-loop-i : goal.invariant-loop-i

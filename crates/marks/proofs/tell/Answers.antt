@@ -1,13 +1,9 @@
 -- `marks::tell` meets its contract. The invariant: no byte changed but those of marked nodes. The measure is how many words are left.
 -- Assumes nothing.
-use mathlib.Core.Path.{◌≡◌, refl, sym, ◌∙◌}
-use Prim.Native.Nat.{◌-◌, ◌/◌}
+use mathlib.Core.Path.{refl, sym, ◌∙◌}
+use Prim.Native.Nat.{◌-◌}
 use native.Mathlib.Omega.{arith}
-use lib.ListN.{length}
-use Rattle.scope.specs.Limits.{MAX_NODES}
-use Rattle.marks.specs.Marks.{BITS, Tells}
 use Rattle.marks.proofs.Laws.{tells_same, tells_then}
-use borrow.Author.Rules.{rules}
 use Rattle.marks.proofs.tell.Goals as goal
 
 pub returns-then-at-ne1 : goal.returns-then-at-ne1

@@ -1,12 +1,11 @@
 -- `marks::tell_word` meets its contract. The invariant: no byte changed but those of marked nodes. The measure is how many bits are left.
 -- Assumes nothing.
-use mathlib.Core.Path.{◌≡◌, refl, ◌∙◌}
+use mathlib.Core.Path.{refl, ◌∙◌}
 use Prim.Native.Nat.{◌-◌}
 use native.Mathlib.Omega.{arith}
-use lib.ListN.{length, length-set}
-use Rattle.marks.specs.Marks.{BITS, OLD, Tells}
+use lib.ListN.{length-set}
+use Rattle.marks.specs.Marks.{OLD}
 use Rattle.marks.proofs.Laws.{tells_same, tells_bit}
-use borrow.Author.Rules.{rules}
 use Rattle.marks.proofs.tell_word.Goals as goal
 
 pub returns-then-w-eq0 : goal.returns-then-w-eq0

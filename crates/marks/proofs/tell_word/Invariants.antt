@@ -1,12 +1,9 @@
 -- `marks::tell_word` meets its contract. The invariant: no byte changed but those of marked nodes. The measure is how many bits are left.
 -- Assumes nothing.
-use mathlib.Core.Path.{◌≡◌, refl, ◌∙◌}
+use mathlib.Core.Path.{◌≡◌}
 use Prim.Native.Nat.{◌-◌}
-use native.Mathlib.Omega.{arith}
-use lib.ListN.{length, length-set}
-use Rattle.marks.specs.Marks.{BITS, OLD, Tells}
-use Rattle.marks.proofs.Laws.{tells_same, tells_bit}
-use borrow.Author.Rules.{rules}
+use lib.ListN.{length}
+use Rattle.marks.specs.Marks.{BITS, Tells}
 use Rattle.marks.proofs.tell_word.Given as goal
 
 abbrev pub invariant-loop-j : goal.invariant-loop-j

@@ -1,7 +1,6 @@
 -- `meeting::in_steps` meets its contract: a plan is its own steps, but for a signature.
 -- Assumes nothing.
 use Rattle.meeting.proofs.StepLaws.{stepped_answer, stepped_run, stepped_object, stepped_signature, signature_spans}
-use borrow.Author.Rules.{rules}
 use Rattle.meeting.proofs.in_steps.Goals as goal
 
 pub signature-requires : goal.signature-requires

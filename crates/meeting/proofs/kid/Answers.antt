@@ -4,7 +4,6 @@ use mathlib.Core.Path.{ap, ◌∙◌}
 use native.Mathlib.Omega.{arith}
 use Rattle.scope.specs.Sound as sound
 use Rattle.layout.specs.Words.{slot_at}
-use borrow.Author.Rules.{rules}
 use Rattle.meeting.proofs.kid.Goals as goal
 
 pub child_there-requires : goal.child_there-requires

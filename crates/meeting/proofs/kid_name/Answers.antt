@@ -4,7 +4,6 @@ use mathlib.Core.Path.{ap, ◌∙◌}
 use native.Mathlib.Omega.{arith}
 use Rattle.layout.specs.Words.{slot_at}
 use Rattle.meeting.specs.Kids.{slot_place}
-use borrow.Author.Rules.{rules}
 use Rattle.meeting.proofs.kid_name.Goals as goal
 
 pub child_there-requires : goal.child_there-requires

@@ -1,7 +1,6 @@
 -- `meeting::same_node` meets its contract: Success where the inversions agree, else as `self_inverse` says of the root.
 -- Assumes nothing.
 use Rattle.meeting.proofs.MeetLaws.{words_walk, same_agrees, same_crossed}
-use borrow.Author.Rules.{rules}
 use Rattle.meeting.proofs.same_node.Goals as goal
 
 pub self_inverse-requires : goal.self_inverse-requires

@@ -2,9 +2,7 @@
 -- Assumes nothing.
 use Prim.Native.Nat.{◌-◌}
 use native.Mathlib.Omega.{arith}
-use Rattle.names.specs.Place.{texts, name_of}
-use Rattle.meeting.proofs.KidLaws.{Seeking, seek_start, seek_here, seek_on, seek_over}
-use borrow.Author.Rules.{rules}
+use Rattle.meeting.proofs.KidLaws.{seek_start, seek_here, seek_on, seek_over}
 use Rattle.meeting.proofs.seek.Goals as goal
 
 pub loop-j-init : goal.loop-j-init

@@ -1,10 +1,8 @@
 -- `meeting::seek` meets its contract. The invariant: what the children from j on give is what all give. The measure is what is left of them.
 -- Assumes nothing.
 use Prim.Native.Nat.{◌-◌}
-use native.Mathlib.Omega.{arith}
 use Rattle.names.specs.Place.{texts, name_of}
-use Rattle.meeting.proofs.KidLaws.{Seeking, seek_start, seek_here, seek_on, seek_over}
-use borrow.Author.Rules.{rules}
+use Rattle.meeting.proofs.KidLaws.{Seeking}
 use Rattle.meeting.proofs.seek.Given as goal
 
 abbrev pub invariant-loop-j : goal.invariant-loop-j

@@ -1,6 +1,5 @@
 -- `meeting::seek_near` meets its contract: at first the name may stand anywhere.
 -- Assumes nothing.
-use borrow.Author.Rules.{rules}
 use Rattle.meeting.proofs.KidLaws.{between_start}
 use Rattle.meeting.proofs.seek_near.Goals as goal
 

@@ -1,7 +1,6 @@
 -- `meeting::walk_roots` meets its contract: one node, or two of which one has no kind.
 -- Assumes nothing.
 use Rattle.meeting.proofs.MeetLaws.{walked_same, walked_bare}
-use borrow.Author.Rules.{rules}
 use Rattle.meeting.proofs.walk_roots.Goals as goal
 
 pub returns-then-ia-ib : goal.returns-then-ia-ib

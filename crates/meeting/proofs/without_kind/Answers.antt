@@ -3,7 +3,6 @@
 use Rattle.meeting.proofs.MeetLaws.{words_walk, bare_first, bare_second, bare_binds, bare_alone}
 use mathlib.Core.Path.{sym, subst}
 use Prim.Native.Nat.{ℕ, ◌<◌}
-use borrow.Author.Rules.{rules}
 use Rattle.meeting.proofs.without_kind.Goals as goal
 
 pub occurs-requires : goal.occurs-requires

@@ -1,7 +1,6 @@
 -- `merge::hang` meets its contract: another size for the one, and a parent for the other.
 -- Assumes nothing.
 use Rattle.merge.proofs.QuickLaws.{hang_law}
-use borrow.Author.Rules.{rules}
 use Rattle.merge.proofs.hang.Goals as goal
 
 pub returns : goal.returns

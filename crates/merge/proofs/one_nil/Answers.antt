@@ -1,7 +1,6 @@
 -- `merge::one_nil` meets its contract: two types of one node, and that node is a Tuple of nothing.
 -- Assumes nothing.
 use Rattle.merge.proofs.QuickLaws.{one_not, one_nil}
-use borrow.Author.Rules.{rules}
 use Rattle.merge.proofs.one_nil.Goals as goal
 
 pub returns-then-ia-ib : goal.returns-then-ia-ib

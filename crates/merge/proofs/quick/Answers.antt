@@ -1,7 +1,6 @@
 -- `merge::quick` meets its contract: it merges only what it found to be two roots without kinds.
 -- Assumes nothing.
 use Rattle.merge.proofs.QuickLaws.{tried_not, sized, tried_merged}
-use borrow.Author.Rules.{rules}
 use Rattle.merge.proofs.quick.Goals as goal
 
 pub returns-then-ia-ib : goal.returns-then-ia-ib

@@ -4,7 +4,6 @@ use lib.ListN.{length-set}
 use native.Mathlib.Omega.{arith}
 use native.Mathlib.Nat.{add-sub_cancel_left}
 use Rattle.merge.proofs.QuickLaws.{resized_past, resized_root, resized_child}
-use borrow.Author.Rules.{rules}
 use Rattle.merge.proofs.resize.Goals as goal
 
 pub returns-then-n-i : goal.returns-then-n-i

@@ -1,8 +1,6 @@
 -- `merge::slight` meets its contract: what `quick` merges, and two nodes of which one has rank 1 and one rank 0.
 -- Assumes nothing.
-use native.Mathlib.Omega.{arith}
 use Rattle.merge.proofs.QuickLaws.{adds_still, tried_done, tried_still, tried_slight}
-use borrow.Author.Rules.{rules}
 use Rattle.merge.proofs.slight.Goals as goal
 
 pub returns-then-quick : goal.returns-then-quick

@@ -1,7 +1,6 @@
 -- `merge::unite` meets its contract: the test on the two sizes is scope's, and each arm is what `hang` ensures.
 -- Assumes nothing.
 use Rattle.merge.proofs.Laws.{merge_first, merge_second}
-use borrow.Author.Rules.{rules}
 use Rattle.merge.proofs.unite.Goals as goal
 
 pub returns-then-sb-sa : goal.returns-then-sb-sa

@@ -1,11 +1,8 @@
 -- `names::before` meets its contract. The loop's invariant: from i on the first list comes before the second if and only if it does as a whole. The
 -- measure is what is left of the shorter. Assumes nothing.
-use mathlib.Core.Path.{◌≡◌, refl, sym, ◌∙◌}
+use mathlib.Core.Path.{refl, sym, ◌∙◌}
 use native.Mathlib.Omega.{arith}
-use borrow.Author.Rules.{rules}
-use Prim.Native.Nat.{◌-◌, ◌≤◌}
-use lib.ListN.{drop}
-use Rattle.scope.specs.Names.{lt_bytes}
+use Prim.Native.Nat.{◌-◌}
 use Rattle.names.proofs.Laws as laws
 use Rattle.names.proofs.before.Goals as goal
 

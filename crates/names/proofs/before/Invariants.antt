@@ -1,12 +1,9 @@
 -- `names::before` meets its contract. The loop's invariant: from i on the first list comes before the second if and only if it does as a whole. The
 -- measure is what is left of the shorter. Assumes nothing.
-use mathlib.Core.Path.{◌≡◌, refl, sym, ◌∙◌}
-use native.Mathlib.Omega.{arith}
-use borrow.Author.Rules.{rules}
+use mathlib.Core.Path.{◌≡◌}
 use Prim.Native.Nat.{◌-◌, ◌≤◌}
 use lib.ListN.{drop}
 use Rattle.scope.specs.Names.{lt_bytes}
-use Rattle.names.proofs.Laws as laws
 use Rattle.names.proofs.before.Given as goal
 
 abbrev pub invariant-loop-i : goal.invariant-loop-i

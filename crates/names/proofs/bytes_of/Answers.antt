@@ -1,7 +1,6 @@
 -- `names::bytes_of` meets its contract: the part that the name says of the text that it selects. Assumes nothing.
 use mathlib.Core.Path.{◌∙◌, ap}
 use lib.ListN.{take, drop}
-use borrow.Author.Rules.{rules}
 use Rattle.scope.specs.Names.{bytes}
 use Rattle.names.proofs.bytes_of.Goals as goal
 

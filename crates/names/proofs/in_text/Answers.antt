@@ -1,5 +1,4 @@
 -- `names::in_text` meets its contract: the tests are those of the definition, in its order, and a sum of two numbers of 32 bits fits 64. Assumes nothing.
-use borrow.Author.Rules.{rules}
 use borrow.Author.Tests.{lt-leb, le-leb}
 use Rattle.scope.specs.Names.{in_text}
 use Rattle.names.specs.Place.{texts}

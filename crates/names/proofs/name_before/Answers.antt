@@ -1,5 +1,4 @@
 -- `names::name_before` meets its contract: the two names' bytes are compared. Assumes nothing.
-use borrow.Author.Rules.{rules}
 use Rattle.scope.specs.Names.{lt_bytes}
 use Rattle.names.proofs.Laws as laws
 use Rattle.names.proofs.name_before.Goals as goal

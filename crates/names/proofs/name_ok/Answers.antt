@@ -1,5 +1,4 @@
 -- `names::name_ok` meets its contract: the tests are those of the definition, in its order. Assumes nothing.
-use borrow.Author.Rules.{rules}
 use borrow.Author.Tests.{lt-leb, le-leb}
 use Rattle.scope.specs.Names.{name_ok}
 use Rattle.names.proofs.Tests.{passes, fails}

@@ -1,6 +1,5 @@
 -- `names::part` meets its contract: the part from the start on is the rest of the slice, so a length that is too long takes all of it, and a start past
 -- the slice takes nothing. Assumes nothing.
-use borrow.Author.Rules.{rules}
 use mathlib.Core.Path.{sym}
 use lib.Seq.{length-take-le}
 use native.Mathlib.Omega.{arith}

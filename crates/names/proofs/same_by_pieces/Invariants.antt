@@ -1,14 +1,8 @@
 -- `names::same_by_pieces` meets its contract. The invariant: all up to i is the same. The measure is what is left up to the last piece, which may begin before i:
 -- what it compares again is the same.
 -- Assumes nothing.
-use mathlib.Core.Path.{◌≡◌, refl, sym, ◌∙◌}
-use Prim.Native.Nat.{◌+◌, ◌-◌}
-use native.Mathlib.Omega.{arith}
-use borrow.Author.Rules.{rules}
-use borrow.Author.Tests.{not-true, not-false}
-use lib.ListN.{take, drop}
-use Rattle.names.specs.Place.{PIECE}
-use Rattle.names.proofs.Laws.{SameTo, same_start, same_on, same_end, other_part, other_length, piece_length, last_lengths}
+use Prim.Native.Nat.{◌-◌}
+use Rattle.names.proofs.Laws.{SameTo}
 use Rattle.names.proofs.same_by_pieces.Given as goal
 
 abbrev pub invariant-loop-i : goal.invariant-loop-i

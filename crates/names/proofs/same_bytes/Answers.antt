@@ -1,6 +1,5 @@
 -- `names::same_bytes` meets its contract: the kit's comparison says whether the two lists are equal, which is what `eq_bytes` says.
 -- Assumes nothing.
-use borrow.Author.Rules.{rules}
 use Rattle.names.proofs.Laws.{same_by}
 use Rattle.names.proofs.same_bytes.Goals as goal
 

@@ -1,5 +1,4 @@
 -- `names::same_name` meets its contract: the two names' bytes are compared. Assumes nothing.
-use borrow.Author.Rules.{rules}
 use Rattle.scope.specs.Names.{eq_bytes}
 use Rattle.names.proofs.Laws as laws
 use Rattle.names.proofs.same_name.Goals as goal

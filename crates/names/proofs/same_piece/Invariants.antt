@@ -1,16 +1,10 @@
 -- `names::same_piece` meets its contract. The invariant: what is found so far is whether the bytes up to i are the same. The measure is how many are left.
 -- Assumes nothing.
-use mathlib.Core.Path.{◌≡◌, refl, sym, ap, ◌∙◌}
-use mathlib.Core.Bool.{Bool, ◌&&◌}
+use mathlib.Core.Path.{◌≡◌}
 use Prim.Native.Nat.{◌-◌, ◌≤◌}
-use native.Mathlib.Omega.{arith}
-use borrow.Author.Rules.{rules}
-use lib.Dec.{eqb}
-use lib.ListN.{get_or, take}
-use lib.Seq.{take_all}
+use lib.ListN.{take}
 use Rattle.scope.specs.Names.{eq_bytes}
 use Rattle.names.specs.Place.{PIECE}
-use Rattle.names.proofs.Laws as laws
 use Rattle.names.proofs.same_piece.Given as goal
 
 abbrev pub invariant-loop-i : goal.invariant-loop-i

@@ -1,25 +1,20 @@
 -- `needs::count` meets its contract. The measure is the depth. A root that is not counted is counted before its children are walked from; the loop's
 -- invariant: what is left of them gives what all of them give, and what the cache keeps are roots.
 -- Assumes nothing.
-use mathlib.Core.Path.{◌≡◌, refl, ◌∙◌}
-use Prim.Native.Nat.{ℕ, ◌-◌, ◌<◌}
+use mathlib.Core.Path.{refl, ◌∙◌}
+use Prim.Native.Nat.{◌-◌}
 use native.Mathlib.Omega.{arith}
-use lib.ListN.{length}
-use borrow.Author.Rules.{rules}
-use borrow.Author.Tests.{not-false}
 use Rattle.layout.proofs.LinkLaws.{clean_linked}
-use Rattle.roots.specs.Kept.{Cached}
-use Rattle.needs.proofs.CountLaws.{Turn, turn_next, kid_next, root_is}
+use Rattle.needs.proofs.CountLaws.{turn_next, kid_next, root_is}
 use Rattle.needs.proofs.CountLaws.{count_shallow, count_met, count_replaced, count_lacking, node_fits, node_turn, count_node}
-use Rattle.needs.proofs.RootLaws.{kids_in}
 use Rattle.needs.proofs.+count.Goals as goal
 
 pub returns-then-depth-eq0 : goal.returns-then-depth-eq0
-returns-then-depth-eq0 t c = (count_shallow c.if-depth-eq0.true, c.requires.1.1)
+returns-then-depth-eq0 t c = (count_shallow c.if-depth-eq0.true, c.requires.1)
 
 pub find_by-requires : goal.find_by-requires
 find_by-requires t c =
-    (clean_linked _ _ _ _ c.requires.1.0.source.clean, c.requires.1.1)
+    (clean_linked _ _ _ _ c.requires.0.source.clean, c.requires.1)
 
 pub returns-then-is_counted : goal.returns-then-is_counted
 returns-then-is_counted t c =
@@ -27,24 +22,24 @@ returns-then-is_counted t c =
 
 pub root_asks-requires : goal.root_asks-requires
 root_asks-requires t c =
-    c.requires.1.0.source.clean.room
+    c.requires.0.source.clean.room
 
 pub overflow_add-all : goal.overflow_add-all
 overflow_add-all t c =
     let z = node_fits _ _ _ _ _ _ _ 0 _ (root_is c.find_by.ensures.0 c.idx-root.ensures _) c.is_counted.ensures
-    c.requires.1.0.source c.if-is_counted.false c.root_asks.ensures c.in-Node.is c.requires.1.0.long c.requires.1.0.small in
+    c.requires.0.source c.if-is_counted.false c.root_asks.ensures c.in-Node.is c.requires.0.long c.requires.0.small in
     omega (arith, z.0)
 
 pub overflow_add-all-in-Node : goal.overflow_add-all-in-Node
 overflow_add-all-in-Node t c =
     let z = node_fits _ _ _ _ _ _ _ 0 _ (root_is c.find_by.ensures.0 c.idx-root.ensures _) c.is_counted.ensures
-    c.requires.1.0.source c.if-is_counted.false c.root_asks.ensures c.in-Node.is c.requires.1.0.long c.requires.1.0.small in
+    c.requires.0.source c.if-is_counted.false c.root_asks.ensures c.in-Node.is c.requires.0.long c.requires.0.small in
     omega (arith, z.1)
 
 pub loop-j-init : goal.loop-j-init
 loop-j-init t c = (
   node_turn _ _ _ _ _ _ _ _ _ (root_is c.find_by.ensures.0 c.idx-root.ensures _) c.is_counted.ensures
-      c.requires.1.0.source c.if-is_counted.false c.root_asks.ensures c.in-Node.is c.mark.ensures c.requires.1.0.small,
+      c.requires.0.source c.if-is_counted.false c.root_asks.ensures c.in-Node.is c.mark.ensures c.requires.0.small,
   c.find_by.ensures.1,
   refl,
 )
@@ -54,7 +49,7 @@ overflow_add-j t c = omega (arith, c.loop-j-test.true)
 
 pub is_met-requires : goal.is_met-requires
 is_met-requires t c =
-    (clean_linked _ _ _ _ c.requires.1.0.source.clean, c.loop-j.invariant.1)
+    (clean_linked _ _ _ _ c.requires.0.source.clean, c.loop-j.invariant.1)
 
 pub overflow_sub-depth : goal.overflow_sub-depth
 overflow_sub-depth t c =
@@ -62,9 +57,9 @@ overflow_sub-depth t c =
 
 pub count-all-requires : goal.count-all-requires
 count-all-requires t c = (
-  omega (arith, c.requires.0, c.if-depth-eq0.false),
+  omega (arith, c.if-depth-eq0.false),
   (
-    record { source = c.requires.1.0.source; long = omega (arith, c.requires.1.0.long, c.mark.auto.marks, c.loop-j.invariant.0.long); small = c.loop-j.invariant.0.small },
+    record { source = c.requires.0.source; long = omega (arith, c.requires.0.long, c.mark.auto.marks, c.loop-j.invariant.0.long); small = c.loop-j.invariant.0.small },
     c.is_met.ensures.1,
   ),
 )
@@ -75,7 +70,7 @@ loop-j-smaller-then-not-is_met t c =
 
 pub loop-j-preserved-then-not-is_met : goal.loop-j-preserved-then-not-is_met
 loop-j-preserved-then-not-is_met t c = (
-  turn_next c.loop-j.invariant.0 c.requires.1.0.source (kid_next c.args.ks.now _ _ _ c.child.result c.loop-j-test.true c.child.ensures)
+  turn_next c.loop-j.invariant.0 c.requires.0.source (kid_next c.args.ks.now _ _ _ c.child.result c.loop-j-test.true c.child.ensures)
       c.count-all.ensures.0 c.count-all.auto.marks,
   c.count-all.ensures.1,
   c.count-all.auto.cache ∙ (c.is_met.auto.cache ∙ c.loop-j.invariant.2),
@@ -86,7 +81,7 @@ loop-j-smaller t c = omega (arith, c.loop-j-test.true)
 
 pub loop-j-preserved : goal.loop-j-preserved
 loop-j-preserved t c = (
-  turn_next c.loop-j.invariant.0 c.requires.1.0.source (kid_next c.args.ks.now _ _ _ c.child.result c.loop-j-test.true c.child.ensures)
+  turn_next c.loop-j.invariant.0 c.requires.0.source (kid_next c.args.ks.now _ _ _ c.child.result c.loop-j-test.true c.child.ensures)
       (c.is_met.ensures.0.is c.if-not-is_met.false c.args.ks.now _ _ _) refl,
   c.is_met.ensures.1,
   c.is_met.auto.cache ∙ c.loop-j.invariant.2,
@@ -95,14 +90,14 @@ loop-j-preserved t c = (
 pub returns-in-Replaced : goal.returns-in-Replaced
 returns-in-Replaced t c = (
   count_replaced _ _ _ _ _ _ _ _ _ (root_is c.find_by.ensures.0 c.idx-root.ensures _) c.is_counted.ensures
-      c.requires.1.0.source c.if-is_counted.false c.root_asks.ensures c.in-Replaced.is,
+      c.requires.0.source c.if-is_counted.false c.root_asks.ensures c.in-Replaced.is,
   c.find_by.ensures.1,
 )
 
 pub returns-in-Missing : goal.returns-in-Missing
 returns-in-Missing t c = (
   count_lacking _ _ _ _ _ _ _ _ _ (root_is c.find_by.ensures.0 c.idx-root.ensures _) c.is_counted.ensures
-      c.requires.1.0.source c.if-is_counted.false c.root_asks.ensures c.if-depth-eq0.false c.in-Missing.is,
+      c.requires.0.source c.if-is_counted.false c.root_asks.ensures c.if-depth-eq0.false c.in-Missing.is,
   c.find_by.ensures.1,
 )
 
@@ -117,7 +112,7 @@ shape_of-marks-after-loop-j t c =
 pub returns-after-loop-j : goal.returns-after-loop-j
 returns-after-loop-j t c = (
   count_node _ _ _ _ _ _ _ _ _ (root_is c.find_by.ensures.0 c.idx-root.ensures _) c.is_counted.ensures
-      c.requires.1.0.source c.if-is_counted.false c.root_asks.ensures c.in-Node.is c.mark.ensures
+      c.requires.0.source c.if-is_counted.false c.root_asks.ensures c.in-Node.is c.mark.ensures
       c.if-depth-eq0.false c.loop-j.invariant.0 c.loop-j-test.false,
   c.loop-j.invariant.1,
 )

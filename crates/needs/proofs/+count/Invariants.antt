@@ -1,16 +1,11 @@
 -- `needs::count` meets its contract. The measure is the depth. A root that is not counted is counted before its children are walked from; the loop's
 -- invariant: what is left of them gives what all of them give, and what the cache keeps are roots.
 -- Assumes nothing.
-use mathlib.Core.Path.{◌≡◌, refl, ◌∙◌}
-use Prim.Native.Nat.{ℕ, ◌-◌, ◌<◌}
-use native.Mathlib.Omega.{arith}
+use mathlib.Core.Path.{◌≡◌}
+use Prim.Native.Nat.{◌-◌}
 use lib.ListN.{length}
-use borrow.Author.Rules.{rules}
-use borrow.Author.Tests.{not-false}
-use Rattle.layout.proofs.LinkLaws.{clean_linked}
 use Rattle.roots.specs.Kept.{Cached}
-use Rattle.needs.proofs.CountLaws.{Turn, turn_next, kid_next, root_is}
-use Rattle.needs.proofs.CountLaws.{count_shallow, count_met, count_replaced, count_lacking, node_fits, node_turn, count_node}
+use Rattle.needs.proofs.CountLaws.{Turn}
 use Rattle.needs.proofs.RootLaws.{kids_in}
 use Rattle.needs.proofs.+count.Given as goal
 

@@ -1,12 +1,9 @@
 -- `needs::count_all` meets its contract. The loop's invariant: what is left of the list gives what the whole list gives. The measure is what is left
 -- of its length. Assumes nothing.
-use mathlib.Core.Path.{◌≡◌, refl, ◌∙◌}
+use mathlib.Core.Path.{refl, ◌∙◌}
 use Prim.Native.Nat.{◌-◌}
 use native.Mathlib.Omega.{arith}
-use lib.ListN.{length}
-use Rattle.store.specs.Entries.{types_in}
-use Rattle.roots.specs.Kept.{Cached}
-use Rattle.needs.proofs.CountLaws.{Turn, turn_start, turn_next}
+use Rattle.needs.proofs.CountLaws.{turn_start, turn_next}
 use Rattle.needs.proofs.SourceLaws.{listed_next, all_counted}
 use Rattle.needs.proofs.count_all.Goals as goal
 

@@ -1,7 +1,6 @@
 -- `needs::is_counted` meets its contract: within the marks any default gives the mark, and past them getD gives 1.
 -- Assumes nothing.
 use lib.ListN.{get_or-eq_default}
-use borrow.Author.Rules.{rules}
 use Rattle.needs.proofs.RootLaws.{get_any}
 use Rattle.needs.proofs.is_counted.Goals as goal
 

@@ -1,6 +1,5 @@
 -- `needs::is_met` meets its contract: from a root that is counted the walk does nothing.
 -- Assumes nothing.
-use borrow.Author.Rules.{rules}
 use Rattle.needs.proofs.CountLaws.{root_is, count_met}
 use Rattle.needs.proofs.is_met.Goals as goal
 

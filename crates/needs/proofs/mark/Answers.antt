@@ -2,7 +2,6 @@
 -- Assumes nothing.
 use mathlib.Core.Path.{refl, sym}
 use lib.Seq.{set_out}
-use borrow.Author.Rules.{rules}
 use Rattle.needs.proofs.mark.Goals as goal
 
 pub returns-then-at-marks : goal.returns-then-at-marks

@@ -4,7 +4,6 @@ use native.Mathlib.Omega.{arith}
 use Rattle.scope.specs.Limits.{MAX_NODES}
 use Rattle.roots.proofs.KeptLaws.{cached_zeros}
 use Rattle.needs.proofs.SourceLaws.{start_countable, all_countable, export_source, export_needs}
-use borrow.Author.Rules.{rules}
 use Rattle.needs.proofs.of_export.Goals as goal
 
 pub count_remembered-first-requires : goal.count_remembered-first-requires

@@ -4,7 +4,6 @@ use native.Mathlib.Omega.{arith}
 use Rattle.scope.specs.Limits.{MAX_NODES}
 use Rattle.roots.proofs.KeptLaws.{cached_zeros}
 use Rattle.needs.proofs.SourceLaws.{start_countable, import_needs}
-use borrow.Author.Rules.{rules}
 use Rattle.needs.proofs.of_import.Goals as goal
 
 pub count_all-requires : goal.count_all-requires

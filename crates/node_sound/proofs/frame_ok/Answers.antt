@@ -1,6 +1,5 @@
 -- `node_sound::frame_ok` meets its contract: a kind that passes each of the tests is framed, and any other answer says nothing.
 -- Assumes nothing.
-use borrow.Author.Rules.{rules}
 use mathlib.Core.Path.{sym, ap, ◌∙◌}
 use mathlib.Core.Bool.{false≢true}
 use native.Mathlib.Omega.{arith}

@@ -1,6 +1,5 @@
 -- `node_sound::named_child` meets its contract: the name is tested first.
 -- Assumes nothing.
-use borrow.Author.Rules.{rules}
 use Rattle.names.proofs.Tests.{passes, fails}
 use Rattle.node_sound.proofs.named_child.Goals as goal
 

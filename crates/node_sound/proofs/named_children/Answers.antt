@@ -3,11 +3,9 @@
 use mathlib.Core.Bool.{false≢true}
 use Prim.Native.Nat.{◌-◌}
 use native.Mathlib.Omega.{arith}
-use borrow.Author.Rules.{rules}
-use borrow.Author.Tests.{not-false}
 use Rattle.names.specs.Place.{texts}
 use Rattle.names.proofs.Tests.{passes}
-use Rattle.node_sound.proofs.Laws.{first_at, Gone, gone_none, gone_more}
+use Rattle.node_sound.proofs.Laws.{first_at, gone_none, gone_more}
 use Rattle.node_sound.proofs.named_children.Goals as goal
 
 pub returns-then-e-a : goal.returns-then-e-a

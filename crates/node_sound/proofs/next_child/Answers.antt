@@ -1,14 +1,7 @@
 -- `node_sound::next_child` meets its contract: a child that was seen rises, and one that rises is seen from now on.
 -- Assumes nothing.
-use borrow.Author.Rules.{rules}
-use mathlib.Core.Path.{sym, ap, ◌∙◌}
 use mathlib.Core.Bool.{true, false≢true}
-use lib.Dec.{ltb}
-use native.Mathlib.Omega.{arith}
-use borrow.Author.Tests.{lt-ltb}
-use Rattle.scope.specs.Types.{ty_of}
-use Rattle.scope.specs.Sound.{Slot}
-use Rattle.scope.specs.Names.{name_ok, name, bytes, lt_bytes}
+use Rattle.scope.specs.Names.{name_ok}
 use Rattle.names.specs.Place.{texts}
 use Rattle.names.proofs.Tests.{passes}
 use Rattle.node_sound.proofs.Laws.{inside_at_lem, rises_at, seen_more}

@@ -1,7 +1,6 @@
 -- `node_sound::node_sound` meets its contract: each way out is a law of the node's words, read as a cell.
 -- Assumes nothing.
 use mathlib.Core.Path.{sym}
-use borrow.Author.Rules.{rules}
 use Rattle.names.proofs.Tests.{passes, fails}
 use Rattle.chart.specs.Env.{chart_in}
 use Rattle.node_sound.proofs.Laws.{test_plain, test_wide, test_unclean, test_node}

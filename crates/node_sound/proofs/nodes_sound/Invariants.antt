@@ -3,16 +3,10 @@
 use mathlib.Core.Path.{◌≡◌}
 use mathlib.Core.Bool.{true}
 use Prim.Native.Nat.{ℕ, ◌-◌, ◌≤◌, ◌<◌}
-use native.Mathlib.Omega.{arith}
-use borrow.Author.Count.{below_more}
 use Rattle.names.specs.Place.{texts}
-use Rattle.names.proofs.Tests.{passes, fails}
 use Rattle.chart.specs.Env.{chart_in}
 use Rattle.layout.specs.Words.{decode}
-use Rattle.layout.proofs.Lists.{all_stop, all_done}
-use Rattle.layout.proofs.Laws.{length_decode}
 use Rattle.node_sound.specs.Tests.{node_test, TrueSeen}
-use Rattle.node_sound.proofs.Laws.{seen_none}
 use Rattle.node_sound.proofs.nodes_sound.Given as goal
 
 abbrev pub invariant-loop-i : goal.invariant-loop-i

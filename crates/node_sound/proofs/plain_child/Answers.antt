@@ -1,9 +1,5 @@
 -- `node_sound::plain_child` meets its contract: the name is tested first, as `plain_slot` does.
 -- Assumes nothing.
-use mathlib.Core.Path.{sym, ◌∙◌, ap}
-use lib.Dec.{ltb}
-use borrow.Author.Rules.{rules}
-use borrow.Author.Tests.{lt-ltb, le-ltb}
 use Rattle.names.proofs.Tests.{passes, fails}
 use Rattle.node_sound.proofs.plain_child.Goals as goal
 

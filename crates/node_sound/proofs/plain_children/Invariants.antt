@@ -1,15 +1,11 @@
 -- `node_sound::plain_children` meets its contract. The loop's invariant: `plain` says of the children before i what it is to say of all, with those from i
 -- on. The measure is what is left of them.
 -- Assumes nothing.
-use mathlib.Core.Path.{◌≡◌, refl, sym, ap, ◌∙◌}
-use mathlib.Core.Bool.{◌&&◌, false≢true}
+use mathlib.Core.Path.{◌≡◌}
+use mathlib.Core.Bool.{◌&&◌}
 use Prim.Native.Nat.{◌-◌}
-use native.Mathlib.Omega.{arith}
-use borrow.Author.Rules.{rules}
 use Rattle.scope.specs.Base.{all, from}
-use Rattle.names.proofs.Tests.{passes, fails}
 use Rattle.layout.specs.Words.{slot_at}
-use Rattle.clean.proofs.Laws.{flag_step, flag_stop, flag_end}
 use Rattle.node_sound.specs.Tests.{plain_slot}
 use Rattle.node_sound.proofs.plain_children.Given as goal
 

@@ -2,8 +2,6 @@
 -- Assumes nothing.
 use mathlib.Core.Path.{sym, ap, ◌∙◌}
 use mathlib.Core.Bool.{false≢true}
-use borrow.Author.Rules.{rules}
-use borrow.Author.Tests.{not-false}
 use Rattle.scope.specs.Kinds.{Row}
 use Rattle.node_sound.proofs.Laws.{kind_bare, kind_named}
 use Rattle.node_sound.proofs.plain_kind.Goals as goal

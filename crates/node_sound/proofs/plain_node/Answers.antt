@@ -1,8 +1,6 @@
 -- `node_sound::plain_node` meets its contract: the words beside the kind's are tested, then the kind.
 -- Assumes nothing.
 use mathlib.Core.Bool.{false≢true}
-use native.Mathlib.Omega.{arith}
-use borrow.Author.Rules.{rules}
 use Rattle.node_sound.proofs.Laws.{plain_node, kind_few}
 use Rattle.node_sound.proofs.plain_node.Goals as goal
 

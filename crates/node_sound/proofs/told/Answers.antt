@@ -2,7 +2,6 @@
 -- Assumes nothing.
 use mathlib.Core.Path.{sym, ◌∙◌}
 use mathlib.Core.Bool.{false≢true}
-use borrow.Author.Rules.{rules}
 use Rattle.node_sound.proofs.Laws.{told_plain}
 use Rattle.node_sound.proofs.told.Goals as goal
 

@@ -1,8 +1,6 @@
 -- `own_inverse::by_memory` meets its contract: a walk beside the memory's marks, after which every root that it met is marked, if it was good.
 -- Assumes nothing.
-use borrow.Author.Tests.{not-true, not-false}
 use Rattle.own_inverse.proofs.Laws.{memory_asks, memory_not, memory_all}
-use borrow.Author.Rules.{rules}
 use Rattle.own_inverse.proofs.by_memory.Goals as goal
 
 pub by_marks-requires : goal.by_marks-requires

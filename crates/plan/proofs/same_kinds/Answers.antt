@@ -1,6 +1,5 @@
 -- `plan::same_kinds` meets its contract. The tests on the way are those of scope's same_head, in its order; a Key's names are compared by their bytes.
 -- Assumes nothing.
-use borrow.Author.Rules.{rules}
 use Rattle.plan.proofs.Laws.{same_code, same_number, same_plain, same_key}
 use Rattle.plan.proofs.same_kinds.Goals as goal
 

@@ -1,6 +1,5 @@
 -- `promise::refusal_at` meets its contract: a type's node is in the store just where its number is below the header's count.
 -- Assumes nothing.
-use borrow.Author.Rules.{rules}
 use Rattle.scope.specs.Types.{ty_of}
 use Rattle.promise.proofs.Laws.{one_outside, one_inside}
 use Rattle.promise.proofs.refusal_at.Goals as goal

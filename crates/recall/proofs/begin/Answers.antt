@@ -1,7 +1,6 @@
 -- `recall::begin` meets its contract: the clock is 0 and there are no marks, so that nothing is believed.
 -- Assumes nothing.
 use Rattle.recall.proofs.Laws.{begun_by}
-use borrow.Author.Rules.{rules}
 use Rattle.recall.proofs.begin.Goals as goal
 
 pub returns : goal.returns

@@ -1,7 +1,6 @@
 -- `recall::changed` meets its contract: no entry is of the next clock.
 -- Assumes nothing.
 use Rattle.recall.proofs.Laws.{forgot_on}
-use borrow.Author.Rules.{rules}
 use Rattle.recall.proofs.changed.Goals as goal
 
 pub returns : goal.returns

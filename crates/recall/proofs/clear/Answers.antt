@@ -1,11 +1,10 @@
 -- `recall::clear` meets its contract. The invariant: the words of the entries below i are 0, and those before the entries are as they were. The measure is the number of words left.
 -- Assumes nothing.
-use mathlib.Core.Path.{◌≡◌, refl, ◌∙◌}
+use mathlib.Core.Path.{refl, ◌∙◌}
 use Prim.Native.Nat.{◌-◌}
 use native.Mathlib.Omega.{arith}
-use borrow.Author.Rules.{rules}
-use lib.ListN.{length, length-set}
-use Rattle.recall.proofs.Laws.{Clearing, clear_start, clear_next, clear_ends}
+use lib.ListN.{length-set}
+use Rattle.recall.proofs.Laws.{clear_start, clear_next, clear_ends}
 use Rattle.recall.proofs.clear.Goals as goal
 
 pub loop-i-init : goal.loop-i-init

@@ -3,7 +3,6 @@
 use mathlib.Core.Bool.{true, false}
 use Rattle.scope.specs.Types.{ty_of}
 use Rattle.recall.proofs.Laws.{code_is}
-use borrow.Author.Rules.{rules}
 use Rattle.recall.proofs.code.Goals as goal
 
 pub returns-then-inv : goal.returns-then-inv

@@ -2,7 +2,6 @@
 -- Assumes nothing.
 use native.Mathlib.Omega.{arith}
 use Rattle.recall.proofs.Laws.{told_none, word_holds, told_entry}
-use borrow.Author.Rules.{rules}
 use Rattle.recall.proofs.look.Goals as goal
 
 pub returns-in_default : goal.returns-in_default

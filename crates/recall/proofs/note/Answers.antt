@@ -2,7 +2,6 @@
 -- Assumes nothing.
 use native.Mathlib.Omega.{arith}
 use Rattle.recall.proofs.Laws.{noted_same, noted_entry}
-use borrow.Author.Rules.{rules}
 use Rattle.recall.proofs.note.Goals as goal
 
 pub returns-then-at-began : goal.returns-then-at-began

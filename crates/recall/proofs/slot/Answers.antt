@@ -3,7 +3,6 @@
 use mathlib.Core.Path.{refl}
 use native.Mathlib.Omega.{arith}
 use Rattle.recall.proofs.Laws.{row_small, pair_small}
-use borrow.Author.Rules.{rules}
 use Rattle.recall.proofs.slot.Goals as goal
 
 pub overflow_mul-result : goal.overflow_mul-result

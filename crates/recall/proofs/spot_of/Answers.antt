@@ -4,7 +4,6 @@ use mathlib.Core.Path.{refl}
 use native.Mathlib.Omega.{arith}
 use Rattle.scope.specs.Types.{ty_of}
 use Rattle.recall.proofs.Laws.{placed_none, slot_fits, placed_at}
-use borrow.Author.Rules.{rules}
 use Rattle.recall.proofs.spot_of.Goals as goal
 
 pub returns-then-c-eq0 : goal.returns-then-c-eq0
@@ -20,13 +19,13 @@ pub overflow_mul-result : goal.overflow_mul-result
 overflow_mul-result c =
     let a = c.args in
     let s = slot_fits a.m.now a.n (ty_of a.a.0) (ty_of a.b.0) c.at-c.ensures c.if-c-eq0.false c.if-c.false c.if-m.false refl in
-    omega (arith, s c.slot.ensures, at-args.well-formed)
+    omega (arith, s c.slot.ensures)
 
 pub overflow_add-result : goal.overflow_add-result
 overflow_add-result c =
     let a = c.args in
     let s = slot_fits a.m.now a.n (ty_of a.a.0) (ty_of a.b.0) c.at-c.ensures c.if-c-eq0.false c.if-c.false c.if-m.false refl in
-    omega (arith, s c.slot.ensures, at-args.well-formed)
+    omega (arith, s c.slot.ensures)
 
 pub returns : goal.returns
 returns c =

@@ -1,7 +1,6 @@
 -- `recall::visited` meets its contract: there is no room, or the clock runs already, or it does not start yet, or it starts with no entry of its first number.
 -- Assumes nothing.
 use Rattle.recall.proofs.Laws.{fewer_same, fewer_wait, fewer_start}
-use borrow.Author.Rules.{rules}
 use Rattle.recall.proofs.visited.Goals as goal
 
 pub returns-then-m : goal.returns-then-m

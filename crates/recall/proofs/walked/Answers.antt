@@ -1,7 +1,6 @@
 -- `recall::walked` meets its contract: a Failure is noted after it is counted, and anything else changes nothing.
 -- Assumes nothing.
 use Rattle.recall.proofs.Laws.{walked_same, walked_noted}
-use borrow.Author.Rules.{rules}
 use Rattle.recall.proofs.walked.Goals as goal
 
 pub returns-in-Success : goal.returns-in-Success

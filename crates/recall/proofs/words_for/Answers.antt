@@ -2,7 +2,6 @@
 -- Assumes nothing.
 use native.Mathlib.Omega.{arith}
 use Rattle.recall.proofs.Laws.{square_small}
-use borrow.Author.Rules.{rules}
 use Rattle.recall.proofs.words_for.Goals as goal
 
 pub overflow_mul-result : goal.overflow_mul-result

@@ -2,7 +2,6 @@
 use mathlib.Core.Path.{refl}
 use Prim.Native.Nat.{◌+◌}
 use native.Mathlib.Nat.{add-sub_cancel_left}
-use borrow.Author.Rules.{rules}
 use Rattle.chart.specs.Words.{RECORD_WORDS}
 use Rattle.layout.proofs.Lists.{place_in}
 use Rattle.records.specs.Loaded.{numbers}

@@ -1,7 +1,6 @@
 -- `refusals::enough` meets its contract: the first slice that is too short decides, and where neither of the first two is the third does.
 -- Assumes nothing.
 use mathlib.Core.Path.{sym}
-use borrow.Author.Rules.{rules}
 use Rattle.refusals.proofs.OpenLaws.{short_head, short_nodes, enough_children}
 use Rattle.refusals.proofs.enough.Goals as goal
 

@@ -1,6 +1,5 @@
 -- `refusals::opening` meets its contract: each way out has its law.
 -- Assumes nothing.
-use borrow.Author.Rules.{rules}
 use Rattle.refusals.specs.Opening.{enough}
 use Rattle.refusals.proofs.OpenLaws.{many_nodes, many_children, words_short, words_enough}
 use Rattle.names.proofs.Tests.{passes, fails}

@@ -1,7 +1,6 @@
 -- `refusals::room` meets its contract: each way out has its law, and the laws look at the header alone.
 -- Assumes nothing.
 use mathlib.Core.Path.{sym, ◌∙◌}
-use borrow.Author.Rules.{rules}
 use Rattle.refusals.proofs.RoomLaws.{nodes_full, children_full, room_left}
 use Rattle.refusals.proofs.room.Goals as goal
 

@@ -2,7 +2,6 @@
 -- contract speaks of.
 -- Assumes nothing.
 use mathlib.Core.Path.{sym, ap₂}
-use borrow.Author.Rules.{rules}
 use lib.Dec.{ltb}
 use Rattle.refusals.proofs.type_inside.Goals as goal
 

@@ -1,38 +1,32 @@
 -- `related::mark_below` meets its contract. The measure is the depth. The loop's invariant: what is left of the children gives what all of them give, what the
 -- cache keeps are roots, nodes that have been told have marked roots, and what the skips pass over are slots of marked roots.
 -- Assumes nothing.
-use mathlib.Core.Path.{◌≡◌, refl, ◌∙◌}
+use mathlib.Core.Path.{refl, ◌∙◌}
 use Prim.Native.Nat.{◌-◌}
 use native.Mathlib.Omega.{arith}
-use lib.ListN.{length}
-use borrow.Author.Rules.{rules}
-use Rattle.scope.specs.Force.{related_f}
 use Rattle.layout.specs.Words.{decode}
 use Rattle.layout.proofs.LinkLaws.{clean_linked}
-use Rattle.skips.specs.Table.{SLOTS}
-use Rattle.related.specs.Tables.{Keeps}
 use Rattle.related.proofs.KeepLaws.{keeps_over, keeps_pass, keeps_met, keeps_new, keeps_stretch}
-use Rattle.related.proofs.TurnLaws.{below_shallow, below_none, below_kind, Turn, turn_start, turn_pass, turn_end, turn_stretch, turn_met, turn_new}
-use Prim.Native.Nat.{ℕ, ◌<◌}
+use Rattle.related.proofs.TurnLaws.{below_shallow, below_none, below_kind, turn_start, turn_pass, turn_end, turn_stretch, turn_met, turn_new}
 use Rattle.related.proofs.+mark_below.Goals as goal
 
 pub returns-then-depth-eq0 : goal.returns-then-depth-eq0
 returns-then-depth-eq0 t c =
-    (below_shallow c.args.depth (decode c.args.ws.now c.args.ks.now c.args.n) _ c.args.root.0 c.if-depth-eq0.true, c.requires.1.1)
+    (below_shallow c.args.depth (decode c.args.ws.now c.args.ks.now c.args.n) _ c.args.root.0 c.if-depth-eq0.true, c.requires.1)
 
 pub held_at-requires : goal.held_at-requires
-held_at-requires t c = c.requires.1.0.clean.room
+held_at-requires t c = c.requires.0.clean.room
 
 pub returns-in_default : goal.returns-in_default
 returns-in_default t c =
-    (below_none _ c.requires.1.0 c.held_at.ensures _ _ c.in_default.is, c.requires.1.1)
+    (below_none _ c.requires.0 c.held_at.ensures _ _ c.in_default.is, c.requires.1)
 
 pub overflow_add-end : goal.overflow_add-end
 overflow_add-end t c = omega arith
 
 pub loop-s-init : goal.loop-s-init
 loop-s-init t c =
-    (turn_start _ _ _ _ _, c.requires.1.1, refl, refl, refl, omega arith)
+    (turn_start _ _ _ _ _, c.requires.1, refl, refl, refl, omega arith)
 
 pub pass-far-requires : goal.pass-far-requires
 pass-far-requires t c = omega (arith, c.loop-s-test.true, c.loop-s.invariant.5)
@@ -56,7 +50,7 @@ loop-s-preserved-then-far-gt0 t c = (
 
 pub meet-requires : goal.meet-requires
 meet-requires t c =
-    (clean_linked _ _ _ _ c.requires.1.0.clean, c.loop-s.invariant.1.cached, c.loop-s.invariant.1.sees)
+    (clean_linked _ _ _ _ c.requires.0.clean, c.loop-s.invariant.1.cached, c.loop-s.invariant.1.sees)
 
 pub stretch-s-requires : goal.stretch-s-requires
 stretch-s-requires t c =
@@ -84,7 +78,7 @@ overflow_sub-depth t c =
 
 pub mark_below-requires : goal.mark_below-requires
 mark_below-requires t c =
-    (omega (arith, c.requires.0, c.if-depth-eq0.false), (c.requires.1.0, (keeps_new (keeps_pass c.loop-s.invariant.1 c.pass-far.ensures) c.meet.ensures c.in-New.is)))
+    (omega (arith, c.if-depth-eq0.false), (c.requires.0, (keeps_new (keeps_pass c.loop-s.invariant.1 c.pass-far.ensures) c.meet.ensures c.in-New.is)))
 
 pub stretch-s-requires-in-New : goal.stretch-s-requires-in-New
 stretch-s-requires-in-New t c =
@@ -121,6 +115,6 @@ shape_of-skip t c = c.loop-s.invariant.4
 
 pub returns : goal.returns
 returns t c = (
-  turn_end c.loop-s.invariant.0 (omega (arith, c.loop-s-test.false)) ∙ below_kind _ c.requires.1.0 c.held_at.ensures _ _ c.in-Is.is,
+  turn_end c.loop-s.invariant.0 (omega (arith, c.loop-s-test.false)) ∙ below_kind _ c.requires.0 c.held_at.ensures _ _ c.in-Is.is,
   c.loop-s.invariant.1,
 )

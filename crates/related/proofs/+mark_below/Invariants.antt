@@ -1,19 +1,15 @@
 -- `related::mark_below` meets its contract. The measure is the depth. The loop's invariant: what is left of the children gives what all of them give, what the
 -- cache keeps are roots, nodes that have been told have marked roots, and what the skips pass over are slots of marked roots.
 -- Assumes nothing.
-use mathlib.Core.Path.{◌≡◌, refl, ◌∙◌}
+use mathlib.Core.Path.{◌≡◌}
 use Prim.Native.Nat.{◌-◌}
-use native.Mathlib.Omega.{arith}
 use lib.ListN.{length}
-use borrow.Author.Rules.{rules}
 use Rattle.scope.specs.Force.{related_f}
 use Rattle.layout.specs.Words.{decode}
-use Rattle.layout.proofs.LinkLaws.{clean_linked}
 use Rattle.skips.specs.Table.{SLOTS}
 use Rattle.related.specs.Tables.{Keeps}
-use Rattle.related.proofs.KeepLaws.{keeps_over, keeps_pass, keeps_met, keeps_new, keeps_stretch}
-use Rattle.related.proofs.TurnLaws.{below_shallow, below_none, below_kind, Turn, turn_start, turn_pass, turn_end, turn_stretch, turn_met, turn_new}
-use Prim.Native.Nat.{ℕ, ◌<◌}
+use Rattle.related.proofs.TurnLaws.{Turn}
+use Prim.Native.Nat.{◌<◌}
 use Rattle.related.proofs.+mark_below.Given as goal
 
 abbrev pub decreases-mark_below : goal.decreases-mark_below

@@ -4,7 +4,6 @@ use mathlib.Core.Path.{◌∙◌}
 use Rattle.layout.proofs.LinkLaws.{clean_linked}
 use Rattle.related.proofs.Laws.{root_is, mark_shallow, mark_met, mark_whole}
 use Rattle.related.proofs.TurnLaws.{mark_walked}
-use borrow.Author.Rules.{rules}
 use Rattle.related.proofs.find_related.Goals as goal
 
 pub returns-then-n-eq0 : goal.returns-then-n-eq0

@@ -2,7 +2,6 @@
 -- Assumes nothing.
 use Rattle.related.specs.Tables.{FEW}
 use Rattle.related.proofs.KeepLaws.{keeps_zeros}
-use borrow.Author.Rules.{rules}
 use Rattle.related.proofs.mark_few.Goals as goal
 
 pub mark_below-requires : goal.mark_below-requires

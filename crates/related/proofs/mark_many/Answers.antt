@@ -2,7 +2,6 @@
 -- Assumes nothing.
 use Rattle.scope.specs.Limits.{MAX_NODES, MAX_CHILDREN}
 use Rattle.related.proofs.KeepLaws.{keeps_zeros}
-use borrow.Author.Rules.{rules}
 use Rattle.related.proofs.mark_many.Goals as goal
 
 pub mark_below-requires : goal.mark_below-requires

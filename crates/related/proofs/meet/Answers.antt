@@ -1,7 +1,6 @@
 -- `related::meet` meets its contract: a node that was told, a root that was marked, and one that is marked now.
 -- Assumes nothing.
 use Rattle.related.proofs.KeepLaws.{meets_told, meets_old, meets_in, meets_out}
-use borrow.Author.Rules.{rules}
 use Rattle.related.proofs.meet.Goals as goal
 
 pub returns-then-is_marked : goal.returns-then-is_marked

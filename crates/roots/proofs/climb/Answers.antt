@@ -2,7 +2,7 @@
 -- Assumes nothing.
 use native.Mathlib.Omega.{arith}
 use borrow.Author.Rules.{rules}
-use Rattle.roots.proofs.Laws.{Climbs, climbs_start, climbs_up, climbs_root, climbs_out}
+use Rattle.roots.proofs.Laws.{climbs_start, climbs_up, climbs_root, climbs_out}
 use Rattle.roots.proofs.climb.Goals as goal
 
 pub loop-left-init : goal.loop-left-init

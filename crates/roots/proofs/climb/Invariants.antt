@@ -1,8 +1,6 @@
 -- `roots::climb` meets its contract. The invariant: what is left to climb gives what the whole climb gives. The measure is the number of steps left.
 -- Assumes nothing.
-use native.Mathlib.Omega.{arith}
-use borrow.Author.Rules.{rules}
-use Rattle.roots.proofs.Laws.{Climbs, climbs_start, climbs_up, climbs_root, climbs_out}
+use Rattle.roots.proofs.Laws.{Climbs}
 use Rattle.roots.proofs.climb.Given as goal
 
 abbrev pub invariant-loop-left : goal.invariant-loop-left

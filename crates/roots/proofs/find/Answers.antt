@@ -1,6 +1,5 @@
 -- `roots::find` meets its contract: what is near is told, and otherwise the climb's root.
 -- Assumes nothing.
-use borrow.Author.Rules.{rules}
 use Rattle.roots.proofs.find.Goals as goal
 
 pub returns : goal.returns

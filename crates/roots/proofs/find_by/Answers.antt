@@ -1,7 +1,6 @@
 -- `roots::find_by` meets its contract: a root is its own; of another node the cache is asked.
 -- Assumes nothing.
 use Rattle.roots.proofs.KeptLaws.{found_root, found_plain}
-use borrow.Author.Rules.{rules}
 use Rattle.roots.proofs.find_by.Goals as goal
 
 pub returns-in_default : goal.returns-in_default

@@ -3,7 +3,7 @@
 -- Assumes nothing.
 use native.Mathlib.Omega.{arith}
 use borrow.Author.Rules.{rules}
-use Rattle.roots.proofs.Laws.{Points, points_start, points_up, points_root, points_out}
+use Rattle.roots.proofs.Laws.{points_start, points_up, points_root, points_out}
 use Rattle.roots.proofs.find_far.Goals as goal
 
 pub loop-rest-init : goal.loop-rest-init

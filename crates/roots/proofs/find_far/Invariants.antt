@@ -1,9 +1,7 @@
 -- `roots::find_far` meets its contract. The invariant: what is left to point at the root leaves what the whole leaves, and no word but a child's link
 -- has changed. The measure is the number of steps left.
 -- Assumes nothing.
-use native.Mathlib.Omega.{arith}
-use borrow.Author.Rules.{rules}
-use Rattle.roots.proofs.Laws.{Points, points_start, points_up, points_root, points_out}
+use Rattle.roots.proofs.Laws.{Points}
 use Rattle.roots.proofs.find_far.Given as goal
 
 abbrev pub invariant-loop-rest : goal.invariant-loop-rest

@@ -1,7 +1,6 @@
 -- `roots::find_kept` meets its contract: a root that is kept is the node's.
 -- Assumes nothing.
 use Rattle.roots.proofs.KeptLaws.{found_flip, rooted_kept}
-use borrow.Author.Rules.{rules}
 use Rattle.roots.proofs.find_kept.Goals as goal
 
 pub returns : goal.returns

@@ -1,6 +1,5 @@
 -- `roots::find_mut` meets its contract: what is near has no path, and otherwise `find_far` points it.
 -- Assumes nothing.
-use borrow.Author.Rules.{rules}
 use Rattle.roots.proofs.Laws.{near_left}
 use Rattle.roots.proofs.find_mut.Goals as goal
 

@@ -2,7 +2,6 @@
 -- Assumes nothing.
 use Rattle.types.proofs.Laws.{idx_below}
 use Rattle.roots.proofs.KeptLaws.{found_flip}
-use borrow.Author.Rules.{rules}
 use Rattle.roots.proofs.find_path.Goals as goal
 
 pub top_by-requires : goal.top_by-requires

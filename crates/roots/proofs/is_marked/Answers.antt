@@ -1,7 +1,6 @@
 -- `roots::is_marked` meets its contract: past the end getD gives 0, which is no mark.
 -- Assumes nothing.
 use lib.ListN.{get_or-eq_default}
-use borrow.Author.Rules.{rules}
 use Rattle.roots.proofs.is_marked.Goals as goal
 
 pub returns : goal.returns

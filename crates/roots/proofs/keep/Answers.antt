@@ -1,10 +1,8 @@
 -- `roots::keep` meets its contract: past the end a list with another element is the list.
 -- Assumes nothing.
 use mathlib.Core.Path.{sym, ap}
-use Prim.Native.Nat.{ℕ}
 use lib.ListN.{set}
 use lib.Seq.{set_out}
-use borrow.Author.Rules.{rules}
 use Rattle.roots.proofs.keep.Goals as goal
 
 pub returns-then-at-cache : goal.returns-then-at-cache

@@ -1,8 +1,7 @@
 -- `roots::keep_path` meets its contract. The invariant: the cache holds roots, and the node where the loop is has the root that is kept next. The
 -- measure is the number of steps left.
 -- Assumes nothing.
-use borrow.Author.Rules.{rules}
-use Rattle.roots.proofs.KeptLaws.{Keeps, keeps_start, keeps_up}
+use Rattle.roots.proofs.KeptLaws.{keeps_start, keeps_up}
 use Rattle.roots.proofs.keep_path.Goals as goal
 
 pub loop-more-init : goal.loop-more-init

@@ -3,7 +3,6 @@
 use mathlib.Core.Path.{refl}
 use native.Mathlib.Omega.{arith}
 use Rattle.roots.proofs.KeptLaws.{kept_none, kept_low, kept_high}
-use borrow.Author.Rules.{rules}
 use Rattle.roots.proofs.kept.Goals as goal
 
 pub returns-then-cache-at : goal.returns-then-cache-at

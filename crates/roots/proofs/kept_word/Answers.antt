@@ -5,7 +5,6 @@ use native.Mathlib.Omega.{arith}
 use Rattle.scope.specs.Types.{ty_of}
 use Rattle.types.proofs.Laws.{idx_below}
 use Rattle.roots.proofs.KeptLaws.{word_none, word_some}
-use borrow.Author.Rules.{rules}
 use Rattle.roots.proofs.kept_word.Goals as goal
 
 pub overflow_add-i : goal.overflow_add-i

@@ -2,7 +2,6 @@
 -- Assumes nothing.
 use mathlib.Core.Path.{sym}
 use lib.Seq.{set_out}
-use borrow.Author.Rules.{rules}
 use Rattle.roots.proofs.set_mark.Goals as goal
 
 pub returns-else-at-marks : goal.returns-else-at-marks

@@ -1,8 +1,7 @@
 -- `roots::top_by` meets its contract. The invariant: a path of the node where the climb is gives one of the node where it began. The measure is the
 -- number of steps left.
 -- Assumes nothing.
-use borrow.Author.Rules.{rules}
-use Rattle.roots.proofs.PathLaws.{Rises, rises_start, rises_up, rises_kept, rises_root, topped_none}
+use Rattle.roots.proofs.PathLaws.{rises_start, rises_up, rises_kept, rises_root, topped_none}
 use Rattle.roots.proofs.KeptLaws.{rooted_kept}
 use Rattle.roots.proofs.top_by.Goals as goal
 

@@ -1,12 +1,6 @@
 -- `shape::climb` meets its contract, by the depth that is left. A root that is known stays; a root is its own; any other node has its parent's, or
 -- none where the parent has none. Each way out is a law.
 -- Assumes nothing.
-use mathlib.Core.Path.{sym, ◌∙◌}
-use borrow.Author.Tests.{not-true, not-false}
-use native.Mathlib.Omega.{arith}
-use borrow.Author.Rules.{rules}
-use Rattle.shape.proofs.Laws as laws
-use Prim.Native.Nat.{ℕ, ◌<◌}
 use Rattle.shape.proofs.+climb.Given as goal
 
 abbrev pub decreases-climb : goal.decreases-climb

@@ -3,69 +3,64 @@
 -- Assumes nothing.
 use mathlib.Core.Path.{sym, ap, ◌∙◌}
 use native.Mathlib.Omega.{arith}
-use borrow.Author.Rules.{rules}
-use borrow.Author.Tests.{not-true, not-false}
-use Rattle.shape.specs.Read.{kids, root_of}
-use Rattle.shape.specs.Asks.{fresh}
+use Rattle.shape.specs.Read.{root_of}
 use Rattle.shape.proofs.VisitLaws as laws
-use Prim.Native.Nat.{ℕ, ◌-◌, ◌<◌}
+use Prim.Native.Nat.{◌-◌}
 use Rattle.shape.proofs.+visit.Goals as goal
 
 pub at-mark-requires : goal.at-mark-requires
-at-mark-requires t c = laws.mark_small c.requires.1
+at-mark-requires t c = laws.mark_small c.requires
 
 pub returns-then-mark-eq-DONE : goal.returns-then-mark-eq-DONE
-returns-then-mark-eq-DONE t c = laws.visit_done _ _ c.requires.1.marked c.at-mark.ensures c.if-mark-eq-DONE.true
+returns-then-mark-eq-DONE t c = laws.visit_done _ _ c.requires.marked c.at-mark.ensures c.if-mark-eq-DONE.true
 
 pub returns-then-mark-ne0 : goal.returns-then-mark-ne0
 returns-then-mark-ne0 t c = let pre = c.requires in
-    laws.visit_open _ _ pre.1.marked c.at-mark.ensures c.if-mark-eq-DONE.false c.if-mark-ne0.true
+    laws.visit_open _ _ pre.marked c.at-mark.ensures c.if-mark-eq-DONE.false c.if-mark-ne0.true
 
 pub put-requires : goal.put-requires
-put-requires t c = laws.mark_small c.requires.1
+put-requires t c = laws.mark_small c.requires
 
 pub held_at-requires : goal.held_at-requires
-held_at-requires t c = c.requires.1.falls.room
+held_at-requires t c = c.requires.falls.room
 
 pub put-requires-in_default : goal.put-requires-in_default
-put-requires-in_default t c = laws.mark_small c.requires.1
+put-requires-in_default t c = laws.mark_small c.requires
 
 pub returns-in_default : goal.returns-in_default
 returns-in_default t c = let pre = c.requires in
-    laws.visit_bare pre.1 c.held_at.ensures c.in_default.is c.put.ensures c.put-in_default.ensures
+    laws.visit_bare pre c.held_at.ensures c.in_default.is c.put.ensures c.put-in_default.ensures
 
 pub loop-i-init : goal.loop-i-init
 loop-i-init t c = let pre = c.requires in
-    laws.run_first pre.1 c.held_at.ensures c.in-Is.is c.put.ensures
+    laws.run_first pre c.held_at.ensures c.in-Is.is c.put.ensures
 
 pub root_of-r-requires : goal.root_of-r-requires
 root_of-r-requires t c =
-    let s = c.requires.1 in
+    let s = c.requires in
     let run = laws.in_run s.falls s.node c.held_at.ensures c.in-Is.is c.loop-i.invariant.low c.loop-i-test.true in
     laws.kid_known s.falls s.node run c.kid_at.ensures
 
 pub visit-requires : goal.visit-requires
 visit-requires t c =
-    let p = c.requires.1 in
+    let p = c.requires in
     let inv = c.loop-i.invariant in
     let run = laws.in_run p.falls p.node c.held_at.ensures c.in-Is.is inv.low c.loop-i-test.true in
     let kid = c.root_of-r.ensures ∙ ap (root_of c.args.roots.now) c.kid_at.ensures in
     let new = sym c.at-mark.ensures ∙ c.if-mark-ne0.false in
     let less = laws.fresh_less _ _ p.marked (laws.mark_small p) (laws.passed_from _ _ c.put.ensures inv) p.node new in
-    (omega (arith, c.requires.0, less), laws.visits_on p inv run kid)
+    (omega (arith, less), laws.visits_on p inv run kid)
 
 pub returns-then-not-visit : goal.returns-then-not-visit
 returns-then-not-visit t c =
-    let p = c.requires.1 in
+    let p = c.requires in
     let inv = c.loop-i.invariant in
     let run = laws.in_run p.falls p.node c.held_at.ensures c.in-Is.is inv.low c.loop-i-test.true in
     let kid = c.root_of-r.ensures ∙ ap (root_of c.args.roots.now) c.kid_at.ensures in
     laws.visit_failed _ _ p.marked (laws.mark_small p) (laws.passed_from _ _ c.put.ensures inv) run kid c.if-not-visit.true c.visit.ensures
 
 pub overflow_add-i : goal.overflow_add-i
-overflow_add-i t c = let first = c.type_inv.None in
-    let count = c.type_inv.None in
-    omega (arith, first, count, c.loop-i-test.true)
+overflow_add-i t c = omega (arith, c.loop-i-test.true)
 
 pub loop-i-smaller : goal.loop-i-smaller
 loop-i-smaller t c = omega (arith, c.loop-i-test.true)
@@ -77,10 +72,10 @@ loop-i-preserved t c = let args = c.args in
 
 pub put-requires-2 : goal.put-requires-2
 put-requires-2 t c = let pre = c.requires in
-    laws.mark_small pre.1
+    laws.mark_small pre
 
 pub returns : goal.returns
-returns t c = let p = c.requires.1 in
+returns t c = let p = c.requires in
     let inv = laws.passed_from _ _ c.put.ensures c.loop-i.invariant in
     let all = laws.run_done p.falls p.node c.held_at.ensures c.in-Is.is c.loop-i-test.false in
     laws.visited_to _ _ c.put-2.ensures (laws.visit_passed _ _ p.marked (laws.mark_small p) inv (laws.kids_closed p.falls) p.node all)

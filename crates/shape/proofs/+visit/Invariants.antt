@@ -1,14 +1,10 @@
 -- `shape::visit` meets its contract, by the number of nodes that no visit came to: v is one of them before it is marked, and none after.
 -- The loop's invariant: the walks on from the places passed end, and no node is open that was not open where the loop began.
 -- Assumes nothing.
-use mathlib.Core.Path.{sym, ap, ◌∙◌}
-use native.Mathlib.Omega.{arith}
-use borrow.Author.Rules.{rules}
-use borrow.Author.Tests.{not-true, not-false}
-use Rattle.shape.specs.Read.{kids, root_of}
+use Rattle.shape.specs.Read.{kids}
 use Rattle.shape.specs.Asks.{fresh}
 use Rattle.shape.proofs.VisitLaws as laws
-use Prim.Native.Nat.{ℕ, ◌-◌, ◌<◌}
+use Prim.Native.Nat.{◌-◌}
 use Rattle.shape.proofs.+visit.Given as goal
 
 abbrev pub decreases-visit : goal.decreases-visit

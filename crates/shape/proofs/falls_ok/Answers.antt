@@ -4,9 +4,7 @@
 use mathlib.Core.Path.{refl}
 use Prim.Native.Nat.{◌-◌}
 use native.Mathlib.Omega.{arith}
-use borrow.Author.Tests.{not-true, not-false}
 use Rattle.layout.proofs.Lists.{all_stop, all_done}
-use Rattle.shape.specs.Read.{kids}
 use Rattle.shape.proofs.VisitLaws as laws
 use Rattle.shape.proofs.falls_ok.Goals as goal
 
@@ -43,7 +41,7 @@ loop-next-preserved-then-kids_done c = let few = c.requires.rooted.few in
     let node = c.loop-next-test.true in
     let ends = c.kids_done.ensures c.if-kids_done.true in
     let tried = c.loop-next.invariant in
-    rw c.type_inv.marks (laws.visits_own _ _ tried (omega (arith, few, node)) ends)
+    rw c.put.ensures (laws.visits_own _ _ tried (omega (arith, few, node)) ends)
 
 pub visit-requires : goal.visit-requires
 visit-requires c = let falls = c.requires in
@@ -52,7 +50,7 @@ visit-requires c = let falls = c.requires in
 
 pub returns-then-not-visit : goal.returns-then-not-visit
 returns-then-not-visit c =
-    let long = laws.visits_not _ _ c.loop-next.invariant c.if-not-visit.true c.type_inv.marks in
+    let long = laws.visits_not _ _ c.loop-next.invariant c.if-not-visit.true c.visit.ensures in
     let n = c.args.n in
     all_stop _ n c.loop-next.next c.loop-next-test.true long
 
@@ -60,7 +58,7 @@ pub loop-next-smaller : goal.loop-next-smaller
 loop-next-smaller c = omega (arith, c.loop-next-test.true)
 
 pub loop-next-preserved : goal.loop-next-preserved
-loop-next-preserved c = laws.visits_more _ _ c.loop-next.invariant c.if-not-visit.false c.type_inv.marks
+loop-next-preserved c = laws.visits_more _ _ c.loop-next.invariant c.if-not-visit.false c.visit.ensures
 
 pub returns : goal.returns
 returns c =

@@ -1,11 +1,7 @@
 -- `shape::falls_ok` meets its contract. The loop's invariant: the walks from the nodes before the next end, and no node is open between visits,
 -- so a visit that fails shows walks longer than any number of nodes.
 -- Assumes nothing.
-use mathlib.Core.Path.{refl}
 use Prim.Native.Nat.{◌-◌}
-use native.Mathlib.Omega.{arith}
-use borrow.Author.Tests.{not-true, not-false}
-use Rattle.layout.proofs.Lists.{all_stop, all_done}
 use Rattle.shape.specs.Read.{kids}
 use Rattle.shape.proofs.VisitLaws as laws
 use Rattle.shape.proofs.falls_ok.Given as goal

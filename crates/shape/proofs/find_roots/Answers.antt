@@ -5,8 +5,6 @@ use mathlib.Core.Path.{refl, sym, ◌∙◌}
 use Prim.Native.Nat.{◌-◌}
 use native.Mathlib.Omega.{arith}
 use borrow.Author.Rules.{rules}
-use borrow.Author.Tests.{not-true, not-false}
-use Rattle.shape.specs.Read.{ups}
 use Rattle.shape.proofs.Laws as laws
 use Rattle.shape.proofs.find_roots.Goals as goal
 

@@ -1,11 +1,7 @@
 -- `shape::find_roots` meets its contract. The loop's invariant: the nodes before the next have their roots, since a root that is known stays known.
 -- A root is its own. Who has a root comes to it within n nodes, so a climb that fails shows a parent cycle.
 -- Assumes nothing.
-use mathlib.Core.Path.{refl, sym, ◌∙◌}
 use Prim.Native.Nat.{◌-◌}
-use native.Mathlib.Omega.{arith}
-use borrow.Author.Rules.{rules}
-use borrow.Author.Tests.{not-true, not-false}
 use Rattle.shape.specs.Read.{ups}
 use Rattle.shape.proofs.Laws as laws
 use Rattle.shape.proofs.find_roots.Given as goal

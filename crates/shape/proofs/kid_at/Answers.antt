@@ -3,7 +3,6 @@
 use mathlib.Core.Path.{◌∙◌, ap}
 use Rattle.scope.specs.Types.{ty_of}
 use Rattle.scope.specs.Sound.{Slot}
-use borrow.Author.Rules.{rules}
 use Rattle.shape.proofs.kid_at.Goals as goal
 
 pub returns : goal.returns

@@ -6,7 +6,6 @@ use mathlib.Core.Bool.{false≢true}
 use Prim.Native.Nat.{◌-◌}
 use native.Mathlib.Omega.{arith}
 use borrow.Author.Rules.{rules}
-use Rattle.shape.specs.Read.{kids}
 use Rattle.shape.proofs.VisitLaws as laws
 use Rattle.shape.proofs.kids_done.Goals as goal
 
@@ -35,9 +34,7 @@ at-root_more-requires c = let falls = c.requires.visits.falls in
     (laws.kid_known falls node run c.kid_at.ensures).0
 
 pub overflow_add-i : goal.overflow_add-i
-overflow_add-i c = let first = c.type_inv.None in
-    let count = c.type_inv.None in
-    omega (arith, first, count, c.loop-i-test.true)
+overflow_add-i c = omega (arith, c.loop-i-test.true)
 
 pub at-requires : goal.at-requires
 at-requires c = let asked = c.requires.visits in

@@ -1,11 +1,7 @@
 -- `shape::kids_done` meets its contract. The loop's invariant: if `done` still says so, the walks on from the places passed end, since their nodes lie
 -- before v or are done.
 -- Assumes nothing.
-use mathlib.Core.Path.{sym, ◌∙◌}
-use mathlib.Core.Bool.{false≢true}
 use Prim.Native.Nat.{◌-◌}
-use native.Mathlib.Omega.{arith}
-use borrow.Author.Rules.{rules}
 use Rattle.shape.specs.Read.{kids}
 use Rattle.shape.proofs.VisitLaws as laws
 use Rattle.shape.proofs.kids_done.Given as goal

@@ -1,7 +1,6 @@
 -- `shape::shape_ok` meets its contract: what the three functions find is what the three parts of `shape_sound` say. Without a root for every node the
 -- first part fails; with them the other two are about those roots.
 -- Assumes nothing.
-use borrow.Author.Tests.{not-true, not-false}
 use Rattle.shape.proofs.Meets as meets
 use Rattle.shape.proofs.shape_ok.Goals as goal
 

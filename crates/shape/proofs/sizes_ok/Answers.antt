@@ -1,13 +1,12 @@
 -- `shape::sizes_ok` meets its contract. The loop's invariant: the sizes of the first v nodes fit the counts, which `tally` made of all nodes.
 -- Assumes nothing.
-use mathlib.Core.Path.{◌≡◌, sym, ◌∙◌}
+use mathlib.Core.Path.{sym, ◌∙◌}
 use mathlib.Core.Bool.{true}
-use Prim.Native.Nat.{ℕ, ◌-◌, ◌≤◌, ◌<◌}
+use Prim.Native.Nat.{◌-◌}
 use native.Mathlib.Omega.{arith}
 use borrow.Author.Rules.{rules}
 use borrow.Author.Count.{below_more}
 use Rattle.layout.proofs.Lists.{all_stop, all_done}
-use Rattle.shape.specs.Read.{size_fits}
 use Rattle.shape.proofs.Laws as laws
 use Rattle.shape.proofs.sizes_ok.Goals as goal
 
@@ -32,7 +31,7 @@ returns-then-size-count c = let s = c.args in
     let v = c.loop-v.v in
     let l = c.loop-v-test.true in
     let up = sym c.up_of-up.ensures ∙ c.in-Root.is in
-    let tally = c.type_inv.counts in
+    let tally = c.tally.ensures in
     let count = c.at-count.ensures ∙ tally.each v l in
     all_stop _ s.n v l (laws.size_other s.ws.now s.roots.now s.n v up count c.if-size-count.true)
 
@@ -43,7 +42,7 @@ pub loop-v-preserved-else-size-count : goal.loop-v-preserved-else-size-count
 loop-v-preserved-else-size-count c = let s = c.args in
     let l = c.loop-v-test.true in
     let up = sym c.up_of-up.ensures ∙ c.in-Root.is in
-    let tally = c.type_inv.counts in
+    let tally = c.tally.ensures in
     let count = c.at-count.ensures ∙ tally.each c.loop-v.v l in
     (omega arith, below_more _ _ c.loop-v.invariant.1 (laws.size_root s.ws.now s.roots.now s.n c.loop-v.v up count c.if-size-count.false))
 

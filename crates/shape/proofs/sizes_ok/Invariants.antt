@@ -1,14 +1,9 @@
 -- `shape::sizes_ok` meets its contract. The loop's invariant: the sizes of the first v nodes fit the counts, which `tally` made of all nodes.
 -- Assumes nothing.
-use mathlib.Core.Path.{◌≡◌, sym, ◌∙◌}
+use mathlib.Core.Path.{◌≡◌}
 use mathlib.Core.Bool.{true}
 use Prim.Native.Nat.{ℕ, ◌-◌, ◌≤◌, ◌<◌}
-use native.Mathlib.Omega.{arith}
-use borrow.Author.Rules.{rules}
-use borrow.Author.Count.{below_more}
-use Rattle.layout.proofs.Lists.{all_stop, all_done}
 use Rattle.shape.specs.Read.{size_fits}
-use Rattle.shape.proofs.Laws as laws
 use Rattle.shape.proofs.sizes_ok.Given as goal
 
 abbrev pub invariant-loop-v : goal.invariant-loop-v

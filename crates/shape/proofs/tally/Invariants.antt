@@ -1,7 +1,6 @@
 -- `shape::tally` meets its contract. The loop's invariant: the first v nodes are counted, each at its root. A count is at most v, so it fits.
 -- Assumes nothing.
 use Prim.Native.Nat.{◌-◌}
-use native.Mathlib.Omega.{arith}
 use Rattle.shape.proofs.Laws as laws
 use Rattle.shape.proofs.tally.Given as goal
 

@@ -1,6 +1,5 @@
 -- `shape::up_of` meets its contract: each arm returns what the definition says of the node that `node_at` read there.
 -- Assumes nothing.
-use borrow.Author.Rules.{rules}
 use Rattle.shape.proofs.up_of.Goals as goal
 
 pub returns-in-Root : goal.returns-in-Root

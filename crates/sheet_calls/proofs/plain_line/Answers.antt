@@ -1,7 +1,7 @@
 -- `sheet_calls::plain_line` meets its contract: each case is one call on the store, or none, and what is printed for its answer.
 -- Assumes nothing.
-use mathlib.Core.Path.{refl}
 use mathlib.Core.List.{[]}
+use mathlib.Core.Path.{refl}
 use native.Mathlib.Omega.{arith}
 use Rattle.scope.specs.Text.{text}
 use Rattle.scope.specs.Calls.{finish_inference_call}

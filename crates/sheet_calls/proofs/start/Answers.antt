@@ -2,7 +2,6 @@
 -- Assumes nothing.
 use native.Mathlib.Omega.{arith}
 use Rattle.sheet_calls.proofs.Laws.{start_sound}
-use borrow.Author.Rules.{rules}
 use Rattle.sheet_calls.proofs.start.Goals as goal
 
 pub open-requires : goal.open-requires
@@ -10,4 +9,4 @@ open-requires c = let asked = c.requires in
     record { nodes = omega arith; children = omega arith; head = asked.head; node_len = omega (arith, asked.node_len); child_len = omega (arith, asked.child_len) }
 
 pub returns : goal.returns
-returns c = start_sound c.before.before.before.before.before.before.«open».ensures
+returns c = start_sound c.«open».ensures

@@ -4,7 +4,6 @@ use mathlib.Core.Path.{sym}
 use native.Mathlib.Omega.{arith}
 use lib.Seq.{length-take-le}
 use Rattle.sheet_feed.proofs.FeedLaws.{line_ran}
-use borrow.Author.Rules.{rules}
 use Rattle.sheet_feed.proofs.end_line.Goals as goal
 
 pub slice_bounds-run_line-end : goal.slice_bounds-run_line-end

@@ -5,7 +5,6 @@ use native.Mathlib.Omega.{arith}
 use lib.Seq.{length-take-le}
 use Rattle.sheet_lines.proofs.Laws.{place_within}
 use Rattle.sheet_feed.proofs.FeedLaws.{goes_on, line_ended}
-use borrow.Author.Rules.{rules}
 use Rattle.sheet_feed.proofs.feed.Goals as goal
 
 pub slice_bounds-put-end : goal.slice_bounds-put-end

@@ -1,7 +1,6 @@
 -- `sheet_feed::feed_end` meets its contract: no byte is no line, and any other is run.
 -- Assumes nothing.
 use Rattle.sheet_feed.proofs.FeedLaws.{last_none, last_ran}
-use borrow.Author.Rules.{rules}
 use Rattle.sheet_feed.proofs.feed_end.Goals as goal
 
 pub returns-then-at-eq0 : goal.returns-then-at-eq0

@@ -4,7 +4,6 @@ use native.Mathlib.Omega.{arith}
 use Rattle.scope.specs.Sheet.{Line}
 use Rattle.layout.specs.Words.{store_in}
 use Rattle.sheet_calls.proofs.Laws.{ran, ran_like, same_store, show_store}
-use borrow.Author.Rules.{rules}
 use Rattle.sheet_line.proofs.run_line.Goals as goal
 
 pub plain_line-requires : goal.plain_line-requires

@@ -1,21 +1,13 @@
 -- `sheet_line::show_line` meets its contract: the text, or the refusal over what `show` left.
 -- Assumes nothing.
-use mathlib.Core.Path.{sym}
 use lib.ListN.{take}
-use lib.Seq.{length-take-le}
 use Rattle.scope.specs.Limits.{SHEET_TEXT}
 use Rattle.scope.specs.Types.{ty_of}
 use Rattle.scope.specs.Calls.{show_call}
 use Rattle.layout.specs.Words.{store_in}
 use Rattle.sheet_calls.proofs.StoreLaws.{sheet_tested, as_printed}
 use Rattle.sheet_line.proofs.ShowLaws.{shown_fits, shown_back}
-use borrow.Author.Rules.{rules}
 use Rattle.sheet_line.proofs.show_line.Goals as goal
-
--- LEFT slice-aggregate-show-4
--- slice-aggregate-show-4 c =
---     let start = c.before.before.before.before.before.before.before.before.before in
---     sym (length-take-le SHEET_TEXT start.args.out.now start.requires.1)
 
 pub show-shown-requires : goal.show-shown-requires
 show-shown-requires c = rw c.beside.ensures (sheet_tested c.requires.sheet_store)

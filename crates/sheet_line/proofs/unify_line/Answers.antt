@@ -6,7 +6,6 @@ use Rattle.scope.specs.Calls.{unify_call}
 use Rattle.scope.specs.Sheet.{Line, sheet_line}
 use Rattle.sheet_calls.proofs.StoreLaws.{sheet_tested, as_sheet_by}
 use Rattle.sheet_calls.proofs.Laws.{ran_answer, ran_refused}
-use borrow.Author.Rules.{rules}
 use Rattle.sheet_line.proofs.unify_line.Goals as goal
 
 pub unify_recalling-answer-requires : goal.unify_recalling-answer-requires

@@ -2,7 +2,6 @@
 -- Assumes nothing.
 use mathlib.Core.List.{map}
 use Prim.Native.Nat.{◌≤◌}
-use borrow.Author.Rules.{rules}
 use native.Mathlib.Omega.{arith}
 use lib.ListN.{take}
 use Rattle.scope.specs.Types.{ty_of}

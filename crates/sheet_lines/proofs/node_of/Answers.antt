@@ -1,15 +1,13 @@
 -- `sheet_lines::node_of` meets its contract. The digits passed give n, which is below a power of ten; those to come, started from n, give the whole word's value.
 -- Assumes nothing.
-use mathlib.Core.Path.{◌≡◌, refl, sym, ap, ◌∙◌}
-use mathlib.Core.Bool.{true, ◌&&◌}
+use mathlib.Core.Path.{refl, sym, ap, ◌∙◌}
+use mathlib.Core.Bool.{true}
 use mathlib.Core.Option.{some}
-use Prim.Native.Nat.{◌+◌, ◌-◌, ◌≤◌}
-use borrow.Author.Rules.{rules}
+use Prim.Native.Nat.{◌-◌}
 use native.Mathlib.Omega.{arith}
-use lib.Dec.{leb}
-use lib.ListN.{length, drop, drop_of_length-le}
+use lib.ListN.{drop_of_length-le}
 use Rattle.scope.specs.Base.{all}
-use Rattle.scope.specs.Sheet.{is_digit, value_from, no_leading_zero}
+use Rattle.scope.specs.Sheet.{is_digit, value_from}
 use Rattle.names.proofs.Tests.{passes, fails}
 use Rattle.types.proofs.Laws.{ty_new}
 use Rattle.sheet_lines.proofs.Laws as laws

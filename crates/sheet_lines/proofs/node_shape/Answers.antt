@@ -1,6 +1,5 @@
 -- `sheet_lines::node_shape` meets its contract: no byte, one, too many, or a first byte that is tested.
 -- Assumes nothing.
-use borrow.Author.Rules.{rules}
 use native.Mathlib.Omega.{arith}
 use Rattle.sheet_lines.proofs.Laws as laws
 use Rattle.sheet_lines.proofs.node_shape.Goals as goal

@@ -1,7 +1,5 @@
 -- `sheet_lines::one_type` meets its contract: the tests stand in the definition's order, after that for a tuple.
 -- Assumes nothing.
-use borrow.Author.Rules.{rules}
-use native.Mathlib.Omega.{arith}
 use Rattle.sheet_lines.proofs.Laws as laws
 use Rattle.sheet_lines.proofs.one_type.Goals as goal
 

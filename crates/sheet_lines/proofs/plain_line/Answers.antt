@@ -1,6 +1,5 @@
 -- `sheet_lines::plain_line` meets its contract: a word that was found is that command's, and one that is none of them is none of the definition's.
 -- Assumes nothing.
-use borrow.Author.Rules.{rules}
 use native.Mathlib.Omega.{arith}
 use Rattle.scope.specs.Text.{text}
 use Rattle.scope.specs.Names.{eq_bytes}

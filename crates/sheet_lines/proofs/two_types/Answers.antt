@@ -1,7 +1,5 @@
 -- `sheet_lines::two_types` meets its contract: the test stands after that for a tuple.
 -- Assumes nothing.
-use borrow.Author.Rules.{rules}
-use native.Mathlib.Omega.{arith}
 use Rattle.sheet_lines.proofs.Laws as laws
 use Rattle.sheet_lines.proofs.two_types.Goals as goal
 

@@ -1,7 +1,6 @@
 -- `sheet_lines::type_of` meets its contract: no byte, a first byte `~` before a node, or a node.
 -- Assumes nothing.
 use mathlib.Core.Path.{◌∙◌}
-use borrow.Author.Rules.{rules}
 use native.Mathlib.Omega.{arith}
 use Rattle.sheet_lines.proofs.Laws as laws
 use Rattle.sheet_lines.proofs.type_of.Goals as goal

@@ -1,14 +1,13 @@
 -- `sheet_lines::types_from` meets its contract. The types written so far and those of the words to come are those of all the words; each took two places or more.
 -- Assumes nothing.
-use mathlib.Core.Path.{◌≡◌, refl, sym, ap, ◌∙◌}
+use mathlib.Core.Path.{refl, sym, ap, ◌∙◌}
 use mathlib.Core.List.{map}
-use Prim.Native.Nat.{◌+◌, ◌-◌, ◌*◌, ◌≤◌}
+use Prim.Native.Nat.{◌-◌}
 use borrow.Author.Rules.{rules}
 use native.Mathlib.Omega.{arith}
-use lib.ListN.{length, take, length-set}
+use lib.ListN.{take, length-set}
 use Rattle.scope.specs.Types.{ty_of}
 use Rattle.scope.specs.Sheet.{type_words}
-use Rattle.sheet_lines.specs.Limits.{LINE_TYPES}
 use Rattle.sheet_lines.specs.Places.{words_from}
 use Rattle.sheet_lines.specs.Meaning.{word_means}
 use Rattle.sheet_lines.proofs.Laws as laws
@@ -98,9 +97,6 @@ loop-at-preserved c = let line = c.args.line.now in
       omega (arith, pre.short),
       laws.turn_type line c.loop-at.at e h p c.loop-at.out c.loop-at.n v (omega (arith, pre.short, pre.room)) k ∙ c.loop-at.invariant.3,
     )
-
--- LEFT overflow-cast-t15
--- cast-t15 c = omega arith
 
 pub shape_of-out : goal.shape_of-out
 shape_of-out c = c.loop-at.invariant.0

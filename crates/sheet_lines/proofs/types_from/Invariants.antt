@@ -1,16 +1,13 @@
 -- `sheet_lines::types_from` meets its contract. The types written so far and those of the words to come are those of all the words; each took two places or more.
 -- Assumes nothing.
-use mathlib.Core.Path.{◌≡◌, refl, sym, ap, ◌∙◌}
+use mathlib.Core.Path.{◌≡◌}
 use mathlib.Core.List.{map}
 use Prim.Native.Nat.{◌+◌, ◌-◌, ◌*◌, ◌≤◌}
-use borrow.Author.Rules.{rules}
-use native.Mathlib.Omega.{arith}
-use lib.ListN.{length, take, length-set}
+use lib.ListN.{length, take}
 use Rattle.scope.specs.Types.{ty_of}
 use Rattle.scope.specs.Sheet.{type_words}
 use Rattle.sheet_lines.specs.Limits.{LINE_TYPES}
 use Rattle.sheet_lines.specs.Places.{words_from}
-use Rattle.sheet_lines.specs.Meaning.{word_means}
 use Rattle.sheet_lines.proofs.Laws as laws
 use Rattle.sheet_lines.proofs.types_from.Given as goal
 

@@ -2,7 +2,6 @@
 -- Assumes nothing.
 use lib.ListN.{length}
 use borrow.Author.Tests.{lt-ltb, le-ltb}
-use borrow.Author.Rules.{rules}
 use Rattle.sheet_run.proofs.next_start.Goals as goal
 
 pub returns-then-e-input : goal.returns-then-e-input

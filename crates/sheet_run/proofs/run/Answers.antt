@@ -5,11 +5,10 @@ use mathlib.Core.Path.{refl, sym}
 use Prim.Native.Nat.{◌-◌}
 use native.Mathlib.Omega.{arith}
 use borrow.Author.Rules.{rules}
-use lib.ListN.{length}
 use lib.Seq.{length-take-le}
 use Rattle.sheet_lines.proofs.Laws.{place_within}
 use Rattle.append.proofs.Laws.{so_far_length, is_over, has_room}
-use Rattle.sheet_run.proofs.RunLaws.{Long, start_on, Turn, turn_first, turn_next, run_full, run_fits}
+use Rattle.sheet_run.proofs.RunLaws.{start_on, turn_first, turn_next, run_full, run_fits}
 use Rattle.sheet_run.proofs.run.Goals as goal
 
 pub loop-i-init : goal.loop-i-init

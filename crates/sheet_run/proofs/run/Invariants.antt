@@ -1,15 +1,9 @@
 -- `sheet_run::run` meets its contract. The loop's invariant: what is printed so far and what the lines from i on print is the whole, and the arrays are as long as
 -- they were. The measure is what is left of the input.
 -- Assumes nothing.
-use mathlib.Core.Path.{refl, sym}
 use Prim.Native.Nat.{◌-◌}
-use native.Mathlib.Omega.{arith}
-use borrow.Author.Rules.{rules}
 use lib.ListN.{length}
-use lib.Seq.{length-take-le}
-use Rattle.sheet_lines.proofs.Laws.{place_within}
-use Rattle.append.proofs.Laws.{so_far_length, is_over, has_room}
-use Rattle.sheet_run.proofs.RunLaws.{Long, start_on, Turn, turn_first, turn_next, run_full, run_fits}
+use Rattle.sheet_run.proofs.RunLaws.{Long, Turn}
 use Rattle.sheet_run.proofs.run.Given as goal
 
 abbrev pub invariant-loop-i : goal.invariant-loop-i

@@ -3,7 +3,6 @@
 use native.Mathlib.Omega.{arith}
 use Rattle.scope.specs.Text.{text}
 use Rattle.sheet_say.proofs.Laws.{front_number}
-use borrow.Author.Rules.{rules}
 use Rattle.sheet_say.proofs.put_type.Goals as goal
 
 pub returns-in-Is : goal.returns-in-Is

@@ -1,24 +1,17 @@
 -- `show::show_by` meets its contract. The measure is the depth. A kind is written child after child; the loop's invariant: what is left to write
 -- gives, appended, what the whole gives, and what the cache keeps are roots.
 -- Assumes nothing.
-use mathlib.Core.Path.{◌≡◌, refl, ap, ◌∙◌}
-use mathlib.Core.Bool.{◌&&◌}
+use mathlib.Core.Path.{◌≡◌}
 use Prim.Native.Nat.{◌-◌}
-use native.Mathlib.Omega.{arith}
 use lib.ListN.{length}
-use borrow.Author.Rules.{rules}
-use Rattle.scope.specs.Base.{xor}
 use Rattle.scope.specs.Show.{show_f}
 use Rattle.names.specs.Place.{texts}
 use Rattle.chart.specs.Env.{env_of}
 use Rattle.layout.specs.Words.{decode}
-use Rattle.layout.proofs.LinkLaws.{clean_linked}
 use Rattle.roots.specs.Kept.{Cached}
-use Rattle.append.proofs.Laws.{append_full}
 use Rattle.show_parts.specs.Parts.{gap_of, close_of}
 use Rattle.show.specs.Level.{kid_of}
-use Rattle.show.proofs.Turns.{Turn, turn_start, turn_next, turn_end, show_shallow, show_unknown, show_known, level_put, kid_shown}
-use Prim.Native.Nat.{ℕ, ◌<◌}
+use Rattle.show.proofs.Turns.{Turn}
 use Rattle.show.proofs.+show_by.Given as goal
 
 abbrev pub decreases-show_by : goal.decreases-show_by

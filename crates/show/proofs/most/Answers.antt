@@ -28,9 +28,11 @@ returns-in-11 c = rw (c.in-11.is, le-ltb _ _ c.if-count-lt2.false) refl
 pub returns-then-code-lt-FN : goal.returns-then-code-lt-FN
 unfolding most_of
 returns-then-code-lt-FN c =
-    rw (ne_eqb _ _ c.in_default.rest.0.0.1, ne_eqb _ _ c.in_default.rest.1, ne_eqb _ _ c.in_default.rest.0.1, ne_eqb _ _ c.in_default.rest.0.0.0.1, lt-ltb _ _ c.if-code-lt-FN.true) refl
+    let r = c.in_default.in_default-own.rest in
+    rw (ne_eqb _ _ r.0.0.1, ne_eqb _ _ r.1, ne_eqb _ _ r.0.1, ne_eqb _ _ r.0.0.0.1, lt-ltb _ _ c.if-code-lt-FN.true) refl
 
 pub returns-in_default : goal.returns-in_default
 unfolding most_of
 returns-in_default c =
-    rw (ne_eqb _ _ c.in_default.rest.0.0.1, ne_eqb _ _ c.in_default.rest.1, ne_eqb _ _ c.in_default.rest.0.1, ne_eqb _ _ c.in_default.rest.0.0.0.1, le-ltb _ _ c.if-code-lt-FN.false) refl
+    let r = c.in_default.in_default-own.rest in
+    rw (ne_eqb _ _ r.0.0.1, ne_eqb _ _ r.1, ne_eqb _ _ r.0.1, ne_eqb _ _ r.0.0.0.1, le-ltb _ _ c.if-code-lt-FN.false) refl

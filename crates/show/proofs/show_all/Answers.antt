@@ -1,6 +1,5 @@
 -- `show::show_all` meets its contract: the node count is the depth.
 -- Assumes nothing.
-use borrow.Author.Rules.{rules}
 use Rattle.show.proofs.Turns.{show_whole}
 use Rattle.show.proofs.show_all.Goals as goal
 

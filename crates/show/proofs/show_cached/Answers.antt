@@ -2,7 +2,6 @@
 -- Assumes nothing.
 use Rattle.scope.specs.Limits.{MAX_NODES}
 use Rattle.roots.proofs.KeptLaws.{cached_zeros}
-use borrow.Author.Rules.{rules}
 use Rattle.show.proofs.show_cached.Goals as goal
 
 pub show_by-requires : goal.show_by-requires

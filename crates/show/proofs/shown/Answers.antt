@@ -6,7 +6,6 @@ use lib.Dec.{eqb}
 use Rattle.scope.specs.Force.{is_nil}
 use Rattle.layout.specs.Words.{decode}
 use Rattle.layout.proofs.LinkLaws.{clean_linked}
-use borrow.Author.Rules.{rules}
 use Rattle.show.proofs.Laws.{nil_at, some_left, shown_whole, shown_last}
 use Rattle.show.proofs.shown.Goals as goal
 

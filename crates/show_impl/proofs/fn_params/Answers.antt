@@ -1,6 +1,5 @@
 -- `show_impl::fn_params` meets its contract: the three conditions are those of scope's fn form.
 -- Assumes nothing.
-use borrow.Author.Rules.{rules}
 use Rattle.show_impl.proofs.Laws.{form_other, form_few, form_three}
 use Rattle.show_impl.proofs.fn_params.Goals as goal
 

@@ -1,7 +1,6 @@
 -- `show_impl::show_fn` meets its contract: its pieces are those of the fn form, in their order; a return that is nil is not shown.
 -- Assumes nothing.
 use mathlib.Core.Path.{sym, ◌∙◌}
-use borrow.Author.Rules.{rules}
 use Rattle.scope.specs.Types.{ty_of}
 use Rattle.scope.specs.Force.{is_nil}
 use Rattle.scope.specs.Show.{show}

@@ -1,6 +1,5 @@
 -- `show_impl::show_impl_type` meets its contract: what `fn_params` finds decides the pieces.
 -- Assumes nothing.
-use mathlib.Core.Path.{refl}
 use native.Mathlib.Omega.{arith}
 use borrow.Author.Rules.{rules}
 use Rattle.scope.specs.Show.{render, show_impl_type}

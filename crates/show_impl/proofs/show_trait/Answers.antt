@@ -1,6 +1,5 @@
 -- `show_impl::show_trait` meets its contract: the name, and its list in brackets where there is one.
 -- Assumes nothing.
-use borrow.Author.Rules.{rules}
 use Rattle.scope.specs.Show.{show}
 use Rattle.chart.specs.Env.{env_of}
 use Rattle.layout.specs.Words.{decode}

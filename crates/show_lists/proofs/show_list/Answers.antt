@@ -1,17 +1,10 @@
 -- `show_lists::show_list` meets its contract. The loop's invariant: what is left to write gives, appended, what the whole gives.
 -- Assumes nothing.
 use mathlib.Core.Path.{◌∙◌}
-use mathlib.Core.List.{[]}
 use Prim.Native.Nat.{◌-◌}
 use native.Mathlib.Omega.{arith}
-use lib.ListN.{length}
-use borrow.Author.Rules.{rules}
-use Rattle.scope.specs.Show.{show}
-use Rattle.chart.specs.Env.{env_of}
-use Rattle.layout.specs.Words.{decode}
-use Rattle.show.proofs.Turns.{Turn, turn_start, turn_next}
-use Rattle.show_names.specs.Names.{comma}
-use Rattle.show_lists.proofs.Lists.{item, comma_any, list_end}
+use Rattle.show.proofs.Turns.{turn_start, turn_next}
+use Rattle.show_lists.proofs.Lists.{comma_any, list_end}
 use Rattle.show_lists.proofs.show_list.Goals as goal
 
 pub loop-j-init : goal.loop-j-init

@@ -1,17 +1,14 @@
 -- `show_lists::show_list` meets its contract. The loop's invariant: what is left to write gives, appended, what the whole gives.
 -- Assumes nothing.
-use mathlib.Core.Path.{◌∙◌}
 use mathlib.Core.List.{[]}
 use Prim.Native.Nat.{◌-◌}
-use native.Mathlib.Omega.{arith}
 use lib.ListN.{length}
-use borrow.Author.Rules.{rules}
 use Rattle.scope.specs.Show.{show}
 use Rattle.chart.specs.Env.{env_of}
 use Rattle.layout.specs.Words.{decode}
-use Rattle.show.proofs.Turns.{Turn, turn_start, turn_next}
+use Rattle.show.proofs.Turns.{Turn}
 use Rattle.show_names.specs.Names.{comma}
-use Rattle.show_lists.proofs.Lists.{item, comma_any, list_end}
+use Rattle.show_lists.proofs.Lists.{item}
 use Rattle.show_lists.proofs.show_list.Given as goal
 
 abbrev pub invariant-loop-j : goal.invariant-loop-j

@@ -1,17 +1,14 @@
 -- `show_lists::show_params` meets its contract. The loop's invariant: what is left to write gives, appended, what the whole gives.
 -- Assumes nothing.
-use mathlib.Core.Path.{ap, subst, ◌∙◌}
-use mathlib.Core.List.{[]}
+use mathlib.Core.Path.{◌∙◌}
 use Prim.Native.Nat.{◌-◌}
 use native.Mathlib.Omega.{arith}
-use borrow.Author.Rules.{rules}
 use Rattle.scope.specs.Show.{show}
 use Rattle.names.specs.Place.{texts}
 use Rattle.chart.specs.Env.{env_of}
 use Rattle.layout.specs.Words.{decode}
-use Rattle.show.proofs.Turns.{Turn, turn_start, turn_next}
-use Rattle.show_names.specs.Names.{comma}
-use Rattle.show_lists.proofs.Lists.{child, child_read, params_end}
+use Rattle.show.proofs.Turns.{turn_start, turn_next}
+use Rattle.show_lists.proofs.Lists.{child_read, params_end}
 use Rattle.show_lists.proofs.show_params.Goals as goal
 
 pub loop-j-init : goal.loop-j-init

@@ -1,17 +1,13 @@
 -- `show_lists::show_params` meets its contract. The loop's invariant: what is left to write gives, appended, what the whole gives.
 -- Assumes nothing.
-use mathlib.Core.Path.{ap, subst, ◌∙◌}
 use mathlib.Core.List.{[]}
 use Prim.Native.Nat.{◌-◌}
-use native.Mathlib.Omega.{arith}
-use borrow.Author.Rules.{rules}
 use Rattle.scope.specs.Show.{show}
-use Rattle.names.specs.Place.{texts}
 use Rattle.chart.specs.Env.{env_of}
 use Rattle.layout.specs.Words.{decode}
-use Rattle.show.proofs.Turns.{Turn, turn_start, turn_next}
+use Rattle.show.proofs.Turns.{Turn}
 use Rattle.show_names.specs.Names.{comma}
-use Rattle.show_lists.proofs.Lists.{child, child_read, params_end}
+use Rattle.show_lists.proofs.Lists.{child}
 use Rattle.show_lists.proofs.show_params.Given as goal
 
 abbrev pub invariant-loop-j : goal.invariant-loop-j

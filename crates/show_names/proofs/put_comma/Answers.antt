@@ -1,7 +1,6 @@
 -- `show_names::put_comma` meets its contract: the first item has none before it.
 -- Assumes nothing.
 use borrow.Author.Tests.{eq-eqb, ne_eqb}
-use borrow.Author.Rules.{rules}
 use Rattle.append.proofs.Laws.{append_none}
 use Rattle.show_names.specs.Names.{spelled_f}
 use Rattle.show_names.proofs.put_comma.Goals as goal

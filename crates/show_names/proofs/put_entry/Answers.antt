@@ -1,7 +1,6 @@
 -- `show_names::put_entry` meets its contract: a comma, then the label of the child that was read.
 -- Assumes nothing.
 use borrow.Author.Tests.{eq-eqb, ne_eqb}
-use borrow.Author.Rules.{rules}
 use Rattle.names.specs.Place.{texts}
 use Rattle.append.proofs.Laws.{append_then}
 use Rattle.show_names.specs.Names.{spelled_f}

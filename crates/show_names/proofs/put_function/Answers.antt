@@ -1,7 +1,6 @@
 -- `show_names::put_function` meets its contract: the paths and the name are the records'.
 -- Assumes nothing.
 use borrow.Author.Tests.{eq-eqb, ne_eqb}
-use borrow.Author.Rules.{rules}
 use Rattle.append.proofs.Laws.{append_then}
 use Rattle.show_names.specs.Names.{spelled_f}
 use Rattle.show_names.proofs.put_function.Goals as goal

@@ -1,6 +1,5 @@
 -- `show_names::put_name` meets its contract: a name's bytes are put straight from their text.
 -- Assumes nothing.
-use borrow.Author.Rules.{rules}
 use Rattle.show_names.proofs.put_name.Goals as goal
 
 pub returns : goal.returns

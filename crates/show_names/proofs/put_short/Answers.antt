@@ -1,9 +1,8 @@
 -- `show_names::put_short` meets its contract. The loop's invariant: what is left gives, appended, what the whole gives. The measure is what is left.
 -- Assumes nothing.
 use mathlib.Core.Path.{◌∙◌}
-use native.Mathlib.Omega.{arith}
 use borrow.Author.Rules.{rules}
-use Rattle.show_names.proofs.Laws.{Spelling, spelling_start, spelling_next, spelling_end}
+use Rattle.show_names.proofs.Laws.{spelling_start, spelling_next, spelling_end}
 use Rattle.show_names.proofs.put_short.Goals as goal
 
 pub loop-rest-init : goal.loop-rest-init

@@ -1,6 +1,5 @@
 -- `show_names::put_unknown` meets its contract: the inversion, then the number.
 -- Assumes nothing.
-use borrow.Author.Rules.{rules}
 use Rattle.append.proofs.Laws.{append_then}
 use Rattle.show_names.proofs.Laws.{tilde_fits, unknown_is}
 use Rattle.show_names.proofs.put_unknown.Goals as goal

@@ -23,12 +23,12 @@ returns-in-11 c = rw (c.in-11.is, le-ltb _ _ c.if-count-lt2.false) refl
 
 pub returns-then-code-count : goal.returns-then-code-count
 unfolding back_of spelled_f
-returns-then-code-count c = let r = c.in_default.rest in
+returns-then-code-count c = let r = c.in_default.in_default-own.rest in
     let a = c.args in
     rw (ne_eqb _ _ r.0.1, ne_eqb _ _ r.1) (defined_by (ltb a.code 3) (ltb a.code 7) a.count _ (text "[") c.if-code-count.true)
 
 pub returns-in_default : goal.returns-in_default
 unfolding back_of spelled_f
-returns-in_default c = let r = c.in_default.rest in
+returns-in_default c = let r = c.in_default.in_default-own.rest in
     let a = c.args in
     rw (ne_eqb _ _ r.0.1, ne_eqb _ _ r.1) (defined_by (ltb a.code 3) (ltb a.code 7) a.count _ (text "[") c.if-code-count.false)

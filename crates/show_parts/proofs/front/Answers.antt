@@ -2,7 +2,6 @@
 -- Assumes nothing.
 use mathlib.Core.Path.{refl}
 use borrow.Author.Tests.{eq-eqb, ne_eqb, lt-ltb, le-ltb}
-use borrow.Author.Rules.{rules}
 use Rattle.show_names.specs.Names.{spelled_f}
 use Rattle.show_parts.specs.Parts.{front_of}
 use Rattle.show_parts.proofs.front.Goals as goal
@@ -53,7 +52,7 @@ returns-in-14 c = rw c.in-14.is refl
 
 pub returns-in_default : goal.returns-in_default
 unfolding front_of spelled_f
-returns-in_default c = let r = c.in_default.rest in
+returns-in_default c = let r = c.in_default.in_default-own.rest in
     rw (
       ne_eqb _ _ r.0.0.0.0.0.0.0.0.1,
       ne_eqb _ _ r.0.0.0.0.0.0.0.1,

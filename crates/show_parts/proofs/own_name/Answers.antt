@@ -2,7 +2,6 @@
 -- Assumes nothing.
 use mathlib.Core.Path.{refl}
 use borrow.Author.Tests.{ne_eqb, lt-ltb, le-ltb}
-use borrow.Author.Rules.{rules}
 use Rattle.show_parts.specs.Parts.{own_name}
 use Rattle.show_parts.proofs.own_name.Goals as goal
 

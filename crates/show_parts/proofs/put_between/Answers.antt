@@ -1,7 +1,6 @@
 -- `show_parts::put_between` meets its contract: the tests are those of between_of.
 -- Assumes nothing.
 use borrow.Author.Tests.{eq-eqb, ne_eqb}
-use borrow.Author.Rules.{rules}
 use Rattle.append.proofs.Laws.{append_none, append_then}
 use Rattle.show_names.specs.Names.{spelled_f}
 use Rattle.show_parts.proofs.put_between.Goals as goal

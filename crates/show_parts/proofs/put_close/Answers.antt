@@ -1,6 +1,5 @@
 -- `show_parts::put_close` meets its contract: the short text that was found is put.
 -- Assumes nothing.
-use borrow.Author.Rules.{rules}
 use Rattle.show_parts.proofs.put_close.Goals as goal
 
 pub returns : goal.returns

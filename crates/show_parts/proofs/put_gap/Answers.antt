@@ -2,7 +2,6 @@
 -- Assumes nothing.
 use Prim.Native.Nat.{◌+◌}
 use borrow.Author.Tests.{eq-eqb, ne_eqb}
-use borrow.Author.Rules.{rules}
 use Rattle.show_names.specs.Names.{spelled_f}
 use Rattle.show_parts.specs.Parts.{gap_of}
 use Rattle.show_parts.proofs.put_gap.Goals as goal

@@ -1,7 +1,6 @@
 -- `show_parts::put_lead` meets its contract: a ~ or none, and the pieces one after the other.
 -- Assumes nothing.
 use mathlib.Core.Path.{◌∙◌}
-use borrow.Author.Rules.{rules}
 use Rattle.chart.specs.Env.{env_of}
 use Rattle.append.proofs.Laws.{append_then}
 use Rattle.show_names.specs.Names.{spelled_f}

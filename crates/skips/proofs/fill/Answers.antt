@@ -1,12 +1,10 @@
 -- `skips::fill` meets its contract. The loop's invariant: what the skips pass over they passed over before, or it is a part of the run.
 -- Assumes nothing.
-use mathlib.Core.Path.{◌≡◌, refl}
-use Prim.Native.Nat.{◌-◌, ◌≤◌}
+use mathlib.Core.Path.{refl}
+use Prim.Native.Nat.{◌-◌}
 use native.Mathlib.Omega.{arith}
-use lib.ListN.{length, length-set}
-use Rattle.skips.specs.Table.{Filled}
+use lib.ListN.{length-set}
 use Rattle.skips.proofs.Laws.{filled_none, filled_next}
-use borrow.Author.Rules.{rules}
 use Rattle.skips.proofs.fill.Goals as goal
 
 pub returns-then-t-s-ge-BYTES : goal.returns-then-t-s-ge-BYTES

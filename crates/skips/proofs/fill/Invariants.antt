@@ -1,12 +1,9 @@
 -- `skips::fill` meets its contract. The loop's invariant: what the skips pass over they passed over before, or it is a part of the run.
 -- Assumes nothing.
-use mathlib.Core.Path.{◌≡◌, refl}
+use mathlib.Core.Path.{◌≡◌}
 use Prim.Native.Nat.{◌-◌, ◌≤◌}
-use native.Mathlib.Omega.{arith}
-use lib.ListN.{length, length-set}
+use lib.ListN.{length}
 use Rattle.skips.specs.Table.{Filled}
-use Rattle.skips.proofs.Laws.{filled_none, filled_next}
-use borrow.Author.Rules.{rules}
 use Rattle.skips.proofs.fill.Given as goal
 
 abbrev pub invariant-loop-x : goal.invariant-loop-x

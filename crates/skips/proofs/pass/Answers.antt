@@ -2,7 +2,6 @@
 -- Assumes nothing.
 use native.Mathlib.Omega.{arith}
 use Rattle.skips.proofs.Laws.{passed_none, passed_both, passed_kept}
-use borrow.Author.Rules.{rules}
 use Rattle.skips.proofs.pass.Goals as goal
 
 pub returns-then-near-eq0 : goal.returns-then-near-eq0

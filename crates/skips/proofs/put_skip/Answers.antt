@@ -2,7 +2,6 @@
 -- Assumes nothing.
 use mathlib.Core.Path.{sym}
 use lib.Seq.{set_out}
-use borrow.Author.Rules.{rules}
 use Rattle.skips.proofs.put_skip.Goals as goal
 
 pub returns-else-s-skip : goal.returns-else-s-skip

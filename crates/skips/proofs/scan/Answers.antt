@@ -2,10 +2,7 @@
 -- Assumes nothing.
 use Prim.Native.Nat.{◌-◌}
 use native.Mathlib.Omega.{arith}
-use borrow.Author.Tests.{not-false}
-use Rattle.skips.specs.Table.{Scanned}
 use Rattle.skips.proofs.Laws.{scanned_start, scanned_next}
-use borrow.Author.Rules.{rules}
 use Rattle.skips.proofs.scan.Goals as goal
 
 pub loop-t-init : goal.loop-t-init

@@ -1,11 +1,7 @@
 -- `skips::scan` meets its contract. The loop's invariant: the nodes of the children so far have been told.
 -- Assumes nothing.
 use Prim.Native.Nat.{◌-◌}
-use native.Mathlib.Omega.{arith}
-use borrow.Author.Tests.{not-false}
 use Rattle.skips.specs.Table.{Scanned}
-use Rattle.skips.proofs.Laws.{scanned_start, scanned_next}
-use borrow.Author.Rules.{rules}
 use Rattle.skips.proofs.scan.Given as goal
 
 abbrev pub invariant-loop-t : goal.invariant-loop-t

@@ -1,7 +1,6 @@
 -- `skips::stretch` meets its contract: what the scan tells, and the slot before it.
 -- Assumes nothing.
 use Rattle.skips.proofs.Laws.{stretched_bare, stretched_full}
-use borrow.Author.Rules.{rules}
 use Rattle.skips.proofs.stretch.Goals as goal
 
 pub returns-then-is_marked : goal.returns-then-is_marked

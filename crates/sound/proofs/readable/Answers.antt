@@ -1,6 +1,5 @@
 -- `sound::readable` meets its contract: each way out has its law.
 -- Assumes nothing.
-use borrow.Author.Rules.{rules}
 use mathlib.Core.Path.{sym, ◌∙◌}
 use Rattle.sound.proofs.Laws.{many_nodes, many_children, readable_room}
 use Rattle.sound.proofs.readable.Goals as goal

@@ -1,6 +1,5 @@
 -- `sound::refusal` meets its contract: the chart is tested first, and each way out has its law.
 -- Assumes nothing.
-use borrow.Author.Rules.{rules}
 use Rattle.names.proofs.Tests.{passes, fails}
 use Rattle.layout.specs.Words.{lent_of}
 use Rattle.sound.proofs.Laws.{refuses_chart, refuses_store, refuses_nothing}

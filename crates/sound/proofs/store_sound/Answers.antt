@@ -1,7 +1,6 @@
 -- `sound::store_sound` meets its contract: a store that cannot be read is not sound, and one that can has the tests that are left, in the definition's
 -- order.
 -- Assumes nothing.
-use borrow.Author.Rules.{rules}
 use mathlib.Core.Path.{sym}
 use Rattle.names.proofs.Tests.{passes, fails}
 use Rattle.chart.specs.Env.{chart_in}

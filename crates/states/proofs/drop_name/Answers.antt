@@ -1,7 +1,6 @@
 -- `states::drop_name` meets its contract: place i becomes free, and every other place stays.
 -- Assumes nothing.
 use Rattle.states.proofs.FreeLaws.{drop_lies, drop_became}
-use borrow.Author.Rules.{rules}
 use Rattle.states.proofs.drop_name.Goals as goal
 
 pub free_at-requires : goal.free_at-requires

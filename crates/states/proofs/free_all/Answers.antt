@@ -1,11 +1,9 @@
 -- `states::free_all` meets its contract. The invariant: the first i places are free, and all else that is asked for is as it was. The measure is how many
 -- places are left. Assumes nothing.
 use mathlib.Core.Path.{◌≡◌}
-use Prim.Native.Nat.{◌-◌, ◌≤◌}
+use Prim.Native.Nat.{◌-◌}
 use native.Mathlib.Omega.{arith}
-use borrow.Author.Rules.{rules}
 use Rattle.scope.specs.Limits.{MAX_STATES}
-use Rattle.states.specs.Free.{FreeTo}
 use Rattle.states.proofs.FreeLaws.{free_none, free_next, free_more}
 use Rattle.states.proofs.free_all.Goals as goal
 

@@ -4,7 +4,6 @@ use mathlib.Core.Path.{ap, ◌∙◌}
 use native.Mathlib.Omega.{arith}
 use Rattle.book.specs.Places.{put_place}
 use Rattle.states.proofs.FreeLaws.{place_order, place_fits, place_freed, place_back}
-use borrow.Author.Rules.{rules}
 use Rattle.states.proofs.free_at.Goals as goal
 
 pub offset_bounds-bs-a : goal.offset_bounds-bs-a

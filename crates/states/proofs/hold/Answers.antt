@@ -2,7 +2,6 @@
 -- Assumes nothing.
 use native.Mathlib.Omega.{arith}
 use Rattle.states.proofs.HoldLaws.{hold_name, code_nodes, code_kids, code_held}
-use borrow.Author.Rules.{rules}
 use Rattle.states.proofs.hold.Goals as goal
 
 pub put_name-requires : goal.put_name-requires

@@ -2,7 +2,6 @@
 -- Assumes nothing.
 use native.Mathlib.Omega.{arith}
 use Rattle.states.proofs.NameLaws.{name_order, name_fits_in, name_hold, name_became}
-use borrow.Author.Rules.{rules}
 use Rattle.states.proofs.name_state.Goals as goal
 
 pub offset_bounds-bs-a : goal.offset_bounds-bs-a

@@ -4,7 +4,6 @@ use mathlib.Core.Path.{◌∙◌}
 use native.Mathlib.Omega.{arith}
 use lib.ListN.{length-set}
 use Rattle.states.proofs.FreeLaws.{headed_words, open_became}
-use borrow.Author.Rules.{rules}
 use Rattle.states.proofs.open_names.Goals as goal
 
 pub bounds-bs-1 : goal.bounds-bs-1

@@ -1,7 +1,6 @@
 -- `states::reset` meets its contract: the store is emptied, and every place is free.
 -- Assumes nothing.
 use Rattle.states.proofs.FreeLaws.{reset_enough, reset_became}
-use borrow.Author.Rules.{rules}
 use Rattle.states.proofs.reset.Goals as goal
 
 pub free_all-requires : goal.free_all-requires

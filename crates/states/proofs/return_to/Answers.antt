@@ -2,7 +2,6 @@
 -- Assumes nothing.
 use native.Mathlib.Omega.{arith}
 use Rattle.states.proofs.ReturnLaws.{return_lies, return_words, return_back, return_became}
-use borrow.Author.Rules.{rules}
 use Rattle.states.proofs.return_to.Goals as goal
 
 pub place-ps-requires : goal.place-ps-requires

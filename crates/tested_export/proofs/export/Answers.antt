@@ -1,6 +1,5 @@
 -- `tested_export::export` meets its contract: 7 comes last, and where nothing stands the copying is asked of what passed.
 -- Assumes nothing.
-use borrow.Author.Rules.{rules}
 use Rattle.tested_export.proofs.Laws.{export_back, export_short, export_ready, export_done}
 use Rattle.tested_export.proofs.export.Goals as goal
 

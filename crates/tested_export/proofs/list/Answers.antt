@@ -1,6 +1,5 @@
 -- `tested_export::list` meets its contract: 3 comes before 4.
 -- Assumes nothing.
-use borrow.Author.Rules.{rules}
 use Rattle.store.specs.Entries.{types_in}
 use Rattle.tested_export.proofs.Laws.{list_outside, list_many, list_pass}
 use Rattle.tested_export.proofs.list.Goals as goal

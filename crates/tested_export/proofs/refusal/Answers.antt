@@ -1,7 +1,6 @@
 -- `tested_export::refusal` meets its contract: the opening, the source's list, and room for what is counted in a source that is sound.
 -- Assumes nothing.
 use mathlib.Core.Path.{refl}
-use borrow.Author.Rules.{rules}
 use Rattle.tested_export.proofs.Laws.{refused_opening, refused_list, needs_asks, refused_room}
 use Rattle.tested_export.proofs.refusal.Goals as goal
 

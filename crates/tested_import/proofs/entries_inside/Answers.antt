@@ -1,7 +1,6 @@
 -- `tested_import::entries_inside` meets its contract: a list has the lent types, and no list has none.
 -- Assumes nothing.
 use mathlib.Core.Path.{refl}
-use borrow.Author.Rules.{rules}
 use Rattle.tested_import.proofs.entries_inside.Goals as goal
 
 pub returns-then-listed : goal.returns-then-listed

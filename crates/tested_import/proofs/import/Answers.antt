@@ -1,6 +1,5 @@
 -- `tested_import::import` meets its contract: 7 comes last, and where nothing stands the copying is asked of what passed.
 -- Assumes nothing.
-use borrow.Author.Rules.{rules}
 use Rattle.tested_import.proofs.Laws.{import_back, import_short, import_ready, import_done}
 use Rattle.tested_import.proofs.import.Goals as goal
 

@@ -1,6 +1,5 @@
 -- `tested_import::lists` meets its contract: one way out for each list that 3 turns back, one for each that 4 does, and one past all.
 -- Assumes nothing.
-use borrow.Author.Rules.{rules}
 use Rattle.tested_import.proofs.TestLaws.{lists_first, lists_second, lists_many, lists_many_too, lists_pass}
 use Rattle.tested_import.proofs.lists.Goals as goal
 

@@ -1,6 +1,5 @@
 -- `tested_import::needed` meets its contract: a Param with no entry comes before room, which is asked of the header.
 -- Assumes nothing.
-use borrow.Author.Rules.{rules}
 use Rattle.tested_import.proofs.TestLaws.{needs_missing, needs_room}
 use Rattle.tested_import.proofs.needed.Goals as goal
 

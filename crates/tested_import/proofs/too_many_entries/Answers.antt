@@ -1,7 +1,6 @@
 -- `tested_import::too_many_entries` meets its contract: a list has as many entries as words, and no list has none.
 -- Assumes nothing.
 use mathlib.Core.Path.{refl}
-use borrow.Author.Rules.{rules}
 use Rattle.tested_import.proofs.too_many_entries.Goals as goal
 
 pub returns-then-listed : goal.returns-then-listed

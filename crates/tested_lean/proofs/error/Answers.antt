@@ -1,7 +1,6 @@
 -- `tested_lean::error` meets its contract: one that is remembered needs no node, and the header says whether one is.
 -- Assumes nothing.
 use Rattle.tested_lean.proofs.Laws.{passed_within, error_back, error_ready, error_done}
-use borrow.Author.Rules.{rules}
 use Rattle.tested_lean.proofs.error.Goals as goal
 
 pub error_made-requires : goal.error_made-requires

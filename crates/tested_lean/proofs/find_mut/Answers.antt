@@ -1,7 +1,6 @@
 -- `tested_lean::find_mut` meets its contract: near its root a type changes no node; else `roots` changes links alone.
 -- Assumes nothing.
 use Rattle.tested_lean.proofs.Laws.{passed_within, mut_back, find_linked, near_mut, mut_done}
-use borrow.Author.Rules.{rules}
 use Rattle.tested_lean.proofs.find_mut.Goals as goal
 
 pub inside_refusal-code-requires : goal.inside_refusal-code-requires

@@ -2,7 +2,6 @@
 -- Assumes nothing.
 use Rattle.scope.specs.Types.{ty_of}
 use Rattle.tested_lean.proofs.Laws.{type_outside, type_inside}
-use borrow.Author.Rules.{rules}
 use Rattle.tested_lean.proofs.inside_refusal.Goals as goal
 
 pub returns-then-type_inside : goal.returns-then-type_inside

@@ -1,7 +1,6 @@
 -- `tested_lean::new_var` meets its contract: where there is room the slot behind the nodes becomes an Unknown.
 -- Assumes nothing.
 use Rattle.tested_lean.proofs.Laws.{passed_within, var_back, var_ready, var_done}
-use borrow.Author.Rules.{rules}
 use Rattle.tested_lean.proofs.new_var.Goals as goal
 
 pub node_refusal-code-requires : goal.node_refusal-code-requires

@@ -1,7 +1,6 @@
 -- `tested_lean::nil` meets its contract: one that is remembered needs no node, and the header says whether one is.
 -- Assumes nothing.
 use Rattle.tested_lean.proofs.Laws.{passed_within, nil_back, nil_ready, nil_done}
-use borrow.Author.Rules.{rules}
 use Rattle.tested_lean.proofs.nil.Goals as goal
 
 pub nil_made-requires : goal.nil_made-requires

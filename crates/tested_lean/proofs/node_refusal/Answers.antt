@@ -1,7 +1,6 @@
 -- `tested_lean::node_refusal` meets its contract: the counts are within their room, so one node more is over it only where none is left.
 -- Assumes nothing.
 use Rattle.tested_lean.proofs.Laws.{node_full, node_left}
-use borrow.Author.Rules.{rules}
 use Rattle.tested_lean.proofs.node_refusal.Goals as goal
 
 pub returns-then-node_room-nodes_made : goal.returns-then-node_room-nodes_made

@@ -1,6 +1,5 @@
 -- `tested_lean::root_of` meets its contract: near its root a type is told it, else `roots` finds it.
 -- Assumes nothing.
-use borrow.Author.Rules.{rules}
 use Rattle.tested_lean.proofs.root_of.Goals as goal
 
 pub returns-in-Is : goal.returns-in-Is

@@ -1,6 +1,5 @@
 -- `tested_new::make_inside` meets its contract: a refusal writes nothing, and a kind that passes is the one that the core is given.
 -- Assumes nothing.
-use borrow.Author.Rules.{rules}
 use Rattle.tested_new.proofs.Laws.{inside_refused, inside_full, inside_ready, inside_made}
 use Rattle.tested_new.proofs.make_inside.Goals as goal
 
@@ -18,7 +17,7 @@ pub new_kind-requires : goal.new_kind-requires
 new_kind-requires c = let a = c.args in
     let pre = c.requires in
     inside_ready a.chart.now a.rule.now a.text.now a.h.now a.ws.now a.ks.now a.k a.entries.now c.kind_refusal-unmade.result
-    c.kind_refusal-unmade.ensures c.if-unmade-ne-NO_REFUSAL.false c.room-full.result c.room-full.ensures c.if-full-ne-NO_REFUSAL.false c.flagged.ensures pre.0
+    c.kind_refusal-unmade.ensures c.if-unmade-ne-NO_REFUSAL.false c.room-full.result c.room-full.ensures c.if-full-ne-NO_REFUSAL.false c.flagged.ensures pre.ready
 
 pub returns : goal.returns
 returns c =

@@ -2,7 +2,6 @@
 -- which looks at nothing beside the chart. The places: `header` read, the types `inside` or not, the list's `refusal`, `passed` where there is none, the kind `made`.
 -- Assumes nothing.
 use mathlib.Core.Path.{refl}
-use borrow.Author.Rules.{rules}
 use Rattle.sound.specs.Tests.{env_in}
 use Rattle.store.specs.Entries.{entry_count, entry_types}
 use Rattle.lent_kind.specs.Lent.{given}
@@ -24,7 +23,7 @@ make_inside-requires c =
     let a = c.args in
     let e = env_in a.chart.now a.beside a.rule.now a.text.now in
     let narrow = listed_narrow c.entries_inside-inside.result (entry_count a.entries.now) c.list_refusal-listed.result c.list_refusal-listed.ensures c.if-listed-ne-NO_REFUSAL.false in
-    (lent_within e a.h.now a.ws.now a.ks.now c.requires.passed, narrow)
+    record { ready = lent_within e a.h.now a.ws.now a.ks.now c.requires.passed; entries_bound = narrow }
 
 pub returns : goal.returns
 returns c =

@@ -4,7 +4,6 @@
 -- Assumes nothing.
 use mathlib.Core.Path.{refl, sym}
 use native.Mathlib.Omega.{arith}
-use borrow.Author.Rules.{rules}
 use lib.ListN.{length, length-map}
 use Rattle.scope.specs.Types.{ty_of}
 use Rattle.scope.specs.Calls.{over}
@@ -49,7 +48,7 @@ make_inside-requires c =
     let narrow = listed_narrow c.types_inside-inside.result (length a.types.now) c.list_refusal-refused.result c.list_refusal-refused.ensures c.if-refused-ne-NO_REFUSAL.false in
     let e = env_in a.chart.now a.beside a.rule.now a.text.now in
     let within = lent_within e a.h.now a.ws.now a.ks.now c.requires.tested.passed in
-    (within, part_narrow a.types.now c.put_types.new.es c.put_types.ensures (omega (arith, c.put_types.auto.es, narrow)) narrow)
+    record { ready = within; entries_bound = part_narrow a.types.now c.put_types.new.es c.put_types.ensures (omega (arith, c.put_types.auto.es, narrow)) narrow }
 
 pub returns : goal.returns
 returns c =

@@ -1,12 +1,11 @@
 -- `tested_new::new_struct` meets its contract: a Struct's row has no names, and the call is `new` of a kind over the list.
 -- Assumes nothing.
-use borrow.Author.Rules.{rules}
 use Rattle.scope.specs.Calls.{new_struct_call}
 use Rattle.lent_kind.proofs.ListLaws.{struct_row}
 use Rattle.tested_new.proofs.new_struct.Goals as goal
 
 pub new_over-requires : goal.new_over-requires
-new_over-requires c = (c.requires, struct_row)
+new_over-requires c = record { tested = c.requires; code_value = struct_row }
 
 pub returns : goal.returns
 unfolding new_struct_call

@@ -1,12 +1,11 @@
 -- `tested_new::new_union` meets its contract: a Union's row has no names, and the call is `new` of a kind over the list.
 -- Assumes nothing.
-use borrow.Author.Rules.{rules}
 use Rattle.scope.specs.Calls.{new_union_call}
 use Rattle.lent_kind.proofs.ListLaws.{union_row}
 use Rattle.tested_new.proofs.new_union.Goals as goal
 
 pub new_over-requires : goal.new_over-requires
-new_over-requires c = (c.requires, union_row)
+new_over-requires c = record { tested = c.requires; code_value = union_row }
 
 pub returns : goal.returns
 unfolding new_union_call

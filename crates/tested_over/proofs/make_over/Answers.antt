@@ -2,7 +2,6 @@
 -- Assumes nothing.
 use mathlib.Core.List.{[]}
 use Rattle.tested_over.proofs.Laws.{over_refused, over_full, over_ready, over_made}
-use borrow.Author.Rules.{rules}
 use Rattle.tested_over.proofs.make_over.Goals as goal
 
 pub returns-then-unmade-ne-NO_REFUSAL : goal.returns-then-unmade-ne-NO_REFUSAL

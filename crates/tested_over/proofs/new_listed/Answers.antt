@@ -2,7 +2,6 @@
 -- Assumes nothing.
 use native.Mathlib.Omega.{arith}
 use Rattle.tested_over.proofs.Laws.{list_few, list_head, list_room, list_pushable, list_made}
-use borrow.Author.Rules.{rules}
 use Rattle.tested_over.proofs.new_listed.Goals as goal
 
 pub children_made-first-requires : goal.children_made-first-requires

@@ -2,7 +2,6 @@
 -- Assumes nothing.
 use mathlib.Core.Path.{refl}
 use Rattle.tested_over.proofs.Laws.{row_names, nameless, over_named, over_listed, over_narrow, over_done, over_within}
-use borrow.Author.Rules.{rules}
 use Rattle.tested_over.proofs.new_over.Goals as goal
 
 pub returns-then-names-ne-NO_NAMES : goal.returns-then-names-ne-NO_NAMES
@@ -23,14 +22,13 @@ make_over-requires c =
     let row = row_names c.row_of-names.result c.args.code c.row_of-names.result.names c.row_of-names.ensures refl in
     let narrow = over_narrow c.args.chart.now c.args.h.now c.args.ws.now c.args.ks.now c.args.types.now c.args.code
     c.args.number c.row_of-names.result.names row c.if-names-ne-NO_NAMES.false c.read_header-x.ensures c.types_inside-inside.result
-    c.types_inside-inside.ensures c.list_refusal-refused.result c.list_refusal-refused.ensures c.if-refused-ne-NO_REFUSAL.false in (
-      over_within c.requires,
-      (
-        nameless c.args.chart.now c.args.h.now c.args.ws.now c.args.ks.now c.args.types.now c.args.code c.args.number
-            c.row_of-names.result.names row c.if-names-ne-NO_NAMES.false,
-        narrow,
-      ),
-    )
+    c.types_inside-inside.ensures c.list_refusal-refused.result c.list_refusal-refused.ensures c.if-refused-ne-NO_REFUSAL.false in
+    record {
+      ready = over_within c.requires;
+      code_value = nameless c.args.chart.now c.args.h.now c.args.ws.now c.args.ks.now c.args.types.now c.args.code c.args.number
+          c.row_of-names.result.names row c.if-names-ne-NO_NAMES.false;
+      types_len_bound = narrow;
+    }
 
 pub returns : goal.returns
 returns c =

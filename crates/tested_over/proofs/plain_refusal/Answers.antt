@@ -4,7 +4,6 @@ use native.Mathlib.Omega.{arith}
 use Rattle.names.proofs.Tests.{passes, fails}
 use borrow.Author.Tests.{not-true, not-false}
 use Rattle.tested_over.proofs.PlainLaws.{code_unmade, shape_unmade, number_unmade, undefined_over, over_passed}
-use borrow.Author.Rules.{rules}
 use Rattle.tested_over.proofs.plain_refusal.Goals as goal
 
 pub returns-then-code-gt-ERROR : goal.returns-then-code-gt-ERROR

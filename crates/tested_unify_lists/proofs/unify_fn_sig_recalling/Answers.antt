@@ -2,7 +2,6 @@
 -- Assumes nothing.
 use Rattle.call_unify.proofs.tested.Laws.{passed, lent_words, back_own, unify_done}
 use Rattle.tested_unify_lists.proofs.Laws.{signatures_ask, signatures_form}
-use borrow.Author.Rules.{rules}
 use Rattle.tested_unify_lists.proofs.unify_fn_sig_recalling.Goals as goal
 
 pub returns-then-refused-ne-NO_REFUSAL : goal.returns-then-refused-ne-NO_REFUSAL

@@ -4,7 +4,6 @@ use mathlib.Core.List.{[]}
 use Rattle.chart.specs.Env.{chart_in}
 use Rattle.call_unify.proofs.tested.Laws.{passed, lent_words, back_own, unify_done}
 use Rattle.tested_unify_lists.proofs.Laws.{objects_ask, objects_leave, objects_beside, objects_form}
-use borrow.Author.Rules.{rules}
 use Rattle.tested_unify_lists.proofs.unify_objects_recalling.Goals as goal
 
 pub returns-then-refused-ne-NO_REFUSAL : goal.returns-then-refused-ne-NO_REFUSAL

@@ -2,7 +2,6 @@
 -- Assumes nothing.
 use Rattle.call_unify.proofs.tested.Laws.{passed, lent_words, back_own, unify_done}
 use Rattle.tested_unify_lists.proofs.Laws.{lists_ask, types_form}
-use borrow.Author.Rules.{rules}
 use Rattle.tested_unify_lists.proofs.unify_types_recalling.Goals as goal
 
 pub returns-then-refused-ne-NO_REFUSAL : goal.returns-then-refused-ne-NO_REFUSAL

@@ -2,21 +2,12 @@
 -- the pairs that are left give what the whole gives, from words and a memory that still meet what is asked. Each place that a proof looks back to has a name: `start`,
 -- `entered` (the two types before their children), `steps` (what their roots ask for), `loop`, `turn` (its test), `pair` (two types), `tried` (at once), `unified`, `settled`.
 -- Assumes nothing.
-use mathlib.Core.Path.{◌≡◌, refl, ◌∙◌}
-use native.Mathlib.Omega.{arith}
-use native.Mathlib.Nat.{pos_of_ne-zero}
-use borrow.Author.Rules.{rules}
+use mathlib.Core.Path.{◌≡◌}
 use lib.ListN.{length}
-use borrow.Author.Tests.{not-true, not-false}
-use Rattle.scope.specs.Types.{ty_of}
 use Rattle.names.specs.Place.{texts}
-use Rattle.unify_enter.specs.Enters.{Left}
-use Rattle.unify_enter.proofs.Laws.{entered_done, entered_kids}
-use Rattle.unify.proofs.QuickLaws.{quick_adds, quick_merged, quick_asked, quick_not}
-use Rattle.unify.proofs.RunLaws.{both_success, RunLeft, RunNext, run_fails, run_start, run_pair, run_asks, run_next, run_ends}
-use Rattle.unify.proofs.RunLaws.{ObjectLeft, ObjectNext, stored_start, object_none, object_pair, object_asks, object_next, stored_ends}
-use Rattle.unify.proofs.StepLaws.{answer_settles, way_answer, object_asked, object_settles, way_object, run_asked, run_settles, way_run}
-use Prim.Native.Nat.{ℕ, ◌+◌, ◌-◌, ◌*◌, ◌<◌, ◌≤◌}
+use Rattle.unify.proofs.RunLaws.{RunLeft}
+use Rattle.unify.proofs.RunLaws.{ObjectLeft}
+use Prim.Native.Nat.{◌+◌, ◌-◌, ◌*◌}
 use Rattle.unify.proofs.+unify_objects_unify_pair_unify_types.Given as goal
 
 abbrev pub decreases-unify_objects : goal.decreases-unify_objects

@@ -3,7 +3,6 @@
 use Rattle.unify_enter.proofs.Laws.{no_depth}
 use Rattle.unify.proofs.QuickLaws.{quick_adds, small_merged, small_asked, small_not}
 use native.Mathlib.Omega.{arith}
-use borrow.Author.Rules.{rules}
 use Rattle.unify.proofs.unify.Goals as goal
 
 pub returns-then-depth-lt1 : goal.returns-then-depth-lt1

@@ -1,15 +1,12 @@
 -- `unify_lists::unify_entries` meets its contract. The invariant: what the names from j on ask gives what all ask, as for two objects of one store; the first object's
 -- entries lie in xs, the second's in ys. The measure is what is left of the first object.
 -- Assumes nothing.
-use mathlib.Core.Path.{◌≡◌, refl, ◌∙◌}
+use mathlib.Core.Path.{◌≡◌}
 use Prim.Native.Nat.{◌-◌}
 use lib.ListN.{length}
 use Rattle.names.specs.Place.{texts}
 use Rattle.unify_lists.specs.Lent.{from_first}
-use Rattle.unify.proofs.RunLaws.{ObjectLeft, ObjectNext, object_none, object_pair, object_asks, object_next}
-use Rattle.unify_lists.proofs.Laws.{entries_start, entries_end}
-use native.Mathlib.Omega.{arith}
-use borrow.Author.Rules.{rules}
+use Rattle.unify.proofs.RunLaws.{ObjectLeft}
 use Rattle.unify_lists.proofs.unify_entries.Given as goal
 
 abbrev pub invariant-loop-j : goal.invariant-loop-j

@@ -1,7 +1,6 @@
 -- `unify_lists::unify_fn_sig` meets its contract: the parameters as two lists, then the returns as a pair.
 -- Assumes nothing.
 use Rattle.unify_lists.proofs.Laws.{sig_parameters, sig_returns, sig_law}
-use borrow.Author.Rules.{rules}
 use Rattle.unify_lists.proofs.unify_fn_sig.Goals as goal
 
 pub unify_lists-q-requires : goal.unify_lists-q-requires

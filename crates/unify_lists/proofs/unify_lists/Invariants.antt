@@ -1,11 +1,10 @@
 -- `unify_lists::unify_lists` meets its contract. The invariant: the pairs from i on give what all give. The measure is what is left of the first list.
 -- Assumes nothing.
-use mathlib.Core.Path.{◌≡◌, refl, ◌∙◌}
+use mathlib.Core.Path.{◌≡◌}
 use Prim.Native.Nat.{◌-◌}
 use lib.ListN.{length}
 use Rattle.names.specs.Place.{texts}
-use Rattle.unify_lists.proofs.Laws.{ListLeft, ListNext, lists_differ, lists_start, list_pair, list_asks, list_next, lists_end}
-use borrow.Author.Rules.{rules}
+use Rattle.unify_lists.proofs.Laws.{ListLeft}
 use Rattle.unify_lists.proofs.unify_lists.Given as goal
 
 abbrev pub invariant-loop-i : goal.invariant-loop-i

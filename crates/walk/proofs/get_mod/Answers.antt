@@ -4,7 +4,7 @@ use native.Mathlib.Omega.{arith}
 use borrow.Author.Rules.{rules}
 use Rattle.layout.proofs.LinkLaws.{clean_linked}
 use Rattle.related.proofs.Laws.{root_is}
-use Rattle.walk.proofs.Answers.{Looks, looks_start, looks_out, looks_none, looks_kind, looks_bare, looks_on}
+use Rattle.walk.proofs.Answers.{looks_start, looks_out, looks_none, looks_kind, looks_bare, looks_on}
 use Rattle.walk.proofs.get_mod.Goals as goal
 
 pub loop-left-init : goal.loop-left-init

@@ -1,10 +1,6 @@
 -- `walk::get_mod` meets its contract. The invariant: looking through the Refs that are left gives what looking through all gives. The measure is how
 -- many are left. Assumes nothing.
-use native.Mathlib.Omega.{arith}
-use borrow.Author.Rules.{rules}
-use Rattle.layout.proofs.LinkLaws.{clean_linked}
-use Rattle.related.proofs.Laws.{root_is}
-use Rattle.walk.proofs.Answers.{Looks, looks_start, looks_out, looks_none, looks_kind, looks_bare, looks_on}
+use Rattle.walk.proofs.Answers.{Looks}
 use Rattle.walk.proofs.get_mod.Given as goal
 
 abbrev pub invariant-loop-left : goal.invariant-loop-left

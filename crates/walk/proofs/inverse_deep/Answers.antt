@@ -1,7 +1,6 @@
 -- `walk::inverse_deep` meets its contract: one walk from no marks, which marks the roots whose kinds are to be looked at.
 -- Assumes nothing.
 use Rattle.walk.proofs.Answers.{inverse_asks}
-use borrow.Author.Rules.{rules}
 use Rattle.walk.proofs.inverse_deep.Goals as goal
 
 pub by_marks-requires : goal.by_marks-requires

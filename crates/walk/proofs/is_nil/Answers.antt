@@ -1,7 +1,6 @@
 -- `walk::is_nil` meets its contract: a root is found already, and otherwise the root that was found has what the definition reads.
 -- Assumes nothing.
 use mathlib.Core.Path.{refl}
-use borrow.Author.Rules.{rules}
 use Rattle.roots.proofs.Laws.{is_root_lem}
 use Rattle.walk.proofs.Answers.{nil_is}
 use Rattle.walk.proofs.is_nil.Goals as goal

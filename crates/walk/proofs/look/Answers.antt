@@ -2,15 +2,10 @@
 -- Assumes nothing.
 use Prim.Native.Nat.{◌-◌}
 use native.Mathlib.Omega.{arith}
-use borrow.Author.Rules.{rules}
-use borrow.Author.Tests.{not-false}
 use Rattle.scope.specs.Types.{ty_of}
-use Rattle.scope.specs.Nodes.{find}
-use Rattle.scope.specs.Unify.{occurs}
-use Rattle.layout.specs.Words.{decode}
 use Rattle.layout.proofs.LinkLaws.{clean_linked}
 use Rattle.related.proofs.Laws.{root_is}
-use Rattle.walk.proofs.LookLaws.{looked_met, looked_clear, looked_deep, Left, left_start, left_end, left_yes, left_no, kid_met, kid_leaf}
+use Rattle.walk.proofs.LookLaws.{looked_met, looked_clear, looked_deep, left_start, left_end, left_yes, left_no, kid_met, kid_leaf}
 use Rattle.walk.proofs.look.Goals as goal
 
 pub loop-j-init : goal.loop-j-init
@@ -45,7 +40,7 @@ loop-j-preserved c =
     left_no c.loop-j.invariant c.child_of.result c.loop-j-test.true c.child_of.ensures
     (kid_leaf (ty_of c.child_of.result.ty.0) c.requires.0 c.requires.1
     (root_is (c.near.ensures.found _ c.in-Is.is) c.idx-i.ensures _) c.if-i-x.false
-    at-is-leaf.is_IsLeaf.ensures c.if-not-is_leaf.false)
+    c.is_leaf.ensures c.if-not-is_leaf.false)
 
 pub returns : goal.returns
 returns c = looked_clear (left_end c.loop-j.invariant (omega (arith, c.loop-j-test.false)))

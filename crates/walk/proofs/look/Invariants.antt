@@ -1,16 +1,10 @@
 -- `walk::look` meets its contract. The invariant: what is left of the children tells what all of them tell. The measure is how many are left.
 -- Assumes nothing.
 use Prim.Native.Nat.{◌-◌}
-use native.Mathlib.Omega.{arith}
-use borrow.Author.Rules.{rules}
-use borrow.Author.Tests.{not-false}
-use Rattle.scope.specs.Types.{ty_of}
 use Rattle.scope.specs.Nodes.{find}
 use Rattle.scope.specs.Unify.{occurs}
 use Rattle.layout.specs.Words.{decode}
-use Rattle.layout.proofs.LinkLaws.{clean_linked}
-use Rattle.related.proofs.Laws.{root_is}
-use Rattle.walk.proofs.LookLaws.{looked_met, looked_clear, looked_deep, Left, left_start, left_end, left_yes, left_no, kid_met, kid_leaf}
+use Rattle.walk.proofs.LookLaws.{Left}
 use Rattle.walk.proofs.look.Given as goal
 
 abbrev pub invariant-loop-j : goal.invariant-loop-j

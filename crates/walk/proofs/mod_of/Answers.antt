@@ -1,6 +1,5 @@
 -- `walk::mod_of` meets its contract: the tests are those of mod_by, and the def number is that of the chart's record.
 -- Assumes nothing.
-use borrow.Author.Rules.{rules}
 use borrow.Author.Tests.{eq-eqb, ne_eqb}
 use Rattle.walk.proofs.mod_of.Goals as goal
 

@@ -1,7 +1,6 @@
 -- `walk::occurs_deep` meets its contract: what one walk from no marks tells.
 -- Assumes nothing.
 use Rattle.walk.proofs.Answers.{occurs_walk}
-use borrow.Author.Rules.{rules}
 use Rattle.walk.proofs.occurs_deep.Goals as goal
 
 pub returns : goal.returns

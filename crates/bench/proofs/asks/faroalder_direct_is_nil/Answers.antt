@@ -1,5 +1,4 @@
 -- `bench::asks::faroalder_direct_is_nil` meets its contract: its number is the flag of `is_nil`. Assumes nothing.
-use borrow.Author.Rules.{rules}
 use Rattle.bench.proofs.Laws.{nil_number}
 use Rattle.bench.proofs.asks.faroalder_direct_is_nil.Goals as goal
 

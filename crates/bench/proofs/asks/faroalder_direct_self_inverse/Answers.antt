@@ -1,6 +1,5 @@
 -- `bench::asks::faroalder_direct_self_inverse` meets its contract: its number is the flag of `self_inverse`. Assumes nothing.
 use mathlib.Core.Path.{◌∙◌, ap}
-use borrow.Author.Rules.{rules}
 use Rattle.bench.specs.Numbers.{flag_of}
 use Rattle.bench.proofs.asks.faroalder_direct_self_inverse.Goals as goal
 

@@ -1,6 +1,5 @@
 -- `bench::direct::faroalder_direct_show` meets its contract: it is `show::show_all` from the buffer's front on.
 -- Assumes nothing.
-use borrow.Author.Rules.{rules}
 use Rattle.bench.proofs.direct.faroalder_direct_show.Goals as goal
 
 pub returns : goal.returns

@@ -1,6 +1,5 @@
 -- `call_ask::tested::find_related` meets its contract: a refusal writes no mark, and where no test breaks the walk's marks are the definition's.
 -- Assumes nothing.
-use borrow.Author.Rules.{rules}
 use Rattle.promise.proofs.Laws.{inside_tested}
 use Rattle.call_ask.proofs.tested.Laws.{marks_refused, marks_short, marks_done, read_stands}
 use Rattle.call_ask.proofs.tested.find_related.Goals as goal

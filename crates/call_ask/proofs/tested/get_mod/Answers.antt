@@ -1,7 +1,6 @@
 -- `call_ask::tested::get_mod` meets its contract: a chart that no test turns back is that of its records, and the walk's answer is the definition's.
 -- Assumes nothing.
 use mathlib.Core.List.{List}
-use borrow.Author.Rules.{rules}
 use Rattle.scope.specs.Types.{ty_of}
 use Rattle.scope.specs.Nodes.{Node}
 use Rattle.scope.specs.Force.{get_mod}

@@ -1,7 +1,6 @@
 -- `call_ask::tested::is_nil` meets its contract: a refusal is the first test that breaks, and where none does the walk's answer is the definition's.
 -- Assumes nothing.
 use mathlib.Core.List.{List}
-use borrow.Author.Rules.{rules}
 use Rattle.scope.specs.Types.{ty_of}
 use Rattle.scope.specs.Nodes.{Node}
 use Rattle.scope.specs.Force.{is_nil}

@@ -1,7 +1,6 @@
 -- `call_ask::tested::self_inverse_param` meets its contract: a store that no test turns back can be walked, and the walk's answer is the definition's.
 -- Assumes nothing.
 use mathlib.Core.List.{List}
-use borrow.Author.Rules.{rules}
 use Rattle.scope.specs.Types.{ty_of}
 use Rattle.scope.specs.Nodes.{Node}
 use Rattle.scope.specs.Unify.{self_inverse_of}

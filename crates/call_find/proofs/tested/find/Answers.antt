@@ -1,7 +1,6 @@
 -- `call_find::tested::find` meets its contract: a refusal is the first test that breaks, and where none does the root that `roots` finds is the answer.
 -- Assumes nothing.
 use mathlib.Core.List.{List}
-use borrow.Author.Rules.{rules}
 use Rattle.scope.specs.Types.{ty_of}
 use Rattle.scope.specs.Nodes.{Node, find}
 use Rattle.scope.specs.Calls.{find_call}

@@ -1,6 +1,5 @@
 -- `call_find::tested::find_mut` meets its contract: a refusal writes nothing, and where no test breaks `roots` changes links alone, so the words say a store again.
 -- Assumes nothing.
-use borrow.Author.Rules.{rules}
 use Rattle.promise.proofs.Laws.{inside_tested}
 use Rattle.promise.proofs.ReadLaws.{read_linked}
 use Rattle.call_find.proofs.tested.Laws.{mut_refused, mut_answer}

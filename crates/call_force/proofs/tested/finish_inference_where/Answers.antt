@@ -1,8 +1,7 @@
 -- `call_force::tested::finish_inference_where` meets its contract: a tested store is clean, and there is nothing to refuse.
 -- Assumes nothing.
-use mathlib.Core.Path.{refl}
 use mathlib.Core.List.{[]}
-use borrow.Author.Rules.{rules}
+use mathlib.Core.Path.{refl}
 use Rattle.scope.specs.Calls.{finish_where_call}
 use Rattle.sound.specs.Tests.{env_in}
 use Rattle.promise.proofs.Laws.{tested_clean}

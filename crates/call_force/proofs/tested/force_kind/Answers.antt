@@ -1,6 +1,5 @@
 -- `call_force::tested::force_kind` meets its contract: a type that passes the tests is forced by the core, on a store that is clean, and the answer is the core's.
 -- Assumes nothing.
-use borrow.Author.Rules.{rules}
 use Rattle.promise.proofs.Laws.{inside_tested}
 use Rattle.call_force.proofs.tested.Laws.{forced_back, forced_clean, forced_done}
 use Rattle.call_force.proofs.tested.force_kind.Goals as goal

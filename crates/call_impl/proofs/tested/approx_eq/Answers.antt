@@ -6,7 +6,6 @@ use Rattle.scope.specs.Calls.{done}
 use Rattle.layout.specs.Words.{store_in}
 use Rattle.call_unify.proofs.tested.Laws.{passed, back_own, read_done}
 use Rattle.call_impl.proofs.tested.Laws.{impls_beside, approx_form}
-use borrow.Author.Rules.{rules}
 use Rattle.call_impl.proofs.tested.approx_eq.Goals as goal
 
 pub returns-then-refused-ne-NO_REFUSAL : goal.returns-then-refused-ne-NO_REFUSAL

@@ -2,7 +2,6 @@
 -- Assumes nothing.
 use Rattle.call_unify.proofs.tested.Laws.{passed, lent_words, back_own, unify_done}
 use Rattle.call_impl.proofs.tested.Laws.{impls_ask, impls_beside, impls_form}
-use borrow.Author.Rules.{rules}
 use Rattle.call_impl.proofs.tested.unify_impl_type_recalling.Goals as goal
 
 pub returns-then-refused-ne-NO_REFUSAL : goal.returns-then-refused-ne-NO_REFUSAL

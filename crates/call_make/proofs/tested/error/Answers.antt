@@ -1,6 +1,5 @@
 -- `call_make::tested::error` meets its contract: one that is remembered needs no node, and the header says whether one is.
 -- Assumes nothing.
-use borrow.Author.Rules.{rules}
 use Rattle.scope.specs.Make.{make_error}
 use Rattle.scope.specs.Calls.{error_call}
 use Rattle.call_make.proofs.tested.MakerLaws.{for_room, maker_back, maker_ready, maker_done, error_tested}

@@ -1,6 +1,5 @@
 -- `call_make::tested::new_var` meets its contract: what passes the tests is ready for one node, and the core makes it.
 -- Assumes nothing.
-use borrow.Author.Rules.{rules}
 use Rattle.scope.specs.Make.{new_var}
 use Rattle.scope.specs.Calls.{new_var_call}
 use Rattle.call_make.proofs.tested.MakerLaws.{for_room, maker_back, maker_ready, maker_done}

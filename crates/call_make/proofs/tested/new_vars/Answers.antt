@@ -1,6 +1,5 @@
 -- `call_make::tested::new_vars` meets its contract: 10 is tested before 7, and where neither stands the types that the core writes are the reply.
 -- Assumes nothing.
-use borrow.Author.Rules.{rules}
 use Rattle.call_make.proofs.tested.MakerLaws.{for_room}
 use Rattle.call_make.proofs.tested.ListLaws.{vars_back, vars_short, vars_ready, vars_done}
 use Rattle.call_make.proofs.tested.new_vars.Goals as goal
@@ -22,7 +21,7 @@ new_vars-requires c =
     let pre = c.requires in
     let a = c.args in
     let test = for_room a.count c.room-code.result pre (c.room-code.ensures a.ws.now a.ks.now) in
-    (vars_ready a.span a.count a.out.now test c.if-code-ne-NO_REFUSAL.false, c.if-out-count.false)
+    record { ready = vars_ready a.span a.count a.out.now test c.if-code-ne-NO_REFUSAL.false; count_in_bounds = c.if-out-count.false }
 
 pub returns : goal.returns
 returns c =

@@ -1,6 +1,5 @@
 -- `call_read::tested::child` meets its contract: a refusal is the first test that breaks, and where none does the child is read of the type's node.
 -- Assumes nothing.
-use borrow.Author.Rules.{rules}
 use Rattle.scope.specs.Nodes.{Node}
 use Rattle.scope.specs.Calls.{child_at, child_call}
 use Rattle.promise.proofs.Laws.{inside_tested}

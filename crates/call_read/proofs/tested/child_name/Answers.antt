@@ -1,6 +1,5 @@
 -- `call_read::tested::child_name` meets its contract: a refusal is the first test that breaks, and where none does the name is read of the type's node.
 -- Assumes nothing.
-use borrow.Author.Rules.{rules}
 use Rattle.scope.specs.Nodes.{Node}
 use Rattle.scope.specs.Calls.{child_name_at, name_call}
 use Rattle.promise.proofs.Laws.{inside_tested}

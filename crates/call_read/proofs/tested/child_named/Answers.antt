@@ -1,6 +1,5 @@
 -- `call_read::tested::child_named` meets its contract: below n lies a child, whose name the definition reads, and past it none.
 -- Assumes nothing.
-use borrow.Author.Rules.{rules}
 use Rattle.call_read.proofs.tested.NameLaws.{named_is, named_past}
 use Rattle.call_read.proofs.tested.child_named.Goals as goal
 

@@ -1,6 +1,5 @@
 -- `call_read::tested::child_of_kind` meets its contract: below the number of children lies one, and past it none.
 -- Assumes nothing.
-use borrow.Author.Rules.{rules}
 use Rattle.call_read.proofs.tested.NameLaws.{kid_is, kid_past}
 use Rattle.call_read.proofs.tested.child_of_kind.Goals as goal
 

@@ -1,6 +1,5 @@
 -- `call_read::tested::child_of_node` meets its contract: a Known root's children are its kind's, and no other node has any.
 -- Assumes nothing.
-use borrow.Author.Rules.{rules}
 use Rattle.call_read.proofs.tested.child_of_node.Goals as goal
 
 pub returns-in-Known : goal.returns-in-Known

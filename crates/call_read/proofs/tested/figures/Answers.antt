@@ -1,7 +1,6 @@
 -- `call_read::tested::figures` meets its contract: it has no type to test, and the store that the slices hold is its header and its nodes.
 -- Assumes nothing.
 use mathlib.Core.Path.{refl, ◌∙◌}
-use borrow.Author.Rules.{rules}
 use Rattle.scope.specs.Nodes.{Store}
 use Rattle.scope.specs.Calls.{figures_call}
 use Rattle.promise.proofs.Laws.{none_listed}

@@ -1,7 +1,6 @@
 -- `call_read::tested::name_of_kind` meets its contract: the row that was read is scope's, and there is one law for each way that a row has names.
 -- Assumes nothing.
 use mathlib.Core.Path.{ap}
-use borrow.Author.Rules.{rules}
 use Rattle.call_read.proofs.tested.NameLaws.{own_first, own_later, child_named, parameter_named, parameter_none, nameless}
 use Rattle.call_read.proofs.tested.name_of_kind.Goals as goal
 

@@ -1,6 +1,5 @@
 -- `call_read::tested::name_of_node` meets its contract: a Known root's names are its kind's, and no other node has any.
 -- Assumes nothing.
-use borrow.Author.Rules.{rules}
 use Rattle.call_read.proofs.tested.name_of_node.Goals as goal
 
 pub returns-in-Known : goal.returns-in-Known

@@ -1,6 +1,5 @@
 -- `call_read::tested::node` meets its contract: a refusal is the first test that breaks, and where none does the node that was read is the store's and fits it.
 -- Assumes nothing.
-use borrow.Author.Rules.{rules}
 use Rattle.promise.proofs.Laws.{inside_tested}
 use Rattle.promise.proofs.ReadLaws.{read_clean}
 use Rattle.call_read.proofs.tested.Laws.{node_refused, node_found}

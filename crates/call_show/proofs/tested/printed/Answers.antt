@@ -1,7 +1,6 @@
 -- `call_show::tested::printed` meets its contract: its test is that of end_reply.
 -- Assumes nothing.
 use mathlib.Core.Path.{refl, sym, ◌∙◌}
-use borrow.Author.Rules.{rules}
 use Rattle.call_show.proofs.tested.printed.Goals as goal
 
 pub returns-then-is_full : goal.returns-then-is_full

@@ -2,7 +2,6 @@
 -- definition's.
 -- Assumes nothing.
 use Rattle.scope.specs.Types.{ty_of}
-use borrow.Author.Rules.{rules}
 use Rattle.promise.proofs.Laws.{inside_tested}
 use Rattle.call_show.proofs.tested.Laws.{read_stands, show_back, show_done}
 use Rattle.call_show.proofs.tested.show.Goals as goal

@@ -2,7 +2,6 @@
 -- Assumes nothing.
 use mathlib.Core.Path.{refl}
 use Rattle.types.specs.Impls.{impl_means}
-use borrow.Author.Rules.{rules}
 use Rattle.promise.proofs.Laws.{none_listed}
 use Rattle.call_show.proofs.tested.Laws.{read_stands, impl_back, impl_done}
 use Rattle.call_show.proofs.tested.show_impl_type.Goals as goal

@@ -3,7 +3,6 @@
 use native.Mathlib.Omega.{arith}
 use Rattle.call_states.proofs.tested.Laws.{names_book_clean}
 use Rattle.call_states.proofs.tested.CallLaws.{drop_unheld, drop_ready, drop_done}
-use borrow.Author.Rules.{rules}
 use Rattle.call_states.proofs.tested.drop_name.Goals as goal
 
 pub held_place-place-requires : goal.held_place-place-requires

@@ -3,7 +3,6 @@
 use Rattle.names.proofs.Tests.{passes, fails}
 use Rattle.book.specs.Words.{places_in}
 use Rattle.call_states.proofs.tested.PlaceLaws.{wrong_nowhere, right_found}
-use borrow.Author.Rules.{rules}
 use Rattle.call_states.proofs.tested.held_place.Goals as goal
 
 pub returns-then-not-name_fits : goal.returns-then-not-name_fits

@@ -3,7 +3,6 @@
 use Rattle.names.proofs.Tests.{passes, fails}
 use Rattle.call_states.proofs.tested.Laws.{names_book_clean}
 use Rattle.call_states.proofs.tested.CallLaws.{name_wrong, name_full, name_ready, name_done}
-use borrow.Author.Rules.{rules}
 use Rattle.call_states.proofs.tested.name_state.Goals as goal
 
 pub returns-then-not-name_fits : goal.returns-then-not-name_fits

@@ -3,7 +3,6 @@
 use Rattle.book.specs.Words.{places_in}
 use Rattle.book.proofs.Places.{places_length}
 use Rattle.call_states.proofs.tested.PlaceLaws.{for_held, for_free}
-use borrow.Author.Rules.{rules}
 use Rattle.call_states.proofs.tested.place_for.Goals as goal
 
 pub returns-then-i-lt-MAX_STATES : goal.returns-then-i-lt-MAX_STATES

@@ -1,7 +1,6 @@
 -- `call_states::tested::reset` meets its contract: there is nothing to refuse.
 -- Assumes nothing.
 use Rattle.call_states.proofs.tested.CallLaws.{reset_ready, reset_done}
-use borrow.Author.Rules.{rules}
 use Rattle.call_states.proofs.tested.reset.Goals as goal
 
 pub reset-requires : goal.reset-requires

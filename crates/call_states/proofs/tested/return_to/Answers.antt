@@ -3,7 +3,6 @@
 use native.Mathlib.Omega.{arith}
 use Rattle.call_states.proofs.tested.Laws.{names_book_clean}
 use Rattle.call_states.proofs.tested.CallLaws.{return_unheld, return_ready, return_done}
-use borrow.Author.Rules.{rules}
 use Rattle.call_states.proofs.tested.return_to.Goals as goal
 
 pub held_place-held-requires : goal.held_place-held-requires

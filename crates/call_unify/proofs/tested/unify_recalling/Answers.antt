@@ -1,7 +1,6 @@
 -- `call_unify::tested::unify_recalling` meets its contract: 3 turns the call back, or the store is sound and both types are inside it, which is all that unifying asks.
 -- Assumes nothing.
 use Rattle.call_unify.proofs.tested.Laws.{passed, pair_asks, lent_words, back_own, unify_done, unify_form}
-use borrow.Author.Rules.{rules}
 use Rattle.call_unify.proofs.tested.unify_recalling.Goals as goal
 
 pub returns-then-refused-ne-NO_REFUSAL : goal.returns-then-refused-ne-NO_REFUSAL

@@ -1,5 +1,4 @@
 -- `library::asks::faroalder_find_related` meets its contract: it is `call_ask::find_related`, and its number gives its answer back. Assumes nothing.
-use borrow.Author.Rules.{rules}
 use Rattle.library.proofs.asks.faroalder_find_related.Goals as goal
 
 pub returns : goal.returns

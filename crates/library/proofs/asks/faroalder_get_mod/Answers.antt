@@ -1,5 +1,4 @@
 -- `library::asks::faroalder_get_mod` meets its contract: it is `call_ask::get_mod`, and its number and words give its answer back. Assumes nothing.
-use borrow.Author.Rules.{rules}
 use Rattle.library.proofs.asks.faroalder_get_mod.Goals as goal
 
 pub returns : goal.returns

@@ -1,5 +1,4 @@
 -- `library::asks::faroalder_is_nil` meets its contract: it is `call_ask::is_nil`, and its number gives its answer back. Assumes nothing.
-use borrow.Author.Rules.{rules}
 use Rattle.library.proofs.asks.faroalder_is_nil.Goals as goal
 
 pub returns : goal.returns

@@ -1,5 +1,4 @@
 -- `library::asks::faroalder_self_inverse` meets its contract: it is `call_ask::self_inverse`, and its number gives its answer back. Assumes nothing.
-use borrow.Author.Rules.{rules}
 use Rattle.library.proofs.asks.faroalder_self_inverse.Goals as goal
 
 pub returns : goal.returns

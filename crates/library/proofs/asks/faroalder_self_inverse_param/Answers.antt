@@ -1,5 +1,4 @@
 -- `library::asks::faroalder_self_inverse_param` meets its contract: it is `call_ask::self_inverse_param`, and its number gives its answer back. Assumes nothing.
-use borrow.Author.Rules.{rules}
 use Rattle.library.proofs.asks.faroalder_self_inverse_param.Goals as goal
 
 pub returns : goal.returns

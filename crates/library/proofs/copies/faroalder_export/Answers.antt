@@ -1,5 +1,4 @@
 -- `library::copies::faroalder_export` meets its contract: it is `call_copy::export`, and its number gives its answer back. Assumes nothing.
-use borrow.Author.Rules.{rules}
 use Rattle.library.proofs.copies.faroalder_export.Goals as goal
 
 pub returns : goal.returns

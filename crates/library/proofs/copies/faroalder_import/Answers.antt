@@ -1,5 +1,4 @@
 -- `library::copies::faroalder_import` meets its contract: it is `call_copy::import`, and its number gives its answer back. Assumes nothing.
-use borrow.Author.Rules.{rules}
 use Rattle.library.proofs.copies.faroalder_import.Goals as goal
 
 pub returns : goal.returns

@@ -1,5 +1,4 @@
 -- `library::forces::faroalder_finish_inference_where` meets its contract: it is `call_force::finish_inference_where`, and its number gives its answer back. Assumes nothing.
-use borrow.Author.Rules.{rules}
 use Rattle.library.proofs.forces.faroalder_finish_inference_where.Goals as goal
 
 pub returns : goal.returns

@@ -1,5 +1,4 @@
 -- `library::forces::faroalder_force_kind` meets its contract: it is `call_force::force_kind`, and its number and words give its answer back. Assumes nothing.
-use borrow.Author.Rules.{rules}
 use Rattle.library.proofs.forces.faroalder_force_kind.Goals as goal
 
 pub returns : goal.returns

@@ -1,5 +1,4 @@
 -- `library::leans::faroalder_lean_find` meets its contract: it is `tested_lean::find`, its number gives its answer back, and what it asks for is asked here. Assumes nothing.
-use borrow.Author.Rules.{rules}
 use Rattle.library.proofs.leans.faroalder_lean_find.Goals as goal
 
 pub returns : goal.returns

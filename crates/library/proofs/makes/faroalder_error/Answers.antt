@@ -1,5 +1,4 @@
 -- `library::makes::faroalder_error` meets its contract: it is `call_make::error`, and its number gives its answer back. Assumes nothing.
-use borrow.Author.Rules.{rules}
 use Rattle.library.proofs.makes.faroalder_error.Goals as goal
 
 pub returns : goal.returns

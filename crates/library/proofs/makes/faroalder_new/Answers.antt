@@ -1,5 +1,4 @@
 -- `library::makes::faroalder_new` meets its contract: it is `call_new::new`, and its number gives its answer back. Assumes nothing.
-use borrow.Author.Rules.{rules}
 use Rattle.library.proofs.makes.faroalder_new.Goals as goal
 
 pub returns : goal.returns

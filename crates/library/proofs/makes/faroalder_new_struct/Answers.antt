@@ -1,5 +1,4 @@
 -- `library::makes::faroalder_new_struct` meets its contract: it is `call_new::new_struct`, and its number gives its answer back. Assumes nothing.
-use borrow.Author.Rules.{rules}
 use Rattle.library.proofs.makes.faroalder_new_struct.Goals as goal
 
 pub returns : goal.returns

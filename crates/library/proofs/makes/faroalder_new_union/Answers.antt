@@ -1,5 +1,4 @@
 -- `library::makes::faroalder_new_union` meets its contract: it is `call_new::new_union`, and its number gives its answer back. Assumes nothing.
-use borrow.Author.Rules.{rules}
 use Rattle.library.proofs.makes.faroalder_new_union.Goals as goal
 
 pub returns : goal.returns

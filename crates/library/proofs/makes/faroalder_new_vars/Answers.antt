@@ -1,5 +1,4 @@
 -- `library::makes::faroalder_new_vars` meets its contract: it is `call_make::new_vars`, and its number gives its answer back. Assumes nothing.
-use borrow.Author.Rules.{rules}
 use Rattle.library.proofs.makes.faroalder_new_vars.Goals as goal
 
 pub returns : goal.returns

@@ -1,5 +1,4 @@
 -- `library::makes::faroalder_nil` meets its contract: it is `call_make::nil`, and its number gives its answer back. Assumes nothing.
-use borrow.Author.Rules.{rules}
 use Rattle.library.proofs.makes.faroalder_nil.Goals as goal
 
 pub returns : goal.returns

@@ -1,5 +1,4 @@
 -- `library::named::faroalder_drop_name` meets its contract: it is `call_states::drop_name`, and its number gives its answer back. Assumes nothing.
-use borrow.Author.Rules.{rules}
 use Rattle.library.proofs.named.faroalder_drop_name.Goals as goal
 
 pub returns : goal.returns

@@ -1,5 +1,4 @@
 -- `library::named::faroalder_name_state` meets its contract: it is `call_states::name_state`, and its number gives its answer back. Assumes nothing.
-use borrow.Author.Rules.{rules}
 use Rattle.library.proofs.named.faroalder_name_state.Goals as goal
 
 pub returns : goal.returns

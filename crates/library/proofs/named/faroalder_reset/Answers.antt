@@ -1,5 +1,4 @@
 -- `library::named::faroalder_reset` meets its contract: it is `call_states::reset`, and its number gives its answer back. Assumes nothing.
-use borrow.Author.Rules.{rules}
 use Rattle.library.proofs.named.faroalder_reset.Goals as goal
 
 pub returns : goal.returns

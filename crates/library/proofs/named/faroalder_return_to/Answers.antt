@@ -1,5 +1,4 @@
 -- `library::named::faroalder_return_to` meets its contract: it is `call_states::return_to`, and its number gives its answer back. Assumes nothing.
-use borrow.Author.Rules.{rules}
 use Rattle.library.proofs.named.faroalder_return_to.Goals as goal
 
 pub returns : goal.returns

@@ -1,5 +1,4 @@
 -- `library::opens::faroalder_names_refusal` meets its contract: it is `book_sound::names_refusal`. Assumes nothing.
-use borrow.Author.Rules.{rules}
 use Rattle.library.proofs.opens.faroalder_names_refusal.Goals as goal
 
 pub returns : goal.returns

@@ -1,5 +1,4 @@
 -- `library::opens::faroalder_open_names` meets its contract: it is `call_states::open_names`, and its number gives its answer back. Assumes nothing.
-use borrow.Author.Rules.{rules}
 use Rattle.library.proofs.opens.faroalder_open_names.Goals as goal
 
 pub returns : goal.returns

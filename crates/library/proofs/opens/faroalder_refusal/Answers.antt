@@ -1,5 +1,4 @@
 -- `library::opens::faroalder_refusal` meets its contract: it is `sound::refusal`. Assumes nothing.
-use borrow.Author.Rules.{rules}
 use Rattle.library.proofs.opens.faroalder_refusal.Goals as goal
 
 pub returns : goal.returns

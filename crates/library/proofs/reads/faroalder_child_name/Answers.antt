@@ -1,5 +1,4 @@
 -- `library::reads::faroalder_child_name` meets its contract: it is `call_read::child_name`, and its number and words give its answer back. Assumes nothing.
-use borrow.Author.Rules.{rules}
 use Rattle.library.proofs.reads.faroalder_child_name.Goals as goal
 
 pub returns : goal.returns

@@ -1,5 +1,4 @@
 -- `library::reads::faroalder_find` meets its contract: it is `call_find::find`, and its number gives its answer back. Assumes nothing.
-use borrow.Author.Rules.{rules}
 use Rattle.library.proofs.reads.faroalder_find.Goals as goal
 
 pub returns : goal.returns

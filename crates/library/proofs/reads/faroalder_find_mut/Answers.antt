@@ -1,5 +1,4 @@
 -- `library::reads::faroalder_find_mut` meets its contract: it is `call_find::find_mut`, and its number gives its answer back. Assumes nothing.
-use borrow.Author.Rules.{rules}
 use Rattle.library.proofs.reads.faroalder_find_mut.Goals as goal
 
 pub returns : goal.returns

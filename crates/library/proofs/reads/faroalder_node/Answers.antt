@@ -1,5 +1,4 @@
 -- `library::reads::faroalder_node` meets its contract: it is `call_read::node`, and its number and words give its answer back. Assumes nothing.
-use borrow.Author.Rules.{rules}
 use Rattle.library.proofs.reads.faroalder_node.Goals as goal
 
 pub returns : goal.returns

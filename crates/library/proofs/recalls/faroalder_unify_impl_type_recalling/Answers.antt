@@ -1,5 +1,4 @@
 -- `library::recalls::faroalder_unify_impl_type_recalling` meets its contract: it is `call_impl::unify_impl_type_recalling`, and its number gives its answer back. Assumes nothing.
-use borrow.Author.Rules.{rules}
 use Rattle.library.proofs.recalls.faroalder_unify_impl_type_recalling.Goals as goal
 
 pub returns : goal.returns

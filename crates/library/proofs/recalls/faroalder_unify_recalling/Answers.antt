@@ -1,5 +1,4 @@
 -- `library::recalls::faroalder_unify_recalling` meets its contract: it is `call_unify::unify_recalling`, and its number gives its answer back. Assumes nothing.
-use borrow.Author.Rules.{rules}
 use Rattle.library.proofs.recalls.faroalder_unify_recalling.Goals as goal
 
 pub returns : goal.returns

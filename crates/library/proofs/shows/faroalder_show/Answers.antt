@@ -6,7 +6,6 @@ use lib.Seq.{length-take-le}
 use Rattle.call_show.proofs.Laws.{show_hands}
 use Rattle.c_words.proofs.Laws.{counted_few, cut_promised}
 use Rattle.library.proofs.Laws.{low_count}
-use borrow.Author.Rules.{rules}
 use Rattle.library.proofs.shows.faroalder_show.Goals as goal
 
 pub slice_bounds-show-end : goal.slice_bounds-show-end

@@ -1,6 +1,5 @@
 -- `library::tested_asks::faroalder_tested_find_related` meets its contract: it is `call_ask::tested::find_related`, its number gives its answer back, and what it asks for is asked here.
 -- Assumes nothing.
-use borrow.Author.Rules.{rules}
 use Rattle.library.proofs.tested_asks.faroalder_tested_find_related.Goals as goal
 
 pub find_related-requires : goal.find_related-requires

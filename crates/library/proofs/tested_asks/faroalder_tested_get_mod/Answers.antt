@@ -1,6 +1,5 @@
 -- `library::tested_asks::faroalder_tested_get_mod` meets its contract: it is `call_ask::tested::get_mod`, its number and words give its answer back, and what it asks for is asked here.
 -- Assumes nothing.
-use borrow.Author.Rules.{rules}
 use Rattle.library.proofs.tested_asks.faroalder_tested_get_mod.Goals as goal
 
 pub get_mod-requires : goal.get_mod-requires

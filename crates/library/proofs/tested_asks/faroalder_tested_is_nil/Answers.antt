@@ -1,5 +1,4 @@
 -- `library::tested_asks::faroalder_tested_is_nil` meets its contract: it is `call_ask::tested::is_nil`, its number gives its answer back, and what it asks for is asked here. Assumes nothing.
-use borrow.Author.Rules.{rules}
 use Rattle.library.proofs.tested_asks.faroalder_tested_is_nil.Goals as goal
 
 pub is_nil-requires : goal.is_nil-requires

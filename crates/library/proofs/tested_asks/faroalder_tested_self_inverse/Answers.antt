@@ -1,6 +1,5 @@
 -- `library::tested_asks::faroalder_tested_self_inverse` meets its contract: it is `call_ask::tested::self_inverse`, its number gives its answer back, and what it asks for is asked here.
 -- Assumes nothing.
-use borrow.Author.Rules.{rules}
 use Rattle.library.proofs.tested_asks.faroalder_tested_self_inverse.Goals as goal
 
 pub self_inverse-requires : goal.self_inverse-requires

@@ -1,6 +1,5 @@
 -- `library::tested_asks::faroalder_tested_self_inverse_param` meets its contract: it is `call_ask::tested::self_inverse_param`, its number gives its answer back, and what it asks for is asked here.
 -- Assumes nothing.
-use borrow.Author.Rules.{rules}
 use Rattle.library.proofs.tested_asks.faroalder_tested_self_inverse_param.Goals as goal
 
 pub self_inverse_param-requires : goal.self_inverse_param-requires

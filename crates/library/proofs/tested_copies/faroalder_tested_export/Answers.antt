@@ -1,5 +1,4 @@
 -- `library::tested_copies::faroalder_tested_export` meets its contract: it is `tested_export::export`, its number gives its answer back, and what it asks for is asked here. Assumes nothing.
-use borrow.Author.Rules.{rules}
 use Rattle.library.proofs.tested_copies.faroalder_tested_export.Goals as goal
 
 pub export-requires : goal.export-requires

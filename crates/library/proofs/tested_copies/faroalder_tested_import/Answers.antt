@@ -1,5 +1,4 @@
 -- `library::tested_copies::faroalder_tested_import` meets its contract: it is `tested_import::import`, its number gives its answer back, and what it asks for is asked here. Assumes nothing.
-use borrow.Author.Rules.{rules}
 use Rattle.library.proofs.tested_copies.faroalder_tested_import.Goals as goal
 
 pub import-requires : goal.import-requires

@@ -1,6 +1,5 @@
 -- `library::tested_forces::faroalder_tested_finish_inference` meets its contract: it is `call_force::tested::finish_inference`, its number gives its answer back, and what it asks for is asked here.
 -- Assumes nothing.
-use borrow.Author.Rules.{rules}
 use Rattle.library.proofs.tested_forces.faroalder_tested_finish_inference.Goals as goal
 
 pub finish_inference-requires : goal.finish_inference-requires

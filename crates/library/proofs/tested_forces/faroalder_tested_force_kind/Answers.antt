@@ -1,6 +1,5 @@
 -- `library::tested_forces::faroalder_tested_force_kind` meets its contract: it is `call_force::tested::force_kind`, its number and words give its answer back, and what it asks for is asked here.
 -- Assumes nothing.
-use borrow.Author.Rules.{rules}
 use Rattle.library.proofs.tested_forces.faroalder_tested_force_kind.Goals as goal
 
 pub force_kind-requires : goal.force_kind-requires

@@ -1,5 +1,4 @@
 -- `library::tested_makes::faroalder_tested_error` meets its contract: it is `call_make::tested::error`, its number gives its answer back, and what it asks for is asked here. Assumes nothing.
-use borrow.Author.Rules.{rules}
 use Rattle.library.proofs.tested_makes.faroalder_tested_error.Goals as goal
 
 pub error-requires : goal.error-requires

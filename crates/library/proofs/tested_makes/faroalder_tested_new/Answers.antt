@@ -1,5 +1,4 @@
 -- `library::tested_makes::faroalder_tested_new` meets its contract: it is `tested_new::new`, its number gives its answer back, and what it asks for is asked here. Assumes nothing.
-use borrow.Author.Rules.{rules}
 use Rattle.library.proofs.tested_makes.faroalder_tested_new.Goals as goal
 
 pub new-requires : goal.new-requires

@@ -1,5 +1,4 @@
 -- `library::tested_makes::faroalder_tested_new_var` meets its contract: it is `call_make::tested::new_var`, its number gives its answer back, and what it asks for is asked here. Assumes nothing.
-use borrow.Author.Rules.{rules}
 use Rattle.library.proofs.tested_makes.faroalder_tested_new_var.Goals as goal
 
 pub new_var-requires : goal.new_var-requires

@@ -1,5 +1,4 @@
 -- `library::tested_makes::faroalder_tested_new_vars` meets its contract: it is `call_make::tested::new_vars`, its number gives its answer back, and what it asks for is asked here. Assumes nothing.
-use borrow.Author.Rules.{rules}
 use Rattle.library.proofs.tested_makes.faroalder_tested_new_vars.Goals as goal
 
 pub new_vars-requires : goal.new_vars-requires

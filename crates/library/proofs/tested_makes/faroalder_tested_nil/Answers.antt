@@ -1,5 +1,4 @@
 -- `library::tested_makes::faroalder_tested_nil` meets its contract: it is `call_make::tested::nil`, its number gives its answer back, and what it asks for is asked here. Assumes nothing.
-use borrow.Author.Rules.{rules}
 use Rattle.library.proofs.tested_makes.faroalder_tested_nil.Goals as goal
 
 pub nil-requires : goal.nil-requires

@@ -1,6 +1,5 @@
 -- `library::tested_named::faroalder_tested_name_state` meets its contract: it is `call_states::tested::name_state`, its number gives its answer back, and
 -- what it asks for is asked here. Assumes nothing.
-use borrow.Author.Rules.{rules}
 use Rattle.library.proofs.tested_named.faroalder_tested_name_state.Goals as goal
 
 pub name_state-requires : goal.name_state-requires

@@ -1,5 +1,4 @@
 -- `library::tested_named::faroalder_tested_reset` meets its contract: it is `call_states::tested::reset`, its number gives its answer back, and what it asks for is asked here. Assumes nothing.
-use borrow.Author.Rules.{rules}
 use Rattle.library.proofs.tested_named.faroalder_tested_reset.Goals as goal
 
 pub reset-requires : goal.reset-requires

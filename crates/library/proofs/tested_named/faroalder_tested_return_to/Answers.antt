@@ -1,6 +1,5 @@
 -- `library::tested_named::faroalder_tested_return_to` meets its contract: it is `call_states::tested::return_to`, its number gives its answer back, and
 -- what it asks for is asked here. Assumes nothing.
-use borrow.Author.Rules.{rules}
 use Rattle.library.proofs.tested_named.faroalder_tested_return_to.Goals as goal
 
 pub return_to-requires : goal.return_to-requires

@@ -1,5 +1,4 @@
 -- `library::tested_reads::faroalder_tested_child` meets its contract: it is `call_read::tested::child`, its number and words give its answer back, and what it asks for is asked here. Assumes nothing.
-use borrow.Author.Rules.{rules}
 use Rattle.library.proofs.tested_reads.faroalder_tested_child.Goals as goal
 
 pub child-requires : goal.child-requires

@@ -1,6 +1,5 @@
 -- `library::tested_reads::faroalder_tested_child_name` meets its contract: it is `call_read::tested::child_name`, its number and words give its answer back, and what it asks for is asked here.
 -- Assumes nothing.
-use borrow.Author.Rules.{rules}
 use Rattle.library.proofs.tested_reads.faroalder_tested_child_name.Goals as goal
 
 pub child_name-requires : goal.child_name-requires

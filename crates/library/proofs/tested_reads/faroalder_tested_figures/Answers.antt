@@ -1,6 +1,5 @@
 -- `library::tested_reads::faroalder_tested_figures` meets its contract: it is `call_read::tested::figures`, its number and words give its answer back, and what it asks for is asked here.
 -- Assumes nothing.
-use borrow.Author.Rules.{rules}
 use Rattle.library.proofs.tested_reads.faroalder_tested_figures.Goals as goal
 
 pub figures-requires : goal.figures-requires

@@ -1,5 +1,4 @@
 -- `library::tested_reads::faroalder_tested_find_mut` meets its contract: it is `call_find::tested::find_mut`, its number gives its answer back, and what it asks for is asked here. Assumes nothing.
-use borrow.Author.Rules.{rules}
 use Rattle.library.proofs.tested_reads.faroalder_tested_find_mut.Goals as goal
 
 pub find_mut-requires : goal.find_mut-requires

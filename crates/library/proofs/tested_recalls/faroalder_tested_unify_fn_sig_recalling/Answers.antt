@@ -1,6 +1,5 @@
 -- `library::tested_recalls::faroalder_tested_unify_fn_sig_recalling` meets its contract: it is `tested_unify_lists::unify_fn_sig_recalling`, its number gives
 -- its answer back, and what it asks for is asked here. Assumes nothing.
-use borrow.Author.Rules.{rules}
 use Rattle.library.proofs.tested_recalls.faroalder_tested_unify_fn_sig_recalling.Goals as goal
 
 pub unify_fn_sig_recalling-requires : goal.unify_fn_sig_recalling-requires

@@ -1,6 +1,5 @@
 -- `library::tested_recalls::faroalder_tested_unify_impl_type_recalling` meets its contract: it is `call_impl::tested::unify_impl_type_recalling`, its number gives
 -- its answer back, and what it asks for is asked here. Assumes nothing.
-use borrow.Author.Rules.{rules}
 use Rattle.library.proofs.tested_recalls.faroalder_tested_unify_impl_type_recalling.Goals as goal
 
 pub unify_impl_type_recalling-requires : goal.unify_impl_type_recalling-requires

@@ -6,7 +6,6 @@ use lib.Seq.{length-take-le}
 use Rattle.call_show.proofs.Laws.{impl_hands}
 use Rattle.c_words.proofs.Laws.{counted_few, cut_promised}
 use Rattle.library.proofs.Laws.{low_count}
-use borrow.Author.Rules.{rules}
 use Rattle.library.proofs.tested_shows.faroalder_tested_show_impl_type.Goals as goal
 
 pub slice_bounds-show_impl_type-end : goal.slice_bounds-show_impl_type-end

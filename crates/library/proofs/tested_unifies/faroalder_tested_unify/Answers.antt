@@ -1,5 +1,4 @@
 -- `library::tested_unifies::faroalder_tested_unify` meets its contract: it is `call_unify::tested::unify`, its number gives its answer back, and what it asks for is asked here. Assumes nothing.
-use borrow.Author.Rules.{rules}
 use Rattle.library.proofs.tested_unifies.faroalder_tested_unify.Goals as goal
 
 pub unify-requires : goal.unify-requires

@@ -1,6 +1,5 @@
 -- `library::tested_unifies::faroalder_tested_unify_fn_sig` meets its contract: it is `tested_unify_lists::unify_fn_sig`, its number gives its answer back, and
 -- what it asks for is asked here. Assumes nothing.
-use borrow.Author.Rules.{rules}
 use Rattle.library.proofs.tested_unifies.faroalder_tested_unify_fn_sig.Goals as goal
 
 pub unify_fn_sig-requires : goal.unify_fn_sig-requires

@@ -1,6 +1,5 @@
 -- `library::tested_unifies::faroalder_tested_unify_impl_type` meets its contract: it is `call_impl::tested::unify_impl_type`, its number gives its answer back, and
 -- what it asks for is asked here. Assumes nothing.
-use borrow.Author.Rules.{rules}
 use Rattle.library.proofs.tested_unifies.faroalder_tested_unify_impl_type.Goals as goal
 
 pub unify_impl_type-requires : goal.unify_impl_type-requires

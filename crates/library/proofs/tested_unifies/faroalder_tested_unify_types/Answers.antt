@@ -1,6 +1,5 @@
 -- `library::tested_unifies::faroalder_tested_unify_types` meets its contract: it is `tested_unify_lists::unify_types`, its number gives its answer back, and
 -- what it asks for is asked here. Assumes nothing.
-use borrow.Author.Rules.{rules}
 use Rattle.library.proofs.tested_unifies.faroalder_tested_unify_types.Goals as goal
 
 pub unify_types-requires : goal.unify_types-requires

@@ -1,5 +1,4 @@
 -- `library::unifies::faroalder_approx_eq` meets its contract: it is `call_impl::approx_eq`, and its number gives its answer back. Assumes nothing.
-use borrow.Author.Rules.{rules}
 use Rattle.library.proofs.unifies.faroalder_approx_eq.Goals as goal
 
 pub returns : goal.returns

@@ -1,5 +1,4 @@
 -- `library::unifies::faroalder_unify` meets its contract: it is `call_unify::unify`, and its number gives its answer back. Assumes nothing.
-use borrow.Author.Rules.{rules}
 use Rattle.library.proofs.unifies.faroalder_unify.Goals as goal
 
 pub returns : goal.returns

@@ -1,5 +1,4 @@
 -- `library::unifies::faroalder_unify_impl_type` meets its contract: it is `call_impl::unify_impl_type`, and its number gives its answer back. Assumes nothing.
-use borrow.Author.Rules.{rules}
 use Rattle.library.proofs.unifies.faroalder_unify_impl_type.Goals as goal
 
 pub returns : goal.returns

@@ -1,5 +1,4 @@
 -- `library::unifies::faroalder_unify_types` meets its contract: it is `call_unify_lists::unify_types`, and its number gives its answer back. Assumes nothing.
-use borrow.Author.Rules.{rules}
 use Rattle.library.proofs.unifies.faroalder_unify_types.Goals as goal
 
 pub returns : goal.returns

@@ -1,6 +1,5 @@
 -- `types::Type::invert_if` meets its contract: an inversion that is set is what `inverse` ensures, and one that is not changes nothing.
 -- Assumes nothing.
-use borrow.Author.Rules.{rules}
 use Rattle.types.proofs.Type.invert_if.Goals as goal
 
 pub returns-then-inv : goal.returns-then-inv

@@ -1,6 +1,5 @@
 -- `types::Type::new` meets its contract: it is what `invert_if` ensures of the node number taken as a type.
 -- Assumes nothing.
-use borrow.Author.Rules.{rules}
 use Rattle.types.proofs.Type.new.Goals as goal
 
 pub returns : goal.returns

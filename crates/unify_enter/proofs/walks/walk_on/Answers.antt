@@ -1,7 +1,6 @@
 -- `unify_enter::walks::walk_on` meets its contract: what the memory tells, an answer of a walk that is noted where it is a Failure, or a merge of which the memory is told.
 -- Assumes nothing.
 use Rattle.unify_enter.proofs.walks.Laws.{walk_told, walk_done, walk_binds}
-use borrow.Author.Rules.{rules}
 use Rattle.unify_enter.proofs.walks.walk_on.Goals as goal
 
 pub returns-in-Is : goal.returns-in-Is

@@ -3,7 +3,6 @@
 -- Assumes nothing.
 use Rattle.unify_enter.proofs.walks.Laws.{walk_agrees, walk_known, walk_inside, walk_told, own_asks, own_tidy, walk_own}
 use Rattle.unify_enter.proofs.walks.SmallLaws.{small_walks, small_walk_asks, small_walk_not}
-use borrow.Author.Rules.{rules}
 use Rattle.unify_enter.proofs.walks.walk_pair.Goals as goal
 
 pub returns-then-not-xor : goal.returns-then-not-xor
