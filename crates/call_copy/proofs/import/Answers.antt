@@ -9,4 +9,6 @@ returns-then-broken-ne-NO_REFUSAL c = let a = c.args in
     stores_back c.stores-broken.ensures c.if-broken-ne-NO_REFUSAL.true a.ts.now (list_of a.listed a.params.now) a.out.now
 
 pub import-requires : goal.import-requires
-import-requires c = both_tested c.stores-broken.ensures c.if-broken-ne-NO_REFUSAL.false
+import-requires c =
+    let both = both_tested c.stores-broken.ensures c.if-broken-ne-NO_REFUSAL.false in
+    record { tested = both.0; tested_2 = both.1 }

@@ -15,7 +15,7 @@ use Rattle.sheet_calls.proofs.plain_line.Goals as goal
 
 pub made-requires : goal.made-requires
 made-requires c =
-    (c.requires.sheet_store, (rw c.in-Make.is at c.requires.plain_fits, c.requires.in_bounds))
+    record { sheet_store = c.requires.sheet_store; maker_fits = rw c.in-Make.is at c.requires.plain_fits; in_bounds = c.requires.in_bounds }
 
 pub enum_told-1 : goal.enum_told-1
 enum_told-1 c = search rules

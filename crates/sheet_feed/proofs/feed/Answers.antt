@@ -17,7 +17,7 @@ returns-then-piece-e c =
 
 pub end_line-n-requires : goal.end_line-n-requires
 end_line-n-requires c =
-    (c.requires.sheet_store, (c.requires.in_bounds, omega (arith, c.put-q.auto.buf, c.requires.line_len)))
+    record { sheet_store = c.requires.sheet_store; in_bounds = c.requires.in_bounds; line_len = omega (arith, c.put-q.auto.buf, c.requires.line_len) }
 
 pub returns : goal.returns
 returns c =

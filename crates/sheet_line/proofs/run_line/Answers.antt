@@ -8,7 +8,7 @@ use Rattle.sheet_line.proofs.run_line.Goals as goal
 
 pub plain_line-requires : goal.plain_line-requires
 plain_line-requires c =
-    (c.requires.sheet_store, (rw c.in-Plain.is at c.parse-l.ensures.fits, (omega (arith, c.parse-l.auto), c.requires.in_bounds)))
+    record { sheet_store = c.requires.sheet_store; plain_fits = rw c.in-Plain.is at c.parse-l.ensures.fits; in_bounds = omega arith; in_bounds_2 = c.requires.in_bounds }
 
 pub returns-in-Plain : goal.returns-in-Plain
 returns-in-Plain c =

@@ -49,7 +49,7 @@ slice_bounds-run_line-end-in-loop-i-4 c = omega (arith, c.loop-i.invariant.1.tex
 
 pub run_line-n-requires : goal.run_line-n-requires
 run_line-n-requires c = let turn = c.loop-i.invariant in
-    (turn.0.store, omega (arith, turn.1.text))
+    record { sheet_store = turn.0.store; in_bounds = omega (arith, turn.1.text) }
 
 pub slice_bounds-text-end : goal.slice_bounds-text-end
 slice_bounds-text-end c =

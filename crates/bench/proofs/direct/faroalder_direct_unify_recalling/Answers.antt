@@ -12,4 +12,4 @@ unify_all-requires c =
 pub returns : goal.returns
 returns c =
     let n = number_result c.unify_all.result c.number.result c.number.ensures in
-    (n.0, rw n.1 c.unify_all.ensures.leaves)
+    record { upper_bound = n.0; leaves = rw n.1 c.unify_all.ensures.leaves }
