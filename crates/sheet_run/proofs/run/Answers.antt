@@ -17,9 +17,9 @@ loop-i-init c =
       turn_first c.start.ensures,
       record {
         memory = refl;
-        head = omega (arith, kept.0);
-        nodes = omega (arith, kept.1.0);
-        kids = omega (arith, kept.1.1.0);
+        head = omega (arith, kept.h);
+        nodes = omega (arith, kept.ws);
+        kids = omega (arith, kept.ks);
         text = search rules;
       },
     )
@@ -79,11 +79,11 @@ loop-i-preserved c =
     let next = turn_next turn.0 c.line_end-e.result more c.line_end-e.ensures c.run_line-n.ensures c.next_start-i.ensures printed c.put_byte-at.ensures in (
       next,
       record {
-        memory = omega (arith, kept.1.1.1.0, long.memory);
-        head = omega (arith, kept.0, long.head);
-        nodes = omega (arith, kept.1.0, long.nodes);
-        kids = omega (arith, kept.1.1.0, long.kids);
-        text = omega (arith, kept.1.1.1.1.1.0, long.text);
+        memory = omega (arith, kept.memory, long.memory);
+        head = omega (arith, kept.h, long.head);
+        nodes = omega (arith, kept.ws, long.nodes);
+        kids = omega (arith, kept.ks, long.kids);
+        text = omega (arith, kept.out, long.text);
       },
     )
 
