@@ -12,7 +12,8 @@ use lib.ListN.{length, get_or-eq_default}
 use Rattle.scope.specs.Base.{all}
 use Rattle.scope.specs.Limits.{MAX_RECORDS, SIGILS}
 use Rattle.scope.specs.Names.{name, name_ok, texts_ok}
-use Rattle.scope.specs.Chart.{Env, Record, no_record, record_at, sort_at, sigil_at, is_trait, flag_ok, trait_ok, record_ok, sigil_ok, sigils_ok, fn_trait_ok, chart_ok, TRAIT_SORT, TRAIT_FN_SORT, NO_SORT}
+use Rattle.scope.specs.Chart.{Env, Record, no_record, record_at, sort_at, sigil_at, is_trait, flag_ok}
+use Rattle.scope.specs.Chart.{trait_ok, record_ok, sigil_ok, sigils_ok, fn_trait_ok, chart_ok, TRAIT_SORT, TRAIT_FN_SORT, NO_SORT}
 use Rattle.names.proofs.Tests.{both}
 use Rattle.chart.specs.declared.Beside.{Beside}
 use Rattle.chart.specs.Words.{RECORD_WORDS}

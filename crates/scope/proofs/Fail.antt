@@ -47,7 +47,7 @@ pub record Witness (e : Env) (n : ℕ) (g : View) (v : Val) : Type 0 where
   pub node : ℕ
   pub below : node < n
   pub no_kind : g.st (g.rep node).idx ≡ unknown
-  pub self_inverse_lem : invert e (v node) ≡ v node
+  pub own_inverse : invert e (v node) ≡ v node
 
 -- sizes of trees
 mutual
@@ -152,7 +152,7 @@ module _ (E : Env) where
       go : (s : VState) → g.st a ≡ s → self_st false T s ≡ false
           → ((z : ℕ) (ms : List ℕ) → g.rep z ≡ ty false z → z < n → Chain g z ms → free n ms ≤ f → self_inverse false f g z ≡ false
           → invert E (v z) ≡ v z → Witness E n g v) → Witness E n g v
-      go unknown r e ih = record { node = a; below = h; no_kind = ap (λ (x : Ty). g.st x.idx) t ∙ r; self_inverse_lem = i }
+      go unknown r e ih = record { node = a; below = h; no_kind = ap (λ (x : Ty). g.st x.idx) t ∙ r; own_inverse = i }
       go (known j k) r e ih =
           let b : v a ≡ invert_if E j (build E v k) = den_known E v (v a) r (fit.state a) in
           let sk = self_kids v k (env.kinds a j k r).made.make (self_invert_if j (build E v k) (ap (invert E) (sym b) ∙ i ∙ b)) in
@@ -167,7 +167,7 @@ module _ (E : Env) where
     node = x.node;
     below = x.below;
     no_kind = go (g.st (g.rep x.node).idx) refl;
-    self_inverse_lem = x.self_inverse_lem;
+    own_inverse = x.own_inverse;
   }
     where
       go : (s : VState) → g.st (g.rep x.node).idx ≡ s → g.st (g.rep x.node).idx ≡ unknown

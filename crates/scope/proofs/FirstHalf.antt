@@ -167,7 +167,7 @@ fails e s r d a b q v f p = unify_cases e s r.facts (λ o. given o ≡ some Fail
       node = w.node;
       made = w.below;
       no_kind = unknown_state (state_of (at ns (find ns (ty false w.node)).idx)) w.no_kind;
-      self_inverse_lem = w.self_inverse_lem;
+      own_inverse = w.own_inverse;
     }
 
 -- "First half": of every list from a store just opened

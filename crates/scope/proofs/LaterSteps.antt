@@ -15,7 +15,8 @@ use Rattle.scope.specs.Chart.{Env}
 use Rattle.scope.specs.Types.{Ty}
 use Rattle.scope.specs.Nodes.{Node, Store, with_nodes}
 use Rattle.scope.specs.Answers.{Failure}
-use Rattle.scope.specs.Unify.{Plan, answers, run_plan, object_plan, after, carry, unify_types, unify_objects, ImplType, Trait, Error, impl_plan, unify_impl_type, unify_fn_sig, approx_eq, self_inverse_of}
+use Rattle.scope.specs.Unify.{Plan, answers, run_plan, object_plan, after, carry, unify_types, unify_objects}
+use Rattle.scope.specs.Unify.{ImplType, Trait, Error, impl_plan, unify_impl_type, unify_fn_sig, approx_eq, self_inverse_of}
 use Rattle.scope.specs.Force.{finish_where, finish_inference, find_related, is_nil, get_mod}
 use Rattle.scope.specs.Show.{show, show_impl_type}
 use Rattle.scope.specs.Sound.{reads, in_store}

@@ -16,7 +16,8 @@ use Rattle.scope.specs.Make.{bare}
 use Rattle.scope.specs.Import.{copies}
 use Rattle.scope.specs.Sound.{Lent, reads, rooted}
 use Rattle.scope.specs.Calls.{Outcome, refused, done, store_of, kind_made, NewKind, over, Entries, find_call, find_mut_call, node_call, child_call, name_call, figures_call, new_call, new_struct_call}
-use Rattle.scope.specs.Calls.{new_union_call, new_var_call, new_vars_call, error_call, nil_call, unify_call, unify_types_call, unify_objects_call, unify_impl_type_call, approx_eq_call, unify_fn_sig_call}
+use Rattle.scope.specs.Calls.{new_union_call, new_var_call, new_vars_call, error_call, nil_call}
+use Rattle.scope.specs.Calls.{unify_call, unify_types_call, unify_objects_call, unify_impl_type_call, approx_eq_call, unify_fn_sig_call}
 use Rattle.scope.specs.Calls.{force_kind_call, finish_inference_call, finish_where_call, find_related_call, self_inverse_call, is_nil_call, get_mod_call, import_call, export_call, show_call}
 use Rattle.scope.specs.Calls.{show_impl_type_call}
 use Rattle.scope.specs.Trees.{invert, Val, Proper, StateFits, NodeFits, Fits, PairFits}
@@ -212,7 +213,7 @@ pub record SelfInverseNode (e : Env) (v : Val) (ns : List Node) : Type 0 where
   pub node : ℕ
   pub made : node < length ns
   pub no_kind : is_known (state_at ns (record { inv = false; idx = node })) ≡ false
-  pub self_inverse_lem : invert e (v node) ≡ v node
+  pub own_inverse : invert e (v node) ≡ v node
 
 -- the first half, of one list
 pub record FirstHalf (e : Env) (s : Store) (cs : List Call) : Type 0 where

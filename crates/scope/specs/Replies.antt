@@ -9,7 +9,8 @@ use Rattle.scope.specs.Answers.{Answer}
 use Rattle.scope.specs.Force.{Forced, Mod}
 use Rattle.scope.specs.Sound.{reads}
 use Rattle.scope.specs.Calls.{Outcome, refused, done, Exported, Printed, find_call, find_mut_call, node_call, child_call, name_call, figures_call, new_call, new_struct_call, new_union_call}
-use Rattle.scope.specs.Calls.{new_var_call, new_vars_call, error_call, nil_call, unify_call, unify_types_call, unify_objects_call, unify_impl_type_call, approx_eq_call, unify_fn_sig_call, force_kind_call}
+use Rattle.scope.specs.Calls.{new_var_call, new_vars_call, error_call, nil_call, unify_call}
+use Rattle.scope.specs.Calls.{unify_types_call, unify_objects_call, unify_impl_type_call, approx_eq_call, unify_fn_sig_call, force_kind_call}
 use Rattle.scope.specs.Calls.{finish_inference_call, finish_where_call, find_related_call, self_inverse_call, is_nil_call, get_mod_call, import_call, export_call, show_call, show_impl_type_call}
 use Rattle.scope.specs.Demand.{Maker, new, new_var, new_struct, new_union, new_vars, error, nil, Read, find, find_mut, export, node, child, name, figures, Later, unify_types, unify_objects}
 use Rattle.scope.specs.Demand.{unify_impl_type, unify_fn_sig, finish_inference, finish_where, find_related, self_inverse, is_nil, get_mod, approx_eq, show, show_impl_type, Call, make, import}

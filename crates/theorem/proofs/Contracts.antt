@@ -63,7 +63,7 @@ contracts = record {
   finish_inference_where = record { free = λ κs a. tt; is = λ κs a r x p. ran.finish_inference_where (arg1 a).now r p };
   find_related = record { free = λ κs a. tt; is = λ κs a r x p. ran.find_related (arg2 a) (arg1 a).now (arg1 x).now r p };
   self_inverse_param = record { free = λ κs a. tt; is = λ κs a r x p. ran.self_inverse_param (arg1 a) (arg2 a) r p };
-  self_inverse_lem = record { free = λ κs a. tt; is = λ κs a r x p. ran.self_inverse_lem (arg1 a) r p };
+  self_inverse = record { free = λ κs a. tt; is = λ κs a r x p. ran.self_inverse (arg1 a) r p };
   is_nil = record { free = λ κs a. tt; is = λ κs a r x p. ran.is_nil (arg1 a) r p };
   get_mod = record { free = λ κs a. tt; is = λ κs a r x p. ran.get_mod (arg1 a) r p };
   approx_eq = record { free = λ κs a. tt; is = λ κs a r x p. ran.approx_eq (arg1 a) (arg2 a).now (arg3 a) (arg4 a).now r p };

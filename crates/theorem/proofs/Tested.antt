@@ -62,7 +62,7 @@ tested_forms = record {
   finish_inference_where = record { asks = λ κs a t. t; is = λ κs a r x p. p };
   find_related = record { asks = λ κs a t. t; is = λ κs a r x p. p };
   self_inverse_param = record { asks = λ κs a t. t; is = λ κs a r x p. p };
-  self_inverse_lem = record { asks = λ κs a t. t; is = λ κs a r x p. p };
+  self_inverse = record { asks = λ κs a t. t; is = λ κs a r x p. p };
   is_nil = record { asks = λ κs a t. t; is = λ κs a r x p. p };
   get_mod = record { asks = λ κs a t. t; is = λ κs a r x p. p };
   approx_eq = record { asks = λ κs a t. t; is = λ κs a r x p. p };

@@ -191,10 +191,12 @@ pub record Contracts : Type 0 where
       (λ κs a r x. RanOn a (nodes_in a) (call.later (call.unify_objects (entries_in (arg2 a).now) (entries_in (arg3 a).now) (arg4 a).0)) (replied says.answer (unify_reply r)) (nodes_left a x))
   pub unify_impl_type : Allows call_impl.unify_impl_type.Kinds.ps call_impl.unify_impl_type.Kinds.r
       call_impl.unify_impl_type.Reads.Asked call_impl.unify_impl_type.Reads.Learnt
-      (λ κs a r x. RanOn a (nodes_in a) (call.later (call.unify_impl_type (impl_means (arg1 a) (arg2 a).now) (impl_means (arg3 a) (arg4 a).now))) (replied says.answer (unify_reply r)) (nodes_left a x))
+      (λ κs a r x. RanOn a (nodes_in a) (call.later (call.unify_impl_type (impl_means (arg1 a) (arg2 a).now) (impl_means (arg3 a) (arg4 a).now)))
+      (replied says.answer (unify_reply r)) (nodes_left a x))
   pub unify_impl_type_recalling : Allows call_impl.unify_impl_type_recalling.Kinds.ps call_impl.unify_impl_type_recalling.Kinds.r
       call_impl.unify_impl_type_recalling.Reads.Asked call_impl.unify_impl_type_recalling.Reads.Learnt
-      (λ κs a r x. RanOn a (nodes_in a) (call.later (call.unify_impl_type (impl_means (arg2 a) (arg3 a).now) (impl_means (arg4 a) (arg5 a).now))) (replied says.answer (unify_reply r)) (nodes_left a x))
+      (λ κs a r x. RanOn a (nodes_in a) (call.later (call.unify_impl_type (impl_means (arg2 a) (arg3 a).now) (impl_means (arg4 a) (arg5 a).now)))
+      (replied says.answer (unify_reply r)) (nodes_left a x))
   pub unify_fn_sig : Allows call_unify_lists.unify_fn_sig.Kinds.ps call_unify_lists.unify_fn_sig.Kinds.r call_unify_lists.unify_fn_sig.Reads.Asked call_unify_lists.unify_fn_sig.Reads.Learnt
       (λ κs a r x. RanOn a (nodes_in a) (call.later (call.unify_fn_sig (types_in (arg1 a).now) (ty_of (arg2 a).0) (types_in (arg3 a).now) (ty_of (arg4 a).0)))
       (replied says.answer (unify_reply r)) (nodes_left a x))
@@ -211,7 +213,7 @@ pub record Contracts : Type 0 where
       (λ κs a r x. RanOn a (words_read a) (call.later (call.find_related (ty_of (arg2 a).0) (arg1 a).now)) (replied says.marks (marks_reply (arg1 x).now r)) (words_read a))
   pub self_inverse_param : Allows call_ask.self_inverse_param.Kinds.ps call_ask.self_inverse_param.Kinds.r call_ask.self_inverse_param.Reads.Asked call_ask.self_inverse_param.Reads.Learnt
       (λ κs a r x. RanOn a (words_read a) (call.later (call.self_inverse (ty_of (arg1 a).0) (arg2 a))) (replied says.flag (bool_reply r)) (words_read a))
-  pub self_inverse_lem : Allows call_ask.self_inverse.Kinds.ps call_ask.self_inverse.Kinds.r call_ask.self_inverse.Reads.Asked call_ask.self_inverse.Reads.Learnt
+  pub self_inverse : Allows call_ask.self_inverse.Kinds.ps call_ask.self_inverse.Kinds.r call_ask.self_inverse.Reads.Asked call_ask.self_inverse.Reads.Learnt
       (λ κs a r x. RanOn a (words_read a) (call.later (call.self_inverse (ty_of (arg1 a).0) false)) (replied says.flag (bool_reply r)) (words_read a))
   pub is_nil : Allows call_ask.is_nil.Kinds.ps call_ask.is_nil.Kinds.r call_ask.is_nil.Reads.Asked call_ask.is_nil.Reads.Learnt
       (λ κs a r x. RanOn a (words_read a) (call.later (call.is_nil (ty_of (arg1 a).0))) (replied says.flag (bool_reply r)) (words_read a))

@@ -114,7 +114,7 @@ pub data Ran (f : Fixed) : Memory → Call → Reply → Memory → Type 0 where
       → Ran f m (call.later (call.find_related (ty_of t.0) marks)) (replied says.marks (marks_reply marks' r)) m
   self_inverse_param : {m : Memory} (t : «Type») (param : Bool) (r : BoolAnswer) → Told (self_inverse_call (env f) (lent m) (ty_of t.0) param) (bool_reply r) m
       → Ran f m (call.later (call.self_inverse (ty_of t.0) param)) (replied says.flag (bool_reply r)) m
-  self_inverse_lem : {m : Memory} (t : «Type») (r : BoolAnswer) → Told (self_inverse_call (env f) (lent m) (ty_of t.0) false) (bool_reply r) m
+  self_inverse : {m : Memory} (t : «Type») (r : BoolAnswer) → Told (self_inverse_call (env f) (lent m) (ty_of t.0) false) (bool_reply r) m
       → Ran f m (call.later (call.self_inverse (ty_of t.0) false)) (replied says.flag (bool_reply r)) m
   is_nil : {m : Memory} (t : «Type») (r : BoolAnswer) → Told (is_nil_call (env f) (lent m) (ty_of t.0)) (bool_reply r) m
       → Ran f m (call.later (call.is_nil (ty_of t.0))) (replied says.flag (bool_reply r)) m

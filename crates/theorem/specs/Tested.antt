@@ -116,7 +116,7 @@ pub record TestedForms : Type 0 where
       tested_ask.find_related.Reads.Asked tested_ask.find_related.Reads.Learnt call_ask.find_related.Reads.Learnt
   pub self_inverse_param : Form tested_ask.self_inverse_param.Kinds.ps tested_ask.self_inverse_param.Kinds.r (λ κs a. OnTested a (words_read a))
       tested_ask.self_inverse_param.Reads.Asked tested_ask.self_inverse_param.Reads.Learnt call_ask.self_inverse_param.Reads.Learnt
-  pub self_inverse_lem : Form tested_ask.self_inverse.Kinds.ps tested_ask.self_inverse.Kinds.r (λ κs a. OnTested a (words_read a))
+  pub self_inverse : Form tested_ask.self_inverse.Kinds.ps tested_ask.self_inverse.Kinds.r (λ κs a. OnTested a (words_read a))
       tested_ask.self_inverse.Reads.Asked tested_ask.self_inverse.Reads.Learnt call_ask.self_inverse.Reads.Learnt
   pub is_nil : Form tested_ask.is_nil.Kinds.ps tested_ask.is_nil.Kinds.r (λ κs a. OnTested a (words_read a))
       tested_ask.is_nil.Reads.Asked tested_ask.is_nil.Reads.Learnt call_ask.is_nil.Reads.Learnt

@@ -1,4 +1,4 @@
--- `book::byte` meets its contract. A byte fits a word, and past the end getD gives the 0 that the other arm returns.
+-- `book::byte` meets its contract. A byte fits a word, and past the end get_or gives the 0 that the other arm returns.
 -- Assumes nothing.
 use mathlib.Core.Path.{sym}
 use native.Mathlib.Omega.{arith}

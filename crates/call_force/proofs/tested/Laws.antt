@@ -1,4 +1,4 @@
--- What each call does to a store, and the two ways out of `force_kind`: it is turned back, or what the core answers and leaves is forceKind's. Forcing makes no
+-- What each call does to a store, and the two ways out of `force_kind`: it is turned back, or what the core answers and leaves is force_kind's. Forcing makes no
 -- child, so a kind that fitted the store before fits it afterwards.
 -- Assumes nothing.
 use mathlib.Core.Path.{◌≡◌, refl, ap, sym, ◌∙◌}

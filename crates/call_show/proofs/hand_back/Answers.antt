@@ -1,4 +1,4 @@
--- `call_show::hand_back` meets its contract: the part's length is partIn's, which the buffer has.
+-- `call_show::hand_back` meets its contract: the part's length is part_in's, which the buffer has.
 -- Assumes nothing.
 use mathlib.Core.Path.{refl, sym}
 use lib.Seq.{length-take-le}

@@ -11,7 +11,9 @@ use Rattle.roots.specs.Kept.{Cached}
 use Rattle.copy_lists.proofs.copy_all.Given as goal
 
 abbrev pub invariant-loop-i : goal.invariant-loop-i
-invariant-loop-i l = Listing l.sw l.sk l.n (list_of l.listed l.params) (types_in l.ts) l.initial.table l.initial.h l.initial.ws l.initial.ks l.initial.out l.table l.h l.ws l.ks l.out l.i × Cached l.sw l.n l.cache × (length l.cache ≡ length l.initial.cache)
+invariant-loop-i l =
+    Listing l.sw l.sk l.n (list_of l.listed l.params) (types_in l.ts) l.initial.table l.initial.h l.initial.ws l.initial.ks l.initial.out l.table l.h l.ws l.ks l.out l.i
+    × Cached l.sw l.n l.cache × (length l.cache ≡ length l.initial.cache)
 
 abbrev pub decreases-loop-i : goal.decreases-loop-i
 decreases-loop-i l = length l.ts - l.i

@@ -1,4 +1,4 @@
--- `copy_parts::copy_of` meets its contract: past the end getD gives 0.
+-- `copy_parts::copy_of` meets its contract: past the end get_or gives 0.
 -- Assumes nothing.
 use mathlib.Core.Path.{sym}
 use lib.ListN.{get_or-eq_default}

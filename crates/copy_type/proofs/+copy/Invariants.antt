@@ -13,7 +13,9 @@ abbrev pub decreases-copy : goal.decreases-copy
 decreases-copy l = l.depth
 
 abbrev pub invariant-loop-j : goal.invariant-loop-j
-invariant-loop-j l = Filling l.sw l.sk l.n (list_of l.listed l.params) (l.depth - 1) l.first l.count l.from l.initial.table l.initial.h l.initial.ws l.initial.ks l.table l.h l.ws l.ks l.j × Cached l.sw l.n l.cache × (length l.cache ≡ length l.initial.cache)
+invariant-loop-j l =
+    Filling l.sw l.sk l.n (list_of l.listed l.params) (l.depth - 1) l.first l.count l.from l.initial.table l.initial.h l.initial.ws l.initial.ks l.table l.h l.ws l.ks l.j
+    × Cached l.sw l.n l.cache × (length l.cache ≡ length l.initial.cache)
 
 abbrev pub decreases-loop-j : goal.decreases-loop-j
 decreases-loop-j l = l.count - l.j

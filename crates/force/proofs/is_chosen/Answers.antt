@@ -1,4 +1,4 @@
--- `force::is_chosen` meets its contract. Past the bytes getD gives 0, which chooses nothing.
+-- `force::is_chosen` meets its contract. Past the bytes get_or gives 0, which chooses nothing.
 -- Assumes nothing.
 use lib.ListN.{get_or-eq_default}
 use Rattle.force.proofs.is_chosen.Goals as goal

@@ -1,4 +1,4 @@
--- `inverse::is_new` meets its contract: past the end getD gives 0, which is no mark.
+-- `inverse::is_new` meets its contract: past the end get_or gives 0, which is no mark.
 -- Assumes nothing.
 use lib.ListN.{get_or-eq_default}
 use Rattle.inverse.proofs.is_new.Goals as goal

@@ -14,10 +14,20 @@ returns-then-not-is_defined c =
 pub returns-then-not-has_chart_flag : goal.returns-then-not-has_chart_flag
 returns-then-not-has_chart_flag c =
     λ ns e.
-    rw (kind_tests, passes c.can_be_made.ensures c.if-not-can_be_made.false-raw, passes c.is_defined.ensures c.if-not-is_defined.false-raw, fails c.has_chart_flag.ensures c.if-not-has_chart_flag.true-raw)
+    rw (
+      kind_tests,
+      passes c.can_be_made.ensures c.if-not-can_be_made.false-raw,
+      passes c.is_defined.ensures c.if-not-is_defined.false-raw,
+      fails c.has_chart_flag.ensures c.if-not-has_chart_flag.true-raw,
+    )
 
 pub returns : goal.returns
 returns c =
     λ ns e.
-    rw (kind_tests, passes c.can_be_made.ensures c.if-not-can_be_made.false-raw, passes c.is_defined.ensures c.if-not-is_defined.false-raw, passes c.has_chart_flag.ensures c.if-not-has_chart_flag.false-raw)
+    rw (
+      kind_tests,
+      passes c.can_be_made.ensures c.if-not-can_be_made.false-raw,
+      passes c.is_defined.ensures c.if-not-is_defined.false-raw,
+      passes c.has_chart_flag.ensures c.if-not-has_chart_flag.false-raw,
+    )
     (c.kids_inside.ensures ns e)

@@ -1,4 +1,4 @@
--- `kinds::row_of` meets its contract: the table, computed, is scope's rows in numbers, and past it scope has noRow, which the other arm's number says.
+-- `kinds::row_of` meets its contract: the table, computed, is scope's rows in numbers, and past it scope has no_row, which the other arm's number says.
 -- Assumes nothing.
 use mathlib.Core.Path.{ap, sym, ◌∙◌}
 use borrow.Author.Rules.{rules}

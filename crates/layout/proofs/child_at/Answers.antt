@@ -1,5 +1,5 @@
 -- `layout::child_at` meets its contract. A child that lies whole in the slice is its four words. Of another the part from it on has its words in front,
--- and past the end getD gives zeros.
+-- and past the end get_or gives zeros.
 -- Assumes nothing.
 use Rattle.layout.proofs.Cells.{slot_past, slot_part}
 use Rattle.layout.proofs.child_at.Goals as goal

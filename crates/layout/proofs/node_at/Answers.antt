@@ -1,4 +1,4 @@
--- `layout::node_at` meets its contract. Past the nodes nothing is read, and each test on the tag is the one that nodeOf makes.
+-- `layout::node_at` meets its contract. Past the nodes nothing is read, and each test on the tag is the one that node_of makes.
 -- Assumes nothing.
 use borrow.Author.Tests.{le-ltb}
 use Rattle.layout.specs.Meaning.{read_at}

@@ -1,4 +1,4 @@
--- `layout::word` meets its contract. Past the end getD gives the 0 that the other arm returns.
+-- `layout::word` meets its contract. Past the end get_or gives the 0 that the other arm returns.
 -- Assumes nothing.
 use mathlib.Core.Path.{sym}
 use lib.ListN.{get_or-eq_default}

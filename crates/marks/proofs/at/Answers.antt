@@ -1,4 +1,4 @@
--- `marks::at` meets its contract: past the end getD gives 0.
+-- `marks::at` meets its contract: past the end get_or gives 0.
 -- Assumes nothing.
 use lib.ListN.{get_or-eq_default}
 use Rattle.marks.proofs.at.Goals as goal

@@ -1,4 +1,4 @@
--- `needs::is_counted` meets its contract: within the marks any default gives the mark, and past them getD gives 1.
+-- `needs::is_counted` meets its contract: within the marks any default gives the mark, and past them get_or gives 1.
 -- Assumes nothing.
 use lib.ListN.{get_or-eq_default}
 use Rattle.needs.proofs.RootLaws.{get_any}

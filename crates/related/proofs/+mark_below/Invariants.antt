@@ -16,7 +16,9 @@ abbrev pub decreases-mark_below : goal.decreases-mark_below
 decreases-mark_below l = l.depth
 
 abbrev pub invariant-loop-s : goal.invariant-loop-s
-invariant-loop-s l = Turn (related_f l.depth (decode l.ws l.ks l.n)) l.ks l.initial.s l.end l.initial.marks l.marks l.s × Keeps l.ws l.ks l.n l.cache l.marks l.seen l.skip × (length l.cache ≡ length l.initial.cache)
+invariant-loop-s l =
+    Turn (related_f l.depth (decode l.ws l.ks l.n)) l.ks l.initial.s l.end l.initial.marks l.marks l.s
+    × Keeps l.ws l.ks l.n l.cache l.marks l.seen l.skip × (length l.cache ≡ length l.initial.cache)
     × (length l.seen ≡ length l.initial.seen) × (length l.skip ≡ length l.initial.skip) × (l.end < SLOTS)
 
 abbrev pub decreases-loop-s : goal.decreases-loop-s

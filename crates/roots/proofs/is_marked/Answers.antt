@@ -1,4 +1,4 @@
--- `roots::is_marked` meets its contract: past the end getD gives 0, which is no mark.
+-- `roots::is_marked` meets its contract: past the end get_or gives 0, which is no mark.
 -- Assumes nothing.
 use lib.ListN.{get_or-eq_default}
 use Rattle.roots.proofs.is_marked.Goals as goal

@@ -1,4 +1,4 @@
--- `show_parts::back` meets its contract: the arms are backOf's.
+-- `show_parts::back` meets its contract: the arms are back_of's.
 -- Assumes nothing.
 use mathlib.Core.Path.{refl}
 use borrow.Author.Tests.{ne_eqb, lt-ltb, le-ltb}

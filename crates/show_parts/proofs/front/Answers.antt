@@ -1,4 +1,4 @@
--- `show_parts::front` meets its contract: the arms are frontOf's.
+-- `show_parts::front` meets its contract: the arms are front_of's.
 -- Assumes nothing.
 use mathlib.Core.Path.{refl}
 use borrow.Author.Tests.{eq-eqb, ne_eqb, lt-ltb, le-ltb}

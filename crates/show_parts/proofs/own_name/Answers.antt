@@ -30,7 +30,14 @@ returns-then-k-lt-FN c =
 pub returns-then-k-ne-IF_CONST : goal.returns-then-k-ne-IF_CONST
 unfolding own_name
 returns-then-k-ne-IF_CONST c =
-    rw (ne_eqb _ _ c.if-k-eq-PARAM.false, ne_eqb _ _ c.if-k-eq-KEY.false, ne_eqb _ _ c.if-k-eq-CLOSURE.false, le-ltb _ _ c.if-k-lt-OPAQUE.false, le-ltb _ _ c.if-k-lt-FN.false, ne_eqb _ _ c.if-k-ne-IF_CONST.true) refl
+    rw (
+      ne_eqb _ _ c.if-k-eq-PARAM.false,
+      ne_eqb _ _ c.if-k-eq-KEY.false,
+      ne_eqb _ _ c.if-k-eq-CLOSURE.false,
+      le-ltb _ _ c.if-k-lt-OPAQUE.false,
+      le-ltb _ _ c.if-k-lt-FN.false,
+      ne_eqb _ _ c.if-k-ne-IF_CONST.true,
+    ) refl
 
 pub returns-then-k-lt2 : goal.returns-then-k-lt2
 unfolding own_name

@@ -1,4 +1,4 @@
--- `walk::nil_at` meets its contract: the two tests are nilBy's.
+-- `walk::nil_at` meets its contract: the two tests are nil_by's.
 -- Assumes nothing.
 use mathlib.Core.Path.{refl}
 use borrow.Author.Rules.{rules}
