@@ -33,7 +33,7 @@ use Rattle.refusals.specs.Opening.{enough}
 use Rattle.refusals.proofs.Laws.{code_none, code_first, code_next, test_stands, test_falls, test_passed, tests_passed, passed_first, passed_next, judged_refused, judged_done}
 use Rattle.refusals.proofs.OpenLaws.{openable}
 use Rattle.sound.specs.Tests.{env_in}
-use Rattle.needs.specs.declared.Needs as goal
+use Rattle.needs.specs.declared.Needs as counted
 use Rattle.needs.specs.Sums.{sum_of}
 use Rattle.needs.specs.Sources.{Importable, ExportNeeds}
 use Rattle.needs.proofs.SourceLaws.{sound_export}
@@ -143,7 +143,7 @@ module _ (chart : List ℕ) (b : Beside) (rule text sh sw sk h ws ks : List ℕ)
         pub needs_asks : Importable sw sk (nodes_made sh) (exported (store_in sh sw sk) (types_in ts))
         needs_asks = exportable e sh sw sk (types_in ts) source_passed (list_code ∙ code_none k v)
 
-        pub refused_room : {u : goal.Needs} {o : ℕ} → ExportNeeds sh sw sk ts u → first_broken (fresh_tests n c (sum_of u)) ≡ code_of o
+        pub refused_room : {u : counted.Needs} {o : ℕ} → ExportNeeds sh sw sk ts u → first_broken (fresh_tests n c (sum_of u)) ≡ code_of o
             → ExportTested chart b rule text sh sw sk h ws ks n c ts o
         refused_room f y = record {
           first =

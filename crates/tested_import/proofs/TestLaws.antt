@@ -13,7 +13,7 @@ use Rattle.scope.specs.Limits.{MAX_LIST}
 use Rattle.scope.specs.Chart.{Env}
 use Rattle.scope.specs.Types.{Ty, ty_of}
 use Rattle.scope.specs.Nodes.{Node, Store}
-use Rattle.scope.specs.Needs as goal
+use Rattle.scope.specs.Needs as scope
 use Rattle.scope.specs.Sound.{sound, in_store}
 use Rattle.scope.specs.Refusals.{OUTSIDE, UNMAKEABLE, NO_ENTRY, SOURCE_UNSOUND}
 use Rattle.scope.specs.Calls.{first_broken, lent_tests, too_many, room_tests, import_list}
@@ -114,13 +114,13 @@ module _ (listed : Bool) (ps : List ℕ) (e : listed ≡ true) where
 module _ {h sw sk ts : List ℕ} {n : ℕ} {p : Params} {ps : Option (List Ty)} {r : Needs} (e : p ≡ params_for ps) (o : ImportNeeds sw sk n p ts r) where
   pub needs_missing : r.missing ≡ true → NeedsTested h sw sk n ps ts NO_ENTRY
   needs_missing z = record {
-    first = λ ws ks. ap (λ (k : goal.Needs). first_broken (needs_tests k (store_in h ws ks))) (sym (o.is ps e))
+    first = λ ws ks. ap (λ (k : scope.Needs). first_broken (needs_tests k (store_in h ws ks))) (sym (o.is ps e))
         ∙ test_stands NO_ENTRY (room_tests (store_in h ws ks) r.nodes r.children) z;
   }
 
   pub needs_room : {m : ℕ} → r.missing ≡ false → ((ws ks : List ℕ) → first_broken (room_tests (store_in h ws ks) r.nodes r.children) ≡ code_of m)
       → NeedsTested h sw sk n ps ts m
   needs_room z f = record {
-    first = λ ws ks. ap (λ (k : goal.Needs). first_broken (needs_tests k (store_in h ws ks))) (sym (o.is ps e))
+    first = λ ws ks. ap (λ (k : scope.Needs). first_broken (needs_tests k (store_in h ws ks))) (sym (o.is ps e))
         ∙ (test_falls NO_ENTRY (room_tests (store_in h ws ks) r.nodes r.children) z ∙ f ws ks);
   }

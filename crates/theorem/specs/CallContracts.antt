@@ -119,8 +119,8 @@ DeskRanOn a d c r d' = DeskRan (fixed_in a) d c r d'
 abbrev pub desk_names : {R : Type 0} → Args Slice Slice Slice (SliceMut × R) → DeskMemory
 desk_names a = desk_of (words_read a) (arg1 a).now
 
-abbrev pub desk_store : {R : Type 0} → Args SliceMut SliceMut SliceMut (Slice × R) → DeskMemory
-desk_store a = desk_of (words_in a) (arg1 a).now
+abbrev pub desk_words : {R : Type 0} → Args SliceMut SliceMut SliceMut (Slice × R) → DeskMemory
+desk_words a = desk_of (words_in a) (arg1 a).now
 
 abbrev pub desk_in : {R : Type 0} → Args SliceMut SliceMut SliceMut (SliceMut × R) → DeskMemory
 desk_in a = desk_of (words_in a) (arg1 a).now
@@ -239,7 +239,7 @@ pub record Contracts : Type 0 where
   pub name_state : Allows call_states.name_state.Kinds.ps call_states.name_state.Kinds.r call_states.name_state.Reads.Asked call_states.name_state.Reads.Learnt
       (λ κs a r x. DeskRanOn a (desk_names a) (naming (calls.name (arg2 a).now)) (replied (λ u. says.nothing) (done_reply r)) (names_now (desk_names a) (arg1 x).now))
   pub return_to : Allows call_states.return_to.Kinds.ps call_states.return_to.Kinds.r call_states.return_to.Reads.Asked call_states.return_to.Reads.Learnt
-      (λ κs a r x. DeskRanOn a (desk_store a) (naming (calls.return_to (arg2 a).now)) (replied (λ u. says.nothing) (done_reply r)) (store_now (desk_store a) (words_in x)))
+      (λ κs a r x. DeskRanOn a (desk_words a) (naming (calls.return_to (arg2 a).now)) (replied (λ u. says.nothing) (done_reply r)) (store_now (desk_words a) (words_in x)))
   pub drop_name : Allows call_states.drop_name.Kinds.ps call_states.drop_name.Kinds.r call_states.drop_name.Reads.Asked call_states.drop_name.Reads.Learnt
       (λ κs a r x. DeskRanOn a (desk_names a) (naming (calls.drop (arg2 a).now)) (replied (λ u. says.nothing) (done_reply r)) (names_now (desk_names a) (arg1 x).now))
   pub reset : Allows call_states.reset.Kinds.ps call_states.reset.Kinds.r call_states.reset.Reads.Asked call_states.reset.Reads.Learnt

@@ -39,7 +39,7 @@ use Rattle.theorem.specs.Memory.{Memory, Fixed, env, lent, held, roomy, Opened, 
 use Rattle.theorem.specs.Runs.{Runs}
 use Rattle.theorem.specs.DeskSteps.{DeskMemory, TestedDesk, OpenedNames}
 use Rattle.theorem.specs.DeskRuns.{DeskRuns}
-use Rattle.theorem.specs.CallContracts.{Args, fixed_in, words_read, nodes_in, head_in, words_in, source_words, desk_names, desk_store, desk_in}
+use Rattle.theorem.specs.CallContracts.{Args, fixed_in, words_read, nodes_in, head_in, words_in, source_words, desk_names, desk_words, desk_in}
 
 -- of a form that asks A of its arguments and whose callers learn L: it asks no more than T, and whatever is learnt is S
 pub record Form {n : ℕ} (ps : List (ParamKind n)) (r : ResultKind n) (T A : In n ps) (L S : Out n ps r) : Type 0 where
@@ -131,7 +131,7 @@ pub record TestedForms : Type 0 where
   -- store and names buffer are tested
   pub name_state : Form tested_states.name_state.Kinds.ps tested_states.name_state.Kinds.r (λ κs a. OnTestedDesk a (desk_names a))
       tested_states.name_state.Reads.Asked tested_states.name_state.Reads.Learnt call_states.name_state.Reads.Learnt
-  pub return_to : Form tested_states.return_to.Kinds.ps tested_states.return_to.Kinds.r (λ κs a. OnTestedDesk a (desk_store a))
+  pub return_to : Form tested_states.return_to.Kinds.ps tested_states.return_to.Kinds.r (λ κs a. OnTestedDesk a (desk_words a))
       tested_states.return_to.Reads.Asked tested_states.return_to.Reads.Learnt call_states.return_to.Reads.Learnt
   pub drop_name : Form tested_states.drop_name.Kinds.ps tested_states.drop_name.Kinds.r (λ κs a. OnTestedDesk a (desk_names a))
       tested_states.drop_name.Reads.Asked tested_states.drop_name.Reads.Learnt call_states.drop_name.Reads.Learnt
