@@ -2,7 +2,7 @@
 // Runs a list of calls through the public calls and writes what each answers. The list is text on standard input: a call's number, how many numbers
 // follow, and these. What each number means stands in the module that has the call. There are two stores, one in hand and the other, which an import
 // reads, and one names buffer.
-ghost use Rattle.std.specs.Prelude.{◌<◌, length};
+ghost use Rattle.std.specs.Prelude.{◌<◌, ◌≤◌, length, IfOk};
 
 mod asking; // what a store, a node or a type tells
 mod exporting; // export
@@ -21,7 +21,7 @@ use run_text::numbers::{after, first, numbers, set, to_bytes, upto, word};
 use run_text::writing;
 use scope::{MAX_CHILDREN, MAX_NODES};
 use std::io;
-use std::io::{BufWriter, Read, Write};
+use std::io::{Read, Write};
 
 const POKE: u32 = 5; // slice 0 to 2, or 3 for the names buffer, word, what it becomes
 
@@ -49,7 +49,7 @@ const BOOK: usize = 56_000;
 // Room for a text, and for the list as text and as numbers.
 const BYTES: usize = 4096;
 
-const INPUT: u64 = 131_072;
+const INPUT: usize = 131_072;
 
 const NUMBERS: usize = 32_768;
 
@@ -361,12 +361,25 @@ fn run<W: Write>(to: &mut W, s: &[u32]) -> io::Result<()> {
     turns(to, s, &mut h, &mut ws, &mut ks, &mut bs, &mut o)
 }
 
+// What there is to read, up to the buffer's end.
+fn read_input<R: Read>(from: &mut R, input: &mut [u8]) -> io::Result<usize>
+    ensures { IfOk result (λ n. n ≤ length input.new) }
+{
+    let mut at: usize = 0;
+    while at < input.len() {
+        let got = from.read(&mut input[at..])?;
+        if got == 0 {
+            return Ok(at);
+        }
+        at += got;
+    }
+    Ok(at)
+}
+
 fn main(rt: HostRuntime) -> io::Result<()> {
-    let mut input = Vec::new(rt.alloc());
-    rt.stdin().take(INPUT).read_to_end(&mut input)?;
+    let mut input = [0u8; INPUT];
+    let got = read_input(&mut rt.stdin(), &mut input)?;
     let mut s = [0u32; NUMBERS];
-    let n = numbers(input.as_slice(), &mut s);
-    let mut to = BufWriter::new(rt.alloc(), rt.stdout())?;
-    run(&mut to, first(&s, n))?;
-    to.flush()
+    let n = numbers(&input[..got], &mut s);
+    run(&mut rt.stdout(), first(&s, n))
 }
