@@ -10,8 +10,8 @@ use Rattle.types.specs.declared.Inverted.{Inverted}
 use Rattle.layout.specs.Meaning.{HALF}
 use Rattle.layout.specs.declared.Kind.{Kind}
 use Rattle.layout.specs.declared.Header.{Header}
-use Rattle.layout.specs.declared.Remembered.{Remembered}
-use Rattle.layout.specs.declared.Remembered.TheVariants as was
+use Rattle.layout.specs.Meaning.{Remembered}
+use Rattle.std.specs.declared.option.Option.TheVariants as was
 use Rattle.walk.specs.declared.Mod.TheVariants as mods
 use Rattle.call_read.specs.declared.NodeAnswer.{NodeAnswer}
 use Rattle.call_read.specs.declared.NodeAnswer.TheVariants as node
@@ -120,8 +120,8 @@ module _ (out : List ℕ) where
   mod_told (told.Refused n) = record { answer = number_refused 3 (λ w. told.Is (mod_case out w)) told.Refused n (omega arith); out = refl }
 
   remembered_back : (t : Remembered) → remembered_from (has_word t) (type_or_zero t) ≡ t
-  remembered_back (was.Is t) = refl
-  remembered_back was.Nothing = refl
+  remembered_back (was.Some t) = refl
+  remembered_back was.None = refl
 
   figures_back : (x : Header) → figures_from (figures_out x) ≡ x
   figures_back x = rw (remembered_back x.error, remembered_back x.nil, mod-add-div' x.reports HALF)

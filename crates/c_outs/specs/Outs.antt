@@ -6,8 +6,8 @@ use Rattle.names.specs.declared.Name.{Name}
 use Rattle.layout.specs.Meaning.{HALF}
 use Rattle.layout.specs.declared.Kind.{Kind}
 use Rattle.layout.specs.declared.Header.{Header}
-use Rattle.layout.specs.declared.Remembered.{Remembered}
-use Rattle.layout.specs.declared.Remembered.TheVariants as was
+use Rattle.layout.specs.Meaning.{Remembered}
+use Rattle.std.specs.declared.option.Option.TheVariants as was
 use Rattle.walk.specs.declared.Mod.{Mod}
 use Rattle.walk.specs.declared.Mod.TheVariants as mods
 use Rattle.call_read.specs.declared.NodeAnswer.{NodeAnswer}
@@ -152,15 +152,15 @@ mod_out (told.Refused n) out = out
 
 -- `figures`: 0, and a remembered type as whether there is one and which; the report count in two halves
 abbrev pub has_word : Remembered → ℕ
-has_word (was.Is t) = 1
-has_word was.Nothing = 0
+has_word (was.Some t) = 1
+has_word was.None = 0
 
 abbrev pub type_or_zero : Remembered → ℕ
-type_or_zero (was.Is t) = t.0
-type_or_zero was.Nothing = 0
+type_or_zero (was.Some t) = t.0
+type_or_zero was.None = 0
 
 abbrev pub remembered_from : ℕ → ℕ → Remembered
-remembered_from has t = pick (eqb has 1) (was.Is (type_word t)) was.Nothing
+remembered_from has t = pick (eqb has 1) (was.Some (type_word t)) was.None
 
 abbrev pub figures_out : Header → List ℕ
 figures_out x =

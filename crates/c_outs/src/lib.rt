@@ -9,7 +9,7 @@ use c_words::REFUSED;
 use call_ask::ModAnswer;
 use call_force::ForcedAnswer;
 use call_read::{ChildAnswer, FiguresAnswer, NameAnswer, NodeAnswer};
-use layout::{HALF, Header, Kind, Remembered};
+use layout::{HALF, Header, Kind};
 use types::Inverted;
 use walk::Mod;
 
@@ -174,21 +174,21 @@ pub fn tell_mod(a: ModAnswer, out: &mut [u32; 1]) -> u64
 }
 
 // Is there a remembered type, and which.
-fn has_word(t: Remembered) -> u32
+fn has_word(t: Option<Type>) -> u32
     ensures { result ≡ has_word t }
 {
     match t {
-        Remembered::Is(_) => 1,
-        Remembered::Nothing => 0,
+        Some(_) => 1,
+        None => 0,
     }
 }
 
-fn type_or_zero(t: Remembered) -> u32
+fn type_or_zero(t: Option<Type>) -> u32
     ensures { result ≡ type_or_zero t }
 {
     match t {
-        Remembered::Is(t) => t.0,
-        Remembered::Nothing => 0,
+        Some(t) => t.0,
+        None => 0,
     }
 }
 

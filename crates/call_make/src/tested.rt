@@ -9,7 +9,6 @@ ghost use Rattle.promise.specs.Promise.{type_reply, Promised, Tested};
 ghost use Rattle.promise.specs.Lists.{ListPromised};
 
 use chart::Beside;
-use layout::Remembered;
 use promise::{DoneAnswer, TypeAnswer};
 use refusals::{NO_REFUSAL, SHORT};
 
@@ -68,12 +67,12 @@ pub fn new_vars<'a>(
 }
 
 // `error` and `nil` "make one node each and return it until `reset`".
-pub fn nodes_for(was: Remembered) -> u32
+pub fn nodes_for(was: Option<Type>) -> u32
     ensures { result ≡ nodes_for (remembered_means was) }
 {
     match was {
-        Remembered::Is(_) => 0,
-        Remembered::Nothing => 1,
+        Some(_) => 0,
+        None => 1,
     }
 }
 

@@ -20,7 +20,7 @@ use Rattle.layout.specs.Words.{HEAD_WORDS, nodes_made, node_room, child_room, de
 use Rattle.layout.specs.Words as words
 use Rattle.layout.specs.Meaning.{header_in, put_header, remembered_means}
 use Rattle.layout.specs.declared.Header.{Header}
-use Rattle.layout.specs.declared.Remembered.{Remembered}
+use Rattle.layout.specs.Meaning.{Remembered}
 use Rattle.layout.proofs.Laws.{length_decode}
 use Rattle.store.specs.Holds.{Became, Beyond, Room}
 use Rattle.store.specs.Entries.{types_in}

@@ -19,8 +19,8 @@ use Rattle.scope.proofs.CopyTableLaws.{Left, left_start, left_next, left_end, le
 use Rattle.types.specs.declared.«Type».{«Type»}
 use Rattle.layout.specs.Words.{decode}
 use Rattle.layout.specs.Meaning.{remembered_means, remembered_fits, Clean}
-use Rattle.layout.specs.declared.Remembered.{Remembered}
-use Rattle.layout.specs.declared.Remembered.TheVariants.{Is, Nothing}
+use Rattle.layout.specs.Meaning.{Remembered}
+use Rattle.std.specs.Prelude.{Some, None}
 use Rattle.store.specs.Holds.{Room}
 use Rattle.copy_type.specs.Words.{copying_at, Spared, Copyable, CopiedIs}
 use Rattle.copy_type.proofs.SparedLaws.{spared_refl, spared_trans, spared_less}
@@ -108,7 +108,7 @@ module _ {sw sk : List ℕ} {n : ℕ} {ps : Option (List Ty)} {us : List Ty} {ta
       }
 
 -- a node of the destination may be remembered
-inside_fits : (r : «Type») → (ty_of r.0).idx < MAX_NODES → remembered_fits (Is r) ≡ true
+inside_fits : (r : «Type») → (ty_of r.0).idx < MAX_NODES → remembered_fits (Some r) ≡ true
 unfolding ty_of
 inside_fits r l = rw (ne_eqb r.0 NONE (λ e. omega (arith, e))) refl
 
@@ -116,11 +116,11 @@ module _ {sw sk h ws ks table : List ℕ} {n : ℕ} (was : Remembered) (p : AllC
   abbrev from : CopiedAll
   from = copy_all (copy_f n (decode sw sk n) none) (copying_at h ws ks table) (listed (remembered_means was))
 
-  pub remembered_none : was ≡ Nothing → RememberedCopied from h ws ks h ws ks table Nothing
+  pub remembered_none : was ≡ None → RememberedCopied from h ws ks h ws ks table None
   unfolding copy_all
   remembered_none e = rw e (record { type = refl; fits = refl; to = refl; spared = spared_refl h ws ks p.clean })
 
-  module _ {t : «Type»} (e : was ≡ Is t) where
+  module _ {t : «Type»} (e : was ≡ Some t) where
     one : AllCopyable sw sk n none h ws ks table (ty_of t.0 ∷ [])
     one = rw e at p
 
@@ -129,7 +129,7 @@ module _ {sw sk h ws ks table : List ℕ} {n : ℕ} (was : Remembered) (p : AllC
     remembered_copyable = record { made = p.made; source = p.source; clean = p.clean; placed = p.placed; room = one.room }
 
     pub remembered_one : {h' ws' ks' table' : List ℕ} {r : «Type»} → CopiedIs (copy_f n (decode sw sk n) none (copying_at h ws ks table) (ty_of t.0)) h ws ks h' ws' ks' table' r
-        → RememberedCopied from h ws ks h' ws' ks' table' (Is r)
+        → RememberedCopied from h ws ks h' ws' ks' table' (Some r)
     unfolding copy_all
     remembered_one {r = r} d =
         let c : Copying = copying_at h ws ks table in

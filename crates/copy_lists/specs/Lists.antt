@@ -9,7 +9,7 @@ use Rattle.scope.proofs.CopyTableLaws.{Placed}
 use Rattle.layout.specs.Words.{decode}
 use Rattle.layout.specs.Words as words
 use Rattle.layout.specs.Meaning.{remembered_means, remembered_fits, Clean}
-use Rattle.layout.specs.declared.Remembered.{Remembered}
+use Rattle.layout.specs.Meaning.{Remembered}
 use Rattle.store.specs.Holds.{Room}
 use Rattle.copy_type.specs.Words.{copying_at, Spared}
 

@@ -13,7 +13,6 @@ ghost use Rattle.copy_parts.specs.Places.{list_of};
 ghost use Rattle.copy_type.specs.Words.{copying_at};
 ghost use Rattle.copy_lists.specs.Lists.{AllCopyable, AllCopied, RememberedCopied};
 
-use layout::Remembered;
 use types::Type;
 
 // The copies of a list's types stand at the front of `out`.
@@ -58,8 +57,8 @@ pub fn copy_remembered(
     h: &mut [u32],
     ws: &mut [u32],
     ks: &mut [u32],
-    was: Remembered,
-) -> Remembered
+    was: Option<Type>,
+) -> Option<Type>
     requires { AllCopyable sw.now sk.now n none h.old ws.old ks.old table.old (listed (remembered_means was)) × Cached sw.now n cache.old }
     ensures { RememberedCopied (copy_all (copy_f n (decode sw.now sk.now n) none)
         (copying_at h.old ws.old ks.old table.old) (listed (remembered_means was)))
@@ -67,9 +66,9 @@ pub fn copy_remembered(
         × Cached sw.now n cache.new }
 {
     match was {
-        Remembered::Is(t) => {
-            Remembered::Is(copy_type::copy(sw, sk, n, false, sk, cache, table, h, ws, ks, t, n))
+        Some(t) => {
+            Some(copy_type::copy(sw, sk, n, false, sk, cache, table, h, ws, ks, t, n))
         }
-        Remembered::Nothing => Remembered::Nothing,
+        None => None,
     }
 }

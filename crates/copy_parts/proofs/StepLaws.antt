@@ -11,8 +11,8 @@ use Rattle.layout.specs.Words.{node_words, nodes_made}
 use Rattle.layout.specs.Meaning.{put_at, header_in}
 use Rattle.layout.specs.declared.Header.{Header}
 use Rattle.layout.specs.declared.Kind.{Kind}
-use Rattle.layout.specs.declared.Held.{Held}
-use Rattle.layout.specs.declared.Held.TheVariants.{Is}
+use Rattle.layout.specs.Meaning.{Held}
+use Rattle.std.specs.Prelude.{Some}
 use Rattle.layout.specs.declared.TypeState.TheVariants.{Known}
 use Rattle.layout.specs.declared.TypeNode.TheVariants.{Root}
 use Rattle.layout.proofs.KindLaws.{moved_to}
@@ -32,7 +32,7 @@ begin_is {table} {i = i} o w = record { blank = o; noted = w ∙ ap (λ (n : ℕ
 pub end_room : (h ws : List ℕ) {x : Header} → x ≡ header_in h → node_words (nodes_made h) ≤ length ws → node_words x.nodes ≤ length ws
 end_room h ws q l = rw q l
 
-pub end_known : (h ws : List ℕ) (i first : ℕ) {ws' : List ℕ} {x : Header} {inv : Inverted} {k : Kind} {v w : Held} → x ≡ header_in h → v ≡ w → v ≡ Is inv k
+pub end_known : (h ws : List ℕ) (i first : ℕ) {ws' : List ℕ} {x : Header} {inv : Inverted} {k : Kind} {v w : Held} → x ≡ header_in h → v ≡ w → v ≡ Some (inv, k)
     → ws' ≡ put_at ws x.nodes i (Root (Known inv (moved_to k first)) 1) → ws' ≡ ended ws (nodes_made h) i first w
 end_known h ws i first {inv = inv} {k = k} q e s o =
     o ∙ (ap (λ (y : Header). put_at ws y.nodes i (Root (Known inv (moved_to k first)) 1)) q ∙ ap (ended ws (nodes_made h) i first) (sym s ∙ e))

@@ -12,8 +12,8 @@ use Rattle.types.specs.declared.Inverted.{Inverted}
 use Rattle.layout.specs.Words.{decode}
 use Rattle.layout.specs.Meaning.{read_at, held_in, kind_means, Clean}
 use Rattle.layout.specs.declared.Kind.{Kind}
-use Rattle.layout.specs.declared.Held.{Held}
-use Rattle.layout.specs.declared.Held.TheVariants as held
+use Rattle.layout.specs.Meaning.{Held}
+use Rattle.std.specs.declared.option.Option.TheVariants as held
 use Rattle.store.specs.Entries.{types_in}
 use Rattle.copy_parts.specs.declared.Place.{Place}
 use Rattle.copy_parts.specs.declared.Place.TheVariants.{Is, Node}
@@ -30,12 +30,12 @@ Becomes ps st r (Node span first m) = (replaced ps st ≡ keep) × (span_of st �
 -- where the children lie of what a root holds, and how many they are
 
 abbrev pub held_first : Held → ℕ
-held_first (held.Is i k) = k.first
-held_first held.Nothing = 0
+held_first (held.Some (i, k)) = k.first
+held_first held.None = 0
 
 abbrev pub held_count : Held → ℕ
-held_count (held.Is i k) = k.count
-held_count held.Nothing = 0
+held_count (held.Some (i, k)) = k.count
+held_count held.None = 0
 
 abbrev pub Runs : Held → Place → Type 0
 Runs v (Is u) = Unit {0}
@@ -43,7 +43,7 @@ Runs v (Node span first m) = (held_first v ≡ first) × (held_count v ≡ m)
 
 pub record KindPlace (with : Bool) (ps : List ℕ) (root : «Type») (i : Inverted) (k : Kind) (r : Place) : Type 0 where
   pub becomes : (ks : List ℕ) → Becomes (list_of with ps) (Known i.0 (kind_means ks k)) (ty_of root.0) r
-  pub run : Runs (held.Is i k) r
+  pub run : Runs (held.Some (i, k)) r
 
 -- of a Param with that number, where there is a list
 pub record EntryPlace (ps : List ℕ) (root : «Type») (i : Inverted) (number : ℕ) (r : Place) : Type 0 where

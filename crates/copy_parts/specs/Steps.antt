@@ -5,8 +5,8 @@ use Rattle.types.specs.declared.«Type».{«Type»}
 use Rattle.layout.specs.Words.{nodes_made, slot_at}
 use Rattle.layout.specs.Meaning.{put_at, put_slot, slot_means}
 use Rattle.layout.specs.declared.Slot.{Slot}
-use Rattle.layout.specs.declared.Held.{Held}
-use Rattle.layout.specs.declared.Held.TheVariants.{Is, Nothing}
+use Rattle.layout.specs.Meaning.{Held}
+use Rattle.std.specs.Prelude.{Some, None}
 use Rattle.layout.specs.declared.TypeState.TheVariants.{Known}
 use Rattle.layout.specs.declared.TypeNode.TheVariants.{Root}
 use Rattle.layout.proofs.KindLaws.{moved_to}
@@ -27,5 +27,5 @@ pub record ChildMoved (sk : List ℕ) (from : ℕ) (ks : List ℕ) (first j t : 
 
 -- node i of n takes the kind that the source holds, with its children from `first` on
 abbrev pub ended : List ℕ → ℕ → ℕ → ℕ → Held → List ℕ
-ended ws n i first (Is inv k) = put_at ws n i (Root (Known inv (moved_to k first)) 1)
-ended ws n i first Nothing = ws
+ended ws n i first (Some (inv, k)) = put_at ws n i (Root (Known inv (moved_to k first)) 1)
+ended ws n i first None = ws

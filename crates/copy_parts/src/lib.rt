@@ -10,7 +10,7 @@ ghost use Rattle.store.specs.Holds.{Ready};
 ghost use Rattle.copy_parts.specs.Places.{EntryPlace, KindPlace, StatePlace, RootPlace};
 ghost use Rattle.copy_parts.specs.Steps.{Begun, ChildMoved, ended};
 
-use layout::{Held, Kind, Slot, TypeNode, TypeState};
+use layout::{Kind, Slot, TypeNode, TypeState};
 use scope::NONE;
 use types::{Inverted, Type, TypeIdx};
 
@@ -128,7 +128,7 @@ pub fn end(sw: &[u32], n: u32, i: TypeIdx, h: &[u32], ws: &mut [u32], new: TypeI
     ensures { ws.new ≡ ended ws.old (nodes_made h.now) new.0 first (held_in (read_at sw.now n i.0)) }
 {
     let made = layout::read_header(h).nodes;
-    let Held::Is(inv, kind) = layout::held_at(sw, n, i) else {
+    let Some((inv, kind)) = layout::held_at(sw, n, i) else {
         return;
     };
     let name = kind.name;

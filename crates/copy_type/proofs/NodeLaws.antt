@@ -22,8 +22,8 @@ use Rattle.layout.specs.Words as words
 use Rattle.layout.specs.Words.{nodes_made, children_made, slot_at, decode, store_in}
 use Rattle.layout.specs.Meaning.{read_at, held_in, held_kids, kind_means, kind_fits, put_at}
 use Rattle.layout.specs.declared.Kind.{Kind}
-use Rattle.layout.specs.declared.Held.{Held}
-use Rattle.layout.specs.declared.Held.TheVariants.{Is, Nothing}
+use Rattle.layout.specs.Meaning.{Held}
+use Rattle.std.specs.Prelude.{Some, None}
 use Rattle.layout.specs.declared.TypeState.TheVariants.{Known}
 use Rattle.layout.specs.declared.TypeNode.TheVariants.{Root}
 use Rattle.layout.proofs.KindLaws.{kind_kids, moved_to}
@@ -58,12 +58,12 @@ copied_shallow p e = copied_same p.clean (rw e (copy_end _ _ _ _))
 
 -- a run of children, by what is held
 held_run : (sk : List ℕ) (first count : ℕ) (v : Held) → held_first v ≡ first → held_count v ≡ count → held_kids sk v ≡ kids_in sk first count
-held_run sk first count (Is i k) p q = kind_kids sk k ∙ (λ j. kids_in sk (p j) (q j))
-held_run sk first count Nothing p q = λ j. kids_in sk (p j) (q j)
+held_run sk first count (Some (i, k)) p q = kind_kids sk k ∙ (λ j. kids_in sk (p j) (q j))
+held_run sk first count None p q = λ j. kids_in sk (p j) (q j)
 
 abbrev held_known : Held → Bool
-held_known (Is i k) = true
-held_known Nothing = false
+held_known (Some (i, k)) = true
+held_known None = false
 
 module _ (g : Copying → Ty → Copied) (c : Copying) (r : Ty) where
   -- one with no kind has no children
@@ -201,7 +201,7 @@ module _ (sw sk : List ℕ) (n : ℕ) (listed : Bool) (params : List ℕ) (depth
         all_types = filled_types o done ∙ (λ k. (copy_all g (noted_is k) (sym kids_are k)).types)
 
         -- it takes its kind
-        module _ (inv : Inverted) (k : Kind) (is : held_in (read_at sw n r.idx) ≡ Is inv k) where
+        module _ (inv : Inverted) (k : Kind) (is : held_in (read_at sw n r.idx) ≡ Some (inv, k)) where
           first_is : k.first ≡ first
           first_is = ap held_first (sym is) ∙ run.0
 
@@ -244,11 +244,11 @@ module _ (sw sk : List ℕ) (n : ℕ) (listed : Bool) (params : List ℕ) (depth
 
         taken : (w : Held) → held_in (read_at sw n r.idx) ≡ w → (x : ℕ) → x ≡ length c.dest.nodes
             → (copying_at h' (ended ws' (nodes_made h') x to w) ks' table' ≡ (copy_new g c r st).to) × Spared to h' ws' ks' h' (ended ws' (nodes_made h') x to w) ks'
-        taken (Is inv k) q x e = (
+        taken (Some (inv, k)) q x e = (
           taken_is inv k q x e,
           kind_spared h' ws' ks' o.spared.clean x inv (moved_to k to) (fits inv k q) to (omega arith),
         )
-        taken Nothing q x e = (
+        taken None q x e = (
           all_to ∙ sym (new_plain g c r st (held_by_lem sw sk pre.made n pre.source r.idx refl q is_known held_known (λ j k. refl) (λ p. refl) refl)),
           spared_refl h' ws' ks' o.spared.clean,
         )

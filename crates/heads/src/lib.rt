@@ -8,7 +8,7 @@ ghost use Rattle.heads.specs.Heads.{no_words, put_counts};
 ghost use Rattle.layout.specs.declared.TypeNode.TheVariants.{Root};
 ghost use Rattle.layout.specs.declared.TypeState.TheVariants.{Unknown};
 
-use layout::{NODE_WORDS, Remembered, UNKNOWN_TAG, remembered_of};
+use layout::{NODE_WORDS, UNKNOWN_TAG, remembered_of};
 use types::TypeIdx;
 
 pub fn nodes_made(h: &[u32]) -> u32
@@ -40,14 +40,14 @@ pub fn child_room(h: &[u32]) -> u32
 }
 
 // The remembered types.
-pub fn error_made(h: &[u32]) -> Remembered
+pub fn error_made(h: &[u32]) -> Option<Type>
     requires { HEAD_WORDS ≤ length h.now }
     ensures { result ≡ remembered_of (get_or h.now 4 0) }
 {
     remembered_of(h[4])
 }
 
-pub fn nil_made(h: &[u32]) -> Remembered
+pub fn nil_made(h: &[u32]) -> Option<Type>
     requires { HEAD_WORDS ≤ length h.now }
     ensures { result ≡ remembered_of (get_or h.now 5 0) }
 {

@@ -18,8 +18,8 @@ use Rattle.types.specs.declared.UnifyResult.TheVariants.{Success, Failure, Indet
 use Rattle.layout.specs.Meaning.{Linked}
 use Rattle.types.specs.declared.«Type».{«Type»}
 use Rattle.roots.specs.Found.{FoundMut, Near}
-use Rattle.roots.specs.declared.Nearby.{Nearby}
-use Rattle.roots.specs.declared.Nearby.TheVariants.{Is}
+use Rattle.roots.specs.Found.{Nearby}
+use Rattle.std.specs.Prelude.{Some}
 use Rattle.roots.proofs.Laws.{relinked_refl}
 use Rattle.merge.specs.Meaning.{Settled}
 use Rattle.merge.specs.Quick.{Tried, OneNil}
@@ -100,7 +100,7 @@ moved_same t = record { tidy = t; since = since_same; believed = λ a b q v. (v,
 
 -- `find`
 
-pub found_near : {ws : List ℕ} {n : ℕ} {m : List ℕ} {t : ℕ} {q : Nearby} {r : «Type»} → Linked ws n → Tidy m → Near ws n t q → q ≡ Is r → FoundTold ws n ws m m t r.0
+pub found_near : {ws : List ℕ} {n : ℕ} {m : List ℕ} {t : ℕ} {q : Nearby} {r : «Type»} → Linked ws n → Tidy m → Near ws n t q → q ≡ Some r → FoundTold ws n ws m m t r.0
 found_near {r = r} l d h e = record {
   found = record { root = (h.found r e).root; nodes = λ ks. sym (h.stays r e ks); words = relinked_refl l };
   told = λ ks. moved_same d;

@@ -7,7 +7,6 @@ ghost use Rattle.recall.specs.Memory.{Tidy};
 ghost use Rattle.merge.specs.Meaning.{Adds};
 ghost use Rattle.heed.specs.Told.{Settles, FoundTold, QuickTold, SmallTold, SettledTold};
 
-use roots::Nearby;
 use types::{Type, UnifyResult};
 
 // "`find_mut` also points every node on the path straight at the root": a type that is near has no such path.
@@ -15,7 +14,7 @@ pub fn find(ws: &mut [u32], n: u32, memory: &mut [u32], t: Type) -> Type
     requires { Linked ws.old n × Tidy memory.old }
     ensures { FoundTold ws.old n ws.new memory.old memory.new t.0 result.0 }
 {
-    let Nearby::Is(r) = roots::near(ws, n, t) else {
+    let Some(r) = roots::near(ws, n, t) else {
         recall::changed(memory);
         return roots::find_mut(ws, n, t);
     };

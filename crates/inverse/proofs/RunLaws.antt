@@ -23,8 +23,8 @@ use Rattle.layout.specs.Words.{slot_at, decode}
 use Rattle.layout.specs.Meaning.{slot_means, kind_means, read_at, held_in, Clean}
 use Rattle.layout.specs.declared.Kind.{Kind}
 use Rattle.layout.specs.declared.Slot.{Slot}
-use Rattle.layout.specs.declared.Held.{Held}
-use Rattle.layout.specs.declared.Held.TheVariants.{Is, Nothing}
+use Rattle.layout.specs.Meaning.{Held}
+use Rattle.std.specs.Prelude.{Some, None}
 use Rattle.layout.proofs.Laws.{length_decode}
 use Rattle.layout.proofs.HeldLaws.{held_by_lem}
 use Rattle.roots.specs.Found.{Found}
@@ -44,8 +44,8 @@ self_in param g (nodes.Unknown p) = false
 self_in param g nodes.InferenceFailed = false
 
 abbrev self_by : Bool → (Ty → Bool) → List ℕ → Held → Bool
-self_by param g ks (Is i k) = self_in param g (nodes.Known false (kind_means ks k))
-self_by param g ks Nothing = false
+self_by param g ks (Some (i, k)) = self_in param g (nodes.Known false (kind_means ks k))
+self_by param g ks None = false
 
 self_step : (param : Bool) (f : ℕ) (ns : List Node) (a : ℕ) (st : State) → state_of (at ns a) ≡ st
     → self_inverse_at param (suc f) ns a ≡ self_in param (λ t. self_inverse_at param f ns (find ns t).idx) st
@@ -64,12 +64,12 @@ pick_yes true p d a e h = sym e
 pick_yes false p true a e h = sym h
 pick_yes false p false a e h = cc
 
-self_no : (param : Bool) (g : Ty → Bool) (ks : List ℕ) (i : Inverted) (k : Kind) → good_kind param k ≡ false → false ≡ self_by param g ks (Is i k)
+self_no : (param : Bool) (g : Ty → Bool) (ks : List ℕ) (i : Inverted) (k : Kind) → good_kind param k ≡ false → false ≡ self_by param g ks (Some (i, k))
 unfolding kind_means self_dual
 self_no param g ks i k e = pick_no (eqb k.code PARAM) param _ _ e
 
 self_yes : (param : Bool) (g : Ty → Bool) (ks : List ℕ) (i : Inverted) (k : Kind) → good_kind param k ≡ true → all g (kind_means ks k).kids ≡ true
-    → true ≡ self_by param g ks (Is i k)
+    → true ≡ self_by param g ks (Some (i, k))
 unfolding kind_means self_dual
 self_yes param g ks i k e h = pick_yes (eqb k.code PARAM) param _ _ e h
 
@@ -78,7 +78,7 @@ pick_param : (c p d a : Bool) → pick c p d ≡ true → c ≡ true → true �
 pick_param true p d a e h = sym e
 pick_param false p d a e h = cc
 
-self_param : (param : Bool) (g : Ty → Bool) (ks : List ℕ) (i : Inverted) (k : Kind) → good_kind param k ≡ true → k.code ≡ PARAM → true ≡ self_by param g ks (Is i k)
+self_param : (param : Bool) (g : Ty → Bool) (ks : List ℕ) (i : Inverted) (k : Kind) → good_kind param k ≡ true → k.code ≡ PARAM → true ≡ self_by param g ks (Some (i, k))
 unfolding kind_means
 self_param param g ks i k e h = pick_param (eqb k.code PARAM) param _ _ e (eq-eqb k.code PARAM h)
 
@@ -89,7 +89,7 @@ pick_run false p true a e h = refl
 pick_run false p false a e h = cc
 
 self_run : (param : Bool) (g : Ty → Bool) (ks : List ℕ) (i : Inverted) (k : Kind) → good_kind param k ≡ true → (k.code ≡ PARAM → ⊥)
-    → self_by param g ks (Is i k) ≡ all g (kids_in ks k.first k.count)
+    → self_by param g ks (Some (i, k)) ≡ all g (kids_in ks k.first k.count)
 unfolding kind_means self_dual
 self_run param g ks i k e h = pick_run (eqb k.code PARAM) param _ _ e (ne_eqb k.code PARAM h)
 
@@ -133,10 +133,10 @@ module _ (param : Bool) {ws : List ℕ} {n i : ℕ} {v : Held} (e : v ≡ held_i
     run = λ a m z. let y : ◌≡◌ {A = ℕ} 0 1 = cc in absurd (omega arith);
   }
 
-  pub judges_nothing : v ≡ Nothing → Judges ws n param i Bad
+  pub judges_nothing : v ≡ None → Judges ws n param i Bad
   judges_nothing s = judges_bad s (λ ks g. refl)
 
-  module _ {j : Inverted} {k : Kind} (s : v ≡ Is j k) {b : Bool} (g : b ≡ good_kind param k) where
+  module _ {j : Inverted} {k : Kind} (s : v ≡ Some (j, k)) {b : Bool} (g : b ≡ good_kind param k) where
     pub judges_no : b ≡ false → Judges ws n param i Bad
     judges_no q = judges_bad s (λ ks p. sym (self_no param p ks j k (sym g ∙ q)))
 

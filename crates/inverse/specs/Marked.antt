@@ -6,15 +6,15 @@ use Rattle.scope.proofs.Marks.{Walkable}
 use Rattle.scope.proofs.MarkLaws.{GoodBelow, Told}
 use Rattle.layout.specs.Words.{decode}
 use Rattle.layout.specs.Meaning.{read_at, held_in}
-use Rattle.layout.specs.declared.Held.{Held}
-use Rattle.layout.specs.declared.Held.TheVariants as held
+use Rattle.layout.specs.Meaning.{Held}
+use Rattle.std.specs.declared.option.Option.TheVariants as held
 use Rattle.related.specs.Stands.{Stands}
 use Rattle.inverse.specs.Judged.{good_kind}
 
 -- a root that lets a type be its own inverse, children apart
 abbrev pub good_by : Bool → Held → Bool
-good_by param (held.Is i k) = good_kind param k
-good_by param held.Nothing = false
+good_by param (held.Some (i, k)) = good_kind param k
+good_by param held.None = false
 
 -- a node that the walk did not mark, or one with a good kind
 abbrev pub good_at : List ℕ → ℕ → List ℕ → Bool → ℕ → Bool

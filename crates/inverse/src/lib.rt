@@ -10,7 +10,7 @@ ghost use Rattle.related.specs.Stands.{Stands};
 ghost use Rattle.inverse.specs.Judged.{kids_in, good_kind, Judges, Tries, Glanced};
 ghost use Rattle.inverse.specs.Marked.{good_by, good_at, Beside, MarkedAll};
 
-use layout::{Held, Kind};
+use layout::Kind;
 use types::{Type, TypeIdx};
 
 // What a look at children tells of what is asked, whether a node is below or whether one is not good: there is one, or there is none, or only a walk with marks can tell.
@@ -52,7 +52,7 @@ fn judge(ws: &[u32], n: u32, i: TypeIdx, param: bool) -> Judgement
     requires { node_words n ≤ length ws.now }
     ensures { Judges ws.now n param i.0 result }
 {
-    let Held::Is(_, kind) = layout::held_at(ws, n, i) else {
+    let Some((_, kind)) = layout::held_at(ws, n, i) else {
         return Judgement::Bad;
     };
     if !good_kind(kind, param) {
@@ -160,8 +160,8 @@ fn good_at(ws: &[u32], n: u32, i: TypeIdx, param: bool) -> bool
     ensures { result ≡ good_by param (held_in (read_at ws.now n i.0)) }
 {
     match layout::held_at(ws, n, i) {
-        Held::Is(_, kind) => good_kind(kind, param),
-        Held::Nothing => false,
+        Some((_, kind)) => good_kind(kind, param),
+        None => false,
     }
 }
 

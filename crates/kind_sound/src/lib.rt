@@ -15,7 +15,7 @@ ghost use Rattle.layout.specs.Words.{slots};
 ghost use Rattle.layout.specs.Meaning.{kind_means, node_means, remembered_means};
 
 use kinds::{AS_CHART, CHILD_NAMES, ERROR, OWN_NAME, PARAMETER_NAMES};
-use layout::{Kind, Remembered, TypeNode, TypeState};
+use layout::{Kind, TypeNode, TypeState};
 use names::{NO_NAME, Name};
 use scope::MAX_WIDTH;
 
@@ -148,12 +148,12 @@ pub fn kids_inside(k: Kind, ks: &[u32], n: u32) -> bool
     true
 }
 
-pub fn remembered_inside(t: Remembered, n: u32) -> bool
+pub fn remembered_inside(t: Option<Type>, n: u32) -> bool
     ensures { (ns : List Node) → length ns ≡ n → result ≡ remembered ns (remembered_means t) }
 {
     match t {
-        Remembered::Is(t) => refusals::type_inside(t, n),
-        Remembered::Nothing => true,
+        Some(t) => refusals::type_inside(t, n),
+        None => true,
     }
 }
 

@@ -23,8 +23,8 @@ use Rattle.layout.specs.Meaning.{flag_word, cell_by, cell_in, words_of, node_of,
 use Rattle.layout.specs.Meaning.{read_at, put_at, held_in, cell_means, kind_cell, kind_means, node_means, kind_fits, node_fits, type_of, slot_means}
 use Rattle.layout.specs.declared.Cell.{Cell}
 use Rattle.layout.specs.declared.Kind.{Kind}
-use Rattle.layout.specs.declared.Held.{Held}
-use Rattle.layout.specs.declared.Held.TheVariants.{Is, Nothing}
+use Rattle.layout.specs.Meaning.{Held}
+use Rattle.std.specs.Prelude.{Some, None}
 use Rattle.layout.specs.declared.TypeState.TheVariants.{Known, Unknown, InferenceFailed}
 use Rattle.layout.specs.declared.TypeNode.{TypeNode}
 use Rattle.layout.specs.declared.TypeNode.TheVariants.{Root, Child}
@@ -306,7 +306,7 @@ module _ (c : Cell) (zero : c.tag ≡ 0 → ⊥) (one : c.tag ≡ 1 → ⊥) (tw
   unfolding node_of
   node_known = rw (ne_eqb c.tag 0 zero, ne_eqb c.tag 1 one, ne_eqb c.tag 2 two)
 
-held_low : (c : Cell) (m : ℕ) → c.tag ≡ m → m ≤ 2 → Nothing ≡ held_in (node_of c)
+held_low : (c : Cell) (m : ℕ) → c.tag ≡ m → m ≤ 2 → None ≡ held_in (node_of c)
 held_low c zero t h = ap held_in (node_child c t)
 held_low c (suc zero) t h = ap held_in (node_unknown c t)
 held_low c (suc (suc zero)) t h = ap held_in (node_failed c t)
@@ -329,10 +329,10 @@ module _ (ws : List ℕ) (n i : ℕ) (h : i < n) {c : Cell} (e : c ≡ cell_in (
   pub read_known : {k : Kind} → (c.tag ≡ 0 → ⊥) → (c.tag ≡ 1 → ⊥) → (c.tag ≡ 2 → ⊥) → k ≡ cell_kind c → Root (Known (record { 0 = eqb c.inv 1 }) k) c.size ≡ read_at ws n i
   read_known x y z f = rw f (node_known c x y z ∙ read_cell)
 
-  pub held_none : c.tag ≤ 2 → Nothing ≡ held_in (read_at ws n i)
+  pub held_none : c.tag ≤ 2 → None ≡ held_in (read_at ws n i)
   held_none t = held_low c c.tag refl t ∙ ap held_in read_cell
 
-  pub held_kind : {k : Kind} → 2 < c.tag → k ≡ cell_kind c → Is (record { 0 = eqb c.inv 1 }) k ≡ held_in (read_at ws n i)
+  pub held_kind : {k : Kind} → 2 < c.tag → k ≡ cell_kind c → Some ((record { 0 = eqb c.inv 1 }), k) ≡ held_in (read_at ws n i)
   held_kind t f = rw f (ap held_in (node_known c (λ q. omega arith) (λ q. omega arith) (λ q. omega arith) ∙ read_cell))
 
 -- `put_node`: place k of node i's part, after the words before it

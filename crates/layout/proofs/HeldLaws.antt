@@ -13,8 +13,8 @@ use Rattle.types.specs.declared.Inverted.{Inverted}
 use Rattle.layout.specs.Words.{decode}
 use Rattle.layout.specs.Meaning.{read_at, node_state, node_size, held_by, held_in, held_kids, kind_means, state_means, node_means, kind_fits, state_fits, node_fits, Clean}
 use Rattle.layout.specs.declared.Kind.{Kind}
-use Rattle.layout.specs.declared.Held.{Held}
-use Rattle.layout.specs.declared.Held.TheVariants.{Is, Nothing}
+use Rattle.layout.specs.Meaning.{Held}
+use Rattle.std.specs.Prelude.{Some, None}
 use Rattle.layout.specs.declared.TypeState.{TypeState}
 use Rattle.layout.specs.declared.TypeState.TheVariants.{Known, Unknown, InferenceFailed}
 use Rattle.layout.specs.declared.TypeNode.{TypeNode}
@@ -40,7 +40,7 @@ pub held_told : {v w : TypeNode} {st st' : TypeState} → v ≡ w → st ≡ nod
 held_told e s t = ap held_by (sym t ∙ (s ∙ ap node_state e))
 
 -- a state that holds a kind
-pub held_state : (st : TypeState) (i : Inverted) (k : Kind) → held_by st ≡ Is i k → st ≡ Known i k
+pub held_state : (st : TypeState) (i : Inverted) (k : Kind) → held_by st ≡ Some (i, k) → st ≡ Known i k
 held_state (Known j m) i k e = cc
 held_state (Unknown s) i k e = let z : ◌≡◌ {A = ℕ} 0 1 = cc in absurd (omega arith)
 held_state InferenceFailed i k e = let z : ◌≡◌ {A = ℕ} 0 1 = cc in absurd (omega arith)
@@ -48,8 +48,8 @@ held_state InferenceFailed i k e = let z : ◌≡◌ {A = ℕ} 0 1 = cc in absur
 -- f of a state, by what the state holds
 
 state_by : {A : Type 0} (ks : List ℕ) (f : nodes.State → A) (h : Held → A)
-    → ((i : Inverted) (k : Kind) → f (nodes.Known i.0 (kind_means ks k)) ≡ h (Is i k))
-    → ((s : ℕ) → f (nodes.Unknown s) ≡ h Nothing) → f nodes.InferenceFailed ≡ h Nothing
+    → ((i : Inverted) (k : Kind) → f (nodes.Known i.0 (kind_means ks k)) ≡ h (Some (i, k)))
+    → ((s : ℕ) → f (nodes.Unknown s) ≡ h None) → f nodes.InferenceFailed ≡ h None
     → (st : TypeState) → f (state_means ks st) ≡ h (held_by st)
 state_by ks f h a b c (Known i k) = a i k
 state_by ks f h a b c (Unknown s) = b s
@@ -70,8 +70,8 @@ module _ (ws ks : List ℕ) (c n : ℕ) (cl : Clean ws ks c n) (i : ℕ) where
   module _ {r q : Held} (e : r ≡ held_in (read_at ws n i)) (s : r ≡ q) where
     -- what f takes of the node's state, h takes of what it holds
     pub held_by_lem : {A : Type 0} (f : nodes.State → A) (h : Held → A)
-        → ((j : Inverted) (k : Kind) → f (nodes.Known j.0 (kind_means ks k)) ≡ h (Is j k))
-        → ((p : ℕ) → f (nodes.Unknown p) ≡ h Nothing) → f nodes.InferenceFailed ≡ h Nothing
+        → ((j : Inverted) (k : Kind) → f (nodes.Known j.0 (kind_means ks k)) ≡ h (Some (j, k)))
+        → ((p : ℕ) → f (nodes.Unknown p) ≡ h None) → f nodes.InferenceFailed ≡ h None
         → f (state_of (at (decode ws ks n) i)) ≡ h q
     held_by_lem f h a b d =
         ap f (sym state_read) ∙ (state_by ks f h a b d (node_state (read_at ws n i)) ∙ ap h (sym e ∙ s))
@@ -79,7 +79,7 @@ module _ (ws ks : List ℕ) (c n : ℕ) (cl : Clean ws ks c n) (i : ℕ) where
     pub held_kids_lem : kids_of (state_of (at (decode ws ks n) i)) ≡ held_kids ks q
     held_kids_lem = held_by_lem kids_of (held_kids ks) (λ j k. refl) (λ p. refl) refl
 
-  module _ {r : Held} {j : Inverted} {k : Kind} (e : r ≡ held_in (read_at ws n i)) (s : r ≡ Is j k) where
+  module _ {r : Held} {j : Inverted} {k : Kind} (e : r ≡ held_in (read_at ws n i)) (s : r ≡ Some (j, k)) where
     known : node_state (read_at ws n i) ≡ Known j k
     known = held_state (node_state (read_at ws n i)) j k (sym e ∙ s)
 

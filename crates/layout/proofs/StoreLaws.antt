@@ -17,8 +17,8 @@ use Rattle.layout.specs.Words.{HEAD_WORDS, node_words, child_words, node_clean, 
 use Rattle.layout.specs.Words.{long_enough, between, unused_zero, nodes_clean, clean, lent_of}
 use Rattle.layout.specs.Meaning.{HALF, remembered_of, remembered_word, remembered_means, remembered_fits, header_in, put_header, store_means, Clean, Lies, Grown}
 use Rattle.layout.specs.declared.Header.{Header}
-use Rattle.layout.specs.declared.Remembered.{Remembered}
-use Rattle.layout.specs.declared.Remembered.TheVariants.{Is, Nothing}
+use Rattle.layout.specs.Meaning.{Remembered}
+use Rattle.std.specs.Prelude.{Some, None}
 use Rattle.layout.proofs.Lists.{and_both, and_left, and_right, all_from, from_all}
 
 -- the header
@@ -36,8 +36,8 @@ unfolding store_in
 store_header h ws ks = rw (remembered_means_lem (get_or h 4 0), remembered_means_lem (get_or h 5 0))
 
 remembered_back : (r : Remembered) → remembered_fits r ≡ true → remembered_of (remembered_word r) ≡ r
-remembered_back (Is t) e = rw (not-true (eqb t.0 NONE) e)
-remembered_back Nothing e = refl
+remembered_back (Some t) e = rw (not-true (eqb t.0 NONE) e)
+remembered_back None e = refl
 
 halves : (r : ℕ) → r % HALF + r / HALF * 4294967296 ≡ r
 halves r = omega arith

@@ -21,10 +21,17 @@ use Rattle.layout.specs.declared.TypeState.{TypeState}
 use Rattle.layout.specs.declared.TypeState.TheVariants.{Known, Unknown, InferenceFailed}
 use Rattle.layout.specs.declared.TypeNode.{TypeNode}
 use Rattle.layout.specs.declared.TypeNode.TheVariants.{Root, Child}
-use Rattle.layout.specs.declared.Held.{Held}
-use Rattle.layout.specs.declared.Held.TheVariants as held
-use Rattle.layout.specs.declared.Remembered.{Remembered}
-use Rattle.layout.specs.declared.Remembered.TheVariants.{Is, Nothing}
+use Rattle.std.specs.declared.option.Option.TheVariants as held
+use Rattle.std.specs.Prelude.{Some, None}
+use Rattle.std.specs.declared.option.Option as option
+
+-- a node's inversion and kind, if it has a kind
+abbrev pub Held : Type 0
+Held = option.Option (Inverted × Kind)
+
+-- a type that `error` or `nil` returns again, if there is one
+abbrev pub Remembered : Type 0
+Remembered = option.Option «Type»
 
 abbrev pub CHILD_TAG : ℕ
 CHILD_TAG = 0
@@ -148,9 +155,9 @@ node_size (Root st z) = z
 node_size (Child t) = 0
 
 abbrev pub held_by : TypeState → Held
-held_by (Known i k) = held.Is i k
-held_by (Unknown s) = held.Nothing
-held_by InferenceFailed = held.Nothing
+held_by (Known i k) = held.Some (i, k)
+held_by (Unknown s) = held.None
+held_by InferenceFailed = held.None
 
 abbrev pub held_in : TypeNode → Held
 held_in v = held_by (node_state v)
@@ -220,8 +227,8 @@ node_means ks (Child t) = nodes.Child (ty_of t.0)
 
 -- the children of what a node holds
 abbrev pub held_kids : List ℕ → Held → List Ty
-held_kids ks (held.Is i k) = (kind_means ks k).kids
-held_kids ks held.Nothing = []
+held_kids ks (held.Some (i, k)) = (kind_means ks k).kids
+held_kids ks held.None = []
 
 -- a kind that may stand in a node: its children lie among the c made, and names that it does not have are zeros
 unfoldable pub kind_fits : List ℕ → ℕ → Kind → Bool
@@ -261,20 +268,20 @@ abbrev pub HALF : ℕ
 HALF = 4294967296
 
 abbrev pub remembered_of : ℕ → Remembered
-remembered_of w = pick (eqb w NONE) Nothing (Is (type_of w))
+remembered_of w = pick (eqb w NONE) None (Some (type_of w))
 
 abbrev pub remembered_word : Remembered → ℕ
-remembered_word (Is t) = t.0
-remembered_word Nothing = NONE
+remembered_word (Some t) = t.0
+remembered_word None = NONE
 
 abbrev pub remembered_means : Remembered → Option Ty
-remembered_means (Is t) = some (ty_of t.0)
-remembered_means Nothing = none
+remembered_means (Some t) = some (ty_of t.0)
+remembered_means None = none
 
 -- no store has the node whose inverse is the number that means none
 abbrev pub remembered_fits : Remembered → Bool
-remembered_fits (Is t) = not (eqb t.0 NONE)
-remembered_fits Nothing = true
+remembered_fits (Some t) = not (eqb t.0 NONE)
+remembered_fits None = true
 
 abbrev pub header_in : List ℕ → Header
 header_in h = record {

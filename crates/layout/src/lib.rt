@@ -59,13 +59,6 @@ pub enum TypeNode {
     Child(Type),
 }
 
-// A node's inversion and kind, if it has a kind.
-#[derive(Clone, Copy)]
-pub enum Held {
-    Is(Inverted, Kind),
-    Nothing,
-}
-
 // A node's twelve words.
 #[derive(Clone, Copy)]
 pub struct Cell {
@@ -88,13 +81,6 @@ pub struct Slot {
     pub name: Name,
 }
 
-// A type that `error` or `nil` returns again, if there is one.
-#[derive(Clone, Copy)]
-pub enum Remembered {
-    Is(Type),
-    Nothing,
-}
-
 // What of a store is no node: the counts, the capacities, the remembered types and the report count.
 #[derive(Clone, Copy)]
 pub struct Header {
@@ -102,8 +88,8 @@ pub struct Header {
     pub children: u32,
     pub node_room: u32,
     pub child_room: u32,
-    pub error: Remembered,
-    pub nil: Remembered,
+    pub error: Option<Type>,
+    pub nil: Option<Type>,
     pub reports: u64,
 }
 
@@ -223,18 +209,18 @@ pub fn size_of(node: TypeNode) -> u32
 }
 
 // The kind of node i of n.
-pub fn held_at(ws: &[u32], n: u32, i: TypeIdx) -> Held
+pub fn held_at(ws: &[u32], n: u32, i: TypeIdx) -> Option<(Inverted, Kind)>
     requires { node_words n ≤ length ws.now }
     ensures { result ≡ held_in (read_at ws.now n i.0) }
 {
     if n <= i.0 {
-        return Held::Nothing;
+        return None;
     }
     let c = cell_at(ws, i);
     if c.tag <= FAILED_TAG {
-        return Held::Nothing;
+        return None;
     }
-    Held::Is(Inverted(c.inv == 1), kind_in(c))
+    Some((Inverted(c.inv == 1), kind_in(c)))
 }
 
 // Another node i of n; past them nothing changes.
@@ -327,22 +313,22 @@ pub fn put_child(ks: &mut [u32], i: usize, c: Slot)
     s[3] = c.name.len;
 }
 
-pub fn remembered_of(w: u32) -> Remembered
+pub fn remembered_of(w: u32) -> Option<Type>
     ensures { result ≡ remembered_of w }
 {
     if w == NONE {
-        Remembered::Nothing
+        None
     } else {
-        Remembered::Is(Type(w))
+        Some(Type(w))
     }
 }
 
-fn remembered_word(t: Remembered) -> u32
+fn remembered_word(t: Option<Type>) -> u32
     ensures { result ≡ remembered_word t }
 {
     match t {
-        Remembered::Is(t) => t.0,
-        Remembered::Nothing => NONE,
+        Some(t) => t.0,
+        None => NONE,
     }
 }
 

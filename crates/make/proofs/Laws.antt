@@ -11,7 +11,7 @@ use Rattle.scope.specs.Nodes as nodes
 use Rattle.layout.specs.Words.{node_words, child_words, nodes_made, children_made, node_room, child_room, decode, clean}
 use Rattle.layout.specs.Meaning.{put_at, header_in, put_header, store_means, state_means, state_fits, remembered_fits, Clean, Kept, Lies, Grown}
 use Rattle.layout.specs.declared.Header.{Header}
-use Rattle.layout.specs.declared.Remembered.{Remembered}
+use Rattle.layout.specs.Meaning.{Remembered}
 use Rattle.layout.specs.declared.TypeState.{TypeState}
 use Rattle.layout.specs.declared.TypeNode.TheVariants.{Root}
 use Rattle.layout.proofs.Lists.{drop_later}

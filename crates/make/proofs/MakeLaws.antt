@@ -24,8 +24,8 @@ use Rattle.layout.specs.Meaning.{HALF, type_of, header_in, put_header, put_at, s
 use Rattle.heads.specs.Heads.{put_counts}
 use Rattle.layout.specs.declared.Header.{Header}
 use Rattle.layout.specs.declared.Kind.{Kind}
-use Rattle.layout.specs.declared.Remembered.{Remembered}
-use Rattle.layout.specs.declared.Remembered.TheVariants.{Is, Nothing}
+use Rattle.layout.specs.Meaning.{Remembered}
+use Rattle.std.specs.Prelude.{Some, None}
 use Rattle.layout.specs.declared.TypeState.{TypeState}
 use Rattle.layout.specs.declared.TypeState.TheVariants.{Known, Unknown}
 use Rattle.layout.specs.declared.TypeNode.TheVariants.{Root}
@@ -194,25 +194,25 @@ module _ {h ws ks h' ws' : List ℕ} {e z : Remembered} {t : «Type»} (c : ℕ)
 
 -- the type of the next node may be remembered
 module _ {h ws ks : List ℕ} {c : ℕ} (r : Ready h ws ks 1 c) where
-  next_fits : remembered_fits (Is (type_of (nodes_made h))) ≡ true
+  next_fits : remembered_fits (Some (type_of (nodes_made h))) ≡ true
   next_fits =
       let o : RoomIn h 1 c = ready_room r in
       rw (ne_eqb (nodes_made h) NONE (λ q. omega arith)) refl
 
-  next_means : remembered_means (Is (type_of (nodes_made h))) ≡ some (next_type (store_in h ws ks))
+  next_means : remembered_means (Some (type_of (nodes_made h))) ≡ some (next_type (store_in h ws ks))
   next_means =
       let o : RoomIn h 1 c = ready_room r in
       ap some (ty_plain (nodes_made h) (omega arith) ∙ ap (ty false) (sym (store_count h ws ks)))
 
 -- `remembered_or_new`: its two ways out
 
-clash : {A : Type 0} {was : Remembered} {u : «Type»} → was ≡ Is u → was ≡ Nothing → A
+clash : {A : Type 0} {was : Remembered} {u : «Type»} → was ≡ Some u → was ≡ None → A
 clash p q = let v : ◌≡◌ {A = ℕ} 0 1 = cc in absurd (omega arith)
 
-pub once_same : {h ws : List ℕ} {x : Header} {was e z : Remembered} {c : ℕ} {t : «Type»} → was ≡ Is t → OnceMade h ws h ws x was e z c t
+pub once_same : {h ws : List ℕ} {x : Header} {was e z : Remembered} {c : ℕ} {t : «Type»} → was ≡ Some t → OnceMade h ws h ws x was e z c t
 once_same {t = t} q = record { same = λ u p. let v : t ≡ u = cc in (v, (refl, refl)); new = λ p. clash q p }
 
-pub once_new : {h ws h' ws' : List ℕ} {x : Header} {was e z : Remembered} {c : ℕ} {k : Kind} {t : «Type»} → was ≡ Nothing → k ≡ bare_kind c
+pub once_new : {h ws h' ws' : List ℕ} {x : Header} {was e z : Remembered} {c : ℕ} {k : Kind} {t : «Type»} → was ≡ None → k ≡ bare_kind c
     → Pushed h ws h' ws' x 0 e z (Known (record { 0 = false }) k) t → OnceMade h ws h' ws' x was e z c t
 once_new q b o = record { same = λ u p. clash p q; new = λ p. rw b at o }
 
@@ -235,10 +235,10 @@ module _ (h ws ks : List ℕ) (c : ℕ) (row : (row_of c).names ≡ NO_NAMES) (r
 
   once_by : (was : Remembered) {h' ws' : List ℕ} {t : «Type»} → Ready h ws ks (nodes_for (remembered_means was)) 0 → (Ready h ws ks 1 0 → Remembers)
       → OnceMade h ws h' ws' (header_in h) was e z c t → MadeIs h ws ks h' ws' ks t (again s (remembered_means was) (remember (new s (bare c))))
-  once_by (Is u) r f o =
+  once_by (Some u) r f o =
       let p = o.same u refl in
       rw (p.0, p.1.0, p.1.1) (same_made u r.clean)
-  once_by Nothing r f o =
+  once_by None r f o =
       let m : Remembers = f r in
       let p = o.new refl in
       rw m.makes (record { type = pushed_type r p; store = bare_became c row r p m.first m.second })
@@ -264,7 +264,7 @@ once_ready {h} {ws} {ks} k g r = record { head = (clean_lies h ws ks k).head; pu
 
 module _ (h ws ks : List ℕ) where
   abbrev next : Remembered
-  next = Is (type_of (nodes_made h))
+  next = Some (type_of (nodes_made h))
 
   error_kept : Ready h ws ks 1 0 → Remembers h ws ks ERROR error_row remember_error next (header_in h).nil
   unfolding new

@@ -5,8 +5,8 @@ use Rattle.layout.specs.Words.{HEAD_WORDS, node_words, nodes_made}
 use Rattle.layout.specs.Meaning.{HALF, cell_words, header_in, put_at, put_header}
 use Rattle.heads.specs.Heads.{no_words}
 use Rattle.layout.specs.declared.Header.{Header}
-use Rattle.layout.specs.declared.Remembered.{Remembered}
-use Rattle.layout.specs.declared.Remembered.TheVariants.{Is, Nothing}
+use Rattle.layout.specs.Meaning.{Remembered}
+use Rattle.std.specs.Prelude.{Some, None}
 use Rattle.layout.specs.declared.TypeState.{TypeState}
 use Rattle.layout.specs.declared.TypeState.TheVariants.{Known}
 use Rattle.layout.specs.declared.TypeNode.TheVariants.{Root}
@@ -23,8 +23,8 @@ fresh n c r = record {
   children = 0;
   node_room = n;
   child_room = c;
-  error = Nothing;
-  nil = Nothing;
+  error = None;
+  nil = None;
   reports = r;
 }
 
@@ -73,9 +73,9 @@ pub record Pushed (h ws h' ws' : List ℕ) (x : Header) (c : ℕ) (e n : Remembe
 -- a type that is made once: it is remembered, or there are the words for one node more
 pub record OnceReady (h ws : List ℕ) (x : Header) (was : Remembered) : Type 0 where
   pub head : HEAD_WORDS ≤ length h
-  pub pushable : was ≡ Nothing → Pushable h ws x 0
+  pub pushable : was ≡ None → Pushable h ws x 0
 
 -- the type that was remembered and every word as found, or a root more whose kind has no children
 pub record OnceMade (h ws h' ws' : List ℕ) (x : Header) (was e n : Remembered) (code : ℕ) (t : «Type») : Type 0 where
-  pub same : (u : «Type») → was ≡ Is u → (t ≡ u) × ((h' ≡ h) × (ws' ≡ ws))
-  pub new : was ≡ Nothing → Pushed h ws h' ws' x 0 e n (Known (record { 0 = false }) (bare_kind code)) t
+  pub same : (u : «Type») → was ≡ Some u → (t ≡ u) × ((h' ≡ h) × (ws' ≡ ws))
+  pub new : was ≡ None → Pushed h ws h' ws' x 0 e n (Known (record { 0 = false }) (bare_kind code)) t

@@ -8,7 +8,7 @@ use Rattle.types.specs.declared.«Type».{«Type»}
 use Rattle.layout.specs.Words.{nodes_made, store_in}
 use Rattle.layout.specs.Words as words
 use Rattle.layout.specs.Meaning.{put_at, remembered_fits}
-use Rattle.layout.specs.declared.Remembered.{Remembered}
+use Rattle.layout.specs.Meaning.{Remembered}
 use Rattle.layout.specs.declared.TypeState.TheVariants as layout
 use Rattle.layout.specs.declared.TypeNode.TheVariants.{Root}
 use Rattle.store.specs.Holds.{Became}

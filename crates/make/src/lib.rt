@@ -10,7 +10,6 @@ ghost use Rattle.layout.specs.Words.{HEAD_WORDS, child_words, nodes_made, store_
 ghost use Rattle.layout.specs.Words as words;
 ghost use Rattle.layout.specs.Meaning.{type_of, header_in, put_header};
 ghost use Rattle.layout.specs.declared.TypeState.TheVariants.{Unknown, Known};
-ghost use Rattle.layout.specs.declared.Remembered.TheVariants.{Is};
 ghost use Rattle.scope.specs.Kinds as kind;
 ghost use Rattle.store.specs.Bare.{bare_kind};
 ghost use Rattle.store.specs.Holds.{Became, Openable, Ready};
@@ -19,7 +18,7 @@ ghost use Rattle.make.specs.Header.{Pushable, Pushed, BlankReady, OnceReady, Onc
 ghost use Rattle.make.specs.Given.{KindReady, Put, kind_at, kind_given};
 
 use kinds::{ERROR, TUPLE};
-use layout::{Header, Kind, Remembered, TypeNode, TypeState};
+use layout::{Header, Kind, TypeNode, TypeState};
 use names::Name;
 use types::{Inverted, Type, TypeIdx};
 
@@ -54,8 +53,8 @@ fn no_nodes(node_room: u32, child_room: u32, reports: u64) -> Header
         children: 0,
         node_room,
         child_room,
-        error: Remembered::Nothing,
-        nil: Remembered::Nothing,
+        error: None,
+        nil: None,
         reports,
     }
 }
@@ -116,8 +115,8 @@ fn push_bare(
     h: &mut [u32],
     ws: &mut [u32],
     x: Header,
-    error: Remembered,
-    nil: Remembered,
+    error: Option<Type>,
+    nil: Option<Type>,
     code: u32,
 ) -> Type
     requires { Pushable h.old ws.old x 0 }
@@ -149,7 +148,7 @@ pub fn new_var(h: &mut [u32], ws: &mut [u32], ks: &[u32], span: u32) -> Type
 }
 
 // Other remembered types, and nothing else changed.
-pub fn remember(h: &mut [u32], error: Remembered, nil: Remembered)
+pub fn remember(h: &mut [u32], error: Option<Type>, nil: Option<Type>)
     requires { HEAD_WORDS ≤ length h.old }
     ensures { h.new ≡ put_header h.old (with_remembered (header_in h.old) error nil) }
 {
@@ -170,15 +169,15 @@ pub fn remember(h: &mut [u32], error: Remembered, nil: Remembered)
 pub fn error_once(h: &mut [u32], ws: &mut [u32]) -> Type
     requires { OnceReady h.old ws.old (header_in h.old) (header_in h.old).error }
     ensures { OnceMade h.old ws.old h.new ws.new (header_in h.old) (header_in h.old).error
-        (Is (type_of (nodes_made h.old))) (header_in h.old).nil kind.ERROR result }
+        (Some (type_of (nodes_made h.old))) (header_in h.old).nil kind.ERROR result }
 {
     let was = heads::error_made(h);
     match was {
-        Remembered::Is(t) => t,
-        Remembered::Nothing => {
+        Some(t) => t,
+        None => {
             let x = layout::read_header(h);
             let nil = x.nil;
-            let next = Remembered::Is(Type(x.nodes));
+            let next = Some(Type(x.nodes));
             push_bare(h, ws, x, next, nil, ERROR)
         }
     }
@@ -188,15 +187,15 @@ pub fn error_once(h: &mut [u32], ws: &mut [u32]) -> Type
 pub fn nil_once(h: &mut [u32], ws: &mut [u32]) -> Type
     requires { OnceReady h.old ws.old (header_in h.old) (header_in h.old).nil }
     ensures { OnceMade h.old ws.old h.new ws.new (header_in h.old) (header_in h.old).nil
-        (header_in h.old).error (Is (type_of (nodes_made h.old))) kind.TUPLE result }
+        (header_in h.old).error (Some (type_of (nodes_made h.old))) kind.TUPLE result }
 {
     let was = heads::nil_made(h);
     match was {
-        Remembered::Is(t) => t,
-        Remembered::Nothing => {
+        Some(t) => t,
+        None => {
             let x = layout::read_header(h);
             let error = x.error;
-            let next = Remembered::Is(Type(x.nodes));
+            let next = Some(Type(x.nodes));
             push_bare(h, ws, x, error, next, TUPLE)
         }
     }

@@ -39,8 +39,8 @@ use Rattle.layout.specs.declared.TypeState.{TypeState}
 use Rattle.layout.specs.declared.TypeState.TheVariants.{Known, Unknown, InferenceFailed}
 use Rattle.layout.specs.declared.TypeNode.{TypeNode}
 use Rattle.layout.specs.declared.TypeNode.TheVariants.{Root, Child}
-use Rattle.layout.specs.declared.Held.{Held}
-use Rattle.layout.specs.declared.Held.TheVariants.{Is, Nothing}
+use Rattle.layout.specs.Meaning.{Held}
+use Rattle.std.specs.Prelude.{Some, None}
 use Rattle.layout.proofs.Lists.{and_left}
 use Rattle.layout.proofs.Laws.{length_decode, read_node}
 use Rattle.layout.proofs.HeldLaws.{held_by_lem, held_kids_lem, held_known_lem, held_fits}
@@ -52,9 +52,7 @@ use Rattle.walk.specs.Asks.{Walks}
 use Rattle.meeting.specs.Asks.{SoundWords, Pair, Tops}
 use Rattle.meeting.specs.Steps.{Ascends}
 use Rattle.meeting.specs.Meets.{does, walks, walked_by, Met, OneNode, Bare, WalkedTo, bare_states, bare_nodes, bare_roots}
-use Rattle.meeting.specs.declared.Meeting.TheVariants.{Walk, Kids}
-use Rattle.meeting.specs.declared.Walked.{Walked}
-use Rattle.meeting.specs.declared.Walked.TheVariants.{Done, Bind}
+use Rattle.meeting.specs.Meets.{Walked}
 use Rattle.meeting.proofs.StepLaws.{plan_spans, plan_ready, object_ascends}
 
 pub words_walk : {x : Texts} {ws ks : List ℕ} {n : ℕ} → SoundWords x ws ks n → Walks ws ks n
@@ -111,33 +109,33 @@ module _ {ws ks : List ℕ} {n : ℕ} {a b : Ty} where
   unfolding bind
   bare_by t m e f = record { same = ap (bind_if (decode ws ks n) a b) e ∙ f }
 
-  pub bare_first : {i : ℕ} {t : Bool} → i ≡ a.idx → t ≡ occurs n (decode ws ks n) i b.idx → t ≡ true → Bare ws ks n a b (Done Failure)
-  bare_first e f h = bare_by true (Done Failure) (rw (← e, ← f, h) refl) refl
+  pub bare_first : {i : ℕ} {t : Bool} → i ≡ a.idx → t ≡ occurs n (decode ws ks n) i b.idx → t ≡ true → Bare ws ks n a b (Some Failure)
+  bare_first e f h = bare_by true (Some Failure) (rw (← e, ← f, h) refl) refl
 
   module _ {i : ℕ} {t : Bool} (e : i ≡ a.idx) (f : t ≡ occurs n (decode ws ks n) i b.idx) (h : t ≡ false)
       {j : ℕ} {s : Bool} (e' : j ≡ b.idx) (f' : s ≡ occurs n (decode ws ks n) j a.idx) where
-    pub bare_second : s ≡ true → Bare ws ks n a b (Done Failure)
+    pub bare_second : s ≡ true → Bare ws ks n a b (Some Failure)
     bare_second g =
         let ns : List Node = decode ws ks n in
-        bare_by true (Done Failure) (rw (occurs_is n ns a.idx b.idx e f h, occurs_is n ns b.idx a.idx e' f' g) refl) refl
+        bare_by true (Some Failure) (rw (occurs_is n ns a.idx b.idx e f h, occurs_is n ns b.idx a.idx e' f' g) refl) refl
 
-    pub bare_binds : s ≡ false → Bare ws ks n a b Bind
+    pub bare_binds : s ≡ false → Bare ws ks n a b None
     bare_binds g =
         let ns : List Node = decode ws ks n in
-        bare_by false Bind (rw (occurs_is n ns a.idx b.idx e f h, occurs_is n ns b.idx a.idx e' f' g) refl) refl
+        bare_by false None (rw (occurs_is n ns a.idx b.idx e f h, occurs_is n ns b.idx a.idx e' f' g) refl) refl
 
   pub bare_alone : {x : Texts} {i : ℕ} {t : Bool} {h : Held} → Pair x ws ks n a b → i ≡ a.idx → t ≡ occurs n (decode ws ks n) i b.idx → t ≡ false
-      → h ≡ held_in (read_at ws n i) → h ≡ Nothing → Bare ws ks n a b Bind
+      → h ≡ held_in (read_at ws n i) → h ≡ None → Bare ws ks n a b None
   bare_alone {i = i} p e f g u v =
       let ns : List Node = decode ws ks n in
       let o : occurs n ns a.idx b.idx ≡ false = occurs_is n ns a.idx b.idx e f g in
       let k : kids_of (nodes.state_of (at ns a.idx)) ≡ [] =
       subst (λ (j : ℕ). kids_of (nodes.state_of (at ns j)) ≡ []) e (held_kids_lem ws ks p.words.children n p.words.clean i u v) in
-      bare_by false Bind (rw (o, occurs_back n ns a.idx b.idx (omega (arith, p.first)) o k) refl) refl
+      bare_by false None (rw (o, occurs_back n ns a.idx b.idx (omega (arith, p.first)) o k) refl) refl
 
   -- `walk_roots`
 
-  pub walked_same : {i j : ℕ} {q : UnifyResult} → i ≡ a.idx → j ≡ b.idx → i ≡ j → OneNode ws ks n a b q → WalkedTo ws ks n a b (Done q)
+  pub walked_same : {i j : ℕ} {q : UnifyResult} → i ≡ a.idx → j ≡ b.idx → i ≡ j → OneNode ws ks n a b q → WalkedTo ws ks n a b (Some q)
   walked_same e f g s = record { same = rw (eq-eqb a.idx b.idx (sym e ∙ (g ∙ f))) (ap (out (decode ws ks n)) s.is) }
 
   pub walked_bare : {i j : ℕ} {m : Walked} → i ≡ a.idx → j ≡ b.idx → (i ≡ j → ⊥) → Bare ws ks n a b m → WalkedTo ws ks n a b m
@@ -147,8 +145,8 @@ module _ {ws ks : List ℕ} {n : ℕ} {a b : Ty} where
 
 -- the kind of a root as a type t of it sees it, by what the code holds of it
 abbrev seen : List ℕ → Ty → Held → Option (Bool × nodes.Kind)
-seen ks t (Is i k) = some (xor i.0 t.inv, kind_means ks k)
-seen ks t Nothing = none
+seen ks t (Some (i, k)) = some (xor i.0 t.inv, kind_means ks k)
+seen ks t None = none
 
 bare_second_kind : (u : List Node → Ty → Ty → Out) (x : Texts) (n : ℕ) (ns : List Node) (a b : Ty) (k : Option (Bool × nodes.Kind))
     → meet_kinds u x n ns a b k none ≡ bind n ns a b
@@ -170,24 +168,24 @@ module _ {x : Texts} {ws ks : List ℕ} {n : ℕ} {a b : Ty} (pre : Tops x ws ks
     kind_read : kind_in ns t ≡ seen ks t q
     kind_read = held_by_lem ws ks r.children n r.clean t.idx there eq (kind_of t) (seen ks t) (λ j k. refl) (λ p. refl) refl
 
-    kids_there : {j : Inverted} {k : Kind} → q ≡ Is j k → (y : Ty) → Memᴰ y (kind_means ks k).kids → Memᴰ y (kids_of (state_in ns t))
+    kids_there : {j : Inverted} {k : Kind} → q ≡ Some (j, k) → (y : Ty) → Memᴰ y (kind_means ks k).kids → Memᴰ y (kids_of (state_in ns t))
     kids_there e y w = rw (held_kids_lem ws ks r.children n r.clean t.idx there (eq ∙ e)) w
 
-    kids_inside : {j : Inverted} {k : Kind} → q ≡ Is j k → (y : Ty) → Memᴰ y (kind_means ks k).kids → y.idx < n
+    kids_inside : {j : Inverted} {k : Kind} → q ≡ Some (j, k) → (y : Ty) → Memᴰ y (kind_means ks k).kids → y.idx < n
     kids_inside e y w = omega (arith, length_decode ws ks n, sound_kids r.env r.sound t.idx y (kids_there e y w))
 
     -- where a kind's children lie, and an object's names
-    kind_made_lem : {j : Inverted} {k : Kind} → q ≡ Is j k → k.first + k.count ≤ r.children
+    kind_made_lem : {j : Inverted} {k : Kind} → q ≡ Some (j, k) → k.first + k.count ≤ r.children
     unfolding kind_fits
     kind_made_lem e = leb-true _ _ (and_left _ _ (held_fits ws ks r.children n r.clean t.idx there (eq ∙ e)))
 
-    kind_spans : {j : Inverted} {k : Kind} → q ≡ Is j k → k.first + k.count ≤ MAX_CHILDREN
+    kind_spans : {j : Inverted} {k : Kind} → q ≡ Some (j, k) → k.first + k.count ≤ MAX_CHILDREN
     kind_spans e = omega (arith, kind_made_lem e, r.few)
 
-    kind_lies : {j : Inverted} {k : Kind} → q ≡ Is j k → child_words (k.first + k.count) ≤ length ks
+    kind_lies : {j : Inverted} {k : Kind} → q ≡ Some (j, k) → child_words (k.first + k.count) ≤ length ks
     kind_lies e = omega (arith, kind_made_lem e, r.room)
 
-    kind_ascends : {j : Inverted} {k : Kind} → q ≡ Is j k → k.code ≡ OBJECT → Ascends x ks k.first k.count
+    kind_ascends : {j : Inverted} {k : Kind} → q ≡ Some (j, k) → k.code ≡ OBJECT → Ascends x ks k.first k.count
     unfolding view kind_means
     kind_ascends {j} {k} e c =
         let f = r.sound.kinds t.idx j.0 (kind_means ks k) (ap Seen.seen (held_known_lem ws ks r.children n r.clean t.idx there (eq ∙ e))) in
@@ -195,7 +193,7 @@ module _ {x : Texts} {ws ks : List ℕ} {n : ℕ} {a b : Ty} (pre : Tops x ws ks
         let l = subst (λ (ms : List (Option Name)). ascending (map (bytes_or r.env.texts) ms) ≡ true) (object_names ks k c) g in
         record { names = subst (λ (y : Texts). ascending (map (bytes_or y) (names_from ks k.first k.count)) ≡ true) r.lent l }
 
-  pub met_same : {i j : ℕ} → i ≡ a.idx → j ≡ b.idx → i ≡ j → Met x ws ks n a b Walk
+  pub met_same : {i j : ℕ} → i ≡ a.idx → j ≡ b.idx → i ≡ j → Met x ws ks n a b None
   unfolding meet
   met_same e f g = record {
     same = λ u. rw (eq-eqb a.idx b.idx (sym e ∙ (g ∙ f))) refl;
@@ -216,7 +214,7 @@ module _ {x : Texts} {ws ks : List ℕ} {n : ℕ} {a b : Ty} (pre : Tops x ws ks
     walks_apart : walks n ns a b ≡ bind n ns a b
     walks_apart = rw (ne_eqb a.idx b.idx (λ q. g (e ∙ (q ∙ sym f)))) refl
 
-    bare_met : ((u : List Node → Ty → Ty → Out) → meets u (kind_in ns a) (kind_in ns b) ≡ bind n ns a b) → Met x ws ks n a b Walk
+    bare_met : ((u : List Node → Ty → Ty → Out) → meets u (kind_in ns a) (kind_in ns b) ≡ bind n ns a b) → Met x ws ks n a b None
     bare_met h = record {
       same = λ u. apart u ∙ (h u ∙ sym walks_apart);
       inside = λ p w. elim w [ ];
@@ -225,15 +223,15 @@ module _ {x : Texts} {ws ks : List ℕ} {n : ℕ} {a b : Ty} (pre : Tops x ws ks
       kinds = tt;
     }
 
-    pub met_bare_first : {h : Held} → h ≡ held_in (read_at ws n i) → h ≡ Nothing → Met x ws ks n a b Walk
+    pub met_bare_first : {h : Held} → h ≡ held_in (read_at ws n i) → h ≡ None → Met x ws ks n a b None
     met_bare_first p q = bare_met (λ u. ap (λ (k : Option (Bool × nodes.Kind)). meets u k (kind_in ns b)) (kind_read a e p q))
 
-    pub met_bare_second : {h : Held} → h ≡ held_in (read_at ws n j) → h ≡ Nothing → Met x ws ks n a b Walk
+    pub met_bare_second : {h : Held} → h ≡ held_in (read_at ws n j) → h ≡ None → Met x ws ks n a b None
     met_bare_second p q = bare_met (λ u. ap (meets u (kind_in ns a)) (kind_read b f p q) ∙ bare_second_kind u x n ns a b (kind_in ns a))
 
     -- two kinds, and whether their inversions differ
-    module _ {h h' : Held} {c d : Inverted} {k m : Kind} (eh : h ≡ held_in (read_at ws n i)) (ek : h ≡ Is c k)
-        (eg : h' ≡ held_in (read_at ws n j)) (em : h' ≡ Is d m) {va vb s t v : Bool} (ea : va ≡ a.inv) (es : s ≡ xor c.0 va)
+    module _ {h h' : Held} {c d : Inverted} {k m : Kind} (eh : h ≡ held_in (read_at ws n i)) (ek : h ≡ Some (c, k))
+        (eg : h' ≡ held_in (read_at ws n j)) (em : h' ≡ Some (d, m)) {va vb s t v : Bool} (ea : va ≡ a.inv) (es : s ≡ xor c.0 va)
         (eb : vb ≡ b.inv) (et : t ≡ xor d.0 vb) (ev : v ≡ xor s t) {p : Plan} (pl : Planned x k m v p) where
       crossed : v ≡ xor (xor c.0 a.inv) (xor d.0 b.inv)
       crossed = rw (← ea, ← eb, ← es, ← et) ev
@@ -241,7 +239,7 @@ module _ {x : Texts} {ws ks : List ℕ} {n : ℕ} {a b : Ty} (pre : Tops x ws ks
       planned : plan_means ks x p ≡ scope.plan x (kind_means ks k) (kind_means ks m) (xor (xor c.0 a.inv) (xor d.0 b.inv))
       planned = pl.means ks ∙ ap (scope.plan x (kind_means ks k) (kind_means ks m)) crossed
 
-      pub met_kids : Met x ws ks n a b (Kids p)
+      pub met_kids : Met x ws ks n a b (Some p)
       met_kids = record {
         same = λ u. apart u ∙ rw (kind_read a e eh ek, kind_read b f eg em)
             (ap (λ (l : scope.Plan). settle (does u ns l).nodes a b (does u ns l).answer) (sym planned));
@@ -301,9 +299,9 @@ record BareFacts (t : Bool) (u v : TypeNode) : Type 0 where
   apart : t ≡ false
   first : root_node u ≡ true
   second : root_node v ≡ true
-  none : (held_in u ≡ Nothing) ⊎ (held_in v ≡ Nothing)
+  none : (held_in u ≡ None) ⊎ (held_in v ≡ None)
 
-states_facts : (s t : TypeState) → bare_states s t ≡ true → (held_by s ≡ Nothing) ⊎ (held_by t ≡ Nothing)
+states_facts : (s t : TypeState) → bare_states s t ≡ true → (held_by s ≡ None) ⊎ (held_by t ≡ None)
 states_facts (Known i k) (Known j m) e = absurd (false≢true e)
 states_facts (Known i k) (Unknown p) e = inr refl
 states_facts (Known i k) InferenceFailed e = inr refl
@@ -330,12 +328,12 @@ module _ {x : Texts} {ws ks : List ℕ} {n : ℕ} {a b : Ty} (p : Pair x ws ks n
   pub bare_tops : Tops x ws ks n a b
   bare_tops = record { pair = p; first = root_there a.idx facts.first; second = root_there b.idx facts.second }
 
-  pub bare_meets : Met x ws ks n a b Walk
+  pub bare_meets : Met x ws ks n a b None
   bare_meets = go facts.none
     where
       two : a.idx ≡ b.idx → ⊥
       two q = false≢true (sym facts.apart ∙ eq-eqb a.idx b.idx q)
 
-      go : (held_in (read_at ws n a.idx) ≡ Nothing) ⊎ (held_in (read_at ws n b.idx) ≡ Nothing) → Met x ws ks n a b Walk
+      go : (held_in (read_at ws n a.idx) ≡ None) ⊎ (held_in (read_at ws n b.idx) ≡ None) → Met x ws ks n a b None
       go (inl h) = met_bare_first bare_tops refl refl two refl h
       go (inr h) = met_bare_second bare_tops refl refl two refl h

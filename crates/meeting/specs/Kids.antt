@@ -8,8 +8,12 @@ use Rattle.scope.specs.Sound as sound
 use Rattle.layout.specs.Words.{slot_at}
 use Rattle.plan.specs.Meaning.{kids_from, names_from}
 use Rattle.plan.specs.declared.Runs.{Runs}
-use Rattle.meeting.specs.declared.Sought.{Sought}
-use Rattle.meeting.specs.declared.Sought.TheVariants.{Is, Nothing}
+use Rattle.std.specs.Prelude.{Some, None}
+use Rattle.std.specs.declared.option.Option as option
+
+-- the type beside a name, if it is there
+abbrev pub Sought : Type 0
+Sought = option.Option «Type»
 
 -- where a child's name lies
 abbrev pub slot_place : sound.Slot → Name
@@ -17,8 +21,8 @@ slot_place s = name s.text s.start s.len
 
 -- the type beside a name
 abbrev pub sought_means : Sought → Option Ty
-sought_means (Is t) = some (ty_of t.0)
-sought_means Nothing = none
+sought_means (Some t) = some (ty_of t.0)
+sought_means None = none
 
 abbrev pub sought_in : Texts → List ℕ → Name → ℕ → ℕ → Option Ty
 sought_in x ks m b count = seek x (bytes x m) (names_from ks b count) (kids_from ks b count)

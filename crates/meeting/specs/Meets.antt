@@ -20,10 +20,16 @@ use Rattle.layout.specs.declared.TypeNode.TheVariants.{Root, Child}
 use Rattle.plan.specs.Meaning.{plan_means}
 use Rattle.meeting.specs.Asks.{Inside}
 use Rattle.meeting.specs.Steps.{PlanSpans, PlanReady}
-use Rattle.meeting.specs.declared.Meeting.{Meeting}
-use Rattle.meeting.specs.declared.Meeting.TheVariants.{Walk, Kids}
-use Rattle.meeting.specs.declared.Walked.{Walked}
-use Rattle.meeting.specs.declared.Walked.TheVariants.{Done, Bind}
+use Rattle.std.specs.Prelude.{Some, None}
+use Rattle.std.specs.declared.option.Option as option
+
+-- what two roots ask of their children; none where they are walked
+abbrev pub Meeting : Type 0
+Meeting = option.Option Plan
+
+-- the answer after a walk; none where they merge
+abbrev pub Walked : Type 0
+Walked = option.Option UnifyResult
 
 -- what a plan asks, each pair by u
 abbrev pub does : (List Node → Ty → Ty → Out) → List Node → scope.Plan → Out
@@ -34,21 +40,21 @@ abbrev pub walks : ℕ → List Node → Ty → Ty → Out
 walks n ns a b = pick (eqb a.idx b.idx) (out ns (same_node n ns a b)) (bind n ns a b)
 
 abbrev pub walked_by : List Node → Ty → Ty → Walked → Out
-walked_by ns a b (Done r) = out ns (answer_of r)
-walked_by ns a b Bind = out (bound ns a b) Success
+walked_by ns a b (Some r) = out ns (answer_of r)
+walked_by ns a b None = out (bound ns a b) Success
 
 -- what a meeting of two roots asks, each pair of children by u
 abbrev pub met_by : (List Node → Ty → Ty → Out) → Texts → ℕ → List ℕ → List Node → Ty → Ty → Meeting → Out
-met_by u x n ks ns a b Walk = walks n ns a b
-met_by u x n ks ns a b (Kids p) = let o : Out = does u ns (plan_means ks x p) in settle o.nodes a b o.answer
+met_by u x n ks ns a b None = walks n ns a b
+met_by u x n ks ns a b (Some p) = let o : Out = does u ns (plan_means ks x p) in settle o.nodes a b o.answer
 
 abbrev pub pairs_of : Texts → List ℕ → Meeting → List (Ty × Ty)
-pairs_of x ks Walk = []
-pairs_of x ks (Kids p) = (plan_means ks x p).pairs
+pairs_of x ks None = []
+pairs_of x ks (Some p) = (plan_means ks x p).pairs
 
 abbrev pub MeetReady : Texts → List ℕ → Meeting → Type 0
-MeetReady x ks Walk = Unit {0}
-MeetReady x ks (Kids p) = PlanSpans p × PlanReady x ks p
+MeetReady x ks None = Unit {0}
+MeetReady x ks (Some p) = PlanSpans p × PlanReady x ks p
 
 -- two nodes, both with a kind, and what their kinds ask
 pub record BothKnown (x : Texts) (ns : List Node) (a b : Ty) (l : scope.Plan) : Type 0 where
@@ -60,8 +66,8 @@ pub record BothKnown (x : Texts) (ns : List Node) (a b : Ty) (l : scope.Plan) : 
   pub plan : l ≡ scope.plan x seen.1 other.1 (xor seen.0 other.0)
 
 abbrev pub MetKinds : Texts → List ℕ → List Node → Ty → Ty → Meeting → Type 0
-MetKinds x ks ns a b Walk = Unit {0}
-MetKinds x ks ns a b (Kids p) = BothKnown x ns a b (plan_means ks x p)
+MetKinds x ks ns a b None = Unit {0}
+MetKinds x ks ns a b (Some p) = BothKnown x ns a b (plan_means ks x p)
 
 pub record Met (x : Texts) (ws ks : List ℕ) (n : ℕ) (a b : Ty) (m : Meeting) : Type 0 where
   pub same : (u : List Node → Ty → Ty → Out) → meet u x n (decode ws ks n) a b ≡ met_by u x n ks (decode ws ks n) a b m

@@ -10,24 +10,10 @@ ghost use Rattle.plan.specs.declared.Plan.TheVariants as plans;
 ghost use Rattle.meeting.specs.Steps.{Ascends, Spans, PlanSpans, Stepped, Lasts, Returns};
 ghost use Rattle.meeting.specs.Kids.{slot_place, sought_means, sought_in, Middle, Between};
 
-use layout::{Held, TypeNode, TypeState};
+use layout::{TypeNode, TypeState};
 use names::Name;
 use plan::{Plan, Runs};
 use types::{Type, UnifyResult};
-
-// A walk, or their children first.
-#[derive(Clone, Copy)]
-pub enum Meeting {
-    Walk,
-    Kids(Plan),
-}
-
-// After a walk: nothing more, or a merge.
-#[derive(Clone, Copy)]
-pub enum Walked {
-    Done(UnifyResult),
-    Bind,
-}
 
 // What two kinds ask of their children: an answer, two runs beside an answer, or two objects.
 #[derive(Clone, Copy)]
@@ -35,13 +21,6 @@ pub enum Steps {
     Answer(UnifyResult),
     Run(UnifyResult, Runs),
     Object(Runs),
-}
-
-// The type beside a name.
-#[derive(Clone, Copy)]
-pub enum Sought {
-    Is(Type),
-    Nothing,
 }
 
 // "Same node: Success if the inversions agree or `self_inverse` holds, else Failure."
@@ -57,32 +36,32 @@ fn same_node(ws: &[u32], ks: &[u32], n: u32, a: Type, b: Type) -> UnifyResult
 }
 
 // "If either has no kind: Failure if one occurs in the other, else they merge." In a root without a kind nothing else occurs.
-fn without_kind(ws: &[u32], ks: &[u32], n: u32, a: Type, b: Type) -> Walked
+fn without_kind(ws: &[u32], ks: &[u32], n: u32, a: Type, b: Type) -> Option<UnifyResult>
     requires { Roots ws.now ks.now n (ty_of a.0) (ty_of b.0) }
     ensures { Bare ws.now ks.now n (ty_of a.0) (ty_of b.0) result }
 {
     let ia = a.idx();
     if walk::occurs(ws, ks, n, ia, b) {
-        return Walked::Done(UnifyResult::Failure);
+        return Some(UnifyResult::Failure);
     }
-    let Held::Is(_, _) = layout::held_at(ws, n, ia) else {
-        return Walked::Bind;
+    let Some((_, _)) = layout::held_at(ws, n, ia) else {
+        return None;
     };
     if walk::occurs(ws, ks, n, b.idx(), a) {
-        return Walked::Done(UnifyResult::Failure);
+        return Some(UnifyResult::Failure);
     }
-    Walked::Bind
+    None
 }
 
 // One node, or two of which one has no kind: what walks, apart from `meet`, so that the marks of a walk stay out of the cycle's frames.
-pub fn walk_roots(ws: &[u32], ks: &[u32], n: u32, a: Type, b: Type) -> Walked
+pub fn walk_roots(ws: &[u32], ks: &[u32], n: u32, a: Type, b: Type) -> Option<UnifyResult>
     requires { Roots ws.now ks.now n (ty_of a.0) (ty_of b.0) }
     ensures { WalkedTo ws.now ks.now n (ty_of a.0) (ty_of b.0) result }
 {
     let ia = a.idx();
     let ib = b.idx();
     if ia.0 == ib.0 {
-        return Walked::Done(same_node(ws, ks, n, a, b));
+        return Some(same_node(ws, ks, n, a, b));
     }
     without_kind(ws, ks, n, a, b)
 }
@@ -123,23 +102,23 @@ pub fn meet<'a>(
     text: &'a [u8],
     a: Type,
     b: Type,
-) -> Meeting
+) -> Option<Plan>
     requires { Tops (texts rule.now text.now) ws.now ks.now n (ty_of a.0) (ty_of b.0) }
     ensures { Met (texts rule.now text.now) ws.now ks.now n (ty_of a.0) (ty_of b.0) result }
 {
     let ia = a.idx();
     let ib = b.idx();
     if ia.0 == ib.0 {
-        return Meeting::Walk;
+        return None;
     }
-    let Held::Is(i, k) = layout::held_at(ws, n, ia) else {
-        return Meeting::Walk;
+    let Some((i, k)) = layout::held_at(ws, n, ia) else {
+        return None;
     };
-    let Held::Is(j, m) = layout::held_at(ws, n, ib) else {
-        return Meeting::Walk;
+    let Some((j, m)) = layout::held_at(ws, n, ib) else {
+        return None;
     };
     let inv = i.xor(a.inv()).xor(j.xor(b.inv()));
-    Meeting::Kids(plan::plan_of(k, m, inv, rule, text))
+    Some(plan::plan_of(k, m, inv, rule, text))
 }
 
 // A child of a run that lies in the slice.
@@ -171,18 +150,18 @@ pub fn seek<'a>(
     count: u32,
     rule: &'a [u8],
     text: &'a [u8],
-) -> Sought
+) -> Option<Type>
     requires { child_words (b + count) ≤ length ks.now }
     ensures { sought_means result ≡ sought_in (texts rule.now text.now) ks.now (name_of name) b count }
 {
     let mut j: u32 = 0;
     while j < count {
         if names::same_name_by_pieces(name, kid_name(ks, b, j), rule, text) {
-            return Sought::Is(kid(ks, b, j));
+            return Some(kid(ks, b, j));
         }
         j += 1;
     }
-    Sought::Nothing
+    None
 }
 
 // Where a name is looked for first among count that ascend, and then: between low and high.
@@ -233,17 +212,17 @@ fn seek_between<'a>(
     at: u32,
     rule: &'a [u8],
     text: &'a [u8],
-) -> Sought
+) -> Option<Type>
     requires { (child_words (b + count) ≤ length ks.now) × (Ascends (texts rule.now text.now) ks.now b count
         × Between (texts rule.now text.now) ks.now (name_of name) b count low high at) }
     ensures { sought_means result ≡ sought_in (texts rule.now text.now) ks.now (name_of name) b count }
 {
     if low >= high {
-        return Sought::Nothing;
+        return None;
     }
     let other = kid_name(ks, b, at);
     if names::same_name_by_pieces(name, other, rule, text) {
-        return Sought::Is(kid(ks, b, at));
+        return Some(kid(ks, b, at));
     }
     if names::name_before(name, other, rule, text) {
         return seek_between(
@@ -282,7 +261,7 @@ pub fn seek_near<'a>(
     count: u32,
     rule: &'a [u8],
     text: &'a [u8],
-) -> Sought
+) -> Option<Type>
     requires { (child_words (b + count) ≤ length ks.now) × Ascends (texts rule.now text.now) ks.now b count }
     ensures { sought_means result ≡ sought_in (texts rule.now text.now) ks.now (name_of name) b count }
 {

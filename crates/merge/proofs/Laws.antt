@@ -24,8 +24,8 @@ use Rattle.types.specs.declared.UnifyResult.TheVariants.{Success, Failure, Indet
 use Rattle.types.proofs.Laws.{inverted_eq}
 use Rattle.layout.specs.Words.{node_words, decode}
 use Rattle.layout.specs.Meaning.{read_at, put_at, held_by, held_in, state_means, state_fits, kind_means, node_means, node_fits, Clean}
-use Rattle.layout.specs.declared.Held.{Held}
-use Rattle.layout.specs.declared.Held.TheVariants.{Is, Nothing}
+use Rattle.layout.specs.Meaning.{Held}
+use Rattle.std.specs.Prelude.{Some, None}
 use Rattle.layout.specs.declared.Kind.{Kind}
 use Rattle.layout.specs.declared.TypeState.{TypeState}
 use Rattle.layout.specs.declared.TypeState.TheVariants.{Known, Unknown, InferenceFailed}
@@ -157,7 +157,7 @@ keeps_own i st sb j k e = rw e (turned_twice i (Known j k))
 takes_known : (i : Bool) (w l : Ty) (j : Inverted) (k : Kind) → i ≡ l.inv → turned w.inv (turned i (Known j k)) ≡ Known (record { 0 = xor (flip l.inv w).inv j.0 }) k
 takes_known i w l j k e = rw e (ap (λ (b : Bool). Known (record { 0 = b }) k) (xor_between l.inv w.inv j.0))
 
-takes_first : (a b : Ty) (sa sb : TypeState) → held_by sa ≡ Nothing → kept_of a.inv (turned a.inv sa) (turned b.inv sb) (turned a.inv sa) ≡ taken a b sa sb
+takes_first : (a b : Ty) (sa sb : TypeState) → held_by sa ≡ None → kept_of a.inv (turned a.inv sa) (turned b.inv sb) (turned a.inv sa) ≡ taken a b sa sb
 takes_first a b (Known h k) sb e = let z : ◌≡◌ {A = ℕ} 0 1 = cc in absurd (omega arith)
 takes_first a b (Unknown s) (Known j k) e = takes_known b.inv a b j k refl
 takes_first a b (Unknown s) (Unknown t) e = refl
@@ -175,7 +175,7 @@ takes_second a b InferenceFailed (Known h k) = turned_twice b.inv (Known h k)
 takes_second a b InferenceFailed (Unknown t) = refl
 takes_second a b InferenceFailed InferenceFailed = refl
 
-taken_own : (w l : Ty) (own st : TypeState) → held_by st ≡ Nothing → taken w l own st ≡ own
+taken_own : (w l : Ty) (own st : TypeState) → held_by st ≡ None → taken w l own st ≡ own
 taken_own w l own (Known j k) e = let z : ◌≡◌ {A = ℕ} 0 1 = cc in absurd (omega arith)
 taken_own w l own (Unknown s) e = refl
 taken_own w l own InferenceFailed e = refl
@@ -183,7 +183,7 @@ taken_own w l own InferenceFailed e = refl
 -- `take`: one put after the other, or its own state where the other has no kind
 
 pub take_known : {ws ws₁ ws₂ : List ℕ} {n : ℕ} {w l : Ty} {z i j m : ℕ} {b x : Bool} (p : «Type») {r v : Inverted} {k : Kind} {h : Held} → node_words n ≤ length ws
-    → z ≡ size_at ws n w.idx + size_at ws n l.idx → m ≡ l.idx → h ≡ held_in (read_at ws n m) → h ≡ Is v k → b ≡ l.inv → ty_of p.0 ≡ flip b w
+    → z ≡ size_at ws n w.idx + size_at ws n l.idx → m ≡ l.idx → h ≡ held_in (read_at ws n m) → h ≡ Some (v, k) → b ≡ l.inv → ty_of p.0 ≡ flip b w
     → x ≡ (ty_of p.0).inv → r.0 ≡ xor x v.0 → i ≡ w.idx → j ≡ l.idx → ws₁ ≡ put_at ws n i (Root (Known r k) z) → ws₂ ≡ put_at ws₁ n j (Child p)
     → Joined ws ws₂ n w l (taken w l (state_at ws n w.idx) (state_at ws n l.idx))
 take_known {ws} {ws₁} {ws₂} {n} {w} {l} {z} {i} {j} {m} {b} {x} p {r} {v} {k} room ez em eh fh eb ep ex er ei ej e₁ e₂ =
@@ -193,7 +193,7 @@ take_known {ws} {ws₁} {ws₂} {n} {w} {l} {z} {i} {j} {m} {b} {x} p {r} {v} {k
     let f : Known r k ≡ Known (record { 0 = xor (flip l.inv w).inv v.0 }) k = ap (λ (y : Inverted). Known y k) (inverted_eq r (record { 0 = xor (flip l.inv w).inv v.0 }) u) in
     rw (e₂, e₁, ei, ej, ez, t, ← f) (twice ws n w l (Known r k) room p q)
 
-pub take_none : {ws ws₂ : List ℕ} {n : ℕ} {w l : Ty} {m : ℕ} {h : Held} → m ≡ l.idx → h ≡ held_in (read_at ws n m) → h ≡ Nothing
+pub take_none : {ws ws₂ : List ℕ} {n : ℕ} {w l : Ty} {m : ℕ} {h : Held} → m ≡ l.idx → h ≡ held_in (read_at ws n m) → h ≡ None
     → Joined ws ws₂ n w l (state_at ws n w.idx) → Joined ws ws₂ n w l (taken w l (state_at ws n w.idx) (state_at ws n l.idx))
 take_none {ws} {ws₂} {n} {w} {l} em eh fh q =
     rw (taken_own w l (state_at ws n w.idx) (state_at ws n l.idx) (ap (λ (a : ℕ). held_in (read_at ws n a)) (sym em) ∙ (sym eh ∙ fh))) q
@@ -236,12 +236,12 @@ module _ (ws ws' : List ℕ) (n : ℕ) (a b : Ty) where
     seen_held : {q : Held} → h ≡ q → held_in (read_at ws n a.idx) ≡ q
     seen_held f = ap (λ (i : ℕ). held_in (read_at ws n i)) (sym em) ∙ (sym eh ∙ f)
 
-    pub bind_known : {i : Inverted} {k : Kind} → h ≡ Is i k → Joined ws ws' n a b (state_at ws n a.idx) → Bound ws ws' n a b
+    pub bind_known : {i : Inverted} {k : Kind} → h ≡ Some (i, k) → Joined ws ws' n a b (state_at ws n a.idx) → Bound ws ws' n a b
     bind_known {i} {k} f j =
         let e : state_at ws n a.idx ≡ Known i k = held_state (state_at ws n a.idx) i k (seen_held f) in
         bound (merge_first ws ws' n a b _ _ _ _ ey ez less (rw (keeps_own a.inv (state_at ws n a.idx) (turned b.inv (state_at ws n b.idx)) i k e) j))
 
-    pub bind_first : h ≡ Nothing → Joined ws ws' n a b (taken a b (state_at ws n a.idx) (state_at ws n b.idx)) → Bound ws ws' n a b
+    pub bind_first : h ≡ None → Joined ws ws' n a b (taken a b (state_at ws n a.idx) (state_at ws n b.idx)) → Bound ws ws' n a b
     bind_first f j =
         bound (merge_first ws ws' n a b _ _ _ _ ey ez less (rw (takes_first a b (state_at ws n a.idx) (state_at ws n b.idx) (seen_held f)) j))
 

@@ -20,8 +20,8 @@ use Rattle.types.specs.declared.Inverted.{Inverted}
 use Rattle.types.specs.declared.«Type».{«Type»}
 use Rattle.layout.specs.Words.{node_words, decode, slots}
 use Rattle.layout.specs.Meaning.{cell_in, words_of, cell_of, cell_words, paste_at, read_at, put_at, node_state, node_size, held_in, kind_means, node_means, state_means, Clean}
-use Rattle.layout.specs.declared.Held.{Held}
-use Rattle.layout.specs.declared.Held.TheVariants as held
+use Rattle.layout.specs.Meaning.{Held}
+use Rattle.std.specs.declared.option.Option.TheVariants as held
 use Rattle.layout.specs.declared.Kind.{Kind}
 use Rattle.layout.specs.declared.TypeState.{TypeState}
 use Rattle.layout.specs.declared.TypeState.TheVariants.{Known, Unknown, InferenceFailed}
@@ -32,8 +32,8 @@ use Rattle.layout.proofs.ChildLaws.{length_slots}
 use Rattle.layout.proofs.Cells.{words_back, clean_words, says}
 use Rattle.layout.proofs.Laws.{tail_put, put_past, read_node}
 use Rattle.layout.proofs.HeldLaws.{state_read, state_fits_lem}
-use Rattle.merge.specs.declared.Bare.{Bare}
-use Rattle.merge.specs.declared.Bare.TheVariants.{Is, Nothing}
+use Rattle.merge.specs.Quick.{Bare}
+use Rattle.std.specs.Prelude.{Some, None}
 use Rattle.merge.specs.Meaning.{state_at, size_at, Adds, Joined, Merged, Bound}
 use Rattle.merge.specs.Quick.{bare_by, bare_in, bare_within, bare_node, rank_in, Ranked, lone_node, nil_held, nil_node, Resized, Sums, Sized, Quick, Tried, OneNil}
 use Rattle.merge.proofs.Laws.{twice}
@@ -110,7 +110,7 @@ hang_law ws ws₁ ws₂ n w l z i j b p s k eb ep ei ej r e =
 -- roots without kinds
 
 module _ (ws : List ℕ) (n i : ℕ) where
-  pub bare_past : n ≤ i → Nothing ≡ bare_within ws n i
+  pub bare_past : n ≤ i → None ≡ bare_within ws n i
   bare_past h = rw (le-ltb i n h) refl
 
   module _ (h : i < n) {v : TypeNode} (e : v ≡ read_at ws n i) where
@@ -120,20 +120,20 @@ module _ (ws : List ℕ) (n i : ℕ) where
     pub bare_root : {st st' : TypeState} {z : ℕ} → v ≡ Root st z → st ≡ st' → bare_by st' z ≡ bare_within ws n i
     bare_root {z = z} f g = ap (λ (s : TypeState). bare_by s z) (sym g) ∙ (ap bare_in (sym f) ∙ bare_inside)
 
-    pub bare_child : {t : «Type»} → v ≡ Child t → Nothing ≡ bare_within ws n i
+    pub bare_child : {t : «Type»} → v ≡ Child t → None ≡ bare_within ws n i
     bare_child f = ap bare_in (sym f) ∙ bare_inside
 
-bare_of : (t : Bool) (p : Bare) (y : ℕ) → pick t p Nothing ≡ Is y → p ≡ Is y
+bare_of : (t : Bool) (p : Bare) (y : ℕ) → pick t p None ≡ Some y → p ≡ Some y
 bare_of true p y e = e
 bare_of false p y e = let f : ◌≡◌ {A = ℕ} 0 1 = cc in absurd (omega arith)
 
-bare_size : (v : TypeNode) (z : ℕ) → bare_in v ≡ Is z → z ≡ node_size v
+bare_size : (v : TypeNode) (z : ℕ) → bare_in v ≡ Some z → z ≡ node_size v
 bare_size (Root (Known i k) y) z e = let f : ◌≡◌ {A = ℕ} 0 1 = cc in absurd (omega arith)
 bare_size (Root (Unknown s) y) z e = cc
 bare_size (Root InferenceFailed y) z e = cc
 bare_size (Child t) z e = let f : ◌≡◌ {A = ℕ} 0 1 = cc in absurd (omega arith)
 
-bare_means : (ks : List ℕ) (v : TypeNode) (z : ℕ) → bare_in v ≡ Is z → bare_node (node_means ks v) ≡ true
+bare_means : (ks : List ℕ) (v : TypeNode) (z : ℕ) → bare_in v ≡ Some z → bare_node (node_means ks v) ≡ true
 bare_means ks (Root (Known i k) y) z e = let f : ◌≡◌ {A = ℕ} 0 1 = cc in absurd (omega arith)
 bare_means ks (Root (Unknown s) y) z e = refl
 bare_means ks (Root InferenceFailed y) z e = refl
@@ -158,7 +158,7 @@ kept_bare ns w a b f g = ap₂ (scope.kept ns w) (bare_none a (nodes.at ns a.idx
 pub tried_not : {ws : List ℕ} {n : ℕ} {a b : Ty} → Tried ws ws n a b false
 tried_not = record { merged = λ e. let f : ◌≡◌ {A = ℕ} 0 1 = cc in absurd (omega arith); stays = λ e. refl }
 
-module _ (ws : List ℕ) (n : ℕ) (a b : Ty) (y z : ℕ) (here : bare_in (read_at ws n a.idx) ≡ Is y) (there : bare_in (read_at ws n b.idx) ≡ Is z) where
+module _ (ws : List ℕ) (n : ℕ) (a b : Ty) (y z : ℕ) (here : bare_in (read_at ws n a.idx) ≡ Some y) (there : bare_in (read_at ws n b.idx) ≡ Some z) where
   bare_sizes : Adds ws n a b → Sized ws n a b y z
   bare_sizes s = record { adds = s; first = bare_size (read_at ws n a.idx) y here; second = bare_size (read_at ws n b.idx) z there }
 
@@ -188,16 +188,16 @@ module _ (ws : List ℕ) (n : ℕ) (a b : Ty) (y z : ℕ) (here : bare_in (read_
   }
 
 -- what was read at the number i of a type's node
-read_bare : (ws : List ℕ) (n : ℕ) {i j y : ℕ} {p : Bare} → i ≡ j → p ≡ bare_within ws n i → p ≡ Is y → bare_in (read_at ws n j) ≡ Is y
+read_bare : (ws : List ℕ) (n : ℕ) {i j y : ℕ} {p : Bare} → i ≡ j → p ≡ bare_within ws n i → p ≡ Some y → bare_in (read_at ws n j) ≡ Some y
 read_bare ws n {i} {j} {y} ei ep fp =
     ap (λ (k : ℕ). bare_in (read_at ws n k)) (sym ei) ∙ bare_of (ltb i n) (bare_in (read_at ws n i)) y (sym ep ∙ fp)
 
-pub sized : {ws : List ℕ} {n : ℕ} {a b : Ty} {i j y z : ℕ} {p q : Bare} → i ≡ a.idx → j ≡ b.idx → p ≡ bare_within ws n i → p ≡ Is y
-    → q ≡ bare_within ws n j → q ≡ Is z → Adds ws n a b → Sized ws n a b y z
+pub sized : {ws : List ℕ} {n : ℕ} {a b : Ty} {i j y z : ℕ} {p q : Bare} → i ≡ a.idx → j ≡ b.idx → p ≡ bare_within ws n i → p ≡ Some y
+    → q ≡ bare_within ws n j → q ≡ Some z → Adds ws n a b → Sized ws n a b y z
 sized {ws} {n} {a} {b} {i} {j} {y} {z} ei ej ep fp eq fq = bare_sizes ws n a b y z (read_bare ws n ei ep fp) (read_bare ws n ej eq fq)
 
-pub tried_merged : {ws ws' : List ℕ} {n : ℕ} {a b : Ty} {i j y z : ℕ} {p q : Bare} → i ≡ a.idx → j ≡ b.idx → p ≡ bare_within ws n i → p ≡ Is y
-    → q ≡ bare_within ws n j → q ≡ Is z → (i ≡ j → ⊥) → Merged ws ws' n a b (state_at ws n a.idx) (state_at ws n b.idx) → Tried ws ws' n a b true
+pub tried_merged : {ws ws' : List ℕ} {n : ℕ} {a b : Ty} {i j y z : ℕ} {p q : Bare} → i ≡ a.idx → j ≡ b.idx → p ≡ bare_within ws n i → p ≡ Some y
+    → q ≡ bare_within ws n j → q ≡ Some z → (i ≡ j → ⊥) → Merged ws ws' n a b (state_at ws n a.idx) (state_at ws n b.idx) → Tried ws ws' n a b true
 tried_merged {ws} {ws'} {n} {a} {b} {i} {j} {y} {z} ei ej ep fp eq fq h m = record {
   merged = λ e. bare_quick ws n a b y z (read_bare ws n ei ep fp) (read_bare ws n ej eq fq) ws' (λ f. h (ei ∙ (f ∙ sym ej))) m;
   stays = λ e. let f : ◌≡◌ {A = ℕ} 0 1 = cc in absurd (omega arith);
@@ -320,7 +320,7 @@ nil_means ks (Child t) e = e
 
 -- no kind, a Tuple with its count, or another kind
 module _ {ws : List ℕ} {n : ℕ} {a b : Ty} {i j : ℕ} {h : Held} {y : Inverted} {k : Kind} (ei : i ≡ a.idx) (ej : j ≡ b.idx) (same : i ≡ j)
-    (e : h ≡ held_in (read_at ws n i)) (f : h ≡ held.Is y k) (g : k.code ≡ TUPLE) where
+    (e : h ≡ held_in (read_at ws n i)) (f : h ≡ held.Some (y, k)) (g : k.code ≡ TUPLE) where
   pub one_nil : OneNil ws n a b (eqb k.count 0)
   one_nil = record {
     one = λ q. sym ei ∙ (same ∙ ej);

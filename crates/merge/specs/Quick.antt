@@ -8,28 +8,32 @@ use Rattle.layout.specs.Words.{node_words, decode}
 use Rattle.layout.specs.Meaning.{read_at, put_at, Clean}
 use Rattle.layout.specs.declared.TypeState.{TypeState}
 use Rattle.layout.specs.declared.TypeState.TheVariants.{Known, Unknown, InferenceFailed}
-use Rattle.layout.specs.declared.Held.{Held}
-use Rattle.layout.specs.declared.Held.TheVariants as held
+use Rattle.layout.specs.Meaning.{Held}
+use Rattle.std.specs.declared.option.Option.TheVariants as held
 use Rattle.layout.specs.declared.TypeNode.{TypeNode}
 use Rattle.layout.specs.declared.TypeNode.TheVariants.{Root, Child}
 use Rattle.merge.specs.Meaning.{state_at, size_at, Adds, Bound}
-use Rattle.merge.specs.declared.Bare.{Bare}
-use Rattle.merge.specs.declared.Bare.TheVariants.{Is, Nothing}
+use Rattle.std.specs.Prelude.{Some, None}
+use Rattle.std.specs.declared.option.Option as option
+
+-- the size of a root, if it has no kind
+abbrev pub Bare : Type 0
+Bare = option.Option ℕ
 
 -- the size of a root without a kind
 
 abbrev pub bare_by : TypeState → ℕ → Bare
-bare_by (Known i k) z = Nothing
-bare_by (Unknown s) z = Is z
-bare_by InferenceFailed z = Is z
+bare_by (Known i k) z = None
+bare_by (Unknown s) z = Some z
+bare_by InferenceFailed z = Some z
 
 abbrev pub bare_in : TypeNode → Bare
 bare_in (Root st z) = bare_by st z
-bare_in (Child t) = Nothing
+bare_in (Child t) = None
 
 -- of node i of the n
 abbrev pub bare_within : List ℕ → ℕ → ℕ → Bare
-bare_within ws n i = pick (ltb i n) (bare_in (read_at ws n i)) Nothing
+bare_within ws n i = pick (ltb i n) (bare_in (read_at ws n i)) None
 
 -- a root without a kind
 abbrev pub bare_node : nodes.Node → Bool
@@ -59,8 +63,8 @@ lone_node (nodes.Child t) = false
 -- a Tuple of nothing
 
 abbrev pub nil_held : Held → Bool
-nil_held (held.Is i k) = pick (eqb k.code TUPLE) (eqb k.count 0) false
-nil_held held.Nothing = false
+nil_held (held.Some (i, k)) = pick (eqb k.code TUPLE) (eqb k.count 0) false
+nil_held held.None = false
 
 abbrev pub nil_node : nodes.Node → Bool
 nil_node (nodes.Root (nodes.Known i k) z) = pick (eqb k.head.code TUPLE) (eqb (length k.kids) 0) false

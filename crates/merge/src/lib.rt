@@ -8,16 +8,9 @@ ghost use Rattle.layout.specs.Meaning.{read_at};
 ghost use Rattle.merge.specs.Meaning.{size_at, state_at, taken, Adds, Joined, Merged, Bound, Settled};
 ghost use Rattle.merge.specs.Quick.{bare_within, Ranked, Resized, Sums, Sized, Tried, OneNil};
 
-use layout::{CHILD_TAG, Held, NODE_WORDS, TypeNode, TypeState, UNKNOWN_TAG};
+use layout::{CHILD_TAG, NODE_WORDS, TypeNode, TypeState, UNKNOWN_TAG};
 use scope::NONE;
 use types::{Type, TypeIdx, UnifyResult};
-
-// The size of a root without a kind.
-#[derive(Clone, Copy)]
-pub enum Bare {
-    Is(u32),
-    Nothing,
-}
 
 // What the node of a type has as its size, whether or not the type is inverted.
 fn size_at(ws: &[u32], n: u32, t: Type) -> u32
@@ -64,10 +57,10 @@ fn take(ws: &mut [u32], n: u32, w: Type, l: Type, size: u32)
 {
     let held = layout::held_at(ws, n, l.idx());
     match held {
-        Held::Nothing => {
+        None => {
             hang(ws, n, w, l, size);
         }
-        Held::Is(i, kind) => {
+        Some((i, kind)) => {
             let inv = l.inv();
             let parent = w.invert_if(inv);
             let state = TypeState::Known(parent.inv().xor(i), kind);
@@ -90,10 +83,10 @@ pub fn bind(ws: &mut [u32], n: u32, a: Type, b: Type)
     }
     let held = layout::held_at(ws, n, a.idx());
     match held {
-        Held::Is(_, _) => {
+        Some((_, _)) => {
             hang(ws, n, a, b, sa + sb);
         }
-        Held::Nothing => {
+        None => {
             take(ws, n, a, b, sa + sb);
         }
     }
@@ -112,21 +105,21 @@ fn unite(ws: &mut [u32], n: u32, a: Type, b: Type, sa: u32, sb: u32)
 }
 
 // A node of the n, if it is such a root.
-fn bare_at(ws: &[u32], n: u32, i: TypeIdx) -> Bare
+fn bare_at(ws: &[u32], n: u32, i: TypeIdx) -> Option<u32>
     requires { node_words n ≤ length ws.now }
     ensures { result ≡ bare_within ws.now n i.0 }
 {
     if n <= i.0 {
-        return Bare::Nothing;
+        return None;
     }
     let node = layout::node_at(ws, n, i);
     match node {
         TypeNode::Root { state, size } => match state {
-            TypeState::Known(_, _) => Bare::Nothing,
-            TypeState::Unknown(_) => Bare::Is(size),
-            TypeState::InferenceFailed => Bare::Is(size),
+            TypeState::Known(_, _) => None,
+            TypeState::Unknown(_) => Some(size),
+            TypeState::InferenceFailed => Some(size),
         },
-        TypeNode::Child(_) => Bare::Nothing,
+        TypeNode::Child(_) => None,
     }
 }
 
@@ -140,10 +133,10 @@ pub fn quick(ws: &mut [u32], n: u32, a: Type, b: Type) -> bool
     if ia.0 == ib.0 {
         return false;
     }
-    let Bare::Is(sa) = bare_at(ws, n, ia) else {
+    let Some(sa) = bare_at(ws, n, ia) else {
         return false;
     };
-    let Bare::Is(sb) = bare_at(ws, n, ib) else {
+    let Some(sb) = bare_at(ws, n, ib) else {
         return false;
     };
     unite(ws, n, a, b, sa, sb);
@@ -196,7 +189,7 @@ pub fn one_nil(ws: &[u32], n: u32, a: Type, b: Type) -> bool
     if ia.0 != ib.0 {
         return false;
     }
-    let Held::Is(_, kind) = layout::held_at(ws, n, ia) else {
+    let Some((_, kind)) = layout::held_at(ws, n, ia) else {
         return false;
     };
     if kind.code == kinds::TUPLE {

@@ -21,8 +21,8 @@ use Rattle.layout.specs.Meaning.{read_at, held_in, slot_means}
 use Rattle.layout.specs.declared.Slot.{Slot}
 use Rattle.roots.specs.Found.{Found}
 use Rattle.needs.specs.declared.Needs.{Needs}
-use Rattle.needs.specs.declared.Params.{Params}
-use Rattle.needs.specs.declared.Params.TheVariants.{None, Entries}
+use Rattle.needs.specs.Roots.{Params}
+use Rattle.std.specs.Prelude.{Some, None}
 use Rattle.needs.specs.declared.Asks.{Asks}
 use Rattle.needs.specs.declared.Asks.TheVariants as asks
 use Rattle.needs.specs.Roots.{params_for, asks_of}
@@ -44,11 +44,11 @@ with_root sum m = record { missing = sum.missing; nodes = sum.nodes + 1; childre
 -- some list of which the walk is told this
 abbrev any_list : Params → Option (List Ty)
 any_list None = none
-any_list (Entries m) = some (replicate m (ty false 0))
+any_list (Some m) = some (replicate m (ty false 0))
 
 any_told : (p : Params) → p ≡ params_for (any_list p)
 any_told None = refl
-any_told (Entries m) = ap Entries (sym (length-replicate {A = Ty} m (ty false 0)))
+any_told (Some m) = ap Some (sym (length-replicate {A = Ty} m (ty false 0)))
 
 module _ {ws ks : List ℕ} {n : ℕ} (src : Readable ws ks n) where
   source_narrow : (r : ℕ) → length (kids_of (state_of (at (decode ws ks n) r))) ≤ MAX_CHILDREN

@@ -26,8 +26,8 @@ use Rattle.layout.specs.declared.TypeState.TheVariants.{Known, Unknown, Inferenc
 use Rattle.layout.proofs.ChildLaws.{length_slots, slots_get, length_kids, kind_room}
 use Rattle.layout.proofs.KindLaws.{kind_code, kind_number, kind_kids}
 use Rattle.layout.proofs.HeldLaws.{state_read, state_fits_lem}
-use Rattle.needs.specs.declared.Params.{Params}
-use Rattle.needs.specs.declared.Params.TheVariants.{None, Entries}
+use Rattle.needs.specs.Roots.{Params}
+use Rattle.std.specs.Prelude.{Some, None}
 use Rattle.needs.specs.declared.Asks.{Asks}
 use Rattle.needs.specs.declared.Asks.TheVariants.{Replaced, Missing, Node}
 use Rattle.needs.specs.Roots.{params_for, kind_asks, asks_of}
@@ -50,7 +50,7 @@ asks_unlisted k e = rw e (go (eqb k.code PARAM))
     go true = refl
     go false = refl
 
-module _ {p : Params} {m : ℕ} (k : Kind) (param : k.code ≡ PARAM) (e : p ≡ Entries m) where
+module _ {p : Params} {m : ℕ} (k : Kind) (param : k.code ≡ PARAM) (e : p ≡ Some m) where
   pub asks_entry : k.number < m → Replaced ≡ kind_asks p k
   asks_entry h = rw (e, eq-eqb k.code PARAM param, lt-ltb k.number m h)
 

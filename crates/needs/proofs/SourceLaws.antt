@@ -26,16 +26,16 @@ use Rattle.types.specs.declared.«Type».{«Type»}
 use Rattle.layout.specs.Words.{decode, nodes_made, children_made, store_in, clean}
 use Rattle.layout.specs.Meaning.{header_in, remembered_means}
 use Rattle.layout.specs.declared.Header.{Header}
-use Rattle.layout.specs.declared.Remembered.{Remembered}
-use Rattle.layout.specs.declared.Remembered.TheVariants.{Is, Nothing}
+use Rattle.layout.specs.Meaning.{Remembered}
+use Rattle.std.specs.Prelude.{Some, None}
 use Rattle.layout.proofs.Laws.{length_decode}
 use Rattle.layout.proofs.StoreLaws.{clean_nodes}
 use Rattle.store.specs.Entries.{types_in}
 use Rattle.store.proofs.EntryLaws.{listed_below, listed_at}
 use Rattle.store.proofs.Laws.{store_count, store_nodes, store_children, error_is, nil_is}
 use Rattle.needs.specs.declared.Needs.{Needs}
-use Rattle.needs.specs.declared.Params.{Params}
-use Rattle.needs.specs.declared.Params.TheVariants.{None}
+use Rattle.needs.specs.Roots.{Params}
+use Rattle.std.specs.Prelude.{None}
 use Rattle.needs.specs.Sums.{no_needs, walk_at, Readable, Countable, CountedIs, AllCounted}
 use Rattle.needs.specs.Sources.{Importable, ImportNeeds, ExportNeeds}
 use Rattle.needs.proofs.CountLaws.{Turn, turn_end, all_small}
@@ -51,11 +51,11 @@ all_counted ts o h = record { is = turn_end o (rw (length-map ts ty_of) h) }
 
 -- a remembered type
 
-pub remembered_none : {ws ks ms : List ℕ} {n : ℕ} {p : Params} {sum : Needs} {was : Remembered} → was ≡ Nothing
+pub remembered_none : {ws ks ms : List ℕ} {n : ℕ} {p : Params} {sum : Needs} {was : Remembered} → was ≡ None
     → AllCounted ws ks n p ms sum (listed (remembered_means was)) ms sum
 remembered_none e = rw e (record { is = λ ps o. refl })
 
-pub remembered_one : {ws ks ms ms' : List ℕ} {n : ℕ} {p : Params} {sum r : Needs} {t : «Type»} {was : Remembered} → was ≡ Is t
+pub remembered_one : {ws ks ms ms' : List ℕ} {n : ℕ} {p : Params} {sum r : Needs} {t : «Type»} {was : Remembered} → was ≡ Some t
     → CountedIs ws ks n p ms sum t n ms' r → AllCounted ws ks n p ms sum (listed (remembered_means was)) ms' r
 remembered_one e o = rw e (record { is = o.is })
 

@@ -10,7 +10,7 @@ use Rattle.scope.proofs.Mapping.{Source}
 use Rattle.layout.specs.Words.{decode, store_in}
 use Rattle.store.specs.Entries.{types_in}
 use Rattle.needs.specs.declared.Needs.{Needs}
-use Rattle.needs.specs.declared.Params.{Params}
+use Rattle.needs.specs.Roots.{Params}
 use Rattle.needs.specs.Roots.{params_for}
 use Rattle.needs.specs.Sums.{sum_of, Readable}
 

@@ -11,7 +11,7 @@ use Rattle.types.specs.declared.«Type».{«Type»}
 use Rattle.layout.specs.Words.{decode}
 use Rattle.layout.specs.Meaning.{Clean}
 use Rattle.needs.specs.declared.Needs.{Needs}
-use Rattle.needs.specs.declared.Params.{Params}
+use Rattle.needs.specs.Roots.{Params}
 use Rattle.needs.specs.Roots.{params_for}
 
 abbrev pub sum_of : Needs → scope.Needs

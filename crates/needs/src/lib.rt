@@ -7,12 +7,11 @@ ghost use Rattle.layout.specs.Words.{node_words, slot_at, nodes_made, store_in};
 ghost use Rattle.layout.specs.Meaning.{held_in, read_at, slot_means, remembered_means, Linked};
 ghost use Rattle.store.specs.Entries.{types_in};
 ghost use Rattle.roots.specs.Kept.{Cached};
-ghost use Rattle.needs.specs.declared.Params.TheVariants as params;
 ghost use Rattle.needs.specs.Roots.{kind_asks, asks_of};
 ghost use Rattle.needs.specs.Sums.{no_needs, Countable, CountedIs, Met, AllCounted};
 ghost use Rattle.needs.specs.Sources.{Importable, ImportNeeds, ExportNeeds};
 
-use layout::{Held, Kind, Remembered, Slot};
+use layout::{Kind, Slot};
 use scope::MAX_NODES;
 use types::{Type, TypeIdx};
 
@@ -22,13 +21,6 @@ pub struct Needs {
     pub missing: bool,
     pub nodes: u32,
     pub children: u32,
-}
-
-// What the walk uses of a parameter list: whether there is one, and of how many entries. In an empty list no Param has an entry.
-#[derive(Clone, Copy)]
-pub enum Params {
-    None,
-    Entries(u32),
 }
 
 // What a root of the source asks for.
@@ -42,13 +34,13 @@ pub enum Asks {
     Node(u32, u32),
 }
 
-fn kind_asks(params: Params, kind: Kind) -> Asks
+fn kind_asks(params: Option<u32>, kind: Kind) -> Asks
     ensures { result ≡ kind_asks params kind }
 {
     if kind.code != kinds::PARAM {
         return Asks::Node(kind.first, kind.count);
     }
-    let Params::Entries(count) = params else {
+    let Some(count) = params else {
         return Asks::Node(kind.first, kind.count);
     };
     if kind.number < count {
@@ -58,13 +50,13 @@ fn kind_asks(params: Params, kind: Kind) -> Asks
     }
 }
 
-fn root_asks(ws: &[u32], n: u32, params: Params, root: TypeIdx) -> Asks
+fn root_asks(ws: &[u32], n: u32, params: Option<u32>, root: TypeIdx) -> Asks
     requires { node_words n ≤ length ws.now }
     ensures { result ≡ asks_of params (held_in (read_at ws.now n root.0)) }
 {
     match layout::held_at(ws, n, root) {
-        Held::Is(_, kind) => kind_asks(params, kind),
-        Held::Nothing => Asks::Node(0, 0),
+        Some((_, kind)) => kind_asks(params, kind),
+        None => Asks::Node(0, 0),
     }
 }
 
@@ -108,7 +100,7 @@ fn count(
     ws: &[u32],
     ks: &[u32],
     n: u32,
-    params: Params,
+    params: Option<u32>,
     cache: &mut [u16],
     marks: &mut [u8],
     sum: Needs,
@@ -158,7 +150,7 @@ fn count_all(
     ws: &[u32],
     ks: &[u32],
     n: u32,
-    params: Params,
+    params: Option<u32>,
     cache: &mut [u16],
     marks: &mut [u8],
     sum: Needs,
@@ -185,15 +177,15 @@ fn count_remembered(
     cache: &mut [u16],
     marks: &mut [u8],
     sum: Needs,
-    was: Remembered,
+    was: Option<Type>,
 ) -> Needs
     requires { Countable ws.now ks.now n marks.old sum × Cached ws.now n cache.old }
-    ensures { AllCounted ws.now ks.now n params.None marks.old sum (listed (remembered_means was))
+    ensures { AllCounted ws.now ks.now n None marks.old sum (listed (remembered_means was))
         marks.new result × Cached ws.now n cache.new }
 {
     match was {
-        Remembered::Is(t) => count(ws, ks, n, Params::None, cache, marks, sum, t, n),
-        Remembered::Nothing => sum,
+        Some(t) => count(ws, ks, n, None, cache, marks, sum, t, n),
+        None => sum,
     }
 }
 
@@ -208,7 +200,7 @@ fn nothing() -> Needs
 }
 
 // What an import of a list out of n nodes needs.
-pub fn of_import(ws: &[u32], ks: &[u32], n: u32, params: Params, ts: &[u32]) -> Needs
+pub fn of_import(ws: &[u32], ks: &[u32], n: u32, params: Option<u32>, ts: &[u32]) -> Needs
     requires { Importable ws.now ks.now n (types_in ts.now) }
     ensures { ImportNeeds ws.now ks.now n params ts.now result }
 {
@@ -230,5 +222,5 @@ pub fn of_export(h: &[u32], ws: &[u32], ks: &[u32], ts: &[u32]) -> Needs
     let mut marks = [0u8; MAX_NODES];
     let first = count_remembered(ws, ks, n, &mut cache, &mut marks, nothing(), error);
     let next = count_remembered(ws, ks, n, &mut cache, &mut marks, first, nil);
-    count_all(ws, ks, n, Params::None, &mut cache, &mut marks, next, ts)
+    count_all(ws, ks, n, None, &mut cache, &mut marks, next, ts)
 }

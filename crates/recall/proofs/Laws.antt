@@ -25,9 +25,9 @@ use Rattle.marks.specs.Marks.{MARKED, Knows, Beside}
 use Rattle.marks.proofs.Laws.{set_zero, marks_same}
 use Rattle.recall.specs.Memory.{HEAD, ENTRY, LAST, clock_of, Running, entry_at, Believed, Tidy, Cleared, Begun, Fewer, Forgot, New, Noted, WalkNoted}
 use Rattle.recall.specs.Places.{code_of, slot_of, Entry, Placed, Answered, Told}
-use Rattle.recall.specs.declared.Place.TheVariants as places
-use Rattle.recall.specs.declared.Recalled.{Recalled}
-use Rattle.recall.specs.declared.Recalled.TheVariants.{Is, Nothing}
+use Rattle.std.specs.declared.option.Option.TheVariants as places
+use Rattle.recall.specs.Places.{Recalled}
+use Rattle.std.specs.Prelude.{Some, None}
 
 -- the marks
 
@@ -176,7 +176,7 @@ square_small n h =
     let g : 2 * n ≤ 8192 = omega arith in
     omega (arith, mul-le-mul_right (2 * n) g)
 
-pub placed_none : {m : List ℕ} {n : ℕ} {a b : Ty} → Placed m n a b places.Nothing
+pub placed_none : {m : List ℕ} {n : ℕ} {a b : Ty} → Placed m n a b places.None
 placed_none = record { there = λ p e. let z : ◌≡◌ {A = ℕ} 0 1 = cc in absurd (omega arith) }
 
 pub slot_small : (count n : ℕ) (a b : Ty) {s : ℕ} → 0 < count → s ≡ slot_of count n a b → s < count
@@ -187,7 +187,7 @@ module _ (m : List ℕ) (n : ℕ) (a b : Ty) {c count s : ℕ} (ec : c ≡ clock
   pub slot_fits : HEAD + ENTRY * s + 3 < length m
   slot_fits = omega (arith, slot_small count n a b (omega (arith, ek, long)) es, ek)
 
-  pub placed_at : Placed m n a b (places.At (HEAD + ENTRY * s))
+  pub placed_at : Placed m n a b (places.Some (HEAD + ENTRY * s))
   placed_at = record {
     there = λ p e. let q : HEAD + ENTRY * s ≡ p = cc in record {
       is = sym q ∙ ap (λ (v : ℕ). HEAD + ENTRY * v) (es ∙ ap (λ (v : ℕ). slot_of v n a b) ek);
@@ -198,13 +198,13 @@ module _ (m : List ℕ) (n : ℕ) (a b : Ty) {c count s : ℕ} (ec : c ≡ clock
 
 -- what is read
 
-pub answered : {x : ℕ} (q : UnifyResult) → x ≡ number_of q → Answered x (Is q)
+pub answered : {x : ℕ} (q : UnifyResult) → x ≡ number_of q → Answered x (Some q)
 answered q e = record { number = λ r f. let y : q ≡ r = cc in e ∙ ap number_of y }
 
-pub answered_none : {x : ℕ} → Answered x Nothing
+pub answered_none : {x : ℕ} → Answered x None
 answered_none = record { number = λ q e. let z : ◌≡◌ {A = ℕ} 0 1 = cc in absurd (omega arith) }
 
-pub told_none : {m : List ℕ} {a b : ℕ} → Told m a b Nothing
+pub told_none : {m : List ℕ} {a b : ℕ} → Told m a b None
 told_none = record { believed = λ q e. let z : ◌≡◌ {A = ℕ} 0 1 = cc in absurd (omega arith) }
 
 pub word_holds : (x a : ℕ) {r : Bool} → r ≡ eqb x a → not r ≡ false → x ≡ a

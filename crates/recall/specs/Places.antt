@@ -5,10 +5,16 @@ use Rattle.scope.specs.Types.{Ty}
 use Rattle.types.specs.Answers.{number_of}
 use Rattle.types.specs.declared.UnifyResult.{UnifyResult}
 use Rattle.recall.specs.Memory.{HEAD, ENTRY, clock_of, Running, entry_at, Believed}
-use Rattle.recall.specs.declared.Place.{Place}
-use Rattle.recall.specs.declared.Place.TheVariants as places
-use Rattle.recall.specs.declared.Recalled.{Recalled}
-use Rattle.recall.specs.declared.Recalled.TheVariants.{Is}
+use Rattle.std.specs.declared.option.Option.TheVariants as places
+use Rattle.std.specs.Prelude.{Some}
+use Rattle.std.specs.declared.option.Option as option
+
+-- where a pair's entry lies, and its answer, where it is believed
+abbrev pub Place : Type 0
+Place = option.Option ℕ
+
+abbrev pub Recalled : Type 0
+Recalled = option.Option UnifyResult
 
 -- a number for each type of n nodes, below 2n
 abbrev pub code_of : Ty → ℕ
@@ -28,11 +34,11 @@ pub record Entry (m : List ℕ) (k p : ℕ) : Type 0 where
   pub running : Running (clock_of m)
 
 pub record Placed (m : List ℕ) (n : ℕ) (a b : Ty) (r : Place) : Type 0 where
-  pub there : (p : ℕ) → r ≡ places.At p → Entry m (slot_of (entries m) n a b) p
+  pub there : (p : ℕ) → r ≡ places.Some p → Entry m (slot_of (entries m) n a b) p
 
 pub record Answered (x : ℕ) (r : Recalled) : Type 0 where
-  pub number : (q : UnifyResult) → r ≡ Is q → x ≡ number_of q
+  pub number : (q : UnifyResult) → r ≡ Some q → x ≡ number_of q
 
 -- what is told is believed
 pub record Told (m : List ℕ) (a b : ℕ) (r : Recalled) : Type 0 where
-  pub believed : (q : UnifyResult) → r ≡ Is q → Believed m a b q
+  pub believed : (q : UnifyResult) → r ≡ Some q → Believed m a b q

@@ -25,20 +25,6 @@ pub const VISITS: u32 = 4096;
 // A walk that fails counts as so many: the same few, asked again and again, are soon remembered.
 pub const WALK: u32 = 64;
 
-// A pair's answer, where it is believed.
-#[derive(Clone, Copy)]
-pub enum Recalled {
-    Is(UnifyResult),
-    Nothing,
-}
-
-// Where a pair's entry lies, where something may be remembered.
-#[derive(Clone, Copy)]
-pub enum Place {
-    At(usize),
-    Nothing,
-}
-
 pub fn clock(m: &[u32]) -> u32
     ensures { result ≡ clock_of m.now }
 {
@@ -117,35 +103,35 @@ fn slot(count: usize, n: u32, a: Type, b: Type) -> usize
     (code(a) * row + code(b)) % count
 }
 
-fn spot_of(m: &[u32], n: u32, a: Type, b: Type) -> Place
+fn spot_of(m: &[u32], n: u32, a: Type, b: Type) -> Option<usize>
     requires { n ≤ «MAX_NODES» }
     ensures { Placed m.now n (ty_of a.0) (ty_of b.0) result }
 {
     let c = at(m, 0);
     if c == 0 {
-        return Place::Nothing;
+        return None;
     }
     if c == LAST {
-        return Place::Nothing;
+        return None;
     }
     if m.len() < HEAD + ENTRY {
-        return Place::Nothing;
+        return None;
     }
     let count = (m.len() - HEAD) / ENTRY;
-    Place::At(HEAD + ENTRY * slot(count, n, a, b))
+    Some(HEAD + ENTRY * slot(count, n, a, b))
 }
 
 // The answer in a word.
-fn answer_in(x: u32) -> Recalled
+fn answer_in(x: u32) -> Option<UnifyResult>
     ensures { Answered x result }
 {
     if x == 1 {
-        return Recalled::Is(UnifyResult::Failure);
+        return Some(UnifyResult::Failure);
     }
     if x == 2 {
-        return Recalled::Is(UnifyResult::Indeterminate);
+        return Some(UnifyResult::Indeterminate);
     }
-    Recalled::Nothing
+    None
 }
 
 // Does a word hold a type? Its inversion counts too.
@@ -160,21 +146,21 @@ fn holds(x: u32, t: Type) -> bool
 }
 
 // What is believed of a pair.
-pub fn look(m: &[u32], n: u32, a: Type, b: Type) -> Recalled
+pub fn look(m: &[u32], n: u32, a: Type, b: Type) -> Option<UnifyResult>
     requires { n ≤ «MAX_NODES» }
     ensures { Told m.now a.0 b.0 result }
 {
-    let Place::At(p) = spot_of(m, n, a, b) else {
-        return Recalled::Nothing;
+    let Some(p) = spot_of(m, n, a, b) else {
+        return None;
     };
     if !holds(at(m, p), a) {
-        return Recalled::Nothing;
+        return None;
     }
     if !holds(at(m, p + 1), b) {
-        return Recalled::Nothing;
+        return None;
     }
     if at(m, p + 2) != at(m, 0) {
-        return Recalled::Nothing;
+        return None;
     }
     answer_in(at(m, p + 3))
 }
@@ -187,7 +173,7 @@ pub fn note(m: &mut [u32], n: u32, began: u32, a: Type, b: Type, r: UnifyResult)
     if at(m, 0) != began {
         return;
     }
-    let Place::At(p) = spot_of(m, n, a, b) else {
+    let Some(p) = spot_of(m, n, a, b) else {
         return;
     };
     put(m, p, a.0);

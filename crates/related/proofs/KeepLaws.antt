@@ -18,8 +18,8 @@ use Rattle.layout.specs.Words.{slot_at, decode}
 use Rattle.roots.specs.Found.{Found}
 use Rattle.roots.specs.Kept.{Cached}
 use Rattle.roots.proofs.KeptLaws.{cached_zeros}
-use Rattle.related.specs.declared.Meeting.{Meeting}
-use Rattle.related.specs.declared.Meeting.TheVariants.{Met, New}
+use Rattle.related.specs.Tables.{Meeting}
+use Rattle.std.specs.Prelude.{Some, None}
 use Rattle.skips.specs.Table.{marked, slot_seen, Skips, Passed, Stretched}
 use Rattle.skips.proofs.Laws.{zeros_at, skips_zeros}
 use Rattle.related.specs.Tables.{slot_marked, Sees, Meets, Keeps}
@@ -64,14 +64,14 @@ module _ {ws : List ℕ} {n : ℕ} {ms seen : List ℕ} (c : Sees ws n ms seen) 
 
 -- a child is met
 
-met_not_new : {i : TypeIdx} {B : Type 0} → Met ≡ New i → B
+met_not_new : {i : TypeIdx} {B : Type 0} → None ≡ Some i → B
 met_not_new e = let z : ◌≡◌ {A = ℕ} 0 1 = cc in absurd (omega arith)
 
-new_not_met : {i : TypeIdx} {B : Type 0} → New i ≡ Met → B
+new_not_met : {i : TypeIdx} {B : Type 0} → Some i ≡ None → B
 new_not_met e = let z : ◌≡◌ {A = ℕ} 0 1 = cc in absurd (omega arith)
 
 module _ {ws : List ℕ} {n t : ℕ} {cache ms : List ℕ} (k : Cached ws n cache) where
-  meets_met : {seen : List ℕ} → Sees ws n ms seen → ((ks : List ℕ) → marked ms (find (decode ws ks n) (ty_of t)).idx ≡ true) → Meets ws n t cache ms ms seen Met
+  meets_met : {seen : List ℕ} → Sees ws n ms seen → ((ks : List ℕ) → marked ms (find (decode ws ks n) (ty_of t)).idx ≡ true) → Meets ws n t cache ms ms seen None
   meets_met c h = record {
     cached = k;
     sees = c;
@@ -82,17 +82,17 @@ module _ {ws : List ℕ} {n t : ℕ} {cache ms : List ℕ} (k : Cached ws n cach
     mark = λ i e. met_not_new e;
   }
 
-  pub meets_told : {seen : List ℕ} {j : ℕ} {b : Bool} → Sees ws n ms seen → j ≡ (ty_of t).idx → b ≡ marked seen j → b ≡ true → Meets ws n t cache ms ms seen Met
+  pub meets_told : {seen : List ℕ} {j : ℕ} {b : Bool} → Sees ws n ms seen → j ≡ (ty_of t).idx → b ≡ marked seen j → b ≡ true → Meets ws n t cache ms ms seen None
   meets_told {seen} c q m h = meets_met c (c.each (ty_of t) (ap (marked seen) (sym q) ∙ (sym m ∙ h)))
 
   module _ {r : ℕ} {i : TypeIdx} {seen : List ℕ} {j : ℕ} (c : Sees ws n ms seen) (f : Found ws n t r) (o : i.0 ≡ (ty_of r).idx) (q : j ≡ (ty_of t).idx) where
-    pub meets_old : {seen' : List ℕ} {b : Bool} → b ≡ marked ms i.0 → b ≡ true → seen' ≡ set seen j 1 → Meets ws n t cache ms ms seen' Met
+    pub meets_old : {seen' : List ℕ} {b : Bool} → b ≡ marked ms i.0 → b ≡ true → seen' ≡ set seen j 1 → Meets ws n t cache ms ms seen' None
     meets_old m h e =
         let w : (ks : List ℕ) → marked ms (find (decode ws ks n) (ty_of t)).idx ≡ true = λ ks. ap (marked ms) (sym (root_is f o ks)) ∙ (sym m ∙ h) in
         meets_met (sees_told c t w q e) w
 
     module _ {ms' : List ℕ} {b : Bool} (m : b ≡ marked ms i.0) (h : b ≡ false) (e : ms' ≡ set ms i.0 1) where
-      meets_new : {seen' : List ℕ} → Sees ws n ms' seen' → Meets ws n t cache ms ms' seen' (New i)
+      meets_new : {seen' : List ℕ} → Sees ws n ms' seen' → Meets ws n t cache ms ms' seen' (Some i)
       meets_new d = record {
         cached = k;
         sees = d;
@@ -103,10 +103,10 @@ module _ {ws : List ℕ} {n t : ℕ} {cache ms : List ℕ} (k : Cached ws n cach
         mark = λ x z. let y : i ≡ x = cc in rw (← y) e;
       }
 
-      pub meets_out : Meets ws n t cache ms ms' seen (New i)
+      pub meets_out : Meets ws n t cache ms ms' seen (Some i)
       meets_out = meets_new (sees_mark c i.0 e)
 
-      pub meets_in : {seen' : List ℕ} {d : Bool} → d ≡ marked ms' i.0 → d ≡ true → seen' ≡ set seen j 1 → Meets ws n t cache ms ms' seen' (New i)
+      pub meets_in : {seen' : List ℕ} {d : Bool} → d ≡ marked ms' i.0 → d ≡ true → seen' ≡ set seen j 1 → Meets ws n t cache ms ms' seen' (Some i)
       meets_in w z v = meets_new (sees_told (sees_mark c i.0 e) t (λ ks. ap (marked ms') (sym (root_is f o ks)) ∙ (sym w ∙ z)) q v)
 
 -- what a walk keeps: slots passed over, a child met, and what follows it
@@ -118,10 +118,10 @@ module _ {ws ks : List ℕ} {n : ℕ} {cache ms seen skip : List ℕ} (c : Keeps
   pub keeps_pass : {skip' : List ℕ} {s r : ℕ} → Passed skip skip' s r → Keeps ws ks n cache ms seen skip'
   keeps_pass w = record { cached = c.cached; sees = c.sees; skips = w.skips (slot_marked (decode ws ks n) ks ms) c.skips }
 
-  pub keeps_met : {cache' ms' seen' : List ℕ} {t : ℕ} {r : Meeting} → Meets ws n t cache' ms ms' seen' r → r ≡ Met → Keeps ws ks n cache' ms' seen' skip
+  pub keeps_met : {cache' ms' seen' : List ℕ} {t : ℕ} {r : Meeting} → Meets ws n t cache' ms ms' seen' r → r ≡ None → Keeps ws ks n cache' ms' seen' skip
   keeps_met w e = record { cached = w.cached; sees = w.sees; skips = rw (w.same e) c.skips }
 
-  pub keeps_new : {cache' ms' seen' : List ℕ} {t : ℕ} {r : Meeting} {i : TypeIdx} → Meets ws n t cache' ms ms' seen' r → r ≡ New i → Keeps ws ks n cache' ms' seen' skip
+  pub keeps_new : {cache' ms' seen' : List ℕ} {t : ℕ} {r : Meeting} {i : TypeIdx} → Meets ws n t cache' ms ms' seen' r → r ≡ Some i → Keeps ws ks n cache' ms' seen' skip
   keeps_new {i = i} w e = record {
     cached = w.cached;
     sees = w.sees;

@@ -19,12 +19,11 @@ use Rattle.layout.specs.Words.{slot_at, slots, decode}
 use Rattle.layout.specs.Meaning.{slot_means, kind_means, read_at, held_in}
 use Rattle.layout.specs.declared.Kind.{Kind}
 use Rattle.layout.specs.declared.Slot.{Slot}
-use Rattle.layout.specs.declared.Held.{Held}
-use Rattle.layout.specs.declared.Held.TheVariants.{Is, Nothing}
+use Rattle.layout.specs.Meaning.{Held}
+use Rattle.std.specs.Prelude.{Some, None}
 use Rattle.layout.proofs.HeldLaws.{held_kids_lem}
 use Rattle.types.specs.declared.TypeIdx.{TypeIdx}
-use Rattle.related.specs.declared.Meeting.{Meeting}
-use Rattle.related.specs.declared.Meeting.TheVariants.{Met, New}
+use Rattle.related.specs.Tables.{Meeting}
 use Rattle.skips.specs.Table.{Scanned}
 use Rattle.related.specs.Tables.{related_below, slot_marked, Meets, Keeps}
 use Rattle.related.specs.Stands.{Stands}
@@ -62,10 +61,10 @@ pub below_shallow : (depth : ℕ) (ns : List Node) (ms : List ℕ) (i : ℕ) →
 below_shallow depth ns ms i e = rw e (sym (kids_shallow ns ms (kids_of (state_of (at ns i)))))
 
 module _ {ws ks : List ℕ} {n : ℕ} (i : ℕ) {v : Held} (s : Stands ws ks n) (o : v ≡ held_in (read_at ws n i)) (depth : ℕ) (ms : List ℕ) where
-  pub below_none : v ≡ Nothing → ms ≡ related_below depth (decode ws ks n) ms i
+  pub below_none : v ≡ None → ms ≡ related_below depth (decode ws ks n) ms i
   below_none e = sym (ap (related_kids (related_f depth (decode ws ks n)) ms) (held_kids_lem ws ks s.made n s.clean i o e))
 
-  pub below_kind : {j : Inverted} {k : Kind} → v ≡ Is j k
+  pub below_kind : {j : Inverted} {k : Kind} → v ≡ Some (j, k)
       → related_kids (related_f depth (decode ws ks n)) ms (kids_in ks k.first (k.first + k.count)) ≡ related_below depth (decode ws ks n) ms i
   below_kind {k = k} e =
       sym (ap (related_kids (related_f depth (decode ws ks n)) ms) (held_kids_lem ws ks s.made n s.clean i o e ∙ kids_whole ks k))
@@ -131,11 +130,11 @@ turn_stretch d {ws} {ks} {n} {r = r} s c k w =
 -- a child whose root was marked, and one whose root is marked now and walked on from
 module _ (f : ℕ) {ws ks : List ℕ} {n s₀ e : ℕ} {ms₀ cache ms ms' seen : List ℕ} {r : Meeting} {s : ℕ} (c : Turn (related_f f (decode ws ks n)) ks s₀ e ms₀ ms s) (d : Slot)
     (h : s < e) (q : slot_means d ≡ slot_at ks s) (w : Meets ws n d.ty.0 cache ms ms' seen r) where
-  pub turn_met : r ≡ Met → Turn (related_f f (decode ws ks n)) ks s₀ e ms₀ ms' (s + 1)
+  pub turn_met : r ≡ None → Turn (related_f f (decode ws ks n)) ks s₀ e ms₀ ms' (s + 1)
   turn_met z =
       turn_next c d h q (w.same z ∙ mark_met f (decode ws ks n) ms (ty_of d.ty.0) refl refl (w.met z ks)) (ap (λ (m : List ℕ). length m) (w.same z))
 
-  pub turn_new : {i : TypeIdx} {ms'' : List ℕ} → (f ≡ 0 → ⊥) → r ≡ New i → ms'' ≡ related_below (f - 1) (decode ws ks n) ms' i.0 → length ms'' ≡ length ms'
+  pub turn_new : {i : TypeIdx} {ms'' : List ℕ} → (f ≡ 0 → ⊥) → r ≡ Some i → ms'' ≡ related_below (f - 1) (decode ws ks n) ms' i.0 → length ms'' ≡ length ms'
       → Turn (related_f f (decode ws ks n)) ks s₀ e ms₀ ms'' (s + 1)
   turn_new {i} a z v l =
       turn_next c d h q (mark_walked f (decode ws ks n) ms (ty_of d.ty.0) a (w.root i z ks) refl (w.fresh i z) (w.mark i z) v)

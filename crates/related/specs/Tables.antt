@@ -8,8 +8,12 @@ use Rattle.types.specs.declared.TypeIdx.{TypeIdx}
 use Rattle.layout.specs.Words.{slot_at, decode}
 use Rattle.roots.specs.Kept.{Cached}
 use Rattle.skips.specs.Table.{marked, Skips}
-use Rattle.related.specs.declared.Meeting.{Meeting}
-use Rattle.related.specs.declared.Meeting.TheVariants.{Met, New}
+use Rattle.std.specs.Prelude.{Some, None}
+use Rattle.std.specs.declared.option.Option as option
+
+-- a root that is marked now; none where it was before
+abbrev pub Meeting : Type 0
+Meeting = option.Option TypeIdx
 
 -- as many nodes as a walk with small tables takes
 abbrev pub FEW : ℕ
@@ -31,11 +35,11 @@ pub record Sees (ws : List ℕ) (n : ℕ) (ms seen : List ℕ) : Type 0 where
 pub record Meets (ws : List ℕ) (n t : ℕ) (cache' ms ms' seen' : List ℕ) (r : Meeting) : Type 0 where
   pub cached : Cached ws n cache'
   pub sees : Sees ws n ms' seen'
-  pub same : r ≡ Met → ms' ≡ ms
-  pub met : r ≡ Met → (ks : List ℕ) → marked ms (find (decode ws ks n) (ty_of t)).idx ≡ true
-  pub root : (i : TypeIdx) → r ≡ New i → (ks : List ℕ) → i.0 ≡ (find (decode ws ks n) (ty_of t)).idx
-  pub fresh : (i : TypeIdx) → r ≡ New i → marked ms i.0 ≡ false
-  pub mark : (i : TypeIdx) → r ≡ New i → ms' ≡ set ms i.0 1
+  pub same : r ≡ None → ms' ≡ ms
+  pub met : r ≡ None → (ks : List ℕ) → marked ms (find (decode ws ks n) (ty_of t)).idx ≡ true
+  pub root : (i : TypeIdx) → r ≡ Some i → (ks : List ℕ) → i.0 ≡ (find (decode ws ks n) (ty_of t)).idx
+  pub fresh : (i : TypeIdx) → r ≡ Some i → marked ms i.0 ≡ false
+  pub mark : (i : TypeIdx) → r ≡ Some i → ms' ≡ set ms i.0 1
 
 -- roots, nodes and slots of marked ones
 pub record Keeps (ws ks : List ℕ) (n : ℕ) (cache ms seen skip : List ℕ) : Type 0 where

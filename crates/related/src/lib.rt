@@ -10,19 +10,11 @@ ghost use Rattle.roots.specs.Kept.{Cached};
 ghost use Rattle.related.specs.Stands.{Stands};
 ghost use Rattle.related.specs.Tables.{Sees, Meets, Keeps, related_below};
 
-use layout::Held;
 use scope::{MAX_CHILDREN, MAX_NODES};
 use types::{Type, TypeIdx};
 
 // As many nodes as a walk with small tables takes.
 const FEW: usize = 256;
-
-// What meeting a child tells: its root was marked before, or it is marked now.
-#[derive(Clone, Copy)]
-enum Meeting {
-    Met,
-    New(TypeIdx),
-}
 
 // A child's root is marked, if it is not, and its node told.
 fn meet(
@@ -32,24 +24,24 @@ fn meet(
     marks: &mut [u8],
     seen: &mut [u8],
     kid: Type,
-) -> Meeting
+) -> Option<TypeIdx>
     requires { Linked ws.now n × Cached ws.now n cache.old × Sees ws.now n marks.old seen.old }
     ensures { Meets ws.now n kid.0 cache.new marks.old marks.new seen.new result }
 {
     if roots::is_marked(seen, kid.idx()) {
-        return Meeting::Met;
+        return None;
     }
     let root = roots::find_by(ws, n, cache, kid).idx();
     if roots::is_marked(marks, root) {
         roots::set_mark(seen, kid.idx());
-        return Meeting::Met;
+        return None;
     }
     roots::set_mark(marks, root);
     if roots::is_marked(marks, root) {
         roots::set_mark(seen, kid.idx());
-        return Meeting::New(root);
+        return Some(root);
     }
-    Meeting::New(root)
+    Some(root)
 }
 
 // The walk on from a marked root: each unmarked root of a child is marked and walked on from, one level less deep. Of a child whose root is marked
@@ -72,7 +64,7 @@ fn mark_below(
     if depth == 0 {
         return;
     }
-    let Held::Is(_, kind) = layout::held_at(ws, n, root) else {
+    let Some((_, kind)) = layout::held_at(ws, n, root) else {
         return;
     };
     let mut s = kind.first as usize;
@@ -84,10 +76,10 @@ fn mark_below(
         } else {
             let kid = layout::child_at(ks, s).ty;
             match meet(ws, n, cache, marks, seen, kid) {
-                Meeting::Met => {
+                None => {
                     s = skips::stretch(ks, seen, skip, s, end);
                 }
-                Meeting::New(next) => {
+                Some(next) => {
                     mark_below(ws, ks, n, cache, marks, seen, skip, next, depth - 1);
                     s = skips::stretch(ks, seen, skip, s, end);
                 }

@@ -21,8 +21,8 @@ use Rattle.layout.specs.Meaning.{read_at, Linked}
 use Rattle.layout.specs.declared.TypeNode.{TypeNode}
 use Rattle.layout.specs.declared.TypeNode.TheVariants as code
 use Rattle.layout.specs.declared.TypeState.{TypeState}
-use Rattle.roots.specs.declared.Nearby.{Nearby}
-use Rattle.roots.specs.declared.Nearby.TheVariants as near
+use Rattle.roots.specs.Found.{Nearby}
+use Rattle.std.specs.declared.option.Option.TheVariants as near
 use Rattle.roots.specs.Found.{Found}
 use Rattle.roots.proofs.Laws.{is_root_lem}
 use Rattle.roots.proofs.PathLaws.{rooted_up}
@@ -30,23 +30,23 @@ use Rattle.roots.specs.Kept.{KEPT_INV, kept_type, kept_word, Kept, Rooted, Cache
 
 -- numbers
 
-pub kept_none : {k : ℕ} → Kept k near.Far
+pub kept_none : {k : ℕ} → Kept k near.None
 kept_none = record {
   there = λ r e. let z : ◌≡◌ {A = ℕ} 0 1 = cc in absurd (omega arith);
   type = λ r e. let z : ◌≡◌ {A = ℕ} 0 1 = cc in absurd (omega arith);
 }
 
-kept_is : {k : ℕ} (r : «Type») → (k ≡ 0 → ⊥) → ty_of r.0 ≡ kept_type k → Kept k (near.Is r)
+kept_is : {k : ℕ} (r : «Type») → (k ≡ 0 → ⊥) → ty_of r.0 ≡ kept_type k → Kept k (near.Some r)
 kept_is r h e = record {
   there = λ q s. h;
   type = λ q s. let z : r ≡ q = cc in ap (λ (x : «Type»). ty_of x.0) (sym z) ∙ e;
 }
 
 module _ {k w : ℕ} (r : «Type») (o : w ≡ k) where
-  pub kept_low : (w ≡ 0 → ⊥) → w ≤ KEPT_INV → r.0 ≡ w - 1 → Kept k (near.Is r)
+  pub kept_low : (w ≡ 0 → ⊥) → w ≤ KEPT_INV → r.0 ≡ w - 1 → Kept k (near.Some r)
   kept_low h l e = kept_is r (rw (← o) h) (rw (← o, e, le-ltb KEPT_INV w l) (ty_plain (w - 1) (omega arith)))
 
-  pub kept_high : KEPT_INV < w → w < 65536 → ty_of r.0 ≡ flip true (ty_of (w - 1 - KEPT_INV)) → Kept k (near.Is r)
+  pub kept_high : KEPT_INV < w → w < 65536 → ty_of r.0 ≡ flip true (ty_of (w - 1 - KEPT_INV)) → Kept k (near.Some r)
   kept_high l h e =
       kept_is r (λ z. omega arith) (e ∙ rw (← o, lt-ltb KEPT_INV w l, ty_plain (w - 1 - KEPT_INV) (omega arith)))
 
@@ -99,7 +99,7 @@ found_plain {ws} {n} t {i} ei eb e f =
     let s : ty_of i ≡ ty_of t.0 = rw ei (ty_plain (ty_of t.0).idx (idx_below t.0)) ∙ ap (λ (x : Bool). ty x (ty_of t.0).idx) (sym e ∙ eb) in
     record { root = λ ks. f.root ks ∙ ap (find (decode ws ks n)) s }
 
-pub rooted_kept : {ws : List ℕ} {n : ℕ} {cache : List ℕ} {i : ℕ} {v : Nearby} (r : «Type») → Cached ws n cache → Kept (get_or cache i 0) v → v ≡ near.Is r
+pub rooted_kept : {ws : List ℕ} {n : ℕ} {cache : List ℕ} {i : ℕ} {v : Nearby} (r : «Type») → Cached ws n cache → Kept (get_or cache i 0) v → v ≡ near.Some r
     → Rooted ws n i (ty_of r.0)
 rooted_kept {i = i} r c d e = rw (d.type r e) (c.each i (d.there r e))
 

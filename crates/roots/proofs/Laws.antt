@@ -22,8 +22,8 @@ use Rattle.layout.specs.declared.TypeNode.TheVariants as code
 use Rattle.layout.specs.declared.TypeState.{TypeState}
 use Rattle.layout.proofs.Laws.{length_decode, length_put, tail_put, decode_put, clean_put}
 use Rattle.layout.proofs.LinkLaws.{parent_same, read_child, read_root, child_below, child_field, link_put, linked_put}
-use Rattle.roots.specs.declared.Nearby.{Nearby}
-use Rattle.roots.specs.declared.Nearby.TheVariants as near
+use Rattle.roots.specs.Found.{Nearby}
+use Rattle.std.specs.declared.option.Option.TheVariants as near
 use Rattle.roots.specs.Found.{Found, Relinked, FoundMut, Near}
 
 -- find
@@ -123,7 +123,7 @@ pub relinked_refl : {ws : List ℕ} {n : ℕ} → Linked ws n → Relinked ws n 
 relinked_refl l = record { long = refl; tail = refl; others = λ p h. refl; linked = l; clean = λ ks c cl. cl }
 
 -- what is near has no path to point
-pub near_left : {ws : List ℕ} {n t : ℕ} {q : Nearby} (r : «Type») → Linked ws n → Near ws n t q → q ≡ near.Is r → FoundMut ws n ws t r.0
+pub near_left : {ws : List ℕ} {n t : ℕ} {q : Nearby} (r : «Type») → Linked ws n → Near ws n t q → q ≡ near.Some r → FoundMut ws n ws t r.0
 near_left r l k e = record { root = (k.found r e).root; nodes = λ ks. sym (k.stays r e ks); words = relinked_refl l }
 
 -- a child of the words now was one before
@@ -199,7 +199,7 @@ at_node : (ws : List ℕ) (n : ℕ) {i j : ℕ} {v w : TypeNode} → i ≡ j →
 at_node ws n ei ev e = sym (ev ∙ ap (read_at ws n) ei) ∙ e
 
 module _ {ws : List ℕ} {n : ℕ} {t : «Type»} {i : ℕ} (ei : i ≡ (ty_of t.0).idx) {v : TypeNode} (ev : v ≡ read_at ws n i) where
-  pub is_root_lem : {st : TypeState} {z : ℕ} → v ≡ code.Root st z → Near ws n t.0 (near.Is t)
+  pub is_root_lem : {st : TypeState} {z : ℕ} → v ≡ code.Root st z → Near ws n t.0 (near.Some t)
   is_root_lem {st} {z} e = record {
     found = λ r q. let s : t ≡ r = cc in record { root = λ ks. ap (λ (x : «Type»). ty_of x.0) (sym s) ∙ sym (find_here (decode ws ks n) (ty_of t.0) (top ks)) };
     stays = λ r q ks. near_root (decode ws ks n) (ty_of t.0) (top ks);
@@ -209,7 +209,7 @@ module _ {ws : List ℕ} {n : ℕ} {t : «Type»} {i : ℕ} (ei : i ≡ (ty_of t
       top ks = read_root ws n (ty_of t.0).idx st z (at_node ws n ei ev e) ks
 
   pub under_root : {u p : «Type»} {j : ℕ} {b : Bool} {w : TypeNode} {st : TypeState} {z : ℕ} → Linked ws n → v ≡ code.Child u → j ≡ (ty_of u.0).idx → w ≡ read_at ws n j
-      → w ≡ code.Root st z → b ≡ (ty_of t.0).inv → ty_of p.0 ≡ flip b (ty_of u.0) → Near ws n t.0 (near.Is p)
+      → w ≡ code.Root st z → b ≡ (ty_of t.0).inv → ty_of p.0 ≡ flip b (ty_of u.0) → Near ws n t.0 (near.Some p)
   under_root {u} {p} {b = b} {st = st} {z = z} l e ej ew er eb ep = record {
     found = λ r q.
         let s : p ≡ r = cc in
@@ -226,7 +226,7 @@ module _ {ws : List ℕ} {n : ℕ} {t : «Type»} {i : ℕ} (ei : i ≡ (ty_of t
       top : (ks : List ℕ) → is_root (at (decode ws ks n) (ty_of u.0).idx) ≡ true
       top ks = read_root ws n (ty_of u.0).idx st z (at_node ws n ej ew er) ks
 
-pub is_far : {ws : List ℕ} {n t : ℕ} → Near ws n t near.Far
+pub is_far : {ws : List ℕ} {n t : ℕ} → Near ws n t near.None
 is_far = record {
   found = λ r e. let z : ◌≡◌ {A = ℕ} 0 1 = cc in absurd (omega arith);
   stays = λ r e. let z : ◌≡◌ {A = ℕ} 0 1 = cc in absurd (omega arith);

@@ -22,7 +22,7 @@ use Rattle.layout.specs.declared.TypeNode.{TypeNode}
 use Rattle.layout.specs.declared.TypeNode.TheVariants as code
 use Rattle.layout.specs.declared.TypeState.{TypeState}
 use Rattle.layout.proofs.LinkLaws.{read_child, read_root}
-use Rattle.roots.specs.declared.Nearby.TheVariants as near
+use Rattle.std.specs.declared.option.Option.TheVariants as near
 use Rattle.roots.specs.Kept.{Rooted, Topped}
 
 -- climbing from a child is climbing from its parent
@@ -106,16 +106,16 @@ module _ {ws : List ℕ} {n i₀ : ℕ} {b : Bool} {i : ℕ} (c : Rises ws n i�
         (c.rest ks (flip w.inv r) (up_path w (read_child ws n i l u (sym o ∙ e) ks) (rw z at k))));
   }
 
-  pub rises_kept : {r : Ty} (q : «Type») → Rooted ws n i r → ty_of q.0 ≡ flip b r → Topped ws n i₀ (near.Is q)
+  pub rises_kept : {r : Ty} (q : «Type») → Rooted ws n i r → ty_of q.0 ≡ flip b r → Topped ws n i₀ (near.Some q)
   rises_kept {r} q k e = record {
     told = λ s z. let y : q ≡ s = cc in subst (λ (x : «Type»). Rooted ws n i₀ (ty_of x.0)) y (rw e (rooted (λ ks. c.rest ks r (path k ks))));
   }
 
   pub rises_root : {v : TypeNode} {st : TypeState} {z : ℕ} (q : «Type») → v ≡ read_at ws n i → v ≡ code.Root st z → ty_of q.0 ≡ flip b (ty_of i)
-      → Topped ws n i₀ (near.Is q)
+      → Topped ws n i₀ (near.Some q)
   rises_root {st = st} {z = z} q o e x =
       let own : Rooted ws n i (ty false i) = rooted (λ ks. root_path (decode ws ks n) i (read_root ws n i st z (sym o ∙ e) ks)) in
       rises_kept q own (x ∙ (ty_new b i c.small ∙ sym (flip_false b i)))
 
-pub topped_none : {ws : List ℕ} {n i : ℕ} → Topped ws n i near.Far
+pub topped_none : {ws : List ℕ} {n i : ℕ} → Topped ws n i near.None
 topped_none = record { told = λ r e. let z : ◌≡◌ {A = ℕ} 0 1 = cc in absurd (omega arith) }

@@ -6,8 +6,12 @@ use Rattle.scope.specs.Nodes.{find, find_mut}
 use Rattle.types.specs.declared.«Type».{«Type»}
 use Rattle.layout.specs.Words.{NODE_WORDS, node_words, node_field, decode}
 use Rattle.layout.specs.Meaning.{CHILD_TAG, Clean, Linked}
-use Rattle.roots.specs.declared.Nearby.{Nearby}
-use Rattle.roots.specs.declared.Nearby.TheVariants.{Is}
+use Rattle.std.specs.Prelude.{Some}
+use Rattle.std.specs.declared.option.Option as option
+
+-- the root of a type that is near it
+abbrev pub Nearby : Type 0
+Nearby = option.Option «Type»
 
 -- the word r holds the root of the type in the word t
 pub record Found (ws : List ℕ) (n t r : ℕ) : Type 0 where
@@ -28,5 +32,5 @@ pub record FoundMut (ws : List ℕ) (n : ℕ) (ws' : List ℕ) (t r : ℕ) : Typ
 
 -- told the root of the type in the word t, its `find_mut` leaves the nodes as they are
 pub record Near (ws : List ℕ) (n t : ℕ) (q : Nearby) : Type 0 where
-  pub found : (r : «Type») → q ≡ Is r → Found ws n t r.0
-  pub stays : (r : «Type») → q ≡ Is r → (ks : List ℕ) → find_mut (decode ws ks n) (ty_of t) ≡ decode ws ks n
+  pub found : (r : «Type») → q ≡ Some r → Found ws n t r.0
+  pub stays : (r : «Type») → q ≡ Some r → (ks : List ℕ) → find_mut (decode ws ks n) (ty_of t) ≡ decode ws ks n

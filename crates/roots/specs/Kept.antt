@@ -5,8 +5,8 @@ use Rattle.scope.specs.Types.{Ty, ty, ty_of}
 use Rattle.scope.specs.Nodes.{at, is_root, find}
 use Rattle.types.specs.declared.«Type».{«Type»}
 use Rattle.layout.specs.Words.{decode}
-use Rattle.roots.specs.declared.Nearby.{Nearby}
-use Rattle.roots.specs.declared.Nearby.TheVariants.{Is}
+use Rattle.roots.specs.Found.{Nearby}
+use Rattle.std.specs.Prelude.{Some}
 
 abbrev pub KEPT_INV : ℕ
 KEPT_INV = 32768
@@ -21,8 +21,8 @@ kept_word r = pick (leb KEPT_INV (r.idx + 1)) 0 (pick r.inv (r.idx + 1 + KEPT_IN
 
 -- what the number k is read as
 pub record Kept (k : ℕ) (q : Nearby) : Type 0 where
-  pub there : (r : «Type») → q ≡ Is r → k ≡ 0 → ⊥
-  pub type : (r : «Type») → q ≡ Is r → ty_of r.0 ≡ kept_type k
+  pub there : (r : «Type») → q ≡ Some r → k ≡ 0 → ⊥
+  pub type : (r : «Type») → q ≡ Some r → ty_of r.0 ≡ kept_type k
 
 -- "`find` follows parents": from the node i to r, which is a root. A path of children alone, a circle, has none
 pub record Rooted (ws : List ℕ) (n i : ℕ) (r : Ty) : Type 0 where
@@ -31,7 +31,7 @@ pub record Rooted (ws : List ℕ) (n i : ℕ) (r : Ty) : Type 0 where
 
 -- told a root of the node i
 pub record Topped (ws : List ℕ) (n i : ℕ) (q : Nearby) : Type 0 where
-  pub told : (r : «Type») → q ≡ Is r → Rooted ws n i (ty_of r.0)
+  pub told : (r : «Type») → q ≡ Some r → Rooted ws n i (ty_of r.0)
 
 -- what is kept of a node is its root
 pub record Cached (ws : List ℕ) (n : ℕ) (cache : List ℕ) : Type 0 where

@@ -11,13 +11,6 @@ ghost use Rattle.roots.specs.Kept.{kept_word, Kept, Rooted, Topped, Cached};
 use layout::TypeNode;
 use types::{Inverted, Type, TypeIdx};
 
-// The root of a type that is near it.
-#[derive(Clone, Copy)]
-pub enum Nearby {
-    Is(Type),
-    Far,
-}
-
 // The root of a type among n nodes, with the inversions on the way.
 fn climb(ws: &[u32], n: u32, t: Type) -> Type
     requires { Linked ws.now n }
@@ -59,18 +52,18 @@ fn find_far(ws: &mut [u32], n: u32, t: Type) -> Type
 }
 
 // The root of a type whose node is a root or a root's child: `find_mut` then leaves every node as it is.
-pub fn near(ws: &[u32], n: u32, t: Type) -> Nearby
+pub fn near(ws: &[u32], n: u32, t: Type) -> Option<Type>
     requires { Linked ws.now n }
     ensures { Near ws.now n t.0 result }
 {
     let TypeNode::Child(parent) = layout::node_at(ws, n, t.idx()) else {
-        return Nearby::Is(t);
+        return Some(t);
     };
     let TypeNode::Child(_) = layout::node_at(ws, n, parent.idx()) else {
         let inv = t.inv();
-        return Nearby::Is(parent.invert_if(inv));
+        return Some(parent.invert_if(inv));
     };
-    Nearby::Far
+    None
 }
 
 // The same; a type that is near is told at once.
@@ -78,7 +71,7 @@ pub fn find(ws: &[u32], n: u32, t: Type) -> Type
     requires { Linked ws.now n }
     ensures { Found ws.now n t.0 result.0 }
 {
-    let Nearby::Is(r) = near(ws, n, t) else {
+    let Some(r) = near(ws, n, t) else {
         return climb(ws, n, t);
     };
     r
@@ -89,7 +82,7 @@ pub fn find_mut(ws: &mut [u32], n: u32, t: Type) -> Type
     requires { Linked ws.old n }
     ensures { FoundMut ws.old n ws.new t.0 result.0 }
 {
-    let Nearby::Is(r) = near(ws, n, t) else {
+    let Some(r) = near(ws, n, t) else {
         return find_far(ws, n, t);
     };
     r
@@ -125,21 +118,21 @@ fn wide(x: u16) -> u32
 }
 
 // Node i's root by a cache, if it is there.
-fn kept(cache: &[u16], i: TypeIdx) -> Nearby
+fn kept(cache: &[u16], i: TypeIdx) -> Option<Type>
     ensures { Kept (get_or cache.now i.0 0) result }
 {
     let at = i.0 as usize;
     if cache.len() <= at {
-        return Nearby::Far;
+        return None;
     }
     let was = wide(cache[at]);
     if was == 0 {
-        return Nearby::Far;
+        return None;
     }
     if KEPT_INV < was {
-        return Nearby::Is(Type(was - 1 - KEPT_INV).inverse());
+        return Some(Type(was - 1 - KEPT_INV).inverse());
     }
-    Nearby::Is(Type(was - 1))
+    Some(Type(was - 1))
 }
 
 // The number of a root in a cache; 0 of one that is too large for it.
@@ -167,7 +160,7 @@ fn keep(cache: &mut [u16], i: TypeIdx, root: Type)
 }
 
 // A node's root by the first node on its path that is kept or a root; none where n steps meet neither.
-fn top_by(ws: &[u32], n: u32, cache: &[u16], i: TypeIdx) -> Nearby
+fn top_by(ws: &[u32], n: u32, cache: &[u16], i: TypeIdx) -> Option<Type>
     requires { Linked ws.now n × (Cached ws.now n cache.now × (i.0 < INV_BIT)) }
     ensures { Topped ws.now n i.0 result }
 {
@@ -175,17 +168,17 @@ fn top_by(ws: &[u32], n: u32, cache: &[u16], i: TypeIdx) -> Nearby
     let mut cur = i;
     let mut up = n;
     while 0 < up {
-        if let Nearby::Is(known) = kept(cache, cur) {
-            return Nearby::Is(known.invert_if(inv));
+        if let Some(known) = kept(cache, cur) {
+            return Some(known.invert_if(inv));
         }
         let TypeNode::Child(parent) = layout::node_at(ws, n, cur) else {
-            return Nearby::Is(Type::new(inv, cur));
+            return Some(Type::new(inv, cur));
         };
         inv = inv.xor(parent.inv());
         cur = parent.idx();
         up -= 1;
     }
-    Nearby::Far
+    None
 }
 
 // Keeps a node's root, and so that of each node on its path before the first that is kept or a root.
@@ -200,7 +193,7 @@ fn keep_path(ws: &[u32], n: u32, cache: &mut [u16], i: TypeIdx, root: Type)
         let TypeNode::Child(parent) = layout::node_at(ws, n, cur) else {
             return;
         };
-        let Nearby::Far = kept(cache, cur) else {
+        let None = kept(cache, cur) else {
             return;
         };
         keep(cache, cur, top);
@@ -216,7 +209,7 @@ fn find_path(ws: &[u32], n: u32, cache: &mut [u16], t: Type) -> Type
     ensures { Found ws.now n t.0 result.0 × Cached ws.now n cache.new }
 {
     let i = t.idx();
-    let Nearby::Is(root) = top_by(ws, n, cache, i) else {
+    let Some(root) = top_by(ws, n, cache, i) else {
         return climb(ws, n, t);
     };
     keep_path(ws, n, cache, i, root);
@@ -244,7 +237,7 @@ fn find_kept(ws: &[u32], n: u32, cache: &mut [u16], t: Type) -> Type
     requires { Linked ws.now n × Cached ws.now n cache.old }
     ensures { Found ws.now n t.0 result.0 × Cached ws.now n cache.new }
 {
-    let Nearby::Is(known) = kept(cache, t.idx()) else {
+    let Some(known) = kept(cache, t.idx()) else {
         return find_new(ws, n, cache, t);
     };
     known.invert_if(t.inv())

@@ -4,7 +4,7 @@ use call_ask::ModAnswer;
 use call_force::ForcedAnswer;
 use call_read::{ChildAnswer, FiguresAnswer, NameAnswer, NodeAnswer};
 use call_unify::UnifyAnswer;
-use layout::{Header, Kind, Remembered};
+use layout::{Header, Kind};
 use names::Name;
 use promise::{BoolAnswer, DoneAnswer, TypeAnswer};
 use std::io;
@@ -346,10 +346,10 @@ pub fn forced_answer<'a, W: Write>(
     }
 }
 
-fn remembered<W: Write>(to: &mut W, r: Remembered) -> io::Result<()> {
+fn remembered<W: Write>(to: &mut W, r: Option<Type>) -> io::Result<()> {
     match r {
-        Remembered::Is(t) => typ(to, t),
-        Remembered::Nothing => say(to, b"none"),
+        Some(t) => typ(to, t),
+        None => say(to, b"none"),
     }
 }
 

@@ -22,8 +22,8 @@ use Rattle.layout.proofs.Lists.{all_from}
 use Rattle.layout.proofs.Laws.{length_decode, read_node}
 use Rattle.layout.proofs.HeldLaws.{held_kids_lem}
 use Rattle.layout.specs.Meaning.{read_at, held_in, held_kids, node_means, kind_means}
-use Rattle.layout.specs.declared.Held.{Held}
-use Rattle.layout.specs.declared.Held.TheVariants.{Is, Nothing}
+use Rattle.layout.specs.Meaning.{Held}
+use Rattle.std.specs.Prelude.{Some, None}
 use Rattle.layout.specs.declared.TypeNode.{TypeNode}
 use Rattle.layout.specs.declared.TypeNode.TheVariants as read
 use Rattle.shape.specs.declared.Up.{Up}
@@ -106,10 +106,10 @@ module _ (ns : List Node) (p : ℕ → Up) (step : (v : ℕ) → p v ≡ up_node
 -- a test of a node's children, by their places
 kids_all : (ks : List ℕ) (q : Ty → Bool) (h : Held) → all q (held_kids ks h) ≡ all (λ i. q (ty_of (slot_at ks i).type)) (from (first_of h) (count_of h))
 unfolding kind_means
-kids_all ks q (Is i k) =
+kids_all ks q (Some (i, k)) =
     all_map q (λ s. ty_of s.type) (map (slot_at ks) (from k.first k.count))
     ∙ all_map (λ s. q (ty_of s.type)) (slot_at ks) (from k.first k.count)
-kids_all ks q Nothing = refl
+kids_all ks q None = refl
 
 -- what lies inside the store
 inside_kids : (ns : List Node) (x : Node) → node_inside ns x ≡ true → all (in_store ns) (kids_of (state_of x)) ≡ true

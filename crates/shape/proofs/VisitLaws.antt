@@ -16,8 +16,8 @@ use Rattle.scope.specs.Limits.{MAX_NODES}
 use Rattle.types.specs.declared.Inverted.{Inverted}
 use Rattle.layout.specs.Meaning.{read_at, held_in}
 use Rattle.layout.specs.declared.Kind.{Kind}
-use Rattle.layout.specs.declared.Held.{Held}
-use Rattle.layout.specs.declared.Held.TheVariants.{Is, Nothing}
+use Rattle.layout.specs.Meaning.{Held}
+use Rattle.std.specs.Prelude.{Some, None}
 use Rattle.shape.specs.Walks.{Graph, ends, InRun, Closed}
 use Rattle.shape.specs.Read.{first_of, count_of, kids, kid_at, root_of}
 use Rattle.shape.specs.Asks.{OPEN, DONE, Open, TrueMarks, fresh, Falls, Visits, Visited}
@@ -217,7 +217,7 @@ kids_closed {ks = ks} a = record { inside = λ v i l r. a.rooted.below (kid_at k
 -- v is a node
 module _ {ws ks roots : List ℕ} {n v : ℕ} (a : Falls ws ks n roots) (node : v < n) where
   -- v holds the kind k: what the code reads of its run
-  module _ {r : Held} {j : Inverted} {k : Kind} (e : r ≡ held_in (read_at ws n v)) (q : r ≡ Is j k) where
+  module _ {r : Held} {j : Inverted} {k : Kind} (e : r ≡ held_in (read_at ws n v)) (q : r ≡ Some (j, k)) where
     pub in_run : {i : ℕ} → (kids ws ks n roots).first v ≤ i → i < k.first + k.count → InRun (kids ws ks n roots) v i
     in_run w l = record { from = w; below = rw (sym e ∙ q) l }
 
@@ -231,7 +231,7 @@ module _ {ws ks roots : List ℕ} {n v : ℕ} (a : Falls ws ks n roots) (node : 
     run_ended w l = ended_all (kids ws ks n roots) n (kids_closed a) node (rw (sym e ∙ q) w) (run_done l)
 
   -- v holds no kind: it has no place to go through
-  pub ended_bare : {r : Held} → r ≡ held_in (read_at ws n v) → r ≡ Nothing → ends (kids ws ks n roots) n v ≡ true
+  pub ended_bare : {r : Held} → r ≡ held_in (read_at ws n v) → r ≡ None → ends (kids ws ks n roots) n v ≡ true
   ended_bare e q =
       let g : Graph = kids ws ks n roots in
       let d : g.deg v ≡ 0 = ap count_of (sym e ∙ q) in
@@ -263,7 +263,7 @@ module _ {ws ks roots before : List ℕ} {n v : ℕ} (a : Visits ws ks n roots b
   mark_small = omega (arith, a.node, a.falls.rooted.few)
 
   -- v holds no kind: it has no run to go through
-  pub visit_bare : {marks marks' : List ℕ} {r : Held} → r ≡ held_in (read_at ws n v) → r ≡ Nothing → marks ≡ set before v OPEN
+  pub visit_bare : {marks marks' : List ℕ} {r : Held} → r ≡ held_in (read_at ws n v) → r ≡ None → marks ≡ set before v OPEN
       → marks' ≡ set marks v DONE → Visited (kids ws ks n roots) n v before marks' true
   visit_bare e q f h =
       let g : Graph = kids ws ks n roots in
@@ -271,7 +271,7 @@ module _ {ws ks roots before : List ℕ} {n v : ℕ} (a : Visits ws ks n roots b
       rw (h, f) (visit_passed g n a.marked mark_small (passed_none g n mark_small a.marked) (kids_closed a.falls) a.node (omega arith))
 
   -- v holds the kind k
-  pub run_first : {r : Held} {j : Inverted} {k : Kind} {marks : List ℕ} → r ≡ held_in (read_at ws n v) → r ≡ Is j k → marks ≡ set before v OPEN
+  pub run_first : {r : Held} {j : Inverted} {k : Kind} {marks : List ℕ} → r ≡ held_in (read_at ws n v) → r ≡ Some (j, k) → marks ≡ set before v OPEN
       → Passed (kids ws ks n roots) n v k.first marks marks
   run_first e q f = rw f (rw (ap first_of (sym e ∙ q)) at (passed_none (kids ws ks n roots) n mark_small a.marked))
 

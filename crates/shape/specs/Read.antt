@@ -5,8 +5,8 @@ use Rattle.scope.specs.Types.{ty_of}
 use Rattle.types.specs.declared.TypeIdx.{TypeIdx}
 use Rattle.layout.specs.Words.{slot_at}
 use Rattle.layout.specs.Meaning.{read_at, held_in}
-use Rattle.layout.specs.declared.Held.{Held}
-use Rattle.layout.specs.declared.Held.TheVariants.{Is, Nothing}
+use Rattle.layout.specs.Meaning.{Held}
+use Rattle.std.specs.Prelude.{Some, None}
 use Rattle.layout.specs.declared.TypeNode.{TypeNode}
 use Rattle.layout.specs.declared.TypeNode.TheVariants.{Root, Child}
 use Rattle.shape.specs.declared.Up.{Up}
@@ -23,12 +23,12 @@ up_in (Child t) = up.Parent (idx_of (ty_of t.0).idx)
 
 -- where the children of what a node holds begin, and how many there are
 abbrev pub first_of : Held → ℕ
-first_of (Is i k) = k.first
-first_of Nothing = 0
+first_of (Some (i, k)) = k.first
+first_of None = 0
 
 abbrev pub count_of : Held → ℕ
-count_of (Is i k) = k.count
-count_of Nothing = 0
+count_of (Some (i, k)) = k.count
+count_of None = 0
 
 -- the node of the child at a place
 abbrev pub kid_at : List ℕ → ℕ → ℕ

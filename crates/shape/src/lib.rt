@@ -11,7 +11,7 @@ ghost use Rattle.shape.specs.Walks.{ends};
 ghost use Rattle.shape.specs.Read.{up_in, kid_at, ups, root_of, kids, size_fits};
 ghost use Rattle.shape.specs.Asks.{Shaped, Climbs, Climbed, ClimbsAll, ClimbedAll, Tallies, Tallied, Sizes, Falls, Visits, Tries, Visited};
 
-use layout::{CHILD_WORDS, Held, TypeNode};
+use layout::{CHILD_WORDS, TypeNode};
 use scope::MAX_NODES;
 use types::TypeIdx;
 
@@ -167,7 +167,7 @@ fn visit(ws: &[u32], ks: &[u32], n: u32, roots: &Table, marks: &mut Table, v: Ty
         return false;
     }
     put(marks, v, OPEN);
-    let Held::Is(_, kind) = layout::held_at(ws, n, v) else {
+    let Some((_, kind)) = layout::held_at(ws, n, v) else {
         put(marks, v, DONE);
         return true;
     };
@@ -190,7 +190,7 @@ fn kids_done(ws: &[u32], ks: &[u32], n: u32, roots: &Table, marks: &Table, v: Ty
     requires { Tries ws.now ks.now n roots.now marks.now v.0 }
     ensures { result ≡ true → ends (kids ws.now ks.now n roots.now) n v.0 ≡ true }
 {
-    let Held::Is(_, kind) = layout::held_at(ws, n, v) else {
+    let Some((_, kind)) = layout::held_at(ws, n, v) else {
         return true;
     };
     let mut done = true;

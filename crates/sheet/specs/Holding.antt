@@ -2,8 +2,7 @@
 use Rattle.std.specs.Prelude.{List, ℕ}
 use Rattle.append.specs.Appended.{SoFar}
 use Rattle.sheet_calls.specs.Store.{SheetStore}
-use Rattle.sheet.specs.declared.Went.{Went}
-use Rattle.sheet.specs.declared.Went.TheVariants.{On, Closed}
+use Rattle.std.specs.Prelude.{Some, None, Option}
 
 -- the line has the bytes bs so far, and the buffer, which was line₀ when it began, holds them as far as they are kept
 pub record Holding (line : List ℕ) (at : ℕ) : Type 0 where
@@ -16,6 +15,6 @@ pub record Goes (h ws ks line : List ℕ) (at : ℕ) : Type 0 where
   pub holds : Holding line at
 
 -- after a piece the line goes on; where nobody takes the output any more, nothing is kept
-abbrev pub Kept : List ℕ → List ℕ → List ℕ → List ℕ → Went → Type 0
-Kept h ws ks line (On at) = Goes h ws ks line at
-Kept h ws ks line Closed = Unit {0}
+abbrev pub Kept : List ℕ → List ℕ → List ℕ → List ℕ → Option ℕ → Type 0
+Kept h ws ks line (Some at) = Goes h ws ks line at
+Kept h ws ks line None = Unit {0}

@@ -21,13 +21,6 @@ const TEXT: usize = SHEET_TEXT + 1;
 // What is read at once.
 const PIECE: usize = 65536;
 
-// The place in the line that goes on; or nobody takes the output any more.
-#[derive(Clone, Copy)]
-enum Went {
-    On(usize),
-    Closed,
-}
-
 // A piece of the input, line by line. The buffer holds the bytes of the line so far and no others, before the piece and after it: so each line that is run
 // is the bytes of that line.
 fn feed_all<W: Write>(
@@ -40,7 +33,7 @@ fn feed_all<W: Write>(
     at: usize,
     piece: &[u8],
     text: &mut [u8],
-) -> Went
+) -> Option<usize>
     requires sheet_store { SheetStore h.old ws.old ks.old }
     requires in_bounds { SHEET_TEXT < length text.old }
     requires line_len { length line.old ≡ LINE_KEPT }
@@ -54,18 +47,18 @@ fn feed_all<W: Write>(
         let f = sheet_feed::feed(h, ws, ks, memory, line, p, &piece[i..], text);
         match f {
             Fed::More(q) => {
-                return Went::On(q);
+                return Some(q);
             }
             Fed::Line(n, k) => {
                 if to.write_all(&text[..n]).is_err() {
-                    return Went::Closed;
+                    return None;
                 }
                 p = 0;
                 left -= k;
             }
         }
     }
-    Went::On(p)
+    Some(p)
 }
 
 // Reads and answers until there is no more to do. A proved loop has to end, and nothing says that the input does: so reads are counted down, from a number that
@@ -94,7 +87,7 @@ fn serve<R: Read, W: Write>(
             return Ok(());
         }
         let w = feed_all(to, h, ws, ks, memory, line, at, &piece[..got], text);
-        let Went::On(p) = w else {
+        let Some(p) = w else {
             return Ok(());
         };
         at = p;

@@ -19,10 +19,16 @@ use Rattle.sheet_lines.specs.declared.Plain as asked
 use Rattle.sheet_lines.specs.declared.Plain.TheVariants as plain
 use Rattle.sheet_lines.specs.declared.Maker.{Maker}
 use Rattle.sheet_lines.specs.declared.Maker.TheVariants as maker
-use Rattle.sheet_lines.specs.declared.TypeWord.{TypeWord}
-use Rattle.sheet_lines.specs.declared.TypeWord.TheVariants as word
-use Rattle.sheet_lines.specs.declared.TypeCount.{TypeCount}
-use Rattle.sheet_lines.specs.declared.TypeCount.TheVariants as count
+use Rattle.std.specs.declared.option.Option.TheVariants as word
+use Rattle.std.specs.declared.option.Option.TheVariants as count
+use Rattle.std.specs.declared.option.Option as option
+
+-- a word's type, and how many types some words are, if all are types
+abbrev pub TypeWord : Type 0
+TypeWord = option.Option «Type»
+
+abbrev pub TypeCount : Type 0
+TypeCount = option.Option ℕ
 
 -- the first of some types
 abbrev pub first_of : List Ty → Ty
@@ -52,13 +58,13 @@ line_means (Unify t u) out = sheet.Line.unify (ty_of t.0) (ty_of u.0)
 line_means (Show t) out = sheet.Line.show (ty_of t.0)
 
 abbrev pub word_means : TypeWord → Option Ty
-word_means (word.Is t) = some (ty_of t.0)
-word_means word.Nothing = none
+word_means (word.Some t) = some (ty_of t.0)
+word_means word.None = none
 
 -- a count's types stand at the front of the words
 abbrev pub count_means : TypeCount → List ℕ → Option (List Ty)
-count_means (count.Are n) out = some (map ty_of (take n out))
-count_means count.Nothing out = none
+count_means (count.Some n) out = some (map ty_of (take n out))
+count_means count.None out = none
 
 -- a kind's code and its n types: they fit in a line, the kind has no names, and what its line says is what is said for the call that makes it
 pub record Over (c n : ℕ) (out : List ℕ) : Type 0 where
@@ -89,8 +95,8 @@ pub record Parsed (r : Line) (out : List ℕ) (l : sheet.Line) : Type 0 where
   pub fits : Fits r out
 
 abbrev pub count_room : TypeCount → ℕ
-count_room (count.Are n) = n
-count_room count.Nothing = 0
+count_room (count.Some n) = n
+count_room count.None = 0
 
 -- a line that is no longer than a line may be, and words for as many types as it may have
 pub record Room (line out : List ℕ) : Type 0 where

@@ -41,20 +41,6 @@ pub enum Line {
     Show(Type),
 }
 
-// A word's type, if it is one.
-#[derive(Clone, Copy)]
-enum TypeWord {
-    Is(Type),
-    Nothing,
-}
-
-// How many types some words are, if all are types.
-#[derive(Clone, Copy)]
-enum TypeCount {
-    Are(u32),
-    Nothing,
-}
-
 // What a digit's byte counts.
 fn digit_of(d: u8) -> u32
     requires { 48 ≤ d }
@@ -113,34 +99,34 @@ fn node_shape(w: &[u8]) -> bool
     w[0] != b'0'
 }
 
-fn node_of(inv: Inverted, w: &[u8]) -> TypeWord
+fn node_of(inv: Inverted, w: &[u8]) -> Option<Type>
     ensures { word_means result ≡ node_word inv.0 w.now }
 {
     if !node_shape(w) {
-        return TypeWord::Nothing;
+        return None;
     }
     let mut n: u32 = 0;
     let mut i: usize = 0;
     while i < w.len() {
         let d = w[i];
         if d < b'0' {
-            return TypeWord::Nothing;
+            return None;
         }
         if d > b'9' {
-            return TypeWord::Nothing;
+            return None;
         }
         n = n * 10 + digit_of(d);
         i += 1;
     }
-    TypeWord::Is(Type::new(inv, TypeIdx(n)))
+    Some(Type::new(inv, TypeIdx(n)))
 }
 
 // "types as `3` or `~3`"
-fn type_of(w: &[u8]) -> TypeWord
+fn type_of(w: &[u8]) -> Option<Type>
     ensures { word_means result ≡ type_word w.now }
 {
     if w.len() == 0 {
-        return TypeWord::Nothing;
+        return None;
     }
     if w[0] == b'~' {
         return node_of(Inverted(true), &w[1..]);
@@ -149,7 +135,7 @@ fn type_of(w: &[u8]) -> TypeWord
 }
 
 // The words from a place on, read as types into `out`.
-fn types_from(line: &[u8], from: usize, out: &mut [u32]) -> TypeCount
+fn types_from(line: &[u8], from: usize, out: &mut [u32]) -> Option<u32>
     requires { Room line.now out.old }
     ensures { Counted result out.new (type_words (words_from line.now from)) }
 {
@@ -157,14 +143,14 @@ fn types_from(line: &[u8], from: usize, out: &mut [u32]) -> TypeCount
     let mut at = from;
     while at <= line.len() {
         let e = next_place(line, at, b' ');
-        let TypeWord::Is(t) = type_of(&line[at..e]) else {
-            return TypeCount::Nothing;
+        let Some(t) = type_of(&line[at..e]) else {
+            return None;
         };
         out[n] = t.0;
         n += 1;
         at = e + 1;
     }
-    TypeCount::Are(n as u32)
+    Some(n as u32)
 }
 
 // A command without types
@@ -247,7 +233,7 @@ pub fn parse(line: &[u8], out: &mut [u32]) -> Line
         return Line::Plain(Plain::Bad);
     }
     let e = next_place(line, 0, b' ');
-    let TypeCount::Are(n) = types_from(line, e + 1, out) else {
+    let Some(n) = types_from(line, e + 1, out) else {
         return Line::Plain(Plain::Bad);
     };
     line_of(&line[..e], n, out)

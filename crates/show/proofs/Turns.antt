@@ -27,8 +27,8 @@ use Rattle.roots.specs.Found.{Found}
 use Rattle.walk.specs.Asks.{Stands}
 use Rattle.append.specs.Appended.{Appended}
 use Rattle.append.proofs.Laws.{append_none, append_then}
-use Rattle.layout.specs.declared.Held.{Held}
-use Rattle.layout.specs.declared.Held.TheVariants.{Is, Nothing}
+use Rattle.layout.specs.Meaning.{Held}
+use Rattle.std.specs.Prelude.{Some, None}
 use Rattle.show_names.specs.Names.{unknown_text}
 use Rattle.show_parts.specs.Parts.{gap_of, lead_of, close_of, dual_of, sign_of, tilde_of}
 use Rattle.show.specs.Level.{children, kid_of, shown_of, inner_of, level_of}
@@ -62,7 +62,7 @@ module _ (gap item : ℕ → List ℕ) (close : List ℕ) (m : ℕ) where
   turn_end {buf' = buf'} {r = r} {j = j} t h a = t.goes buf' r (rw (children_end gap item close m j h) a)
 
 -- a node by what the code reads of it
-state_known : (ks : List ℕ) (v : TypeNode) (i : Inverted) (k : Kind) → held_in v ≡ Is i k → state_of (node_means ks v) ≡ nodes.Known i.0 (kind_means ks k)
+state_known : (ks : List ℕ) (v : TypeNode) (i : Inverted) (k : Kind) → held_in v ≡ Some (i, k) → state_of (node_means ks v) ≡ nodes.Known i.0 (kind_means ks k)
 state_known ks (Root (Known j m) z) i k e =
     let a : j ≡ i = cc in
     let b : m ≡ k = cc in
@@ -72,7 +72,7 @@ state_known ks (Root InferenceFailed z) i k e = let z : ◌≡◌ {A = ℕ} 0 1 
 state_known ks (Child t) i k e = let z : ◌≡◌ {A = ℕ} 0 1 = cc in absurd (omega arith)
 
 state_unknown : (g : Ty → List ℕ) (e : Env) (nil : Ty → Bool) (r : Ty) (ks : List ℕ) (v : TypeNode)
-    → held_in v ≡ Nothing → render g (state_pieces e nil r (state_of (node_means ks v))) ≡ unknown_text r
+    → held_in v ≡ None → render g (state_pieces e nil r (state_of (node_means ks v))) ≡ unknown_text r
 unfolding render
 state_unknown g e nil r ks (Root (Known j m) z) h = let z : ◌≡◌ {A = ℕ} 0 1 = cc in absurd (omega arith)
 state_unknown g e nil r ks (Root (Unknown s) z) h = rw append-nil
@@ -102,7 +102,7 @@ module _ {ws ks : List ℕ} {n : ℕ} (st : Stands ws ks n) (e : Env) (depth : �
     read_state =
         ap (λ (u : Ty). state_of (at ns u.idx)) (sym (f.root ks)) ∙ ap (λ (m : ℕ). state_of (at ns m)) (sym ie) ∙ ap state_of (sym (read_node ws ks st.made n st.clean i))
 
-    pub show_unknown : q ≡ Nothing → show_f e depth ns (ty_of t) ≡ unknown_text (ty_of root)
+    pub show_unknown : q ≡ None → show_f e depth ns (ty_of t) ≡ unknown_text (ty_of root)
     unfolding pieces
     show_unknown h =
         show_step deep
@@ -115,7 +115,7 @@ module _ {ws ks : List ℕ} {n : ℕ} (st : Stands ws ks n) (e : Env) (depth : �
     written k b d m =
         tilde_of b k ++ (lead_of e k ++ children (gap_of e.texts ks k) (λ j. show_f e (depth - 1) ns (kid_of ks k d j)) (close_of k m) m 0)
 
-    pub show_known : (inv : Inverted) (k : Kind) → q ≡ Is inv k → (b d : Bool) (m : ℕ)
+    pub show_known : (inv : Inverted) (k : Kind) → q ≡ Some (inv, k) → (b d : Bool) (m : ℕ)
         → b ≡ xor inv.0 (ty_of root).inv → d ≡ inner_of b k → m ≡ shown_of (is_nil ns) ks k → show_f e depth ns (ty_of t) ≡ written k b d m
     unfolding pieces level_of
     show_known inv k h b d m eb ed em =

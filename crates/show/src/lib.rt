@@ -15,7 +15,7 @@ ghost use Rattle.show.specs.Level.{most_of, shown_of};
 
 use chart::Beside;
 use kinds::{CLOSURE, FN, IF_CONST, PARAM, REF, TUPLE};
-use layout::{Held, Kind};
+use layout::Kind;
 use scope::MAX_NODES;
 use show_names::put_unknown;
 use show_parts::{put_close, put_gap, put_lead};
@@ -27,7 +27,7 @@ fn is_nil(ws: &[u32], n: u32, cache: &mut [u16], t: Type) -> bool
     ensures { Nil ws.now n t.0 result × Cached ws.now n cache.new }
 {
     let root = roots::find_by(ws, n, cache, t).idx();
-    let Held::Is(_, kind) = layout::held_at(ws, n, root) else {
+    let Some((_, kind)) = layout::held_at(ws, n, root) else {
         return false;
     };
     if kind.code == TUPLE {
@@ -105,7 +105,7 @@ fn show_by<'a>(
         return at;
     }
     let root = roots::find_by(ws, n, cache, t);
-    let Held::Is(inv, kind) = layout::held_at(ws, n, root.idx()) else {
+    let Some((inv, kind)) = layout::held_at(ws, n, root.idx()) else {
         return put_unknown(buf, at, root);
     };
     let i = inv.xor(root.inv());

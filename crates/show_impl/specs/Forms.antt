@@ -8,15 +8,15 @@ use Rattle.scope.specs.Force.{is_nil}
 use Rattle.scope.specs.Show.{Piece, fn_pieces, fn_form, three_types}
 use Rattle.layout.specs.Words.{decode}
 use Rattle.layout.specs.Meaning.{kind_means}
-use Rattle.layout.specs.declared.Held.{Held}
-use Rattle.layout.specs.declared.Held.TheVariants.{Is, Nothing}
+use Rattle.layout.specs.Meaning.{Held}
+use Rattle.std.specs.Prelude.{Some, None}
 use Rattle.store.specs.Entries.{types_in}
 use Rattle.walk.specs.Asks.{Stands}
 
 -- the pieces by the Tuple that was found
 abbrev pub form_of : (ws ks : List ℕ) → ℕ → Ty → Held → Ty → List Piece → List Piece
-form_of ws ks n receiver (Is i k) ret other = fn_pieces (is_nil (decode ws ks n)) receiver i.0 (kind_means ks k).kids ret
-form_of ws ks n receiver Nothing ret other = other
+form_of ws ks n receiver (Some (i, k)) ret other = fn_pieces (is_nil (decode ws ks n)) receiver i.0 (kind_means ks k).kids ret
+form_of ws ks n receiver None ret other = other
 
 -- r is the kind of the type t where it is a Tuple
 pub record TupleOf (ws : List ℕ) (n t : ℕ) (r : Held) : Type 0 where
@@ -25,8 +25,8 @@ pub record TupleOf (ws : List ℕ) (n t : ℕ) (r : Held) : Type 0 where
 
 -- whether something was found
 abbrev pub IsFound : Held → Type 0
-IsFound (Is i k) = Unit {0}
-IsFound Nothing = ⊥
+IsFound (Some (i, k)) = Unit {0}
+IsFound None = ⊥
 
 -- r holds the parameters of the trait i over the types xs where these have the fn form
 pub record Form (fn_trait : ℕ) (ws : List ℕ) (n i : ℕ) (xs : List ℕ) (r : Held) : Type 0 where

@@ -16,7 +16,7 @@ ghost use Rattle.show_impl.specs.Forms.{TupleOf, Form};
 use append::{put, put_byte};
 use chart::Beside;
 use kinds::TUPLE;
-use layout::{Held, Kind};
+use layout::Kind;
 use show::show_all;
 use show_lists::{show_list, show_params};
 use show_names::put_name;
@@ -84,16 +84,16 @@ fn show_fn<'a>(
 }
 
 // A type's kind where it is a Tuple, with the type's own inversion.
-fn tuple_of(ws: &[u32], n: u32, t: Type) -> Held
+fn tuple_of(ws: &[u32], n: u32, t: Type) -> Option<(Inverted, Kind)>
     requires { Linked ws.now n }
     ensures { TupleOf ws.now n t.0 result }
 {
     let root = roots::find(ws, n, t);
-    let Held::Is(inv, kind) = layout::held_at(ws, n, root.idx()) else {
-        return Held::Nothing;
+    let Some((inv, kind)) = layout::held_at(ws, n, root.idx()) else {
+        return None;
     };
     if kind.code != TUPLE {
-        return Held::Nothing;
+        return None;
     }
     Held::Is(inv.xor(root.inv()), kind)
 }
@@ -102,15 +102,15 @@ fn tuple_of(ws: &[u32], n: u32, t: Type) -> Held
 const FN_TYPES: usize = 3;
 
 // The parameters of such an impl type: the builtin fn trait over exactly three types, the second a Tuple.
-fn fn_params(beside: Beside, ws: &[u32], n: u32, i: u32, xs: &[u32]) -> Held
+fn fn_params(beside: Beside, ws: &[u32], n: u32, i: u32, xs: &[u32]) -> Option<(Inverted, Kind)>
     requires { Linked ws.now n }
     ensures { Form beside.fn_trait ws.now n i xs.now result }
 {
     if i != beside.fn_trait {
-        return Held::Nothing;
+        return None;
     }
     if xs.len() != FN_TYPES {
-        return Held::Nothing;
+        return None;
     }
     tuple_of(ws, n, Type(xs[1]))
 }
@@ -137,7 +137,7 @@ pub fn show_impl_type<'a>(
     let Impl::Trait(i) = a else {
         return put(buf, at, b"??");
     };
-    let Held::Is(inv, kind) = fn_params(beside, ws, n, i, xs) else {
+    let Some((inv, kind)) = fn_params(beside, ws, n, i, xs) else {
         return show_trait(chart, beside, rule, text, ws, ks, n, buf, at, i, xs);
     };
     let receiver = Type(xs[0]);

@@ -26,8 +26,8 @@ use Rattle.refusals.specs.Codes.{NO_REFUSAL, code_of}
 use Rattle.refusals.proofs.Laws.{test_stands, test_falls, test_passed, tests_passed, passed_first, passed_next}
 use Rattle.sound.specs.Tests.{env_in}
 use Rattle.needs.specs.declared.Needs.{Needs}
-use Rattle.needs.specs.declared.Params.{Params}
-use Rattle.needs.specs.declared.Params.TheVariants.{Entries}
+use Rattle.needs.specs.Roots.{Params}
+use Rattle.std.specs.Prelude.{Some}
 use Rattle.needs.specs.Roots.{params_for}
 use Rattle.needs.specs.Sources.{ImportNeeds}
 use Rattle.promise.specs.Promise.{Tested}
@@ -106,7 +106,7 @@ module _ (listed : Bool) (ps : List ℕ) (e : listed ≡ true) where
   pub params_few : too_many (import_list (list_of listed ps)) ≡ false → length ps ≤ MAX_LIST
   params_few q = rw (length-map ps ty_of) at (ltb-false MAX_LIST (length (types_in ps)) (rw e at q))
 
-  pub params_listed : Entries (length ps) ≡ params_for (list_of listed ps)
+  pub params_listed : Some (length ps) ≡ params_for (list_of listed ps)
   params_listed = rw (e, length-map ps ty_of) refl
 
 -- what is needed

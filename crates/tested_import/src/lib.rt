@@ -17,7 +17,6 @@ ghost use Rattle.copy_parts.specs.Places.{list_of};
 ghost use Rattle.tested_import.specs.Tests.{ListsTested, NeedsTested, ImportTested};
 
 use chart::Beside;
-use needs::Params;
 use promise::DoneAnswer;
 use refusals::{NO_ENTRY, NO_REFUSAL, OUTSIDE, SHORT, UNMAKEABLE};
 
@@ -61,14 +60,14 @@ fn lists(ts: &[u32], a: u32, listed: bool, params: &[u32], d: u32) -> u32
 }
 
 // No list and an empty list are two different things: in an empty list no Param has an entry.
-fn params_of(listed: bool, params: &[u32]) -> Params
+fn params_of(listed: bool, params: &[u32]) -> Option<u32>
     requires { too_many (import_list (list_of listed params.now)) ≡ false }
     ensures { result ≡ params_for (list_of listed params.now) }
 {
     if listed {
-        return Params::Entries(params.len() as u32);
+        return Some(params.len() as u32);
     }
-    Params::None
+    None
 }
 
 // The first of refusals 6, 10 and 11 that stands: what is needed is counted in the source alone, and of the destination only the header is read.

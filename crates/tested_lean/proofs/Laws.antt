@@ -18,16 +18,16 @@ use Rattle.chart.specs.declared.Beside.{Beside}
 use Rattle.types.specs.declared.«Type».{«Type»}
 use Rattle.layout.specs.Words.{nodes_made, children_made, node_room, child_room, store_in}
 use Rattle.layout.specs.Meaning.{type_of, header_in, remembered_means, Linked, Lies}
-use Rattle.layout.specs.declared.Remembered.{Remembered}
-use Rattle.layout.specs.declared.Remembered.TheVariants.{Is}
+use Rattle.layout.specs.Meaning.{Remembered}
+use Rattle.std.specs.Prelude.{Some}
 use Rattle.layout.specs.declared.TypeState.TheVariants.{Unknown}
 use Rattle.layout.proofs.StoreLaws.{clean_lies}
 use Rattle.store.specs.Holds.{Ready}
 use Rattle.store.proofs.Laws.{error_is, nil_is}
 use Rattle.scope.specs.Kinds.{TUPLE, ERROR}
 use Rattle.roots.specs.Found.{Found, FoundMut, Near}
-use Rattle.roots.specs.declared.Nearby.{Nearby}
-use Rattle.roots.specs.declared.Nearby.TheVariants as near
+use Rattle.roots.specs.Found.{Nearby}
+use Rattle.std.specs.declared.option.Option.TheVariants as near
 use Rattle.make.specs.Header.{Pushed, BlankReady, OnceReady, OnceMade}
 use Rattle.make.proofs.MakeLaws.{blank_ready, blank_made, var_made, once_ready, error_made, nil_made}
 use Rattle.refusals.specs.Codes.{code_of}
@@ -111,7 +111,7 @@ module _ {h ws : List ℕ} {n : ℕ} {was : Remembered} (room : (ws ks : List �
     error_ready p z = once_ready (tested_clean p.tested) (error_is h ws p.kids) (error_room p.tested z)
 
     pub error_done : {h' ws' : List ℕ} {t : «Type»} → n ≡ 0
-        → OnceMade h ws h' ws' (header_in h) (header_in h).error (Is (type_of (nodes_made h))) (header_in h).nil ERROR t
+        → OnceMade h ws h' ws' (header_in h) (header_in h).error (Some (type_of (nodes_made h))) (header_in h).nil ERROR t
         → EachPromised error_call (value (ty_of t.0)) h ws h' ws'
     unfolding error_call
     error_done z o = record { each = λ {ks = ks} q. maker_done (for_error q) make_error z (error_made h ws ks (error_room q z) o) }
@@ -133,7 +133,7 @@ module _ {h ws : List ℕ} {n : ℕ} {was : Remembered} (room : (ws ks : List �
     nil_ready p z = once_ready (tested_clean p.tested) (nil_is h ws p.kids) (nil_room p.tested z)
 
     pub nil_done : {h' ws' : List ℕ} {t : «Type»} → n ≡ 0
-        → OnceMade h ws h' ws' (header_in h) (header_in h).nil (header_in h).error (Is (type_of (nodes_made h))) TUPLE t
+        → OnceMade h ws h' ws' (header_in h) (header_in h).nil (header_in h).error (Some (type_of (nodes_made h))) TUPLE t
         → EachPromised nil_call (value (ty_of t.0)) h ws h' ws'
     unfolding nil_call
     nil_done z o = record { each = λ {ks = ks} q. maker_done (for_nil q) make_nil z (nil_made h ws ks (nil_room q z) o) }
@@ -163,7 +163,7 @@ module _ {h ws : List ℕ} (t : «Type») {n : ℕ} (inside : TypesInside h (ty_
     mut_done f = record { each = λ q. mut_answer t (inside_tested q inside) z {x = header_in h} refl (rw g at f) }
 
 -- near its root
-pub near_mut : {ws : List ℕ} {n t : ℕ} {q : Nearby} {r : «Type»} → Linked ws n → Near ws n t q → q ≡ near.Is r → FoundMut ws n ws t r.0
+pub near_mut : {ws : List ℕ} {n t : ℕ} {q : Nearby} {r : «Type»} → Linked ws n → Near ws n t q → q ≡ near.Some r → FoundMut ws n ws t r.0
 near_mut {r = r} l h e = record {
   root = (h.found r e).root;
   nodes = λ ks. sym (h.stays r e ks);

@@ -11,10 +11,8 @@ ghost use Rattle.refusals.specs.Codes.{code_of};
 ghost use Rattle.promise.specs.Promise.{type_reply, TypesInside};
 ghost use Rattle.tested_lean.specs.Each.{Passed, EachPromised, EachAnswered, Within};
 
-use layout::Remembered;
 use promise::TypeAnswer;
 use refusals::{NO_REFUSAL, NODES_FULL, OUTSIDE};
-use roots::Nearby;
 use types::Type;
 
 // The first of refusals 10 and 11 that stands where one node more is to be made, and 0 where none does: 11 does not.
@@ -29,13 +27,13 @@ fn node_refusal(h: &[u32]) -> u32
 }
 
 // The same for a type that is made once: one that is remembered needs no node.
-fn once_refusal(h: &[u32], was: Remembered) -> u32
+fn once_refusal(h: &[u32], was: Option<Type>) -> u32
     requires { Within h.now }
     ensures { (ws ks : List ℕ) → first_broken (room_tests (store_in h.now ws ks) (nodes_for (remembered_means was)) 0) ≡ code_of result }
 {
     match was {
-        Remembered::Is(_) => NO_REFUSAL,
-        Remembered::Nothing => node_refusal(h),
+        Some(_) => NO_REFUSAL,
+        None => node_refusal(h),
     }
 }
 
@@ -57,8 +55,8 @@ fn root_of(ws: &[u32], n: u32, t: Type) -> Type
     ensures { Found ws.now n t.0 result.0 }
 {
     match roots::near(ws, n, t) {
-        Nearby::Is(root) => root,
-        Nearby::Far => roots::find(ws, n, t),
+        Some(root) => root,
+        None => roots::find(ws, n, t),
     }
 }
 
@@ -122,7 +120,7 @@ pub fn find_mut(h: &[u32], ws: &mut [u32], t: Type) -> TypeAnswer
     }
     let n = heads::nodes_made(h);
     match roots::near(ws, n, t) {
-        Nearby::Is(root) => TypeAnswer::Is(root),
-        Nearby::Far => TypeAnswer::Is(roots::find_mut(ws, n, t)),
+        Some(root) => TypeAnswer::Is(root),
+        None => TypeAnswer::Is(roots::find_mut(ws, n, t)),
     }
 }

@@ -28,7 +28,7 @@ use Rattle.plan.specs.declared.Plan.{Plan}
 use Rattle.meeting.specs.Steps.{steps_mean, StepsReady}
 use Rattle.meeting.specs.Meets.{does, pairs_of, BothKnown}
 use Rattle.meeting.specs.declared.Steps.{Steps}
-use Rattle.meeting.specs.declared.Meeting.TheVariants.{Kids}
+use Rattle.std.specs.Prelude.{Some}
 use Rattle.unify_enter.specs.Leaves.{Leaves}
 use Rattle.unify.specs.Asked.{Asked, Unified}
 use Rattle.unify_enter.specs.Enters.{AtRoots, Left}
@@ -94,7 +94,7 @@ module _ {x : Texts} {ws ks : List ℕ} {n : ℕ} (w : SoundWords x ws ks n) whe
 -- the children that two roots ask for: what they ask, what settling asks after them, and the way out
 
 module _ {x : Texts} {ws ks m ws₂ m₂ : List ℕ} {n d : ℕ} {p q : Ty} {l : Steps} {began a b : ℕ} (h : Left x ws ks m ws₂ m₂ n d p q l began a b) where
-  abbrev c : AtRoots x ws ks m ws₂ m₂ n d p q a b (Kids h.plan)
+  abbrev c : AtRoots x ws ks m ws₂ m₂ n d p q a b (Some h.plan)
   c = h.roots
 
   abbrev words : SoundWords x ws₂ ks n
@@ -108,7 +108,7 @@ module _ {x : Texts} {ws ks m ws₂ m₂ : List ℕ} {n d : ℕ} {p q : Ty} {l :
   planned = h.stepped.same ks x
 
   -- what holds of the pairs that the meeting asks for holds of the steps'
-  of_met : (P : List (Ty × Ty) → Type 0) → P (pairs_of x ks (Kids h.plan)) → P (steps_mean ks x l).pairs
+  of_met : (P : List (Ty × Ty) → Type 0) → P (pairs_of x ks (Some h.plan)) → P (steps_mean ks x l).pairs
   of_met P g = subst (λ (o : scope.Plan). P o.pairs) (sym planned) g
 
   kids_inside : Inside n (steps_mean ks x l).pairs

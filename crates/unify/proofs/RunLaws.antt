@@ -32,8 +32,8 @@ use Rattle.plan.specs.declared.Runs.{Runs}
 use Rattle.plan.specs.declared.Plan.TheVariants as plans
 use Rattle.meeting.specs.Meets.{does}
 use Rattle.meeting.specs.Kids.{objects_of, slot_place, sought_means, sought_in}
-use Rattle.meeting.specs.declared.Sought.{Sought}
-use Rattle.meeting.specs.declared.Sought.TheVariants as found
+use Rattle.meeting.specs.Kids.{Sought}
+use Rattle.std.specs.declared.option.Option.TheVariants as found
 use Rattle.meeting.proofs.KidLaws.{one_more, none_left, kid_length, kid_ty, slot_bytes}
 use Rattle.unify.specs.Asked.{Asked, Unified}
 use Rattle.unify.proofs.Laws.{words_pair, words_enough}
@@ -276,9 +276,9 @@ module _ {x : Texts} {xs ys ws₀ ks m₀ : List ℕ} {n d : ℕ} {s : Runs} {ws
     object_to k e = object_step x xs ys s i h ∙ ap (λ (v : Option Ty). after (shared s.inv.0 (kid_ty xs (s.a + i)) v) rest)
         (ap (λ (w : Name). sought_in x ys w s.b s.nb) (sym em) ∙ (sym ef ∙ ap sought_means e))
 
-    pub object_none : {r' : UnifyResult} → f ≡ found.Nothing → answer_of r' ≡ both (answer_of r) Failure → ObjectLeft x xs ys ws₀ ks m₀ n d s ws m r' (i + 1)
+    pub object_none : {r' : UnifyResult} → f ≡ found.None → answer_of r' ≡ both (answer_of r) Failure → ObjectLeft x xs ys ws₀ ks m₀ n d s ws m r' (i + 1)
     object_none e q =
-        let l = object_to found.Nothing e in
+        let l = object_to found.None e in
         record {
           going = going_to
               (ap (λ (t : Plan). both (answer_of r) t.base) l ∙ (both_fails (answer_of r) rest.base ∙ ap (λ (t : Answer). both t rest.base) (sym q)))
@@ -286,10 +286,10 @@ module _ {x : Texts} {xs ys ws₀ ks m₀ : List ℕ} {n d : ℕ} {s : Runs} {ws
         }
 
     -- the name is there: one pair, and the rest
-    pub object_pair : {a b : ℕ} {t : «Type»} → f ≡ found.Is t → a ≡ (slot_at xs (s.a + i)).type → ty_of b ≡ flip s.inv.0 (ty_of t.0)
+    pub object_pair : {a b : ℕ} {t : «Type»} → f ≡ found.Some t → a ≡ (slot_at xs (s.a + i)).type → ty_of b ≡ flip s.inv.0 (ty_of t.0)
         → ObjectNext x xs ys ws₀ ks m₀ n d s ws m r i a b
     object_pair {b = b} {t = t} e ea eb =
-        let l = object_to (found.Is t) e in
+        let l = object_to (found.Some t) e in
         record { going = next_pair s.inv.0 b t.0 (going_to (ap (λ (p : Plan). both (answer_of r) p.base) l) (ap (λ (p : Plan). p.pairs) l) g.going) ea eb }
 
   pub object_ends : s.na ≤ i → Unified x ws₀ ks m₀ ws m n (does (unify_f x n d) (decode ws₀ ks n) (objects_of x xs ys s)) r

@@ -14,7 +14,7 @@ ghost use Rattle.meeting.specs.Meets.{does};
 ghost use Rattle.std.specs.Prelude.{[], ◌∷◌};
 ghost use Rattle.unify.specs.Asked.{Asked, Unified};
 
-use meeting::{Sought, Steps};
+use meeting::Steps;
 use plan::Runs;
 use types::{Type, UnifyResult};
 use unify_enter::Entered;
@@ -139,13 +139,13 @@ pub fn unify_objects<'a>(
         let f = meeting::seek_near(ks, meeting::kid_name(ks, s.a, j), j, s.b, s.nb, rule, text);
         j += 1;
         match f {
-            Sought::Is(t) => {
+            Some(t) => {
                 let u = t.invert_if(inv);
                 if !heed::quick(ws, n, memory, x, u, depth) {
                     r = r.and(unify_pair(ws, ks, n, rule, text, memory, x, u, depth));
                 }
             }
-            Sought::Nothing => {
+            None => {
                 r = r.and(UnifyResult::Failure);
             }
         }

@@ -31,8 +31,8 @@ use Rattle.layout.proofs.LinkLaws.{clean_linked}
 use Rattle.roots.specs.Found.{FoundMut}
 use Rattle.recall.specs.Memory.{clock_of, Fewer}
 use Rattle.recall.specs.Places.{Told}
-use Rattle.recall.specs.declared.Recalled.{Recalled}
-use Rattle.recall.specs.declared.Recalled.TheVariants.{Is}
+use Rattle.recall.specs.Places.{Recalled}
+use Rattle.std.specs.Prelude.{Some}
 use Rattle.heed.specs.Recalls.{Marks}
 use Rattle.heed.specs.Told.{FoundTold}
 use Rattle.heed.proofs.Laws.{since_same, since_then, recalls_moved, marks_kept, marks_fewer, selfs_view, moved_fewer}
@@ -42,9 +42,9 @@ use Rattle.meeting.specs.Asks.{SoundWords, Pair, Tops}
 use Rattle.meeting.specs.Steps.{PlanSpans, Stepped}
 use Rattle.meeting.specs.Meets.{met_by, Met, MeetReady}
 use Rattle.meeting.specs.declared.Steps.{Steps}
-use Rattle.meeting.specs.declared.Meeting.{Meeting}
-use Rattle.meeting.specs.declared.Meeting.TheVariants as meetings
-use Rattle.meeting.specs.declared.Meeting.TheVariants.{Walk}
+use Rattle.meeting.specs.Meets.{Meeting}
+use Rattle.std.specs.declared.option.Option.TheVariants as meetings
+use Rattle.std.specs.Prelude.{None}
 use Rattle.unify_enter.specs.Asked.{Asked, Unified}
 use Rattle.unify_enter.specs.Enters.{Climbed, AtRoots, Left, Enters}
 use Rattle.unify_enter.specs.declared.Entered.{Entered}
@@ -209,10 +209,10 @@ module _ {x : Texts} {ws ks m ws₂ m₂ : List ℕ} {n d : ℕ} {p q : Ty} {a b
   pub deep_enough : meet (unify_f x n (d - 1)) x n (decode ws₂ ks n) (ty_of a) (ty_of b) ≡ meet (unify_f x n n) x n (decode ws₂ ks n) (ty_of a) (ty_of b)
   deep_enough = words_meet words (ty_of a) (ty_of b) c.up.tops.pair.first c.up.tops.first c.up.enough c.up.deep
 
-  childless : k ≡ Walk → Childless x n (decode ws₂ ks n) (ty_of a) (ty_of b)
+  childless : k ≡ None → Childless x n (decode ws₂ ks n) (ty_of a) (ty_of b)
   childless e u = c.met.same u ∙ ap (met_by u x n ks (decode ws₂ ks n) (ty_of a) (ty_of b)) e
 
-  pub walk_asks : k ≡ Walk → WalkAsks ws₂ ks m₂ n (ty_of a) (ty_of b)
+  pub walk_asks : k ≡ None → WalkAsks ws₂ ks m₂ n (ty_of a) (ty_of b)
   walk_asks e = record { roots = record { lent = x; tops = c.up.tops }; adds = tops_add c.up; meets = childless e; recalls = c.up.recalls }
 
   -- nothing after the finds
@@ -220,7 +220,7 @@ module _ {x : Texts} {ws ks m ws₂ m₂ : List ℕ} {n d : ℕ} {p q : Ty} {a b
   at_once e = record { leaves = record { same = e; clean = c.up.clean; tail = c.up.tail }; recalls = c.up.recalls; since = c.up.since }
 
   -- no child is unified
-  pub way_walk : {ws₃ m₃ : List ℕ} {r : UnifyResult} → k ≡ Walk → WalkTold ws₂ ks m₂ ws₃ m₃ n (ty_of a) (ty_of b) r → Unified x ws ks m ws₃ m₃ n whole r
+  pub way_walk : {ws₃ m₃ : List ℕ} {r : UnifyResult} → k ≡ None → WalkTold ws₂ ks m₂ ws₃ m₃ n (ty_of a) (ty_of b) r → Unified x ws ks m ws₃ m₃ n whole r
   way_walk e o = record {
     leaves = record {
       same = went e ∙ o.leaves.same;
@@ -232,11 +232,11 @@ module _ {x : Texts} {ws ks m ws₂ m₂ : List ℕ} {n d : ℕ} {p q : Ty} {a b
   }
 
   -- what the memory tells is what the roots would give
-  pub way_known : {t : Recalled} {r : UnifyResult} → Told m₂ a b t → t ≡ Is r → Unified x ws ks m ws₂ m₂ n whole r
+  pub way_known : {t : Recalled} {r : UnifyResult} → Told m₂ a b t → t ≡ Some r → Unified x ws ks m ws₂ m₂ n whole r
   way_known {r = r} f e = at_once (c.up.same ∙ (deep_enough ∙ (c.up.recalls.true a b r (f.believed r e)).same))
 
   -- the children are left to do
-  module _ {l : Plan} (e : k ≡ meetings.Kids l) where
+  module _ {l : Plan} (e : k ≡ meetings.Some l) where
     pub kids_spans : PlanSpans l
     kids_spans = (subst (MeetReady x ks) e c.met.ready).0
 

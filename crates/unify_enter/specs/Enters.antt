@@ -13,8 +13,8 @@ use Rattle.meeting.specs.Asks.{Tops}
 use Rattle.meeting.specs.Steps.{Stepped}
 use Rattle.meeting.specs.Meets.{Met}
 use Rattle.meeting.specs.declared.Steps.{Steps}
-use Rattle.meeting.specs.declared.Meeting.{Meeting}
-use Rattle.meeting.specs.declared.Meeting.TheVariants as meetings
+use Rattle.meeting.specs.Meets.{Meeting}
+use Rattle.std.specs.declared.option.Option.TheVariants as meetings
 use Rattle.unify_enter.specs.declared.Entered.{Entered}
 use Rattle.unify_enter.specs.declared.Entered.TheVariants.{Done, Kids}
 use Rattle.unify_enter.specs.Asked.{Unified}
@@ -38,7 +38,7 @@ pub record AtRoots (x : Texts) (ws ks m ws₂ m₂ : List ℕ) (n d : ℕ) (p q 
 -- the same, and the roots ask for their children: the steps l, and the clock t before them
 pub record Left (x : Texts) (ws ks m ws₂ m₂ : List ℕ) (n d : ℕ) (p q : Ty) (l : Steps) (t a b : ℕ) : Type 0 where
   pub plan : Plan
-  pub roots : AtRoots x ws ks m ws₂ m₂ n d p q a b (meetings.Kids plan)
+  pub roots : AtRoots x ws ks m ws₂ m₂ n d p q a b (meetings.Some plan)
   pub stepped : Stepped plan l
   pub began : t ≡ clock_of m₂
 

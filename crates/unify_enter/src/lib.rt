@@ -9,8 +9,7 @@ ghost use Rattle.std.specs.Prelude.{[], ◌∷◌};
 ghost use Rattle.unify_enter.specs.Asked.{Asked};
 ghost use Rattle.unify_enter.specs.Enters.{Enters};
 
-use meeting::{Meeting, Steps};
-use recall::Recalled;
+use meeting::Steps;
 use types::{Type, UnifyResult};
 
 // What two types ask for: an answer, or children that are to be unified first, the memory's clock before them, and the two roots.
@@ -48,12 +47,12 @@ pub fn enter<'a>(
     let rb = heed::find(ws, n, memory, b);
     let m = meeting::meet(ws, ks, n, rule, text, ra, rb);
     match m {
-        Meeting::Walk => Entered::Done(walks::walk_pair(ws, ks, n, memory, ra, rb)),
-        Meeting::Kids(p) => {
+        None => Entered::Done(walks::walk_pair(ws, ks, n, memory, ra, rb)),
+        Some(p) => {
             let known = recall::look(memory, n, ra, rb);
             match known {
-                Recalled::Is(r) => Entered::Done(r),
-                Recalled::Nothing => {
+                Some(r) => Entered::Done(r),
+                None => {
                     Entered::Kids(meeting::in_steps(p), recall::clock(memory), ra, rb)
                 }
             }

@@ -4,8 +4,6 @@
 ghost use Rattle.scope.specs.Types.{ty_of};
 ghost use Rattle.unify_enter.specs.Walk.{WalkAsks, WalkTold};
 
-use meeting::Walked;
-use recall::Recalled;
 use types::{Type, UnifyResult};
 
 // Two roots, whatever they are: what the memory knows, or a walk says an answer or a merge.
@@ -14,16 +12,16 @@ fn walk_on(ws: &mut [u32], ks: &[u32], n: u32, memory: &mut [u32], a: Type, b: T
     ensures { WalkTold ws.old ks.now memory.old ws.new memory.new n (ty_of a.0) (ty_of b.0) result }
 {
     let known = recall::look(memory, n, a, b);
-    if let Recalled::Is(q) = known {
+    if let Some(q) = known {
         return q;
     }
     let w = meeting::walk_roots(ws, ks, n, a, b);
     match w {
-        Walked::Done(r) => {
+        Some(r) => {
             recall::walked(memory, n, a, b, r);
             r
         }
-        Walked::Bind => {
+        None => {
             merge::bind(ws, n, a, b);
             recall::changed(memory);
             UnifyResult::Success
@@ -58,7 +56,7 @@ pub fn walk_pair(
         return UnifyResult::Success;
     }
     let known = recall::look(memory, n, a, b);
-    if let Recalled::Is(q) = known {
+    if let Some(q) = known {
         return q;
     }
     let r = UnifyResult::from_bool(own_inverse::ask(ws, ks, n, memory, a));

@@ -13,7 +13,6 @@ ghost use Rattle.store.specs.Entries.{entry_count, entry_names, entry_types, typ
 ghost use Rattle.unify.specs.Asked.{Asked, Unified};
 ghost use Rattle.unify_lists.specs.Lent.{Lists, Objects, Signatures, Impls};
 
-use meeting::Sought;
 use types::{Impl, Inverted, Type, UnifyResult};
 
 // A call that is lent no memory has one of its own, of sixteen pairs: enough for one that is asked again and again.
@@ -102,10 +101,10 @@ pub fn unify_entries<'a>(
         let f = meeting::seek(ys, meeting::kid_name(xs, 0, j), 0, nb, rule, text);
         j += 1;
         match f {
-            Sought::Is(t) => {
+            Some(t) => {
                 r = r.and(unify::unify(ws, ks, n, rule, text, memory, x, t.invert_if(inv), n));
             }
-            Sought::Nothing => {
+            None => {
                 r = r.and(UnifyResult::Failure);
             }
         }

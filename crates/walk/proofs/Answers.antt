@@ -25,8 +25,8 @@ use Rattle.layout.specs.Words.{slot_at, decode}
 use Rattle.layout.specs.Meaning.{slot_means, kind_means, read_at, held_in, held_kids, Clean}
 use Rattle.layout.specs.declared.Kind.{Kind}
 use Rattle.layout.specs.declared.Slot.{Slot}
-use Rattle.layout.specs.declared.Held.{Held}
-use Rattle.layout.specs.declared.Held.TheVariants.{Is, Nothing}
+use Rattle.layout.specs.Meaning.{Held}
+use Rattle.std.specs.Prelude.{Some, None}
 use Rattle.layout.proofs.Laws.{length_decode}
 use Rattle.layout.proofs.HeldLaws.{held_kids_lem}
 use Rattle.chart.specs.Words.{records_of}
@@ -111,11 +111,11 @@ unfolding get_mod_f
 mod_out x zero ns t h = refl
 mod_out x (suc f) ns t h = absurd (omega arith)
 
-mod_other : (x : Env) (g : Ty → force.Mod) (ks : List ℕ) (j : Inverted) (k : Kind) → (k.code ≡ REF → ⊥) → mod_in x g ks (Is j k) ≡ mod_by x.records k.code k.number
+mod_other : (x : Env) (g : Ty → force.Mod) (ks : List ℕ) (j : Inverted) (k : Kind) → (k.code ≡ REF → ⊥) → mod_in x g ks (Some (j, k)) ≡ mod_by x.records k.code k.number
 unfolding kind_means
 mod_other x g ks j k h = rw (ne_eqb k.code REF h, mod_of_state) refl
 
-mod_ref : (x : Env) (g : Ty → force.Mod) (ks : List ℕ) (j : Inverted) (k : Kind) → k.code ≡ REF → mod_in x g ks (Is j k) ≡ mod_of_ref g (kind_means ks k).kids
+mod_ref : (x : Env) (g : Ty → force.Mod) (ks : List ℕ) (j : Inverted) (k : Kind) → k.code ≡ REF → mod_in x g ks (Some (j, k)) ≡ mod_of_ref g (kind_means ks k).kids
 unfolding kind_means
 mod_ref x g ks j k h = rw (eq-eqb k.code REF h, mod_of_state) refl
 
@@ -139,10 +139,10 @@ module _ {ws ks : List ℕ} {n t u f : ℕ} (c : Looks ws ks n t u f) where
     looks_here x e =
         sym (mod_step x f (decode ws ks n) (ty_of u) h r ∙ mod_read i s.clean o e x (get_mod_f x (f - 1) (decode ws ks n)))
 
-    pub looks_none : {chart : List ℕ} → v ≡ Nothing → Modded ws ks n chart t mods.Nothing
+    pub looks_none : {chart : List ℕ} → v ≡ None → Modded ws ks n chart t mods.Nothing
     looks_none e = record { answer = λ x q. looks_here x e ∙ looks_whole x }
 
-    module _ {j : Inverted} {k : Kind} (e : v ≡ Is j k) where
+    module _ {j : Inverted} {k : Kind} (e : v ≡ Some (j, k)) where
       pub looks_kind : {chart : List ℕ} {m : Mod} → (k.code ≡ REF → ⊥) → mod_means m ≡ mod_by (records_of chart) k.code k.number
           → Modded ws ks n chart t m
       looks_kind z w = record {

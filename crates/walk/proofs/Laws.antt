@@ -22,8 +22,8 @@ use Rattle.layout.specs.Words.{slot_at, decode}
 use Rattle.layout.specs.Meaning.{slot_means, kind_means, read_at, held_in, Clean}
 use Rattle.layout.specs.declared.Kind.{Kind}
 use Rattle.layout.specs.declared.Slot.{Slot}
-use Rattle.layout.specs.declared.Held.{Held}
-use Rattle.layout.specs.declared.Held.TheVariants.{Is, Nothing}
+use Rattle.layout.specs.Meaning.{Held}
+use Rattle.std.specs.Prelude.{Some, None}
 use Rattle.layout.proofs.ChildLaws.{length_kids, kid_at}
 use Rattle.layout.proofs.HeldLaws.{held_by_lem}
 use Rattle.walk.specs.Read.{nil_by}
@@ -34,10 +34,10 @@ pub nil_told : {v q w : Held} {b : Bool} → v ≡ w → v ≡ q → b ≡ nil_b
 nil_told e s h = h ∙ ap nil_by (sym s ∙ e)
 
 abbrev pub mod_in : Env → (Ty → force.Mod) → List ℕ → Held → force.Mod
-mod_in e g ks (Is i k) = mod_of_state e g (nodes.Known false (kind_means ks k))
-mod_in e g ks Nothing = none_mod
+mod_in e g ks (Some (i, k)) = mod_of_state e g (nodes.Known false (kind_means ks k))
+mod_in e g ks None = none_mod
 
-nil_kind : (ks : List ℕ) (i : Inverted) (k : Kind) → nil_state (nodes.Known i.0 (kind_means ks k)) ≡ nil_by (Is i k)
+nil_kind : (ks : List ℕ) (i : Inverted) (k : Kind) → nil_state (nodes.Known i.0 (kind_means ks k)) ≡ nil_by (Some (i, k))
 unfolding kind_means
 nil_kind ks i k = ap (λ (m : ℕ). eqb k.code TUPLE && eqb m 0) (length_kids ks k)
 

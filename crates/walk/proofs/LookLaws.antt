@@ -18,8 +18,8 @@ use Rattle.layout.specs.Words.{slot_at, decode}
 use Rattle.layout.specs.Meaning.{slot_means, kind_means, read_at, held_in, held_kids}
 use Rattle.layout.specs.declared.Kind.{Kind}
 use Rattle.layout.specs.declared.Slot.{Slot}
-use Rattle.layout.specs.declared.Held.{Held}
-use Rattle.layout.specs.declared.Held.TheVariants.{Is, Nothing}
+use Rattle.layout.specs.Meaning.{Held}
+use Rattle.std.specs.Prelude.{Some, None}
 use Rattle.layout.proofs.HeldLaws.{held_kids_lem}
 use Rattle.inverse.specs.declared.Glance.{Glance}
 use Rattle.inverse.specs.declared.Glance.TheVariants.{Met, Clear, Deep}
@@ -67,8 +67,8 @@ module _ {p : Ty → Bool} {ks : List ℕ} {k : Kind} {j : ℕ} (c : Left p ks k
 -- one child, whose root is i
 
 kids_leaf : (ks : List ℕ) (v : Held) → leaf_by v ≡ true → held_kids ks v ≡ []
-kids_leaf ks (Is i k) h = let z : k.count ≡ 0 = eqb-true k.count 0 h in kid_none ks k 0 (omega arith)
-kids_leaf ks Nothing h = refl
+kids_leaf ks (Some (i, k)) h = let z : k.count ≡ 0 = eqb-true k.count 0 h in kid_none ks k 0 (omega arith)
+kids_leaf ks None h = refl
 
 module _ (ns : List Node) {n x i : ℕ} (t : Ty) (l : 1 < n) (r : i ≡ (find ns t).idx) where
   pub kid_met : i ≡ x → occurs (n - 1) ns x (find ns t).idx ≡ true
@@ -98,7 +98,7 @@ module _ {ws ks : List ℕ} {n x y : ℕ} (o : Occurs ws ks n x y) {i : ℕ} (r 
       go (yes l) = l
       go (no l) = absurd (h (omega (arith, o.node, o.inside, r)))
 
-  module _ {v : Held} {j : Inverted} {k : Kind} (e : v ≡ held_in (read_at ws n i)) (s : v ≡ Is j k) where
+  module _ {v : Held} {j : Inverted} {k : Kind} (e : v ≡ held_in (read_at ws n i)) (s : v ≡ Some (j, k)) where
     occurs_kids : occurs n (decode ws ks n) x (ty_of y).idx ≡ any (λ t. occurs (n - 1) (decode ws ks n) x (find (decode ws ks n) t).idx) (kind_means ks k).kids
     occurs_kids =
         let same : kids_of (state_of (at (decode ws ks n) (ty_of y).idx)) ≡ (kind_means ks k).kids =

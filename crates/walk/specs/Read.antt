@@ -5,20 +5,20 @@ use Rattle.scope.specs.Chart.{Record, no_record}
 use Rattle.scope.specs.Kinds.{TUPLE, ERROR}
 use Rattle.scope.specs.Force.{none_mod, mod_of, error_mod, has_def}
 use Rattle.scope.specs.Force as force
-use Rattle.layout.specs.declared.Held.{Held}
-use Rattle.layout.specs.declared.Held.TheVariants as held
+use Rattle.layout.specs.Meaning.{Held}
+use Rattle.std.specs.declared.option.Option.TheVariants as held
 use Rattle.walk.specs.declared.Mod.{Mod}
 use Rattle.walk.specs.declared.Mod.TheVariants.{Nothing, Def, Error}
 
 -- a root without children
 abbrev pub leaf_by : Held → Bool
-leaf_by (held.Is i k) = eqb k.count 0
-leaf_by held.Nothing = true
+leaf_by (held.Some (i, k)) = eqb k.count 0
+leaf_by held.None = true
 
 -- a Tuple of nothing
 abbrev pub nil_by : Held → Bool
-nil_by (held.Is i k) = eqb k.code TUPLE && eqb k.count 0
-nil_by held.Nothing = false
+nil_by (held.Some (i, k)) = eqb k.code TUPLE && eqb k.count 0
+nil_by held.None = false
 
 -- what the code's answers mean
 abbrev pub mod_means : Mod → force.Mod

@@ -13,8 +13,7 @@ ghost use Rattle.related.specs.Stands.{Stands};
 ghost use Rattle.walk.specs.Asks.{Looked, Occurs, Inverses, Nil, Modded};
 
 use inverse::Glance;
-use layout::{Held, Kind, TypeNode};
-use roots::Nearby;
+use layout::{Kind, TypeNode};
 use scope::MAX_NODES;
 use types::{Type, TypeIdx};
 
@@ -32,8 +31,8 @@ fn is_leaf(ws: &[u32], n: u32, i: TypeIdx) -> bool
     ensures { result ≡ leaf_by (held_in (read_at ws.now n i.0)) }
 {
     match layout::held_at(ws, n, i) {
-        Held::Is(_, kind) => kind.count == 0,
-        Held::Nothing => true,
+        Some((_, kind)) => kind.count == 0,
+        None => true,
     }
 }
 
@@ -46,7 +45,7 @@ fn look(ws: &[u32], ks: &[u32], n: u32, x: TypeIdx, kind: Kind) -> Glance
     while j < kind.count {
         let kid = layout::child_of(ks, kind, j).ty;
         j += 1;
-        let Nearby::Is(root) = roots::near(ws, n, kid) else {
+        let Some(root) = roots::near(ws, n, kid) else {
             return Glance::Deep;
         };
         let i = root.idx();
@@ -78,7 +77,7 @@ pub fn occurs(ws: &[u32], ks: &[u32], n: u32, x: TypeIdx, y: Type) -> bool
     if root.0 == x.0 {
         return true;
     }
-    let Held::Is(_, kind) = layout::held_at(ws, n, root) else {
+    let Some((_, kind)) = layout::held_at(ws, n, root) else {
         return false;
     };
     if kind.count == 0 {
@@ -117,7 +116,7 @@ fn nil_at(ws: &[u32], n: u32, i: TypeIdx) -> bool
     requires { node_words n ≤ length ws.now }
     ensures { result ≡ nil_by (held_in (read_at ws.now n i.0)) }
 {
-    let Held::Is(_, kind) = layout::held_at(ws, n, i) else {
+    let Some((_, kind)) = layout::held_at(ws, n, i) else {
         return false;
     };
     if kind.code == kinds::TUPLE {
@@ -176,7 +175,7 @@ pub fn get_mod(ws: &[u32], ks: &[u32], n: u32, chart: &[u32], t: Type) -> Mod
     let mut left = n;
     while 0 < left {
         let root = roots::find(ws, n, cur).idx();
-        let Held::Is(_, kind) = layout::held_at(ws, n, root) else {
+        let Some((_, kind)) = layout::held_at(ws, n, root) else {
             return Mod::Nothing;
         };
         if kind.code != kinds::REF {

@@ -16,7 +16,7 @@ use Rattle.chart.specs.declared.Beside.{Beside}
 use Rattle.layout.specs.Words.{store_in, lent_of}
 use Rattle.layout.specs.Meaning.{header_in, remembered_means}
 use Rattle.layout.specs.declared.Header.{Header}
-use Rattle.layout.specs.declared.Remembered.{Remembered}
+use Rattle.layout.specs.Meaning.{Remembered}
 use Rattle.store.specs.Holds.{Ready}
 use Rattle.make.specs.Made.{MadeIs}
 use Rattle.store.proofs.Laws.{error_is, nil_is}

@@ -8,4 +8,4 @@ returns-in_default c = found_far c.changed.ensures c.find_mut.ensures
 
 pub returns : goal.returns
 returns c =
-    found_near c.requires.0 c.requires.1 c.near.ensures c.in-Is.is
+    found_near c.requires.0 c.requires.1 c.near.ensures c.in-Some.is

@@ -7,8 +7,8 @@ use Rattle.kind_sound.proofs.remembered_inside.Goals as goal
 pub enum_told-1 : goal.enum_told-1
 enum_told-1 c = search rules
 
-pub returns-in-Is : goal.returns-in-Is
-returns-in-Is c = rw c.in-Is.is c.type_inside.ensures
+pub returns-in-Some : goal.returns-in-Some
+returns-in-Some c = rw c.in-Some.is c.type_inside.ensures
 
-pub returns-in-Nothing : goal.returns-in-Nothing
-returns-in-Nothing c = rw c.in-Nothing.is (λ ns e. refl)
+pub returns-in-None : goal.returns-in-None
+returns-in-None c = rw c.in-None.is (λ ns e. refl)

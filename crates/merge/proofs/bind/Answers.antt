@@ -11,10 +11,10 @@ returns-then-sa-sb c =
 pub enum_told-1 : goal.enum_told-1
 enum_told-1 c = search rules
 
-pub returns-in-Is : goal.returns-in-Is
-returns-in-Is c =
-    bind_known _ _ _ _ _ c.size_at-sb.ensures c.size_at-sa.ensures c.if-sa-sb.false c.idx.ensures c.held_at-held.ensures c.in-Is.is c.hang.ensures
+pub returns-in-Some : goal.returns-in-Some
+returns-in-Some c =
+    bind_known _ _ _ _ _ c.size_at-sb.ensures c.size_at-sa.ensures c.if-sa-sb.false c.idx.ensures c.held_at-held.ensures c.in-Some.is c.hang.ensures
 
-pub returns-in-Nothing : goal.returns-in-Nothing
-returns-in-Nothing c =
-    bind_first _ _ _ _ _ c.size_at-sb.ensures c.size_at-sa.ensures c.if-sa-sb.false c.idx.ensures c.held_at-held.ensures c.in-Nothing.is c.take-in-Nothing.ensures
+pub returns-in-None : goal.returns-in-None
+returns-in-None c =
+    bind_first _ _ _ _ _ c.size_at-sb.ensures c.size_at-sa.ensures c.if-sa-sb.false c.idx.ensures c.held_at-held.ensures c.in-None.is c.take-in-None.ensures

@@ -11,7 +11,7 @@ returns-in_default c = one_not
 
 pub returns-then-kind-eq-TUPLE : goal.returns-then-kind-eq-TUPLE
 returns-then-kind-eq-TUPLE c =
-    one_nil c.idx-ia.ensures c.idx-ib.ensures c.if-ia-ib.false c.held_at.ensures c.in-Is.is c.if-kind-eq-TUPLE.true
+    one_nil c.idx-ia.ensures c.idx-ib.ensures c.if-ia-ib.false c.held_at.ensures c.in-Some.is c.if-kind-eq-TUPLE.true
 
 pub returns : goal.returns
 returns c = one_not

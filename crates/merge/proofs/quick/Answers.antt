@@ -14,8 +14,8 @@ returns-in_default-bare_at c = tried_not
 
 pub unite-requires : goal.unite-requires
 unite-requires c =
-    sized c.idx-ia.ensures c.idx-ib.ensures c.bare_at.ensures c.in-Is.is c.bare_at-2.ensures c.in-Is-bare_at.is c.requires
+    sized c.idx-ia.ensures c.idx-ib.ensures c.bare_at.ensures c.in-Some.is c.bare_at-2.ensures c.in-Some-bare_at.is c.requires
 
 pub returns : goal.returns
 returns c =
-    tried_merged c.idx-ia.ensures c.idx-ib.ensures c.bare_at.ensures c.in-Is.is c.bare_at-2.ensures c.in-Is-bare_at.is c.if-ia-ib.false c.unite.ensures
+    tried_merged c.idx-ia.ensures c.idx-ib.ensures c.bare_at.ensures c.in-Some.is c.bare_at-2.ensures c.in-Some-bare_at.is c.if-ia-ib.false c.unite.ensures

@@ -7,15 +7,15 @@ use Rattle.merge.proofs.take.Goals as goal
 pub enum_told-1 : goal.enum_told-1
 enum_told-1 c = search rules
 
-pub put_node-requires-in-Is : goal.put_node-requires-in-Is
-put_node-requires-in-Is c =
+pub put_node-requires-in-Some : goal.put_node-requires-in-Some
+put_node-requires-in-Some c =
     rw c.put_node.auto.ws c.requires.room
 
-pub returns-in-Nothing : goal.returns-in-Nothing
-returns-in-Nothing c =
-    take_none c.idx.ensures c.held_at-held.ensures c.in-Nothing.is c.hang.ensures
+pub returns-in-None : goal.returns-in-None
+returns-in-None c =
+    take_none c.idx.ensures c.held_at-held.ensures c.in-None.is c.hang.ensures
 
-pub returns-in-Is : goal.returns-in-Is
-returns-in-Is c =
-    take_known c.invert_if-parent.result c.requires.room c.requires.sum c.idx.ensures c.held_at-held.ensures c.in-Is.is c.inv-inv.ensures
-    c.invert_if-parent.ensures c.inv.ensures c.xor.ensures c.idx-in-Is.ensures c.idx-in-Is-2.ensures c.put_node.ensures c.put_node-in-Is.ensures
+pub returns-in-Some : goal.returns-in-Some
+returns-in-Some c =
+    take_known c.invert_if-parent.result c.requires.room c.requires.sum c.idx.ensures c.held_at-held.ensures c.in-Some.is c.inv-inv.ensures
+    c.invert_if-parent.ensures c.inv.ensures c.xor.ensures c.idx-in-Some.ensures c.idx-in-Some-2.ensures c.put_node.ensures c.put_node-in-Some.ensures

@@ -16,8 +16,8 @@ returns-in_default c =
 
 pub returns-then-kind-count : goal.returns-then-kind-count
 returns-then-kind-count c =
-    asks_entry c.args.kind c.if-kind-ne-PARAM.false c.in-Entries.is c.if-kind-count.true
+    asks_entry c.args.kind c.if-kind-ne-PARAM.false c.in-Some.is c.if-kind-count.true
 
 pub returns-else-kind-count : goal.returns-else-kind-count
 returns-else-kind-count c =
-    asks_none c.args.kind c.if-kind-ne-PARAM.false c.in-Entries.is c.if-kind-count.false
+    asks_none c.args.kind c.if-kind-ne-PARAM.false c.in-Some.is c.if-kind-count.false

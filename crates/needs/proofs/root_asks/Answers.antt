@@ -8,10 +8,10 @@ use Rattle.needs.proofs.root_asks.Goals as goal
 pub enum_told-1 : goal.enum_told-1
 enum_told-1 c = search rules
 
-pub returns-in-Is : goal.returns-in-Is
-returns-in-Is c =
-    c.kind_asks.ensures ∙ ap (asks_of c.args.params) (sym c.in-Is.is ∙ c.held_at.ensures)
+pub returns-in-Some : goal.returns-in-Some
+returns-in-Some c =
+    c.kind_asks.ensures ∙ ap (asks_of c.args.params) (sym c.in-Some.is ∙ c.held_at.ensures)
 
-pub returns-in-Nothing : goal.returns-in-Nothing
-returns-in-Nothing c =
-    ap (asks_of c.args.params) (sym c.in-Nothing.is ∙ c.held_at.ensures)
+pub returns-in-None : goal.returns-in-None
+returns-in-None c =
+    ap (asks_of c.args.params) (sym c.in-None.is ∙ c.held_at.ensures)

@@ -12,17 +12,17 @@ returns-in_default c = noted_same c.requires.1
 
 pub overflow_add-p : goal.overflow_add-p
 overflow_add-p c =
-    omega (arith, (c.spot_of.ensures.there _ c.in-At.is).fits)
+    omega (arith, (c.spot_of.ensures.there _ c.in-Some.is).fits)
 
 pub overflow_add-p-2 : goal.overflow_add-p-2
 overflow_add-p-2 c =
-    omega (arith, (c.spot_of.ensures.there _ c.in-At.is).fits)
+    omega (arith, (c.spot_of.ensures.there _ c.in-Some.is).fits)
 
 pub overflow_add-p-3 : goal.overflow_add-p-3
 overflow_add-p-3 c =
-    omega (arith, (c.spot_of.ensures.there _ c.in-At.is).fits)
+    omega (arith, (c.spot_of.ensures.there _ c.in-Some.is).fits)
 
 pub returns : goal.returns
 returns c =
-    noted_entry c.requires.1 c.at.ensures c.if-at-began.false (c.spot_of.ensures.there _ c.in-At.is) c.put.ensures
+    noted_entry c.requires.1 c.at.ensures c.if-at-began.false (c.spot_of.ensures.there _ c.in-Some.is) c.put.ensures
     c.put-2.ensures c.put-3.ensures c.number.ensures c.put-4.ensures

@@ -56,16 +56,16 @@ pub stretch-s-requires : goal.stretch-s-requires
 stretch-s-requires t c =
     (c.loop-s-test.true, c.loop-s.invariant.5)
 
-pub loop-s-smaller-in-Met : goal.loop-s-smaller-in-Met
-loop-s-smaller-in-Met t c =
+pub loop-s-smaller-in-None : goal.loop-s-smaller-in-None
+loop-s-smaller-in-None t c =
     omega (arith, c.loop-s-test.true, c.stretch-s.ensures.scanned.from)
 
-pub loop-s-preserved-in-Met : goal.loop-s-preserved-in-Met
-loop-s-preserved-in-Met t c = (
+pub loop-s-preserved-in-None : goal.loop-s-preserved-in-None
+loop-s-preserved-in-None t c = (
   turn_stretch c.args.depth c.loop-s.s
-      (turn_met c.args.depth c.loop-s.invariant.0 c.child_at.result c.loop-s-test.true c.child_at.ensures c.meet.ensures c.in-Met.is)
-      (keeps_met (keeps_pass c.loop-s.invariant.1 c.pass-far.ensures) c.meet.ensures c.in-Met.is) c.stretch-s.ensures.scanned,
-  keeps_stretch (keeps_met (keeps_pass c.loop-s.invariant.1 c.pass-far.ensures) c.meet.ensures c.in-Met.is) c.stretch-s.ensures,
+      (turn_met c.args.depth c.loop-s.invariant.0 c.child_at.result c.loop-s-test.true c.child_at.ensures c.meet.ensures c.in-None.is)
+      (keeps_met (keeps_pass c.loop-s.invariant.1 c.pass-far.ensures) c.meet.ensures c.in-None.is) c.stretch-s.ensures.scanned,
+  keeps_stretch (keeps_met (keeps_pass c.loop-s.invariant.1 c.pass-far.ensures) c.meet.ensures c.in-None.is) c.stretch-s.ensures,
   c.meet.auto.cache ∙ c.loop-s.invariant.2,
   c.meet.auto.seen ∙ c.loop-s.invariant.3,
   c.stretch-s.auto.skip ∙ (c.pass-far.auto.skip ∙ c.loop-s.invariant.4),
@@ -78,26 +78,26 @@ overflow_sub-depth t c =
 
 pub mark_below-requires : goal.mark_below-requires
 mark_below-requires t c =
-    (omega (arith, c.if-depth-eq0.false), (c.requires.0, (keeps_new (keeps_pass c.loop-s.invariant.1 c.pass-far.ensures) c.meet.ensures c.in-New.is)))
+    (omega (arith, c.if-depth-eq0.false), (c.requires.0, (keeps_new (keeps_pass c.loop-s.invariant.1 c.pass-far.ensures) c.meet.ensures c.in-Some.is)))
 
-pub stretch-s-requires-in-New : goal.stretch-s-requires-in-New
-stretch-s-requires-in-New t c =
+pub stretch-s-requires-in-Some : goal.stretch-s-requires-in-Some
+stretch-s-requires-in-Some t c =
     (c.loop-s-test.true, c.loop-s.invariant.5)
 
 pub loop-s-smaller : goal.loop-s-smaller
 loop-s-smaller t c =
-    omega (arith, c.loop-s-test.true, c.stretch-s-in-New.ensures.scanned.from)
+    omega (arith, c.loop-s-test.true, c.stretch-s-in-Some.ensures.scanned.from)
 
 pub loop-s-preserved : goal.loop-s-preserved
 loop-s-preserved t c = (
   turn_stretch c.args.depth c.loop-s.s
-      (turn_new c.args.depth c.loop-s.invariant.0 c.child_at.result c.loop-s-test.true c.child_at.ensures c.meet.ensures c.if-depth-eq0.false c.in-New.is
+      (turn_new c.args.depth c.loop-s.invariant.0 c.child_at.result c.loop-s-test.true c.child_at.ensures c.meet.ensures c.if-depth-eq0.false c.in-Some.is
       c.mark_below.ensures.0 c.mark_below.auto.marks)
-      c.mark_below.ensures.1 c.stretch-s-in-New.ensures.scanned,
-  keeps_stretch c.mark_below.ensures.1 c.stretch-s-in-New.ensures,
+      c.mark_below.ensures.1 c.stretch-s-in-Some.ensures.scanned,
+  keeps_stretch c.mark_below.ensures.1 c.stretch-s-in-Some.ensures,
   c.mark_below.auto.cache ∙ (c.meet.auto.cache ∙ c.loop-s.invariant.2),
   c.mark_below.auto.seen ∙ (c.meet.auto.seen ∙ c.loop-s.invariant.3),
-  c.stretch-s-in-New.auto.skip ∙ (c.mark_below.auto.skip ∙ (c.pass-far.auto.skip ∙ c.loop-s.invariant.4)),
+  c.stretch-s-in-Some.auto.skip ∙ (c.mark_below.auto.skip ∙ (c.pass-far.auto.skip ∙ c.loop-s.invariant.4)),
   c.loop-s.invariant.5,
 )
 
@@ -115,6 +115,6 @@ shape_of-skip t c = c.loop-s.invariant.4
 
 pub returns : goal.returns
 returns t c = (
-  turn_end c.loop-s.invariant.0 (omega (arith, c.loop-s-test.false)) ∙ below_kind _ c.requires.0 c.held_at.ensures _ _ c.in-Is.is,
+  turn_end c.loop-s.invariant.0 (omega (arith, c.loop-s-test.false)) ∙ below_kind _ c.requires.0 c.held_at.ensures _ _ c.in-Some.is,
   c.loop-s.invariant.1,
 )

@@ -3,4 +3,4 @@
 use Rattle.roots.proofs.find.Goals as goal
 
 pub returns : goal.returns
-returns c = c.near.ensures.found _ c.in-Is.is
+returns c = c.near.ensures.found _ c.in-Some.is

@@ -5,5 +5,5 @@ use Rattle.roots.proofs.find_kept.Goals as goal
 
 pub returns : goal.returns
 returns c =
-    let own = rooted_kept _ c.requires.1 c.kept.ensures c.in-Is.is in
+    let own = rooted_kept _ c.requires.1 c.kept.ensures c.in-Some.is in
     (found_flip c.args.t c.idx.ensures c.inv.ensures own c.invert_if.ensures, c.requires.1)

@@ -4,4 +4,4 @@ use Rattle.roots.proofs.Laws.{near_left}
 use Rattle.roots.proofs.find_mut.Goals as goal
 
 pub returns : goal.returns
-returns c = near_left _ c.requires c.near.ensures c.in-Is.is
+returns c = near_left _ c.requires c.near.ensures c.in-Some.is

@@ -10,8 +10,8 @@ top_by-requires c =
 
 pub keep_path-requires : goal.keep_path-requires
 keep_path-requires c =
-    (c.requires.0, (c.requires.1, c.top_by.ensures.told _ c.in-Is.is))
+    (c.requires.0, (c.requires.1, c.top_by.ensures.told _ c.in-Some.is))
 
 pub returns : goal.returns
 returns c =
-    (found_flip c.args.t c.idx-i.ensures c.inv.ensures (c.top_by.ensures.told _ c.in-Is.is) c.invert_if.ensures, c.keep_path.ensures)
+    (found_flip c.args.t c.idx-i.ensures c.inv.ensures (c.top_by.ensures.told _ c.in-Some.is) c.invert_if.ensures, c.keep_path.ensures)

@@ -8,9 +8,9 @@ use Rattle.roots.proofs.top_by.Goals as goal
 pub loop-up-init : goal.loop-up-init
 loop-up-init c = rises_start _ _ _ c.requires.1.1
 
-pub returns-in-Is : goal.returns-in-Is
-returns-in-Is c =
-    rises_kept c.loop-up.invariant _ (rooted_kept _ c.requires.1.0 c.kept.ensures c.in-Is.is) c.invert_if.ensures
+pub returns-in-Some : goal.returns-in-Some
+returns-in-Some c =
+    rises_kept c.loop-up.invariant _ (rooted_kept _ c.requires.1.0 c.kept.ensures c.in-Some.is) c.invert_if.ensures
 
 pub node_at-requires : goal.node_at-requires
 node_at-requires c = c.requires.0.room

@@ -33,19 +33,19 @@ returns-in_default t c = let pre = c.requires in
 
 pub loop-i-init : goal.loop-i-init
 loop-i-init t c = let pre = c.requires in
-    laws.run_first pre c.held_at.ensures c.in-Is.is c.put.ensures
+    laws.run_first pre c.held_at.ensures c.in-Some.is c.put.ensures
 
 pub root_of-r-requires : goal.root_of-r-requires
 root_of-r-requires t c =
     let s = c.requires in
-    let run = laws.in_run s.falls s.node c.held_at.ensures c.in-Is.is c.loop-i.invariant.low c.loop-i-test.true in
+    let run = laws.in_run s.falls s.node c.held_at.ensures c.in-Some.is c.loop-i.invariant.low c.loop-i-test.true in
     laws.kid_known s.falls s.node run c.kid_at.ensures
 
 pub visit-requires : goal.visit-requires
 visit-requires t c =
     let p = c.requires in
     let inv = c.loop-i.invariant in
-    let run = laws.in_run p.falls p.node c.held_at.ensures c.in-Is.is inv.low c.loop-i-test.true in
+    let run = laws.in_run p.falls p.node c.held_at.ensures c.in-Some.is inv.low c.loop-i-test.true in
     let kid = c.root_of-r.ensures ∙ ap (root_of c.args.roots.now) c.kid_at.ensures in
     let new = sym c.at-mark.ensures ∙ c.if-mark-ne0.false in
     let less = laws.fresh_less _ _ p.marked (laws.mark_small p) (laws.passed_from _ _ c.put.ensures inv) p.node new in
@@ -55,7 +55,7 @@ pub returns-then-not-visit : goal.returns-then-not-visit
 returns-then-not-visit t c =
     let p = c.requires in
     let inv = c.loop-i.invariant in
-    let run = laws.in_run p.falls p.node c.held_at.ensures c.in-Is.is inv.low c.loop-i-test.true in
+    let run = laws.in_run p.falls p.node c.held_at.ensures c.in-Some.is inv.low c.loop-i-test.true in
     let kid = c.root_of-r.ensures ∙ ap (root_of c.args.roots.now) c.kid_at.ensures in
     laws.visit_failed _ _ p.marked (laws.mark_small p) (laws.passed_from _ _ c.put.ensures inv) run kid c.if-not-visit.true c.visit.ensures
 
@@ -77,5 +77,5 @@ put-requires-2 t c = let pre = c.requires in
 pub returns : goal.returns
 returns t c = let p = c.requires in
     let inv = laws.passed_from _ _ c.put.ensures c.loop-i.invariant in
-    let all = laws.run_done p.falls p.node c.held_at.ensures c.in-Is.is c.loop-i-test.false in
+    let all = laws.run_done p.falls p.node c.held_at.ensures c.in-Some.is c.loop-i-test.false in
     laws.visited_to _ _ c.put-2.ensures (laws.visit_passed _ _ p.marked (laws.mark_small p) inv (laws.kids_closed p.falls) p.node all)

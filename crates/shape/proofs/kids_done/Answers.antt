@@ -29,7 +29,7 @@ pub at-root_more-requires : goal.at-root_more-requires
 at-root_more-requires c = let falls = c.requires.visits.falls in
     let node = c.requires.visits.node in
     let held = c.held_at.ensures in
-    let is = c.in-Is.is in
+    let is = c.in-Some.is in
     let run = laws.in_run falls node held is (laws.run_low falls node held is c.loop-i.invariant.low) c.loop-i-test.true in
     (laws.kid_known falls node run c.kid_at.ensures).0
 
@@ -41,7 +41,7 @@ at-requires c = let asked = c.requires.visits in
     let falls = asked.falls in
     let node = asked.node in
     let held = c.held_at.ensures in
-    let is = c.in-Is.is in
+    let is = c.in-Some.is in
     let passed = c.loop-i.invariant in
     let run = laws.in_run falls node held is (laws.run_low falls node held is passed.low) c.loop-i-test.true in
     laws.root_marked falls node run c.kid_at.ensures c.at-root_more.ensures
@@ -60,7 +60,7 @@ loop-i-preserved-else-at-ne-DONE c = let asked = c.requires.visits in
     let falls = asked.falls in
     let node = asked.node in
     let held = c.held_at.ensures in
-    let is = c.in-Is.is in
+    let is = c.in-Some.is in
     let passed = c.loop-i.invariant in
     let run = laws.in_run falls node held is (laws.run_low falls node held is passed.low) c.loop-i-test.true in
     let root = laws.kid_root falls node run c.kid_at.ensures c.at-root_more.ensures in
@@ -76,7 +76,7 @@ loop-i-preserved c = let tries = c.requires in
     let falls = asked.falls in
     let node = asked.node in
     let held = c.held_at.ensures in
-    let is = c.in-Is.is in
+    let is = c.in-Some.is in
     let passed = c.loop-i.invariant in
     let run = laws.in_run falls node held is (laws.run_low falls node held is passed.low) c.loop-i-test.true in
     let lower = laws.kid_before falls node run c.kid_at.ensures c.at-root_more.ensures c.if-v-root_more.false in
@@ -85,4 +85,4 @@ loop-i-preserved c = let tries = c.requires in
 pub returns : goal.returns
 returns c = let asked = c.requires.visits in
     let held = c.held_at.ensures in
-    laws.run_ended asked.falls asked.node held c.in-Is.is c.loop-i.invariant c.loop-i-test.false
+    laws.run_ended asked.falls asked.node held c.in-Some.is c.loop-i.invariant c.loop-i-test.false

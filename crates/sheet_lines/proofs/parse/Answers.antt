@@ -9,7 +9,7 @@ use lib.ListN.{take}
 use lib.Seq.{length-take-le}
 use Rattle.scope.specs.Types.{ty_of}
 use Rattle.sheet_lines.specs.Meaning.{count_means}
-use Rattle.sheet_lines.specs.declared.TypeCount.{TypeCount}
+use Rattle.sheet_lines.specs.Meaning.{TypeCount}
 use Rattle.sheet_lines.proofs.Laws as laws
 use Rattle.sheet_lines.proofs.parse.Goals as goal
 
@@ -43,7 +43,7 @@ pub line_of-requires : goal.line_of-requires
 line_of-requires c = let f = c.types_from.ensures.fits in
     let l = c.types_from.auto.out in
     let room = c.requires in
-    (rw c.in-Are.is at f, omega (arith, l, room))
+    (rw c.in-Some.is at f, omega (arith, l, room))
 
 pub returns : goal.returns
 returns c = let line = c.args.line.now in
@@ -52,6 +52,6 @@ returns c = let line = c.args.line.now in
     let p = c.next_place-e.ensures in
     let out = c.types_from.new.out in
     let ts = c.types_from.ensures.means in
-    let n = c.in-Are.n in
-    let t = ap (λ (r : TypeCount). count_means r out) (sym c.in-Are.is) ∙ ts in
+    let n = c.in-Some.n in
+    let t = ap (λ (r : TypeCount). count_means r out) (sym c.in-Some.is) ∙ ts in
     laws.parsed_like c.line_of.ensures (laws.parse_of line e (some (map ty_of (take n out))) h p t)

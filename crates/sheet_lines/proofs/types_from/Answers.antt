@@ -90,8 +90,8 @@ loop-at-preserved c = let line = c.args.line.now in
     let e = c.next_place-e.result in
     let h = c.loop-at-test.true in
     let p = c.next_place-e.ensures in
-    let k = ap word_means (sym c.in-Is.is) ∙ c.type_of.ensures in
-    let v = c.in-Is.t.0 in (
+    let k = ap word_means (sym c.in-Some.is) ∙ c.type_of.ensures in
+    let v = c.in-Some.t.0 in (
       length-set c.loop-at.out c.loop-at.n v ∙ c.loop-at.invariant.0,
       omega (arith, laws.turn_longer line c.loop-at.at e h p k),
       omega (arith, pre.short),

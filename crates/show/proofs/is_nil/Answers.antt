@@ -15,8 +15,8 @@ returns-in_default c =
 
 pub returns-then-kind-eq-TUPLE : goal.returns-then-kind-eq-TUPLE
 returns-then-kind-eq-TUPLE c =
-    (nil_is c.find_by.ensures.0 c.idx-root.ensures c.held_at.ensures c.in-Is.is (rw (eq-eqb _ _ c.if-kind-eq-TUPLE.true)), c.find_by.ensures.1)
+    (nil_is c.find_by.ensures.0 c.idx-root.ensures c.held_at.ensures c.in-Some.is (rw (eq-eqb _ _ c.if-kind-eq-TUPLE.true)), c.find_by.ensures.1)
 
 pub returns : goal.returns
 returns c =
-    (nil_is c.find_by.ensures.0 c.idx-root.ensures c.held_at.ensures c.in-Is.is (rw (ne_eqb _ _ c.if-kind-eq-TUPLE.false)), c.find_by.ensures.1)
+    (nil_is c.find_by.ensures.0 c.idx-root.ensures c.held_at.ensures c.in-Some.is (rw (ne_eqb _ _ c.if-kind-eq-TUPLE.false)), c.find_by.ensures.1)

@@ -31,10 +31,10 @@ returns-in_default-fn_params c = let a = c.args in
     ) c.show_trait.ensures
 
 pub bounds-xs-0 : goal.bounds-xs-0
-bounds-xs-0 c = omega (arith, form_length c.fn_params.ensures c.in-Is.is)
+bounds-xs-0 c = omega (arith, form_length c.fn_params.ensures c.in-Some.is)
 
 pub bounds-xs-2 : goal.bounds-xs-2
-bounds-xs-2 c = omega (arith, form_length c.fn_params.ensures c.in-Is.is)
+bounds-xs-2 c = omega (arith, form_length c.fn_params.ensures c.in-Some.is)
 
 pub show_fn-requires : goal.show_fn-requires
 show_fn-requires c = c.requires
@@ -45,5 +45,5 @@ returns c = let a = c.args in
     let e = env_of a.chart.now a.beside a.rule.now a.text.now in
     rw (
       c.in-Trait.is,
-      impl_fn e c.requires a.xs.now c.fn_params.ensures c.in-Is.is,
+      impl_fn e c.requires a.xs.now c.fn_params.ensures c.in-Some.is,
     ) c.show_fn.ensures

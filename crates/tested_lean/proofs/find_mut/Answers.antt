@@ -20,11 +20,11 @@ pub find_mut-requires : goal.find_mut-requires
 find_mut-requires c =
     find_linked c.args.t c.inside_refusal-code.ensures c.if-code-ne-NO_REFUSAL.false c.nodes_made-n.ensures c.requires
 
-pub returns-in-Is : goal.returns-in-Is
-returns-in-Is c =
+pub returns-in-Some : goal.returns-in-Some
+returns-in-Some c =
     let linked = find_linked c.args.t c.inside_refusal-code.ensures c.if-code-ne-NO_REFUSAL.false c.nodes_made-n.ensures c.requires in
-    mut_done c.args.t c.inside_refusal-code.ensures c.if-code-ne-NO_REFUSAL.false c.nodes_made-n.ensures (near_mut linked c.near.ensures c.in-Is.is)
+    mut_done c.args.t c.inside_refusal-code.ensures c.if-code-ne-NO_REFUSAL.false c.nodes_made-n.ensures (near_mut linked c.near.ensures c.in-Some.is)
 
-pub returns-in-Far : goal.returns-in-Far
-returns-in-Far c =
+pub returns-in-None : goal.returns-in-None
+returns-in-None c =
     mut_done c.args.t c.inside_refusal-code.ensures c.if-code-ne-NO_REFUSAL.false c.nodes_made-n.ensures c.find_mut.ensures

@@ -7,8 +7,8 @@ use Rattle.tested_lean.proofs.once_refusal.Goals as goal
 pub enum_told-1 : goal.enum_told-1
 enum_told-1 c = search rules
 
-pub returns-in-Is : goal.returns-in-Is
-returns-in-Is c = λ ws ks. rw c.in-Is.is (none_left c.requires ws ks)
+pub returns-in-Some : goal.returns-in-Some
+returns-in-Some c = λ ws ks. rw c.in-Some.is (none_left c.requires ws ks)
 
-pub returns-in-Nothing : goal.returns-in-Nothing
-returns-in-Nothing c = λ ws ks. rw c.in-Nothing.is (c.node_refusal.ensures ws ks)
+pub returns-in-None : goal.returns-in-None
+returns-in-None c = λ ws ks. rw c.in-None.is (c.node_refusal.ensures ws ks)

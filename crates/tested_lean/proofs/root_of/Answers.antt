@@ -2,9 +2,9 @@
 -- Assumes nothing.
 use Rattle.tested_lean.proofs.root_of.Goals as goal
 
-pub returns-in-Is : goal.returns-in-Is
-returns-in-Is c =
-    c.near.ensures.found _ c.in-Is.is
+pub returns-in-Some : goal.returns-in-Some
+returns-in-Some c =
+    c.near.ensures.found _ c.in-Some.is
 
-pub returns-in-Far : goal.returns-in-Far
-returns-in-Far c = c.find.ensures
+pub returns-in-None : goal.returns-in-None
+returns-in-None c = c.find.ensures

@@ -30,13 +30,13 @@ unify_objects-seek_near-f-requires t c = (c.requires.1.0.second, c.requires.1.1)
 pub unify_objects-quick-requires : goal.unify_objects-quick-requires
 unify_objects-quick-requires t c =
     quick_adds (object_asks
-    (object_pair c.loop-j.invariant.2 c.loop-j-test.true c.kid_name.ensures c.seek_near-f.ensures c.in-Is.is c.kid-x.ensures c.invert_if-u.ensures))
+    (object_pair c.loop-j.invariant.2 c.loop-j-test.true c.kid_name.ensures c.seek_near-f.ensures c.in-Some.is c.kid-x.ensures c.invert_if-u.ensures))
 
 pub unify_objects-unify_pair-requires : goal.unify_objects-unify_pair-requires
 unify_objects-unify_pair-requires t c = (
   omega arith,
   quick_asked (object_asks
-      (object_pair c.loop-j.invariant.2 c.loop-j-test.true c.kid_name.ensures c.seek_near-f.ensures c.in-Is.is c.kid-x.ensures c.invert_if-u.ensures))
+      (object_pair c.loop-j.invariant.2 c.loop-j-test.true c.kid_name.ensures c.seek_near-f.ensures c.in-Some.is c.kid-x.ensures c.invert_if-u.ensures))
       c.quick.ensures c.if-not-quick.true,
 )
 
@@ -45,14 +45,14 @@ unify_objects-loop-j-preserved-then-not-quick t c = (
   search rules,
   search rules,
   object_next
-      (object_pair c.loop-j.invariant.2 c.loop-j-test.true c.kid_name.ensures c.seek_near-f.ensures c.in-Is.is c.kid-x.ensures c.invert_if-u.ensures)
+      (object_pair c.loop-j.invariant.2 c.loop-j-test.true c.kid_name.ensures c.seek_near-f.ensures c.in-Some.is c.kid-x.ensures c.invert_if-u.ensures)
       (quick_not c.quick.ensures c.if-not-quick.true c.unify_pair.ensures) c.and-r.ensures,
 )
 
 pub unify_objects-loop-j-preserved-else-not-quick : goal.unify_objects-loop-j-preserved-else-not-quick
 unify_objects-loop-j-preserved-else-not-quick t c =
     let next =
-    object_pair c.loop-j.invariant.2 c.loop-j-test.true c.kid_name.ensures c.seek_near-f.ensures c.in-Is.is c.kid-x.ensures c.invert_if-u.ensures in (
+    object_pair c.loop-j.invariant.2 c.loop-j-test.true c.kid_name.ensures c.seek_near-f.ensures c.in-Some.is c.kid-x.ensures c.invert_if-u.ensures in (
       search rules,
       search rules,
       object_next next (quick_merged (object_asks next) c.quick.ensures c.if-not-quick.false) (both_success _),
@@ -62,7 +62,7 @@ pub unify_objects-loop-j-preserved : goal.unify_objects-loop-j-preserved
 unify_objects-loop-j-preserved t c = (
   c.loop-j.invariant.0,
   c.loop-j.invariant.1,
-  object_none c.loop-j.invariant.2 c.loop-j-test.true c.kid_name.ensures c.seek_near-f.ensures c.in-Nothing.is c.and-r-in-Nothing.ensures,
+  object_none c.loop-j.invariant.2 c.loop-j-test.true c.kid_name.ensures c.seek_near-f.ensures c.in-None.is c.and-r-in-None.ensures,
 )
 
 pub unify_objects-returns : goal.unify_objects-returns

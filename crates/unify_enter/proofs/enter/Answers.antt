@@ -44,25 +44,25 @@ look-known-requires c = (climbed c.requires c.if-depth-eq0.false c.visited.ensur
 
 -- the roots have met
 
-pub walk_pair-requires-in-Walk : goal.walk_pair-requires-in-Walk
-walk_pair-requires-in-Walk c =
-    walk_asks (at_roots (climbed c.requires c.if-depth-eq0.false c.visited.ensures c.find-ra.ensures c.find-rb.ensures) c.meet-m.ensures) c.in-Walk.is
+pub walk_pair-requires-in-None : goal.walk_pair-requires-in-None
+walk_pair-requires-in-None c =
+    walk_asks (at_roots (climbed c.requires c.if-depth-eq0.false c.visited.ensures c.find-ra.ensures c.find-rb.ensures) c.meet-m.ensures) c.in-None.is
 
 pub in_steps-requires : goal.in_steps-requires
 in_steps-requires c =
     kids_spans (at_roots (climbed c.requires c.if-depth-eq0.false c.visited.ensures c.find-ra.ensures c.find-rb.ensures) c.meet-m.ensures) c.in-Kids.is
 
-pub returns-in-Walk : goal.returns-in-Walk
-returns-in-Walk c =
-    way_walk (at_roots (climbed c.requires c.if-depth-eq0.false c.visited.ensures c.find-ra.ensures c.find-rb.ensures) c.meet-m.ensures) c.in-Walk.is
-    c.walk_pair-in-Walk.ensures
+pub returns-in-None : goal.returns-in-None
+returns-in-None c =
+    way_walk (at_roots (climbed c.requires c.if-depth-eq0.false c.visited.ensures c.find-ra.ensures c.find-rb.ensures) c.meet-m.ensures) c.in-None.is
+    c.walk_pair-in-None.ensures
 
-pub returns-in-Is : goal.returns-in-Is
-returns-in-Is c =
+pub returns-in-Some : goal.returns-in-Some
+returns-in-Some c =
     way_known (at_roots (climbed c.requires c.if-depth-eq0.false c.visited.ensures c.find-ra.ensures c.find-rb.ensures) c.meet-m.ensures)
-    c.look-known.ensures c.in-Is.is
+    c.look-known.ensures c.in-Some.is
 
-pub returns-in-Nothing : goal.returns-in-Nothing
-returns-in-Nothing c =
+pub returns-in-None : goal.returns-in-None
+returns-in-None c =
     way_on (at_roots (climbed c.requires c.if-depth-eq0.false c.visited.ensures c.find-ra.ensures c.find-rb.ensures) c.meet-m.ensures) c.in-Kids.is
     c.in_steps.ensures c.clock.ensures

@@ -34,15 +34,15 @@ use Rattle.marks.specs.Marks.{Said}
 use Rattle.recall.specs.Memory.{Tidy, Forgot, WalkNoted}
 use Rattle.recall.specs.Places.{Told}
 use Rattle.recall.proofs.Laws.{marked_clock, marked_tidy}
-use Rattle.recall.specs.declared.Recalled.{Recalled}
-use Rattle.recall.specs.declared.Recalled.TheVariants.{Is}
+use Rattle.recall.specs.Places.{Recalled}
+use Rattle.std.specs.Prelude.{Some}
 use Rattle.heed.specs.Recalls.{SelfAt, Recalls}
 use Rattle.heed.proofs.Laws.{since_same, recalls_moved, moved_forgot, moved_marked, SelfsKept, marks_kept, marks_fewer}
 use Rattle.merge.specs.Meaning.{Bound}
 use Rattle.meeting.specs.Asks.{SoundWords, Tops}
 use Rattle.meeting.specs.Meets.{walks, walked_by, WalkedTo}
-use Rattle.meeting.specs.declared.Walked.{Walked}
-use Rattle.meeting.specs.declared.Walked.TheVariants.{Done, Bind}
+use Rattle.meeting.specs.Meets.{Walked}
+use Rattle.std.specs.Prelude.{Some, None}
 use Rattle.own_inverse.specs.Own.{OwnAsks, OwnTold}
 use Rattle.unify_enter.specs.Walk.{Childless, WalkAsks, WalkTold}
 use Rattle.unify_enter.proofs.walks.Kept.{pair_selfs}
@@ -122,7 +122,7 @@ module _ {ws ks m : List ℕ} {n : ℕ} {a b : Ty} (asks : WalkAsks ws ks m n a 
     recalls = λ y h g. recalls_moved g (moved_forgot f) (marks_kept (walk_selfs ws' Success e) f.marks g.marks);
   }
 
-  pub walk_binds : {w : Walked} {ws' m' : List ℕ} → WalkedTo ws ks n a b w → w ≡ Bind → Bound ws ws' n a b → Forgot m m' → WalkTold ws ks m ws' m' n a b Success
+  pub walk_binds : {w : Walked} {ws' m' : List ℕ} → WalkedTo ws ks n a b w → w ≡ None → Bound ws ws' n a b → Forgot m m' → WalkTold ws ks m ws' m' n a b Success
   walk_binds o e v f =
       walk_merged v f (o.same ∙ (ap (walked_by ns a b) e ∙ ap (λ (l : List Node). out l answers.Success) (sym (v.nodes ks words.children words.clean))))
 
@@ -175,7 +175,7 @@ module _ {ws ks m : List ℕ} {n : ℕ} {a b : Ty} (asks : WalkAsks ws ks m n a 
 -- a pair in words: what the memory tells is what a walk would give, and what a walk gave is so
 
 module _ {ws ks m : List ℕ} {n a b : ℕ} (asks : WalkAsks ws ks m n (ty_of a) (ty_of b)) where
-  pub walk_told : {t : Recalled} {r : UnifyResult} → Told m a b t → t ≡ Is r → WalkTold ws ks m ws m n (ty_of a) (ty_of b) r
+  pub walk_told : {t : Recalled} {r : UnifyResult} → Told m a b t → t ≡ Some r → WalkTold ws ks m ws m n (ty_of a) (ty_of b) r
   walk_told {r = r} f e =
       walk_still asks (sym (asks.meets (unify_f asks.roots.lent n n)) ∙ (asks.recalls.true a b r (f.believed r e)).same)
 
@@ -188,7 +188,7 @@ module _ {ws ks m : List ℕ} {n a b : ℕ} (asks : WalkAsks ws ks m n (ty_of a)
     marks = marks_fewer k.marks g.marks;
   }
 
-  pub walk_done : {w : Walked} {m' : List ℕ} {r : UnifyResult} → WalkedTo ws ks n (ty_of a) (ty_of b) w → w ≡ Done r → WalkNoted m m' a b r
+  pub walk_done : {w : Walked} {m' : List ℕ} {r : UnifyResult} → WalkedTo ws ks n (ty_of a) (ty_of b) w → w ≡ Some r → WalkNoted m m' a b r
       → WalkTold ws ks m ws m' n (ty_of a) (ty_of b) r
   walk_done {r = r} o e k = record {
     leaves = record { same = same; clean = λ c cl. cl; tail = refl };

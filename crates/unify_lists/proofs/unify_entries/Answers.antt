@@ -29,14 +29,14 @@ seek-f-requires c = omega (arith, c.entries-nb.ensures)
 
 pub unify-requires : goal.unify-requires
 unify-requires c =
-    object_asks (object_pair c.loop-j.invariant.2 c.loop-j-test.true c.kid_name.ensures c.seek-f.ensures c.in-Is.is c.kid-x.ensures c.invert_if.ensures)
+    object_asks (object_pair c.loop-j.invariant.2 c.loop-j-test.true c.kid_name.ensures c.seek-f.ensures c.in-Some.is c.kid-x.ensures c.invert_if.ensures)
 
-pub loop-j-preserved-in-Is : goal.loop-j-preserved-in-Is
-loop-j-preserved-in-Is c = (
+pub loop-j-preserved-in-Some : goal.loop-j-preserved-in-Some
+loop-j-preserved-in-Some c = (
   search rules,
   search rules,
   object_next
-      (object_pair c.loop-j.invariant.2 c.loop-j-test.true c.kid_name.ensures c.seek-f.ensures c.in-Is.is c.kid-x.ensures c.invert_if.ensures)
+      (object_pair c.loop-j.invariant.2 c.loop-j-test.true c.kid_name.ensures c.seek-f.ensures c.in-Some.is c.kid-x.ensures c.invert_if.ensures)
       c.unify.ensures c.and-r.ensures,
 )
 
@@ -44,8 +44,8 @@ pub loop-j-preserved : goal.loop-j-preserved
 loop-j-preserved c = (
   c.loop-j.invariant.0,
   c.loop-j.invariant.1,
-  object_none c.loop-j.invariant.2 c.loop-j-test.true c.kid_name.ensures c.seek-f.ensures c.in-Nothing.is
-      c.and-r-in-Nothing.ensures,
+  object_none c.loop-j.invariant.2 c.loop-j-test.true c.kid_name.ensures c.seek-f.ensures c.in-None.is
+      c.and-r-in-None.ensures,
 )
 
 pub returns : goal.returns

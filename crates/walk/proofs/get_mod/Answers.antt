@@ -27,17 +27,17 @@ returns-in_default c =
 pub returns-then-kind-ne-REF : goal.returns-then-kind-ne-REF
 returns-then-kind-ne-REF c =
     let h = c.loop-left-test.true in
-    looks_kind c.loop-left.invariant c.requires (omega arith) (root_is c.find.ensures c.idx-root.ensures _) c.held_at.ensures c.in-Is.is c.if-kind-ne-REF.true c.mod_of.ensures
+    looks_kind c.loop-left.invariant c.requires (omega arith) (root_is c.find.ensures c.idx-root.ensures _) c.held_at.ensures c.in-Some.is c.if-kind-ne-REF.true c.mod_of.ensures
 
 pub returns-then-kind-lt1 : goal.returns-then-kind-lt1
 returns-then-kind-lt1 c =
     let h = c.loop-left-test.true in
-    looks_bare c.loop-left.invariant c.requires (omega arith) (root_is c.find.ensures c.idx-root.ensures _) c.held_at.ensures c.in-Is.is c.if-kind-ne-REF.false c.if-kind-lt1.true
+    looks_bare c.loop-left.invariant c.requires (omega arith) (root_is c.find.ensures c.idx-root.ensures _) c.held_at.ensures c.in-Some.is c.if-kind-ne-REF.false c.if-kind-lt1.true
 
 pub loop-left-preserved : goal.loop-left-preserved
 loop-left-preserved c =
     let h = c.loop-left-test.true in
-    looks_on c.loop-left.invariant c.requires (omega arith) (root_is c.find.ensures c.idx-root.ensures _) c.held_at.ensures c.in-Is.is c.child_of.result c.if-kind-ne-REF.false
+    looks_on c.loop-left.invariant c.requires (omega arith) (root_is c.find.ensures c.idx-root.ensures _) c.held_at.ensures c.in-Some.is c.child_of.result c.if-kind-ne-REF.false
     (omega (arith, c.if-kind-lt1.false)) c.child_of.ensures
 
 pub returns : goal.returns

@@ -6,8 +6,8 @@ use Rattle.walk.proofs.is_leaf.Goals as goal
 pub enum_told-1 : goal.enum_told-1
 enum_told-1 c = search rules
 
-pub returns-in-Is : goal.returns-in-Is
-returns-in-Is c = rw (← c.held_at.ensures, c.in-Is.is)
+pub returns-in-Some : goal.returns-in-Some
+returns-in-Some c = rw (← c.held_at.ensures, c.in-Some.is)
 
-pub returns-in-Nothing : goal.returns-in-Nothing
-returns-in-Nothing c = rw (← c.held_at.ensures, c.in-Nothing.is)
+pub returns-in-None : goal.returns-in-None
+returns-in-None c = rw (← c.held_at.ensures, c.in-None.is)

@@ -24,7 +24,7 @@ pub returns-then-i-x : goal.returns-then-i-x
 returns-then-i-x c =
     looked_met
     (left_yes c.loop-j.invariant c.child_of.result c.loop-j-test.true c.child_of.ensures
-    (kid_met _ (ty_of c.child_of.result.ty.0) c.requires.1 (root_is (c.near.ensures.found _ c.in-Is.is) c.idx-i.ensures _) c.if-i-x.true))
+    (kid_met _ (ty_of c.child_of.result.ty.0) c.requires.1 (root_is (c.near.ensures.found _ c.in-Some.is) c.idx-i.ensures _) c.if-i-x.true))
 
 pub is_leaf-requires : goal.is_leaf-requires
 is_leaf-requires c = c.requires.0.clean.room
@@ -39,7 +39,7 @@ pub loop-j-preserved : goal.loop-j-preserved
 loop-j-preserved c =
     left_no c.loop-j.invariant c.child_of.result c.loop-j-test.true c.child_of.ensures
     (kid_leaf (ty_of c.child_of.result.ty.0) c.requires.0 c.requires.1
-    (root_is (c.near.ensures.found _ c.in-Is.is) c.idx-i.ensures _) c.if-i-x.false
+    (root_is (c.near.ensures.found _ c.in-Some.is) c.idx-i.ensures _) c.if-i-x.false
     c.is_leaf.ensures c.if-not-is_leaf.false)
 
 pub returns : goal.returns

@@ -20,7 +20,7 @@ returns-in_default c =
 
 pub returns-then-kind-eq0 : goal.returns-then-kind-eq0
 returns-then-kind-eq0 c =
-    occurs_none c.requires c.idx-root.ensures c.if-root-x.false c.held_at.ensures c.in-Is.is (kid_none c.args.ks.now _ 0 (omega (arith, c.if-kind-eq0.true)))
+    occurs_none c.requires c.idx-root.ensures c.if-root-x.false c.held_at.ensures c.in-Some.is (kid_none c.args.ks.now _ 0 (omega (arith, c.if-kind-eq0.true)))
 
 pub look-requires : goal.look-requires
 look-requires c =
@@ -28,8 +28,8 @@ look-requires c =
 
 pub returns-in-Met : goal.returns-in-Met
 returns-in-Met c =
-    occurs_met c.requires c.idx-root.ensures c.if-root-x.false c.held_at.ensures c.in-Is.is c.look.ensures c.in-Met.is
+    occurs_met c.requires c.idx-root.ensures c.if-root-x.false c.held_at.ensures c.in-Some.is c.look.ensures c.in-Met.is
 
 pub returns-in-Clear : goal.returns-in-Clear
 returns-in-Clear c =
-    occurs_clear c.requires c.idx-root.ensures c.if-root-x.false c.held_at.ensures c.in-Is.is c.look.ensures c.in-Clear.is
+    occurs_clear c.requires c.idx-root.ensures c.if-root-x.false c.held_at.ensures c.in-Some.is c.look.ensures c.in-Clear.is

@@ -27,10 +27,10 @@ pub look-known-requires : goal.look-known-requires
 look-known-requires c =
     c.requires.roots.tops.pair.words.small
 
-pub returns-in-Is : goal.returns-in-Is
-returns-in-Is c =
+pub returns-in-Some : goal.returns-in-Some
+returns-in-Some c =
     small_walk_not c.small.ensures c.if-small.false
-    (walk_told (small_walk_asks c.requires c.small.ensures c.if-small.false) c.look-known.ensures c.in-Is.is)
+    (walk_told (small_walk_asks c.requires c.small.ensures c.if-small.false) c.look-known.ensures c.in-Some.is)
 
 pub ask-requires : goal.ask-requires
 ask-requires c =
