@@ -7,7 +7,7 @@ ghost use Rattle.names.specs.Place.{texts, name_of, PIECE};
 use scope::MAX_NAME;
 
 // text 0 is the rule text, any other number the chart text.
-#[derive(Clone, Copy)]
+#[derive(Clone, Copy, Debug, PartialEq, Eq)]
 pub struct Name {
     pub text: u32,
     pub start: u32,

@@ -8,19 +8,19 @@ ghost use Rattle.scope.specs.Answers.{both, of_bool};
 ghost use Rattle.types.specs.Answers.{answer_of, number_of};
 
 // A type variable, or its inverse: the high bit denotes the inverse, and the remaining bits are a TypeIdx.
-#[derive(Clone, Copy)]
+#[derive(Clone, Copy, Debug, PartialEq, Eq)]
 pub struct Type(pub u32);
 
-#[derive(Clone, Copy)]
+#[derive(Clone, Copy, Debug, PartialEq, Eq)]
 pub struct TypeIdx(pub u32);
 
-#[derive(Clone, Copy)]
+#[derive(Clone, Copy, Debug, PartialEq, Eq)]
 pub struct Inverted(pub bool);
 
 pub const INV_BIT: u32 = 0x8000_0000;
 
 // An impl type whose types are lent beside it: a trait, by its number, or an error.
-#[derive(Clone, Copy)]
+#[derive(Clone, Copy, Debug, PartialEq, Eq)]
 pub enum Impl {
     Trait(u32),
     Error,
@@ -71,7 +71,7 @@ impl Type {
     }
 }
 
-#[derive(Clone, Copy)]
+#[derive(Clone, Copy, Debug, PartialEq, Eq)]
 pub enum UnifyResult {
     Success,
     Failure,
