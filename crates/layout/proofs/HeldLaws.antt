@@ -41,7 +41,7 @@ held_told e s t = ap held_by (sym t ∙ (s ∙ ap node_state e))
 
 -- a state that holds a kind
 pub held_state : (st : TypeState) (i : Inverted) (k : Kind) → held_by st ≡ Some (i, k) → st ≡ Known i k
-held_state (Known j m) i k e = cc
+held_state (Known j m) i k e = let p : ◌≡◌ {A = Inverted × Kind} (j, m) (i, k) = cc in ap (λ (h : Inverted × Kind). Known h.0 h.1) p
 held_state (Unknown s) i k e = let z : ◌≡◌ {A = ℕ} 0 1 = cc in absurd (omega arith)
 held_state InferenceFailed i k e = let z : ◌≡◌ {A = ℕ} 0 1 = cc in absurd (omega arith)
 
