@@ -9,7 +9,7 @@ ghost use Rattle.layout.specs.declared.TypeNode.TheVariants.{Root};
 ghost use Rattle.layout.specs.declared.TypeState.TheVariants.{Unknown};
 
 use layout::{NODE_WORDS, UNKNOWN_TAG, remembered_of};
-use types::TypeIdx;
+use types::{Type, TypeIdx};
 
 pub fn nodes_made(h: &[u32]) -> u32
     requires { HEAD_WORDS ≤ length h.now }
