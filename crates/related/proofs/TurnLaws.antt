@@ -120,6 +120,11 @@ module _ (d : ℕ) (ns : List Node) {ks : List ℕ} {s₀ e : ℕ} {ms₀ ms : L
       let z : s + suc r ≡ s + 1 + r = omega arith in
       rw z (turn_pass {s = s + 1} r (pass_one c (h s (omega arith) (omega arith))) (λ x l u. h x (omega arith) (omega arith)))
 
+-- where a walk is in a run of children: what is left gives what the whole run gives, and what it keeps stands
+pub record Onward (d : ℕ) (ws ks : List ℕ) (n s₀ e : ℕ) (ms₀ cache ms seen skip : List ℕ) (s : ℕ) : Type 0 where
+  pub turn : Turn (related_f d (decode ws ks n)) ks s₀ e ms₀ ms s
+  pub keeps : Keeps ws ks n cache ms seen skip
+
 -- a slot, and those after it whose children's nodes have been told
 pub turn_stretch : (d : ℕ) {ws ks : List ℕ} {n s₀ e r : ℕ} {ms₀ cache ms seen skip : List ℕ} (s : ℕ) → Turn (related_f d (decode ws ks n)) ks s₀ e ms₀ ms (s + 1)
     → Keeps ws ks n cache ms seen skip → Scanned ks seen (s + 1) e r → Turn (related_f d (decode ws ks n)) ks s₀ e ms₀ ms r

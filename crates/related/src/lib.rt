@@ -75,15 +75,10 @@ fn mark_below(
             s += far;
         } else {
             let kid = layout::child_at(ks, s).ty;
-            match meet(ws, n, cache, marks, seen, kid) {
-                None => {
-                    s = skips::stretch(ks, seen, skip, s, end);
-                }
-                Some(next) => {
-                    mark_below(ws, ks, n, cache, marks, seen, skip, next, depth - 1);
-                    s = skips::stretch(ks, seen, skip, s, end);
-                }
+            if let Some(next) = meet(ws, n, cache, marks, seen, kid) {
+                mark_below(ws, ks, n, cache, marks, seen, skip, next, depth - 1);
             }
+            s = skips::stretch(ks, seen, skip, s, end);
         }
     }
 }
