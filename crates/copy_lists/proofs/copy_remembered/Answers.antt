@@ -1,15 +1,11 @@
 -- `copy_lists::copy_remembered` meets its contract: a type, or none.
 -- Assumes nothing.
 use Rattle.copy_lists.proofs.ListLaws.{remembered_none, remembered_copyable, remembered_one}
-use borrow.Author.Rules.{rules}
 use Rattle.copy_lists.proofs.copy_remembered.Goals as goal
 
 pub copy-requires : goal.copy-requires
 copy-requires c =
     (remembered_copyable _ c.requires.0 c.in-Some.is, c.requires.1)
-
-pub enum_told-1 : goal.enum_told-1
-enum_told-1 c = search rules
 
 pub returns-in-Some : goal.returns-in-Some
 returns-in-Some c =

@@ -4,11 +4,7 @@ use mathlib.Core.Path.{ap, sym, ◌∙◌}
 use Rattle.layout.specs.Words.{nodes_made}
 use Rattle.copy_parts.specs.Steps.{ended}
 use Rattle.copy_parts.proofs.StepLaws.{end_room, end_known}
-use borrow.Author.Rules.{rules}
 use Rattle.copy_parts.proofs.end.Goals as goal
-
-pub enum_told-1 : goal.enum_told-1
-enum_told-1 c = search rules
 
 pub returns-in_default : goal.returns-in_default
 returns-in_default c =

@@ -3,11 +3,7 @@
 use mathlib.Core.Path.{refl, sym, ◌∙◌}
 use Rattle.layout.specs.declared.TypeState.TheVariants.{Known, Unknown, InferenceFailed}
 use Rattle.copy_parts.proofs.PlaceLaws.{place_read, become_unknown, become_failed}
-use borrow.Author.Rules.{rules}
 use Rattle.copy_parts.proofs.state_place.Goals as goal
-
-pub enum_told-1 : goal.enum_told-1
-enum_told-1 c = search rules
 
 pub returns-in-Known : goal.returns-in-Known
 returns-in-Known c =

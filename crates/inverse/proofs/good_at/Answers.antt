@@ -1,10 +1,6 @@
 -- `inverse::good_at` meets its contract: the two arms are the clauses of good_by.
 -- Assumes nothing.
-use borrow.Author.Rules.{rules}
 use Rattle.inverse.proofs.good_at.Goals as goal
-
-pub enum_told-1 : goal.enum_told-1
-enum_told-1 c = search rules
 
 pub returns-in-Some : goal.returns-in-Some
 returns-in-Some c = rw (← c.held_at.ensures, c.in-Some.is) c.good_kind.ensures

@@ -25,9 +25,6 @@ overflow_add-next c = let h = c.loop-left.invariant.near in
 pub judge-requires : goal.judge-requires
 judge-requires c = (clean_linked _ _ _ _ c.requires.clean).room
 
-pub enum_told-1 : goal.enum_told-1
-enum_told-1 c = search rules
-
 pub returns-in-Bad : goal.returns-in-Bad
 returns-in-Bad c =
     tries_met

@@ -1,11 +1,7 @@
 -- `inverse::judge` meets its contract: what a root's kind tells without its children.
 -- Assumes nothing.
 use Rattle.inverse.proofs.RunLaws.{judges_nothing, judges_no, judges_param, judges_bare, judges_run}
-use borrow.Author.Rules.{rules}
 use Rattle.inverse.proofs.judge.Goals as goal
-
-pub enum_told-1 : goal.enum_told-1
-enum_told-1 c = search rules
 
 pub returns-in_default : goal.returns-in_default
 returns-in_default c = judges_nothing c.args.param c.held_at.ensures c.in_default.is

@@ -2,14 +2,10 @@
 -- Assumes nothing.
 use Rattle.layout.proofs.LinkLaws.{clean_linked}
 use Rattle.inverse.proofs.RunLaws.{glance_bad, glance_good, glance_run}
-use borrow.Author.Rules.{rules}
 use Rattle.inverse.proofs.quickly.Goals as goal
 
 pub find-requires : goal.find-requires
 find-requires c = clean_linked _ _ _ _ c.requires.0.clean
-
-pub enum_told-1 : goal.enum_told-1
-enum_told-1 c = search rules
 
 pub returns-in-Bad : goal.returns-in-Bad
 returns-in-Bad c =

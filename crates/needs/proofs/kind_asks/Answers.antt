@@ -1,14 +1,10 @@
 -- `needs::kind_asks` meets its contract, one law for each way out: no Param, no list, an entry, none.
 -- Assumes nothing.
-use borrow.Author.Rules.{rules}
 use Rattle.needs.proofs.RootLaws.{asks_other, asks_unlisted, asks_entry, asks_none}
 use Rattle.needs.proofs.kind_asks.Goals as goal
 
 pub returns-then-kind-ne-PARAM : goal.returns-then-kind-ne-PARAM
 returns-then-kind-ne-PARAM c = asks_other c.args.params c.args.kind c.if-kind-ne-PARAM.true
-
-pub enum_told-1 : goal.enum_told-1
-enum_told-1 c = search rules
 
 pub returns-in_default : goal.returns-in_default
 returns-in_default c =

@@ -1,12 +1,8 @@
 -- `needs::root_asks` meets its contract: it goes by the cases of what the node holds.
 -- Assumes nothing.
 use mathlib.Core.Path.{ap, sym, ◌∙◌}
-use borrow.Author.Rules.{rules}
 use Rattle.needs.specs.Roots.{asks_of}
 use Rattle.needs.proofs.root_asks.Goals as goal
-
-pub enum_told-1 : goal.enum_told-1
-enum_told-1 c = search rules
 
 pub returns-in-Some : goal.returns-in-Some
 returns-in-Some c =

@@ -1,11 +1,7 @@
 -- `own_inverse::ask` meets its contract: what a glance tells, and else what a walk beside the memory's marks does.
 -- Assumes nothing.
 use Rattle.own_inverse.proofs.Laws.{ask_not, ask_marks}
-use borrow.Author.Rules.{rules}
 use Rattle.own_inverse.proofs.ask.Goals as goal
-
-pub enum_told-1 : goal.enum_told-1
-enum_told-1 c = search rules
 
 pub returns-in-Met : goal.returns-in-Met
 returns-in-Met c = ask_not c.requires c.quickly.ensures c.in-Met.is

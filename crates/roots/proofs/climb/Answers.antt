@@ -1,7 +1,6 @@
 -- `roots::climb` meets its contract. The invariant: what is left to climb gives what the whole climb gives. The measure is the number of steps left.
 -- Assumes nothing.
 use native.Mathlib.Omega.{arith}
-use borrow.Author.Rules.{rules}
 use Rattle.roots.proofs.Laws.{climbs_start, climbs_up, climbs_root, climbs_out}
 use Rattle.roots.proofs.climb.Goals as goal
 
@@ -10,9 +9,6 @@ loop-left-init c = climbs_start _ _ _ _ c.args.t.0 c.idx-cur.ensures
 
 pub node_at-requires : goal.node_at-requires
 node_at-requires c = c.requires.room
-
-pub enum_told-1 : goal.enum_told-1
-enum_told-1 c = search rules
 
 pub returns-in_default : goal.returns-in_default
 returns-in_default c =

@@ -2,7 +2,6 @@
 -- has changed. The measure is the number of steps left.
 -- Assumes nothing.
 use native.Mathlib.Omega.{arith}
-use borrow.Author.Rules.{rules}
 use Rattle.roots.proofs.Laws.{points_start, points_up, points_root, points_out}
 use Rattle.roots.proofs.find_far.Goals as goal
 
@@ -11,9 +10,6 @@ loop-rest-init c = points_start _ _ _ _ _ c.requires
 
 pub node_at-requires : goal.node_at-requires
 node_at-requires c = c.loop-rest.invariant.words.linked.room
-
-pub enum_told-1 : goal.enum_told-1
-enum_told-1 c = search rules
 
 pub shape_of-ws-in_default : goal.shape_of-ws-in_default
 shape_of-ws-in_default c = c.loop-rest.invariant.words.long

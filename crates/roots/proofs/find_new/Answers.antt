@@ -2,11 +2,7 @@
 -- Assumes nothing.
 use Rattle.roots.proofs.PathLaws.{rooted_child}
 use Rattle.roots.proofs.KeptLaws.{found_root, found_flip, cached_keep}
-use borrow.Author.Rules.{rules}
 use Rattle.roots.proofs.find_new.Goals as goal
-
-pub enum_told-1 : goal.enum_told-1
-enum_told-1 c = search rules
 
 pub returns-in_default : goal.returns-in_default
 returns-in_default c =

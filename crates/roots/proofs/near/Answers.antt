@@ -1,11 +1,7 @@
 -- `roots::near` meets its contract: a root, a root's child, or neither, of which nothing is said.
 -- Assumes nothing.
 use Rattle.roots.proofs.Laws.{is_root_lem, under_root, is_far}
-use borrow.Author.Rules.{rules}
 use Rattle.roots.proofs.near.Goals as goal
-
-pub enum_told-1 : goal.enum_told-1
-enum_told-1 c = search rules
 
 pub returns-in_default : goal.returns-in_default
 returns-in_default c = is_root_lem c.idx.ensures c.node_at.ensures c.in_default.is

@@ -4,7 +4,6 @@
 use mathlib.Core.Path.{refl, sym, ◌∙◌}
 use Prim.Native.Nat.{◌-◌}
 use native.Mathlib.Omega.{arith}
-use borrow.Author.Rules.{rules}
 use Rattle.shape.proofs.Laws as laws
 use Rattle.shape.proofs.find_roots.Goals as goal
 
@@ -16,9 +15,6 @@ overflow_add-next c = omega (arith, c.requires.parents.few, c.loop-next-test.tru
 
 pub up_of-requires : goal.up_of-requires
 up_of-requires c = c.requires.parents.room
-
-pub enum_told-1 : goal.enum_told-1
-enum_told-1 c = search rules
 
 pub put-requires : goal.put-requires
 put-requires c = omega (arith, c.requires.parents.few, c.loop-next-test.true)

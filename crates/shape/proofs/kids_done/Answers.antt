@@ -5,15 +5,11 @@ use mathlib.Core.Path.{sym, ◌∙◌}
 use mathlib.Core.Bool.{false≢true}
 use Prim.Native.Nat.{◌-◌}
 use native.Mathlib.Omega.{arith}
-use borrow.Author.Rules.{rules}
 use Rattle.shape.proofs.VisitLaws as laws
 use Rattle.shape.proofs.kids_done.Goals as goal
 
 pub held_at-requires : goal.held_at-requires
 held_at-requires c = c.requires.visits.falls.room
-
-pub enum_told-1 : goal.enum_told-1
-enum_told-1 c = search rules
 
 pub returns-in_default : goal.returns-in_default
 returns-in_default c = let asked = c.requires.visits in

@@ -4,7 +4,6 @@ use mathlib.Core.Path.{sym, ◌∙◌}
 use mathlib.Core.Bool.{true}
 use Prim.Native.Nat.{◌-◌}
 use native.Mathlib.Omega.{arith}
-use borrow.Author.Rules.{rules}
 use borrow.Author.Count.{below_more}
 use Rattle.layout.proofs.Lists.{all_stop, all_done}
 use Rattle.shape.proofs.Laws as laws
@@ -45,9 +44,6 @@ loop-v-preserved-else-size-count c = let s = c.args in
     let tally = c.tally.ensures in
     let count = c.at-count.ensures ∙ tally.each c.loop-v.v l in
     (omega arith, below_more _ _ c.loop-v.invariant.1 (laws.size_root s.ws.now s.roots.now s.n c.loop-v.v up count c.if-size-count.false))
-
-pub enum_told-1 : goal.enum_told-1
-enum_told-1 c = search rules
 
 pub loop-v-smaller : goal.loop-v-smaller
 loop-v-smaller c = omega (arith, c.loop-v-test.true)

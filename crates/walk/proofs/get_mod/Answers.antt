@@ -1,7 +1,6 @@
 -- `walk::get_mod` meets its contract. The invariant: looking through the Refs that are left gives what looking through all gives. The measure is how
 -- many are left. Assumes nothing.
 use native.Mathlib.Omega.{arith}
-use borrow.Author.Rules.{rules}
 use Rattle.layout.proofs.LinkLaws.{clean_linked}
 use Rattle.related.proofs.Laws.{root_is}
 use Rattle.walk.proofs.Answers.{looks_start, looks_out, looks_none, looks_kind, looks_bare, looks_on}
@@ -15,9 +14,6 @@ find-requires c = clean_linked _ _ _ _ c.requires.clean
 
 pub held_at-requires : goal.held_at-requires
 held_at-requires c = c.requires.clean.room
-
-pub enum_told-1 : goal.enum_told-1
-enum_told-1 c = search rules
 
 pub returns-in_default : goal.returns-in_default
 returns-in_default c =

@@ -1,13 +1,9 @@
 -- `walk::nil_at` meets its contract: the two tests are nil_by's.
 -- Assumes nothing.
 use mathlib.Core.Path.{refl}
-use borrow.Author.Rules.{rules}
 use borrow.Author.Tests.{eq-eqb, ne_eqb}
 use Rattle.walk.proofs.Laws.{nil_told}
 use Rattle.walk.proofs.nil_at.Goals as goal
-
-pub enum_told-1 : goal.enum_told-1
-enum_told-1 c = search rules
 
 pub returns-in_default : goal.returns-in_default
 returns-in_default c = nil_told c.held_at.ensures c.in_default.is refl

@@ -5,14 +5,10 @@ use native.Mathlib.Omega.{arith}
 use Rattle.walk.proofs.Laws.{kid_none}
 use Rattle.walk.proofs.Answers.{occurs_is, occurs_none}
 use Rattle.walk.proofs.LookLaws.{two_nodes, occurs_met, occurs_clear}
-use borrow.Author.Rules.{rules}
 use Rattle.walk.proofs.occurs.Goals as goal
 
 pub returns-then-root-x : goal.returns-then-root-x
 returns-then-root-x c = occurs_is c.requires c.idx-root.ensures c.if-root-x.true
-
-pub enum_told-1 : goal.enum_told-1
-enum_told-1 c = search rules
 
 pub returns-in_default : goal.returns-in_default
 returns-in_default c =

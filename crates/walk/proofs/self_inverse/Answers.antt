@@ -1,14 +1,10 @@
 -- `walk::self_inverse` meets its contract: what a glance tells, and else what a walk with marks does.
 -- Assumes nothing.
 use mathlib.Core.Path.{sym}
-use borrow.Author.Rules.{rules}
 use Rattle.walk.proofs.self_inverse.Goals as goal
 
 pub quickly-requires : goal.quickly-requires
 quickly-requires c = (c.requires.walks.stands, c.requires.inside)
-
-pub enum_told-1 : goal.enum_told-1
-enum_told-1 c = search rules
 
 pub returns-in-Met : goal.returns-in-Met
 returns-in-Met c = sym (c.quickly.ensures.met c.in-Met.is)
