@@ -18,6 +18,7 @@ use kinds::{AS_CHART, CHILD_NAMES, ERROR, OWN_NAME, PARAMETER_NAMES};
 use layout::{Kind, TypeNode, TypeState};
 use names::{NO_NAME, Name};
 use scope::MAX_WIDTH;
+use types::Type;
 
 // A name that may be missing.
 fn name_or_none(n: Name, rule: &[u8], text: &[u8]) -> bool
