@@ -15,13 +15,14 @@ use Rattle.scope.specs.Nodes as nodes
 use Rattle.scope.specs.Force.{is_nil}
 use Rattle.scope.specs.Show.{render, state_pieces, pieces, show_f, show}
 use Rattle.layout.specs.Words.{slot_at, decode}
-use Rattle.layout.specs.Meaning.{slot_means, kind_means, node_means, read_at}
+use Rattle.layout.specs.Meaning.{slot_means, kind_means, state_means, node_state, node_means, read_at}
 use Rattle.layout.specs.declared.Slot.{Slot}
 use Rattle.layout.specs.declared.Kind.{Kind}
 use Rattle.layout.specs.declared.TypeState.TheVariants.{Known, Unknown, InferenceFailed}
 use Rattle.layout.specs.declared.TypeNode.{TypeNode}
 use Rattle.layout.specs.declared.TypeNode.TheVariants.{Root, Child}
 use Rattle.layout.proofs.Laws.{read_node, length_decode}
+use Rattle.layout.proofs.HeldLaws.{state_node, held_state}
 use Rattle.types.specs.declared.Inverted.{Inverted}
 use Rattle.roots.specs.Found.{Found}
 use Rattle.walk.specs.Asks.{Stands}
@@ -63,13 +64,7 @@ module _ (gap item : ℕ → List ℕ) (close : List ℕ) (m : ℕ) where
 
 -- a node by what the code reads of it
 state_known : (ks : List ℕ) (v : TypeNode) (i : Inverted) (k : Kind) → held_in v ≡ Some (i, k) → state_of (node_means ks v) ≡ nodes.Known i.0 (kind_means ks k)
-state_known ks (Root (Known j m) z) i k e =
-    let a : j ≡ i = cc in
-    let b : m ≡ k = cc in
-    rw (a, b)
-state_known ks (Root (Unknown s) z) i k e = let z : ◌≡◌ {A = ℕ} 0 1 = cc in absurd (omega arith)
-state_known ks (Root InferenceFailed z) i k e = let z : ◌≡◌ {A = ℕ} 0 1 = cc in absurd (omega arith)
-state_known ks (Child t) i k e = let z : ◌≡◌ {A = ℕ} 0 1 = cc in absurd (omega arith)
+state_known ks v i k e = sym (state_node ks v) ∙ ap (state_means ks) (held_state (node_state v) i k e)
 
 state_unknown : (g : Ty → List ℕ) (e : Env) (nil : Ty → Bool) (r : Ty) (ks : List ℕ) (v : TypeNode)
     → held_in v ≡ None → render g (state_pieces e nil r (state_of (node_means ks v))) ≡ unknown_text r

@@ -1,13 +1,9 @@
 -- `show::is_nil` meets its contract: by walk's law, from the root that the cache gives.
 -- Assumes nothing.
 use mathlib.Core.Path.{refl}
-use borrow.Author.Rules.{rules}
 use borrow.Author.Tests.{eq-eqb, ne_eqb}
 use Rattle.walk.proofs.Answers.{nil_is}
 use Rattle.show.proofs.is_nil.Goals as goal
-
-pub enum_told-1 : goal.enum_told-1
-enum_told-1 c = search rules
 
 pub returns-in_default : goal.returns-in_default
 returns-in_default c =

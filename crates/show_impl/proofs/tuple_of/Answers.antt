@@ -1,12 +1,8 @@
 -- `show_impl::tuple_of` meets its contract: the root that was found has what the definition reads.
 -- Assumes nothing.
 use mathlib.Core.Path.{refl}
-use borrow.Author.Rules.{rules}
 use Rattle.show_impl.proofs.Laws.{tuple_none, tuple_other, tuple_found}
 use Rattle.show_impl.proofs.tuple_of.Goals as goal
-
-pub enum_told-1 : goal.enum_told-1
-enum_told-1 c = search rules
 
 pub returns-in_default : goal.returns-in_default
 returns-in_default c = tuple_none c.find-root.ensures c.idx.ensures c.held_at.ensures c.in_default.is refl
