@@ -133,7 +133,7 @@ pub extern "C" fn faroalder_direct_unify_recalling<'a>(
         (unify (texts rule.now text.now) (decode ws.old ks.now n) (ty_of a) (ty_of b)) (result_in result) }
 {
     recall::begin(memory);
-    unify_lists::unify_all(ws, ks, n, rule, text, memory, Type(a), Type(b)).number()
+    u32::from(unify_lists::unify_all(ws, ks, n, rule, text, memory, Type(a), Type(b)))
 }
 
 // The same without a memory.

@@ -106,7 +106,7 @@ pub fn unify_number(a: UnifyAnswer) -> u64
     ensures { unify_in result ≡ a }
 {
     match a {
-        UnifyAnswer::Is(u) => u.number() as u64,
+        UnifyAnswer::Is(u) => u64::from(u32::from(u)),
         UnifyAnswer::Refused(n) => REFUSED + n as u64,
     }
 }

@@ -122,7 +122,7 @@ pub fn force_kind(h: &mut [u32], ws: &mut [u32], ks: &[u32], t: Type) -> Forced
     let node = layout::node_at(ws, x.nodes, i);
     let state = layout::state_of(node);
     match state {
-        TypeState::Known(inv, kind) => Forced::Known(inv.xor(root.inv()), kind),
+        TypeState::Known(inv, kind) => Forced::Known(inv ^ root.inv(), kind),
         TypeState::Unknown(span) => {
             let failed = TypeNode::Root {
                 state: TypeState::InferenceFailed,

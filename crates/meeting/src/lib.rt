@@ -28,9 +28,9 @@ fn same_node(ws: &[u32], ks: &[u32], n: u32, a: Type, b: Type) -> UnifyResult
     requires { Roots ws.now ks.now n (ty_of a.0) (ty_of b.0) }
     ensures { OneNode ws.now ks.now n (ty_of a.0) (ty_of b.0) result }
 {
-    let inv = a.inv().xor(b.inv());
+    let inv = a.inv() ^ b.inv();
     if inv.0 {
-        return UnifyResult::from_bool(walk::self_inverse(ws, ks, n, a, false));
+        return UnifyResult::from(walk::self_inverse(ws, ks, n, a, false));
     }
     UnifyResult::Success
 }
@@ -117,7 +117,7 @@ pub fn meet<'a>(
     let Some((j, m)) = layout::held_at(ws, n, ib) else {
         return None;
     };
-    let inv = i.xor(a.inv()).xor(j.xor(b.inv()));
+    let inv = i ^ a.inv() ^ (j ^ b.inv());
     Some(plan::plan_of(k, m, inv, rule, text))
 }
 

@@ -63,7 +63,7 @@ fn take(ws: &mut [u32], n: u32, w: Type, l: Type, size: u32)
         Some((i, kind)) => {
             let inv = l.inv();
             let parent = w.invert_if(inv);
-            let state = TypeState::Known(parent.inv().xor(i), kind);
+            let state = TypeState::Known(parent.inv() ^ i, kind);
             layout::put_node(ws, n, w.idx(), TypeNode::Root { state, size });
             layout::put_node(ws, n, l.idx(), TypeNode::Child(parent));
         }

@@ -139,7 +139,7 @@ fn holds(x: u32, t: Type) -> bool
     ensures { result ≡ eqb x t.0 }
 {
     let u = Type(x);
-    if u.inv().xor(t.inv()).0 {
+    if (u.inv() ^ t.inv()).0 {
         return false;
     }
     u.idx().0 == t.idx().0
@@ -179,7 +179,7 @@ pub fn note(m: &mut [u32], n: u32, began: u32, a: Type, b: Type, r: UnifyResult)
     put(m, p, a.0);
     put(m, p + 1, b.0);
     put(m, p + 2, began);
-    put(m, p + 3, r.number());
+    put(m, p + 3, u32::from(r));
 }
 
 // What a walk answered of a pair: a Failure is noted.

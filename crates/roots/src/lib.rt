@@ -23,7 +23,7 @@ fn climb(ws: &[u32], n: u32, t: Type) -> Type
         let TypeNode::Child(parent) = layout::node_at(ws, n, cur) else {
             return Type::new(inv, cur);
         };
-        inv = inv.xor(parent.inv());
+        inv = inv ^ parent.inv();
         cur = parent.idx();
         left -= 1;
     }
@@ -44,7 +44,7 @@ fn find_far(ws: &mut [u32], n: u32, t: Type) -> Type
             return root;
         };
         layout::put_node(ws, n, cur, TypeNode::Child(root.invert_if(inv)));
-        inv = inv.xor(prev_parent.inv());
+        inv = inv ^ prev_parent.inv();
         cur = prev_parent.idx();
         rest -= 1;
     }
@@ -174,7 +174,7 @@ fn top_by(ws: &[u32], n: u32, cache: &[u16], i: TypeIdx) -> Option<Type>
         let TypeNode::Child(parent) = layout::node_at(ws, n, cur) else {
             return Some(Type::new(inv, cur));
         };
-        inv = inv.xor(parent.inv());
+        inv = inv ^ parent.inv();
         cur = parent.idx();
         up -= 1;
     }

@@ -108,7 +108,7 @@ fn show_by<'a>(
     let Some((inv, kind)) = layout::held_at(ws, n, root.idx()) else {
         return put_unknown(buf, at, root);
     };
-    let i = inv.xor(root.inv());
+    let i = inv ^ root.inv();
     let dual = kinds::self_dual(kind.code, kind.dual);
     let mut p = put_lead(chart, beside, rule, text, buf, at, i.0 & !dual, kind);
     let deep = Inverted(i.0 & dual);

@@ -95,7 +95,7 @@ fn tuple_of(ws: &[u32], n: u32, t: Type) -> Option<(Inverted, Kind)>
     if kind.code != TUPLE {
         return None;
     }
-    Some((inv.xor(root.inv()), kind))
+    Some((inv ^ root.inv(), kind))
 }
 
 // The types of an impl type that has the fn form.

@@ -3,8 +3,11 @@
 -- Assumes nothing.
 use mathlib.Core.Path.{◌≡◌, refl, ap, sym, ◌∙◌}
 use mathlib.Core.Bool.{Bool, true, false}
-use Prim.Native.Nat.{ℕ, ◌+◌, ◌-◌, ◌%◌, ◌<◌, ◌≤◌}
+use Prim.Native.Nat.{ℕ, ◌+◌, ◌-◌, ◌*◌, ◌^◌, ◌%◌, ◌<◌, ◌≤◌}
+use native.Mathlib.Decide.{dec_lt}
+use native.Mathlib.Nat.{zero-add}
 use native.Mathlib.Omega.{arith}
+use lib.Bits.{bit_xor, xor_block, xor_zero_r}
 use lib.Dec.{leb}
 use borrow.Author.Tests.{le-leb, lt-leb, leb-true, leb-false}
 use Rattle.scope.specs.Base.{xor}
@@ -77,11 +80,18 @@ word_is w h e = sym (word_ty w h) ∙ ap word_of e
 pub ty_new : (i : Bool) (n : ℕ) → n < INV_BIT → flip i (ty_of n) ≡ ty i n
 ty_new i n h = rw (ty_plain n h) (ap (λ (b : Bool). ty b n) (xor_false i))
 
--- what `inverse` does to a word, on either side of the bit
-pub inverse_high : (w : ℕ) → INV_BIT ≤ w → w < WORD → ty_of (w - INV_BIT) ≡ flip true (ty_of w)
-inverse_high w l h = rw (ty_high w l h) (ty_plain (w - INV_BIT) (omega arith))
+-- what `inverse` does to a word: the bit is flipped, and what is below it stays
+flipped_by : (w a r : ℕ) → w ≡ a * 2 ^ 31 + r → r < INV_BIT → bit_xor w INV_BIT ≡ bit_xor a 1 * 2 ^ 31 + r
+flipped_by w a r e l =
+    ap (λ (v : ℕ). bit_xor v INV_BIT) e ∙ (xor_block 31 a 1 r 0 l (omega arith) ∙ ap (λ (v : ℕ). bit_xor a 1 * 2 ^ 31 + v) (xor_zero_r r))
 
-pub inverse_low : (w : ℕ) → w < INV_BIT → ty_of (w + INV_BIT) ≡ flip true (ty_of w)
-inverse_low w h =
-    let e : w + INV_BIT - INV_BIT ≡ w = omega arith in
-    rw (ty_plain w h) (ty_high (w + INV_BIT) (omega arith) (omega arith) ∙ ap (ty true) e)
+pub inverse_word : (w : ℕ) → w < WORD → ty_of (bit_xor w INV_BIT) ≡ flip true (ty_of w)
+inverse_word w h = go (dec_lt w INV_BIT)
+  where
+    go : Dec (w < INV_BIT) → ty_of (bit_xor w INV_BIT) ≡ flip true (ty_of w)
+    go (yes l) =
+        let e = flipped_by w 0 w (omega arith) l in
+        rw (e, ty_plain w l) (ty_high (INV_BIT + w) (omega arith) (omega arith) ∙ ap (ty true) (omega arith))
+    go (no l) =
+        let e = flipped_by w 1 (w - INV_BIT) (omega arith) (omega arith) in
+        rw (e, ty_high w (omega arith) h, zero-add) (ty_plain (w - INV_BIT) (omega arith))

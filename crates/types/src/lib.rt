@@ -7,6 +7,8 @@ ghost use Rattle.scope.specs.Types.{flip, ty_of};
 ghost use Rattle.scope.specs.Answers.{both, of_bool};
 ghost use Rattle.types.specs.Answers.{answer_of, number_of};
 
+use std::ops::BitXor;
+
 // A type variable, or its inverse: the high bit denotes the inverse, and the remaining bits are a TypeIdx.
 #[derive(Clone, Copy, Debug, PartialEq, Eq)]
 pub struct Type(pub u32);
@@ -26,11 +28,13 @@ pub enum Impl {
     Error,
 }
 
-impl Inverted {
-    pub fn xor(self, other: Inverted) -> Inverted
-        ensures { result.0 ≡ xor self.0 other.0 }
-    {
-        if self.0 { Inverted(!other.0) } else { other }
+impl BitXor for Inverted {
+    type Output = Inverted;
+
+    ghost bitxor_gives = { λ a b r. r.0 ≡ xor a.0 b.0 };
+
+    fn bitxor(self, other: Inverted) -> Inverted {
+        Inverted(self.0 ^ other.0)
     }
 }
 
@@ -59,15 +63,10 @@ impl Type {
         if inv.0 { self.inverse() } else { self }
     }
 
-    // The sum or difference sets or clears the one bit, as the Rust's `^` does.
     pub fn inverse(self) -> Type
         ensures { ty_of result.0 ≡ flip true (ty_of self.0) }
     {
-        if INV_BIT <= self.0 {
-            Type(self.0 - INV_BIT)
-        } else {
-            Type(self.0 + INV_BIT)
-        }
+        Type(self.0 ^ INV_BIT)
     }
 }
 
@@ -83,35 +82,32 @@ impl UnifyResult {
     pub fn and(self, other: UnifyResult) -> UnifyResult
         ensures { answer_of result ≡ both (answer_of self) (answer_of other) }
     {
-        match self {
-            UnifyResult::Failure => UnifyResult::Failure,
-            UnifyResult::Indeterminate => match other {
-                UnifyResult::Failure => UnifyResult::Failure,
-                UnifyResult::Indeterminate => UnifyResult::Indeterminate,
-                UnifyResult::Success => UnifyResult::Indeterminate,
-            },
-            UnifyResult::Success => other,
+        match (self, other) {
+            (UnifyResult::Failure, _) | (_, UnifyResult::Failure) => UnifyResult::Failure,
+            (UnifyResult::Indeterminate, _) | (_, UnifyResult::Indeterminate) =>
+                UnifyResult::Indeterminate,
+            (UnifyResult::Success, UnifyResult::Success) => UnifyResult::Success,
         }
     }
+}
 
-    pub fn from_bool(b: bool) -> UnifyResult
-        ensures { answer_of result ≡ of_bool b }
-    {
+impl From<bool> for UnifyResult {
+    ghost from_gives = { λ b r. answer_of r ≡ of_bool b };
+
+    fn from(b: bool) -> UnifyResult {
         if b {
             UnifyResult::Success
         } else {
             UnifyResult::Failure
         }
     }
+}
 
-    // The number of an answer, in the order of the enum.
-    pub fn number(self) -> u32
-        ensures { result ≡ number_of self }
-    {
-        match self {
-            UnifyResult::Success => 0,
-            UnifyResult::Failure => 1,
-            UnifyResult::Indeterminate => 2,
-        }
+// The number of an answer, in the order of the enum.
+impl From<UnifyResult> for u32 {
+    ghost from_gives = { λ r n. n ≡ number_of r };
+
+    fn from(r: UnifyResult) -> u32 {
+        r as u32
     }
 }

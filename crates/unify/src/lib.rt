@@ -132,7 +132,7 @@ pub fn unify_objects<'a>(
         (plan_means ks.now (texts rule.now text.now) (plans.Object s))) result }
 {
     let inv = s.inv;
-    let mut r = UnifyResult::from_bool(s.na == s.nb);
+    let mut r = UnifyResult::from(s.na == s.nb);
     let mut j: u32 = 0;
     while j < s.na {
         let x = meeting::kid(ks, s.a, j);

@@ -52,9 +52,7 @@ pub fn enter<'a>(
             let known = recall::look(memory, n, ra, rb);
             match known {
                 Some(r) => Entered::Done(r),
-                None => {
-                    Entered::Kids(meeting::in_steps(p), recall::clock(memory), ra, rb)
-                }
+                None => { Entered::Kids(meeting::in_steps(p), recall::clock(memory), ra, rb) }
             }
         }
     }

@@ -46,7 +46,7 @@ pub fn walk_pair(
     if ia.0 != ib.0 {
         return walk_on(ws, ks, n, memory, a, b);
     }
-    if !a.inv().xor(b.inv()).0 {
+    if !(a.inv() ^ b.inv()).0 {
         return UnifyResult::Success;
     }
     if heed::small(ws, n, memory, a, b) {
@@ -59,7 +59,7 @@ pub fn walk_pair(
     if let Some(q) = known {
         return q;
     }
-    let r = UnifyResult::from_bool(own_inverse::ask(ws, ks, n, memory, a));
+    let r = UnifyResult::from(own_inverse::ask(ws, ks, n, memory, a));
     recall::walked(memory, n, a, b, r);
     r
 }

@@ -94,7 +94,7 @@ pub fn unify_entries<'a>(
 {
     let na = entries(xs);
     let nb = entries(ys);
-    let mut r = UnifyResult::from_bool(na == nb);
+    let mut r = UnifyResult::from(na == nb);
     let mut j: u32 = 0;
     while j < na {
         let x = meeting::kid(xs, 0, j);

@@ -19,7 +19,7 @@ enum_told-1 c = search rules
 pub returns-in-Known : goal.returns-in-Known
 returns-in-Known c =
     force_known c.args.h.now c.args.ws.now c.args.ks.now c.requires c.read_header-x.ensures c.find_mut-root.ensures c.idx-i.ensures c.node_at-node.ensures
-    c.state_of-state.ensures c.in-Known.is c.inv.ensures c.xor.ensures
+    c.state_of-state.ensures c.in-Known.is c.inv.ensures c.bitxor.ensures
 
 pub returns-in-Unknown : goal.returns-in-Unknown
 returns-in-Unknown c =

@@ -25,4 +25,4 @@ returns-in_default-held_at c =
 pub returns : goal.returns
 returns c =
     met_kids c.requires c.idx-ia.ensures c.idx-ib.ensures c.if-ia-ib.false c.held_at.ensures c.in-Some.is c.held_at-2.ensures c.in-Some-held_at.is
-    c.inv.ensures c.xor.ensures c.inv-2.ensures c.xor-2.ensures c.xor-inv.ensures c.plan_of.ensures
+    c.inv.ensures c.bitxor.ensures c.inv-2.ensures c.bitxor-2.ensures c.bitxor-inv.ensures c.plan_of.ensures

@@ -8,8 +8,8 @@ self_inverse-requires c = let p = c.requires.tops.pair in record { walks = words
 
 pub returns-then-inv : goal.returns-then-inv
 returns-then-inv c =
-    same_crossed c.requires.tops.first c.inv.ensures c.inv-2.ensures c.xor-inv.ensures
-    c.if-inv.true c.self_inverse.ensures c.from_bool.ensures
+    same_crossed c.requires.tops.first c.inv.ensures c.inv-2.ensures c.bitxor-inv.ensures
+    c.if-inv.true c.self_inverse.ensures c.from.ensures
 
 pub returns : goal.returns
-returns c = same_agrees c.inv.ensures c.inv-2.ensures c.xor-inv.ensures c.if-inv.false
+returns c = same_agrees c.inv.ensures c.inv-2.ensures c.bitxor-inv.ensures c.if-inv.false

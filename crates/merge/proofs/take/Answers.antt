@@ -18,4 +18,4 @@ returns-in-None c =
 pub returns-in-Some : goal.returns-in-Some
 returns-in-Some c =
     take_known c.invert_if-parent.result c.requires.room c.requires.sum c.idx.ensures c.held_at-held.ensures c.in-Some.is c.inv-inv.ensures
-    c.invert_if-parent.ensures c.inv.ensures c.xor.ensures c.idx-in-Some.ensures c.idx-in-Some-2.ensures c.put_node.ensures c.put_node-in-Some.ensures
+    c.invert_if-parent.ensures c.inv.ensures c.bitxor.ensures c.idx-in-Some.ensures c.idx-in-Some-2.ensures c.put_node.ensures c.put_node-in-Some.ensures

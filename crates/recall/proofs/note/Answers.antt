@@ -25,4 +25,4 @@ overflow_add-p-3 c =
 pub returns : goal.returns
 returns c =
     noted_entry c.requires.1 c.at.ensures c.if-at-began.false (c.spot_of.ensures.there _ c.in-Some.is) c.put.ensures
-    c.put-2.ensures c.put-3.ensures c.number.ensures c.put-4.ensures
+    c.put-2.ensures c.put-3.ensures c.from.ensures c.put-4.ensures

@@ -19,7 +19,7 @@ pub loop-left-preserved : goal.loop-left-preserved
 loop-left-preserved c =
     let h = c.loop-left-test.true in
     climbs_up c.requires c.loop-left.invariant (omega arith) c.node_at.ensures c.in-Child.is
-    c.inv.ensures c.xor-inv.ensures c.idx-cur-in-loop-left.ensures
+    c.inv.ensures c.bitxor-inv.ensures c.idx-cur-in-loop-left.ensures
 
 pub returns : goal.returns
 returns c =

@@ -26,7 +26,7 @@ pub loop-rest-preserved : goal.loop-rest-preserved
 loop-rest-preserved c =
     let h = c.loop-rest-test.true in
     points_up c.invert_if.result c.loop-rest.invariant (omega arith) c.node_at.ensures c.in-Child.is c.invert_if.ensures
-    c.put_node.ensures c.inv.ensures c.xor-inv.ensures c.idx-cur-in-loop-rest.ensures
+    c.put_node.ensures c.inv.ensures c.bitxor-inv.ensures c.idx-cur-in-loop-rest.ensures
 
 pub shape_of-ws : goal.shape_of-ws
 shape_of-ws c = c.loop-rest.invariant.words.long

@@ -21,7 +21,7 @@ returns-in_default-node_at c =
 
 pub loop-up-preserved : goal.loop-up-preserved
 loop-up-preserved c =
-    rises_up c.loop-up.invariant c.requires.0 c.node_at.ensures c.in-Child.is c.inv.ensures c.xor-inv.ensures c.idx-cur.ensures
+    rises_up c.loop-up.invariant c.requires.0 c.node_at.ensures c.in-Child.is c.inv.ensures c.bitxor-inv.ensures c.idx-cur.ensures
 
 pub returns : goal.returns
 returns c = topped_none

@@ -63,7 +63,7 @@ loop-j-preserved t c =
     let a = c.args in
     let e = env_of a.chart.now a.beside a.rule.now a.text.now in
     let k = c.in-Some.kind in
-    let deep = c.xor-i.result.0 && c.self_dual-dual.result in (
+    let deep = c.bitxor-i.result.0 && c.self_dual-dual.result in (
       turn_next _ _ _ _ c.loop-j.invariant.0 c.loop-j-test.true c.put_gap-q.ensures
           (kid_shown e (a.depth - 1) (decode a.ws.now a.ks.now a.n) a.ks.now k deep c.loop-j.j c.child_of.result c.invert_if.result.0 c.invert_if.ensures c.child_of.ensures c.show_by-p.ensures.0)
           (c.show_by-p.auto.buf ∙ c.put_gap-q.auto.buf ∙ c.loop-j.invariant.0.long),
@@ -86,7 +86,7 @@ returns t c =
     let st = c.requires.0 in
     let known =
     show_known st e a.depth a.t.0 c.if-depth-eq0.false c.find_by-root.result.0 c.idx.result.0 c.find_by-root.ensures.0 c.idx.ensures c.held_at.result c.held_at.ensures
-    c.in-Some.inv c.in-Some.kind c.in-Some.is c.xor-i.result.0 (c.xor-i.result.0 && c.self_dual-dual.result) c.shown-count.result
-    (c.xor-i.ensures ∙ ap (xor c.in-Some.inv.0) c.inv.ensures) (ap (λ d. c.xor-i.result.0 && d) c.self_dual-dual.ensures) c.shown-count.ensures.0 in
+    c.in-Some.inv c.in-Some.kind c.in-Some.is c.bitxor-i.result.0 (c.bitxor-i.result.0 && c.self_dual-dual.result) c.shown-count.result
+    (c.bitxor-i.ensures ∙ ap (xor c.in-Some.inv.0) c.inv.ensures) (ap (λ d. c.bitxor-i.result.0 && d) c.self_dual-dual.ensures) c.shown-count.ensures.0 in
     let rest = turn_end _ _ _ _ c.loop-j.invariant.0 c.loop-j-test.false c.put_close.ensures in
-    (rw known (level_put _ _ c.in-Some.kind c.xor-i.result.0 c.self_dual-dual.result c.self_dual-dual.ensures c.put_lead-p.ensures rest), c.loop-j.invariant.1)
+    (rw known (level_put _ _ c.in-Some.kind c.bitxor-i.result.0 c.self_dual-dual.result c.self_dual-dual.ensures c.put_lead-p.ensures rest), c.loop-j.invariant.1)

@@ -11,4 +11,4 @@ pub returns-then-kind-ne-TUPLE : goal.returns-then-kind-ne-TUPLE
 returns-then-kind-ne-TUPLE c = tuple_other c.find-root.ensures c.idx.ensures c.held_at.ensures c.in-Some.is refl c.if-kind-ne-TUPLE.true
 
 pub returns : goal.returns
-returns c = tuple_found c.find-root.ensures c.idx.ensures c.held_at.ensures c.in-Some.is refl c.if-kind-ne-TUPLE.false c.inv.ensures c.xor.ensures
+returns c = tuple_found c.find-root.ensures c.idx.ensures c.held_at.ensures c.in-Some.is refl c.if-kind-ne-TUPLE.false c.inv.ensures c.bitxor.ensures

@@ -16,7 +16,7 @@ use Rattle.unify.proofs.+unify_objects_unify_pair_unify_types.Goals as goal
 -- two objects
 
 pub unify_objects-loop-j-init : goal.unify_objects-loop-j-init
-unify_objects-loop-j-init t c = (refl, refl, stored_start c.requires.0 c.from_bool-r.ensures)
+unify_objects-loop-j-init t c = (refl, refl, stored_start c.requires.0 c.from-r.ensures)
 
 pub unify_objects-kid-x-requires : goal.unify_objects-kid-x-requires
 unify_objects-kid-x-requires t c = omega (arith, c.requires.1.0.first, c.loop-j-test.true)

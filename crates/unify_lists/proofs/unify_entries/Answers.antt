@@ -16,7 +16,7 @@ entries-nb-requires c = c.requires.second
 
 pub loop-j-init : goal.loop-j-init
 loop-j-init c =
-    (refl, refl, entries_start c.requires c.entries-na.ensures c.entries-nb.ensures c.from_bool-r.ensures)
+    (refl, refl, entries_start c.requires c.entries-na.ensures c.entries-nb.ensures c.from-r.ensures)
 
 pub kid-x-requires : goal.kid-x-requires
 kid-x-requires c = omega (arith, c.entries-na.ensures, c.loop-j-test.true)

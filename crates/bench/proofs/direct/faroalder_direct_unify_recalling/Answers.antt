@@ -11,5 +11,5 @@ unify_all-requires c =
 
 pub returns : goal.returns
 returns c =
-    let n = number_result c.unify_all.result c.number.result c.number.ensures in
+    let n = number_result c.unify_all.result c.from.result c.from.ensures in
     record { upper_bound = n.0; leaves = rw n.1 c.unify_all.ensures.leaves }

@@ -5,9 +5,9 @@ use Rattle.unify_enter.proofs.walks.Laws.{walk_agrees, walk_known, walk_inside, 
 use Rattle.unify_enter.proofs.walks.SmallLaws.{small_walks, small_walk_asks, small_walk_not}
 use Rattle.unify_enter.proofs.walks.walk_pair.Goals as goal
 
-pub returns-then-not-xor : goal.returns-then-not-xor
-returns-then-not-xor c =
-    walk_agrees c.requires c.idx-ia.ensures c.idx-ib.ensures c.if-ia-ib.false c.inv.ensures c.inv-2.ensures c.xor.ensures c.if-not-xor.true
+pub returns-then-not-bitxor : goal.returns-then-not-bitxor
+returns-then-not-bitxor c =
+    walk_agrees c.requires c.idx-ia.ensures c.idx-ib.ensures c.if-ia-ib.false c.inv.ensures c.inv-2.ensures c.bitxor.ensures c.if-not-bitxor.true
 
 pub returns-then-small : goal.returns-then-small
 returns-then-small c =
@@ -45,5 +45,5 @@ returns c =
     small_walk_not c.small.ensures c.if-small.false
     (walk_own (small_walk_asks c.requires c.small.ensures c.if-small.false) c.ask.ensures c.idx-ia.ensures c.idx-ib.ensures c.if-ia-ib.false
     c.inv.ensures
-    c.inv-2.ensures c.xor.ensures c.if-not-xor.false
-    c.from_bool-r.ensures c.walked.ensures)
+    c.inv-2.ensures c.bitxor.ensures c.if-not-bitxor.false
+    c.from-r.ensures c.walked.ensures)
