@@ -2,15 +2,16 @@
 -- head says the code's numbers whatever the children are; its names matter for a Key, which has its own, and for an Object, which has its children's.
 -- Assumes nothing.
 use mathlib.Core.Path.{◌≡◌, refl, sym, ◌∙◌}
-use mathlib.Core.Bool.{Bool, true, false, not, ◌||◌, ◌&&◌, and-true, and-false, or-true}
+use Rattle.std.proofs.Common.{◌⊎◌, inl, inr}
+use mathlib.Core.Bool.{Bool, true, false, not, ◌||◌, ◌&&◌, and-false, or-true}
 use mathlib.Core.List.{List, []}
+use Rattle.std.proofs.Math.Decide.{ℕ_discrete}
 use Prim.Native.Nat.{ℕ, zero, suc, ◌≤◌}
 use native.Mathlib.Omega.{arith}
 use lib.Dec.{eqb}
 use borrow.Author.Tests.{eq-eqb, ne_eqb, eqb-true}
-use Rattle.scope.specs.Base.{pick}
 use Rattle.scope.specs.Names.{Texts, bytes, eq_bytes}
-use Rattle.scope.specs.Kinds.{TUPLE, OBJECT, STRUCT, UNION, CLOSURE, KEY, IF_CONST, DEFAULT, ERROR, DUAL, AS_CHART, row_of, rows, dual_by, self_dual}
+use Rattle.scope.specs.Kinds.{TUPLE, OBJECT, STRUCT, UNION, CLOSURE, KEY, IF_CONST, DEFAULT, ERROR, row_of, rows, dual_by, self_dual}
 use Rattle.scope.specs.Unify.{first_name, same_head, kids_plan}
 use Rattle.scope.specs.Unify as scope
 use Rattle.scope.specs.Sound.{names_in}
@@ -39,22 +40,19 @@ object_names ks k e = rw e refl
 -- `same_kinds`
 
 module _ (x : Texts) (k m : Kind) where
-  pub same_code : (k.code ≡ m.code → ⊥) → SameKinds x k m false
+  pub same_not : {t : Bool} → t ≡ false → ((k.code ≡ m.code) × (k.number ≡ m.number → ⊥)) ⊎ (k.code ≡ m.code → ⊥) → SameKinds x k m t
   unfolding same_head kind_means
-  same_code h = record { is = λ ks. rw (ne_eqb k.code m.code h) }
+  same_not z (inl (e, h)) = record { is = λ ks. rw (eq-eqb k.code m.code e, ne_eqb k.number m.number h) z }
+  same_not z (inr h) = record { is = λ ks. rw (ne_eqb k.code m.code h) z }
 
-  pub same_number : k.code ≡ m.code → (k.number ≡ m.number → ⊥) → SameKinds x k m false
+  pub same_plain : (k.code ≡ m.code) × (k.number ≡ m.number) → (k.code ≡ KEY → ⊥) → SameKinds x k m (not (eqb k.code KEY))
   unfolding same_head kind_means
-  same_number e h = record { is = λ ks. rw (eq-eqb k.code m.code e, ne_eqb k.number m.number h) }
+  same_plain (e, f) h = record { is = λ ks. rw (eq-eqb k.code m.code e, eq-eqb k.number m.number f, ne_eqb k.code KEY h) }
 
-  pub same_plain : k.code ≡ m.code → k.number ≡ m.number → (k.code ≡ KEY → ⊥) → SameKinds x k m true
-  unfolding same_head kind_means
-  same_plain e f h = record { is = λ ks. rw (eq-eqb k.code m.code e, eq-eqb k.number m.number f, ne_eqb k.code KEY h) }
-
-  pub same_key : (r : Bool) → k.code ≡ m.code → k.number ≡ m.number → k.code ≡ KEY
+  pub same_key : {r : Bool} → (k.code ≡ m.code) × (k.number ≡ m.number) → k.code ≡ KEY
       → r ≡ eq_bytes (bytes x (name_of k.name)) (bytes x (name_of m.name)) → SameKinds x k m r
   unfolding same_head kind_means
-  same_key r e f h b = record {
+  same_key (e, f) h b = record {
     is = λ ks. rw (eq-eqb k.code m.code e, eq-eqb k.number m.number f, eq-eqb k.code KEY h, key_name x ks k h, key_name x ks m (sym e ∙ h)) b;
   }
 
@@ -62,41 +60,42 @@ module _ (x : Texts) (k m : Kind) where
   unfolding same_head kind_means
   same_codes s = eqb-true k.code m.code (and_left (eqb k.code m.code) _ (sym (s.is [])))
 
--- `crosses`: what crosses by its code, what crosses by its flag, and that no other kind does
+-- `crosses`: two codes that stand side by side, and that what is not named there does not cross
 
-pub flag_crosses : (k : Kind) (c : ℕ) → (row_of c).dual ≡ AS_CHART → eqb c DEFAULT ≡ false → k.code ≡ c → k.dual ≡ crosses_kind k
-flag_crosses k c r n e = rw (e, r, n) (sym (and-true k.dual))
+pub one_of : (a c : ℕ) → a ≤ c → c ≤ suc a → (c ≡ a) ⊎ (c ≡ suc a)
+one_of a c h g = go (ℕ_discrete c a)
+  where
+    go : Dec (c ≡ a) → (c ≡ a) ⊎ (c ≡ suc a)
+    go (yes e) = inl e
+    go (no n) = inr (omega arith)
 
-pub self_crosses : (k : Kind) (c : ℕ) → (row_of c).dual ≡ DUAL → eqb c DEFAULT ≡ false → k.code ≡ c → true ≡ crosses_kind k
-self_crosses k c r n e = rw (e, r, n) refl
+past_crosses : (c : ℕ) (d : Bool) → 15 ≤ c → false ≡ (dual_by (row_of c).dual d && not (eqb c DEFAULT))
+past_crosses c d h = rw (row_past c h) refl
 
-past_crosses : (c : ℕ) (d : Bool) → 15 ≤ c → eqb c ERROR ≡ (dual_by (row_of c).dual d && not (eqb c DEFAULT))
-past_crosses c d h = rw (row_past c h, ne_eqb c ERROR (λ e. omega arith)) refl
-
-code_crosses : (c : ℕ) (d : Bool) → (c ≡ STRUCT → ⊥) → (c ≡ UNION → ⊥) → (c ≡ TUPLE → ⊥) → (c ≡ OBJECT → ⊥) → (c ≡ IF_CONST → ⊥)
-    → eqb c ERROR ≡ (dual_by (row_of c).dual d && not (eqb c DEFAULT))
+code_crosses : (c : ℕ) (d : Bool) → (c ≡ STRUCT → ⊥) → (c ≡ UNION → ⊥) → (c ≡ TUPLE → ⊥) → (c ≡ OBJECT → ⊥) → (c ≡ IF_CONST → ⊥) → (c ≡ ERROR → ⊥)
+    → false ≡ (dual_by (row_of c).dual d && not (eqb c DEFAULT))
 unfolding row_of rows
-code_crosses zero d hs hu ht ho hi = refl
-code_crosses (suc zero) d hs hu ht ho hi = absurd (ht refl)
-code_crosses (suc (suc zero)) d hs hu ht ho hi = absurd (ho refl)
-code_crosses (suc (suc (suc zero))) d hs hu ht ho hi = refl
-code_crosses (suc (suc (suc (suc zero)))) d hs hu ht ho hi = absurd (hs refl)
-code_crosses (suc (suc (suc (suc (suc zero))))) d hs hu ht ho hi = refl
-code_crosses (suc (suc (suc (suc (suc (suc zero)))))) d hs hu ht ho hi = absurd (hu refl)
-code_crosses (suc (suc (suc (suc (suc (suc (suc zero))))))) d hs hu ht ho hi = refl
-code_crosses (suc (suc (suc (suc (suc (suc (suc (suc zero)))))))) d hs hu ht ho hi = refl
-code_crosses (suc (suc (suc (suc (suc (suc (suc (suc (suc zero))))))))) d hs hu ht ho hi = refl
-code_crosses (suc (suc (suc (suc (suc (suc (suc (suc (suc (suc zero)))))))))) d hs hu ht ho hi = refl
-code_crosses (suc (suc (suc (suc (suc (suc (suc (suc (suc (suc (suc zero))))))))))) d hs hu ht ho hi = absurd (hi refl)
-code_crosses (suc (suc (suc (suc (suc (suc (suc (suc (suc (suc (suc (suc zero)))))))))))) d hs hu ht ho hi = refl
-code_crosses (suc (suc (suc (suc (suc (suc (suc (suc (suc (suc (suc (suc (suc zero))))))))))))) d hs hu ht ho hi = refl
-code_crosses (suc (suc (suc (suc (suc (suc (suc (suc (suc (suc (suc (suc (suc (suc zero)))))))))))))) d hs hu ht ho hi = refl
-code_crosses (suc (suc (suc (suc (suc (suc (suc (suc (suc (suc (suc (suc (suc (suc (suc m))))))))))))))) d hs hu ht ho hi =
+code_crosses zero d hs hu ht ho hi he = refl
+code_crosses (suc zero) d hs hu ht ho hi he = absurd (ht refl)
+code_crosses (suc (suc zero)) d hs hu ht ho hi he = absurd (ho refl)
+code_crosses (suc (suc (suc zero))) d hs hu ht ho hi he = refl
+code_crosses (suc (suc (suc (suc zero)))) d hs hu ht ho hi he = absurd (hs refl)
+code_crosses (suc (suc (suc (suc (suc zero))))) d hs hu ht ho hi he = refl
+code_crosses (suc (suc (suc (suc (suc (suc zero)))))) d hs hu ht ho hi he = absurd (hu refl)
+code_crosses (suc (suc (suc (suc (suc (suc (suc zero))))))) d hs hu ht ho hi he = refl
+code_crosses (suc (suc (suc (suc (suc (suc (suc (suc zero)))))))) d hs hu ht ho hi he = refl
+code_crosses (suc (suc (suc (suc (suc (suc (suc (suc (suc zero))))))))) d hs hu ht ho hi he = refl
+code_crosses (suc (suc (suc (suc (suc (suc (suc (suc (suc (suc zero)))))))))) d hs hu ht ho hi he = refl
+code_crosses (suc (suc (suc (suc (suc (suc (suc (suc (suc (suc (suc zero))))))))))) d hs hu ht ho hi he = absurd (hi refl)
+code_crosses (suc (suc (suc (suc (suc (suc (suc (suc (suc (suc (suc (suc zero)))))))))))) d hs hu ht ho hi he = refl
+code_crosses (suc (suc (suc (suc (suc (suc (suc (suc (suc (suc (suc (suc (suc zero))))))))))))) d hs hu ht ho hi he = refl
+code_crosses (suc (suc (suc (suc (suc (suc (suc (suc (suc (suc (suc (suc (suc (suc zero)))))))))))))) d hs hu ht ho hi he = absurd (he refl)
+code_crosses (suc (suc (suc (suc (suc (suc (suc (suc (suc (suc (suc (suc (suc (suc (suc m))))))))))))))) d hs hu ht ho hi he =
     past_crosses (suc (suc (suc (suc (suc (suc (suc (suc (suc (suc (suc (suc (suc (suc (suc m))))))))))))))) d (omega arith)
 
-pub other_crosses : (k : Kind) → (k.code ≡ STRUCT → ⊥) → (k.code ≡ UNION → ⊥) → (k.code ≡ TUPLE → ⊥) → (k.code ≡ OBJECT → ⊥) → (k.code ≡ IF_CONST → ⊥)
-    → eqb k.code ERROR ≡ crosses_kind k
-other_crosses k hs hu ht ho hi = code_crosses k.code k.dual hs hu ht ho hi
+pub not_crosses : (k : Kind) → (k.code ≡ STRUCT → ⊥) → (k.code ≡ UNION → ⊥) → (k.code ≡ TUPLE → ⊥) → (k.code ≡ OBJECT → ⊥) → (k.code ≡ IF_CONST → ⊥)
+    → (k.code ≡ ERROR → ⊥) → false ≡ crosses_kind k
+not_crosses k hs hu ht ho hi he = code_crosses k.code k.dual hs hu ht ho hi he
 
 -- `plan_of`
 
@@ -113,13 +112,10 @@ pub free_crossed : (i r t : Bool) → r ≡ t → r ≡ true → (not i || t) �
 free_crossed i r t e h = rw (sym e ∙ h) (or-true (not i))
 
 module _ (x : Texts) (k m : Kind) (i : Bool) where
-  pub plan_error : k.code ≡ ERROR → Planned x k m i (Answer Indeterminate)
+  pub plan_error : (k.code ≡ ERROR) ⊎ ((k.code ≡ ERROR → ⊥) × (m.code ≡ ERROR)) → Planned x k m i (Answer Indeterminate)
   unfolding plan_means scope.plan kind_means
-  plan_error e = record { means = λ ks. rw (eq-eqb k.code ERROR e); over = tt }
-
-  pub plan_against_error : (k.code ≡ ERROR → ⊥) → m.code ≡ ERROR → Planned x k m i (Answer Indeterminate)
-  unfolding plan_means scope.plan kind_means
-  plan_against_error h e = record { means = λ ks. rw (ne_eqb k.code ERROR h, eq-eqb m.code ERROR e); over = tt }
+  plan_error (inl e) = record { means = λ ks. rw (eq-eqb k.code ERROR e); over = tt }
+  plan_error (inr (h, e)) = record { means = λ ks. rw (ne_eqb k.code ERROR h, eq-eqb m.code ERROR e); over = tt }
 
   module _ (h : k.code ≡ ERROR → ⊥) (g : m.code ≡ ERROR → ⊥) where
     pub plan_unequal : (r : Bool) → SameKinds x k m r → r ≡ false → Planned x k m i (Answer Failure)
@@ -159,10 +155,10 @@ module _ (x : Texts) (k m : Kind) (j : Inverted) (d : Meets x k m j.0) where
     over = (all_of k m j, sym (same_codes x k m d.same) ∙ e);
   }
 
-  pub plan_closure : (k.code ≡ OBJECT → ⊥) → k.code ≡ CLOSURE → Planned x k m j.0 (Signature (runs x k m j.0 j))
+  pub plan_closure : k.code ≡ CLOSURE → Planned x k m j.0 (Signature (runs x k m j.0 j))
   unfolding plan_means kids_plan kind_means
-  plan_closure h e = record {
-    means = λ ks. sym (plan_kids x k m j.0 d ks ∙ rw (ne_eqb k.code OBJECT h, eq-eqb k.code CLOSURE e));
+  plan_closure e = record {
+    means = λ ks. sym (plan_kids x k m j.0 d ks ∙ rw (ne_eqb k.code OBJECT (λ f. omega arith), eq-eqb k.code CLOSURE e));
     over = all_of k m j;
   }
 

@@ -32,58 +32,33 @@ pub enum Plan {
 fn same_kinds<'a>(k: Kind, m: Kind, rule: &'a [u8], text: &'a [u8]) -> bool
     ensures { SameKinds (texts rule.now text.now) k m result }
 {
-    if k.code != m.code {
-        return false;
-    }
-    if k.number != m.number {
-        return false;
-    }
-    if k.code != KEY {
-        return true;
-    }
-    let a = k.name;
-    let b = m.name;
-    names::same_name(a, b, rule, text)
+    k.code == m.code
+        && k.number == m.number
+        && (k.code != KEY || names::same_name(k.name, m.name, rule, text))
 }
 
 // May equal kinds meet where their inversions differ? By codes alone: the table of rows would stand in the frame of whoever plans.
 fn crosses(k: Kind) -> bool
     ensures { result ≡ crosses_kind k }
 {
-    if k.code == STRUCT {
-        return k.dual;
+    match k.code {
+        STRUCT | UNION => k.dual,
+        TUPLE | OBJECT | IF_CONST | ERROR => true,
+        _ => false,
     }
-    if k.code == UNION {
-        return k.dual;
-    }
-    if k.code == TUPLE {
-        return true;
-    }
-    if k.code == OBJECT {
-        return true;
-    }
-    if k.code == IF_CONST {
-        return true;
-    }
-    k.code == kinds::ERROR
 }
 
 pub fn plan_of<'a>(k: Kind, m: Kind, inv: Inverted, rule: &'a [u8], text: &'a [u8]) -> Plan
     ensures { Planned (texts rule.now text.now) k m inv.0 result }
 {
-    if k.code == ERROR {
-        return Plan::Answer(UnifyResult::Indeterminate);
-    }
-    if m.code == ERROR {
+    if k.code == ERROR || m.code == ERROR {
         return Plan::Answer(UnifyResult::Indeterminate);
     }
     if !same_kinds(k, m, rule, text) {
         return Plan::Answer(UnifyResult::Failure);
     }
-    if inv.0 {
-        if !crosses(k) {
-            return Plan::Answer(UnifyResult::Failure);
-        }
+    if inv.0 && !crosses(k) {
+        return Plan::Answer(UnifyResult::Failure);
     }
     let runs = Runs {
         a: k.first,
@@ -92,11 +67,9 @@ pub fn plan_of<'a>(k: Kind, m: Kind, inv: Inverted, rule: &'a [u8], text: &'a [u
         nb: m.count,
         inv,
     };
-    if k.code == OBJECT {
-        return Plan::Object(runs);
+    match k.code {
+        OBJECT => Plan::Object(runs),
+        CLOSURE => Plan::Signature(runs),
+        _ => Plan::Run(runs),
     }
-    if k.code == CLOSURE {
-        return Plan::Signature(runs);
-    }
-    Plan::Run(runs)
 }

@@ -1,30 +1,29 @@
 -- `plan::crosses` meets its contract: a kind crosses by its flag or by its code, as its row says.
 -- Assumes nothing.
-use mathlib.Core.Path.{refl}
-use Rattle.scope.specs.Kinds.{TUPLE, OBJECT, STRUCT, UNION, IF_CONST, row_of, rows}
-use Rattle.plan.proofs.Laws.{flag_crosses, self_crosses, other_crosses}
+use mathlib.Core.Path.{refl, sym}
+use mathlib.Core.Bool.{and-true}
+use native.Mathlib.Omega.{arith}
+use Rattle.std.proofs.Common.{inl, inr}
+use Rattle.scope.specs.Kinds.{TUPLE, row_of, rows}
+use Rattle.plan.proofs.Laws.{one_of, not_crosses}
 use Rattle.plan.proofs.crosses.Goals as goal
 
-pub returns-then-k-eq-STRUCT : goal.returns-then-k-eq-STRUCT
+pub returns-in-4 : goal.returns-in-4
 unfolding row_of rows
-returns-then-k-eq-STRUCT c = flag_crosses c.args.k STRUCT refl refl c.if-k-eq-STRUCT.true
+returns-in-4 c = elim c.in-4.is [ inl e ↦ rw e (sym (and-true c.args.k.dual)) | inr e ↦ rw e (sym (and-true c.args.k.dual)) ]
 
-pub returns-then-k-eq-UNION : goal.returns-then-k-eq-UNION
+pub returns-in-1 : goal.returns-in-1
 unfolding row_of rows
-returns-then-k-eq-UNION c = flag_crosses c.args.k UNION refl refl c.if-k-eq-UNION.true
+returns-in-1 c = elim c.in-1.is [ inl e ↦ rw e refl | inr e ↦ rw e refl ]
 
-pub returns-then-k-eq-TUPLE : goal.returns-then-k-eq-TUPLE
+pub returns-in-1-2 : goal.returns-in-1-2
 unfolding row_of rows
-returns-then-k-eq-TUPLE c = self_crosses c.args.k TUPLE refl refl c.if-k-eq-TUPLE.true
+returns-in-1-2 c = elim (one_of TUPLE c.args.k.code (omega arith) (omega arith)) [ inl e ↦ rw e refl | inr e ↦ rw e refl ]
 
-pub returns-then-k-eq-OBJECT : goal.returns-then-k-eq-OBJECT
-unfolding row_of rows
-returns-then-k-eq-OBJECT c = self_crosses c.args.k OBJECT refl refl c.if-k-eq-OBJECT.true
+pub returns-in_default : goal.returns-in_default
+returns-in_default c =
+    not_crosses c.args.k (λ e. omega arith) (λ e. omega arith) (λ e. omega arith) (λ e. omega arith) (λ e. omega arith) (λ e. omega arith)
 
-pub returns-then-k-eq-IF_CONST : goal.returns-then-k-eq-IF_CONST
-unfolding row_of rows
-returns-then-k-eq-IF_CONST c = self_crosses c.args.k IF_CONST refl refl c.if-k-eq-IF_CONST.true
-
-pub returns : goal.returns
-returns c =
-    other_crosses c.args.k c.if-k-eq-STRUCT.false c.if-k-eq-UNION.false c.if-k-eq-TUPLE.false c.if-k-eq-OBJECT.false c.if-k-eq-IF_CONST.false
+pub returns-in_default-2 : goal.returns-in_default-2
+returns-in_default-2 c =
+    not_crosses c.args.k (λ e. grind arith) (λ e. grind arith) (λ e. omega arith) (λ e. omega arith) (λ e. grind arith) (λ e. grind arith)
