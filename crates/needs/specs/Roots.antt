@@ -1,12 +1,11 @@
 -- What the walk takes of a root: by its kind and the parameter list it is replaced, lacks its entry, or is a node with so many children.
 use Rattle.std.proofs.Math.Option.{Option, none, some}
-use Rattle.std.specs.Prelude.{List, eqb, ltb, length}
+use Rattle.std.specs.Prelude.{List, ℕ, eqb, ltb, length, Some, None}
 use Rattle.scope.specs.Base.{pick}
 use Rattle.scope.specs.Types.{Ty}
 use Rattle.scope.specs.Kinds.{PARAM}
 use Rattle.layout.specs.declared.Kind.{Kind}
 use Rattle.layout.specs.Meaning.{Held}
-use Rattle.std.specs.Prelude.{Some, None}
 use Rattle.needs.specs.declared.Asks.{Asks}
 use Rattle.needs.specs.declared.Asks.TheVariants.{Replaced, Missing, Node}
 use Rattle.std.specs.declared.option.Option as option

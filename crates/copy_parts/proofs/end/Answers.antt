@@ -18,4 +18,4 @@ put_node-requires c =
 pub returns : goal.returns
 returns c =
     end_known c.args.h.now c.args.ws.now c.args.new.0 c.args.first c.read_header-made.ensures c.held_at.ensures
-    c.in-Is.is c.put_node.ensures
+    c.in-Some.is c.put_node.ensures
