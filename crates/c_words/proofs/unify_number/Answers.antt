@@ -9,7 +9,7 @@ use Rattle.c_words.proofs.unify_number.Goals as goal
 
 pub returns-in-Is : goal.returns-in-Is
 returns-in-Is c = let n = number_result c.in-Is.u c.from.result c.from.ensures in
-    rw c.in-Is.is (number_value RESULTS (λ w. Is (result_in w)) Refused c.from.result n.0 ∙ ap Is n.1)
+    rw (c.in-Is.is, c.from-in-Is.ensures) (number_value RESULTS (λ w. Is (result_in w)) Refused c.from.result n.0 ∙ ap Is n.1)
 
 pub returns-in-Refused : goal.returns-in-Refused
 returns-in-Refused c = rw c.in-Refused.is (number_refused RESULTS (λ w. Is (result_in w)) Refused c.in-Refused.n (omega arith))
