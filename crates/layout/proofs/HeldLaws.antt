@@ -6,7 +6,6 @@ use mathlib.Core.Bool.{true}
 use mathlib.Core.List.{List}
 use Prim.Native.Nat.{ℕ}
 use native.Mathlib.Omega.{arith}
-use Rattle.scope.specs.Types.{Ty}
 use Rattle.scope.specs.Nodes.{state_of, size_of, kids_of, at}
 use Rattle.scope.specs.Nodes as nodes
 use Rattle.types.specs.declared.Inverted.{Inverted}

@@ -39,10 +39,6 @@ pub place_in : (a e n : ℕ) (xs vs : List ℕ) (k : ℕ) → e - a ≡ length (
     → k < length (sets (take (e - a) (drop a xs)) 0 (take k vs))
 place_in a e n xs vs k p q h = let b : k < n = ltb-true k n h in lt-length-sets (take (e - a) (drop a xs)) 0 (take k vs) (omega arith)
 
--- place k of a list of n words or more, after the words before it were stored
-pub place_there : (n : ℕ) (xs vs : List ℕ) (k : ℕ) → n ≤ length xs → ltb k n ≡ true → k < length (sets xs 0 (take k vs))
-place_there n xs vs k p h = let b : k < n = ltb-true k n h in lt-length-sets xs 0 (take k vs) (omega arith)
-
 -- parts
 
 pub drop_later : (e b : ℕ) (xs ys : List ℕ) → e ≤ b → drop e xs ≡ drop e ys → drop b xs ≡ drop b ys

@@ -31,21 +31,18 @@ pub fn cell_of(n: TypeNode) -> Cell
         TypeNode::Root { state, size } => match state {
             TypeState::Unknown(span) => plain_cell(UNKNOWN_TAG, span, size),
             TypeState::InferenceFailed => plain_cell(FAILED_TAG, 0, size),
-            TypeState::Known(inv, kind) => {
-                let name = kind.name;
-                Cell {
-                    tag: KNOWN_TAG,
-                    link: kind.first,
-                    size,
-                    inv: inv.0 as u32,
-                    code: kind.code,
-                    number: kind.number,
-                    dual: kind.dual as u32,
-                    flex: kind.flex,
-                    name,
-                    count: kind.count,
-                }
-            }
+            TypeState::Known(inv, kind) => Cell {
+                tag: KNOWN_TAG,
+                link: kind.first,
+                size,
+                inv: u32::from(inv.0),
+                code: kind.code,
+                number: kind.number,
+                dual: u32::from(kind.dual),
+                flex: kind.flex,
+                name: kind.name,
+                count: kind.count,
+            },
         },
     }
 }

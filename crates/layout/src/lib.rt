@@ -110,20 +110,19 @@ pub fn child_words(n: u32) -> usize
 pub fn word(s: &[u32], i: usize) -> u32
     ensures { result ≡ get_or s.now i 0 }
 {
-    if i < s.len() { s[i] } else { 0 }
+    s.get(i).copied().unwrap_or(0)
 }
 
 // The kind that a Known node's words say; their link is the place of its first child.
 pub fn kind_in(c: Cell) -> Kind
     ensures { result ≡ cell_kind c }
 {
-    let name = c.name;
     Kind {
         code: c.code,
         number: c.number,
         dual: c.dual == 1,
         flex: c.flex,
-        name,
+        name: c.name,
         first: c.link,
         count: c.count,
     }
@@ -167,25 +166,15 @@ pub fn node_at(ws: &[u32], n: u32, i: TypeIdx) -> TypeNode
         };
     }
     let c = cell_at(ws, i);
-    if c.tag == CHILD_TAG {
-        return TypeNode::Child(Type(c.link));
-    }
-    let size = c.size;
-    if c.tag == UNKNOWN_TAG {
-        return TypeNode::Root {
-            state: TypeState::Unknown(c.link),
-            size,
-        };
-    }
-    if c.tag == FAILED_TAG {
-        return TypeNode::Root {
-            state: TypeState::InferenceFailed,
-            size,
-        };
-    }
+    let state = match c.tag {
+        CHILD_TAG => return TypeNode::Child(Type(c.link)),
+        UNKNOWN_TAG => TypeState::Unknown(c.link),
+        FAILED_TAG => TypeState::InferenceFailed,
+        _ => TypeState::Known(Inverted(c.inv == 1), kind_in(c)),
+    };
     TypeNode::Root {
-        state: TypeState::Known(Inverted(c.inv == 1), kind_in(c)),
-        size,
+        state,
+        size: c.size,
     }
 }
 
@@ -194,7 +183,7 @@ pub fn state_of(node: TypeNode) -> TypeState
     ensures { result ≡ node_state node }
 {
     match node {
-        TypeNode::Root { state, size: _ } => state,
+        TypeNode::Root { state, .. } => state,
         TypeNode::Child(_) => TypeState::Unknown(NONE),
     }
 }
@@ -203,7 +192,7 @@ pub fn size_of(node: TypeNode) -> u32
     ensures { result ≡ node_size node }
 {
     match node {
-        TypeNode::Root { state: _, size } => size,
+        TypeNode::Root { size, .. } => size,
         TypeNode::Child(_) => 0,
     }
 }
@@ -232,21 +221,22 @@ pub fn put_node(ws: &mut [u32], n: u32, i: TypeIdx, node: TypeNode)
         return;
     }
     let c = encoding::cell_of(node);
-    let end = (i.0 as usize + 1) * NODE_WORDS;
-    let start = end - NODE_WORDS;
-    let s = &mut ws[start..end];
-    s[0] = c.tag;
-    s[1] = c.link;
-    s[2] = c.size;
-    s[3] = c.inv;
-    s[4] = c.code;
-    s[5] = c.number;
-    s[6] = c.dual;
-    s[7] = c.flex;
-    s[8] = c.name.text;
-    s[9] = c.name.start;
-    s[10] = c.name.len;
-    s[11] = c.count;
+    let a = i.0 as usize * NODE_WORDS;
+    let e = a + NODE_WORDS;
+    ws[a..e].copy_from_slice(&[
+        c.tag,
+        c.link,
+        c.size,
+        c.inv,
+        c.code,
+        c.number,
+        c.dual,
+        c.flex,
+        c.name.text,
+        c.name.start,
+        c.name.len,
+        c.count,
+    ]);
 }
 
 // The child i, where all its words are.
@@ -306,37 +296,26 @@ pub fn put_child(ks: &mut [u32], i: usize, c: Slot)
 {
     let a = i * CHILD_WORDS;
     let e = a + CHILD_WORDS;
-    let s = &mut ks[a..e];
-    s[0] = c.ty.0;
-    s[1] = c.name.text;
-    s[2] = c.name.start;
-    s[3] = c.name.len;
+    ks[a..e].copy_from_slice(&[c.ty.0, c.name.text, c.name.start, c.name.len]);
 }
 
 pub fn remembered_of(w: u32) -> Option<Type>
     ensures { result ≡ remembered_of w }
 {
-    if w == NONE {
-        None
-    } else {
-        Some(Type(w))
-    }
+    (w != NONE).then_some(Type(w))
 }
 
 fn remembered_word(t: Option<Type>) -> u32
     ensures { result ≡ remembered_word t }
 {
-    match t {
-        Some(t) => t.0,
-        None => NONE,
-    }
+    t.map_or(NONE, |t| t.0)
 }
 
 pub fn read_header(h: &[u32]) -> Header
     ensures { result ≡ header_in h.now }
 {
-    let low = word(h, 6) as u64;
-    let high = word(h, 7) as u64;
+    let low = u64::from(word(h, 6));
+    let high = u64::from(word(h, 7));
     Header {
         nodes: word(h, 0),
         children: word(h, 1),
@@ -352,16 +331,14 @@ pub fn write_header(h: &mut [u32], x: Header)
     requires { HEAD_WORDS ≤ length h.old }
     ensures { h.new ≡ put_header h.old x }
 {
-    let error = x.error;
-    let nil = x.nil;
-    let error_word = remembered_word(error);
-    let nil_word = remembered_word(nil);
-    h[0] = x.nodes;
-    h[1] = x.children;
-    h[2] = x.node_room;
-    h[3] = x.child_room;
-    h[4] = error_word;
-    h[5] = nil_word;
-    h[6] = (x.reports % HALF) as u32;
-    h[7] = (x.reports / HALF) as u32;
+    h[..HEAD_WORDS].copy_from_slice(&[
+        x.nodes,
+        x.children,
+        x.node_room,
+        x.child_room,
+        remembered_word(x.error),
+        remembered_word(x.nil),
+        (x.reports % HALF) as u32,
+        (x.reports / HALF) as u32,
+    ]);
 }

@@ -1,8 +1,0 @@
--- `layout::word` meets its contract. Past the end get_or gives the 0 that the other arm returns.
--- Assumes nothing.
-use mathlib.Core.Path.{sym}
-use lib.ListN.{get_or-eq_default}
-use Rattle.layout.proofs.word.Goals as goal
-
-pub returns-else-i-s : goal.returns-else-i-s
-returns-else-i-s c = sym (get_or-eq_default c.args.s.now 0 c.if-i-s.false)
