@@ -9,7 +9,7 @@ use Prim.Native.Nat.{ℕ, zero, suc, ◌+◌, ◌*◌, ◌/◌, ◌-◌, ◌<◌
 use native.Mathlib.Omega.{arith}
 use lib.Dec.{eqb, leb, leb-zero}
 use lib.ListN.{length, get_or, take, drop, length-drop, get_or-eq_default}
-use lib.Seq.{get_or-take, get_or-drop, take_all, ext_get_or}
+use lib.Seq.{sets, get_or-take, get_or-drop, take_all, length-take-le, ext_get_or}
 use borrow.Rule.Slice.PartMut.{put_mid}
 use native.Mathlib.Nat.{add-sub_cancel_left}
 use mir.Val.{bool_byte}
@@ -20,8 +20,8 @@ use Rattle.scope.specs.Types.{ty_of}
 use Rattle.scope.specs.Nodes as nodes
 use Rattle.names.specs.Place.{name_from}
 use Rattle.scope.specs.Sound.{zeros, node_in, kind_bare, names_clean, kind_in}
-use Rattle.layout.specs.Words.{node_field, slot_at, cell_at, node_at, node_clean}
-use Rattle.layout.specs.Meaning.{flag_word, cell_by, cell_in, words_of, node_of, plain_cell, cell_of, cell_kind, cell_words}
+use Rattle.layout.specs.Words.{node_words, node_field, slot_at, cell_at, node_at, node_clean}
+use Rattle.layout.specs.Meaning.{flag_word, cell_by, cell_in, words_of, node_of, plain_cell, cell_of, cell_kind, cell_words, paste_at}
 use Rattle.layout.specs.Meaning.{read_at, put_at, held_in, cell_means, kind_cell, kind_means, node_means, kind_fits, node_fits, type_of, slot_means}
 use Rattle.layout.specs.declared.Cell.{Cell}
 use Rattle.layout.specs.declared.Kind.{Kind}
@@ -29,7 +29,7 @@ use Rattle.std.specs.Prelude.{Some, None}
 use Rattle.layout.specs.declared.TypeState.TheVariants.{Known, Unknown, InferenceFailed}
 use Rattle.layout.specs.declared.TypeNode.{TypeNode}
 use Rattle.layout.specs.declared.TypeNode.TheVariants.{Root, Child}
-use Rattle.layout.proofs.Lists.{and_both, and_left, and_right, length_from, get_from}
+use Rattle.layout.proofs.Lists.{sets_all, and_both, and_left, and_right, length_from, get_from}
 
 -- children: a part's words, and zeros past the end
 
@@ -329,8 +329,10 @@ module _ (ws : List ℕ) (n i : ℕ) (h : i < n) {c : Cell} (e : c ≡ cell_in (
   pub held_kind : {k : Kind} → 2 < c.tag → k ≡ cell_kind c → Some ((record { 0 = eqb c.inv 1 }), k) ≡ held_in (read_at ws n i)
   held_kind t f = rw f (ap held_in (node_known c (λ q. omega arith) (λ q. omega arith) (λ q. omega arith) ∙ read_cell))
 
--- `put_node`: a cell's words in the part of node i
-pub put_words : (ws : List ℕ) (n i : ℕ) → i < n → {c : Cell} (v : TypeNode) → c ≡ cell_of v → {l : List ℕ} → l ≡ words_of c
-    → put_mid (i * 12) (i * 12 + 12 - i * 12) ws l ≡ put_at ws n i v
+-- `put_node`: the words of a cell over the whole part of node i
+pub put_words : (ws : List ℕ) (n i : ℕ) → node_words n ≤ length ws → i < n → {c : Cell} (v : TypeNode) → c ≡ cell_of v
+    → put_mid (i * 12) (i * 12 + 12 - i * 12) ws (sets (take (i * 12 + 12 - i * 12) (drop (i * 12) ws)) 0 (words_of c)) ≡ put_at ws n i v
 unfolding put_at
-put_words ws n i h v e f = rw (lt-ltb i n h, add-sub_cancel_left, f, e)
+put_words ws n i room h {c} v e =
+    let k : length (cell_words ws i) ≡ 12 = length-take-le 12 (drop (i * 12) ws) (simp length-drop (omega arith)) in
+    rw (lt-ltb i n h, add-sub_cancel_left) (ap (paste_at ws i) (sets_all (cell_words ws i) (words_of c) k ∙ ap words_of e))

@@ -4,14 +4,15 @@
 use mathlib.Core.Path.{◌≡◌, refl, ap, sym, ◌∙◌}
 use mathlib.Core.Bool.{true}
 use mathlib.Core.List.{List, [], ◌∷◌, ◌++◌}
-use Prim.Native.Nat.{ℕ, zero, suc, ◌+◌, ◌*◌, ◌<◌, ◌≤◌}
+use Prim.Native.Nat.{ℕ, zero, suc, ◌+◌, ◌-◌, ◌*◌, ◌<◌, ◌≤◌}
 use native.Mathlib.Omega.{arith}
 use native.Mathlib.Numerals.{add-one}
 use lib.Dec.{leb}
-use lib.ListN.{length, get_or, take, drop, length-map, get_or-map}
-use lib.Seq.{get_or-take, get_or-drop}
+use native.Mathlib.Nat.{add-sub_cancel_left}
+use lib.ListN.{length, get_or, take, drop, length-drop, length-map, get_or-map}
+use lib.Seq.{sets, get_or-take, get_or-drop, length-take-le}
 use borrow.Author.Tests.{leb-true, le-leb}
-use borrow.Rule.Slice.PartMut.{mid_of}
+use borrow.Rule.Slice.PartMut.{mid_of, put_mid}
 use Rattle.scope.specs.Base.{is_some}
 use Rattle.scope.specs.Types.{ty_of}
 use Rattle.scope.specs.Sound as sound
@@ -22,7 +23,7 @@ use Rattle.layout.specs.declared.Kind.{Kind}
 use Rattle.layout.specs.declared.TypeState.TheVariants.{Known, Unknown, InferenceFailed}
 use Rattle.layout.specs.declared.TypeNode.{TypeNode}
 use Rattle.layout.specs.declared.TypeNode.TheVariants.{Root, Child}
-use Rattle.layout.proofs.Lists.{and_both, and_left, and_right, part_here, part_other, drop_past, length_part, length_from, get_from, map_snoc, same_from}
+use Rattle.layout.proofs.Lists.{sets_all, and_both, and_left, and_right, part_here, part_other, drop_past, length_part, length_from, get_from, map_snoc, same_from}
 use Rattle.layout.proofs.Laws.{decode_same}
 
 -- runs of children
@@ -77,6 +78,13 @@ slot_words_lem ks i = rw (
 ) (rw (get_or-drop (i * 4) ks 0 0, get_or-drop (i * 4) ks 1 0, get_or-drop (i * 4) ks 2 0, get_or-drop (i * 4) ks 3 0))
 
 module _ (ks : List ℕ) (i : ℕ) (s : Slot) (room : i * 4 + 4 ≤ length ks) where
+  -- the words of a slot over the whole part of child i
+  pub put_slot_lem : put_mid (i * 4) (i * 4 + 4 - i * 4) ks (sets (take (i * 4 + 4 - i * 4) (drop (i * 4) ks)) 0 (slot_words s)) ≡ put_slot ks i s
+  unfolding put_slot
+  put_slot_lem =
+      let k : length (mid_of (i * 4) 4 ks) ≡ 4 = length-take-le 4 (drop (i * 4) ks) (simp length-drop (omega arith)) in
+      rw add-sub_cancel_left (ap (λ (l : List ℕ). put_mid (i * 4) 4 ks l) (sets_all (mid_of (i * 4) 4 ks) (slot_words s) k))
+
   pub slot_here : slot_at (put_slot ks i s) i ≡ slot_means s
   unfolding put_slot
   slot_here = slot_words_lem (put_slot ks i s) i ∙ ap (λ (l : List ℕ). slot_means (slot_in l)) (part_here (i * 4) 4 ks (slot_words s) refl room)

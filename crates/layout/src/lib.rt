@@ -223,20 +223,19 @@ pub fn put_node(ws: &mut [u32], n: u32, i: TypeIdx, node: TypeNode)
     let c = encoding::cell_of(node);
     let a = i.0 as usize * NODE_WORDS;
     let e = a + NODE_WORDS;
-    ws[a..e].copy_from_slice(&[
-        c.tag,
-        c.link,
-        c.size,
-        c.inv,
-        c.code,
-        c.number,
-        c.dual,
-        c.flex,
-        c.name.text,
-        c.name.start,
-        c.name.len,
-        c.count,
-    ]);
+    let s = &mut ws[a..e];
+    s[0] = c.tag;
+    s[1] = c.link;
+    s[2] = c.size;
+    s[3] = c.inv;
+    s[4] = c.code;
+    s[5] = c.number;
+    s[6] = c.dual;
+    s[7] = c.flex;
+    s[8] = c.name.text;
+    s[9] = c.name.start;
+    s[10] = c.name.len;
+    s[11] = c.count;
 }
 
 // The child i, where all its words are.
@@ -296,7 +295,11 @@ pub fn put_child(ks: &mut [u32], i: usize, c: Slot)
 {
     let a = i * CHILD_WORDS;
     let e = a + CHILD_WORDS;
-    ks[a..e].copy_from_slice(&[c.ty.0, c.name.text, c.name.start, c.name.len]);
+    let s = &mut ks[a..e];
+    s[0] = c.ty.0;
+    s[1] = c.name.text;
+    s[2] = c.name.start;
+    s[3] = c.name.len;
 }
 
 pub fn remembered_of(w: u32) -> Option<Type>

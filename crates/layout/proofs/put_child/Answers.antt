@@ -1,9 +1,7 @@
--- `layout::put_child` meets its contract. The four words are put in as put_slot pastes them.
+-- `layout::put_child` meets its contract. The part that is lent comes back as put_slot pastes it.
 -- Assumes nothing.
-use native.Mathlib.Nat.{add-sub_cancel_left}
-use Rattle.layout.specs.Meaning.{put_slot}
+use Rattle.layout.proofs.ChildLaws.{put_slot_lem}
 use Rattle.layout.proofs.put_child.Goals as goal
 
 pub returns : goal.returns
-unfolding put_slot
-returns c = rw (add-sub_cancel_left, c.copy_from_slice.ensures.after)
+returns c = put_slot_lem c.args.ks.now c.args.i c.args.c c.requires
