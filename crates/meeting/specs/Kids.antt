@@ -5,6 +5,7 @@ use Rattle.scope.specs.Names.{Texts, Name, name, bytes, bytes_or, lt_bytes}
 use Rattle.scope.specs.Types.{Ty, ty_of}
 use Rattle.scope.specs.Unify.{Plan, object_plan, seek}
 use Rattle.scope.specs.Sound as sound
+use Rattle.types.specs.declared.«Type».{«Type»}
 use Rattle.layout.specs.Words.{slot_at}
 use Rattle.plan.specs.Meaning.{kids_from, names_from}
 use Rattle.plan.specs.declared.Runs.{Runs}

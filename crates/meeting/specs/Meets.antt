@@ -18,6 +18,7 @@ use Rattle.layout.specs.declared.TypeState.TheVariants.{Known, Unknown, Inferenc
 use Rattle.layout.specs.declared.TypeNode.{TypeNode}
 use Rattle.layout.specs.declared.TypeNode.TheVariants.{Root, Child}
 use Rattle.plan.specs.Meaning.{plan_means}
+use Rattle.plan.specs.declared.Plan.{Plan}
 use Rattle.meeting.specs.Asks.{Inside}
 use Rattle.meeting.specs.Steps.{PlanSpans, PlanReady}
 use Rattle.std.specs.Prelude.{Some, None}

@@ -1,15 +1,11 @@
 -- `meeting::meet` meets its contract: one node or a root without a kind asks for a walk, two kinds for their plan.
 -- Assumes nothing.
 use Rattle.meeting.proofs.MeetLaws.{met_same, met_bare_first, met_bare_second, met_kids}
-use borrow.Author.Rules.{rules}
 use Rattle.meeting.proofs.meet.Goals as goal
 
 pub returns-then-ia-ib : goal.returns-then-ia-ib
 returns-then-ia-ib c =
     met_same c.requires c.idx-ia.ensures c.idx-ib.ensures c.if-ia-ib.true
-
-pub enum_told-1 : goal.enum_told-1
-enum_told-1 c = search rules
 
 pub returns-in_default : goal.returns-in_default
 returns-in_default c =

@@ -1,11 +1,7 @@
 -- `merge::take` meets its contract: a kind goes to the root that stays, or else it keeps its state.
 -- Assumes nothing.
 use Rattle.merge.proofs.Laws.{take_known, take_none}
-use borrow.Author.Rules.{rules}
 use Rattle.merge.proofs.take.Goals as goal
-
-pub enum_told-1 : goal.enum_told-1
-enum_told-1 c = search rules
 
 pub put_node-requires-in-Some : goal.put_node-requires-in-Some
 put_node-requires-in-Some c =
