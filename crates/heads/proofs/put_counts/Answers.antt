@@ -2,13 +2,9 @@
 -- Assumes nothing.
 use mathlib.Core.List.{[], ◌∷◌}
 use native.Mathlib.Omega.{arith}
-use lib.ListN.{length-set}
 use lib.Seq.{sets-eq}
 use Rattle.heads.specs.Heads.{put_counts}
 use Rattle.heads.proofs.put_counts.Goals as goal
-
-pub bounds-h-1 : goal.bounds-h-1
-bounds-h-1 c = simp length-set (omega arith)
 
 pub returns : goal.returns
 unfolding put_counts
