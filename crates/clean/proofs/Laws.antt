@@ -18,7 +18,7 @@ use Rattle.scope.specs.Types.{ty_of}
 use Rattle.scope.specs.Nodes as nodes
 use Rattle.scope.specs.Kinds.{row_of, OWN_NAME, CHILD_NAMES, PARAMETER_NAMES}
 use Rattle.scope.specs.Sound.{Slot, zeros, name_clean, slot_clean, slot_bare, front, last, names_clean, kind_bare, node_in}
-use Rattle.layout.specs.Words.{HEAD_WORDS, NODE_WORDS, KNOWN_TAG, node_words, child_words, between, slot_at, slots, long_enough, unused_zero, node_clean}
+use Rattle.layout.specs.Words.{HEAD_WORDS, NODE_WORDS, KNOWN_TAG, node_words, child_words, between, slot_at, slots, long_enough, node_clean}
 use Rattle.layout.specs.Meaning.{header_in, cell_in, cell_words, cell_kind, cell_means, kind_cell, named_of}
 use Rattle.names.specs.declared.Name.{Name}
 use Rattle.layout.specs.declared.Cell.{Cell}
@@ -32,11 +32,14 @@ use Rattle.clean.specs.Parts.{name_clean_if, slot_clean_if, slots_clean_if, plai
 -- a test over the numbers from a to e
 
 module _ (p : ℕ → Bool) (a e : ℕ) where
+  pub run_next : a < e → all p (from a (e - a)) ≡ (p a && all p (from (a + 1) (e - (a + 1))))
+  run_next h = let z : e - a ≡ suc (e - (a + 1)) = omega arith in rw (z, add-one)
+
   pub run_step : a < e → p a ≡ true → all p (from a (e - a)) ≡ all p (from (a + 1) (e - (a + 1)))
-  run_step h q = let z : e - a ≡ suc (e - (a + 1)) = omega arith in rw (z, q, add-one)
+  run_step h q = rw (run_next h, q)
 
   pub run_stop : a < e → p a ≡ false → all p (from a (e - a)) ≡ false
-  run_stop h q = let z : e - a ≡ suc (e - (a + 1)) = omega arith in rw (z, q)
+  run_stop h q = rw (run_next h, q)
 
   pub run_end : e ≤ a → all p (from a (e - a)) ≡ true
   run_end h = let z : e - a ≡ 0 = omega arith in rw z
@@ -73,23 +76,6 @@ zeros_run s a e h = by_order (dec_le a e)
     by_order (yes l) = zeros_from s a (e - a) (omega arith)
     by_order (no n) = let z : e - a ≡ 0 = omega arith in rw z
 
--- a name's words
-
-module _ (may : Bool) (n : Name) where
-  pub name_none : n.len ≡ 0 → name_clean_if may n ≡ (eqb n.text 0 && eqb n.start 0)
-  name_none z = by_may may
-    where
-      by_may : (b : Bool) → name_clean_if b n ≡ (eqb n.text 0 && eqb n.start 0)
-      by_may true = rw (eq-eqb n.len 0 z, and-true)
-      by_may false = rw (eq-eqb n.len 0 z, and-true)
-
-  pub name_some : (n.len ≡ 0 → ⊥) → name_clean_if may n ≡ may
-  name_some z = by_may may
-    where
-      by_may : (b : Bool) → name_clean_if b n ≡ b
-      by_may true = rw (ne_eqb n.len 0 z)
-      by_may false = rw (ne_eqb n.len 0 z, and-false, and-false)
-
 -- child i's name is clean
 abbrev pub child_clean : Bool → List ℕ → ℕ → Bool
 child_clean may ks i = slot_clean_if may (slot_at ks i)
@@ -117,12 +103,6 @@ module _ (h ws ks : List ℕ) (x : Header) (e : x ≡ header_in h) where
       && (leb (node_words x.node_room) (length ws) && leb (child_words x.child_room) (length ks)))))
   unfolding long_enough
   long_by = rw e
-
-  pub unused_by : unused_zero h ws ks
-      ≡ (zeros (between ws (node_words x.nodes) (node_words x.node_room))
-      && zeros (between ks (child_words x.children) (child_words x.child_room)))
-  unfolding unused_zero
-  unused_by = rw e
 
 -- a kind's names: its own, those of the children that may have one, and the others
 

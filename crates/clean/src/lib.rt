@@ -15,7 +15,7 @@ use layout::{
     CHILD_TAG, Cell, FAILED_TAG, HEAD_WORDS, KNOWN_TAG, Kind, NODE_WORDS, UNKNOWN_TAG, child_words,
     node_words, read_header,
 };
-use names::Name;
+use names::{NO_NAME, Name};
 use types::TypeIdx;
 
 // A node's words from here on are its kind's.
@@ -26,16 +26,11 @@ fn long_enough(h: &[u32], ws: &[u32], ks: &[u32]) -> bool
     ensures { result ≡ long_enough h.now ws.now ks.now }
 {
     let x = read_header(h);
-    if h.len() < HEAD_WORDS {
-        return false;
-    }
-    if x.node_room < x.nodes {
-        return false;
-    }
-    if x.child_room < x.children {
-        return false;
-    }
-    node_words(x.node_room) <= ws.len() && child_words(x.child_room) <= ks.len()
+    HEAD_WORDS <= h.len()
+        && x.nodes <= x.node_room
+        && x.children <= x.child_room
+        && node_words(x.node_room) <= ws.len()
+        && child_words(x.child_room) <= ks.len()
 }
 
 // The words from a to e are zero. Each is looked at, whatever the others are, so that several can be at once.
@@ -44,13 +39,8 @@ fn zero_between(s: &[u32], a: usize, e: usize) -> bool
     ensures { result ≡ zeros (between s.now a e) }
 {
     let mut zero = true;
-    let mut i = a;
-    while i < e {
-        let word = s[i];
-        i += 1;
-        if word != 0 {
-            zero = false;
-        }
+    for i in a..e {
+        zero &= s[i] == 0;
     }
     zero
 }
@@ -76,37 +66,25 @@ pub fn room_clean(h: &[u32], ws: &[u32], ks: &[u32]) -> bool
 pub fn name_clean(may: bool, name: Name) -> bool
     ensures { result ≡ name_clean_if may name }
 {
-    if name.len != 0 {
-        return may;
-    }
-    name.text == 0 && name.start == 0
+    if name.len == 0 { name == NO_NAME } else { may }
 }
 
 // The names of the children a to e.
 fn children_clean(may: bool, ks: &[u32], a: usize, e: usize) -> bool
     ensures { result ≡ slots_clean_if may ks.now a e }
 {
-    let mut i = a;
-    while i < e {
-        if !name_clean(may, layout::child_at(ks, i).name) {
-            return false;
-        }
-        i += 1;
-    }
-    true
+    (a..e).all(|i| name_clean(may, layout::child_at(ks, i).name))
 }
 
 // How many of n children, from the first on, may have a name; a Closure's return has none.
 fn named_children(names: u8, n: usize) -> usize
     ensures { result ≡ named_of names n }
 {
-    if names == CHILD_NAMES {
-        return n;
+    match names {
+        CHILD_NAMES => n,
+        PARAMETER_NAMES => n.saturating_sub(1),
+        _ => 0,
     }
-    if n == 0 {
-        return 0;
-    }
-    if names == PARAMETER_NAMES { n - 1 } else { 0 }
 }
 
 // The kind's own name and those of its children in ks, a store's or a list that is lent: names that its row lacks are zeros.
@@ -117,10 +95,9 @@ pub fn names_clean(ks: &[u32], k: Kind) -> bool
     let first = k.first as usize;
     let n = k.count as usize;
     let named = first + named_children(names, n);
-    if !name_clean(names == OWN_NAME, k.name) {
-        return false;
-    }
-    children_clean(true, ks, first, named) && children_clean(false, ks, named, first + n)
+    name_clean(names == OWN_NAME, k.name)
+        && children_clean(true, ks, first, named)
+        && children_clean(false, ks, named, first + n)
 }
 
 // A Known node, with c children made.
@@ -128,26 +105,22 @@ fn known_clean(ks: &[u32], c: u32, x: Cell) -> bool
     requires { x.tag ≡ KNOWN_TAG }
     ensures { result ≡ known_clean ks.now c x }
 {
-    if (c as u64) < x.link as u64 + x.count as u64 {
-        return false;
-    }
-    if 1 < x.inv {
-        return false;
-    }
-    x.dual <= 1 && names_clean(ks, layout::kind_in(x))
+    u64::from(x.link) + u64::from(x.count) <= u64::from(c)
+        && x.inv <= 1
+        && x.dual <= 1
+        && names_clean(ks, layout::kind_in(x))
 }
 
 // The first three words of any other node.
 fn plain_clean(x: Cell) -> bool
     ensures { result ≡ plain_clean x }
 {
-    if x.tag == CHILD_TAG {
-        return x.size == 0;
+    match x.tag {
+        CHILD_TAG => x.size == 0,
+        UNKNOWN_TAG => true,
+        FAILED_TAG => x.link == 0,
+        _ => false,
     }
-    if x.tag == UNKNOWN_TAG {
-        return true;
-    }
-    x.tag == FAILED_TAG && x.link == 0
 }
 
 pub fn node_clean(ws: &[u32], ks: &[u32], c: u32, i: u32) -> bool
@@ -159,7 +132,8 @@ pub fn node_clean(ws: &[u32], ks: &[u32], c: u32, i: u32) -> bool
     let s = &ws[a..e];
     let x = layout::cell_at(ws, TypeIdx(i));
     if x.tag == KNOWN_TAG {
-        return known_clean(ks, c, x);
+        known_clean(ks, c, x)
+    } else {
+        plain_clean(x) && zero_between(s, KIND_WORDS, NODE_WORDS)
     }
-    plain_clean(x) && zero_between(s, KIND_WORDS, NODE_WORDS)
 }

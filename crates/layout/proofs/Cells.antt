@@ -12,7 +12,6 @@ use lib.ListN.{length, get_or, take, drop, length-drop, get_or-eq_default}
 use lib.Seq.{sets, get_or-take, get_or-drop, take_all, length-take-le, ext_get_or}
 use borrow.Rule.Slice.PartMut.{put_mid}
 use native.Mathlib.Nat.{add-sub_cancel_left}
-use mir.Val.{bool_byte}
 use borrow.Author.Tests.{eq-eqb, ne_eqb, lt-ltb, eqb-true, eqb-false, leb-true}
 use Rattle.scope.specs.Base.{pick, is_some, or_else}
 use Rattle.scope.specs.Limits.{NONE}
@@ -275,11 +274,6 @@ cell_room ks c (Root (Known i k) z) h = and_left (leb (k.first + k.count) c) (na
 pub cell_clean_lem : (ks : List ℕ) (c : ℕ) (v : TypeNode) → node_fits ks c v ≡ true → cell_clean ks c (cell_of v) ≡ true
 cell_clean_lem ks c v h =
     and_both (leb (cell_first (cell_of v) + (cell_of v).count) c) (is_some (node_in (cell_means ks (cell_of v)))) (cell_room ks c v h) (ap is_some (cell_says ks c v h))
-
--- a flag's word is its byte
-pub flag_byte : (b : Bool) → bool_byte b ≡ flag_word b
-flag_byte true = refl
-flag_byte false = refl
 
 -- `node_at` and `held_at`: what the words at i are read as, by their tag
 

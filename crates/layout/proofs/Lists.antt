@@ -12,6 +12,8 @@ use lib.Seq.{sets, sets-eq, lt-length-sets, take_at, drop_at, take-append-le, dr
 use borrow.Rule.Slice.PartMut.{mid_of, put_mid, drop_put, same_len_mid}
 use lib.Dec.{eqb, ltb}
 use borrow.Author.Tests.{eqb-true, eqb-false, ltb-true, ltb-false}
+use native.Mathlib.Numerals.{add-one}
+use Rattle.std.specs.List.{list_all, range_with_len}
 use Rattle.scope.specs.Base.{all, from}
 
 -- tests
@@ -137,6 +139,11 @@ pub from_all : (p : ℕ → Bool) (i n : ℕ) → ((j : ℕ) → i ≤ j → j <
 from_all p i zero e = refl
 from_all p i (suc n) e =
     and_both (p i) (all p (from (suc i) n)) (e i (omega arith) (omega arith)) (from_all p (suc i) n (λ j a b. e j (omega arith) (omega arith)))
+
+-- the numbers of a range are those from its start on
+pub all_range : (p : ℕ → Bool) (a n : ℕ) → list_all p (range_with_len a n) ≡ all p (from a n)
+all_range p a zero = refl
+all_range p a (suc n) = ap (λ (b : Bool). p a && b) (rw add-one (all_range p (suc a) n))
 
 -- a loop over the numbers below n has two ways out: the test fails at v, or has held of each number below v
 pub all_stop : (p : ℕ → Bool) (n v : ℕ) → v < n → p v ≡ false → false ≡ all p (from 0 n)

@@ -7,9 +7,3 @@ use Rattle.clean.proofs.room_clean.Goals as goal
 pub unused_zero-requires : goal.unused_zero-requires
 unused_zero-requires c = let a = c.args in
     lies a.h.now a.ws.now a.ks.now (sym c.long_enough.ensures ∙ c.if-long_enough.true)
-
-pub returns-then-long_enough : goal.returns-then-long_enough
-returns-then-long_enough c = rw (sym c.long_enough.ensures ∙ c.if-long_enough.true) c.unused_zero.ensures
-
-pub returns-else-long_enough : goal.returns-else-long_enough
-returns-else-long_enough c = rw (← c.long_enough.ensures, c.if-long_enough.false)
