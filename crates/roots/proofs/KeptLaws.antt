@@ -15,7 +15,7 @@ use Rattle.scope.specs.Types.{Ty, ty, flip, ty_of}
 use Rattle.scope.specs.Nodes.{Node, find}
 use Rattle.scope.proofs.Paths.{find_root}
 use Rattle.types.specs.declared.«Type».{«Type»}
-use Rattle.types.proofs.Laws.{idx_below, ty_plain}
+use Rattle.types.proofs.Laws.{ty_plain}
 use Rattle.layout.specs.Words.{decode}
 use Rattle.layout.specs.Meaning.{read_at, Linked}
 use Rattle.layout.specs.declared.TypeNode.{TypeNode}
@@ -42,13 +42,16 @@ kept_is r h e = record {
   type = λ q s. let z : r ≡ q = cc in ap (λ (x : «Type»). ty_of x.0) (sym z) ∙ e;
 }
 
-module _ {k w : ℕ} (r : «Type») (o : w ≡ k) where
-  pub kept_low : (w ≡ 0 → ⊥) → w ≤ KEPT_INV → r.0 ≡ w - 1 → Kept k (near.Some r)
-  kept_low h l e = kept_is r (rw (← o) h) (rw (← o, e, le-ltb KEPT_INV w l) (ty_plain (w - 1) (omega arith)))
+module _ {k w : ℕ} (r : «Type») (o : k ≡ w + 1) where
+  pub kept_low : w < KEPT_INV → r.0 ≡ w → Kept k (near.Some r)
+  kept_low l e =
+      let d : w + 1 - 1 ≡ w = omega arith in
+      kept_is r (λ z. omega arith) (rw (e, o, le-ltb KEPT_INV (w + 1) (omega arith), d) (ty_plain w (omega arith)))
 
-  pub kept_high : KEPT_INV < w → w < 65536 → ty_of r.0 ≡ flip true (ty_of (w - 1 - KEPT_INV)) → Kept k (near.Some r)
+  pub kept_high : KEPT_INV ≤ w → w < 65536 → ty_of r.0 ≡ flip true (ty_of (w - KEPT_INV)) → Kept k (near.Some r)
   kept_high l h e =
-      kept_is r (λ z. omega arith) (e ∙ rw (← o, lt-ltb KEPT_INV w l, ty_plain (w - 1 - KEPT_INV) (omega arith)))
+      let d : w + 1 - 1 ≡ w = omega arith in
+      kept_is r (λ z. omega arith) (e ∙ rw (o, lt-ltb KEPT_INV (w + 1) (omega arith), d, ty_plain (w - KEPT_INV) (omega arith)))
 
 -- a root is read back from its number
 
@@ -91,13 +94,6 @@ pub found_flip : {ws : List ℕ} {n : ℕ} (t : «Type») {i : ℕ} {b : Bool} {
 found_flip {ws} {n} t ei eb c e = record {
   root = λ ks. e ∙ rw (eb, ← c.found ks, ei) (sym (find_flip (decode ws ks n) (ty_of t.0)));
 }
-
--- a type that is not inverted is its node's
-pub found_plain : {ws : List ℕ} {n : ℕ} (t : «Type») {i : ℕ} {b : Bool} {r : ℕ} → i ≡ (ty_of t.0).idx → b ≡ (ty_of t.0).inv → b ≡ false → Found ws n i r
-    → Found ws n t.0 r
-found_plain {ws} {n} t {i} ei eb e f =
-    let s : ty_of i ≡ ty_of t.0 = rw ei (ty_plain (ty_of t.0).idx (idx_below t.0)) ∙ ap (λ (x : Bool). ty x (ty_of t.0).idx) (sym e ∙ eb) in
-    record { root = λ ks. f.root ks ∙ ap (find (decode ws ks n)) s }
 
 pub rooted_kept : {ws : List ℕ} {n : ℕ} {cache : List ℕ} {i : ℕ} {v : Nearby} (r : «Type») → Cached ws n cache → Kept (get_or cache i 0) v → v ≡ near.Some r
     → Rooted ws n i (ty_of r.0)

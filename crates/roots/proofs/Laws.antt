@@ -2,7 +2,7 @@
 -- invariants, for all words of children: what is left to do gives what the whole does.
 -- Assumes nothing.
 use mathlib.Core.Path.{◌≡◌, refl, ap, sym, ◌∙◌}
-use mathlib.Core.Bool.{Bool, true, false}
+use mathlib.Core.Bool.{Bool, true}
 use mathlib.Core.List.{List}
 use Prim.Native.Nat.{ℕ, zero, suc, ◌+◌, ◌-◌, ◌*◌, ◌<◌, ◌≤◌}
 use native.Mathlib.Omega.{arith}
@@ -72,18 +72,20 @@ pub record Climbs (ws : List ℕ) (n : ℕ) (b₀ : Bool) (i₀ : ℕ) (b : Bool
   pub small : i < INV_BIT
   pub rest : (ks : List ℕ) → climb f (decode ws ks n) (ty b i) ≡ climb n (decode ws ks n) (ty b₀ i₀)
 
-pub climbs_start : (ws : List ℕ) (n : ℕ) (b : Bool) (i t : ℕ) → i ≡ (ty_of t).idx → Climbs ws n b i b i n
-climbs_start ws n b i t e = record { small = rw e (idx_below t); rest = λ ks. refl }
+pub climbs_start : {ws : List ℕ} {n f : ℕ} {b : Bool} {i : ℕ} (t : ℕ) → i ≡ (ty_of t).idx → f ≡ n → Climbs ws n b i b i f
+climbs_start t e h = record { small = rw e (idx_below t); rest = λ ks. rw h }
 
-pub climbs_up : {ws : List ℕ} {n : ℕ} {b₀ : Bool} {i₀ : ℕ} {b : Bool} {i f : ℕ} {v : TypeNode} {u : «Type»} {p q : Bool} {j : ℕ}
-    → Linked ws n → Climbs ws n b₀ i₀ b i f → 0 < f → v ≡ read_at ws n i → v ≡ code.Child u
-    → p ≡ (ty_of u.0).inv → q ≡ xor b p → j ≡ (ty_of u.0).idx → Climbs ws n b₀ i₀ q j (f - 1)
-climbs_up {ws} {n} {b₀} {i₀} {b} {i} {f} {v} {u} l c h r e x y z = record {
-  small = rw z (idx_below u.0);
-  rest = λ ks.
-      rw (y, x, z)
-      (sym (climb_up f (decode ws ks n) (ty b i) (ty_of u.0) h (read_child ws n i l u (sym r ∙ e) ks)) ∙ c.rest ks);
-}
+pub climbs_up : {ws : List ℕ} {n : ℕ} {b₀ : Bool} {i₀ : ℕ} {b : Bool} {i f g : ℕ} {v : TypeNode} {u : «Type»} {p q : Bool} {j : ℕ}
+    → Linked ws n → Climbs ws n b₀ i₀ b i f → f ≡ g + 1 → v ≡ read_at ws n i → v ≡ code.Child u
+    → p ≡ (ty_of u.0).inv → q ≡ xor b p → j ≡ (ty_of u.0).idx → Climbs ws n b₀ i₀ q j g
+climbs_up {ws} {n} {b₀} {i₀} {b} {i} {f} {g} {v} {u} l c h r e x y z =
+    let d : f - 1 ≡ g = omega arith in
+    record {
+      small = rw z (idx_below u.0);
+      rest = λ ks.
+          rw (y, x, z, ← d)
+          (sym (climb_up f (decode ws ks n) (ty b i) (ty_of u.0) (omega arith) (read_child ws n i l u (sym r ∙ e) ks)) ∙ c.rest ks);
+    }
 
 module _ {ws : List ℕ} {n : ℕ} {b₀ : Bool} {i₀ : ℕ} {b : Bool} {i f : ℕ} (c : Climbs ws n b₀ i₀ b i f) (t r : ℕ)
     (e : ty_of r ≡ flip b (ty_of i)) (p : b₀ ≡ (ty_of t).inv) (q : i₀ ≡ (ty_of t).idx) where
@@ -150,20 +152,21 @@ pub record Points (ws : List ℕ) (n r : ℕ) (b₀ : Bool) (i₀ : ℕ) (ws' : 
   pub words : Relinked ws n ws'
   pub rest : (ks : List ℕ) → compress f (decode ws' ks n) (ty_of r) (ty b i) ≡ compress n (decode ws ks n) (ty_of r) (ty b₀ i₀)
 
-pub points_start : (ws : List ℕ) (n r : ℕ) (b : Bool) (i : ℕ) → Linked ws n → Points ws n r b i ws b i n
-points_start ws n r b i l = record { words = relinked_refl l; rest = λ ks. refl }
+pub points_start : {ws : List ℕ} {n f r : ℕ} {b : Bool} {i : ℕ} → Linked ws n → f ≡ n → Points ws n r b i ws b i f
+points_start l h = record { words = relinked_refl l; rest = λ ks. rw h }
 
-pub points_up : {ws : List ℕ} {n r : ℕ} {b₀ : Bool} {i₀ : ℕ} {ws' : List ℕ} {b : Bool} {i f : ℕ} {v : TypeNode} {u : «Type»} {ws'' : List ℕ}
-    {p q : Bool} {j : ℕ} (t : «Type») → Points ws n r b₀ i₀ ws' b i f → 0 < f → v ≡ read_at ws' n i → v ≡ code.Child u
+pub points_up : {ws : List ℕ} {n r : ℕ} {b₀ : Bool} {i₀ : ℕ} {ws' : List ℕ} {b : Bool} {i f g : ℕ} {v : TypeNode} {u : «Type»} {ws'' : List ℕ}
+    {p q : Bool} {j : ℕ} (t : «Type») → Points ws n r b₀ i₀ ws' b i f → f ≡ g + 1 → v ≡ read_at ws' n i → v ≡ code.Child u
     → ty_of t.0 ≡ flip b (ty_of r) → ws'' ≡ put_at ws' n i (code.Child t)
-    → p ≡ (ty_of u.0).inv → q ≡ xor b p → j ≡ (ty_of u.0).idx → Points ws n r b₀ i₀ ws'' q j (f - 1)
-points_up {ws} {n} {r} {b₀} {i₀} {ws'} {b} {i} {f} {v} {u} t c h o e a w x y z =
+    → p ≡ (ty_of u.0).inv → q ≡ xor b p → j ≡ (ty_of u.0).idx → Points ws n r b₀ i₀ ws'' q j g
+points_up {ws} {n} {r} {b₀} {i₀} {ws'} {b} {i} {f} {g} {v} {u} t c h o e a w x y z =
     let room = c.words.linked.room in
+    let d : f - 1 ≡ g = omega arith in
     record {
       words = rw w (relinked_put ws ws' n i u t c.words (sym o ∙ e));
       rest = λ ks.
-          rw (w, decode_put ws' n room i (code.Child t) ks 0 refl, a, y, x, z)
-          (sym (compress_up f (decode ws' ks n) (ty_of r) (ty b i) (ty_of u.0) h (read_child ws' n i c.words.linked u (sym o ∙ e) ks)) ∙ c.rest ks);
+          rw (w, decode_put ws' n room i (code.Child t) ks 0 refl, a, y, x, z, ← d)
+          (sym (compress_up f (decode ws' ks n) (ty_of r) (ty b i) (ty_of u.0) (omega arith) (read_child ws' n i c.words.linked u (sym o ∙ e) ks)) ∙ c.rest ks);
     }
 
 module _ {ws : List ℕ} {n r : ℕ} {b₀ : Bool} {i₀ : ℕ} {ws' : List ℕ} {b : Bool} {i f : ℕ} (c : Points ws n r b₀ i₀ ws' b i f) (t : ℕ)

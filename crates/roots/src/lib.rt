@@ -18,14 +18,12 @@ fn climb(ws: &[u32], n: u32, t: Type) -> Type
 {
     let mut inv = t.inv();
     let mut cur = t.idx();
-    let mut left = n;
-    while 0 < left {
+    for _step in 0..n {
         let TypeNode::Child(parent) = layout::node_at(ws, n, cur) else {
             return Type::new(inv, cur);
         };
         inv = inv ^ parent.inv();
         cur = parent.idx();
-        left -= 1;
     }
     Type::new(inv, cur)
 }
@@ -38,15 +36,13 @@ fn find_far(ws: &mut [u32], n: u32, t: Type) -> Type
     let root = climb(ws, n, t);
     let mut inv = t.inv();
     let mut cur = t.idx();
-    let mut rest = n;
-    while 0 < rest {
+    for _ in 0..n {
         let TypeNode::Child(prev_parent) = layout::node_at(ws, n, cur) else {
             return root;
         };
         layout::put_node(ws, n, cur, TypeNode::Child(root.invert_if(inv)));
         inv = inv ^ prev_parent.inv();
         cur = prev_parent.idx();
-        rest -= 1;
     }
     root
 }
@@ -59,11 +55,10 @@ pub fn near(ws: &[u32], n: u32, t: Type) -> Option<Type>
     let TypeNode::Child(parent) = layout::node_at(ws, n, t.idx()) else {
         return Some(t);
     };
-    let TypeNode::Child(_) = layout::node_at(ws, n, parent.idx()) else {
-        let inv = t.inv();
-        return Some(parent.invert_if(inv));
-    };
-    None
+    match layout::node_at(ws, n, parent.idx()) {
+        TypeNode::Root { .. } => Some(parent.invert_if(t.inv())),
+        TypeNode::Child(_) => None,
+    }
 }
 
 // The same; a type that is near is told at once.
@@ -71,10 +66,7 @@ pub fn find(ws: &[u32], n: u32, t: Type) -> Type
     requires { Linked ws.now n }
     ensures { Found ws.now n t.0 result.0 }
 {
-    let Some(r) = near(ws, n, t) else {
-        return climb(ws, n, t);
-    };
-    r
+    near(ws, n, t).unwrap_or_else(|| climb(ws, n, t))
 }
 
 // "`find_mut` also points every node on the path straight at the root": a type that is near has no such path.
@@ -82,57 +74,49 @@ pub fn find_mut(ws: &mut [u32], n: u32, t: Type) -> Type
     requires { Linked ws.old n }
     ensures { FoundMut ws.old n ws.new t.0 result.0 }
 {
-    let Some(r) = near(ws, n, t) else {
-        return find_far(ws, n, t);
-    };
-    r
+    match near(ws, n, t) {
+        Some(r) => r,
+        None => find_far(ws, n, t),
+    }
+}
+
+// A table has an entry for each node. Past its end nothing is put.
+pub fn put<T: Copy>(table: &mut [T], i: TypeIdx, x: T)
+    ensures { table.new ≡ set table.old i.0 x }
+{
+    let at = i.0 as usize;
+    if at < table.len() {
+        table[at] = x;
+    }
 }
 
 // A mark for each node is a lent byte: nonzero is a mark, "absent means no".
 pub fn is_marked(marks: &[u8], i: TypeIdx) -> bool
     ensures { result ≡ not (eqb (get_or marks.now i.0 0) 0) }
 {
-    let at = i.0 as usize;
-    if at < marks.len() {
-        return marks[at] != 0;
-    }
-    false
+    marks.get(i.0 as usize).is_some_and(|mark| *mark != 0)
 }
 
 pub fn set_mark(marks: &mut [u8], i: TypeIdx)
     ensures { marks.new ≡ set marks.old i.0 1 }
 {
-    let at = i.0 as usize;
-    if at < marks.len() {
-        marks[at] = 1;
-    }
+    put(marks, i, 1);
 }
 
 // A cache has a number for each node: 0, or its root's number and 1, and KEPT_INV more where the root is to be inverted.
+// Kept (1): the table is fixed memory, and two bytes a node say a root or none; `kept` reads them as an Option.
 const KEPT_INV: u32 = 32768;
-
-fn wide(x: u16) -> u32
-    ensures { (result ≡ x) × (result < 65536) }
-{
-    x as u32
-}
 
 // Node i's root by a cache, if it is there.
 fn kept(cache: &[u16], i: TypeIdx) -> Option<Type>
     ensures { Kept (get_or cache.now i.0 0) result }
 {
-    let at = i.0 as usize;
-    if cache.len() <= at {
-        return None;
+    let was = u32::from(*cache.get(i.0 as usize)?).checked_sub(1)?;
+    if was < KEPT_INV {
+        Some(Type(was))
+    } else {
+        Some(Type(was - KEPT_INV).inverse())
     }
-    let was = wide(cache[at]);
-    if was == 0 {
-        return None;
-    }
-    if KEPT_INV < was {
-        return Some(Type(was - 1 - KEPT_INV).inverse());
-    }
-    Some(Type(was - 1))
 }
 
 // The number of a root in a cache; 0 of one that is too large for it.
@@ -141,22 +125,19 @@ fn kept_word(root: Type) -> u16
 {
     let i = root.idx().0;
     if KEPT_INV <= i + 1 {
-        return 0;
+        0
+    } else if root.inv().0 {
+        (i + 1 + KEPT_INV) as u16
+    } else {
+        (i + 1) as u16
     }
-    if root.inv().0 {
-        return (i + 1 + KEPT_INV) as u16;
-    }
-    (i + 1) as u16
 }
 
 // Past the end nothing is kept.
 fn keep(cache: &mut [u16], i: TypeIdx, root: Type)
     ensures { cache.new ≡ set cache.old i.0 (kept_word (ty_of root.0)) }
 {
-    let at = i.0 as usize;
-    if at < cache.len() {
-        cache[at] = kept_word(root);
-    }
+    put(cache, i, kept_word(root));
 }
 
 // A node's root by the first node on its path that is kept or a root; none where n steps meet neither.
@@ -166,8 +147,7 @@ fn top_by(ws: &[u32], n: u32, cache: &[u16], i: TypeIdx) -> Option<Type>
 {
     let mut inv = Inverted(false);
     let mut cur = i;
-    let mut up = n;
-    while 0 < up {
+    for _ in 0..n {
         if let Some(known) = kept(cache, cur) {
             return Some(known.invert_if(inv));
         }
@@ -176,7 +156,6 @@ fn top_by(ws: &[u32], n: u32, cache: &[u16], i: TypeIdx) -> Option<Type>
         };
         inv = inv ^ parent.inv();
         cur = parent.idx();
-        up -= 1;
     }
     None
 }
@@ -188,18 +167,16 @@ fn keep_path(ws: &[u32], n: u32, cache: &mut [u16], i: TypeIdx, root: Type)
 {
     let mut cur = i;
     let mut top = root;
-    let mut more = n;
-    while 0 < more {
+    for _ in 0..n {
         let TypeNode::Child(parent) = layout::node_at(ws, n, cur) else {
             return;
         };
-        let None = kept(cache, cur) else {
+        if kept(cache, cur).is_some() {
             return;
-        };
+        }
         keep(cache, cur, top);
         top = top.invert_if(parent.inv());
         cur = parent.idx();
-        more -= 1;
     }
 }
 
@@ -232,30 +209,26 @@ fn find_new(ws: &[u32], n: u32, cache: &mut [u16], t: Type) -> Type
     find_path(ws, n, cache, t)
 }
 
-// The root of a type by its node's entry in the cache, which is made where there is none.
+// The root of a type by its node's entry in the cache, which is made where there is none. With its loops it stays behind a call.
+#[inline(never)]
 fn find_kept(ws: &[u32], n: u32, cache: &mut [u16], t: Type) -> Type
     requires { Linked ws.now n × Cached ws.now n cache.old }
     ensures { Found ws.now n t.0 result.0 × Cached ws.now n cache.new }
 {
-    let Some(known) = kept(cache, t.idx()) else {
-        return find_new(ws, n, cache, t);
-    };
-    known.invert_if(t.inv())
+    match kept(cache, t.idx()) {
+        Some(known) => known.invert_if(t.inv()),
+        None => find_new(ws, n, cache, t),
+    }
 }
 
 // The same as `find` where much is asked for and nothing changes: a path that is followed is kept, each of its nodes with its root, and a later one
-// ends where it meets it. A caller has the test for a root in its own code and `find_kept`, with its loops, behind a call: it stands here twice, since
-// the compiler inlines what is called once.
+// ends where it meets it. A caller has the test for a root in its own code.
 pub fn find_by(ws: &[u32], n: u32, cache: &mut [u16], t: Type) -> Type
     requires { Linked ws.now n × Cached ws.now n cache.old }
     ensures { Found ws.now n t.0 result.0 × Cached ws.now n cache.new }
 {
-    let i = t.idx();
-    let TypeNode::Child(_) = layout::node_at(ws, n, i) else {
-        return t;
-    };
-    if t.inv().0 {
-        return find_kept(ws, n, cache, t);
+    match layout::node_at(ws, n, t.idx()) {
+        TypeNode::Root { .. } => t,
+        TypeNode::Child(_) => find_kept(ws, n, cache, t),
     }
-    find_kept(ws, n, cache, Type(i.0))
 }

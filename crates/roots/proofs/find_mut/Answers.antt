@@ -3,5 +3,5 @@
 use Rattle.roots.proofs.Laws.{near_left}
 use Rattle.roots.proofs.find_mut.Goals as goal
 
-pub returns : goal.returns
-returns c = near_left _ c.requires c.near.ensures c.in-Some.is
+pub returns-in-Some : goal.returns-in-Some
+returns-in-Some c = near_left _ c.requires c.near.ensures c.in-Some.is

@@ -1,18 +1,17 @@
 -- `roots::kept` meets its contract: what a number is read as.
 -- Assumes nothing.
 use mathlib.Core.Path.{refl}
-use native.Mathlib.Omega.{arith}
-use Rattle.roots.proofs.KeptLaws.{kept_none, kept_low, kept_high}
+use Rattle.std.proofs.Common.{◌≡◌, ◌+◌, ◌<◌, get_or, rules}
+use Rattle.roots.proofs.KeptLaws.{kept_low, kept_high}
 use Rattle.roots.proofs.kept.Goals as goal
 
-pub returns-then-cache-at : goal.returns-then-cache-at
-returns-then-cache-at c = kept_none
+pub returns-then-was-lt-KEPT_INV : goal.returns-then-was-lt-KEPT_INV
+returns-then-was-lt-KEPT_INV c =
+    let e : get_or c.args.cache.now c.args.i.0 0 ≡ c.in_ok-was.was' + 1 = search rules in
+    kept_low _ e c.if-was-lt-KEPT_INV.true refl
 
-pub returns-then-was-eq0 : goal.returns-then-was-eq0
-returns-then-was-eq0 c = kept_none
-
-pub returns-then-was-gt-KEPT_INV : goal.returns-then-was-gt-KEPT_INV
-returns-then-was-gt-KEPT_INV c = kept_high c.inverse.result c.wide-was.ensures.0 c.if-was-gt-KEPT_INV.true c.wide-was.ensures.1 c.inverse.ensures
-
-pub returns : goal.returns
-returns c = kept_low _ c.wide-was.ensures.0 c.if-was-eq0.false (omega (arith, c.if-was-gt-KEPT_INV.false)) refl
+pub returns-else-was-lt-KEPT_INV : goal.returns-else-was-lt-KEPT_INV
+returns-else-was-lt-KEPT_INV c =
+    let e : get_or c.args.cache.now c.args.i.0 0 ≡ c.in_ok-was.was' + 1 = search rules in
+    let h : c.in_ok-was.was' < 65536 = search rules in
+    kept_high _ e c.if-was-lt-KEPT_INV.false h c.inverse.ensures

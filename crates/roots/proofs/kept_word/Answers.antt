@@ -17,6 +17,6 @@ pub returns-then-inv : goal.returns-then-inv
 returns-then-inv c =
     word_some (ty_of c.args.root.0) c.idx-i.ensures true (omega (arith, c.if-i-ge-KEPT_INV.false)) c.inv.ensures c.if-inv.true
 
-pub returns : goal.returns
-returns c =
+pub returns-else-inv : goal.returns-else-inv
+returns-else-inv c =
     word_some (ty_of c.args.root.0) c.idx-i.ensures false (omega (arith, c.if-i-ge-KEPT_INV.false)) c.inv.ensures c.if-inv.false
