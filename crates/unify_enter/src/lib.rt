@@ -45,15 +45,11 @@ pub fn enter<'a>(
     recall::visited(memory, 1);
     let ra = heed::find(ws, n, memory, a);
     let rb = heed::find(ws, n, memory, b);
-    let m = meeting::meet(ws, ks, n, rule, text, ra, rb);
-    match m {
-        None => Entered::Done(walks::walk_pair(ws, ks, n, memory, ra, rb)),
-        Some(p) => {
-            let known = recall::look(memory, n, ra, rb);
-            match known {
-                Some(r) => Entered::Done(r),
-                None => { Entered::Kids(meeting::in_steps(p), recall::clock(memory), ra, rb) }
-            }
-        }
+    let Some(p) = meeting::meet(ws, ks, n, rule, text, ra, rb) else {
+        return Entered::Done(walks::walk_pair(ws, ks, n, memory, ra, rb));
+    };
+    match recall::look(memory, n, ra, rb) {
+        Some(r) => Entered::Done(r),
+        None => Entered::Kids(meeting::in_steps(p), recall::clock(memory), ra, rb),
     }
 }

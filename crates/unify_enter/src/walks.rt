@@ -11,12 +11,10 @@ fn walk_on(ws: &mut [u32], ks: &[u32], n: u32, memory: &mut [u32], a: Type, b: T
     requires { WalkAsks ws.old ks.now memory.old n (ty_of a.0) (ty_of b.0) }
     ensures { WalkTold ws.old ks.now memory.old ws.new memory.new n (ty_of a.0) (ty_of b.0) result }
 {
-    let known = recall::look(memory, n, a, b);
-    if let Some(q) = known {
-        return q;
+    if let Some(r) = recall::look(memory, n, a, b) {
+        return r;
     }
-    let w = meeting::walk_roots(ws, ks, n, a, b);
-    match w {
+    match meeting::walk_roots(ws, ks, n, a, b) {
         Some(r) => {
             recall::walked(memory, n, a, b, r);
             r
@@ -41,23 +39,20 @@ pub fn walk_pair(
     requires { WalkAsks ws.old ks.now memory.old n (ty_of a.0) (ty_of b.0) }
     ensures { WalkTold ws.old ks.now memory.old ws.new memory.new n (ty_of a.0) (ty_of b.0) result }
 {
-    let ia = a.idx();
-    let ib = b.idx();
-    if ia.0 != ib.0 {
+    if a.idx() != b.idx() {
         return walk_on(ws, ks, n, memory, a, b);
     }
-    if !(a.inv() ^ b.inv()).0 {
+    if a.inv() == b.inv() {
         return UnifyResult::Success;
     }
     if heed::small(ws, n, memory, a, b) {
         return UnifyResult::Success;
     }
-    if marks::knows(memory, ia) {
+    if marks::knows(memory, a.idx()) {
         return UnifyResult::Success;
     }
-    let known = recall::look(memory, n, a, b);
-    if let Some(q) = known {
-        return q;
+    if let Some(r) = recall::look(memory, n, a, b) {
+        return r;
     }
     let r = UnifyResult::from(own_inverse::ask(ws, ks, n, memory, a));
     recall::walked(memory, n, a, b, r);

@@ -1,68 +1,62 @@
 -- `unify_enter::enter` meets its contract: no depth is left, two roots of which no child is unified, an answer that the memory knows, or the children of two roots.
 -- Assumes nothing.
 use mathlib.Core.Path.{refl, sym, ◌∙◌}
+use Rattle.std.specs.Prelude.{None}
+use Rattle.names.specs.Place.{texts}
 use Rattle.meeting.proofs.MeetLaws.{bare_tops, bare_meets}
-use Rattle.unify_enter.proofs.Laws.{words_linked, asked_pair, climbed, climbed_here, at_roots, no_depth, walk_asks, way_walk, way_known, kids_spans, way_on}
+use Rattle.scope.specs.Types.{ty_of}
+use Rattle.unify_enter.specs.Enters.{AtRoots}
+use Rattle.unify_enter.proofs.Laws.{words_linked, asked_pair, climbed, climbed_here, at_roots, no_depth, walk_asks, way_walk, way_known, way_on}
 use Rattle.unify_enter.proofs.enter.Goals as goal
+use Rattle.unify_enter.proofs.enter.Goals.{Then-bare_roots, After-meet}
 
 pub returns-then-depth-eq0 : goal.returns-then-depth-eq0
 returns-then-depth-eq0 c = no_depth c.requires c.if-depth-eq0.true
 
-pub bare_roots-requires : goal.bare_roots-requires
-bare_roots-requires c = c.requires.pairs.words.clean.room
-
 -- both are roots, one of them without a kind
 
-pub walk_pair-requires : goal.walk_pair-requires
-walk_pair-requires c =
+bare : (c : Then-bare_roots) → AtRoots (texts c.args.rule.now c.args.text.now) c.args.ws.now c.args.ks.now c.args.memory.now c.args.ws.now c.args.memory.now
+    c.args.n c.args.depth (ty_of c.args.a.0) (ty_of c.args.b.0) c.args.a.0 c.args.b.0 None
+bare c =
     let w = asked_pair c.requires in
     let e = sym c.bare_roots.ensures ∙ c.if-bare_roots.true in
-    walk_asks (at_roots (climbed_here c.requires c.if-depth-eq0.false (bare_tops w e)) (bare_meets w e)) refl
+    at_roots (climbed_here c.requires c.if-depth-eq0.false (bare_tops w e)) (bare_meets w e)
+
+pub walk_pair-requires : goal.walk_pair-requires
+walk_pair-requires c = walk_asks (bare (goal.at.walk_pair-requires c).Then-bare_roots) refl
 
 pub returns-then-bare_roots : goal.returns-then-bare_roots
-returns-then-bare_roots c =
-    let w = asked_pair c.requires in
-    let e = sym c.bare_roots.ensures ∙ c.if-bare_roots.true in
-    way_walk (at_roots (climbed_here c.requires c.if-depth-eq0.false (bare_tops w e)) (bare_meets w e)) refl c.walk_pair.ensures
+returns-then-bare_roots c = way_walk (bare (goal.at.returns-then-bare_roots c).Then-bare_roots) refl c.walk_pair.ensures
 
 -- both roots are found
-
-pub visited-requires : goal.visited-requires
-visited-requires c = c.requires.recalls.tidy
 
 pub find-ra-requires : goal.find-ra-requires
 find-ra-requires c = (words_linked c.requires.pairs.words, c.visited.ensures.tidy)
 
-pub find-rb-requires : goal.find-rb-requires
-find-rb-requires c = (c.find-ra.ensures.found.words.linked, (c.find-ra.ensures.told c.args.ks.now).tidy)
-
-pub meet-m-requires : goal.meet-m-requires
-meet-m-requires c = (climbed c.requires c.if-depth-eq0.false c.visited.ensures c.find-ra.ensures c.find-rb.ensures).tops
-
-pub look-known-requires : goal.look-known-requires
-look-known-requires c = (climbed c.requires c.if-depth-eq0.false c.visited.ensures c.find-ra.ensures c.find-rb.ensures).tops.pair.words.small
+pub meet-requires : goal.meet-requires
+meet-requires c = (climbed c.requires c.if-depth-eq0.false c.visited.ensures c.find-ra.ensures c.find-rb.ensures).tops
 
 -- the roots have met
 
-pub walk_pair-requires-in-None : goal.walk_pair-requires-in-None
-walk_pair-requires-in-None c =
-    walk_asks (at_roots (climbed c.requires c.if-depth-eq0.false c.visited.ensures c.find-ra.ensures c.find-rb.ensures) c.meet-m.ensures) c.in-None.is
+met : (c : After-meet) → AtRoots (texts c.args.rule.now c.args.text.now) c.args.ws.now c.args.ks.now c.args.memory.now c.find-rb.new.ws c.find-rb.new.memory
+    c.args.n c.args.depth (ty_of c.args.a.0) (ty_of c.args.b.0) c.find-ra.result.0 c.find-rb.result.0 c.meet.result
+met c = at_roots (climbed c.requires c.if-depth-eq0.false c.visited.ensures c.find-ra.ensures c.find-rb.ensures) c.meet.ensures
 
-pub in_steps-requires : goal.in_steps-requires
-in_steps-requires c =
-    kids_spans (at_roots (climbed c.requires c.if-depth-eq0.false c.visited.ensures c.find-ra.ensures c.find-rb.ensures) c.meet-m.ensures) c.in-Kids.is
+pub walk_pair-requires-in_default : goal.walk_pair-requires-in_default
+walk_pair-requires-in_default c =
+    walk_asks (met (goal.at.walk_pair-requires-in_default c).After-meet) c.in_default.is
+
+pub returns-in_default : goal.returns-in_default
+returns-in_default c =
+    way_walk (met (goal.at.returns-in_default c).After-meet) c.in_default.is
+    c.walk_pair-in_default.ensures
+
+pub returns-in-Some-look : goal.returns-in-Some-look
+returns-in-Some-look c =
+    way_known (met (goal.at.returns-in-Some-look c).After-meet)
+    c.look.ensures c.in-Some-look.is
 
 pub returns-in-None : goal.returns-in-None
 returns-in-None c =
-    way_walk (at_roots (climbed c.requires c.if-depth-eq0.false c.visited.ensures c.find-ra.ensures c.find-rb.ensures) c.meet-m.ensures) c.in-None.is
-    c.walk_pair-in-None.ensures
-
-pub returns-in-Some : goal.returns-in-Some
-returns-in-Some c =
-    way_known (at_roots (climbed c.requires c.if-depth-eq0.false c.visited.ensures c.find-ra.ensures c.find-rb.ensures) c.meet-m.ensures)
-    c.look-known.ensures c.in-Some.is
-
-pub returns-in-None : goal.returns-in-None
-returns-in-None c =
-    way_on (at_roots (climbed c.requires c.if-depth-eq0.false c.visited.ensures c.find-ra.ensures c.find-rb.ensures) c.meet-m.ensures) c.in-Kids.is
+    way_on (met (goal.at.returns-in-None c).After-meet) c.in-Some.is
     c.in_steps.ensures c.clock.ensures

@@ -2,13 +2,14 @@
 -- root that is its own inverse as it was. Such a root is found so by a walk, whatever was merged since.
 -- Assumes nothing.
 use mathlib.Core.Path.{◌≡◌, refl, ap, sym, subst, ◌∙◌}
-use mathlib.Core.Bool.{Bool, true, false, not, ◌||◌, or-true}
+use mathlib.Core.Bool.{Bool, true, false, not, beq, ◌||◌, or-true}
 use mathlib.Core.List.{List, []}
 use mathlib.Core.Logic.{inl, inr}
 use Prim.Native.Nat.{ℕ, zero, suc, ◌-◌, ◌<◌, ◌≤◌}
 use native.Mathlib.Omega.{arith}
 use lib.ListN.{length}
-use borrow.Author.Tests.{eq-eqb}
+use lib.Dec.{eqb}
+use borrow.Author.Tests.{eq-eqb, eqb-true, not-false}
 use Rattle.scope.specs.Base.{xor}
 use Rattle.scope.specs.Limits.{MAX_NODES}
 use Rattle.scope.specs.Names.{Texts}
@@ -128,9 +129,9 @@ module _ {ws ks m : List ℕ} {n : ℕ} {a b : Ty} (asks : WalkAsks ws ks m n a 
 
   -- one node
 
-  module _ {i j : ℕ} (ei : i ≡ a.idx) (ej : j ≡ b.idx) (eij : i ≡ j) where
+  module _ {i j : ℕ} (ei : i ≡ a.idx) (ej : j ≡ b.idx) (eij : false ≡ not (eqb i j)) where
     one : a.idx ≡ b.idx
-    one = sym ei ∙ (eij ∙ ej)
+    one = sym ei ∙ (eqb-true i j (not-false (eqb i j) (sym eij)) ∙ ej)
 
     same_walks : walks n (decode ws ks n) a b ≡ out (decode ws ks n) (same_node n (decode ws ks n) a b)
     same_walks = rw (eq-eqb a.idx b.idx one) refl
@@ -149,27 +150,25 @@ module _ {ws ks m : List ℕ} {n : ℕ} {a b : Ty} (asks : WalkAsks ws ks m n a 
         (subst (λ (t : Ty). Self (view ns) t.idx) top s) in
         subst (λ (j : ℕ). self_inverse_at false j ns a.idx ≡ true) (length_decode ws ks n) y
 
-    pub walk_known : {r : Bool} → Said m i r → r ≡ true → WalkTold ws ks m ws m n a b Success
-    walk_known k e =
+    pub walk_known : {h : ℕ} {r : Bool} → h ≡ a.idx → Said m h r → r ≡ true → WalkTold ws ks m ws m n a b Success
+    walk_known {h} eh k e =
         walk_still (same_walks ∙ ap (λ (t : Bool). out ns (answers.of_bool t)) (ap (λ (t : Bool). not (xor a.inv b.inv) || t)
-        (self_found (subst (SelfAt ns) ei (asks.recalls.marks.self i (k.known e)))) ∙ or-true (not (xor a.inv b.inv))))
+        (self_found (subst (SelfAt ns) eh (asks.recalls.marks.self h (k.known e)))) ∙ or-true (not (xor a.inv b.inv))))
 
-    pub walk_inside : i < MAX_NODES
-    walk_inside = omega (arith, ei, tops.pair.first, words.small)
+    turned : {p q t : Bool} → p ≡ a.inv → q ≡ b.inv → t ≡ beq p q → not (xor a.inv b.inv) ≡ t
+    turned {t = t} ep eq h = go a.inv b.inv (rw (ep, eq) at h)
+      where
+        go : (p q : Bool) → t ≡ beq p q → not (xor p q) ≡ t
+        go true true f = sym f
+        go true false f = sym f
+        go false true f = sym f
+        go false false f = sym f
 
-    turned : {p q v w : Bool} → p ≡ a.inv → q ≡ b.inv → v ≡ xor p q → not v ≡ w → not (xor a.inv b.inv) ≡ w
-    turned ep eq ev h = rw (← ep, ← eq, ← ev) h
-
-    -- two types that agree
-    pub walk_agrees : {p q v : Bool} → p ≡ a.inv → q ≡ b.inv → v ≡ xor p q → not v ≡ true → WalkTold ws ks m ws m n a b Success
-    walk_agrees ep eq ev h =
-        walk_still (same_walks ∙ ap (λ (t : Bool). out ns (answers.of_bool (t || self_inverse_at false n ns a.idx))) (turned ep eq ev h))
-
-    -- or are each other's inverses
-    pub walk_crosses : {p q v t : Bool} (r : UnifyResult) → p ≡ a.inv → q ≡ b.inv → v ≡ xor p q → not v ≡ false → t ≡ self_inverse_at false n (decode ws ks n) a.idx
+    -- two types that are each other's inverses
+    pub walk_crosses : {p q t : Bool} (r : UnifyResult) → p ≡ a.inv → q ≡ b.inv → false ≡ beq p q → t ≡ self_inverse_at false n (decode ws ks n) a.idx
         → answer_of r ≡ answers.of_bool t → walks n (decode ws ks n) a b ≡ out (decode ws ks n) (answer_of r)
-    walk_crosses r ep eq ev h es er =
-        same_walks ∙ (ap (λ (y : Bool). out ns (answers.of_bool (y || self_inverse_at false n ns a.idx))) (turned ep eq ev h)
+    walk_crosses r ep eq h es er =
+        same_walks ∙ (ap (λ (y : Bool). out ns (answers.of_bool (y || self_inverse_at false n ns a.idx))) (turned ep eq h)
         ∙ ap (out ns) (ap answers.of_bool (sym es) ∙ sym er))
 
 -- a pair in words: what the memory tells is what a walk would give, and what a walk gave is so
@@ -222,16 +221,16 @@ own_after : {ws ks m m₁ : List ℕ} {n a : ℕ} {t : Bool} → OwnTold ws ks m
 own_after o y g = recalls_moved g (moved_marked g.tidy o.beside) o.marks
 
 module _ {ws ks m m₁ : List ℕ} {n a b : ℕ} {t : Bool} (asks : WalkAsks ws ks m n (ty_of a) (ty_of b)) (o : OwnTold ws ks m m₁ n a t) where
-  pub walk_own : {m' : List ℕ} {r : UnifyResult} {i j : ℕ} {p q v : Bool} → i ≡ (ty_of a).idx → j ≡ (ty_of b).idx → i ≡ j → p ≡ (ty_of a).inv → q ≡ (ty_of b).inv → v ≡ xor p q
-      → not v ≡ false → answer_of r ≡ answers.of_bool t → WalkNoted m₁ m' a b r → WalkTold ws ks m ws m' n (ty_of a) (ty_of b) r
-  walk_own {r = r} ei ej eij ep eq ev h er k = record {
+  pub walk_own : {m' : List ℕ} {r : UnifyResult} {i j : ℕ} {p q : Bool} → i ≡ (ty_of a).idx → j ≡ (ty_of b).idx → false ≡ not (eqb i j) → p ≡ (ty_of a).inv → q ≡ (ty_of b).inv
+      → false ≡ beq p q → answer_of r ≡ answers.of_bool t → WalkNoted m₁ m' a b r → WalkTold ws ks m ws m' n (ty_of a) (ty_of b) r
+  walk_own {r = r} ei ej eij ep eq h er k = record {
     leaves = record { same = same; clean = λ c cl. cl; tail = refl };
     since = record { on = omega (arith, marked_clock o.beside, k.on); still = λ r e. refl };
     recalls = λ y f g. noted after same k y f (own_after o y g);
   }
     where
       same : walks n (decode ws ks n) (ty_of a) (ty_of b) ≡ out (decode ws ks n) (answer_of r)
-      same = walk_crosses asks ei ej eij r ep eq ev h o.same er
+      same = walk_crosses asks ei ej eij r ep eq h o.same er
 
       after : WalkAsks ws ks m₁ n (ty_of a) (ty_of b)
       after = record { roots = asks.roots; adds = asks.adds; meets = asks.meets; recalls = own_after o asks.roots.lent asks.recalls }
