@@ -1,21 +1,19 @@
 -- A mark is a bit of its node's word: setting one leaves the others as they were. What each function does to the words, and so to what is marked.
 -- Assumes nothing.
 use mathlib.Core.Path.{◌≡◌, refl, ap, sym, subst, ◌∙◌}
-use mathlib.Core.Bool.{false}
 use mathlib.Core.List.{List, [], ◌∷◌}
 use mathlib.Core.Logic.{◌⊎◌, inl, inr}
 use Prim.Native.Nat.{ℕ, zero, suc, ◌+◌, ◌-◌, ◌*◌, ◌/◌, ◌%◌, ◌^◌, ◌<◌, ◌≤◌, max}
 use native.Mathlib.Omega.{arith}
-use native.Mathlib.Nat.{mod-lt, div-eq_of_lt, zero-div}
+use native.Mathlib.Nat.{mod-lt, div-eq_of_lt}
 use native.Mathlib.Decide.{ℕ_discrete, dec_lt}
 use lib.Bits.{bit_or, or_step, or_shr, shifted_even}
 use lib.Pow.{pow-lt, pow-add, shl_exact, shl-shr}
-use lib.Dec.{eqb, lit<}
-use borrow.Author.Tests.{eqb-true}
+use lib.Dec.{lit<}
 use lib.ListN.{length, get_or, set}
 use lib.Seq.{get_or-set_same, get_or-set_other, set_out}
 use Rattle.scope.specs.Limits.{MAX_NODES}
-use Rattle.marks.specs.Marks.{BITS, MARKED, MARKS, HEAD, bit_of, Knows, Said, Beside, Opened, Marked, OLD, Tells, MarkedNew}
+use Rattle.marks.specs.Marks.{BITS, MARKED, MARKS, HEAD, bit_of, Knows, Beside, Opened, Marked}
 
 -- one bit of a word
 
@@ -81,16 +79,6 @@ marks_same h i k = record {
   mark = ap (λ (w : ℕ). bit_of w i) (sym (h (MARKS + i / BITS) (omega arith) (omega (arith, k.inside)))) ∙ k.mark;
 }
 
--- `knows`
-
-pub said_no : {m : List ℕ} {i : ℕ} → Said m i false
-said_no = record { known = λ e. let z : ◌≡◌ {A = ℕ} 0 1 = cc in absurd (omega arith) }
-
-pub said : {m : List ℕ} {i x w : ℕ} → i < MAX_NODES → x ≡ get_or m MARKED 0 → x ≡ 1 → w ≡ get_or m (MARKS + i / BITS) 0 → Said m i (eqb (w / 2 ^ (i % BITS) % 2) 1)
-said {m} {i} {x} {w} h ex e ew = record {
-  known = λ f. record { inside = h; some = sym ex ∙ e; mark = ap (λ (v : ℕ). bit_of v i) (sym ew) ∙ eqb-true (bit_of w i) 1 f };
-}
-
 -- `open_marks`
 
 beside_same : {m : List ℕ} → Beside m m
@@ -103,44 +91,11 @@ beside_set {m₀} {m} {m'} p x b l h e = record { before = λ j g. other j (λ q
     other : (j : ℕ) → (j ≡ p → ⊥) → get_or m' j 0 ≡ get_or m j 0
     other j q = ap (λ (v : List ℕ). get_or v j 0) e ∙ get_or-set_other m p j x 0 q
 
-pub opened_same : {m : List ℕ} → Opened m m
-opened_same = record { beside = beside_same; marks = λ i k. k }
-
 -- the words of the marks below i are 0
 pub record Opening (m₀ m : List ℕ) (i : ℕ) : Type 0 where
   pub from : MARKS ≤ i
   pub zero : (j : ℕ) → MARKS ≤ j → j < i → get_or m j 0 ≡ 0
   pub beside : Beside m₀ m
-
-pub open_start : {m : List ℕ} → Opening m m MARKS
-open_start = record { from = omega arith; zero = λ j h g. absurd (omega arith); beside = beside_same }
-
-pub open_next : {m₀ m m' : List ℕ} {i : ℕ} → Opening m₀ m i → i < HEAD → m' ≡ set m i 0 → Opening m₀ m' (i + 1)
-open_next {m₀} {m} {m'} {i} w h e = record {
-  from = omega (arith, w.from);
-  zero = λ j g l. go j g l (ℕ_discrete j i);
-  beside = beside_set i 0 w.beside (omega (arith, w.from)) h e;
-}
-  where
-    other : (j : ℕ) → (j ≡ i → ⊥) → get_or m' j 0 ≡ get_or m j 0
-    other j q = ap (λ (l : List ℕ). get_or l j 0) e ∙ get_or-set_other m i j 0 0 q
-
-    go : (j : ℕ) → MARKS ≤ j → j < i + 1 → Dec (j ≡ i) → get_or m' j 0 ≡ 0
-    go j g l (yes q) = ap (λ (l : List ℕ). get_or l j 0) e ∙ subst (λ (v : ℕ). get_or (set m i 0) v 0 ≡ 0) (sym q) (set_zero m i)
-    go j g l (no q) = other j q ∙ w.zero j g (omega arith)
-
-pub open_ends : {m₀ m m' : List ℕ} {i : ℕ} → Opening m₀ m i → HEAD ≤ i → m' ≡ set m MARKED 1 → Opened m₀ m'
-open_ends {m₀} {m} {m'} {i} w h e = record {
-  beside = beside_set MARKED 1 w.beside (omega arith) (omega arith) e;
-  marks = λ j k.
-      let p : ℕ = MARKS + j / BITS in
-      let z : get_or m' p 0 ≡ 0 = other p (λ q. omega arith) ∙ w.zero p (omega arith) (omega (arith, k.inside, h)) in
-      let b : bit_of 0 j ≡ 0 = ap (λ (v : ℕ). v % 2) (zero-div (2 ^ (j % BITS))) in
-      absurd (omega (arith, k.mark, ap (λ (v : ℕ). bit_of v j) z ∙ b));
-}
-  where
-    other : (j : ℕ) → (j ≡ MARKED → ⊥) → get_or m' j 0 ≡ get_or m j 0
-    other j q = ap (λ (l : List ℕ). get_or l j 0) e ∙ get_or-set_other m MARKED j 1 0 q
 
 -- `know`
 
@@ -181,50 +136,3 @@ marked {m} {m₁} {m₂} {i} {w} h o ew e = record {
     go : (j : ℕ) → Knows m₂ j → Dec (MARKS + j / BITS ≡ p) → (j ≡ i) ⊎ Knows m j
     go j k (yes q) = elim (here j k q (dec_lt p (length m₁))) [ inl y ↦ inl y | inr y ↦ inr (o.marks j y) ]
     go j k (no q) = inr (o.marks j (record { inside = k.inside; some = some j k; mark = ap (λ (v : ℕ). bit_of v j) (sym (other (MARKS + j / BITS) q)) ∙ k.mark }))
-
--- `tell`
-
-pub tells_same : {m f : List ℕ} → Tells m f f
-tells_same = record { each = λ i. inl refl }
-
-pub tells_then : {m f f₁ f₂ : List ℕ} → Tells m f f₁ → Tells m f₁ f₂ → Tells m f f₂
-tells_then {m} {f} {f₁} {f₂} a b = record { each = λ i. go i (b.each i) (a.each i) }
-  where
-    go : (i : ℕ) → (get_or f₂ i 0 ≡ get_or f₁ i 0) ⊎ ((get_or f₂ i 0 ≡ OLD) × Knows m i) → (get_or f₁ i 0 ≡ get_or f i 0) ⊎ ((get_or f₁ i 0 ≡ OLD) × Knows m i)
-        → (get_or f₂ i 0 ≡ get_or f i 0) ⊎ ((get_or f₂ i 0 ≡ OLD) × Knows m i)
-    go i (inr k) o = inr k
-    go i (inl e) (inl q) = inl (e ∙ q)
-    go i (inl e) (inr k) = inr (e ∙ k.0, k.1)
-
--- a bit of the word p
-knows_bit : {m : List ℕ} {p k w : ℕ} → get_or m MARKED 0 ≡ 1 → p < MAX_NODES / BITS → k < BITS → w ≡ get_or m (MARKS + p) 0 → w / 2 ^ k % 2 ≡ 1 → Knows m (p * BITS + k)
-knows_bit {m} {p} {k} {w} s hp hk ew e = record {
-  inside = omega (arith, hp, hk);
-  some = s;
-  mark =
-      let q : (p * BITS + k) / BITS ≡ p = omega (arith, hk) in
-      let r : (p * BITS + k) % BITS ≡ k = omega (arith, hk) in
-      rw (q, r, ← ew) e;
-}
-
-pub tells_bit : {m f₀ f f' : List ℕ} {p k w i : ℕ} → Tells m f₀ f → get_or m MARKED 0 ≡ 1 → p < MAX_NODES / BITS → k < BITS → w ≡ get_or m (MARKS + p) 0 → w / 2 ^ k % 2 ≡ 1
-    → i ≡ p * BITS + k → i < length f → f' ≡ set f i OLD → Tells m f₀ f'
-tells_bit {m} {f₀} {f} {f'} {p} {k} {w} {i} t s hp hk ew e ei l ef = tells_then t (record { each = λ j. go j (ℕ_discrete j i) })
-  where
-    go : (j : ℕ) → Dec (j ≡ i) → (get_or f' j 0 ≡ get_or f j 0) ⊎ ((get_or f' j 0 ≡ OLD) × Knows m j)
-    go j (yes q) = inr (
-      ap (λ (v : List ℕ). get_or v j 0) ef ∙ (ap (λ (v : ℕ). get_or (set f i OLD) v 0) q ∙ get_or-set_same f i OLD 0 l),
-      subst (Knows m) (sym (q ∙ ei)) (knows_bit s hp hk ew e),
-    )
-    go j (no q) = inl (ap (λ (v : List ℕ). get_or v j 0) ef ∙ get_or-set_other f i j OLD 0 q)
-
--- `know_new`
-
-pub new_same : {m f : List ℕ} → MarkedNew m m f
-new_same = record { beside = beside_same; marks = λ j k. inr k }
-
-pub new_more : {m₀ m m' f : List ℕ} {i : ℕ} → MarkedNew m₀ m f → get_or f i 0 ≡ 1 → Marked m m' i → MarkedNew m₀ m' f
-new_more {m₀} {m} {m'} {f} {i} w e k = record {
-  beside = record { before = λ j h. k.beside.before j h ∙ w.beside.before j h; after = λ j h. k.beside.after j h ∙ w.beside.after j h };
-  marks = λ j o. elim (k.marks j o) [ inl q ↦ inl (ap (λ (v : ℕ). get_or f v 0) q ∙ e) | inr o ↦ w.marks j o ];
-}

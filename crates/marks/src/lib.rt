@@ -27,10 +27,7 @@ const OLD: u8 = 2;
 pub fn at(m: &[u32], i: usize) -> u32
     ensures { result ≡ get_or m.now i 0 }
 {
-    if i < m.len() {
-        return m[i];
-    }
-    0
+    m.get(i).copied().unwrap_or(0)
 }
 
 pub fn put(m: &mut [u32], i: usize, x: u32)
@@ -46,11 +43,8 @@ pub fn knows(m: &[u32], i: TypeIdx) -> bool
     requires { i.0 < «MAX_NODES» }
     ensures { Said m.now i.0 result }
 {
-    if at(m, MARKED) != 1 {
-        return false;
-    }
     let k = i.0 as usize;
-    (at(m, MARKS + k / BITS) >> (k % BITS)) % 2 == 1
+    at(m, MARKED) == 1 && (at(m, MARKS + k / BITS) >> (k % BITS)) % 2 == 1
 }
 
 // There are marks from here on: none, where there were none.
@@ -60,10 +54,8 @@ fn open_marks(m: &mut [u32])
     if at(m, MARKED) == 1 {
         return;
     }
-    let mut i = MARKS;
-    while i < HEAD {
+    for i in MARKS..HEAD {
         put(m, i, 0);
-        i += 1;
     }
     put(m, MARKED, 1);
 }
@@ -88,15 +80,10 @@ fn tell_word(m: &[u32], p: usize, found: &mut [u8])
     if w == 0 {
         return;
     }
-    let mut j = 0;
-    while j < BITS {
-        let k = j;
+    for k in 0..BITS {
         let i = p * BITS + k;
-        j += 1;
-        if i < found.len() {
-            if (w >> k) % 2 == 1 {
-                found[i] = OLD;
-            }
+        if i < found.len() && (w >> k) % 2 == 1 {
+            found[i] = OLD;
         }
     }
 }
@@ -108,10 +95,8 @@ pub fn tell(m: &[u32], found: &mut [u8])
     if at(m, MARKED) != 1 {
         return;
     }
-    let mut p = 0;
-    while p < MAX_NODES / BITS {
+    for p in 0..MAX_NODES / BITS {
         tell_word(m, p, found);
-        p += 1;
     }
 }
 
@@ -119,14 +104,9 @@ pub fn tell(m: &[u32], found: &mut [u8])
 pub fn know_new(m: &mut [u32], found: &[u8])
     ensures { MarkedNew m.old m.new found.now }
 {
-    let mut i: usize = 0;
-    while i < MAX_NODES {
-        let k = i;
-        i += 1;
-        if k < found.len() {
-            if found[k] == 1 {
-                know(m, TypeIdx(k as u32));
-            }
+    for k in 0..found.len().min(MAX_NODES) {
+        if found[k] == 1 {
+            know(m, TypeIdx(k as u32));
         }
     }
 }
