@@ -30,12 +30,6 @@ use Rattle.roots.specs.Kept.{KEPT_INV, kept_type, kept_word, Kept, Rooted, Cache
 
 -- numbers
 
-pub kept_none : {k : ℕ} → Kept k near.None
-kept_none = record {
-  there = λ r e. let z : ◌≡◌ {A = ℕ} 0 1 = cc in absurd (omega arith);
-  type = λ r e. let z : ◌≡◌ {A = ℕ} 0 1 = cc in absurd (omega arith);
-}
-
 kept_is : {k : ℕ} (r : «Type») → (k ≡ 0 → ⊥) → ty_of r.0 ≡ kept_type k → Kept k (near.Some r)
 kept_is r h e = record {
   there = λ q s. h;
@@ -121,9 +115,6 @@ pub record Keeps (ws : List ℕ) (n : ℕ) (cache₀ cache : List ℕ) (i r : �
   pub long : length cache ≡ length cache₀
   pub cached : Cached ws n cache
   pub here : Rooted ws n i (ty_of r)
-
-pub keeps_start : {ws : List ℕ} {n : ℕ} {cache : List ℕ} {i r : ℕ} → Cached ws n cache → Rooted ws n i (ty_of r) → Keeps ws n cache cache i r
-keeps_start c f = record { long = refl; cached = c; here = f }
 
 pub keeps_up : {ws : List ℕ} {n : ℕ} {cache₀ cache : List ℕ} {i r : ℕ} {v : TypeNode} {u : «Type»} {cache' : List ℕ} {b : Bool} {q j : ℕ}
     → Linked ws n → Keeps ws n cache₀ cache i r → v ≡ read_at ws n i → v ≡ code.Child u → cache' ≡ set cache i (kept_word (ty_of r))

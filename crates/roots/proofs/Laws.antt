@@ -228,9 +228,3 @@ module _ {ws : List ℕ} {n : ℕ} {t : «Type»} {i : ℕ} (ei : i ≡ (ty_of t
 
       top : (ks : List ℕ) → is_root (at (decode ws ks n) (ty_of u.0).idx) ≡ true
       top ks = read_root ws n (ty_of u.0).idx st z (at_node ws n ej ew er) ks
-
-pub is_far : {ws : List ℕ} {n t : ℕ} → Near ws n t near.None
-is_far = record {
-  found = λ r e. let z : ◌≡◌ {A = ℕ} 0 1 = cc in absurd (omega arith);
-  stays = λ r e. let z : ◌≡◌ {A = ℕ} 0 1 = cc in absurd (omega arith);
-}

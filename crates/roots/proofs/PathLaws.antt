@@ -5,7 +5,6 @@ use mathlib.Core.Path.{◌≡◌, refl, ap, sym, subst, ◌∙◌}
 use mathlib.Core.Bool.{Bool, true, false}
 use mathlib.Core.List.{List}
 use Prim.Native.Nat.{ℕ, zero, suc, ◌<◌}
-use native.Mathlib.Omega.{arith}
 use lib.ListN.{length}
 use Rattle.scope.specs.Base.{xor}
 use Rattle.scope.specs.Types.{Ty, ty, flip, INV_BIT, ty_of}
@@ -91,9 +90,6 @@ pub record Rises (ws : List ℕ) (n i₀ : ℕ) (b : Bool) (i : ℕ) : Type 0 wh
   pub small : i < INV_BIT
   pub rest : (ks : List ℕ) (r : Ty) → Path (decode ws ks n) i r → Path (decode ws ks n) i₀ (flip b r)
 
-pub rises_start : (ws : List ℕ) (n i : ℕ) → i < INV_BIT → Rises ws n i false i
-rises_start ws n i h = record { small = h; rest = λ ks r p. p }
-
 module _ {ws : List ℕ} {n i₀ : ℕ} {b : Bool} {i : ℕ} (c : Rises ws n i₀ b i) where
   pub rises_up : {v : TypeNode} {u : «Type»} {p q : Bool} {j : ℕ} → Linked ws n → v ≡ read_at ws n i → v ≡ code.Child u
       → p ≡ (ty_of u.0).inv → q ≡ xor b p → j ≡ (ty_of u.0).idx → Rises ws n i₀ q j
@@ -116,6 +112,3 @@ module _ {ws : List ℕ} {n i₀ : ℕ} {b : Bool} {i : ℕ} (c : Rises ws n i�
   rises_root {st = st} {z = z} q o e x =
       let own : Rooted ws n i (ty false i) = rooted (λ ks. root_path (decode ws ks n) i (read_root ws n i st z (sym o ∙ e) ks)) in
       rises_kept q own (x ∙ (ty_new b i c.small ∙ sym (flip_false b i)))
-
-pub topped_none : {ws : List ℕ} {n i : ℕ} → Topped ws n i near.None
-topped_none = record { told = λ r e. let z : ◌≡◌ {A = ℕ} 0 1 = cc in absurd (omega arith) }

@@ -80,11 +80,10 @@ pub fn find_mut(ws: &mut [u32], n: u32, t: Type) -> Type
     }
 }
 
-// A table has an entry for each node. Past its end nothing is put.
-pub fn put<T: Copy>(table: &mut [T], i: TypeIdx, x: T)
-    ensures { table.new ≡ set table.old i.0 x }
+// Past the end of a table nothing is put.
+pub fn put<T: Copy>(table: &mut [T], at: usize, x: T)
+    ensures { table.new ≡ set table.old at x }
 {
-    let at = i.0 as usize;
     if at < table.len() {
         table[at] = x;
     }
@@ -100,7 +99,7 @@ pub fn is_marked(marks: &[u8], i: TypeIdx) -> bool
 pub fn set_mark(marks: &mut [u8], i: TypeIdx)
     ensures { marks.new ≡ set marks.old i.0 1 }
 {
-    put(marks, i, 1);
+    put(marks, i.0 as usize, 1);
 }
 
 // A cache has a number for each node: 0, or its root's number and 1, and KEPT_INV more where the root is to be inverted.
@@ -137,7 +136,7 @@ fn kept_word(root: Type) -> u16
 fn keep(cache: &mut [u16], i: TypeIdx, root: Type)
     ensures { cache.new ≡ set cache.old i.0 (kept_word (ty_of root.0)) }
 {
-    put(cache, i, kept_word(root));
+    put(cache, i.0 as usize, kept_word(root));
 }
 
 // A node's root by the first node on its path that is kept or a root; none where n steps meet neither.

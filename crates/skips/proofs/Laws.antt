@@ -4,7 +4,7 @@
 use mathlib.Core.Path.{◌≡◌, ap, sym, ◌∙◌}
 use mathlib.Core.Bool.{Bool, true}
 use mathlib.Core.List.{List}
-use Prim.Native.Nat.{ℕ, ◌+◌, ◌-◌, ◌≤◌, ◌<◌}
+use Prim.Native.Nat.{ℕ, ◌+◌, ◌≤◌, ◌<◌}
 use native.Mathlib.Omega.{arith}
 use native.Mathlib.Decide.{ℕ_discrete, dec_lt}
 use lib.ListN.{length, get_or, set, replicate, get_or-replicate, length-replicate, get_or-eq_default}
@@ -57,42 +57,12 @@ module _ {skip : List ℕ} {s a b : ℕ} (ea : a ≡ get_or skip s 0) (eb : b �
       go (no h) = c.each (s + a) x (omega arith) (rw (← eb) (omega arith))
 
   module _ (la : a < BYTES) (lb : b < BYTES) where
-    pub passed_both : Passed skip skip s (a + b)
-    passed_both = record { over = over_both; skips = λ p c. c; below = omega arith }
-
-    pub passed_kept : {skip' : List ℕ} → skip' ≡ set skip s (a + b) → Passed skip skip' s (a + b)
-    passed_kept e = record {
+    pub passed_kept : {skip' : List ℕ} {v : ℕ} → v ≡ a + b → skip' ≡ set skip s v → Passed skip skip' s (a + b)
+    passed_kept h e = record {
       over = over_both;
-      skips = λ p c. rw e (skips_set s (a + b) c (over_both p c));
+      skips = λ p c. rw (e, h) (skips_set s (a + b) c (over_both p c));
       below = omega arith;
     }
-
--- a run of slots is scanned, from s on up to r so far
-
-pub scanned_start : (ks seen : List ℕ) (s end : ℕ) → s ≤ end → Scanned ks seen s end s
-scanned_start ks seen s end h = record { from = omega arith; below = h; over = λ x l u. absurd (omega arith) }
-
-pub scanned_next : {ks seen : List ℕ} {s end r j : ℕ} {b : Bool} (d : Slot) → Scanned ks seen s end r → r < end → slot_means d ≡ slot_at ks r → j ≡ (ty_of d.ty.0).idx
-    → b ≡ marked seen j → b ≡ true → Scanned ks seen s end (r + 1)
-scanned_next {ks} {seen} {s} {end} {r} d c h q o m z = record {
-  from = omega (arith, c.from);
-  below = omega arith;
-  over = λ x l u. go x l u (ℕ_discrete x r);
-}
-  where
-    go : (x : ℕ) → s ≤ x → x < r + 1 → Dec (x ≡ r) → slot_seen ks seen x ≡ true
-    go x l u (yes e) = rw e (slot_seen_lem ks seen r d q o m z)
-    go x l u (no e) = c.over x l (omega arith)
-
--- a run of slots is filled, from s up to x so far
-
-pub filled_none : (skip : List ℕ) (s t : ℕ) → Filled skip skip s t
-filled_none skip s t = record { skips = λ p c h. c }
-
-pub filled_next : {skip now now' : List ℕ} {s x t : ℕ} → Filled skip now s t → s ≤ x → x < t → now' ≡ set now x (t - x) → Filled skip now' s t
-filled_next {s = s} {x = x} {t = t} f l u e = record {
-  skips = λ p c h. rw e (skips_set x (t - x) (f.skips p c h) (λ y a b. h y (omega arith) (omega arith)));
-}
 
 -- what follows a slot
 

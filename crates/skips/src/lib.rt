@@ -1,34 +1,17 @@
 #![tactic(auto)]
 // A byte for each child slot says over how many, from it on, a walk passes, since the roots of their children are marked: so runs of children that overlap are
 // gone through once. Nothing here knows of marks: what holds of all slots that are passed over holds of all that are passed over afterwards.
-ghost use Rattle.std.specs.Prelude.{◌≡◌, ◌≤◌, ◌<◌, get_or, set};
+ghost use Rattle.std.specs.Prelude.{◌≡◌, ◌≤◌, ◌<◌, get_or};
 ghost use Rattle.skips.specs.Table.{SLOTS, BYTES, Passed, Scanned, Filled, Stretched};
 
 // What a byte is less than.
 const BYTES: usize = 256;
 
-fn wide(x: u8) -> usize
-    ensures { (result ≡ x) × (result < BYTES) }
-{
-    x as usize
-}
-
 // A byte for each child slot says over how many, from it on, a walk passes: the roots of their children are marked. Past the end it is none.
 fn skip_at(skip: &[u8], s: usize) -> usize
     ensures { (result ≡ get_or skip.now s 0) × (result < BYTES) }
 {
-    if s < skip.len() {
-        return wide(skip[s]);
-    }
-    0
-}
-
-fn put_skip(skip: &mut [u8], s: usize, far: u8)
-    ensures { skip.new ≡ set skip.old s far }
-{
-    if s < skip.len() {
-        skip[s] = far;
-    }
+    skip.get(s).map_or(0, |far| usize::from(*far))
 }
 
 // How many slots from s on are passed over: those that s tells of, and those that the next one does. Both become one where a byte holds them, so that
@@ -41,10 +24,9 @@ pub fn pass(skip: &mut [u8], s: usize) -> usize
     if near == 0 {
         return 0;
     }
-    let more = skip_at(skip, s + near);
-    let far = near + more;
-    if far < BYTES {
-        put_skip(skip, s, far as u8);
+    let far = near + skip_at(skip, s + near);
+    if let Ok(byte) = u8::try_from(far) {
+        roots::put(skip, s, byte);
     }
     far
 }
@@ -54,18 +36,13 @@ fn scan(ks: &[u32], seen: &[u8], skip: &[u8], s: usize, end: usize) -> usize
     requires { s ≤ end }
     ensures { Scanned ks.now seen.now s end result }
 {
-    let mut t = s;
-    while t < end {
+    for t in s..end {
         let kid = layout::child_at(ks, t).ty.idx();
-        if !roots::is_marked(seen, kid) {
+        if !roots::is_marked(seen, kid) || 0 < skip_at(skip, t) {
             return t;
         }
-        if 0 < skip_at(skip, t) {
-            return t;
-        }
-        t += 1;
     }
-    t
+    end
 }
 
 // Each slot from s up to t tells how far t is, where a byte holds it.
@@ -76,13 +53,8 @@ fn fill(skip: &mut [u8], s: usize, t: usize)
     if BYTES <= t - s {
         return;
     }
-    let mut x = s;
-    while x < t {
-        if skip.len() <= x {
-            return;
-        }
+    for x in s..t.min(skip.len()) {
         skip[x] = (t - x) as u8;
-        x += 1;
     }
 }
 
