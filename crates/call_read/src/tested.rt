@@ -13,7 +13,7 @@ ghost use Rattle.call_read.specs.Replies.{Answers, NodePromised, child_reply, na
 
 use crate::{ChildAnswer, FiguresAnswer, NameAnswer, NodeAnswer};
 use chart::Beside;
-use kinds::{CHILD_NAMES, OWN_NAME, PARAMETER_NAMES};
+use kinds::Names;
 use layout::{Kind, TypeNode, TypeState};
 use names::Name;
 use promise::refusal_at;
@@ -70,22 +70,12 @@ fn child_named(ks: &[u32], kind: Kind, n: u32, j: u32) -> NameAnswer
 fn name_of_kind(ks: &[u32], kind: Kind, j: u32) -> NameAnswer
     ensures { value (flat (get_elem? (kind_means ks.now kind).head.names j)) ≡ name_reply result }
 {
-    let names = kinds::row_of(kind.code).names;
-    if names == OWN_NAME {
-        if j == 0 {
-            return told_name(kind.name);
-        }
-        return NameAnswer::Nothing;
+    match kinds::row_of(kind.code).names {
+        Names::Own if j == 0 => told_name(kind.name),
+        Names::OfChildren => child_named(ks, kind, kind.count, j),
+        Names::OfParameters if 0 < kind.count => child_named(ks, kind, kind.count - 1, j),
+        _ => NameAnswer::Nothing,
     }
-    if names == CHILD_NAMES {
-        return child_named(ks, kind, kind.count, j);
-    }
-    if names == PARAMETER_NAMES {
-        if 0 < kind.count {
-            return child_named(ks, kind, kind.count - 1, j);
-        }
-    }
-    NameAnswer::Nothing
 }
 
 // Name j of a node that was read; a node without a kind has none.

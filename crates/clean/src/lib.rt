@@ -6,11 +6,12 @@
 // are within their limits. Soundness allows a kind 255 children, but nothing here says so: who tests many nodes tests widths first.
 ghost use Rattle.std.specs.Prelude.{◌≡◌, ◌+◌, ◌*◌, ◌≤◌, length};
 ghost use Rattle.scope.specs.Sound.{zeros, names_clean};
+ghost use Rattle.kinds.specs.Rows.{names_number};
 ghost use Rattle.layout.specs.Words.{NODE_WORDS, KNOWN_TAG, between, long_enough, unused_zero, node_clean};
 ghost use Rattle.layout.specs.Meaning.{kind_cell, named_of, Lies};
 ghost use Rattle.clean.specs.Parts.{room_clean, name_clean_if, slots_clean_if, plain_clean, known_clean};
 
-use kinds::{CHILD_NAMES, OWN_NAME, PARAMETER_NAMES};
+use kinds::Names;
 use layout::{
     CHILD_TAG, Cell, FAILED_TAG, HEAD_WORDS, KNOWN_TAG, Kind, NODE_WORDS, UNKNOWN_TAG, child_words,
     node_words, read_header,
@@ -77,13 +78,13 @@ fn children_clean(may: bool, ks: &[u32], a: usize, e: usize) -> bool
 }
 
 // How many of n children, from the first on, may have a name; a Closure's return has none.
-fn named_children(names: u8, n: usize) -> usize
-    ensures { result ≡ named_of names n }
+fn named_children(names: Names, n: usize) -> usize
+    ensures { result ≡ named_of (names_number names) n }
 {
     match names {
-        CHILD_NAMES => n,
-        PARAMETER_NAMES => n.saturating_sub(1),
-        _ => 0,
+        Names::No | Names::Own => 0,
+        Names::OfChildren => n,
+        Names::OfParameters => n.saturating_sub(1),
     }
 }
 
@@ -95,7 +96,7 @@ pub fn names_clean(ks: &[u32], k: Kind) -> bool
     let first = k.first as usize;
     let n = k.count as usize;
     let named = first + named_children(names, n);
-    name_clean(names == OWN_NAME, k.name)
+    name_clean(names == Names::Own, k.name)
         && children_clean(true, ks, first, named)
         && children_clean(false, ks, named, first + n)
 }

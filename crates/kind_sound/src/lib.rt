@@ -14,7 +14,7 @@ ghost use Rattle.chart.specs.Env.{chart_in, chart_alone};
 ghost use Rattle.layout.specs.Words.{slots};
 ghost use Rattle.layout.specs.Meaning.{kind_means, node_means, remembered_means};
 
-use kinds::{AS_CHART, CHILD_NAMES, ERROR, OWN_NAME, PARAMETER_NAMES};
+use kinds::{ERROR, Names, SelfDual};
 use layout::{Kind, TypeNode, TypeState};
 use names::{NO_NAME, Name};
 use scope::MAX_WIDTH;
@@ -68,20 +68,12 @@ fn parameter_names_fit(k: Kind, n: u32, ks: &[u32], rule: &[u8], text: &[u8]) ->
 pub fn names_fit<'a>(k: Kind, ks: &[u32], rule: &'a [u8], text: &'a [u8]) -> bool
     ensures { result ≡ names_ok (texts rule.now text.now) (row_of k.code).names (kind_means ks.now k).head.names k.count }
 {
-    let names = kinds::row_of(k.code).names;
-    if names == OWN_NAME {
-        return names::name_ok(k.name, rule, text);
+    match kinds::row_of(k.code).names {
+        Names::No => true,
+        Names::Own => names::name_ok(k.name, rule, text),
+        Names::OfChildren => child_names_fit(k, ks, rule, text),
+        Names::OfParameters => k.count != 0 && parameter_names_fit(k, k.count - 1, ks, rule, text),
     }
-    if names == CHILD_NAMES {
-        return child_names_fit(k, ks, rule, text);
-    }
-    if names != PARAMETER_NAMES {
-        return true;
-    }
-    if k.count == 0 {
-        return false;
-    }
-    parameter_names_fit(k, k.count - 1, ks, rule, text)
 }
 
 // Whether refusal 4 does not stand: "bad code or name, over 255 children, object names not strictly ascending".
@@ -118,10 +110,10 @@ pub fn is_defined(k: Kind, chart: &[u32]) -> bool
 pub fn chart_flag(code: u32, number: u32, chart: &[u32]) -> bool
     ensures { result ≡ flag_of (chart_alone chart.now) code number }
 {
-    if kinds::row_of(code).dual == AS_CHART {
-        return chart::dual_at(chart, number);
+    match kinds::row_of(code).dual {
+        SelfDual::No | SelfDual::Yes => false,
+        SelfDual::AsChart => chart::dual_at(chart, number),
     }
-    false
 }
 
 // "a flag that isn't the chart's"

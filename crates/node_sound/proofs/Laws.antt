@@ -21,7 +21,13 @@ use Rattle.scope.specs.Kinds as scope
 use Rattle.scope.specs.Nodes as nodes
 use Rattle.scope.specs.Sound as sound
 use Rattle.scope.specs.Sound.{slot_bare, name_clean, in_store, names_clean, node_sound}
-use Rattle.kinds.specs.Rows.{as_row}
+use Rattle.kinds.specs.Rows.{dual_number, number_number, as_row}
+use Rattle.kinds.specs.declared.Number.{Number}
+use Rattle.kinds.specs.declared.Number.TheVariants.{Definition}
+use Rattle.kinds.specs.declared.Number.TheVariants as number
+use Rattle.kinds.specs.declared.SelfDual.{SelfDual}
+use Rattle.kinds.specs.declared.SelfDual.TheVariants.{AsChart}
+use Rattle.kinds.specs.declared.SelfDual.TheVariants as dual
 use Rattle.kinds.specs.declared.Row.{Row}
 use Rattle.kinds.proofs.Laws.{defined_row}
 use Rattle.names.specs.Place.{texts, name_of}
@@ -43,12 +49,22 @@ use Rattle.node_sound.specs.Tests.{node_test, plain_slot, inside_at, name_at, To
 
 -- a kind of no definition
 
-pub told_plain : (chart : List ℕ) (k : Kind) (row : Row) → as_row row ≡ row_of k.code → (row.number ≡ DEFINITION → ⊥) → (row.dual ≡ AS_CHART → ⊥)
-    → not k.dual ≡ true → Told chart k
+not_defined : (n : Number) → ((s o : ℕ) → n ≡ Definition s o → ⊥) → eqb (number_number n) DEFINITION ≡ false
+not_defined number.No d = refl
+not_defined number.Any d = refl
+not_defined (Definition s o) d = absurd (d s o refl)
+
+not_charted : (d : SelfDual) → (d ≡ AsChart → ⊥) → eqb (dual_number d) AS_CHART ≡ false
+not_charted dual.No f = refl
+not_charted dual.Yes f = refl
+not_charted AsChart f = absurd (f refl)
+
+pub told_plain : (chart : List ℕ) (k : Kind) (row : Row) → as_row row ≡ row_of k.code → ((s o : ℕ) → row.number ≡ Definition s o → ⊥)
+    → (row.dual ≡ AsChart → ⊥) → not k.dual ≡ true → Told chart k
 unfolding kind_means flag_is flag_of
 told_plain chart k row e d f t = record {
-  is_defined = defined_row _ _ ∙ rw (← e, ne_eqb row.number DEFINITION d);
-  has_flag = rw (← e, ne_eqb row.dual AS_CHART f) (by_dual k.dual t);
+  is_defined = defined_row _ _ ∙ rw (← e, not_defined row.number d);
+  has_flag = rw (← e, not_charted row.dual f) (by_dual k.dual t);
 }
   where
     by_dual : (b : Bool) → not b ≡ true → scope.eq_bool b false ≡ true

@@ -18,7 +18,7 @@ ghost use Rattle.layout.specs.Words.{node_words, slot_at};
 ghost use Rattle.layout.specs.Meaning.{slot_means};
 ghost use Rattle.node_sound.specs.Tests.{plain_slot, node_test, nodes_test, Told, Framed, TrueSeen, Goes, Follows, Named, PlainKind, PlainNode};
 
-use kinds::{AS_CHART, CHILD_NAMES, DEFINITION, ERROR, NO_NAMES, Row};
+use kinds::{ERROR, Names, Number, Row, SelfDual};
 use layout::{CHILD_WORDS, Cell, KNOWN_TAG, Kind, Slot};
 use scope::{MAX_CHILDREN, MAX_WIDTH};
 use types::TypeIdx;
@@ -61,13 +61,12 @@ fn told(k: Kind, row: Row, chart: &[u32]) -> bool
     requires { as_row row ≡ row_of k.code }
     ensures { result ≡ true → Told chart.now k }
 {
-    if row.number == DEFINITION {
-        return kind_sound::is_defined(k, chart) && kind_sound::has_chart_flag(k, chart);
+    match (row.number, row.dual) {
+        (Number::Definition(_, _), _) => kind_sound::is_defined(k, chart)
+            && kind_sound::has_chart_flag(k, chart),
+        (_, SelfDual::AsChart) => false,
+        (_, _) => !k.dual,
     }
-    if row.dual == AS_CHART {
-        return false;
-    }
-    !k.dual
 }
 
 // A quick yes to all tests of a kind, which has this row, that look neither at names of children nor at the nodes; nor has it a name of its own.
@@ -192,13 +191,11 @@ fn plain_kind<'a>(
     }
     let first = k.first as usize;
     let end = first + k.count as usize;
-    if row.names == NO_NAMES {
-        return plain_children(ks, first, end, n);
+    match row.names {
+        Names::No => plain_children(ks, first, end, n),
+        Names::OfChildren => named_children(ks, first, end, n, rule, text, seen),
+        Names::Own | Names::OfParameters => false,
     }
-    if row.names != CHILD_NAMES {
-        return false;
-    }
-    named_children(ks, first, end, n, rule, text, seen)
 }
 
 // The same for a node, with c children made.

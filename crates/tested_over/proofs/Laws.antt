@@ -1,11 +1,12 @@
 -- One law for each way out of `new_listed`, `make_over` and `new_over`: what the laws of `new` say of the entries that the list would be.
 -- Assumes nothing.
 use mathlib.Core.Path.{◌≡◌, refl, ap, sym, ◌∙◌}
-use mathlib.Core.Bool.{Bool, false}
+use mathlib.Core.Bool.{Bool, true, false, not, false≢true}
 use mathlib.Core.List.{List}
 use Prim.Native.Nat.{ℕ, ◌+◌, ◌≤◌}
 use native.Mathlib.Omega.{arith}
 use lib.ListN.{length, length-map}
+use denote.Enum.Bare.{sameb}
 use Rattle.scope.specs.Limits.{MAX_WIDTH, MAX_CHILDREN}
 use Rattle.scope.specs.Types.{Ty, ty_of}
 use Rattle.scope.specs.Kinds.{Row, NO_NAMES, row_of, flag_of}
@@ -22,7 +23,10 @@ use Rattle.layout.specs.Meaning.{header_in}
 use Rattle.layout.specs.declared.Header.{Header}
 use Rattle.layout.specs.declared.Kind.{Kind}
 use Rattle.layout.specs.declared.TypeState.TheVariants.{Known}
-use Rattle.kinds.specs.Rows.{as_row}
+use Rattle.kinds.specs.contracts.Names.{the_type}
+use Rattle.kinds.specs.declared.Names.{Names}
+use Rattle.kinds.specs.declared.Names.TheVariants.{No, Own, OfChildren, OfParameters}
+use Rattle.kinds.specs.Rows.{names_number, as_row}
 use Rattle.kinds.specs.declared.Row as kinds
 use Rattle.store.specs.Holds.{Ready}
 use Rattle.store.specs.Entries.{entry_count, types_in}
@@ -101,8 +105,22 @@ module _ (cs h ws ks ts : List ℕ) (c m : ℕ) (row : (row_of c).names ≡ NO_N
 
 -- new_over
 
-pub row_names : (r : kinds.Row) (c n : ℕ) → as_row r ≡ row_of c → n ≡ r.names → (row_of c).names ≡ n
-row_names r c n e q = sym (ap (λ (x : Row). x.names) e) ∙ sym q
+pub row_names : (r : kinds.Row) (c : ℕ) → as_row r ≡ row_of c → (row_of c).names ≡ names_number r.names
+row_names r c e = sym (ap (λ (x : Row). x.names) e)
+
+-- what the test for no names says, b, of the row's names
+
+pub named : (d : Names) {b : Bool} → b ≡ not (sameb the_type d No) → b ≡ true → names_number d ≡ NO_NAMES → ⊥
+named No e t z = false≢true (sym e ∙ t)
+named Own e t z = omega (arith, z)
+named OfChildren e t z = omega (arith, z)
+named OfParameters e t z = omega (arith, z)
+
+pub unnamed : (d : Names) {b : Bool} → b ≡ not (sameb the_type d No) → b ≡ false → names_number d ≡ NO_NAMES
+unnamed No e f = refl
+unnamed Own e f = absurd (false≢true (sym f ∙ e))
+unnamed OfChildren e f = absurd (false≢true (sym f ∙ e))
+unnamed OfParameters e f = absurd (false≢true (sym f ∙ e))
 
 module _ (cs h ws ks ts : List ℕ) (c m n : ℕ) (row : (row_of c).names ≡ n) where
   pub over_named : (n ≡ NO_NAMES → ⊥) → OverPromised cs c m ts (refusal UNMAKEABLE) h ws ks h ws ks

@@ -18,7 +18,7 @@ ghost use Rattle.lent_kind.specs.Lent.{given, plain_args, kind_tests};
 ghost use Rattle.tested_new.specs.Inside.{inside_call};
 ghost use Rattle.tested_over.specs.Over.{entries_of, PassedBy, OverPromised};
 
-use kinds::{ERROR, NO_NAMES};
+use kinds::{ERROR, Names};
 use layout::{Slot, TypeState};
 use lent_kind::{flagged, list_refusal, plain_args};
 use make::Head;
@@ -123,8 +123,7 @@ pub fn new_over(
     ensures { OverPromised chart.now code number types.now (type_reply result)
         h.old ws.old ks.old h.new ws.new ks.new }
 {
-    let names = kinds::row_of(code).names;
-    if names != NO_NAMES {
+    if kinds::row_of(code).names != Names::No {
         return TypeAnswer::Refused(UNMAKEABLE);
     }
     let x = layout::read_header(h);
