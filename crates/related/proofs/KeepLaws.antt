@@ -17,11 +17,10 @@ use Rattle.types.specs.declared.TypeIdx.{TypeIdx}
 use Rattle.layout.specs.Words.{slot_at, decode}
 use Rattle.roots.specs.Found.{Found}
 use Rattle.roots.specs.Kept.{Cached}
-use Rattle.roots.proofs.KeptLaws.{cached_zeros}
 use Rattle.related.specs.Tables.{Meeting}
 use Rattle.std.specs.Prelude.{Some, None}
-use Rattle.skips.specs.Table.{marked, slot_seen, Skips, Passed, Stretched}
-use Rattle.skips.proofs.Laws.{zeros_at, skips_zeros}
+use Rattle.skips.specs.Table.{marked, slot_seen, Passed, Stretched}
+use Rattle.skips.proofs.Laws.{zeros_at}
 use Rattle.related.specs.Tables.{slot_marked, Sees, Meets, Keeps}
 use Rattle.related.proofs.Laws.{root_is}
 
@@ -82,9 +81,6 @@ module _ {ws : List ℕ} {n t : ℕ} {cache ms : List ℕ} (k : Cached ws n cach
     mark = λ i e. met_not_new e;
   }
 
-  pub meets_told : {seen : List ℕ} {j : ℕ} {b : Bool} → Sees ws n ms seen → j ≡ (ty_of t).idx → b ≡ marked seen j → b ≡ true → Meets ws n t cache ms ms seen None
-  meets_told {seen} c q m h = meets_met c (c.each (ty_of t) (ap (marked seen) (sym q) ∙ (sym m ∙ h)))
-
   module _ {r : ℕ} {i : TypeIdx} {seen : List ℕ} {j : ℕ} (c : Sees ws n ms seen) (f : Found ws n t r) (o : i.0 ≡ (ty_of r).idx) (q : j ≡ (ty_of t).idx) where
     pub meets_old : {seen' : List ℕ} {b : Bool} → b ≡ marked ms i.0 → b ≡ true → seen' ≡ set seen j 1 → Meets ws n t cache ms ms seen' None
     meets_old m h e =
@@ -102,9 +98,6 @@ module _ {ws : List ℕ} {n t : ℕ} {cache ms : List ℕ} (k : Cached ws n cach
         fresh = λ x z. let y : i ≡ x = cc in rw (← y) (sym m ∙ h);
         mark = λ x z. let y : i ≡ x = cc in rw (← y) e;
       }
-
-      pub meets_out : Meets ws n t cache ms ms' seen (Some i)
-      meets_out = meets_new (sees_mark c i.0 e)
 
       pub meets_in : {seen' : List ℕ} {d : Bool} → d ≡ marked ms' i.0 → d ≡ true → seen' ≡ set seen j 1 → Meets ws n t cache ms ms' seen' (Some i)
       meets_in w z v = meets_new (sees_told (sees_mark c i.0 e) t (λ ks. ap (marked ms') (sym (root_is f o ks)) ∙ (sym w ∙ z)) q v)
@@ -140,10 +133,3 @@ module _ {ws ks : List ℕ} {n : ℕ} {cache ms seen skip : List ℕ} (c : Keeps
     sees = c.sees;
     skips = w.skips (slot_marked (decode ws ks n) ks ms) c.skips keeps_seen;
   }
-
-pub keeps_zeros : (ws ks : List ℕ) (n : ℕ) (ms : List ℕ) (a b d : ℕ) → Keeps ws ks n (replicate a 0) ms (replicate b 0) (replicate d 0)
-keeps_zeros ws ks n ms a b d = record {
-  cached = cached_zeros ws n a;
-  sees = sees_zeros ws n ms b;
-  skips = skips_zeros (slot_marked (decode ws ks n) ks ms) d;
-}

@@ -1,7 +1,7 @@
 #![tactic(auto)]
 // One walk that marks each root it meets: `find_related`, as scope's definition says it of the n nodes in ws, whose children lie in ks. It looks at a child's root
 // once, and at a child slot about once, however the runs of children overlap.
-ghost use Rattle.std.specs.Prelude.{◌≡◌};
+ghost use Rattle.std.specs.Prelude.{◌≡◌, ◌≤◌};
 ghost use Rattle.scope.specs.Types.{ty_of};
 ghost use Rattle.scope.specs.Force.{find_related};
 ghost use Rattle.layout.specs.Words.{decode};
@@ -13,7 +13,7 @@ ghost use Rattle.related.specs.Tables.{Sees, Meets, Keeps, related_below};
 use scope::{MAX_CHILDREN, MAX_NODES};
 use types::{Type, TypeIdx};
 
-// As many nodes as a walk with small tables takes.
+// As many nodes as a walk with small tables takes: less to clear, and runs that overlap cost little.
 const FEW: usize = 256;
 
 // A child's root is marked, if it is not, and its node told.
@@ -39,7 +39,6 @@ fn meet(
     roots::set_mark(marks, root);
     if roots::is_marked(marks, root) {
         roots::set_mark(seen, kid.idx());
-        return Some(root);
     }
     Some(root)
 }
@@ -83,26 +82,22 @@ fn mark_below(
     }
 }
 
-// The walk over few nodes, with small tables: less to clear, and runs that overlap cost little.
-fn mark_few(ws: &[u32], ks: &[u32], n: u32, marks: &mut [u8], root: TypeIdx, depth: u32)
-    requires { Stands ws.now ks.now n }
+// The walk with tables for so many nodes, and for so many child slots.
+fn mark_with<const NODES: usize, const SLOTS: usize>(
+    ws: &[u32],
+    ks: &[u32],
+    n: u32,
+    marks: &mut [u8],
+    root: TypeIdx,
+    depth: u32,
+)
+    requires stands { Stands ws.now ks.now n }
+    requires small { (NODES ≤ MAX_NODES) × (SLOTS ≤ MAX_CHILDREN) }
     ensures { marks.new ≡ related_below depth (decode ws.now ks.now n) marks.old root.0 }
 {
-    let mut cache = [0u16; FEW];
-    let mut seen = [0u8; FEW];
-    let mut skip = [0u8; 1];
-    mark_below(
-        ws, ks, n, &mut cache, marks, &mut seen, &mut skip, root, depth,
-    );
-}
-
-fn mark_many(ws: &[u32], ks: &[u32], n: u32, marks: &mut [u8], root: TypeIdx, depth: u32)
-    requires { Stands ws.now ks.now n }
-    ensures { marks.new ≡ related_below depth (decode ws.now ks.now n) marks.old root.0 }
-{
-    let mut cache = [0u16; MAX_NODES];
-    let mut seen = [0u8; MAX_NODES];
-    let mut skip = [0u8; MAX_CHILDREN];
+    let mut cache = [0u16; NODES];
+    let mut seen = [0u8; NODES];
+    let mut skip = [0u8; SLOTS];
     mark_below(
         ws, ks, n, &mut cache, marks, &mut seen, &mut skip, root, depth,
     );
@@ -122,8 +117,8 @@ pub fn find_related(ws: &[u32], ks: &[u32], n: u32, marks: &mut [u8], t: Type)
     }
     roots::set_mark(marks, root);
     if n <= FEW as u32 {
-        mark_few(ws, ks, n, marks, root, n - 1);
+        mark_with::<FEW, 1>(ws, ks, n, marks, root, n - 1);
     } else {
-        mark_many(ws, ks, n, marks, root, n - 1);
+        mark_with::<MAX_NODES, MAX_CHILDREN>(ws, ks, n, marks, root, n - 1);
     }
 }

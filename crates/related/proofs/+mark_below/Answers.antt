@@ -2,7 +2,7 @@
 -- cache keeps are roots, nodes that have been told have marked roots, and what the skips pass over are slots of marked roots.
 -- Assumes nothing.
 use mathlib.Core.Path.{◌∙◌}
-use Prim.Native.Nat.{◌+◌, ◌-◌}
+use Prim.Native.Nat.{◌+◌}
 use native.Mathlib.Omega.{arith}
 use Rattle.layout.specs.Words.{decode}
 use Rattle.layout.proofs.LinkLaws.{clean_linked}
@@ -43,25 +43,24 @@ loop-s-preserved t c =
     let m = c.match-meet in
     let p = keeps_pass c.loop-s.invariant.1 c.pass-far.ensures in
     let o :
-      Onward a.depth a.ws.now a.ks.now a.n c.in-Some.kind.first (c.in-Some.kind.first + c.in-Some.kind.count) a.marks.now m.cache m.marks m.seen m.skip
-      (c.loop-s.s + 1) =
-        elim m.branch [
-          in-Some-meet w ↦
-              rw (w.cache-is, w.marks-is, w.seen-is, w.skip-is) record {
-                turn =
-                    turn_new a.depth c.loop-s.invariant.0 c.child_at.result c.loop-s-test.true c.child_at.ensures c.meet.ensures c.if-depth-eq0.false
-                    w.in-Some-meet.is w.mark_below.ensures.0 w.mark_below.auto.marks;
-                keeps = w.mark_below.ensures.1;
-              }
-          | in_default-meet w ↦
-              rw (w.cache-is, w.marks-is, w.seen-is, w.skip-is) record {
-                turn =
-                    turn_met a.depth c.loop-s.invariant.0 c.child_at.result c.loop-s-test.true c.child_at.ensures c.meet.ensures w.in_default-meet.is;
-                keeps = keeps_met p c.meet.ensures w.in_default-meet.is;
-              }
-        ]
-    in
-    (
+    Onward a.depth a.ws.now a.ks.now a.n c.in-Some.kind.first (c.in-Some.kind.first + c.in-Some.kind.count) a.marks.now m.cache m.marks m.seen m.skip
+    (c.loop-s.s + 1) =
+    elim m.branch [
+      | in-Some-meet w ↦
+          rw (w.cache-is, w.marks-is, w.seen-is, w.skip-is) record {
+            turn =
+                turn_new a.depth c.loop-s.invariant.0 c.child_at.result c.loop-s-test.true c.child_at.ensures c.meet.ensures c.if-depth-eq0.false
+                w.in-Some-meet.is w.mark_below.ensures.0 w.mark_below.auto.marks;
+            keeps = w.mark_below.ensures.1;
+          }
+      | in_default-meet w ↦
+          rw (w.cache-is, w.marks-is, w.seen-is, w.skip-is) record {
+            turn =
+                turn_met a.depth c.loop-s.invariant.0 c.child_at.result c.loop-s-test.true c.child_at.ensures c.meet.ensures w.in_default-meet.is;
+            keeps = keeps_met p c.meet.ensures w.in_default-meet.is;
+          }
+    ]
+    in (
       turn_stretch a.depth c.loop-s.s o.turn o.keeps c.stretch-s.ensures.scanned,
       keeps_stretch o.keeps c.stretch-s.ensures,
       m.auto.cache ∙ (c.meet.auto.cache ∙ c.loop-s.invariant.2),

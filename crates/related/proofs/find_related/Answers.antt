@@ -21,9 +21,9 @@ returns-then-is_marked c =
 pub returns-then-n : goal.returns-then-n
 returns-then-n c =
     mark_walked c.args.n _ _ _ c.if-n-eq0.false (root_is c.find.ensures c.idx-root.ensures c.args.ks.now) c.is_marked.ensures c.if-is_marked.false
-    c.set_mark.ensures c.mark_few.ensures ∙ mark_whole c.args.ws.now c.args.ks.now c.args.n _ _
+    c.set_mark.ensures c.mark_with.ensures ∙ mark_whole c.args.ws.now c.args.ks.now c.args.n _ _
 
 pub returns-else-n : goal.returns-else-n
 returns-else-n c =
     mark_walked c.args.n _ _ _ c.if-n-eq0.false (root_is c.find.ensures c.idx-root.ensures c.args.ks.now) c.is_marked.ensures c.if-is_marked.false
-    c.set_mark.ensures c.mark_many.ensures ∙ mark_whole c.args.ws.now c.args.ks.now c.args.n _ _
+    c.set_mark.ensures c.mark_with-else-n.ensures ∙ mark_whole c.args.ws.now c.args.ks.now c.args.n _ _

@@ -1,11 +1,7 @@
 -- `related::meet` meets its contract: a node that was told, a root that was marked, and one that is marked now.
 -- Assumes nothing.
-use Rattle.related.proofs.KeepLaws.{meets_told, meets_old, meets_in, meets_out}
+use Rattle.related.proofs.KeepLaws.{meets_old, meets_in}
 use Rattle.related.proofs.meet.Goals as goal
-
-pub returns-then-is_marked : goal.returns-then-is_marked
-returns-then-is_marked c =
-    meets_told c.requires.1 c.requires.2 c.idx.ensures c.is_marked.ensures c.if-is_marked.true
 
 pub returns-then-is_marked-2 : goal.returns-then-is_marked-2
 returns-then-is_marked-2 c =
@@ -15,7 +11,3 @@ pub returns-then-is_marked-3 : goal.returns-then-is_marked-3
 returns-then-is_marked-3 c =
     meets_in c.find_by.ensures.1 c.requires.2 c.find_by.ensures.0 c.idx-root.ensures c.idx-then-is_marked-3.ensures c.is_marked-2.ensures c.if-is_marked-2.false c.set_mark-2.ensures
     c.is_marked-3.ensures c.if-is_marked-3.true c.set_mark-then-is_marked-3.ensures
-
-pub returns : goal.returns
-returns c =
-    meets_out c.find_by.ensures.1 c.requires.2 c.find_by.ensures.0 c.idx-root.ensures c.idx.ensures c.is_marked-2.ensures c.if-is_marked-2.false c.set_mark-2.ensures
