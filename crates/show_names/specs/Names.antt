@@ -1,5 +1,5 @@
 -- The texts that names and numbers make: what the code writes with one name or number in it. They add nothing to scope's pieces.
-use Rattle.std.specs.Prelude.{List, [], ◌∷◌, ◌++◌, ℕ, zero, suc, ◌+◌, ◌/◌, ◌%◌, eqb, ltb}
+use Rattle.std.specs.Prelude.{List, [], ◌++◌, ℕ, ◌+◌, eqb, ltb}
 use Rattle.scope.specs.Base.{pick}
 use Rattle.scope.specs.Text.{text}
 use Rattle.scope.specs.Names.{Texts, bytes}
@@ -9,14 +9,6 @@ use Rattle.scope.specs.Sound.{Slot, slot_name}
 use Rattle.scope.specs.Show.{decimal, name_or_dots}
 use Rattle.layout.specs.Words.{slot_at}
 use Rattle.layout.specs.declared.Kind.{Kind}
-
--- the bytes of a short text, which is one number: each takes seven bits, the first the lowest; ten say any number of 64 bits
-unfoldable pub spelled_f : ℕ → ℕ → List ℕ
-spelled_f zero w = []
-spelled_f (suc d) w = pick (eqb w 0) [] (w % 128 ∷ spelled_f d (w / 128))
-
-abbrev pub spelled : ℕ → List ℕ
-spelled w = spelled_f 10 w
 
 -- between the items of a list
 abbrev pub comma : ℕ → List ℕ

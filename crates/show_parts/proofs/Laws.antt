@@ -16,12 +16,7 @@ use Rattle.scope.specs.Show.{decimal}
 use Rattle.layout.specs.declared.Kind.{Kind}
 use Rattle.names.specs.Place.{name_of, no_name}
 use Rattle.append.specs.Appended.{Appended}
-use Rattle.show_names.specs.Names.{spelled}
-use Rattle.show_names.proofs.Laws.{spelled_tilde}
 use Rattle.show_parts.specs.Parts.{fixed_of, front_of, own_name, back_of, lead_of, sign_of}
-
-pub sign_put : {buf buf' : List ℕ} {at r : ℕ} (b : Bool) → Appended buf at buf' r (spelled (bool_byte b * 126)) → Appended buf at buf' r (sign_of b)
-sign_put b a = rw (spelled_tilde b) at a
 
 pub lead_tuple : (e : Env) (k : Kind) → k.code ≡ TUPLE → lead_of e k ≡ front_of k.code k.count
 unfolding lead_of fixed_of front_of
@@ -38,20 +33,6 @@ if_const_by : (x : Texts) (b : Bool) (n : Name)
 unfolding bytes
 if_const_by x true n = refl
 if_const_by x false n = refl
-
--- the tests of two conditions at once
-pub either_by : (a b v : Bool) (x : List ℕ) → (a || b) ≡ v → pick v x [] ≡ pick a x (pick b x [])
-either_by true b v x h = rw (← h) refl
-either_by false b v x h = rw (← h) refl
-
-pub some_by : (b : Bool) (n : ℕ) (v : Bool) (x : List ℕ) → (b && ltb 0 n) ≡ v → pick v x [] ≡ pick b (pick (eqb n 0) [] x) []
-some_by false n v x h = rw (← h) refl
-some_by true zero v x h = rw (← h) refl
-some_by true (suc n) v x h = rw (← h, lt-ltb 0 (suc n) (omega arith), ne_eqb (suc n) 0 (λ w. omega arith)) refl
-
-pub defined_by : (a b : Bool) (n : ℕ) (v : Bool) (x : List ℕ) → ((not a && b) && ltb 0 n) ≡ v → pick v x [] ≡ pick a [] (pick b (pick (eqb n 0) [] x) [])
-defined_by true b n v x h = rw (← h) refl
-defined_by false b n v x h = some_by b n v x h
 
 module _ (e : Env) (k : Kind) where
   abbrev of_code : ℕ → Kind

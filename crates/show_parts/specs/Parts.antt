@@ -65,10 +65,6 @@ lead_of e k =
     (pick (eqb k.code KEY) (text "." ++ own_text e.texts k)
     (pick (eqb k.code IF_CONST) (if_const_text e k) (fixed_of k.code k.count)))))))
 
--- before child j of a kind whose children have no names
-abbrev pub between_of : ℕ → ℕ → List ℕ
-between_of c j = pick (eqb c IF_CONST) (pick (eqb j 0) [] (text " } else { ")) (comma j)
-
 -- before child j
 unfoldable pub gap_of : Texts → List ℕ → Kind → ℕ → List ℕ
 gap_of x ks k j =
