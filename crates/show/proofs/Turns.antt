@@ -40,21 +40,14 @@ use Rattle.show.proofs.Runs.{children_next, children_end}
 -- before child j of m: what is left gives the whole
 pub record Turn (gap item : ℕ → List ℕ) (close : List ℕ) (m : ℕ) (buf₀ : List ℕ) (p₀ : ℕ) (buf : List ℕ) (p j : ℕ) : Type 0 where
   pub within : j ≤ m
-  pub long : length buf ≡ length buf₀
   pub goes : (buf' : List ℕ) (r : ℕ) → Appended buf p buf' r (children gap item close (m - j) j) → Appended buf₀ p₀ buf' r (children gap item close m 0)
 
 module _ (gap item : ℕ → List ℕ) (close : List ℕ) (m : ℕ) where
-  pub turn_start : (buf : List ℕ) (p : ℕ) → Turn gap item close m buf p buf p 0
-  turn_start buf p =
-      let z : m - 0 ≡ m = omega arith in
-      record { within = omega arith; long = refl; goes = λ buf' r a. rw z at a }
-
   pub turn_next : {buf₀ buf buf₁ buf₂ : List ℕ} {p₀ p q r j : ℕ}
       → Turn gap item close m buf₀ p₀ buf p j → j < m → Appended buf p buf₁ q (gap j) → Appended buf₁ q buf₂ r (item j)
-      → length buf₂ ≡ length buf₀ → Turn gap item close m buf₀ p₀ buf₂ r (j + 1)
-  turn_next {j = j} t h a b l = record {
+      → Turn gap item close m buf₀ p₀ buf₂ r (j + 1)
+  turn_next {j = j} t h a b = record {
     within = omega arith;
-    long = l;
     goes = λ buf' s d. t.goes buf' s (rw (children_next gap item close m j h) (append_then a (append_then b d)));
   }
 
@@ -131,11 +124,10 @@ level_put {buf} {buf₁} {buf₂} {at} {p} {r} lead rest k b d e x z =
     subst (λ (c : Bool). Appended buf at buf₂ r (sign_of (b && not c) ++ (lead ++ rest))) e (rw (← append_assoc (sign_of (b && not d)) lead rest) (append_then x z))
 
 -- child j, as it was read and inverted
-pub kid_shown : {buf buf' : List ℕ} {p r : ℕ} (e : Env) (depth : ℕ) (ns : List Node) (ks : List ℕ) (k : Kind) (d : Bool) (j : ℕ) (s : Slot) (u : ℕ)
-    → ty_of u ≡ flip d (ty_of s.ty.0) → slot_means s ≡ slot_at ks (k.first + j) → Appended buf p buf' r (show_f e depth ns (ty_of u))
-    → Appended buf p buf' r (show_f e depth ns (kid_of ks k d j))
-kid_shown {buf} {buf'} {p} {r} e depth ns ks k d j s u a b h =
-    subst (λ (t : Ty). Appended buf p buf' r (show_f e depth ns t)) (a ∙ ap (λ w. flip d (ty_of w.type)) b) h
+pub kid_shown : {buf buf' : List ℕ} {p r : ℕ} (g : Ty → List ℕ) (ks : List ℕ) (k : Kind) (d : Bool) (j : ℕ) (s : Slot) (u : ℕ)
+    → ty_of u ≡ flip d (ty_of s.ty.0) → slot_means s ≡ slot_at ks (k.first + j) → Appended buf p buf' r (g (ty_of u)) → Appended buf p buf' r (g (kid_of ks k d j))
+kid_shown {buf} {buf'} {p} {r} g ks k d j s u a b h =
+    subst (λ (t : Ty). Appended buf p buf' r (g t)) (a ∙ ap (λ w. flip d (ty_of w.type)) b) h
 
 -- as deep as there are nodes
 pub show_whole : (e : Env) (ws ks : List ℕ) (n : ℕ) (t : Ty) → show_f e n (decode ws ks n) t ≡ show e (decode ws ks n) t

@@ -1,7 +1,8 @@
 #![tactic(auto)]
 // A type's text into a lent buffer, straight from the store, the chart and the texts: no other buffer is used. One level after another is written, and
 // where the buffer is full work stops at once. A cache keeps the roots found.
-ghost use Rattle.std.specs.Prelude.{◌≡◌};
+ghost use Rattle.std.specs.Prelude.{◌≡◌, ◌≤◌};
+ghost use Rattle.scope.specs.Limits.{MAX_NODES};
 ghost use Rattle.scope.specs.Types.{ty_of};
 ghost use Rattle.scope.specs.Force.{is_nil};
 ghost use Rattle.scope.specs.Show.{show_f, show};
@@ -14,7 +15,7 @@ ghost use Rattle.append.specs.Appended.{Appended};
 ghost use Rattle.show.specs.Level.{most_of, shown_of};
 
 use chart::Beside;
-use kinds::{CLOSURE, FN, IF_CONST, PARAM, REF, TUPLE};
+use kinds::{CLOSURE, ENUM, IF_CONST, OBJECT, OPAQUE, REF, STRUCT, TUPLE, UNION};
 use layout::Kind;
 use scope::MAX_NODES;
 use show_names::put_unknown;
@@ -26,55 +27,38 @@ fn is_nil(ws: &[u32], n: u32, cache: &mut [u16], t: Type) -> bool
     requires { Linked ws.now n × Cached ws.now n cache.old }
     ensures { Nil ws.now n t.0 result × Cached ws.now n cache.new }
 {
-    let root = roots::find_by(ws, n, cache, t).idx();
-    let Some((_, kind)) = layout::held_at(ws, n, root) else {
-        return false;
-    };
-    if kind.code == TUPLE {
-        return kind.count == 0;
-    }
-    false
+    walk::nil_at(ws, n, roots::find_by(ws, n, cache, t).idx())
 }
 
 // How many of a kind's children are shown where none is nil.
+#[tactic(auto, unfolding(crate::specs::Level::most_of))]
 fn most(code: u32, count: u32) -> u32
     ensures { result ≡ most_of code count }
 {
     match code {
-        PARAM => return 0,
-        CLOSURE => return count,
-        REF => return count,
-        IF_CONST => {
-            if count < 2 {
-                return 0;
-            }
-            return 2;
-        }
-        _ => {
-            if code < FN {
-                return count;
-            }
-            return 0;
-        }
+        TUPLE | OBJECT | OPAQUE | STRUCT | ENUM | UNION | CLOSURE => count,
+        REF => count,
+        IF_CONST if count >= 2 => 2,
+        _ => 0,
     }
 }
 
 // How many of a kind's children are shown: of a Closure and an if const not the last, if it is nil.
+#[tactic(auto, unfolding(crate::specs::Level::shown_of, crate::specs::Level::most_of))]
 fn shown(ws: &[u32], ks: &[u32], n: u32, cache: &mut [u16], k: Kind) -> u32
     requires { Stands ws.now ks.now n × Cached ws.now n cache.old }
     ensures { (result ≡ shown_of (is_nil (decode ws.now ks.now n)) ks.now k)
         × Cached ws.now n cache.new }
 {
     let all = most(k.code, k.count);
-    let whole = (k.code != CLOSURE) & (k.code != IF_CONST);
-    if whole | (all == 0) {
-        return all;
+    match k.code {
+        CLOSURE | IF_CONST
+            if all > 0 && is_nil(ws, n, cache, layout::child_of(ks, k, all - 1).ty) =>
+        {
+            all - 1
+        }
+        _ => all,
     }
-    let before = all - 1;
-    if is_nil(ws, n, cache, layout::child_of(ks, k, before).ty) {
-        return before;
-    }
-    all
 }
 
 // The text of a type, at most so many levels deep, with the roots that a cache keeps.
@@ -98,10 +82,7 @@ fn show_by<'a>(
         (decode ws.now ks.now n) (ty_of t.0))
         × Cached ws.now n cache.new }
 {
-    if depth == 0 {
-        return at;
-    }
-    if buf.len() < at {
+    if depth == 0 || append::is_full(buf, at) {
         return at;
     }
     let root = roots::find_by(ws, n, cache, t);
@@ -113,8 +94,7 @@ fn show_by<'a>(
     let mut p = put_lead(chart, beside, rule, text, buf, at, i.0 & !dual, kind);
     let deep = Inverted(i.0 & dual);
     let count = shown(ws, ks, n, cache, kind);
-    let mut j: u32 = 0;
-    while j < count {
+    for j in 0..count {
         let q = put_gap(rule, text, ks, buf, p, kind, j);
         let kid = layout::child_of(ks, kind, j).ty;
         p = show_by(
@@ -131,7 +111,6 @@ fn show_by<'a>(
             kid.invert_if(deep),
             depth - 1,
         );
-        j += 1;
     }
     put_close(buf, p, kind, count)
 }
@@ -141,8 +120,8 @@ const FEW_NODES: u32 = 512;
 
 const FEW_BYTES: usize = 4096;
 
-// The same, with each path to a root followed once.
-fn show_cached<'a>(
+// The same, with a cache that has room for so many roots.
+fn show_within<'a, const ROOM: usize>(
     chart: &[u32],
     beside: Beside,
     rule: &'a [u8],
@@ -155,12 +134,13 @@ fn show_cached<'a>(
     t: Type,
     depth: u32,
 ) -> usize
-    requires { Stands ws.now ks.now n }
+    requires stands { Stands ws.now ks.now n }
+    requires room { ROOM ≤ MAX_NODES }
     ensures { Appended buf.old at buf.new result
         (show_f (env_of chart.now beside rule.now text.now) depth
         (decode ws.now ks.now n) (ty_of t.0)) }
 {
-    let mut cache = [0u16; MAX_NODES];
+    let mut cache = [0u16; ROOM];
     show_by(
         chart, beside, rule, text, ws, ks, n, &mut cache, buf, at, t, depth,
     )
@@ -185,15 +165,11 @@ pub fn show_type<'a>(
         (show_f (env_of chart.now beside rule.now text.now) depth
         (decode ws.now ks.now n) (ty_of t.0)) }
 {
-    let many = FEW_NODES < n;
-    let long = FEW_BYTES < buf.len();
-    if many & long {
-        return show_cached(chart, beside, rule, text, ws, ks, n, buf, at, t, depth);
+    if FEW_NODES < n && FEW_BYTES < buf.len() {
+        show_within::<MAX_NODES>(chart, beside, rule, text, ws, ks, n, buf, at, t, depth)
+    } else {
+        show_within::<0>(chart, beside, rule, text, ws, ks, n, buf, at, t, depth)
     }
-    let mut none = [0u16; 0];
-    show_by(
-        chart, beside, rule, text, ws, ks, n, &mut none, buf, at, t, depth,
-    )
 }
 
 // The text of a type, as deep as there are nodes.

@@ -1,6 +1,6 @@
 -- A lent list of types and a kind's children are written one after another, with commas between them.
 -- Assumes nothing.
-use mathlib.Core.Path.{◌≡◌, refl, ap, sym, ◌∙◌, subst}
+use mathlib.Core.Path.{◌≡◌, refl, ap, sym, ◌∙◌}
 use mathlib.Core.Bool.{Bool, false}
 use mathlib.Core.List.{List, [], ◌∷◌, ◌++◌, map, append-nil}
 use Prim.Native.Nat.{ℕ, zero, suc, ◌+◌, ◌≤◌, ◌<◌}
@@ -14,12 +14,10 @@ use Rattle.scope.specs.Base.{from}
 use Rattle.scope.specs.Names.{Texts}
 use Rattle.scope.specs.Types.{Ty, flip, ty_of}
 use Rattle.scope.specs.Show.{Piece, sub, render, commas}
-use Rattle.layout.specs.Words.{slot_at}
-use Rattle.layout.specs.Meaning.{slot_means, kind_means}
-use Rattle.layout.specs.declared.Slot.{Slot}
+use Rattle.layout.specs.Meaning.{kind_means}
 use Rattle.layout.specs.declared.Kind.{Kind}
 use Rattle.append.specs.Appended.{Appended}
-use Rattle.append.proofs.Laws.{append_none, append_then}
+use Rattle.append.proofs.Laws.{append_none}
 use Rattle.show.specs.Level.{children, kid_of}
 use Rattle.show.proofs.Runs.{map-map, comma_suc, joined_run, commas_run}
 use Rattle.show.proofs.Turns.{Turn, turn_end}
@@ -61,12 +59,6 @@ module _ (g : Ty → List ℕ) where
   -- child j of a kind
   abbrev pub child : List ℕ → Kind → Bool → ℕ → List ℕ
   child ks k i j = g (kid_of ks k i j)
-
-  -- child j, as it was read and inverted
-  pub child_read : {buf buf' : List ℕ} {p r : ℕ} (ks : List ℕ) (k : Kind) (i : Bool) (j : ℕ) (s : Slot) (u : ℕ)
-      → ty_of u ≡ flip i (ty_of s.ty.0) → slot_means s ≡ slot_at ks (k.first + j) → Appended buf p buf' r (g (ty_of u)) → Appended buf p buf' r (child ks k i j)
-  child_read {buf} {buf'} {p} {r} ks k i j s u a b h =
-      subst (λ (t : Ty). Appended buf p buf' r (g t)) (a ∙ ap (λ w. flip i (ty_of w.type)) b) h
 
   pub params_end : (x : Texts) (ks : List ℕ) (k : Kind) (i : Bool) {buf₀ buf : List ℕ} {p₀ p j : ℕ} → Turn comma (child ks k i) [] k.count buf₀ p₀ buf p j → k.count ≤ j
       → Appended buf₀ p₀ buf p (render g (commas i (kind_means ks k).kids))

@@ -34,12 +34,9 @@ pub fn show_list<'a>(
         (commas false (types_in xs.now))) }
 {
     let mut p = at;
-    let mut j: usize = 0;
-    while j < xs.len() {
-        let q = put_comma(buf, p, (0 < j) as u32);
-        let t = Type(xs[j]);
-        p = show_all(chart, beside, rule, text, ws, ks, n, buf, q, t);
-        j += 1;
+    for (j, w) in xs.iter().enumerate() {
+        let q = put_comma(buf, p, u32::from(0 < j));
+        p = show_all(chart, beside, rule, text, ws, ks, n, buf, q, Type(*w));
     }
     p
 }
@@ -64,8 +61,7 @@ pub fn show_params<'a>(
         (commas i.0 (kind_means ks.now k).kids)) }
 {
     let mut p = at;
-    let mut j: u32 = 0;
-    while j < k.count {
+    for j in 0..k.count {
         let q = put_comma(buf, p, j);
         let kid = layout::child_of(ks, k, j).ty;
         p = show_all(
@@ -80,7 +76,6 @@ pub fn show_params<'a>(
             q,
             kid.invert_if(i),
         );
-        j += 1;
     }
     p
 }

@@ -112,7 +112,7 @@ pub fn self_inverse(ws: &[u32], ks: &[u32], n: u32, t: Type, param: bool) -> boo
 }
 
 // A Tuple of nothing.
-fn nil_at(ws: &[u32], n: u32, i: TypeIdx) -> bool
+pub fn nil_at(ws: &[u32], n: u32, i: TypeIdx) -> bool
     requires { node_words n ≤ length ws.now }
     ensures { result ≡ nil_by (held_in (read_at ws.now n i.0)) }
 {

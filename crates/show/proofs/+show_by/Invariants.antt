@@ -19,7 +19,4 @@ decreases-show_by l = l.depth
 
 abbrev pub invariant-loop-j : goal.invariant-loop-j
 invariant-loop-j l = Turn (gap_of (texts l.rule l.text) l.ks l.kind) (λ m. show_f (env_of l.chart l.beside l.rule l.text) (l.depth - 1) (decode l.ws l.ks l.n) (kid_of l.ks l.kind l.deep.0 m))
-    (close_of l.kind l.count) l.count l.initial.buf l.initial.p l.buf l.p l.j × Cached l.ws l.n l.cache × (length l.cache ≡ length l.initial.cache)
-
-abbrev pub decreases-loop-j : goal.decreases-loop-j
-decreases-loop-j l = l.count - l.j
+    (close_of l.kind l.count) l.count l.initial.buf l.initial.p l.buf l.p l.j × Cached l.ws l.n l.cache

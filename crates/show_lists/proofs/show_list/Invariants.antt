@@ -14,5 +14,3 @@ use Rattle.show_lists.proofs.show_list.Given as goal
 abbrev pub invariant-loop-j : goal.invariant-loop-j
 invariant-loop-j l = Turn comma (item (show (env_of l.chart l.beside l.rule l.text) (decode l.ws l.ks l.n)) l.xs) [] (length l.xs) l.initial.buf l.initial.p l.buf l.p l.j
 
-abbrev pub decreases-loop-j : goal.decreases-loop-j
-decreases-loop-j l = length l.xs - l.j

@@ -13,5 +13,3 @@ use Rattle.show_lists.proofs.show_params.Given as goal
 abbrev pub invariant-loop-j : goal.invariant-loop-j
 invariant-loop-j l = Turn comma (child (show (env_of l.chart l.beside l.rule l.text) (decode l.ws l.ks l.n)) l.ks l.k l.i.0) [] l.k.count l.initial.buf l.initial.p l.buf l.p l.j
 
-abbrev pub decreases-loop-j : goal.decreases-loop-j
-decreases-loop-j l = l.k.count - l.j
