@@ -36,8 +36,7 @@ fn most(code: u32, count: u32) -> u32
     ensures { result ≡ most_of code count }
 {
     match code {
-        TUPLE | OBJECT | OPAQUE | STRUCT | ENUM | UNION | CLOSURE => count,
-        REF => count,
+        TUPLE | OBJECT | OPAQUE | STRUCT | ENUM | UNION | CLOSURE | REF => count,
         IF_CONST if count >= 2 => 2,
         _ => 0,
     }
@@ -53,10 +52,7 @@ fn shown(ws: &[u32], ks: &[u32], n: u32, cache: &mut [u16], k: Kind) -> u32
     let all = most(k.code, k.count);
     match k.code {
         CLOSURE | IF_CONST
-            if all > 0 && is_nil(ws, n, cache, layout::child_of(ks, k, all - 1).ty) =>
-        {
-            all - 1
-        }
+            if all > 0 && is_nil(ws, n, cache, layout::child_of(ks, k, all - 1).ty) => { all - 1 }
         _ => all,
     }
 }

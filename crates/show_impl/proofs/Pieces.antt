@@ -1,10 +1,12 @@
 -- A trait's name and list, and the fn form, piece after piece.
 -- Assumes nothing.
-use mathlib.Core.Path.{◌≡◌, refl}
+use mathlib.Core.Path.{◌≡◌}
 use mathlib.Core.Bool.{Bool, true, false}
 use mathlib.Core.List.{List, [], ◌∷◌, ◌++◌, map, append-nil}
 use Prim.Native.Nat.{ℕ}
 use native.Mathlib.Omega.{arith}
+use borrow.Author.Tests.{eqb-true}
+use lib.Dec.{eqb}
 use lib.ListN.{length}
 use Rattle.scope.specs.Text.{text}
 use Rattle.scope.specs.Names.{bytes}
@@ -15,15 +17,15 @@ use Rattle.show.proofs.Runs.{render_append}
 
 module _ (g : Ty → List ℕ) where
   -- a trait's name alone, and with its list
-  pub trait_bare : (e : Env) (i : ℕ) (xs : List ℕ) → length xs ≡ 0 → render g (trait_pieces e i (map ty_of xs)) ≡ bytes e.texts (record_at e i).name
+  pub trait_bare : (e : Env) (i : ℕ) (xs : List ℕ) → eqb (length xs) 0 ≡ true → render g (trait_pieces e i (map ty_of xs)) ≡ bytes e.texts (record_at e i).name
   unfolding render
   trait_bare e i [] h = append-nil (bytes e.texts (record_at e i).name)
-  trait_bare e i (x ∷ xs) h = absurd (omega arith)
+  trait_bare e i (x ∷ xs) h = absurd (omega (arith, eqb-true))
 
-  pub trait_listed : (e : Env) (i : ℕ) (xs : List ℕ) → (length xs ≡ 0 → ⊥)
+  pub trait_listed : (e : Env) (i : ℕ) (xs : List ℕ) → eqb (length xs) 0 ≡ false
       → render g (trait_pieces e i (map ty_of xs)) ≡ bytes e.texts (record_at e i).name ++ (text "[" ++ (render g (commas false (map ty_of xs)) ++ text "]"))
   unfolding render
-  trait_listed e i [] h = absurd (h refl)
+  trait_listed e i [] h = cc
   trait_listed e i (x ∷ xs) h = rw (render_append g (commas false (map ty_of (x ∷ xs))) (fixed (text "]") ∷ []))
 
   -- the fn form without a return, and with one

@@ -11,9 +11,9 @@ ghost use Rattle.layout.specs.Meaning.{kind_means, Linked};
 ghost use Rattle.store.specs.Entries.{types_in};
 ghost use Rattle.walk.specs.Asks.{Stands};
 ghost use Rattle.append.specs.Appended.{Appended};
-ghost use Rattle.show_impl.specs.Forms.{TupleOf, Form};
+ghost use Rattle.show_impl.specs.Forms.{TupleOf};
 
-use append::{put, put_byte};
+use append::put;
 use chart::Beside;
 use kinds::TUPLE;
 use layout::Kind;
@@ -42,12 +42,12 @@ fn show_trait<'a>(
         (trait_pieces (env_of chart.now beside rule.now text.now) i (types_in xs.now))) }
 {
     let named = put_name(rule, text, buf, at, chart::name_at(chart, i));
-    if xs.len() == 0 {
+    if xs.is_empty() {
         return named;
     }
-    let opened = put_byte(buf, named, b'[');
+    let opened = put(buf, named, b"[");
     let listed = show_list(chart, beside, rule, text, ws, ks, n, buf, opened, xs);
-    put_byte(buf, listed, b']')
+    put(buf, listed, b"]")
 }
 
 // The fn form: a receiver, the children of a Tuple as parameters, and a return unless it is nil.
@@ -73,9 +73,9 @@ fn show_fn<'a>(
 {
     let said = put(buf, at, b"fn ");
     let of = show_all(chart, beside, rule, text, ws, ks, n, buf, said, receiver);
-    let opened = put_byte(buf, of, b'(');
+    let opened = put(buf, of, b"(");
     let listed = show_params(chart, beside, rule, text, ws, ks, n, buf, opened, i, k);
-    let closed = put_byte(buf, listed, b')');
+    let closed = put(buf, listed, b")");
     if walk::is_nil(ws, n, ret) {
         return closed;
     }
@@ -89,30 +89,12 @@ fn tuple_of(ws: &[u32], n: u32, t: Type) -> Option<(Inverted, Kind)>
     ensures { TupleOf ws.now n t.0 result }
 {
     let root = roots::find(ws, n, t);
-    let Some((inv, kind)) = layout::held_at(ws, n, root.idx()) else {
-        return None;
-    };
-    if kind.code != TUPLE {
-        return None;
+    let (inv, kind) = layout::held_at(ws, n, root.idx())?;
+    if kind.code == TUPLE {
+        Some((inv ^ root.inv(), kind))
+    } else {
+        None
     }
-    Some((inv ^ root.inv(), kind))
-}
-
-// The types of an impl type that has the fn form.
-const FN_TYPES: usize = 3;
-
-// The parameters of such an impl type: the builtin fn trait over exactly three types, the second a Tuple.
-fn fn_params(beside: Beside, ws: &[u32], n: u32, i: u32, xs: &[u32]) -> Option<(Inverted, Kind)>
-    requires { Linked ws.now n }
-    ensures { Form beside.fn_trait ws.now n i xs.now result }
-{
-    if i != beside.fn_trait {
-        return None;
-    }
-    if xs.len() != FN_TYPES {
-        return None;
-    }
-    tuple_of(ws, n, Type(xs[1]))
 }
 
 // An impl type: the fn form, or a trait's name and its list; of an error two question marks.
@@ -137,12 +119,25 @@ pub fn show_impl_type<'a>(
     let Impl::Trait(i) = a else {
         return put(buf, at, b"??");
     };
-    let Some((inv, kind)) = fn_params(beside, ws, n, i, xs) else {
-        return show_trait(chart, beside, rule, text, ws, ks, n, buf, at, i, xs);
-    };
-    let receiver = Type(xs[0]);
-    let ret = Type(xs[2]);
-    show_fn(
-        chart, beside, rule, text, ws, ks, n, buf, at, receiver, inv, kind, ret,
-    )
+    if let [receiver, params, ret] = xs
+        && i == beside.fn_trait
+        && let Some((inv, kind)) = tuple_of(ws, n, Type(*params))
+    {
+        return show_fn(
+            chart,
+            beside,
+            rule,
+            text,
+            ws,
+            ks,
+            n,
+            buf,
+            at,
+            Type(*receiver),
+            inv,
+            kind,
+            Type(*ret),
+        );
+    }
+    show_trait(chart, beside, rule, text, ws, ks, n, buf, at, i, xs)
 }

@@ -1,12 +1,11 @@
 -- A kind up to its children is what it says before its name, its name, and what it says after it. Assumes nothing.
 use mathlib.Core.Path.{◌≡◌, refl, sym}
-use mathlib.Core.Bool.{Bool, true, false, not, ◌&&◌, ◌||◌}
-use mathlib.Core.List.{List, [], ◌++◌, append-nil}
-use Prim.Native.Nat.{ℕ, zero, suc, ◌*◌, ◌<◌}
+use mathlib.Core.Bool.{Bool, true, false}
+use mathlib.Core.List.{[], ◌++◌, append-nil}
+use Prim.Native.Nat.{ℕ, zero, suc, ◌<◌}
 use native.Mathlib.Omega.{arith}
-use mir.Val.{bool_byte}
-use borrow.Author.Tests.{ne_eqb, lt-ltb, le-ltb}
-use lib.Dec.{eqb, ltb}
+use borrow.Author.Tests.{ne_eqb, le-ltb}
+use lib.Dec.{ltb}
 use Rattle.scope.specs.Base.{pick}
 use Rattle.scope.specs.Text.{text}
 use Rattle.scope.specs.Names.{Texts, Name, bytes}
@@ -15,8 +14,7 @@ use Rattle.scope.specs.Kinds.{PARAM, TUPLE, OBJECT, OPAQUE, FN, CLOSURE, REF, KE
 use Rattle.scope.specs.Show.{decimal}
 use Rattle.layout.specs.declared.Kind.{Kind}
 use Rattle.names.specs.Place.{name_of, no_name}
-use Rattle.append.specs.Appended.{Appended}
-use Rattle.show_parts.specs.Parts.{fixed_of, front_of, own_name, back_of, lead_of, sign_of}
+use Rattle.show_parts.specs.Parts.{fixed_of, front_of, own_name, back_of, lead_of}
 
 pub lead_tuple : (e : Env) (k : Kind) → k.code ≡ TUPLE → lead_of e k ≡ front_of k.code k.count
 unfolding lead_of fixed_of front_of

@@ -17,7 +17,7 @@ use Rattle.show.proofs.+show_by.Goals.{then-depth-eq0-via-then-depth-eq0, then-d
 pub returns-then-depth-eq0 : goal.returns-then-depth-eq0
 returns-then-depth-eq0 t c =
     elim c.then-depth-eq0.branch [
-      then-depth-eq0-via-then-depth-eq0 w ↦ (show_shallow _ _ _ _ _ _ w.if-depth-eq0.true, c.requires.1)
+      | then-depth-eq0-via-then-depth-eq0 w ↦ (show_shallow _ _ _ _ _ _ w.if-depth-eq0.true, c.requires.1)
       | then-depth-eq0-via-else-depth-eq0+then-is_full w ↦ (append_full _ _ _ (is_over w.is_full.ensures w.if-is_full.true), c.requires.1)
     ]
 

@@ -1,9 +1,7 @@
 -- `show::show_by` meets its contract. The measure is the depth. A kind is written child after child; the loop's invariant: what is left to write
 -- gives, appended, what the whole gives, and what the cache keeps are roots.
 -- Assumes nothing.
-use mathlib.Core.Path.{◌≡◌}
 use Prim.Native.Nat.{◌-◌}
-use lib.ListN.{length}
 use Rattle.scope.specs.Show.{show_f}
 use Rattle.names.specs.Place.{texts}
 use Rattle.chart.specs.Env.{env_of}

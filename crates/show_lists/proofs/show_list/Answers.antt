@@ -1,7 +1,6 @@
 -- `show_lists::show_list` meets its contract. The loop's invariant: what is left to write gives, appended, what the whole gives.
 -- Assumes nothing.
 use Rattle.show.proofs.Turns.{turn_next}
-use Rattle.show_names.specs.Names.{comma}
 use Rattle.show_lists.proofs.Lists.{comma_any, list_end}
 use Rattle.show_lists.proofs.show_list.Goals as goal
 

@@ -1,7 +1,6 @@
 -- `show_lists::show_list` meets its contract. The loop's invariant: what is left to write gives, appended, what the whole gives.
 -- Assumes nothing.
 use mathlib.Core.List.{[]}
-use Prim.Native.Nat.{◌-◌}
 use lib.ListN.{length}
 use Rattle.scope.specs.Show.{show}
 use Rattle.chart.specs.Env.{env_of}
@@ -13,4 +12,3 @@ use Rattle.show_lists.proofs.show_list.Given as goal
 
 abbrev pub invariant-loop-j : goal.invariant-loop-j
 invariant-loop-j l = Turn comma (item (show (env_of l.chart l.beside l.rule l.text) (decode l.ws l.ks l.n)) l.xs) [] (length l.xs) l.initial.buf l.initial.p l.buf l.p l.j
-

@@ -1,7 +1,6 @@
 -- `show_lists::show_params` meets its contract. The loop's invariant: what is left to write gives, appended, what the whole gives.
 -- Assumes nothing.
 use mathlib.Core.List.{[]}
-use Prim.Native.Nat.{◌-◌}
 use Rattle.scope.specs.Show.{show}
 use Rattle.chart.specs.Env.{env_of}
 use Rattle.layout.specs.Words.{decode}
@@ -12,4 +11,3 @@ use Rattle.show_lists.proofs.show_params.Given as goal
 
 abbrev pub invariant-loop-j : goal.invariant-loop-j
 invariant-loop-j l = Turn comma (child (show (env_of l.chart l.beside l.rule l.text) (decode l.ws l.ks l.n)) l.ks l.k l.i.0) [] l.k.count l.initial.buf l.initial.p l.buf l.p l.j
-
