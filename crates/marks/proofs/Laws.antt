@@ -1,7 +1,7 @@
 -- A mark is a bit of its node's word: setting one leaves the others as they were. What each function does to the words, and so to what is marked.
 -- Assumes nothing.
-use mathlib.Core.Path.{◌≡◌, refl, ap, sym, subst, ◌∙◌}
-use mathlib.Core.List.{List, [], ◌∷◌}
+use mathlib.Core.Path.{◌≡◌, ap, sym, subst, ◌∙◌}
+use mathlib.Core.List.{List}
 use mathlib.Core.Logic.{◌⊎◌, inl, inr}
 use Prim.Native.Nat.{ℕ, zero, suc, ◌+◌, ◌-◌, ◌*◌, ◌/◌, ◌%◌, ◌^◌, ◌<◌, ◌≤◌, max}
 use native.Mathlib.Omega.{arith}
@@ -65,11 +65,6 @@ bit_more w i j e =
         ap (λ (v : ℕ). v % 2) (or_shr w q (j % BITS) ∙ or_step (w / p) (q / p))
         ∙ last (bit_or (w / p / 2) (q / p / 2)) (max (w / p % 2) (q / p % 2)) (max_below (w / p % 2) (q / p % 2) (mod-lt (w / p) (omega arith)) (mod-lt (q / p) (omega arith)))
 
-pub set_zero : (m : List ℕ) (p : ℕ) → get_or (set m p 0) p 0 ≡ 0
-set_zero [] p = refl
-set_zero (x ∷ xs) zero = refl
-set_zero (x ∷ xs) (suc p) = set_zero xs p
-
 -- words that say which nodes are marked
 
 pub marks_same : {m m' : List ℕ} → ((j : ℕ) → MARKED ≤ j → j < HEAD → get_or m' j 0 ≡ get_or m j 0) → (i : ℕ) → Knows m' i → Knows m i
@@ -80,9 +75,6 @@ marks_same h i k = record {
 }
 
 -- `open_marks`
-
-beside_same : {m : List ℕ} → Beside m m
-beside_same = record { before = λ j h. refl; after = λ j h. refl }
 
 -- a word of the marks changes
 beside_set : {m₀ m m' : List ℕ} (p x : ℕ) → Beside m₀ m → MARKED ≤ p → p < HEAD → m' ≡ set m p x → Beside m₀ m'

@@ -2,10 +2,10 @@
 // A lent memory of pairs of types and their answers. It is any slice, whatever it holds. The first word is the clock, the second says how many visits are left
 // before anything is remembered, then come the marks of nodes, and then the entries, four words each: a pair, the clock when it was noted, and its answer. An entry
 // is believed while the clock is what it was then; marks stay. What a pair and an answer mean is the caller's: here is said only which entries are believed.
-ghost use Rattle.std.specs.Prelude.{◌≡◌, ◌<◌, ◌≤◌, eqb};
+ghost use Rattle.std.specs.Prelude.{◌≡◌, ◌<◌, ◌≤◌, eqb, length};
 ghost use Rattle.scope.specs.Limits.{«MAX_NODES»};
 ghost use Rattle.scope.specs.Types.{ty_of};
-ghost use Rattle.recall.specs.Memory.{clock_of, Tidy, Cleared, Begun, Fewer, Forgot, Noted, WalkNoted, words_for};
+ghost use Rattle.recall.specs.Memory.{HEAD, clock_of, Tidy, Cleared, Begun, Fewer, Forgot, Noted, WalkNoted, words_for};
 ghost use Rattle.recall.specs.Places.{code_of, slot_of, Placed, Answered, Told};
 
 use marks::{MARKED, at, put};
@@ -42,13 +42,10 @@ pub fn begin(m: &mut [u32])
 
 // Every word from the entries on becomes 0.
 fn clear(m: &mut [u32])
+    requires { HEAD ≤ length m.old }
     ensures { Cleared m.old m.new }
 {
-    let mut i = HEAD;
-    while i < m.len() {
-        m[i] = 0;
-        i += 1;
-    }
+    m[HEAD..].fill(0);
 }
 
 // So many visits more. After the last that is waited for the entries are cleared and the clock starts, if there is room for an entry.
@@ -56,10 +53,7 @@ pub fn visited(m: &mut [u32], more: u32)
     requires { Tidy m.old }
     ensures { Fewer m.old m.new }
 {
-    if m.len() < HEAD + ENTRY {
-        return;
-    }
-    if at(m, 0) != 0 {
+    if m.len() < HEAD + ENTRY || at(m, 0) != 0 {
         return;
     }
     let left = at(m, 1);
@@ -77,21 +71,16 @@ pub fn changed(m: &mut [u32])
     ensures { Forgot m.old m.new }
 {
     let c = at(m, 0);
-    if c == 0 {
-        return;
+    if c != 0 && c != LAST {
+        put(m, 0, c + 1);
     }
-    if c == LAST {
-        return;
-    }
-    put(m, 0, c + 1);
 }
 
 // A number for each type of n nodes, below 2n.
 fn code(t: Type) -> usize
     ensures { result ≡ code_of (ty_of t.0) }
 {
-    let i = t.idx().0 as usize;
-    if t.inv().0 { 2 * i + 1 } else { 2 * i }
+    2 * t.idx().0 as usize + usize::from(t.inv().0)
 }
 
 // A pair's entry: where there are as many entries as pairs, each has its own.
@@ -108,13 +97,7 @@ fn spot_of(m: &[u32], n: u32, a: Type, b: Type) -> Option<usize>
     ensures { Placed m.now n (ty_of a.0) (ty_of b.0) result }
 {
     let c = at(m, 0);
-    if c == 0 {
-        return None;
-    }
-    if c == LAST {
-        return None;
-    }
-    if m.len() < HEAD + ENTRY {
+    if c == 0 || c == LAST || m.len() < HEAD + ENTRY {
         return None;
     }
     let count = (m.len() - HEAD) / ENTRY;
@@ -125,24 +108,18 @@ fn spot_of(m: &[u32], n: u32, a: Type, b: Type) -> Option<usize>
 fn answer_in(x: u32) -> Option<UnifyResult>
     ensures { Answered x result }
 {
-    if x == 1 {
-        return Some(UnifyResult::Failure);
+    match x {
+        1 => Some(UnifyResult::Failure),
+        2 => Some(UnifyResult::Indeterminate),
+        _ => None,
     }
-    if x == 2 {
-        return Some(UnifyResult::Indeterminate);
-    }
-    None
 }
 
 // Does a word hold a type? Its inversion counts too.
 fn holds(x: u32, t: Type) -> bool
     ensures { result ≡ eqb x t.0 }
 {
-    let u = Type(x);
-    if (u.inv() ^ t.inv()).0 {
-        return false;
-    }
-    u.idx().0 == t.idx().0
+    Type(x) == t
 }
 
 // What is believed of a pair.
@@ -150,19 +127,12 @@ pub fn look(m: &[u32], n: u32, a: Type, b: Type) -> Option<UnifyResult>
     requires { n ≤ «MAX_NODES» }
     ensures { Told m.now a.0 b.0 result }
 {
-    let Some(p) = spot_of(m, n, a, b) else {
-        return None;
-    };
-    if !holds(at(m, p), a) {
-        return None;
+    let p = spot_of(m, n, a, b)?;
+    if holds(at(m, p), a) && holds(at(m, p + 1), b) && at(m, p + 2) == at(m, 0) {
+        answer_in(at(m, p + 3))
+    } else {
+        None
     }
-    if !holds(at(m, p + 1), b) {
-        return None;
-    }
-    if at(m, p + 2) != at(m, 0) {
-        return None;
-    }
-    answer_in(at(m, p + 3))
 }
 
 // A pair's answer is remembered, if the clock is what it was when its visit began.
@@ -187,13 +157,9 @@ pub fn walked(m: &mut [u32], n: u32, a: Type, b: Type, r: UnifyResult)
     requires { (n ≤ «MAX_NODES») × Tidy m.old }
     ensures { WalkNoted m.old m.new a.0 b.0 r }
 {
-    match r {
-        UnifyResult::Success => {}
-        UnifyResult::Failure => {
-            visited(m, WALK);
-            note(m, n, clock(m), a, b, r);
-        }
-        UnifyResult::Indeterminate => {}
+    if r == UnifyResult::Failure {
+        visited(m, WALK);
+        note(m, n, clock(m), a, b, r);
     }
 }
 

@@ -1,23 +1,15 @@
--- `recall::clear` meets its contract. The invariant: the words of the entries below i are 0, and those before the entries are as they were. The measure is the number of words left.
+-- `recall::clear` meets its contract: the part that is filled is the entries' words.
 -- Assumes nothing.
-use mathlib.Core.Path.{refl, ◌∙◌}
-use Prim.Native.Nat.{◌-◌}
-use native.Mathlib.Omega.{arith}
-use lib.ListN.{length-set}
-use Rattle.recall.proofs.Laws.{clear_start, clear_next, clear_ends}
+use Rattle.std.proofs.Common.{arith, rules, ◌≡◌, ◌-◌, List, ℕ, [], drop, replicate, length}
+use mathlib.Core.List.{append-nil}
+use lib.ListN.{drop_of_length-le, length-drop}
+use Rattle.std.proofs.lemmas.List.{places}
+use Rattle.recall.proofs.Laws.{zero_from}
 use Rattle.recall.proofs.clear.Goals as goal
 
-pub loop-i-init : goal.loop-i-init
-loop-i-init c = (refl, clear_start)
-
-pub loop-i-smaller : goal.loop-i-smaller
-loop-i-smaller c = omega (arith, length-set c.loop-i.m c.loop-i.i 0, c.loop-i-test.true)
-
-pub loop-i-preserved : goal.loop-i-preserved
-loop-i-preserved c = (length-set c.loop-i.m c.loop-i.i 0 ∙ c.loop-i.invariant.0, clear_next c.loop-i.invariant.1 c.loop-i-test.true)
-
-pub shape_of-m : goal.shape_of-m
-shape_of-m c = c.loop-i.invariant.0
-
 pub returns : goal.returns
-returns c = clear_ends c.loop-i.invariant.1 c.loop-i-test.false
+returns c =
+    let m : List ℕ = c.args.m.now in
+    let e : c.fill.new.self ≡ replicate (length m - 131) 0 = search rules in
+    let z : drop (length m - 131) (drop 131 m) ≡ [] = drop_of_length-le (drop 131 m) {i = length m - 131} (omega (arith, length-drop 131 m)) in
+    record { zero = λ i h. rw (e, z, append-nil) (zero_from 131 (length m - 131) i m h); head = λ i h. search (rules, places) }
