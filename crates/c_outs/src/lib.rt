@@ -10,7 +10,7 @@ use call_ask::ModAnswer;
 use call_force::ForcedAnswer;
 use call_read::{ChildAnswer, FiguresAnswer, NameAnswer, NodeAnswer};
 use layout::{HALF, Header, Kind};
-use types::Inverted;
+use types::{Inverted, Type};
 use walk::Mod;
 
 // Which case a node is.

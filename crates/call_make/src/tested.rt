@@ -11,6 +11,7 @@ ghost use Rattle.promise.specs.Lists.{ListPromised};
 use chart::Beside;
 use promise::{DoneAnswer, TypeAnswer};
 use refusals::{NO_REFUSAL, SHORT};
+use types::Type;
 
 // "`new_var`": a type without a kind, and its span.
 pub fn new_var<'a>(

@@ -66,9 +66,7 @@ pub fn copy_remembered(
         × Cached sw.now n cache.new }
 {
     match was {
-        Some(t) => {
-            Some(copy_type::copy(sw, sk, n, false, sk, cache, table, h, ws, ks, t, n))
-        }
+        Some(t) => { Some(copy_type::copy(sw, sk, n, false, sk, cache, table, h, ws, ks, t, n)) }
         None => None,
     }
 }

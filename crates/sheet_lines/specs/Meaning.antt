@@ -20,7 +20,6 @@ use Rattle.sheet_lines.specs.declared.Plain.TheVariants as plain
 use Rattle.sheet_lines.specs.declared.Maker.{Maker}
 use Rattle.sheet_lines.specs.declared.Maker.TheVariants as maker
 use Rattle.std.specs.declared.option.Option.TheVariants as word
-use Rattle.std.specs.declared.option.Option.TheVariants as count
 use Rattle.std.specs.declared.option.Option as option
 
 -- a word's type, and how many types some words are, if all are types
@@ -63,8 +62,8 @@ word_means word.None = none
 
 -- a count's types stand at the front of the words
 abbrev pub count_means : TypeCount → List ℕ → Option (List Ty)
-count_means (count.Some n) out = some (map ty_of (take n out))
-count_means count.None out = none
+count_means (word.Some n) out = some (map ty_of (take n out))
+count_means word.None out = none
 
 -- a kind's code and its n types: they fit in a line, the kind has no names, and what its line says is what is said for the call that makes it
 pub record Over (c n : ℕ) (out : List ℕ) : Type 0 where
@@ -95,8 +94,8 @@ pub record Parsed (r : Line) (out : List ℕ) (l : sheet.Line) : Type 0 where
   pub fits : Fits r out
 
 abbrev pub count_room : TypeCount → ℕ
-count_room (count.Some n) = n
-count_room count.None = 0
+count_room (word.Some n) = n
+count_room word.None = 0
 
 -- a line that is no longer than a line may be, and words for as many types as it may have
 pub record Room (line out : List ℕ) : Type 0 where
