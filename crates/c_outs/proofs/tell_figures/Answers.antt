@@ -2,8 +2,8 @@
 use Rattle.c_outs.proofs.Laws.{figures_told}
 use Rattle.c_outs.proofs.tell_figures.Goals as goal
 
-pub returns-in-Some : goal.returns-in-Some
-returns-in-Some c = rw (c.in-Some.is, c.figures_out.ensures) (figures_told _ _)
+pub returns-in-Is : goal.returns-in-Is
+returns-in-Is c = rw (c.in-Is.is, c.figures_out.ensures) (figures_told _ _)
 
 pub returns-in-Refused : goal.returns-in-Refused
 returns-in-Refused c = rw c.in-Refused.is (figures_told _ _)
