@@ -42,7 +42,8 @@ loop-j-preserved t c =
     let k = c.in-Some.kind in
     let deep = c.bitxor-i.result.0 && c.self_dual-dual.result in (
       turn_next _ _ _ _ c.loop-j.invariant.0 c.loop-j-test.true c.put_gap-q.ensures
-          (kid_shown (show_f e (a.depth - 1) (decode a.ws.now a.ks.now a.n)) a.ks.now k deep c.loop-j.j c.child_of.result c.invert_if.result.0 c.invert_if.ensures c.child_of.ensures c.show_by-p.ensures.0),
+          (kid_shown (show_f e (a.depth - 1) (decode a.ws.now a.ks.now a.n)) a.ks.now k deep c.loop-j.j c.child_of.result
+          c.invert_if.result.0 c.invert_if.ensures c.child_of.ensures c.show_by-p.ensures.0),
       c.show_by-p.ensures.1,
     )
 

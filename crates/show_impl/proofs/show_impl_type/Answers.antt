@@ -11,7 +11,8 @@ use Rattle.layout.specs.Words.{decode}
 use Rattle.layout.proofs.LinkLaws.{clean_linked}
 use Rattle.show_impl.proofs.Laws.{other_trait, other_count, by_tuple}
 use Rattle.show_impl.proofs.show_impl_type.Goals as goal
-use Rattle.show_impl.proofs.show_impl_type.Goals.{else-xs-lt3-via-then-xs-lt3, else-xs-lt3-via-else-xs-lt3+else-xs-lt4, else-xs-lt3-via-in-len3+else-i-beside, else-xs-lt3-via-in-len3+then-i-beside+in-None-1}
+use Rattle.show_impl.proofs.show_impl_type.Goals.{else-xs-lt3-via-then-xs-lt3, else-xs-lt3-via-else-xs-lt3+else-xs-lt4}
+use Rattle.show_impl.proofs.show_impl_type.Goals.{else-xs-lt3-via-in-len3+else-i-beside, else-xs-lt3-via-in-len3+then-i-beside+in-None-1}
 
 pub returns-in_default : goal.returns-in_default
 unfolding show_impl_type render
