@@ -41,6 +41,7 @@ pub fn put_decimal(buf: &mut [u8], at: usize, n: u32) -> usize
     let mut digits = [0u8; 10];
     let mut i: usize = 9;
     let mut m = n;
+    // Kept (3): the new form is no plainer: the number ends this loop and no count, so a `for` over the places would need a way out besides.
     while 10 <= m {
         digits[i] = digit(m % 10);
         m /= 10;

@@ -1,25 +1,28 @@
 -- The name in a place's words: what the code's comparisons of it say, what is read of a name that was written, and that a free place is no place held.
 -- Assumes nothing.
 use mathlib.Core.Path.{◌≡◌, refl, ap, sym, ◌∙◌}
-use mathlib.Core.Bool.{Bool, true, false}
+use mathlib.Core.Bool.{Bool, true, false, not, ◌&&◌, false≢true}
 use mathlib.Core.List.{List, [], ◌∷◌}
 use mathlib.Core.Option.{none}
-use Prim.Native.Nat.{ℕ, suc, ◌+◌, ◌-◌, ◌<◌, ◌≤◌}
+use Prim.Native.Nat.{ℕ, zero, suc, ◌+◌, ◌-◌, ◌<◌, ◌≤◌}
 use native.Mathlib.Omega.{arith}
 use native.Mathlib.Numerals.{add-one}
 use lib.Dec.{eqb, leb}
-use lib.ListN.{length, get_or, set, take, drop, length-drop, drop_of_length-le}
-use lib.Seq.{drop-cons, length-take-le, get_or-take, get_or-drop}
-use borrow.Author.Tests.{eq-eqb, ne_eqb, eqb-true, leb-true}
-use Rattle.scope.specs.Base.{pick}
+use lib.ListN.{length, get_or, set, take, drop, length-drop}
+use lib.Seq.{length-take-le, get_or-take, get_or-drop}
+use borrow.Author.Tests.{eq-eqb, ne_eqb, eqb-true, eqb-false, leb-true}
+use lib.Pointwise.{pointwise}
+use Rattle.scope.specs.Base.{pick, all, from}
 use Rattle.scope.specs.Limits.{MAX_STATE_NAME, MAX_STATES}
 use Rattle.scope.specs.Names.{eq_bytes}
 use Rattle.scope.specs.States.{under, is_free}
 use Rattle.scope.proofs.NameLaws.{eq_bytes_lem}
 use Rattle.layout.proofs.Lists.{and_left}
+use Rattle.layout.specs.Words.{between}
 use Rattle.book.specs.Words.{place_words, place_at, name_length_in, name_bytes_in, place_in, name_words_clean, held_clean, place_clean}
 use Rattle.book.specs.Words.{node_room_in, child_room_in, book_clean}
-use Rattle.book.specs.Places.{place_of, NameLies, held_under}
+use Rattle.book.specs.Places.{room_in, PlaceLies, NameLies, held_under}
+use Rattle.book.specs.declared.Room.{Room}
 use Rattle.book.proofs.Places.{book_lies, place_length}
 
 -- what the code's tests say of a place
@@ -79,19 +82,30 @@ apart_length a b z = go (eq_bytes a b) refl
     go true e = absurd (z (ap length (eq_bytes_lem a b e)))
     go false e = refl
 
--- what two lists of one length say from place i on, by what stands at i and what they say from there on
-pub same_word : (a b : List ℕ) (i : ℕ) → i < length a → i < length b → get_or a i 0 ≡ get_or b i 0
-    → eq_bytes (drop i a) (drop i b) ≡ eq_bytes (drop (i + 1) a) (drop (i + 1) b)
-unfolding eq_bytes
-same_word a b i h k e = rw (drop-cons a i 0 h, drop-cons b i 0 k, add-one i, eq-eqb (get_or a i 0) (get_or b i 0) e) refl
+-- tests that say the same of each number
+all_same : (p q : ℕ → Bool) (i n : ℕ) → ((j : ℕ) → i ≤ j → j < i + n → p j ≡ q j) → all p (from i n) ≡ all q (from i n)
+all_same p q i zero e = refl
+all_same p q i (suc n) e = rw (e i (omega arith) (omega arith), all_same p q (suc i) n (λ j a b. e j (omega arith) (omega arith)))
 
-pub other_word : (a b : List ℕ) (i : ℕ) → i < length a → i < length b → (get_or a i 0 ≡ get_or b i 0 → ⊥) → eq_bytes (drop i a) (drop i b) ≡ false
-unfolding eq_bytes
-other_word a b i h k e = rw (drop-cons a i 0 h, drop-cons b i 0 k, ne_eqb (get_or a i 0) (get_or b i 0) e) refl
+-- lists of one length, word by word
+shift : (p : ℕ → Bool) (i n : ℕ) → all p (from (suc i) n) ≡ all (λ j. p (suc j)) (from i n)
+shift p i zero = refl
+shift p i (suc n) = ap (λ (b : Bool). p (suc i) && b) (shift p (suc i) n)
 
-pub no_words : (a b : List ℕ) (i : ℕ) → length a ≤ i → length b ≤ i → eq_bytes (drop i a) (drop i b) ≡ true
+pub same_each : (a b : List ℕ) → length a ≡ length b → all (λ i. eqb (get_or a i 0) (get_or b i 0)) (from 0 (length a)) ≡ eq_bytes a b
 unfolding eq_bytes
-no_words a b i h k = rw (drop_of_length-le a h, drop_of_length-le b k) refl
+same_each [] [] e = refl
+same_each [] (y ∷ b) e = absurd (omega arith)
+same_each (x ∷ a) [] e = absurd (omega arith)
+same_each (x ∷ a) (y ∷ b) e =
+    ap (λ (t : Bool). eqb x y && t) (shift (λ i. eqb (get_or (x ∷ a) i 0) (get_or (y ∷ b) i 0)) 0 (length a) ∙ same_each a b (omega arith))
+
+pub same_pointwise : (a b : List ℕ) → pointwise eqb a b ≡ eq_bytes a b
+unfolding eq_bytes
+same_pointwise [] [] = refl
+same_pointwise [] (y ∷ b) = refl
+same_pointwise (x ∷ a) [] = refl
+same_pointwise (x ∷ a) (y ∷ b) = ap (λ (t : Bool). eqb x y && t) (same_pointwise a b)
 
 -- the words of a name
 pub name_is : (ps : List ℕ) → name_bytes_in ps ≡ take (name_length_in ps) (drop 1 ps)
@@ -105,34 +119,52 @@ name_word ps i h =
     let z : 1 + i ≡ i + 1 = omega arith in
     rw (name_is ps) (get_or-take (name_length_in ps) (drop 1 ps) i 0 h ∙ (get_or-drop 1 ps i 0 ∙ ap (λ (j : ℕ). get_or ps j 0) z))
 
--- the ways out of a comparison of a place's name with other bytes
-abbrev pub Same : List ℕ → List ℕ → ℕ → Type 0
-Same ps name i = eq_bytes (drop i (name_bytes_in ps)) (drop i name) ≡ eq_bytes (name_bytes_in ps) name
-
-module _ (ps name : List ℕ) (lies : NameLies ps) where
-  pub compare_free : name_length_in ps ≡ 0 → false ≡ held_under name ps
+-- the ways out of a comparison of a place's name, which has n bytes, with other bytes
+module _ (ps name : List ℕ) (lies : NameLies ps) {n : ℕ} (e : n ≡ name_length_in ps) where
+  pub told_free : n ≡ 0 → not (eqb n 0) ≡ held_under name ps
   unfolding held_under
-  compare_free e = rw (eq-eqb (name_length_in ps) 0 e) refl
+  told_free z = rw (z, eq-eqb (name_length_in ps) 0 (sym e ∙ z)) refl
 
-  module _ (held : name_length_in ps ≡ 0 → ⊥) where
-    pub held_bytes : held_under name ps ≡ eq_bytes (name_bytes_in ps) name
+  module _ (held : n ≡ 0 → ⊥) where
+    pub told_held : eq_bytes (name_bytes_in ps) name ≡ held_under name ps
     unfolding held_under
-    held_bytes = rw (ne_eqb (name_length_in ps) 0 held) refl
+    told_held = rw (ne_eqb (name_length_in ps) 0 (λ z. held (e ∙ z))) refl
 
-    pub compare_length : (name_length_in ps ≡ length name → ⊥) → false ≡ held_under name ps
-    compare_length z = apart_length (name_bytes_in ps) name (λ e. z (sym (name_length_lem ps lies) ∙ e)) ∙ sym held_bytes
+    pub told_length : (n ≡ length name → ⊥) → eqb n (length name) ≡ held_under name ps
+    told_length z =
+        ne_eqb n (length name) z ∙ (apart_length (name_bytes_in ps) name (λ q. z (e ∙ (sym (name_length_lem ps lies) ∙ q))) ∙ told_held)
 
-    module _ (len : name_length_in ps ≡ length name) (i : ℕ) (s : Same ps name i) where
-      pub compare_stop : i < name_length_in ps → (get_or ps (i + 1) 0 ≡ get_or name i 0 → ⊥) → false ≡ held_under name ps
-      compare_stop h z =
-          sym (other_word (name_bytes_in ps) name i (rw (name_length_lem ps lies) h) (omega arith) (λ e. z (sym (name_word ps i h) ∙ e))) ∙ (s ∙ sym held_bytes)
+    -- word by word
+    pub told_each : n ≡ length name → (t : ℕ → Bool) → ((i : ℕ) → t i ≡ eqb (get_or ps (i + 1) 0) (get_or name i 0)) → all t (from 0 n) ≡ held_under name ps
+    told_each q t h =
+        let z : length (name_bytes_in ps) ≡ n = name_length_lem ps lies ∙ sym e in
+        rw (← z) (all_same t (λ i. eqb (get_or (name_bytes_in ps) i 0) (get_or name i 0)) 0 (length (name_bytes_in ps))
+        (λ i a b. h i ∙ ap (λ m. eqb m (get_or name i 0)) (sym (name_word ps i (omega arith)))))
+        ∙ (same_each (name_bytes_in ps) name (z ∙ q) ∙ told_held)
 
-      pub compare_step : i < name_length_in ps → get_or ps (i + 1) 0 ≡ get_or name i 0 → Same ps name (i + 1)
-      compare_step h e =
-          sym (same_word (name_bytes_in ps) name i (rw (name_length_lem ps lies) h) (omega arith) (name_word ps i h ∙ e)) ∙ s
+-- the name of another place, as a slice
+module _ (ps other : List ℕ) (lies : NameLies ps) (there : NameLies other) {n m : ℕ} (e : n ≡ name_length_in ps) (q : m ≡ name_length_in other) where
+  same_long : m ≡ length (name_bytes_in other)
+  same_long = q ∙ sym (name_length_lem other there)
 
-      pub compare_end : name_length_in ps ≤ i → true ≡ held_under name ps
-      compare_end h = sym (no_words (name_bytes_in ps) name i (rw (name_length_lem ps lies) h) (omega arith)) ∙ (s ∙ sym held_bytes)
+  module _ {t : Bool} (f : t ≡ eqb n m) where
+    pub told_slices : t ≡ true → (n ≡ 0 → ⊥) → {r : Bool} → r ≡ pointwise eqb (between ps 1 (n + 1)) (between other 1 (n + 1))
+        → r ≡ held_under (name_bytes_in other) ps
+    told_slices s held k =
+        let z : n ≡ m = eqb-true n m (sym f ∙ s) in
+        let x : between ps 1 (n + 1) ≡ name_bytes_in ps = rw (e, add-one (name_length_in ps)) refl in
+        let y : between other 1 (n + 1) ≡ name_bytes_in other = ap (λ j. between other 1 (j + 1)) (z ∙ q) ∙ rw (add-one (name_length_in other)) refl in
+        k ∙ (ap (λ l. pointwise eqb l (between other 1 (n + 1))) x
+        ∙ (ap (pointwise eqb (name_bytes_in ps)) y
+        ∙ (same_pointwise (name_bytes_in ps) (name_bytes_in other) ∙ told_held ps (name_bytes_in other) lies e held)))
+
+    pub told_others : t ≡ false → (n ≡ 0 → ⊥) → t ≡ held_under (name_bytes_in other) ps
+    told_others s held =
+        let z : n ≡ m → ⊥ = eqb-false n m (sym f ∙ s) in
+        f ∙ (ap (eqb n) same_long ∙ told_length ps (name_bytes_in other) lies e held (λ k. z (k ∙ sym same_long)))
+
+pub not_free : {n : ℕ} {t : Bool} → t ≡ not (eqb n 0) → t ≡ true → n ≡ 0 → ⊥
+not_free {n} f s z = absurd (false≢true (rw (ap (λ k. not (eqb k 0)) z) at (sym f ∙ s)))
 
 -- the places of a clean book
 
@@ -142,12 +174,9 @@ place_name bs i cl h =
     let l = place_length bs (node_room_in bs) (child_room_in bs) i b.words h in
     name_lies (node_room_in bs) (child_room_in bs) (place_at bs (node_room_in bs) (child_room_in bs) i) (omega arith) (b.each i h)
 
-module _ (bs ps : List ℕ) (i : ℕ) (e : ps ≡ place_at bs (node_room_in bs) (child_room_in bs) i) where
-  pub place_under : (name : List ℕ) (t : Bool) → t ≡ held_under name ps → under name (place_of bs i) ≡ t
-  place_under name t h = under_is name (node_room_in bs) (child_room_in bs) _ ∙ (ap (held_under name) (sym e) ∙ sym h)
+pub place_there : (bs : List ℕ) → book_clean bs ≡ true → {r : Room} → r ≡ room_in bs → {i : ℕ} → i < MAX_STATES → (j : ℕ) → j ≡ i → PlaceLies bs r.nodes r.children j
+place_there bs cl q h j e = let b = book_lies bs cl in rw (q, e) (record { words = b.words; index = h })
 
-  pub place_free : name_length_in ps ≡ 0 → is_free (place_of bs i) ≡ true
-  place_free z = free_is (node_room_in bs) (child_room_in bs) _ ∙ (ap (λ (l : List ℕ). eqb (name_length_in l) 0) (sym e) ∙ eq-eqb (name_length_in ps) 0 z)
-
-  pub place_held : (name_length_in ps ≡ 0 → ⊥) → is_free (place_of bs i) ≡ false
-  place_held z = free_is (node_room_in bs) (child_room_in bs) _ ∙ (ap (λ (l : List ℕ). eqb (name_length_in l) 0) (sym e) ∙ ne_eqb (name_length_in ps) 0 z)
+pub place_named : (bs : List ℕ) → book_clean bs ≡ true → {r : Room} → r ≡ room_in bs → {i : ℕ} → i < MAX_STATES → (j : ℕ) → j ≡ i
+    → (ps : List ℕ) → ps ≡ place_at bs r.nodes r.children j → NameLies ps
+place_named bs cl q {i} h j e ps p = rw (p, q, e) (place_name bs i cl h)

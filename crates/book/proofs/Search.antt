@@ -1,48 +1,72 @@
--- A search over a book's places, one after the other: where it stands and what it finds among the rest give what it finds in the whole. And a name's
--- bytes, written one after the other.
+-- A search over a book's places, one after the other. And a name's bytes, written one after the other.
 -- Assumes nothing.
 use mathlib.Core.Path.{◌≡◌, refl, ap, sym, ◌∙◌}
 use mathlib.Core.Bool.{Bool, true, false}
 use mathlib.Core.List.{List, [], ◌∷◌, ◌++◌, map, append_assoc}
-use Prim.Native.Nat.{ℕ, suc, ◌+◌, ◌-◌, ◌<◌, ◌≤◌}
+use Prim.Native.Nat.{ℕ, zero, suc, ◌+◌, ◌<◌, ◌≤◌}
 use native.Mathlib.Omega.{arith}
 use native.Mathlib.Numerals.{add-one}
+use lib.Dec.{ltb}
 use lib.ListN.{length, get_or, set, take, drop, length-append, length-drop, take-append-drop}
 use lib.Seq.{drop-cons, set_at, length-take-le, take-suc-set, drop-set-lt}
-use Rattle.scope.specs.Base.{from}
+use borrow.Author.Tests.{ltb-true, ltb-false, lt-ltb, le-ltb}
+use Rattle.std.specs.Prelude.{Some, None, Option}
+use Rattle.std.specs.List.{find, range_with_len}
+use Rattle.scope.specs.Base.{pick, from}
 use Rattle.scope.specs.Limits.{MAX_STATES, MAX_STATE_NAME}
 use Rattle.scope.specs.States.{Place, place_where}
 use Rattle.layout.proofs.Lists.{length_from, map_snoc}
 use Rattle.book.specs.Words.{NAME_WORDS}
-use Rattle.book.specs.Places.{put_name}
+use Rattle.book.specs.Places.{put_name, if_place}
 
-abbrev pub found_from : (Place → Bool) → (ℕ → Place) → ℕ → ℕ
-found_from p f i = i + place_where p (map f (from i (MAX_STATES - i)))
+-- what is found among the n places from i on
+abbrev some_of : ℕ → ℕ → ℕ → Option ℕ
+some_of i n k = pick (ltb k n) (Some (i + k)) None
 
-module _ (p : Place → Bool) (f : ℕ → Place) where
-  pub search_start : found_from p f 0 ≡ place_where p (map f (from 0 MAX_STATES))
-  search_start = omega arith
+less_more : (k n : ℕ) → ltb (suc k) (suc n) ≡ ltb k n
+less_more k n = go (ltb k n) refl
+  where
+    go : (b : Bool) → ltb k n ≡ b → ltb (suc k) (suc n) ≡ b
+    go true e = let h = ltb-true k n e in lt-ltb (suc k) (suc n) (omega arith)
+    go false e = let h = ltb-false k n e in le-ltb (suc k) (suc n) (omega arith)
 
-  module _ (i : ℕ) where
-    pub search_found : i < MAX_STATES → p (f i) ≡ true → found_from p f i ≡ i
-    unfolding place_where
-    search_found h e =
-        let z : MAX_STATES - i ≡ suc (MAX_STATES - suc i) = omega arith in
-        let w : place_where p (map f (from i (suc (MAX_STATES - suc i)))) ≡ 0 = rw e refl in
-        rw (z, w) (omega arith)
+find_step : (b : Bool) (i n k : ℕ) (o : Option ℕ) → o ≡ some_of (suc i) n k → pick b (Some i) o ≡ some_of i (suc n) (pick b 0 (suc k))
+find_step true i n k o e = let z : i + 0 ≡ i = omega arith in rw (z, lt-ltb 0 (suc n) (omega arith)) refl
+find_step false i n k o e =
+    let z : i + suc k ≡ suc i + k = omega arith in
+    e ∙ (ap (λ (b : Bool). pick b (Some (suc i + k)) None) (sym (less_more k n)) ∙ ap (λ j. pick (ltb (suc k) (suc n)) (Some j) None) (sym z))
 
-    pub search_on : i < MAX_STATES → p (f i) ≡ false → found_from p f i ≡ found_from p f (i + 1)
-    unfolding place_where
-    search_on h e =
-        let z : MAX_STATES - i ≡ suc (MAX_STATES - suc i) = omega arith in
-        let w : place_where p (map f (from i (suc (MAX_STATES - suc i)))) ≡ suc (place_where p (map f (from (suc i) (MAX_STATES - suc i)))) = rw e refl in
-        rw (add-one i, z, w) (omega arith)
+find_first : (t : ℕ → Bool) (i : ℕ) (l : List ℕ) (b : Bool) → t i ≡ b → find t (i ∷ l) ≡ pick b (Some i) (find t l)
+find_first t i l true e = rw e refl
+find_first t i l false e = rw e refl
 
-    pub search_end : i ≤ MAX_STATES → MAX_STATES ≤ i → found_from p f i ≡ i
-    unfolding place_where
-    search_end h k =
-        let z : MAX_STATES - i ≡ 0 = omega arith in
-        rw z (omega arith)
+find_run : (p : Place → Bool) (f : ℕ → Place) (t : ℕ → Bool) (i n : ℕ) → ((j : ℕ) → i ≤ j → j < i + n → t j ≡ p (f j))
+    → find t (range_with_len i n) ≡ some_of i n (place_where p (map f (from i n)))
+unfolding place_where
+find_run p f t i zero e = refl
+find_run p f t i (suc n) e =
+    find_first t i (range_with_len (i + 1) n) (p (f i)) (e i (omega arith) (omega arith))
+    ∙ find_step (p (f i)) i n (place_where p (map f (from (suc i) n))) (find t (range_with_len (i + 1) n))
+    (rw add-one (find_run p f t (suc i) n (λ j a b. e j (omega arith) (omega arith))))
+
+pub find_places : (p : Place → Bool) (f : ℕ → Place) (t : ℕ → Bool) → ((j : ℕ) → j < MAX_STATES → t j ≡ p (f j))
+    → find t (range_with_len 0 MAX_STATES) ≡ if_place (place_where p (map f (from 0 MAX_STATES)))
+find_places p f t e = find_run p f t 0 MAX_STATES (λ j a b. e j (omega arith)) ∙ ap (λ k. pick (ltb (place_where p (map f (from 0 MAX_STATES))) MAX_STATES) (Some k) None) (omega arith)
+
+-- what an answer says
+pub found_is : {i k : ℕ} → if_place k ≡ Some i → (k ≡ i) × (i < MAX_STATES)
+found_is {i} {k} e = go (ltb k MAX_STATES) refl e
+  where
+    go : (b : Bool) → ltb k MAX_STATES ≡ b → pick b (Some k) None ≡ Some i → (k ≡ i) × (i < MAX_STATES)
+    go true t q = let z : k ≡ i = cc in let h = ltb-true k MAX_STATES t in (z, omega arith)
+    go false t q = absurd cc
+
+pub found_none : {k : ℕ} → if_place k ≡ None → MAX_STATES ≤ k
+found_none {k} e = go (ltb k MAX_STATES) refl e
+  where
+    go : (b : Bool) → ltb k MAX_STATES ≡ b → pick b (Some k) None ≡ None → MAX_STATES ≤ k
+    go true t q = absurd cc
+    go false t q = ltb-false k MAX_STATES t
 
 -- a name's first i bytes behind the first word
 abbrev pub bytes_to : List ℕ → ℕ → List ℕ

@@ -1,5 +1,6 @@
 -- What the code reads and writes of a names buffer: its capacities, a place's words `ps`, and the name in them.
-use Rattle.std.specs.Prelude.{List, ◌∷◌, ◌++◌, map, Bool, false, ℕ, suc, ◌-◌, ◌≤◌, ◌<◌, eqb, length, get_or, take, drop}
+use Rattle.std.specs.Prelude.{List, ◌∷◌, ◌++◌, map, Bool, false, ℕ, suc, ◌-◌, ◌≤◌, ◌<◌, eqb, ltb, length, get_or, take, drop}
+use Rattle.std.specs.Prelude.{Some, None, Option}
 use Rattle.scope.specs.Base.{pick, from}
 use Rattle.scope.specs.Limits.{MAX_STATES, MAX_STATE_NAME}
 use Rattle.scope.specs.Names.{eq_bytes}
@@ -46,3 +47,7 @@ name_bytes name = map (λ i. get_or name i 0) (from 0 MAX_STATE_NAME)
 
 unfoldable pub put_name : List ℕ → List ℕ → List ℕ
 put_name ps name = length name ∷ (name_bytes name ++ drop NAME_WORDS ps)
+
+-- what a search of the places answers: MAX_STATES, which numbers no place, is none
+abbrev pub if_place : ℕ → Option ℕ
+if_place i = pick (ltb i MAX_STATES) (Some i) None

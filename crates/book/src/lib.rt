@@ -6,7 +6,7 @@ ghost use Rattle.scope.specs.Limits.{MAX_STATES};
 ghost use Rattle.scope.specs.States.{under, is_free, place_where};
 ghost use Rattle.book.specs.Words.{nodes_from, kids_from, place_words, book_words, place_from, place_at};
 ghost use Rattle.book.specs.Words.{name_length_in, name_bytes_in, head_in, nodes_in, kids_in, places_in, book_clean};
-ghost use Rattle.book.specs.Places.{room_in, PlaceLies, NameLies, held_under, Nameable, put_name};
+ghost use Rattle.book.specs.Places.{room_in, PlaceLies, NameLies, held_under, Nameable, put_name, if_place};
 
 use layout::{HEAD_WORDS, child_words, node_words, word};
 use scope::{MAX_STATE_NAME, MAX_STATES};
@@ -59,7 +59,7 @@ pub fn place_from(nodes: u32, children: u32, i: usize) -> usize
 fn byte(s: &[u8], i: usize) -> u32
     ensures { result ≡ get_or s.now i 0 }
 {
-    if i < s.len() { s[i] as u32 } else { 0 }
+    s.get(i).map_or(0, |&b| u32::from(b))
 }
 
 pub fn room_of(bs: &[u32]) -> Room
@@ -119,20 +119,7 @@ pub fn same_name(ps: &[u32], name: &[u8]) -> bool
     ensures { result ≡ held_under name.now ps.now }
 {
     let n = name_length(ps) as usize;
-    if n == 0 {
-        return false;
-    }
-    if n != name.len() {
-        return false;
-    }
-    let mut i = 0;
-    while i < n {
-        if word(ps, i + 1) != byte(name, i) {
-            return false;
-        }
-        i += 1;
-    }
-    true
+    n != 0 && n == name.len() && (0..n).all(|i| word(ps, i + 1) == byte(name, i))
 }
 
 // Whether a place is held under the name of another; a free one has none.
@@ -140,21 +127,9 @@ pub fn same_names<'a>(ps: &'a [u32], other: &'a [u32]) -> bool
     requires { NameLies ps.now × NameLies other.now }
     ensures { result ≡ held_under (name_bytes_in other.now) ps.now }
 {
-    let length = name_length(ps) as usize;
-    if length == 0 {
-        return false;
-    }
-    if length != name_length(other) as usize {
-        return false;
-    }
-    let mut i = 0;
-    while i < length {
-        if word(ps, i + 1) != word(other, i + 1) {
-            return false;
-        }
-        i += 1;
-    }
-    true
+    let length = name_length(ps);
+    let e = length as usize + 1;
+    length != 0 && length == name_length(other) && ps[1..e] == other[1..e]
 }
 
 // A name in words: its length, its bytes, and zeros behind them.
@@ -163,10 +138,8 @@ pub fn put_name(ps: &mut [u32], name: &[u8])
     ensures { ps.new ≡ put_name ps.old name.now }
 {
     ps[0] = name.len() as u32;
-    let mut i = 0;
-    while i < MAX_STATE_NAME {
+    for i in 0..MAX_STATE_NAME {
         ps[i + 1] = byte(name, i);
-        i += 1;
     }
 }
 
@@ -178,34 +151,20 @@ pub fn free(ps: &mut [u32])
     ps[0] = 0;
 }
 
-// The place that is held under a name, and MAX_STATES where none is.
-pub fn find_name(bs: &[u32], name: &[u8]) -> usize
+// The place that is held under a name.
+pub fn find_name(bs: &[u32], name: &[u8]) -> Option<usize>
     requires { book_clean bs.now ≡ true }
-    ensures { result ≡ place_where (under name.now) (places_in bs.now) }
+    ensures { result ≡ if_place (place_where (under name.now) (places_in bs.now)) }
 {
     let room = room_of(bs);
-    let mut i = 0;
-    while i < MAX_STATES {
-        if same_name(place(bs, room.nodes, room.children, i), name) {
-            return i;
-        }
-        i += 1;
-    }
-    i
+    (0..MAX_STATES).find(|&i| same_name(place(bs, room.nodes, room.children, i), name))
 }
 
-// The first free place, and MAX_STATES where none is.
-pub fn find_free(bs: &[u32]) -> usize
+// The first free place.
+pub fn find_free(bs: &[u32]) -> Option<usize>
     requires { book_clean bs.now ≡ true }
-    ensures { result ≡ place_where is_free (places_in bs.now) }
+    ensures { result ≡ if_place (place_where is_free (places_in bs.now)) }
 {
     let room = room_of(bs);
-    let mut i = 0;
-    while i < MAX_STATES {
-        if name_length(place(bs, room.nodes, room.children, i)) == 0 {
-            return i;
-        }
-        i += 1;
-    }
-    i
+    (0..MAX_STATES).find(|&i| name_length(place(bs, room.nodes, room.children, i)) == 0)
 }

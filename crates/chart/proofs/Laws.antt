@@ -1,20 +1,18 @@
 -- Laws of the chart's numbers: the k-th number of the n-th record stands at n * 10 + k, and a number that the chart lacks reads as the record of none.
 -- Assumes nothing.
 use mathlib.Core.Path.{◌≡◌, refl, ap, ◌∙◌}
-use mathlib.Core.Bool.{Bool, true, false, ◌&&◌}
-use mathlib.Core.List.{List, [], ◌∷◌, map}
+use mathlib.Core.Bool.{◌&&◌}
+use mathlib.Core.List.{List, [], map}
 use Prim.Native.Nat.{ℕ, zero, suc, ◌+◌, ◌*◌, ◌/◌, ◌%◌, ◌≤◌, ◌<◌}
 use native.Mathlib.Nat.{add-zero, zero-add, zero-mul, suc-mul}
-use native.Mathlib.Decide.{dec_lt}
 use native.Mathlib.Omega.{arith}
 use lib.Dec.{eqb, leb}
-use lib.ListN.{length, get_or, drop, replicate, get_or-replicate, length-replicate, get_or-eq_default}
+use lib.ListN.{length, get_or, drop, get_or-eq_default}
 use lib.Seq.{drop-drop, get_or-drop}
 use Rattle.scope.specs.Base.{all, from}
-use borrow.Author.Tests.{lt-leb, le-leb}
-use Rattle.scope.specs.Limits.{MAX_NAME, MAX_RECORDS}
-use Rattle.scope.specs.Names.{Texts, Name, name, in_text, texts_ok}
-use Rattle.scope.specs.Chart.{Record, no_record, NO_SORT, record_ok, fn_trait_ok, sigil_ok, chart_ok}
+use Rattle.scope.specs.Limits.{MAX_RECORDS}
+use Rattle.scope.specs.Names.{name, texts_ok}
+use Rattle.scope.specs.Chart.{Record, no_record, record_ok, fn_trait_ok, sigil_ok, chart_ok}
 use Rattle.names.specs.Place.{texts}
 use Rattle.chart.specs.declared.Beside.{Beside}
 use Rattle.chart.specs.Env.{sigils_of, env_of, chart_in, chart_words_ok}
@@ -54,24 +52,6 @@ word_there ws n k h l =
     ap (λ (r : Record). get_or (words_of r) k 0) (runs_at RECORD_WORDS record_in (length ws / RECORD_WORDS) ws n no_record m)
     ∙ (words_in (drop (n * RECORD_WORDS) ws) k l ∙ get_or-drop (n * RECORD_WORDS) ws k 0)
 
--- past the last record: no sort, and 0 for every other number
-none_there : (ws : List ℕ) (n k : ℕ) → length (records_of ws) ≤ n → get_or (words_of (record_of ws n)) k 0 ≡ get_or (words_of no_record) k 0
-none_there ws n k h = ap (λ (r : Record). get_or (words_of r) k 0) (get_or-eq_default (records_of ws) no_record h)
-
-pub word_sort : (ws : List ℕ) (n k : ℕ) → length (records_of ws) ≤ n → k ≡ 0 → get_or (words_of (record_of ws n)) k 0 ≡ NO_SORT
-word_sort ws n k h z = none_there ws n k h ∙ ap (λ (j : ℕ). get_or (words_of no_record) j 0) z
-
-zeros : (n k : ℕ) → get_or {A = ℕ} (replicate n 0) k 0 ≡ 0
-zeros n k = go (dec_lt k n)
-  where
-    go : Dec (k < n) → get_or {A = ℕ} (replicate n 0) k 0 ≡ 0
-    go (yes h) = get_or-replicate n k 0 0 h
-    go (no h) = get_or-eq_default (replicate n 0) 0 (rw length-replicate (omega arith))
-
-pub word_none : (ws : List ℕ) (n k : ℕ) → length (records_of ws) ≤ n → (k ≡ 0 → ⊥) → get_or (words_of (record_of ws n)) k 0 ≡ 0
-word_none ws n zero h z = absurd (z refl)
-word_none ws n (suc k) h z = none_there ws n (suc k) h ∙ zeros 9 k
-
 -- the sigils
 name_from : (ws : List ℕ) (j : ℕ) → name_at 0 (drop j ws) ≡ name_at j ws
 name_from ws j = rw (get_or-drop j ws 0 0, get_or-drop j ws 1 0, get_or-drop j ws 2 0, add-zero)
@@ -88,24 +68,6 @@ sigils_length ws = runs_length NAME_WORDS (name_at 0) 4 ws
 
 pub sigil_none : (ws : List ℕ) (n : ℕ) → 4 ≤ n → get_or (sigils_of ws) n (name 0 0 0) ≡ name 0 0 0
 sigil_none ws n h = get_or-eq_default (sigils_of ws) (name 0 0 0) (rw (sigils_length ws) h)
-
--- a sigil outside its text, one that is too long, and one that fits
-
-pub sigil_strays : (x : Texts) (n : Name) → in_text x n ≡ false → sigil_ok x n ≡ false
-sigil_strays x n e = rw e
-
-pub sigil_long : (x : Texts) (n : Name) → in_text x n ≡ true → MAX_NAME < n.len → sigil_ok x n ≡ false
-sigil_long x n e h = rw (e, lt-leb n.len MAX_NAME h)
-
-pub sigil_fits : (x : Texts) (n : Name) → in_text x n ≡ true → n.len ≤ MAX_NAME → sigil_ok x n ≡ true
-sigil_fits x n e h = rw (e, le-leb n.len MAX_NAME h)
-
--- tests one after the other: one that passes leaves the next to say, one that fails ends them
-pub goes_on : {s t r : Bool} → s ≡ true → r ≡ t → r ≡ (s && t)
-goes_on e h = rw e h
-
-pub stops : {s : Bool} (t : Bool) → s ≡ false → false ≡ (s && t)
-stops t e = rw e
 
 -- the tests of chart and texts, one after the other; that of a record does not look at what stands beside the chart
 pub chart_tests :

@@ -5,6 +5,7 @@ use Rattle.scope.specs.Names.{Name}
 use Rattle.scope.specs.Chart.{Env, chart_ok}
 use Rattle.names.specs.Place.{texts}
 use Rattle.chart.specs.declared.Beside.{Beside}
+use Rattle.chart.specs.declared.Env as lent
 use Rattle.chart.specs.Words.{RECORD_WORDS, NAME_WORDS, runs, name_at, records_of}
 
 -- "the four texts of `sigil` for `Flex`", three numbers each
@@ -23,6 +24,13 @@ env_of ws b rule text =
 -- the same with nothing beside the chart, which the test of a record does not look at
 abbrev pub chart_in : List ℕ → List ℕ → List ℕ → Env
 chart_in ws rule text = record { records = records_of ws; fn_trait = NONE; sigils = []; texts = texts rule text }
+
+-- the chart that is lent, with its texts, and these alone
+abbrev pub chart_lent : lent.Env → Env
+chart_lent l = chart_in l.chart.now l.texts.rule.now l.texts.chart.now
+
+abbrev pub texts_lent : lent.Env → Env
+texts_lent l = chart_in [] l.texts.rule.now l.texts.chart.now
 
 -- the chart alone, which is all that its readers look at
 abbrev pub chart_alone : List ℕ → Env

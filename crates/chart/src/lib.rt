@@ -11,7 +11,7 @@ ghost use Rattle.chart.specs.Words.{«RECORD_WORDS», name_at, words_of, records
 ghost use Rattle.chart.specs.Env.{sigils_of, env_of, chart_in, chart_alone, chart_words_ok};
 
 use kinds::{NO_SORT, STRUCT_SORT, TRAIT_FN_SORT, TRAIT_SORT, UNION_SORT};
-use names::Name;
+use names::{NO_NAME, Name, Texts};
 use scope::{MAX_NAME, MAX_RECORDS, MAX_TEXT, NONE};
 
 pub const RECORD_WORDS: usize = 10;
@@ -36,6 +36,14 @@ pub struct Beside {
     pub sigils: [u32; 12],
 }
 
+// What every call reads: the chart's words, what stands beside them, and the two texts.
+#[derive(Clone, Copy)]
+pub struct Env<'a> {
+    pub chart: &'a [u32],
+    pub beside: Beside,
+    pub texts: Texts<'a>,
+}
+
 pub fn record_count(chart: &[u32]) -> usize
     ensures { result ≡ length (records_of chart.now) }
 {
@@ -49,23 +57,23 @@ fn word(chart: &[u32], n: u32, field: usize) -> u32
 {
     let i = n as usize;
     if i < record_count(chart) {
-        let at = i * RECORD_WORDS + field;
-        return chart[at];
+        chart[i * RECORD_WORDS + field]
+    } else if field == SORT_FIELD {
+        NO_SORT
+    } else {
+        0
     }
-    if field == SORT_FIELD {
-        return NO_SORT;
-    }
-    0
 }
 
 fn name_in(chart: &[u32], n: u32, field: usize) -> Name
     requires { field + 2 < «RECORD_WORDS» }
     ensures { name_of result ≡ name_at field (words_of (record_at (chart_alone chart.now) n)) }
 {
-    let text = word(chart, n, field);
-    let start = word(chart, n, field + 1);
-    let len = word(chart, n, field + 2);
-    Name { text, start, len }
+    Name {
+        text: word(chart, n, field),
+        start: word(chart, n, field + 1),
+        len: word(chart, n, field + 2),
+    }
 }
 
 pub fn sort_at(chart: &[u32], n: u32) -> u32
@@ -114,19 +122,16 @@ pub fn is_trait(chart: &[u32], n: u32) -> bool
 pub fn sigil_at(beside: Beside, flex: u32) -> Name
     ensures { name_of result ≡ sigil_at (env_of [] beside [] []) flex }
 {
-    let i = flex as usize;
-    if i < 4 {
+    if flex < 4 {
         let s = beside.sigils;
-        let at = i * 3;
-        let text = s[at];
-        let start = s[at + 1];
-        let len = s[at + 2];
-        return Name { text, start, len };
-    }
-    Name {
-        text: 0,
-        start: 0,
-        len: 0,
+        let at = flex as usize * 3;
+        Name {
+            text: s[at],
+            start: s[at + 1],
+            len: s[at + 2],
+        }
+    } else {
+        NO_NAME
     }
 }
 
@@ -135,114 +140,75 @@ fn flag_ok(chart: &[u32], n: u32) -> bool
     ensures { result ≡ flag_ok (record_at (chart_alone chart.now) n) }
 {
     let dual = word(chart, n, DUAL_FIELD);
-    let sort = sort_at(chart, n);
-    if sort == STRUCT_SORT {
-        return dual <= 1;
+    match sort_at(chart, n) {
+        STRUCT_SORT | UNION_SORT => dual <= 1,
+        _ => dual == 0,
     }
-    if sort == UNION_SORT {
-        return dual <= 1;
-    }
-    dual == 0
 }
 
 fn trait_ok(chart: &[u32], n: u32) -> bool
     ensures { result ≡ trait_ok (chart_alone chart.now) (record_at (chart_alone chart.now) n) }
 {
     let t = trait_at(chart, n);
-    if sort_at(chart, n) == TRAIT_FN_SORT {
-        return is_trait(chart, t);
+    match sort_at(chart, n) {
+        TRAIT_FN_SORT => is_trait(chart, t),
+        _ => t == 0,
     }
-    t == 0
 }
 
 fn record_ok(chart: &[u32], n: u32, rule: &[u8], text: &[u8]) -> bool
     ensures { result ≡ record_ok (chart_in chart.now rule.now text.now) (record_at (chart_alone chart.now) n) }
 {
-    if sort_at(chart, n) > TRAIT_FN_SORT {
-        return false;
-    }
-    if !names::name_ok(name_at(chart, n), rule, text) {
-        return false;
-    }
-    if !names::name_ok(path_at(chart, n), rule, text) {
-        return false;
-    }
-    if !flag_ok(chart, n) {
-        return false;
-    }
-    trait_ok(chart, n)
+    sort_at(chart, n) <= TRAIT_FN_SORT
+        && names::name_ok(name_at(chart, n), rule, text)
+        && names::name_ok(path_at(chart, n), rule, text)
+        && flag_ok(chart, n)
+        && trait_ok(chart, n)
 }
 
 fn records_ok(chart: &[u32], rule: &[u8], text: &[u8]) -> bool
     requires { length (records_of chart.now) ≤ «MAX_RECORDS» }
     ensures { result ≡ all (record_ok (chart_in chart.now rule.now text.now)) (records_of chart.now) }
 {
-    let mut n: u32 = 0;
-    while (n as usize) < record_count(chart) {
-        if !record_ok(chart, n, rule, text) {
-            return false;
-        }
-        n += 1;
-    }
-    true
+    let count = record_count(chart) as u32;
+    (0..count).all(|n| record_ok(chart, n, rule, text))
+}
+
+// It lies in its text and is no longer than a name may be.
+fn sigil_ok(sigil: Name, rule: &[u8], text: &[u8]) -> bool
+    ensures { result ≡ sigil_ok (texts rule.now text.now) (name_of sigil) }
+{
+    names::in_text(sigil, rule, text) && sigil.len as usize <= MAX_NAME
 }
 
 // "the four texts of `sigil` for `Flex`, which alone may be empty"
 fn sigils_ok(beside: Beside, rule: &[u8], text: &[u8]) -> bool
     ensures { result ≡ all (sigil_ok (texts rule.now text.now)) (sigils_of beside.sigils) }
 {
-    let mut i: u32 = 0;
-    while i < 4 {
-        let sigil = sigil_at(beside, i);
-        if !names::in_text(sigil, rule, text) {
-            return false;
-        }
-        if sigil.len as usize > MAX_NAME {
-            return false;
-        }
-        i += 1;
-    }
-    true
+    (0..4).all(|i| sigil_ok(sigil_at(beside, i), rule, text))
 }
 
 // "4,294,967,295: none; any other must be a trait's record"
 fn fn_trait_ok(chart: &[u32], beside: Beside) -> bool
     ensures { result ≡ fn_trait_ok (env_of chart.now beside [] []) }
 {
-    let t = beside.fn_trait;
-    if t == NONE {
-        return true;
-    }
-    is_trait(chart, t)
+    beside.fn_trait == NONE || is_trait(chart, beside.fn_trait)
 }
 
 fn texts_ok(rule: &[u8], text: &[u8]) -> bool
     ensures { result ≡ texts_ok (texts rule.now text.now) }
 {
-    if rule.len() > MAX_TEXT {
-        return false;
-    }
-    text.len() <= MAX_TEXT
+    rule.len() <= MAX_TEXT && text.len() <= MAX_TEXT
 }
 
 // Whether refusal 2 does not stand: "chart or texts break a limit, sort, flag or range".
 pub fn chart_ok(chart: &[u32], beside: Beside, rule: &[u8], text: &[u8]) -> bool
     ensures { result ≡ chart_words_ok chart.now beside rule.now text.now }
 {
-    if chart.len() % RECORD_WORDS != 0 {
-        return false;
-    }
-    if record_count(chart) > MAX_RECORDS {
-        return false;
-    }
-    if !texts_ok(rule, text) {
-        return false;
-    }
-    if !records_ok(chart, rule, text) {
-        return false;
-    }
-    if !fn_trait_ok(chart, beside) {
-        return false;
-    }
-    sigils_ok(beside, rule, text)
+    chart.len() % RECORD_WORDS == 0
+        && record_count(chart) <= MAX_RECORDS
+        && texts_ok(rule, text)
+        && records_ok(chart, rule, text)
+        && fn_trait_ok(chart, beside)
+        && sigils_ok(beside, rule, text)
 }

@@ -24,7 +24,7 @@ use Rattle.names.specs.declared.Name.{Name}
 use Rattle.layout.specs.declared.Cell.{Cell}
 use Rattle.layout.specs.declared.Header.{Header}
 use Rattle.layout.specs.declared.Kind.{Kind}
-use Rattle.layout.proofs.Lists.{length_from}
+use Rattle.layout.proofs.Lists.{length_from, all_map}
 use Rattle.layout.proofs.Cells.{cell_first, cell_clean, clean_words}
 use Rattle.layout.proofs.ChildLaws.{front_slots, last_slots}
 use Rattle.clean.specs.Parts.{name_clean_if, slot_clean_if, slots_clean_if, plain_clean, known_clean}
@@ -55,10 +55,6 @@ module _ (p : ℕ → Bool) (a e : ℕ) where
   flag_end ok h = rw (run_end h, and-true)
 
 -- the same of what stands there
-
-pub all_map : {A B : Type 0} (q : B → Bool) (f : A → B) (l : List A) → all q (map f l) ≡ all (λ i. q (f i)) l
-all_map q f [] = refl
-all_map q f (i ∷ l) = ap (λ (b : Bool). q (f i) && b) (all_map q f l)
 
 -- the word at i is zero
 abbrev pub zero_at : List ℕ → ℕ → Bool

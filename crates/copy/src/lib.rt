@@ -6,33 +6,32 @@ ghost use Rattle.scope.specs.Nodes.{opened};
 ghost use Rattle.scope.specs.Import.{import, export};
 ghost use Rattle.layout.specs.Words.{decode, store_in};
 ghost use Rattle.store.specs.Entries.{types_in};
-ghost use Rattle.copy_parts.specs.Places.{list_of};
+ghost use Rattle.copy_parts.specs.Places.{params_in};
 ghost use Rattle.copy.specs.Whole.{ImportReady, ExportReady, ImportedIs};
 
 use scope::MAX_NODES;
 
-// Out of n nodes; with `listed` the words of `params` are the parameter list.
+// Out of n nodes, with a parameter list or none.
 pub fn import(
     sw: &[u32],
     sk: &[u32],
     n: u32,
-    listed: bool,
-    params: &[u32],
+    params: Option<&[u32]>,
     h: &mut [u32],
     ws: &mut [u32],
     ks: &mut [u32],
     ts: &[u32],
     out: &mut [u32],
 )
-    requires { ImportReady sw.now sk.now n (list_of listed params.now) ts.now h.old ws.old ks.old out.old }
-    ensures { ImportedIs (import (decode sw.now sk.now n) (list_of listed params.now)
+    requires { ImportReady sw.now sk.now n (params_in params) ts.now h.old ws.old ks.old out.old }
+    ensures { ImportedIs (import (decode sw.now sk.now n) (params_in params.entry)
         (store_in h.old ws.old ks.old) (types_in ts.now)) (length ts.now)
         h.old ws.old ks.old h.new ws.new ks.new out.old out.new }
 {
     let mut cache = [0u16; MAX_NODES];
     let mut table = [0u32; MAX_NODES];
     copy_lists::copy_all(
-        sw, sk, n, listed, params, &mut cache, &mut table, h, ws, ks, ts, out,
+        sw, sk, n, params, &mut cache, &mut table, h, ws, ks, ts, out,
     );
 }
 
@@ -56,17 +55,11 @@ pub fn export(
 {
     let x = layout::read_header(sh);
     let n = x.nodes;
-    let was_error = x.error;
-    let was_nil = x.nil;
     make::open(h, ws, ks, nodes, children);
     let mut cache = [0u16; MAX_NODES];
     let mut table = [0u32; MAX_NODES];
-    let error = copy_lists::copy_remembered(
-        sw, sk, n, &mut cache, &mut table, h, ws, ks, was_error,
-    );
-    let nil = copy_lists::copy_remembered(sw, sk, n, &mut cache, &mut table, h, ws, ks, was_nil);
-    copy_lists::copy_all(
-        sw, sk, n, false, ts, &mut cache, &mut table, h, ws, ks, ts, out,
-    );
+    let error = copy_lists::copy_remembered(sw, sk, n, &mut cache, &mut table, h, ws, ks, x.error);
+    let nil = copy_lists::copy_remembered(sw, sk, n, &mut cache, &mut table, h, ws, ks, x.nil);
+    copy_lists::copy_all(sw, sk, n, None, &mut cache, &mut table, h, ws, ks, ts, out);
     make::remember(h, error, nil);
 }

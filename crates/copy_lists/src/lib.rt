@@ -9,7 +9,7 @@ ghost use Rattle.layout.specs.Words.{decode};
 ghost use Rattle.layout.specs.Meaning.{remembered_means};
 ghost use Rattle.store.specs.Entries.{types_in};
 ghost use Rattle.roots.specs.Kept.{Cached};
-ghost use Rattle.copy_parts.specs.Places.{list_of};
+ghost use Rattle.copy_parts.specs.Places.{params_in};
 ghost use Rattle.copy_type.specs.Words.{copying_at};
 ghost use Rattle.copy_lists.specs.Lists.{AllCopyable, AllCopied, RememberedCopied};
 
@@ -20,8 +20,7 @@ pub fn copy_all(
     sw: &[u32],
     sk: &[u32],
     n: u32,
-    listed: bool,
-    params: &[u32],
+    params: Option<&[u32]>,
     cache: &mut [u16],
     table: &mut [u32],
     h: &mut [u32],
@@ -30,24 +29,22 @@ pub fn copy_all(
     ts: &[u32],
     out: &mut [u32],
 )
-    requires all_copyable { AllCopyable sw.now sk.now n (list_of listed params.now) h.old ws.old ks.old table.old (types_in ts.now) }
+    requires all_copyable { AllCopyable sw.now sk.now n (params_in params) h.old ws.old ks.old table.old (types_in ts.now) }
     requires ts_in_bounds { length ts.now ≤ length out.old }
     requires cached { Cached sw.now n cache.old }
-    ensures { AllCopied (copy_all (copy_f n (decode sw.now sk.now n) (list_of listed params.now))
+    ensures { AllCopied (copy_all (copy_f n (decode sw.now sk.now n) (params_in params.entry))
         (copying_at h.old ws.old ks.old table.old) (types_in ts.now)) (length ts.now)
         h.old ws.old ks.old h.new ws.new ks.new table.new
         out.old out.new × Cached sw.now n cache.new }
 {
-    let mut i = 0;
-    while i < ts.len() {
-        let t = Type(ts[i]);
-        let next = copy_type::copy(sw, sk, n, listed, params, cache, table, h, ws, ks, t, n);
+    for (i, t) in ts.iter().enumerate() {
+        let t = Type(*t);
+        let next = copy_type::copy(sw, sk, n, params, cache, table, h, ws, ks, t, n);
         out[i] = next.0;
-        i += 1;
     }
 }
 
-// The copy of a type that the source remembers, if any. There is no parameter list, so that any words stand for it.
+// The copy of a type that the source remembers, if any. There is no parameter list.
 pub fn copy_remembered(
     sw: &[u32],
     sk: &[u32],
@@ -65,8 +62,6 @@ pub fn copy_remembered(
         h.old ws.old ks.old h.new ws.new ks.new table.new result
         × Cached sw.now n cache.new }
 {
-    match was {
-        Some(t) => { Some(copy_type::copy(sw, sk, n, false, sk, cache, table, h, ws, ks, t, n)) }
-        None => None,
-    }
+    let t = was?;
+    Some(copy_type::copy(sw, sk, n, None, cache, table, h, ws, ks, t, n))
 }

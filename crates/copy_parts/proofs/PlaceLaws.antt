@@ -1,7 +1,8 @@
 -- What a source root becomes, test by test: no list, no Param, no entry, an entry, no kind, a copy. Each is scope's law of what a state is replaced by.
 -- Assumes nothing.
 use mathlib.Core.Path.{◌≡◌, refl, ap, sym, ◌∙◌}
-use mathlib.Core.Bool.{Bool, true, false}
+use mathlib.Core.Bool.{Bool}
+use mathlib.Core.Option.{Option}
 use mathlib.Core.List.{List}
 use Prim.Native.Nat.{ℕ, suc, ◌-◌, ◌≤◌, ◌<◌}
 use native.Mathlib.Omega.{arith}
@@ -25,21 +26,24 @@ use Rattle.layout.proofs.KindLaws.{kind_code, kind_number}
 use Rattle.layout.proofs.HeldLaws.{state_read}
 use Rattle.store.specs.Entries.{types_in}
 use Rattle.store.proofs.EntryLaws.{listed_below, listed_past, listed_at}
+use Rattle.std.specs.Borrow.{Bor}
+use Rattle.std.specs.Prelude.{Some, None}
+use Rattle.std.specs.declared.option.Option as option
 use Rattle.copy_parts.specs.declared.Place.{Place}
 use Rattle.copy_parts.specs.declared.Place.TheVariants.{Is, Node}
-use Rattle.copy_parts.specs.Places.{list_of, Becomes, Runs, EntryPlace, KindPlace, StatePlace, Goes, RootPlace}
+use Rattle.copy_parts.specs.Places.{params_in, Becomes, Runs, EntryPlace, KindPlace, StatePlace, Goes, RootPlace}
 
-module _ {with : Bool} {ps : List ℕ} {root : «Type»} {i : Inverted} {k : Kind} where
-  pub place_unlisted : with ≡ false → KindPlace with ps root i k (Node NONE k.first k.count)
+module _ {root : «Type»} {i : Inverted} {k : Kind} where
+  pub place_unlisted : {p : option.Option (Bor (List ℕ))} → p ≡ None → KindPlace (params_in p) root i k (Node NONE k.first k.count)
   place_unlisted e = rw e (record { becomes = λ ks. (replaced_none _, refl); run = (refl, refl) })
 
-  pub place_other : (k.code ≡ PARAM → ⊥) → KindPlace with ps root i k (Node NONE k.first k.count)
-  place_other h = record {
-    becomes = λ ks. (replaced_other (list_of with ps) i.0 (kind_means ks k) (λ e. h (sym (kind_code ks k) ∙ e)), refl);
+  pub place_other : {ps : Option (List Ty)} → (k.code ≡ PARAM → ⊥) → KindPlace ps root i k (Node NONE k.first k.count)
+  place_other {ps} h = record {
+    becomes = λ ks. (replaced_other ps i.0 (kind_means ks k) (λ e. h (sym (kind_code ks k) ∙ e)), refl);
     run = (refl, refl);
   }
 
-  pub place_param : with ≡ true → k.code ≡ PARAM → {r : Place} → EntryPlace ps root i k.number r → KindPlace with ps root i k r
+  pub place_param : {p : option.Option (Bor (List ℕ))} {ps : Bor (List ℕ)} {r : Place} → p ≡ Some ps → k.code ≡ PARAM → EntryPlace ps.now root i k.number r → KindPlace (params_in p) root i k r
   place_param on param e = rw on (e.each k param refl)
 
 -- a Param, by its number
@@ -54,23 +58,24 @@ module _ {ps : List ℕ} {root : «Type»} {i : Inverted} {m : ℕ} where
     };
   }
 
-  pub place_entry : {u : «Type»} → m < length ps → ty_of u.0 ≡ flip (ty_of root.0).inv (flip i.0 (ty_of (get_or ps m 0))) → EntryPlace ps root i m (Is u)
-  place_entry h e = record {
+  pub place_entry : {u : «Type»} {entry : ℕ} → m < length ps → entry ≡ get_or ps m 0 → ty_of u.0 ≡ flip (ty_of root.0).inv (flip i.0 (ty_of entry))
+      → EntryPlace ps root i m (Is u)
+  place_entry h at e = record {
     each = λ k param n. record {
       becomes = λ ks g c.
           let q : (kind_means ks k).head.number ≡ m = kind_number ks k ∙ n in
           let x : get_or (types_in ps) m (ty_of 0) ≡ ty_of (get_or ps m 0) = listed_at ps m in
-          rw (replaced_entry (types_in ps) i.0 (kind_means ks k) (kind_code ks k ∙ param) (ty_of 0) (rw q (listed_below ps m h)), q, x, e);
+          rw (replaced_entry (types_in ps) i.0 (kind_means ks k) (kind_code ks k ∙ param) (ty_of 0) (rw q (listed_below ps m h)), q, x, e, at);
       run = tt;
     };
   }
 
 -- by the state that is read
 
-module _ {ws ps : List ℕ} {n : ℕ} {with : Bool} {root : «Type»} {v : TypeNode} {r : Place} (st : TypeState) (j : ℕ) (here : j ≡ (ty_of root.0).idx)
+module _ {ws : List ℕ} {ps : Option (List Ty)} {n : ℕ} {root : «Type»} {v : TypeNode} {r : Place} (st : TypeState) (j : ℕ) (here : j ≡ (ty_of root.0).idx)
     (read : v ≡ read_at ws n j) (state : st ≡ node_state v)
-    (each : (ks : List ℕ) → Becomes (list_of with ps) (state_means ks st) (ty_of root.0) r) (run : Runs (held_by st) r) where
-  pub place_read : StatePlace ws n with ps root r
+    (each : (ks : List ℕ) → Becomes ps (state_means ks st) (ty_of root.0) r) (run : Runs (held_by st) r) where
+  pub place_read : StatePlace ws n ps root r
   place_read = record {
     becomes = λ ks c cl.
         let e : state_means ks st ≡ state_of (at (decode ws ks n) (ty_of root.0).idx) =
@@ -79,30 +84,30 @@ module _ {ws ps : List ℕ} {n : ℕ} {with : Bool} {root : «Type»} {v : TypeN
     run = rw (← here, ← read, ← state) run;
   }
 
-pub become_unknown : (with : Bool) (ps ks : List ℕ) (root : «Type») (s : ℕ) → Becomes (list_of with ps) (state_means ks (Unknown s)) (ty_of root.0) (Node s 0 0)
-become_unknown with ps ks root s = (replaced_plain (list_of with ps) (nodes.Unknown s) refl, refl)
+pub become_unknown : (ps : Option (List Ty)) (ks : List ℕ) (root : «Type») (s : ℕ) → Becomes ps (state_means ks (Unknown s)) (ty_of root.0) (Node s 0 0)
+become_unknown ps ks root s = (replaced_plain ps (nodes.Unknown s) refl, refl)
 
-pub become_failed : (with : Bool) (ps ks : List ℕ) (root : «Type») → Becomes (list_of with ps) (state_means ks InferenceFailed) (ty_of root.0) (Node NONE 0 0)
-become_failed with ps ks root = (replaced_plain (list_of with ps) nodes.InferenceFailed refl, refl)
+pub become_failed : (ps : Option (List Ty)) (ks : List ℕ) (root : «Type») → Becomes ps (state_means ks InferenceFailed) (ty_of root.0) (Node NONE 0 0)
+become_failed ps ks root = (replaced_plain ps nodes.InferenceFailed refl, refl)
 
 -- by the table's number
 
-module _ {ws ps table : List ℕ} {n : ℕ} {with : Bool} {root : «Type»} {j was : ℕ} (here : j ≡ (ty_of root.0).idx) (read : was ≡ get_or table j 0) where
+module _ {ws table : List ℕ} {ps : Option (List Ty)} {n : ℕ} {root : «Type»} {j was : ℕ} (here : j ≡ (ty_of root.0).idx) (read : was ≡ get_or table j 0) where
   pub place_copied : {u : «Type»} (i : Inverted) → get_or table (ty_of root.0).idx 0 ≤ MAX_NODES → (was ≡ 0 → ⊥) → i.0 ≡ (ty_of root.0).inv
-      → ty_of u.0 ≡ flip i.0 (ty_of (was - 1)) → RootPlace ws n with ps table root (Is u)
+      → ty_of u.0 ≡ flip i.0 (ty_of (was - 1)) → RootPlace ws n ps table root (Is u)
   place_copied {u} i few new e q =
       let w : get_or table (ty_of root.0).idx 0 ≡ was = rw (← here) (sym read) in
       let z : get_or table (ty_of root.0).idx 0 ≡ suc (was - 1) = omega (arith, w) in
       let v : ty_of u.0 ≡ ty (ty_of root.0).inv (was - 1) = q ∙ (ty_new i.0 (was - 1) (omega (arith, w, few)) ∙ ap (λ (b : Bool). ty b (was - 1)) e) in
       record { goes = λ ks c cl g d. rw z (ap (λ (x : Ty). record { to = d; type = x }) (sym v)); run = tt }
 
-  pub place_new : {r : Place} → was ≡ 0 → StatePlace ws n with ps root r → RootPlace ws n with ps table root r
+  pub place_new : {r : Place} → was ≡ 0 → StatePlace ws n ps root r → RootPlace ws n ps table root r
   place_new {r} new o = record { goes = λ ks c cl. go (state_of (at (decode ws ks n) (ty_of root.0).idx)) r (o.becomes ks c cl); run = o.run }
     where
       none_yet : get_or table (ty_of root.0).idx 0 ≡ 0
       none_yet = rw (← here) (sym read) ∙ new
 
-      go : (st : nodes.State) (r : Place) → Becomes (list_of with ps) st (ty_of root.0) r
-          → Goes (list_of with ps) st (ty_of root.0) (get_or table (ty_of root.0).idx 0) r
+      go : (st : nodes.State) (r : Place) → Becomes ps st (ty_of root.0) r
+          → Goes ps st (ty_of root.0) (get_or table (ty_of root.0).idx 0) r
       go st (Is u) b = rw none_yet b
       go st (Node span first m) b = (none_yet, b)

@@ -1,5 +1,5 @@
 -- What becomes of a source root, as the code reads it: a type that stands for it, or a new node with so many children.
-use Rattle.std.specs.Prelude.{◌≡◌, Bool, true, List, ℕ, get_or}
+use Rattle.std.specs.Prelude.{◌≡◌, Bool, List, ℕ, get_or}
 use Rattle.std.proofs.Math.Option.{Option, none, some}
 use Rattle.scope.specs.Base.{pick}
 use Rattle.scope.specs.Types.{Ty, ty_of}
@@ -13,12 +13,19 @@ use Rattle.layout.specs.Words.{decode}
 use Rattle.layout.specs.Meaning.{read_at, held_in, kind_means, Clean}
 use Rattle.layout.specs.declared.Kind.{Kind}
 use Rattle.layout.specs.Meaning.{Held}
+use Rattle.std.specs.declared.option.Option as option
 use Rattle.std.specs.declared.option.Option.TheVariants as held
+use Rattle.std.specs.Borrow.{Bor}
 use Rattle.store.specs.Entries.{types_in}
 use Rattle.copy_parts.specs.declared.Place.{Place}
 use Rattle.copy_parts.specs.declared.Place.TheVariants.{Is, Node}
 
--- the parameter list: with none, the words say nothing
+-- the parameter list that is lent, if any
+abbrev pub params_in : option.Option (Bor (List ℕ)) → Option (List Ty)
+params_in (held.Some ps) = some (types_in ps.now)
+params_in held.None = none
+
+-- the same of a flag and words, as C lends it: with none, the words say nothing
 abbrev pub list_of : Bool → List ℕ → Option (List Ty)
 list_of with ps = pick with (some (types_in ps)) none
 
@@ -41,16 +48,16 @@ abbrev pub Runs : Held → Place → Type 0
 Runs v (Is u) = Unit {0}
 Runs v (Node span first m) = (held_first v ≡ first) × (held_count v ≡ m)
 
-pub record KindPlace (with : Bool) (ps : List ℕ) (root : «Type») (i : Inverted) (k : Kind) (r : Place) : Type 0 where
-  pub becomes : (ks : List ℕ) → Becomes (list_of with ps) (Known i.0 (kind_means ks k)) (ty_of root.0) r
+pub record KindPlace (ps : Option (List Ty)) (root : «Type») (i : Inverted) (k : Kind) (r : Place) : Type 0 where
+  pub becomes : (ks : List ℕ) → Becomes ps (Known i.0 (kind_means ks k)) (ty_of root.0) r
   pub run : Runs (held.Some (i, k)) r
 
 -- of a Param with that number, where there is a list
 pub record EntryPlace (ps : List ℕ) (root : «Type») (i : Inverted) (number : ℕ) (r : Place) : Type 0 where
-  pub each : (k : Kind) → k.code ≡ PARAM → k.number ≡ number → KindPlace true ps root i k r
+  pub each : (k : Kind) → k.code ≡ PARAM → k.number ≡ number → KindPlace (some (types_in ps)) root i k r
 
-pub record StatePlace (ws : List ℕ) (n : ℕ) (with : Bool) (ps : List ℕ) (root : «Type») (r : Place) : Type 0 where
-  pub becomes : (ks : List ℕ) (c : ℕ) → Clean ws ks c n → Becomes (list_of with ps) (state_of (at (decode ws ks n) (ty_of root.0).idx)) (ty_of root.0) r
+pub record StatePlace (ws : List ℕ) (n : ℕ) (ps : Option (List Ty)) (root : «Type») (r : Place) : Type 0 where
+  pub becomes : (ks : List ℕ) (c : ℕ) → Clean ws ks c n → Becomes ps (state_of (at (decode ws ks n) (ty_of root.0).idx)) (ty_of root.0) r
   pub run : Runs (held_in (read_at ws n (ty_of root.0).idx)) r
 
 -- of a root r in state st for which the table has the number w
@@ -58,7 +65,7 @@ abbrev pub Goes : Option (List Ty) → State → Ty → ℕ → Place → Type 0
 Goes ps st r w (Is u) = (g : Copying → Ty → Copied) (c : Copying) → copy_at g c r st (replaced ps st) w ≡ record { to = c; type = ty_of u.0 }
 Goes ps st r w (Node span first m) = (w ≡ 0) × ((replaced ps st ≡ keep) × (span_of st ≡ span))
 
-pub record RootPlace (ws : List ℕ) (n : ℕ) (with : Bool) (ps table : List ℕ) (root : «Type») (r : Place) : Type 0 where
+pub record RootPlace (ws : List ℕ) (n : ℕ) (ps : Option (List Ty)) (table : List ℕ) (root : «Type») (r : Place) : Type 0 where
   pub goes : (ks : List ℕ) (c : ℕ) → Clean ws ks c n
-      → Goes (list_of with ps) (state_of (at (decode ws ks n) (ty_of root.0).idx)) (ty_of root.0) (get_or table (ty_of root.0).idx 0) r
+      → Goes ps (state_of (at (decode ws ks n) (ty_of root.0).idx)) (ty_of root.0) (get_or table (ty_of root.0).idx 0) r
   pub run : Runs (held_in (read_at ws n (ty_of root.0).idx)) r

@@ -7,9 +7,10 @@ ghost use Rattle.scope.specs.Types.{ty_of};
 ghost use Rattle.layout.specs.Words.{CHILD_WORDS, node_words, nodes_made};
 ghost use Rattle.layout.specs.Meaning.{held_in, read_at};
 ghost use Rattle.store.specs.Holds.{Ready};
-ghost use Rattle.copy_parts.specs.Places.{EntryPlace, KindPlace, StatePlace, RootPlace};
+ghost use Rattle.copy_parts.specs.Places.{params_in, EntryPlace, KindPlace, StatePlace, RootPlace};
 ghost use Rattle.copy_parts.specs.Steps.{Begun, ChildMoved, ended};
 
+use kinds::PARAM;
 use layout::{Kind, Slot, TypeNode, TypeState};
 use scope::NONE;
 use types::{Inverted, Type, TypeIdx};
@@ -27,32 +28,28 @@ pub enum Place {
 fn entry_place(params: &[u32], root: Type, inv: Inverted, number: u32) -> Place
     ensures { EntryPlace params.now root inv number result }
 {
-    let at = number as usize;
-    if params.len() <= at {
+    let Some(&entry) = params.get(number as usize) else {
         return Place::Is(root);
-    }
-    Place::Is(Type(params[at]).invert_if(inv).invert_if(root.inv()))
+    };
+    Place::Is(Type(entry).invert_if(inv).invert_if(root.inv()))
 }
 
-fn kind_place(with: bool, params: &[u32], root: Type, inv: Inverted, kind: Kind) -> Place
-    ensures { KindPlace with params.now root inv kind result }
+fn kind_place(params: Option<&[u32]>, root: Type, inv: Inverted, kind: Kind) -> Place
+    ensures { KindPlace (params_in params.entry) root inv kind result }
 {
-    if !with {
-        return Place::Node(NONE, kind.first, kind.count);
+    match params {
+        Some(list) if kind.code == PARAM => entry_place(list, root, inv, kind.number),
+        _ => Place::Node(NONE, kind.first, kind.count),
     }
-    if kind.code != kinds::PARAM {
-        return Place::Node(NONE, kind.first, kind.count);
-    }
-    entry_place(params, root, inv, kind.number)
 }
 
 // "InferenceFailed becomes Unknown with `Span::NONE`."
-fn state_place(sw: &[u32], n: u32, with: bool, params: &[u32], root: Type) -> Place
+fn state_place(sw: &[u32], n: u32, params: Option<&[u32]>, root: Type) -> Place
     requires { node_words n ≤ length sw.now }
-    ensures { StatePlace sw.now n with params.now root result }
+    ensures { StatePlace sw.now n (params_in params.entry) root result }
 {
     match layout::state_of(layout::node_at(sw, n, root.idx())) {
-        TypeState::Known(inv, kind) => kind_place(with, params, root, inv, kind),
+        TypeState::Known(inv, kind) => kind_place(params, root, inv, kind),
         TypeState::Unknown(span) => Place::Node(span, 0, 0),
         TypeState::InferenceFailed => Place::Node(NONE, 0, 0),
     }
@@ -62,27 +59,19 @@ fn state_place(sw: &[u32], n: u32, with: bool, params: &[u32], root: Type) -> Pl
 fn copy_of(table: &[u32], i: TypeIdx) -> u32
     ensures { result ≡ get_or table.now i.0 0 }
 {
-    let at = i.0 as usize;
-    if at < table.len() { table[at] } else { 0 }
+    table.get(i.0 as usize).copied().unwrap_or(0)
 }
 
 // Of a root that has a copy, its copy.
-pub fn root_place(
-    sw: &[u32],
-    n: u32,
-    with: bool,
-    params: &[u32],
-    table: &[u32],
-    root: Type,
-) -> Place
+pub fn root_place(sw: &[u32], n: u32, params: Option<&[u32]>, table: &[u32], root: Type) -> Place
     requires { (node_words n ≤ length sw.now) × (get_or table.now (ty_of root.0).idx 0 ≤ MAX_NODES) }
-    ensures { RootPlace sw.now n with params.now table.now root result }
+    ensures { RootPlace sw.now n (params_in params.entry) table.now root result }
 {
     let was = copy_of(table, root.idx());
     if was != 0 {
         return Place::Is(Type::new(root.inv(), TypeIdx(was - 1)));
     }
-    state_place(sw, n, with, params, root)
+    state_place(sw, n, params, root)
 }
 
 fn note(table: &mut [u32], i: TypeIdx, number: u32)
@@ -131,16 +120,6 @@ pub fn end(sw: &[u32], n: u32, i: TypeIdx, h: &[u32], ws: &mut [u32], new: TypeI
     let Some((inv, kind)) = layout::held_at(sw, n, i) else {
         return;
     };
-    let name = kind.name;
-    let moved = Kind {
-        code: kind.code,
-        number: kind.number,
-        dual: kind.dual,
-        flex: kind.flex,
-        name,
-        first,
-        count: kind.count,
-    };
-    let state = TypeState::Known(inv, moved);
+    let state = TypeState::Known(inv, Kind { first, ..kind });
     layout::put_node(ws, made, new, TypeNode::Root { state, size: 1 });
 }

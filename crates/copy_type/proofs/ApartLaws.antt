@@ -1,6 +1,6 @@
 -- A run of children that no node has: it stays so when a node is put elsewhere, the children made stand apart from those after them, and its words may
 -- be written without a change to any node. Assumes nothing.
-use mathlib.Core.Path.{◌≡◌, refl, ap, sym}
+use mathlib.Core.Path.{◌≡◌, refl, sym}
 use mathlib.Core.Bool.{true}
 use mathlib.Core.Logic.{◌⊎◌, inl, inr}
 use mathlib.Core.List.{List}

@@ -35,7 +35,7 @@ use Rattle.make.proofs.MakeLaws.{RoomIn, ready_room}
 use Rattle.needs.proofs.RootLaws.{kids_in, length_run}
 use Rattle.copy_parts.specs.declared.Place.{Place}
 use Rattle.copy_parts.specs.declared.Place.TheVariants as place
-use Rattle.copy_parts.specs.Places.{list_of, held_first, held_count, Runs, Goes, RootPlace}
+use Rattle.copy_parts.specs.Places.{held_first, held_count, Runs, Goes, RootPlace}
 use Rattle.copy_parts.specs.Steps.{Begun, ended}
 use Rattle.copy_type.specs.Words.{copying_at, Spared, Copyable, CopiedIs}
 use Rattle.copy_type.proofs.MovedLaws.{untyped, moved_kind, moved_fits}
@@ -94,14 +94,14 @@ place_few {sw} {sk} {h} {ws} {ks} {table} {n} {depth} {ps} {t} p i =
     let m = room_less (copy_grows (decode sw sk n) ps depth (copying_at h ws ks table) (ty_of t.0)) p.room in
     omega (arith, p.placed i, m.nodes, m.node_limit)
 
-module _ (sw sk : List ℕ) (n : ℕ) (listed : Bool) (params : List ℕ) (depth : ℕ) (table h ws ks : List ℕ) (t root : «Type») {v : Place}
-    (pre : Copyable sw sk n (list_of listed params) depth h ws ks table t) (deep : depth ≡ 0 → ⊥) (found : Found sw n t.0 root.0)
-    (placed : RootPlace sw n listed params table root v) where
+module _ (sw sk : List ℕ) (n : ℕ) (ps : Option (List Ty)) (depth : ℕ) (table h ws ks : List ℕ) (t root : «Type») {v : Place}
+    (pre : Copyable sw sk n ps depth h ws ks table t) (deep : depth ≡ 0 → ⊥) (found : Found sw n t.0 root.0)
+    (placed : RootPlace sw n ps table root v) where
   abbrev ns : List Node
   ns = decode sw sk n
 
   abbrev g : Copying → Ty → Copied
-  g = copy_f (depth - 1) ns (list_of listed params)
+  g = copy_f (depth - 1) ns ps
 
   abbrev c : Copying
   c = copying_at h ws ks table
@@ -112,23 +112,23 @@ module _ (sw sk : List ℕ) (n : ℕ) (listed : Bool) (params : List ℕ) (depth
   abbrev st : nodes.State
   st = state_at ns (ty_of t.0)
 
-  one_level : copy_f depth ns (list_of listed params) c (ty_of t.0) ≡ copy_at g c r st (replaced (list_of listed params) st) (get_or table r.idx 0)
+  one_level : copy_f depth ns ps c (ty_of t.0) ≡ copy_at g c r st (replaced ps st) (get_or table r.idx 0)
   unfolding copy_f
-  one_level = ap (λ (f : ℕ). copy_f f ns (list_of listed params) c (ty_of t.0)) (deeper deep)
+  one_level = ap (λ (f : ℕ). copy_f f ns ps c (ty_of t.0)) (deeper deep)
 
-  goes : {w : Place} → v ≡ w → Goes (list_of listed params) st r (get_or table r.idx 0) w
+  goes : {w : Place} → v ≡ w → Goes ps st r (get_or table r.idx 0) w
   goes {w} e =
-      subst (λ (u : Ty). Goes (list_of listed params) (state_of (at ns u.idx)) u (get_or table u.idx 0) w) (found.root sk)
-      (subst (Goes (list_of listed params) (state_of (at ns (ty_of root.0).idx)) (ty_of root.0) (get_or table (ty_of root.0).idx 0)) e
+      subst (λ (u : Ty). Goes ps (state_of (at ns u.idx)) u (get_or table u.idx 0) w) (found.root sk)
+      (subst (Goes ps (state_of (at ns (ty_of root.0).idx)) (ty_of root.0) (get_or table (ty_of root.0).idx 0)) e
       (placed.goes sk pre.made pre.source))
 
   -- a type stands for the root
-  pub copied_is : {u : «Type»} → v ≡ place.Is u → CopiedIs (copy_f depth ns (list_of listed params) c (ty_of t.0)) h ws ks h ws ks table u
+  pub copied_is : {u : «Type»} → v ≡ place.Is u → CopiedIs (copy_f depth ns ps c (ty_of t.0)) h ws ks h ws ks table u
   copied_is e = copied_same pre.clean (one_level ∙ goes e g c)
 
   -- a new node
   module _ {span first count : ℕ} (node : v ≡ place.Node span first count) where
-    told : (get_or table r.idx 0 ≡ 0) × ((replaced (list_of listed params) st ≡ keep) × (span_of st ≡ span))
+    told : (get_or table r.idx 0 ≡ 0) × ((replaced ps st ≡ keep) × (span_of st ≡ span))
     told = goes node
 
     run : (held_first (held_in (read_at sw n r.idx)) ≡ first) × (held_count (held_in (read_at sw n r.idx)) ≡ count)
@@ -143,7 +143,7 @@ module _ (sw sk : List ℕ) (n : ℕ) (listed : Bool) (params : List ℕ) (depth
     kids_count : length (kids_of st) ≡ count
     kids_count = ap length kids_are ∙ length_run sk first count
 
-    whole : copy_f depth ns (list_of listed params) c (ty_of t.0) ≡ copy_new g c r st
+    whole : copy_f depth ns ps c (ty_of t.0) ≡ copy_new g c r st
     whole = one_level ∙ (λ i. copy_at g c r st (told.1.0 i) (told.0 i))
 
     abbrev all : CopiedAll
@@ -154,7 +154,7 @@ module _ (sw sk : List ℕ) (n : ℕ) (listed : Bool) (params : List ℕ) (depth
 
     pub node_ready : Ready h ws ks 1 count
     node_ready =
-        let m = room_less (grows_all g (copy_grows ns (list_of listed params) (depth - 1)) (noted c r.idx st) (kids_of st)) all_room in
+        let m = room_less (grows_all g (copy_grows ns ps (depth - 1)) (noted c r.idx st) (kids_of st)) all_room in
         let l = length-append (store_in h ws ks).nodes (nodes.Root (nodes.Unknown (span_of st)) 1 ∷ []) in
         record {
           clean = pre.clean;
@@ -178,7 +178,7 @@ module _ (sw sk : List ℕ) (n : ℕ) (listed : Bool) (params : List ℕ) (depth
           let q = b.noted ∙ (λ k. set table (root_here k) (sym (store_count h ws ks) k + 1)) in
           λ k. record { dest = p k; table = q k }
 
-      pub filling_start : Filling sw sk n (list_of listed params) (depth - 1) first count to table₀ h₀ ws₀ ks table₀ h₀ ws₀ ks 0
+      pub filling_start : Filling sw sk n ps (depth - 1) first count to table₀ h₀ ws₀ ks table₀ h₀ ws₀ ks 0
       filling_start = record {
         left = left_start g (copying_at h₀ ws₀ ks table₀) (kids_in sk first count);
         room = subst (λ (a : CopiedAll). Room a.to.dest 0 0) (λ k. copy_all g (sym noted_is k) (kids_are k)) all_room;
@@ -192,7 +192,7 @@ module _ (sw sk : List ℕ) (n : ℕ) (listed : Bool) (params : List ℕ) (depth
       }
 
       -- all its children are copied
-      module _ {table' h' ws' ks' : List ℕ} {j : ℕ} (o : Filling sw sk n (list_of listed params) (depth - 1) first count to table₀ h₀ ws₀ ks table' h' ws' ks' j)
+      module _ {table' h' ws' ks' : List ℕ} {j : ℕ} (o : Filling sw sk n ps (depth - 1) first count to table₀ h₀ ws₀ ks table' h' ws' ks' j)
           (done : count ≤ j) where
         all_to : copying_at h' ws' ks' table' ≡ all.to
         all_to = filled_to o done ∙ (λ k. (copy_all g (noted_is k) (sym kids_are k)).to)
@@ -259,7 +259,7 @@ module _ (sw sk : List ℕ) (n : ℕ) (listed : Bool) (params : List ℕ) (depth
 
         pub copied_node : {ws'' : List ℕ} {x : ℕ} {u : «Type»} (turn : Inverted) → x ≡ (ty_of new.0).idx
             → ws'' ≡ ended ws' (nodes_made h') x to (held_in (read_at sw n i)) → turn.0 ≡ (ty_of root.0).inv → ty_of u.0 ≡ flip turn.0 (ty_of new.0)
-            → CopiedIs (copy_f depth ns (list_of listed params) c (ty_of t.0)) h ws ks h' ws'' ks' table' u
+            → CopiedIs (copy_f depth ns ps c (ty_of t.0)) h ws ks h' ws'' ks' table' u
         copied_node {x = x} {u = u} turn number w side type =
             let y : x ≡ length c.dest.nodes =
             number

@@ -10,7 +10,7 @@ use lib.ListN.{length, set, length-append}
 use Rattle.scope.specs.Nodes as nodes
 use Rattle.types.specs.declared.«Type».{«Type»}
 use Rattle.types.specs.declared.Inverted.{Inverted}
-use Rattle.layout.specs.Words.{nodes_made, children_made, node_room, child_room, slot_at, store_in, clean}
+use Rattle.layout.specs.Words.{nodes_made, children_made, child_room, slot_at, store_in, clean}
 use Rattle.layout.specs.Meaning.{put_at, put_slot, kind_means, kind_fits, Lies}
 use Rattle.layout.specs.declared.Kind.{Kind}
 use Rattle.layout.specs.declared.Slot.{Slot}

@@ -6,7 +6,7 @@ ghost use Rattle.scope.specs.Types.{ty_of};
 ghost use Rattle.scope.proofs.CopyTable.{copy_f};
 ghost use Rattle.layout.specs.Words.{decode};
 ghost use Rattle.roots.specs.Kept.{Cached};
-ghost use Rattle.copy_parts.specs.Places.{list_of};
+ghost use Rattle.copy_parts.specs.Places.{params_in};
 ghost use Rattle.copy_type.specs.Words.{copying_at, Copyable, CopiedIs};
 
 use copy_parts::Place;
@@ -17,8 +17,7 @@ pub fn copy(
     sw: &[u32],
     sk: &[u32],
     n: u32,
-    listed: bool,
-    params: &[u32],
+    params: Option<&[u32]>,
     cache: &mut [u16],
     table: &mut [u32],
     h: &mut [u32],
@@ -27,8 +26,8 @@ pub fn copy(
     t: Type,
     depth: u32,
 ) -> Type
-    requires { Copyable sw.now sk.now n (list_of listed params.now) depth h.old ws.old ks.old table.old t × Cached sw.now n cache.old }
-    ensures { CopiedIs (copy_f depth (decode sw.now sk.now n) (list_of listed params.now)
+    requires { Copyable sw.now sk.now n (params_in params) depth h.old ws.old ks.old table.old t × Cached sw.now n cache.old }
+    ensures { CopiedIs (copy_f depth (decode sw.now sk.now n) (params_in params.entry)
         (copying_at h.old ws.old ks.old table.old) (ty_of t.0))
         h.old ws.old ks.old h.new ws.new ks.new table.new result
         × Cached sw.now n cache.new }
@@ -37,31 +36,16 @@ pub fn copy(
         return t;
     }
     let root = roots::find_by(sw, n, cache, t);
-    match copy_parts::root_place(sw, n, listed, params, table, root) {
+    match copy_parts::root_place(sw, n, params, table, root) {
         Place::Is(u) => u,
         Place::Node(span, first, count) => {
             let at = root.idx();
             let from = layout::read_header(h).children;
             let new = copy_parts::begin(table, h, ws, ks, at, span, count);
-            let mut j: u32 = 0;
-            while j < count {
+            for j in 0..count {
                 let kid = needs::child(sk, first, j).ty;
-                let next = copy(
-                    sw,
-                    sk,
-                    n,
-                    listed,
-                    params,
-                    cache,
-                    table,
-                    h,
-                    ws,
-                    ks,
-                    kid,
-                    depth - 1,
-                );
+                let next = copy(sw, sk, n, params, cache, table, h, ws, ks, kid, depth - 1);
                 copy_parts::move_child(sk, first, ks, from, j, next);
-                j += 1;
             }
             copy_parts::end(sw, n, at, h, ws, new.idx(), from);
             new.invert_if(root.inv())

@@ -8,12 +8,14 @@ use Prim.Native.Nat.{ℕ, zero, suc, ◌+◌, ◌<◌, ◌≤◌}
 use native.Mathlib.Omega.{arith}
 use lib.ListN.{length, length-map}
 use Rattle.scope.specs.Kinds.{row_of, rows, NO_NAMES, DEFAULT}
+use Rattle.scope.specs.Base.{pick}
 use Rattle.scope.specs.Nodes as nodes
 use Rattle.scope.specs.Nodes.{Node, Store, at, with_nodes}
 use Rattle.scope.specs.Make.{bare}
 use Rattle.scope.specs.Force.{finish_node, finish_inference, finish_where}
 use Rattle.layout.specs.Words.{node_words, nodes_made, children_made, node_room, child_room, store_in, clean}
-use Rattle.layout.specs.Meaning.{read_at, put_at, node_size, node_means, node_fits}
+use Rattle.layout.specs.Meaning.{Clean, read_at, put_at, node_size, node_means, node_fits}
+use Rattle.types.specs.declared.TypeIdx.{TypeIdx}
 use Rattle.layout.specs.declared.TypeState.TheVariants.{Known, Unknown, InferenceFailed}
 use Rattle.layout.specs.declared.Kind.{Kind}
 use Rattle.layout.specs.declared.TypeNode.{TypeNode}
@@ -22,7 +24,7 @@ use Rattle.layout.proofs.Laws.{length_put}
 use Rattle.store.specs.Bare.{bare_kind}
 use Rattle.store.specs.Holds.{Holds, Beyond, Became}
 use Rattle.store.proofs.Laws.{store_count, holds_clean, holds_read, holds_put, beyond_put, beyond_refl, beyond_trans, bare_means, bare_fits}
-use Rattle.force.specs.Finish.{default_root, lacks_kind, finish_words, chosen}
+use Rattle.force.specs.Finish.{default_root, lacks_kind, finish_words, chosen, Finished, Finishes}
 use Rattle.force.proofs.Laws.{Going, going_start, going_skip, going_put, going_end}
 
 -- what the code does with the node w that it read
@@ -82,6 +84,27 @@ default_fits ks c z = bare_fits ks c DEFAULT default_row
 
 -- i turns
 
+-- as many words as at first, enough for n nodes
+pub record Roomy (n : ℕ) (ws₀ ws : List ℕ) : Type 0 where
+  pub room : node_words n ≤ length ws
+  pub long : length ws ≡ length ws₀
+
+start_held : (h ws ks : List ℕ) → clean h ws ks ≡ true → Clean ws ks (children_made h) (nodes_made h)
+start_held h ws ks ok = holds_clean {s = store_in h ws ks} (record { clean = ok; is = refl })
+
+pub roomy_start : (h ws ks : List ℕ) {n : ℕ} → clean h ws ks ≡ true → n ≡ nodes_made h → Roomy n ws ws
+roomy_start h ws ks ok e = record { room = rw e (start_held h ws ks ok).room; long = refl }
+
+pub roomy_put : {n : ℕ} (i : ℕ) {ws₀ ws ws' : List ℕ} (v : TypeNode) → Roomy n ws₀ ws → ws' ≡ finish_words ws n i v → Roomy n ws₀ ws'
+roomy_put {n} i {ws₀} {ws} {ws'} v o e = record { room = rw same o.room; long = same ∙ o.long }
+  where
+    pick_long : (b : Bool) → length (pick b (put_at ws n i (default_root (node_size v))) ws) ≡ length ws
+    pick_long true = length_put ws n o.room i (default_root (node_size v))
+    pick_long false = refl
+
+    same : length ws' ≡ length ws
+    same = rw e (pick_long (lacks_kind v))
+
 pub record Turned (h ws₀ ks : List ℕ) (to : List Node) (i : ℕ) (ws : List ℕ) : Type 0 where
   pub clean : clean h ws ks ≡ true
   pub long : length ws ≡ length ws₀
@@ -138,34 +161,36 @@ turned_end {h} {ws₀} {ks} {ws} {to} o l e = record {
   beyond = o.beyond;
 }
 
--- the two loops
+-- the loop
 
-module _ (h ws₀ ks : List ℕ) {n i : ℕ} (m : n ≡ nodes_made h) (l : i < n) where
+module _ (h ws₀ ks : List ℕ) {n i : ℕ} (m : n ≡ nodes_made h) (l : i < n) {P : TypeIdx → Bool → Type 0} {f : List Node → List Node} (g : Finishes P f) {b : Bool} (c : P (record { 0 = i }) b) where
   abbrev start : List Node
   start = (store_in h ws₀ ks).nodes
 
-  inside : i < length start
-  inside = omega (arith, store_count h ws₀ ks)
+  byte_at : i < 4294967296 → at (f start) i ≡ finish_node b (at start i)
+  byte_at s = g.each start i b (omega (arith, store_count h ws₀ ks)) s c
 
-  pub inference_turn : {ws ws' : List ℕ} → Turned h ws₀ ks (finish_inference start) i ws → ws' ≡ finish_words ws n i (read_at ws n i)
-      → Turned h ws₀ ks (finish_inference start) (i + 1) ws'
-  inference_turn o q = turned_finish o (omega arith) (inference_at start i inside) m q
+  pub chosen_turn : i < 4294967296 → {ws ws' : List ℕ} → Turned h ws₀ ks (f start) i ws → b ≡ true → ws' ≡ finish_words ws n i (read_at ws n i)
+      → Turned h ws₀ ks (f start) (i + 1) ws'
+  chosen_turn s o t q = turned_finish o (omega arith) (rw t at byte_at s) m q
 
-  module _ (bs : List ℕ) {b : Bool} (c : b ≡ chosen bs i) where
-    byte_at : at (finish_where bs start) i ≡ finish_node b (at start i)
-    byte_at = where_at bs start i inside ∙ ap (λ (t : Bool). finish_node t (at start i)) (sym c)
+  pub chosen_skip : i < 4294967296 → {ws : List ℕ} → Turned h ws₀ ks (f start) i ws → b ≡ false → Turned h ws₀ ks (f start) (i + 1) ws
+  chosen_skip s o t = turned_skip o ((rw t at byte_at s) ∙ unchosen (at start i))
 
-    pub where_turn : {ws ws' : List ℕ} → Turned h ws₀ ks (finish_where bs start) i ws → b ≡ true → ws' ≡ finish_words ws n i (read_at ws n i)
-        → Turned h ws₀ ks (finish_where bs start) (i + 1) ws'
-    where_turn o t q = turned_finish o (omega arith) (rw t at byte_at) m q
+pub chosen_end : {h ws₀ ks ws : List ℕ} {n i : ℕ} {P : TypeIdx → Bool → Type 0} {f : List Node → List Node} → n ≡ nodes_made h → n ≤ i → Finishes P f
+    → Turned h ws₀ ks (f (store_in h ws₀ ks).nodes) i ws → Finished h ws₀ ks ws f
+chosen_end {h} {ws₀} {ks} m l g o = turned_end o (omega arith) (g.long (store_in h ws₀ ks).nodes)
 
-    pub where_skip : {ws : List ℕ} → Turned h ws₀ ks (finish_where bs start) i ws → b ≡ false → Turned h ws₀ ks (finish_where bs start) (i + 1) ws
-    where_skip o t = turned_skip o ((rw t at byte_at) ∙ unchosen (at start i))
+-- the two that finish
 
-pub inference_end : {h ws₀ ks ws : List ℕ} {n i : ℕ} → n ≡ nodes_made h → n ≤ i → Turned h ws₀ ks (finish_inference (store_in h ws₀ ks).nodes) i ws
-    → Became h ws₀ ks h ws ks (with_nodes (store_in h ws₀ ks) (finish_inference (store_in h ws₀ ks).nodes))
-inference_end {h} {ws₀} {ks} m l o = turned_end o (omega arith) (inference_long (store_in h ws₀ ks).nodes)
+pub finishes_all : {P : TypeIdx → Bool → Type 0} → ((i : TypeIdx) (b : Bool) → P i b → b ≡ true) → Finishes P finish_inference
+finishes_all h = record {
+  long = inference_long;
+  each = λ ns j b below small p. inference_at ns j below ∙ ap (λ (t : Bool). finish_node t (at ns j)) (sym (h (record { 0 = j }) b p));
+}
 
-pub where_end : {h ws₀ ks ws : List ℕ} {n i : ℕ} (bs : List ℕ) → n ≡ nodes_made h → n ≤ i → Turned h ws₀ ks (finish_where bs (store_in h ws₀ ks).nodes) i ws
-    → Became h ws₀ ks h ws ks (with_nodes (store_in h ws₀ ks) (finish_where bs (store_in h ws₀ ks).nodes))
-where_end {h} {ws₀} {ks} bs m l o = turned_end o (omega arith) (where_long bs (store_in h ws₀ ks).nodes)
+pub finishes_where : {P : TypeIdx → Bool → Type 0} (bs : List ℕ) → ((i : TypeIdx) (b : Bool) → i.0 < 4294967296 → P i b → b ≡ chosen bs i.0) → Finishes P (finish_where bs)
+finishes_where bs h = record {
+  long = where_long bs;
+  each = λ ns j b below small p. where_at bs ns j below ∙ ap (λ (t : Bool). finish_node t (at ns j)) (sym (h (record { 0 = j }) b small p));
+}

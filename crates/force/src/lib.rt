@@ -5,7 +5,7 @@ ghost use Rattle.std.specs.Prelude.{◌≡◌, true, ◌≤◌, length};
 ghost use Rattle.scope.specs.Force.{report, finish_inference, finish_where};
 ghost use Rattle.layout.specs.Words.{node_words, clean};
 ghost use Rattle.layout.specs.Meaning.{read_at};
-ghost use Rattle.force.specs.Finish.{lacks_kind, finish_words, chosen, Finished};
+ghost use Rattle.force.specs.Finish.{lacks_kind, finish_words, chosen, Finished, FinishedBy};
 ghost use Rattle.force.specs.Forcing.{reporting, ForcedIs};
 
 use kinds::DEFAULT;
@@ -28,8 +28,7 @@ fn lacks_kind(node: TypeNode) -> bool
         TypeNode::Child(_) => false,
         TypeNode::Root { state, size: _ } => match state {
             TypeState::Known(_, _) => false,
-            TypeState::Unknown(_) => true,
-            TypeState::InferenceFailed => true,
+            TypeState::Unknown(_) | TypeState::InferenceFailed => true,
         },
     }
 }
@@ -47,29 +46,34 @@ fn finish_node(ws: &mut [u32], n: u32, i: TypeIdx)
     }
 }
 
+// Every root without a kind whose node is chosen gets Default.
+fn finish_chosen<F: Fn(TypeIdx) -> bool>(h: &[u32], ws: &mut [u32], ks: &[u32], is_chosen: F)
+    requires store_clean { clean h.now ws.old ks.now ≡ true }
+    requires callable { F.IsAlwaysCallable is_chosen }
+    ensures { FinishedBy (F.post is_chosen) h.now ws.old ks.now ws.new }
+{
+    let n = layout::read_header(h).nodes;
+    for i in 0..n {
+        let node = TypeIdx(i);
+        if is_chosen(node) {
+            finish_node(ws, n, node);
+        }
+    }
+}
+
 // Every root without a kind gets Default.
 pub fn finish_inference(h: &[u32], ws: &mut [u32], ks: &[u32])
     requires { clean h.now ws.old ks.now ≡ true }
     ensures { Finished h.now ws.old ks.now ws.new finish_inference }
 {
-    let n = layout::read_header(h).nodes;
-    let mut i = 0;
-    while i < n {
-        finish_node(ws, n, TypeIdx(i));
-        i += 1;
-    }
+    finish_chosen(h, ws, ks, |_| true);
 }
 
 // There is "a lent byte for each node, nonzero chooses, absent means no".
 fn is_chosen(bytes: &[u8], i: TypeIdx) -> bool
     ensures { result ≡ chosen bytes.now i.0 }
 {
-    let at = i.0 as usize;
-    if at < bytes.len() {
-        bytes[at] != 0
-    } else {
-        false
-    }
+    bytes.get(i.0 as usize).is_some_and(|&b| b != 0)
 }
 
 // Every chosen root without a kind gets Default.
@@ -77,15 +81,7 @@ pub fn finish_inference_where(h: &[u32], ws: &mut [u32], ks: &[u32], bytes: &[u8
     requires { clean h.now ws.old ks.now ≡ true }
     ensures { Finished h.now ws.old ks.now ws.new (finish_where bytes.now) }
 {
-    let n = layout::read_header(h).nodes;
-    let mut next = 0;
-    while next < n {
-        let i = TypeIdx(next);
-        next += 1;
-        if is_chosen(bytes, i) {
-            finish_node(ws, n, i);
-        }
-    }
+    finish_chosen(h, ws, ks, |i| is_chosen(bytes, i));
 }
 
 // The count "stops at its largest value".
@@ -98,17 +94,7 @@ fn one_more(n: u64) -> u64
 fn with_reports(x: Header, reports: u64) -> Header
     ensures { result ≡ reporting x reports }
 {
-    let error = x.error;
-    let nil = x.nil;
-    Header {
-        nodes: x.nodes,
-        children: x.children,
-        node_room: x.node_room,
-        child_room: x.child_room,
-        error,
-        nil,
-        reports,
-    }
+    Header { reports, ..x }
 }
 
 // The kind of a type, or the span to report at.

@@ -1,7 +1,7 @@
 -- The laws of a walk with marks. What scope's law takes from a node's state is taken from its kind alone, which is what the code reads.
 -- Assumes nothing.
 use mathlib.Core.Path.{◌≡◌, refl, ap, sym, ◌∙◌, fun_ext}
-use mathlib.Core.Bool.{Bool, true, false, not, ◌||◌}
+use mathlib.Core.Bool.{Bool, not, ◌||◌}
 use mathlib.Core.List.{List}
 use Prim.Native.Nat.{ℕ, ◌<◌}
 use native.Mathlib.Omega.{arith}
@@ -23,13 +23,6 @@ use Rattle.inverse.specs.Marked.{good_by, good_at, Beside, MarkedAll}
 good_read : (i : ℕ) {ws ks : List ℕ} {c n : ℕ} → Clean ws ks c n → (param : Bool) → good param (state_of (at (decode ws ks n) i)) ≡ good_by param (held_in (read_at ws n i))
 unfolding kind_means self_dual
 good_read i {ws} {ks} {c} {n} cl param = held_by_lem ws ks c n cl i refl refl (good param) (good_by param) (λ j k. refl) (λ p. refl) refl
-
-module _ (ws : List ℕ) (n : ℕ) (ms : List ℕ) (param : Bool) (i : ℕ) {b : Bool} (m : b ≡ eqb (get_or ms i 0) 1) where
-  pub good_skip : b ≡ false → good_at ws n ms param i ≡ true
-  good_skip e = rw (sym m ∙ e) refl
-
-  pub good_test : {r g : Bool} → b ≡ true → r ≡ good_by param (held_in (read_at ws n i)) → r ≡ g → good_at ws n ms param i ≡ g
-  good_test e s q = rw (sym m ∙ e) (sym s ∙ q)
 
 pub marked_walk : {ws ks : List ℕ} {n : ℕ} {ms ms' : List ℕ} {t : ℕ} {param b : Bool} → Beside ws ks n ms t param → ms' ≡ find_related (decode ws ks n) (ty_of t) ms
     → b ≡ all (good_at ws n ms' param) (from 0 n) → MarkedAll ws ks n ms' t param b

@@ -38,13 +38,11 @@ const LEVELS: usize = 8;
 pub fn good_kind(kind: Kind, param: bool) -> bool
     ensures { result ≡ good_kind param kind }
 {
-    if kind.code == kinds::PARAM {
-        return param;
+    match kind.code {
+        kinds::PARAM => param,
+        kinds::TUPLE => true,
+        code => kinds::self_dual(code, kind.dual),
     }
-    if kind.code == kinds::TUPLE {
-        return true;
-    }
-    kinds::self_dual(kind.code, kind.dual)
 }
 
 // It "holds where the root has a self-dual kind and it holds of every child"; a Param has none.
@@ -56,17 +54,14 @@ fn judge(ws: &[u32], n: u32, i: TypeIdx, param: bool) -> Judgement
         return Judgement::Bad;
     };
     if !good_kind(kind, param) {
-        return Judgement::Bad;
-    }
-    if kind.code == kinds::PARAM {
-        return Judgement::Good;
-    }
-    if kind.count < 1 {
-        return Judgement::Good;
-    }
-    Judgement::Run {
-        first: kind.first,
-        count: kind.count,
+        Judgement::Bad
+    } else if kind.code == kinds::PARAM || kind.count == 0 {
+        Judgement::Good
+    } else {
+        Judgement::Run {
+            first: kind.first,
+            count: kind.count,
+        }
     }
 }
 
@@ -90,6 +85,7 @@ fn inverse_run(
     let mut next = first as usize;
     let mut end = next + count as usize;
     let mut left = most;
+    // Kept (3): as a `for` it is no plainer: a turn visits the next child of a run or goes back up to the run above, so turns are no counter.
     while 0 < left {
         if level == LEVELS {
             return Glance::Deep;
@@ -100,9 +96,7 @@ fn inverse_run(
             next += 1;
             left -= 1;
             match judge(ws, n, root, param) {
-                Judgement::Bad => {
-                    return Glance::Met;
-                }
+                Judgement::Bad => return Glance::Met,
                 Judgement::Good => {}
                 Judgement::Run {
                     first: below,
@@ -132,10 +126,7 @@ fn visits(n: u32) -> u32
     requires { 0 < n }
     ensures { result < n }
 {
-    if VISITS < n {
-        return VISITS;
-    }
-    n - 1
+    VISITS.min(n - 1)
 }
 
 // What the root tells, or some visits.
@@ -148,8 +139,7 @@ pub fn quickly(ws: &[u32], ks: &[u32], n: u32, t: Type, param: bool) -> Glance
         Judgement::Bad => Glance::Met,
         Judgement::Good => Glance::Clear,
         Judgement::Run { first, count } => {
-            let most = visits(n);
-            inverse_run(ws, ks, n, first, count, param, most)
+            inverse_run(ws, ks, n, first, count, param, visits(n))
         }
     }
 }
@@ -169,11 +159,7 @@ fn good_at(ws: &[u32], n: u32, i: TypeIdx, param: bool) -> bool
 fn is_new(marks: &[u8], i: TypeIdx) -> bool
     ensures { result ≡ eqb (get_or marks.now i.0 0) 1 }
 {
-    let at = i.0 as usize;
-    if at < marks.len() {
-        return marks[at] == 1;
-    }
-    false
+    marks.get(i.0 as usize).is_some_and(|&mark| mark == 1)
 }
 
 // Every root that a walk met is good.
@@ -181,17 +167,7 @@ fn all_good(ws: &[u32], n: u32, marks: &[u8], param: bool) -> bool
     requires { node_words n ≤ length ws.now }
     ensures { result ≡ all (good_at ws.now n marks.now param) (from 0 n) }
 {
-    let mut i: u32 = 0;
-    while i < n {
-        let at = TypeIdx(i);
-        i += 1;
-        if is_new(marks, at) {
-            if !good_at(ws, n, at, param) {
-                return false;
-            }
-        }
-    }
-    true
+    (0..n).all(|i| !is_new(marks, TypeIdx(i)) || good_at(ws, n, TypeIdx(i), param))
 }
 
 // A walk that marks each root it meets, and goes not below a node that is marked: such a one is known to be good, and so is all below it. Where the answer is true, that is

@@ -2,12 +2,11 @@
 -- the used ones on are 0 from the n-th on.
 -- Assumes nothing.
 use mathlib.Core.Path.{◌≡◌, ap, sym, ◌∙◌}
-use mathlib.Core.List.{List, [], ◌∷◌, ◌++◌, append_assoc, append-nil}
-use Prim.Native.Nat.{ℕ, suc, ◌+◌, ◌-◌, ◌<◌, ◌≤◌}
+use mathlib.Core.List.{List, ◌++◌, append_assoc, append-nil}
+use Prim.Native.Nat.{ℕ, ◌+◌, ◌-◌, ◌<◌, ◌≤◌}
 use native.Mathlib.Omega.{arith}
-use native.Mathlib.Numerals.{add-one}
-use lib.ListN.{length, get_or, take, drop, set, replicate, length-append, length-drop, length-replicate, replicate-append-replicate, drop_of_length-le}
-use lib.Seq.{take_at, drop_at, set_at, take-suc, take_all, drop-cons, drop-drop, length-take-le}
+use lib.ListN.{length, take, drop, replicate, length-append, length-drop, length-replicate, replicate-append-replicate, drop_of_length-le}
+use lib.Seq.{take_at, drop_at, take_all, drop-drop, length-take-le}
 use borrow.Rule.Slice.PartMut.{mid_of, put_mid}
 use Rattle.layout.proofs.Lists.{drop_later}
 use Rattle.make.specs.Header.{cleared}
@@ -26,28 +25,6 @@ module _ (n : ℕ) (from to : List ℕ) (r : Copyable n from to) where
 
   pub drop_copied : drop n (copied n from to) ≡ drop n to
   drop_copied = drop_at (take n from) (drop n to) n front
-
--- one word after the other
-
-module _ (from to : List ℕ) (count : ℕ) (r : Copyable count from to) (i : ℕ) {ys : List ℕ} (q : ys ≡ copied i from to) (few : i ≤ count) where
-  so_far : Copyable i from to
-  so_far = record { source = omega (arith, r.source); target = omega (arith, r.target) }
-
-  pub copying_length : length ys ≡ length to
-  copying_length = ap length q ∙ length_copied i from to so_far
-
-  pub copied_more : i < count → set ys i (get_or from i 0) ≡ copied (i + 1) from to
-  copied_more h =
-      let v : ℕ = get_or from i 0 in
-      let f : i < length from = omega (arith, r.source) in
-      let t : i < length to = omega (arith, r.target) in
-      ap (λ (l : List ℕ). set l i v) (q ∙ ap (λ (l : List ℕ). take i from ++ l) (drop-cons to i 0 t))
-      ∙ (set_at (take i from) (get_or to i 0) (drop (suc i) to) v i (length-take-le i from (omega arith))
-      ∙ sym (ap (λ (k : ℕ). copied k from to) (add-one i)
-      ∙ (ap (λ (l : List ℕ). l ++ drop (suc i) to) (take-suc from i 0 f) ∙ append_assoc (take i from) (v ∷ []) (drop (suc i) to))))
-
-  pub copied_end : i ≡ count → ys ≡ copied count from to
-  copied_end z = q ∙ ap (λ (k : ℕ). copied k from to) z
 
 -- in place of words in use
 

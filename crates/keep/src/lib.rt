@@ -14,27 +14,17 @@ pub fn copy_words(from: &[u32], to: &mut [u32], count: usize)
     requires { Copyable count from.now to.old }
     ensures { to.new ≡ copied count from.now to.old }
 {
-    let mut i = 0;
-    while i < count {
-        to[i] = from[i];
-        i += 1;
-    }
+    to[..count].copy_from_slice(&from[..count]);
 }
 
 // A head that says its counts as its capacities: no word behind what is used belongs to a kept store.
 fn kept_header(x: Header) -> Header
     ensures { result ≡ kept_header x }
 {
-    let error = x.error;
-    let nil = x.nil;
     Header {
-        nodes: x.nodes,
-        children: x.children,
         node_room: x.nodes,
         child_room: x.children,
-        error,
-        nil,
-        reports: x.reports,
+        ..x
     }
 }
 
@@ -49,16 +39,11 @@ pub fn keep_head(h: &[u32], to: &mut [u32])
 fn header_back(present: Header, kept: Header) -> Header
     ensures { result ≡ header_back present kept }
 {
-    let error = kept.error;
-    let nil = kept.nil;
     Header {
-        nodes: kept.nodes,
-        children: kept.children,
         node_room: present.node_room,
         child_room: present.child_room,
-        error,
-        nil,
         reports: present.reports,
+        ..kept
     }
 }
 

@@ -1,49 +1,33 @@
 -- What the tests of kinds and nodes read: of the environment the chart's records and the texts, of a kind's children in `defined` and `flag_is` nothing, of
 -- the nodes only how many there are. And a node with more than 255 children is not sound, so its width may be tested before all else.
 -- Assumes nothing.
-use mathlib.Core.Path.{◌≡◌, refl, ap, sym, ◌∙◌, subst, fun_ext}
+use mathlib.Core.Path.{◌≡◌, refl, ap, subst, fun_ext}
 use mathlib.Core.Bool.{Bool, true, ◌&&◌}
 use mathlib.Core.List.{List, []}
-use Prim.Native.Nat.{ℕ, ◌+◌, ◌≤◌, ◌<◌}
+use Prim.Native.Nat.{ℕ, ◌≤◌}
 use native.Mathlib.Omega.{arith}
 use lib.Dec.{ltb, leb}
-use lib.ListN.{length, get_or}
+use lib.ListN.{length}
 use borrow.Author.Tests.{leb-true}
 use Rattle.scope.specs.Base.{all}
 use Rattle.scope.specs.Limits.{MAX_WIDTH, KINDS}
 use Rattle.scope.specs.Chart.{Env}
-use Rattle.scope.specs.Types.{Ty, ty_of}
+use Rattle.scope.specs.Types.{Ty}
 use Rattle.scope.specs.Names.{Texts}
 use Rattle.scope.specs.Kinds.{Head, row_of, shape_fits, names_ok, flex_ok, number_ok, makeable, defined, flag_of, flag_is}
 use Rattle.scope.specs.Nodes as nodes
-use Rattle.scope.specs.Sound as sound
 use Rattle.scope.specs.Sound.{in_store, kind_sound, node_sound}
 use Rattle.names.specs.Place.{texts}
 use Rattle.chart.specs.Words.{records_of}
 use Rattle.chart.specs.Env.{env_of, chart_in, chart_alone}
 use Rattle.chart.specs.declared.Beside.{Beside}
-use Rattle.layout.specs.Words.{slot_at}
-use Rattle.layout.specs.Meaning.{cell_of, slot_means, kind_means, node_means}
+use Rattle.layout.specs.Meaning.{cell_of, kind_means, node_means}
 use Rattle.layout.specs.declared.Kind.{Kind}
-use Rattle.layout.specs.declared.Slot.{Slot}
 use Rattle.layout.specs.declared.TypeState.TheVariants.{Known, Unknown, InferenceFailed}
 use Rattle.layout.specs.declared.TypeNode.{TypeNode}
 use Rattle.layout.specs.declared.TypeNode.TheVariants.{Root, Child}
 use Rattle.layout.proofs.Lists.{and_left, and_right}
-use Rattle.layout.proofs.ChildLaws.{length_kids, kid_at}
-
--- the children of a kind, by their places
-
-module _ (ks : List ℕ) (k : Kind) (j : ℕ) where
-  pub kid_below : j < k.count → j < length (kind_means ks k).kids
-  kid_below h = rw (length_kids ks k) h
-
-  pub kids_past : k.count ≤ j → length (kind_means ks k).kids ≤ j
-  kids_past h = rw (length_kids ks k) h
-
-  -- child j, where the code has read it
-  pub kid_there : j < k.count → (s : Slot) → slot_means s ≡ slot_at ks (k.first + j) → get_or (kind_means ks k).kids j (ty_of 0) ≡ ty_of s.ty.0
-  kid_there h s e = kid_at ks k j (record { type = 0; text = 0; start = 0; len = 0 }) h ∙ ap (λ (x : sound.Slot). ty_of x.type) (sym e)
+use Rattle.layout.proofs.ChildLaws.{length_kids}
 
 -- what is read of the environment
 

@@ -5,14 +5,15 @@ use mathlib.Core.Path.{◌≡◌, refl, ap, sym, ◌∙◌}
 use mathlib.Core.Bool.{Bool, true, false, ◌&&◌, and-true, and-false, false≢true}
 use mathlib.Core.Option.{Option, none, some}
 use mathlib.Core.List.{List, [], ◌∷◌, map}
-use Prim.Native.Nat.{ℕ, suc, ◌+◌, ◌-◌, ◌≤◌, ◌<◌}
+use Prim.Native.Nat.{ℕ, zero, suc, ◌+◌, ◌-◌, ◌≤◌, ◌<◌}
 use native.Mathlib.Numerals.{add-one}
 use native.Mathlib.Omega.{arith}
 use lib.Dec.{eqb}
 use lib.ListN.{length, get_or, drop, length-map, drop_of_length-le, get_or-map}
 use lib.Seq.{drop-cons}
 use borrow.Author.Tests.{eq-eqb, ne_eqb, eqb-true}
-use Rattle.scope.specs.Base.{all, front}
+use Rattle.std.specs.List.{list_all, range_with_len}
+use Rattle.scope.specs.Base.{all, from, front}
 use Rattle.scope.specs.Names.{Texts, Name, name, bytes, in_text, name_ok, lt_bytes, ascending, bytes_or, named, named_or_none}
 use Rattle.scope.specs.Kinds.{row_of, OWN_NAME, CHILD_NAMES, PARAMETER_NAMES, object_names_ok, names_ok}
 use Rattle.scope.specs.Sound.{name_in, slot_name}
@@ -24,6 +25,7 @@ use Rattle.layout.specs.Words.{slot_at, slots}
 use Rattle.layout.specs.Meaning.{slot_means, kind_means}
 use Rattle.layout.specs.declared.Kind.{Kind}
 use Rattle.layout.specs.declared.Slot.{Slot}
+use Rattle.layout.proofs.Lists.{all_map, all_range}
 use Rattle.layout.proofs.ChildLaws.{length_slots, slots_get, front_slots}
 use Rattle.layout.proofs.KindLaws.{names_own, names_child, names_parameters}
 
@@ -69,6 +71,19 @@ module _ (ks : List ℕ) (i n j : ℕ) where
   -- the j-th name, where the code has read the child
   pub name_there : j < n → (c : Slot) → slot_means c ≡ slot_at ks (i + j) → get_or (child_names ks i n) j none ≡ name_or (name_of c.name)
   name_there h c e = get_or-map slot_name (slots ks i n) j bare ∙ ap slot_name (slots_get ks i n j bare h ∙ sym e)
+
+-- a test of the numbers from a on, each i more
+all_shift : (p : ℕ → Bool) (i a n : ℕ) → all (λ j. p (i + j)) (from a n) ≡ all p (from (i + a) n)
+all_shift p i a zero = refl
+all_shift p i a (suc n) = let q : i + suc a ≡ suc (i + a) = omega arith in ap (λ (b : Bool). p (i + a) && b) (rw q at (all_shift p i (suc a) n))
+
+-- a test of each name, by its place
+pub names_run : (p : Option Name → Bool) (ks : List ℕ) (i n : ℕ) → list_all (λ j. p (slot_name (slot_at ks (i + j)))) (range_with_len 0 n) ≡ all p (child_names ks i n)
+names_run p ks i n =
+    all_range _ 0 n
+    ∙ (all_shift (λ (j : ℕ). p (slot_name (slot_at ks j))) i 0 n
+    ∙ (let z : i + 0 ≡ i = omega arith in rw z (sym (all_map (λ (s : sound.Slot). p (slot_name s)) (slot_at ks) (from i n)))
+    ∙ sym (all_map p slot_name (slots ks i n))))
 
 -- "strictly ascending", held against the name before
 

@@ -24,10 +24,7 @@ use types::Type;
 fn name_or_none(n: Name, rule: &[u8], text: &[u8]) -> bool
     ensures { result ≡ named_or_none (texts rule.now text.now) (name_in n.text n.start n.len) }
 {
-    if n.len == 0 {
-        return true;
-    }
-    names::name_ok(n, rule, text)
+    n.len == 0 || names::name_ok(n, rule, text)
 }
 
 // One name for each child, "strictly ascending". The first is held against the empty name, which comes before any other.
@@ -35,17 +32,12 @@ fn child_names_fit<'a>(k: Kind, ks: &[u32], rule: &'a [u8], text: &'a [u8]) -> b
     ensures { result ≡ object_names_ok (texts rule.now text.now) (map slot_name (slots ks.now k.first k.count)) }
 {
     let mut last = NO_NAME;
-    let mut j: u32 = 0;
-    while j < k.count {
+    for j in 0..k.count {
         let next = layout::child_of(ks, k, j).name;
-        if !names::name_ok(next, rule, text) {
-            return false;
-        }
-        if !names::name_before(last, next, rule, text) {
+        if !names::name_ok(next, rule, text) || !names::name_before(last, next, rule, text) {
             return false;
         }
         last = next;
-        j += 1;
     }
     true
 }
@@ -54,14 +46,7 @@ fn child_names_fit<'a>(k: Kind, ks: &[u32], rule: &'a [u8], text: &'a [u8]) -> b
 fn parameter_names_fit(k: Kind, n: u32, ks: &[u32], rule: &[u8], text: &[u8]) -> bool
     ensures { result ≡ all (named_or_none (texts rule.now text.now)) (map slot_name (slots ks.now k.first n)) }
 {
-    let mut j: u32 = 0;
-    while j < n {
-        if !name_or_none(layout::child_of(ks, k, j).name, rule, text) {
-            return false;
-        }
-        j += 1;
-    }
-    true
+    (0..n).all(|j| name_or_none(layout::child_of(ks, k, j).name, rule, text))
 }
 
 // The names that the kind's row asks for. Each child is read, so a caller tests the width first, as can_be_made does; kids_inside likewise.
@@ -80,23 +65,13 @@ pub fn names_fit<'a>(k: Kind, ks: &[u32], rule: &'a [u8], text: &'a [u8]) -> boo
 pub fn can_be_made<'a>(k: Kind, ks: &[u32], rule: &'a [u8], text: &'a [u8]) -> bool
     ensures { result ≡ makeable (texts rule.now text.now) (kind_means ks.now k).head k.count }
 {
-    if k.code > ERROR {
-        return false;
-    }
     let n = k.count as usize;
-    if n > MAX_WIDTH {
-        return false;
-    }
-    if !kinds::shape_fits(k.code, n) {
-        return false;
-    }
-    if !names_fit(k, ks, rule, text) {
-        return false;
-    }
-    if !kinds::flex_ok(k.code, k.flex) {
-        return false;
-    }
-    kinds::number_ok(k.code, k.number)
+    k.code <= ERROR
+        && n <= MAX_WIDTH
+        && kinds::shape_fits(k.code, n)
+        && names_fit(k, ks, rule, text)
+        && kinds::flex_ok(k.code, k.flex)
+        && kinds::number_ok(k.code, k.number)
 }
 
 // Whether refusal 5 does not stand: "a definition is absent or of another sort".
@@ -120,25 +95,14 @@ pub fn chart_flag(code: u32, number: u32, chart: &[u32]) -> bool
 pub fn has_chart_flag(k: Kind, chart: &[u32]) -> bool
     ensures { result ≡ flag_is (chart_alone chart.now) (kind_means [] k).head }
 {
-    let flag = chart_flag(k.code, k.number, chart);
-    if k.dual {
-        return flag;
-    }
-    !flag
+    k.dual == chart_flag(k.code, k.number, chart)
 }
 
 // Each child of the kind is one of n nodes. Of the nodes only their number is read, here and below.
 pub fn kids_inside(k: Kind, ks: &[u32], n: u32) -> bool
     ensures { (ns : List Node) → length ns ≡ n → result ≡ all (in_store ns) (kind_means ks.now k).kids }
 {
-    let mut j: u32 = 0;
-    while j < k.count {
-        if !refusals::type_inside(layout::child_of(ks, k, j).ty, n) {
-            return false;
-        }
-        j += 1;
-    }
-    true
+    (0..k.count).all(|j| refusals::type_inside(layout::child_of(ks, k, j).ty, n))
 }
 
 pub fn remembered_inside(t: Option<Type>, n: u32) -> bool
@@ -161,16 +125,10 @@ pub fn kind_sound<'a>(
 ) -> bool
     ensures { (ns : List Node) → length ns ≡ n → result ≡ kind_sound (chart_in chart.now rule.now text.now) ns (kind_means ks.now k) }
 {
-    if !can_be_made(k, ks, rule, text) {
-        return false;
-    }
-    if !is_defined(k, chart) {
-        return false;
-    }
-    if !has_chart_flag(k, chart) {
-        return false;
-    }
-    kids_inside(k, ks, n)
+    can_be_made(k, ks, rule, text)
+        && is_defined(k, chart)
+        && has_chart_flag(k, chart)
+        && kids_inside(k, ks, n)
 }
 
 // A node: its kind is sound, or its parent is a node of the store.
@@ -186,10 +144,13 @@ pub fn node_sound<'a>(
 {
     match node {
         TypeNode::Child(t) => refusals::type_inside(t, n),
-        TypeNode::Root { state, size: _ } => match state {
-            TypeState::Known(_, kind) => kind_sound(kind, ks, n, chart, rule, text),
-            TypeState::Unknown(_) => true,
-            TypeState::InferenceFailed => true,
-        },
+        TypeNode::Root {
+            state: TypeState::Known(_, kind),
+            size: _,
+        } => kind_sound(kind, ks, n, chart, rule, text),
+        TypeNode::Root {
+            state: TypeState::Unknown(_) | TypeState::InferenceFailed,
+            size: _,
+        } => true,
     }
 }

@@ -140,6 +140,16 @@ from_all p i zero e = refl
 from_all p i (suc n) e =
     and_both (p i) (all p (from (suc i) n)) (e i (omega arith) (omega arith)) (from_all p (suc i) n (λ j a b. e j (omega arith) (omega arith)))
 
+-- a test of what f makes of each
+pub all_map : {A B : Type 0} (q : B → Bool) (f : A → B) (l : List A) → all q (map f l) ≡ all (λ i. q (f i)) l
+all_map q f [] = refl
+all_map q f (i ∷ l) = ap (λ (b : Bool). q (f i) && b) (all_map q f l)
+
+-- a test of each of the kit's
+pub all_list : {A : Type 0} (p : A → Bool) (l : List A) → list_all p l ≡ all p l
+all_list p [] = refl
+all_list p (x ∷ l) = ap (λ (b : Bool). p x && b) (all_list p l)
+
 -- the numbers of a range are those from its start on
 pub all_range : (p : ℕ → Bool) (a n : ℕ) → list_all p (range_with_len a n) ≡ all p (from a n)
 all_range p a zero = refl

@@ -7,9 +7,8 @@ use mathlib.Core.List.{List, [], ◌∷◌}
 use Prim.Native.Nat.{ℕ, zero, suc, ◌+◌, ◌-◌, ◌<◌, ◌≤◌}
 use native.Mathlib.Omega.{arith}
 use lib.Dec.{eqb, ltb}
-use lib.ListN.{length, get_or, drop, set, replicate, length-append, length-take, length-drop, length-replicate, get_or-replicate, get_or-append}
+use lib.ListN.{length, get_or, drop, replicate, length-append, length-take, length-drop, length-replicate, get_or-replicate, get_or-append}
 use lib.Seq.{get_or-take, get_or-drop, drop_at}
-use borrow.Author.Fill.{fill_more}
 use borrow.Author.Tests.{eqb-true, eq-eqb, ltb-true, ltb-false}
 use Rattle.scope.specs.Sound.{zeros}
 use Rattle.layout.specs.Words.{between}
@@ -74,15 +73,3 @@ module _ (xs : List ℕ) (a : ℕ) where
   -- zeros up to a and zeros from a on are zeros
   pub blank_cleared : (e : ℕ) → Blank xs a e → Blank (cleared xs a) 0 e
   blank_cleared e z i l h = by_side (ltb i a) e z i refl h
-
--- one word after the other
-
-module _ (xs : List ℕ) (i : ℕ) {ys : List ℕ} (q : ys ≡ cleared xs i) where
-  pub cleared_length : i ≤ length xs → length ys ≡ length xs
-  cleared_length h = ap length q ∙ length_cleared xs i h
-
-  pub cleared_more : i < length xs → set ys i 0 ≡ cleared xs (i + 1)
-  cleared_more h = ap (λ (l : List ℕ). set l i 0) q ∙ fill_more i 0 xs h
-
-pub cleared_end : (xs : List ℕ) (i e : ℕ) {ys : List ℕ} → ys ≡ cleared xs i → i ≡ e → ys ≡ cleared xs e
-cleared_end xs i e q z = q ∙ ap (cleared xs) z

@@ -15,7 +15,7 @@ use Rattle.scope.specs.Make.{Made, MadeAll, new_var, new_vars}
 use Rattle.scope.specs.Calls.{written}
 use Rattle.types.specs.declared.«Type».{«Type»}
 use Rattle.types.proofs.Laws.{word_is}
-use Rattle.layout.specs.Words.{store_in, clean}
+use Rattle.layout.specs.Words.{store_in}
 use Rattle.store.specs.Holds.{Ready}
 use Rattle.make.specs.Made.{MadeIs, MadeAllIs}
 use Rattle.store.proofs.Laws.{beyond_refl, beyond_trans}

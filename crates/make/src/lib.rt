@@ -38,11 +38,7 @@ pub fn clear(s: &mut [u32], e: usize)
     requires { e ≤ length s.old }
     ensures { s.new ≡ cleared s.old e }
 {
-    let mut i = 0;
-    while i < e {
-        s[i] = 0;
-        i += 1;
-    }
+    s[..e].fill(0);
 }
 
 fn no_nodes(node_room: u32, child_room: u32, reports: u64) -> Header
@@ -126,16 +122,13 @@ fn push_bare(
     let state = TypeState::Known(Inverted(false), store::bare_kind(code));
     let root = TypeNode::Root { state, size: 1 };
     layout::put_node(ws, n + 1, TypeIdx(n), root);
-    let y = Header {
+    let grown = Header {
         nodes: n + 1,
-        children: x.children,
-        node_room: x.node_room,
-        child_room: x.child_room,
         error,
         nil,
-        reports: x.reports,
+        ..x
     };
-    layout::write_header(h, y);
+    layout::write_header(h, grown);
     Type(n)
 }
 
@@ -153,16 +146,7 @@ pub fn remember(h: &mut [u32], error: Option<Type>, nil: Option<Type>)
     ensures { h.new ≡ put_header h.old (with_remembered (header_in h.old) error nil) }
 {
     let x = layout::read_header(h);
-    let y = Header {
-        nodes: x.nodes,
-        children: x.children,
-        node_room: x.node_room,
-        child_room: x.child_room,
-        error,
-        nil,
-        reports: x.reports,
-    };
-    layout::write_header(h, y);
+    layout::write_header(h, Header { error, nil, ..x });
 }
 
 // The error type: the one remembered, or that of one node more.
@@ -171,14 +155,11 @@ pub fn error_once(h: &mut [u32], ws: &mut [u32]) -> Type
     ensures { OnceMade h.old ws.old h.new ws.new (header_in h.old) (header_in h.old).error
         (Some (type_of (nodes_made h.old))) (header_in h.old).nil kind.ERROR result }
 {
-    let was = heads::error_made(h);
-    match was {
+    match heads::error_made(h) {
         Some(t) => t,
         None => {
             let x = layout::read_header(h);
-            let nil = x.nil;
-            let next = Some(Type(x.nodes));
-            push_bare(h, ws, x, next, nil, ERROR)
+            push_bare(h, ws, x, Some(Type(x.nodes)), x.nil, ERROR)
         }
     }
 }
@@ -189,14 +170,11 @@ pub fn nil_once(h: &mut [u32], ws: &mut [u32]) -> Type
     ensures { OnceMade h.old ws.old h.new ws.new (header_in h.old) (header_in h.old).nil
         (header_in h.old).error (Some (type_of (nodes_made h.old))) kind.TUPLE result }
 {
-    let was = heads::nil_made(h);
-    match was {
+    match heads::nil_made(h) {
         Some(t) => t,
         None => {
             let x = layout::read_header(h);
-            let error = x.error;
-            let next = Some(Type(x.nodes));
-            push_bare(h, ws, x, error, next, TUPLE)
+            push_bare(h, ws, x, x.error, Some(Type(x.nodes)), TUPLE)
         }
     }
 }
@@ -226,12 +204,8 @@ pub fn new_vars(h: &mut [u32], ws: &mut [u32], ks: &[u32], span: u32, count: u32
     ensures { MadeAllIs h.old ws.old ks.now h.new ws.new ks.now
         out.old out.new (new_vars (store_in h.old ws.old ks.now) span count) }
 {
-    let mut i: u32 = 0;
-    while i < count {
-        let t = new_var(h, ws, ks, span);
-        let at = i as usize;
-        out[at] = t.0;
-        i += 1;
+    for i in 0..count as usize {
+        out[i] = new_var(h, ws, ks, span).0;
     }
 }
 
@@ -239,13 +213,12 @@ pub fn new_vars(h: &mut [u32], ws: &mut [u32], ks: &[u32], span: u32, count: u32
 pub fn kind_of(k: Head, first: u32, count: u32) -> Kind
     ensures { result ≡ kind_at k first count }
 {
-    let name = k.name;
     Kind {
         code: k.code,
         number: k.number,
         dual: k.dual,
         flex: k.flex,
-        name,
+        name: k.name,
         first,
         count,
     }
@@ -257,10 +230,8 @@ fn put_children(ks: &mut [u32], first: u32, entries: &[u32], n: usize)
     ensures { Put entries.now first n ks.old ks.new }
 {
     let from = first as usize;
-    let mut i = 0;
-    while i < n {
+    for i in 0..n {
         layout::put_child(ks, from + i, layout::child_at(entries, i));
-        i += 1;
     }
 }
 

@@ -11,6 +11,7 @@ use native.Mathlib.Omega.{arith}
 use lib.Dec.{eqb}
 use lib.ListN.{length}
 use borrow.Author.Tests.{eq-eqb, ne_eqb, leb-true}
+use Rattle.std.specs.Bool.{then_some}
 use Rattle.scope.specs.Base.{pick, xor}
 use Rattle.scope.specs.Limits.{MAX_CHILDREN}
 use Rattle.scope.specs.Names.{Texts, Name, bytes_or, ascending}
@@ -114,15 +115,19 @@ module _ {ws ks : List ℕ} {n : ℕ} {a b : Ty} where
 
   module _ {i : ℕ} {t : Bool} (e : i ≡ a.idx) (f : t ≡ occurs n (decode ws ks n) i b.idx) (h : t ≡ false)
       {j : ℕ} {s : Bool} (e' : j ≡ b.idx) (f' : s ≡ occurs n (decode ws ks n) j a.idx) where
-    pub bare_second : s ≡ true → Bare ws ks n a b (Some Failure)
+    bare_second : s ≡ true → Bare ws ks n a b (Some Failure)
     bare_second g =
         let ns : List Node = decode ws ks n in
         bare_by true (Some Failure) (rw (occurs_is n ns a.idx b.idx e f h, occurs_is n ns b.idx a.idx e' f' g) refl) refl
 
-    pub bare_binds : s ≡ false → Bare ws ks n a b None
+    bare_binds : s ≡ false → Bare ws ks n a b None
     bare_binds g =
         let ns : List Node = decode ws ks n in
         bare_by false None (rw (occurs_is n ns a.idx b.idx e f h, occurs_is n ns b.idx a.idx e' f' g) refl) refl
+
+    pub bare_back : (v : Bool) → s ≡ v → Bare ws ks n a b (then_some v Failure)
+    bare_back true g = bare_second g
+    bare_back false g = bare_binds g
 
   pub bare_alone : {x : Texts} {i : ℕ} {t : Bool} {h : Held} → Pair x ws ks n a b → i ≡ a.idx → t ≡ occurs n (decode ws ks n) i b.idx → t ≡ false
       → h ≡ held_in (read_at ws n i) → h ≡ None → Bare ws ks n a b None
@@ -288,6 +293,23 @@ module _ (ws : List ℕ) (n : ℕ) (a b : ℕ) {i j : ℕ} (e : i ≡ a) (f : j 
 
       pub bare_states_lem : {t s' t' : TypeState} {z : ℕ} → v ≡ Root t z → s ≡ s' → t ≡ t' → bare_states s' t' ≡ bare_roots ws n a b
       bare_states_lem {z = z} k p q = rw (← p, ← q) (bare_both k)
+
+-- two states: both are known, or one is not
+
+pub both_known : {s t : TypeState} {i j : Inverted} {k m : Kind} → s ≡ Known i k → t ≡ Known j m → bare_states s t ≡ false
+both_known e f = rw (e, f)
+
+pub first_bare : (s t : TypeState) → ((i : Inverted) (k : Kind) → s ≡ Known i k → ⊥) → bare_states s t ≡ true
+first_bare (Known i k) t h = absurd (h i k refl)
+first_bare (Unknown p) t h = refl
+first_bare InferenceFailed t h = refl
+
+pub second_bare : (s t : TypeState) → ((i : Inverted) (k : Kind) → t ≡ Known i k → ⊥) → bare_states s t ≡ true
+second_bare (Known i k) (Known j m) h = absurd (h j m refl)
+second_bare (Known i k) (Unknown p) h = refl
+second_bare (Known i k) InferenceFailed h = refl
+second_bare (Unknown p) t h = refl
+second_bare InferenceFailed t h = refl
 
 -- what it is that two roots are so
 

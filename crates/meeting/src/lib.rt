@@ -30,9 +30,10 @@ fn same_node(ws: &[u32], ks: &[u32], n: u32, a: Type, b: Type) -> UnifyResult
 {
     let inv = a.inv() ^ b.inv();
     if inv.0 {
-        return UnifyResult::from(walk::self_inverse(ws, ks, n, a, false));
+        UnifyResult::from(walk::self_inverse(ws, ks, n, a, false))
+    } else {
+        UnifyResult::Success
     }
-    UnifyResult::Success
 }
 
 // "If either has no kind: Failure if one occurs in the other, else they merge." In a root without a kind nothing else occurs.
@@ -41,16 +42,9 @@ fn without_kind(ws: &[u32], ks: &[u32], n: u32, a: Type, b: Type) -> Option<Unif
     ensures { Bare ws.now ks.now n (ty_of a.0) (ty_of b.0) result }
 {
     let ia = a.idx();
-    if walk::occurs(ws, ks, n, ia, b) {
-        return Some(UnifyResult::Failure);
-    }
-    let Some((_, _)) = layout::held_at(ws, n, ia) else {
-        return None;
-    };
-    if walk::occurs(ws, ks, n, b.idx(), a) {
-        return Some(UnifyResult::Failure);
-    }
-    None
+    let occurs = walk::occurs(ws, ks, n, ia, b)
+        || layout::held_at(ws, n, ia).is_some() && walk::occurs(ws, ks, n, b.idx(), a);
+    occurs.then_some(UnifyResult::Failure)
 }
 
 // One node, or two of which one has no kind: what walks, apart from `meet`, so that the marks of a walk stay out of the cycle's frames.
@@ -61,9 +55,10 @@ pub fn walk_roots(ws: &[u32], ks: &[u32], n: u32, a: Type, b: Type) -> Option<Un
     let ia = a.idx();
     let ib = b.idx();
     if ia.0 == ib.0 {
-        return Some(same_node(ws, ks, n, a, b));
+        Some(same_node(ws, ks, n, a, b))
+    } else {
+        without_kind(ws, ks, n, a, b)
     }
-    without_kind(ws, ks, n, a, b)
 }
 
 // Are these two nodes, both roots, of which one has no kind?
@@ -82,15 +77,7 @@ pub fn bare_roots(ws: &[u32], n: u32, a: Type, b: Type) -> bool
     let TypeNode::Root { state: t, size: _ } = layout::node_at(ws, n, ib) else {
         return false;
     };
-    match s {
-        TypeState::Known(_, _) => match t {
-            TypeState::Known(_, _) => false,
-            TypeState::Unknown(_) => true,
-            TypeState::InferenceFailed => true,
-        },
-        TypeState::Unknown(_) => true,
-        TypeState::InferenceFailed => true,
-    }
+    !matches!((s, t), (TypeState::Known(_, _), TypeState::Known(_, _)))
 }
 
 // Two roots, and nothing is changed.
@@ -111,12 +98,8 @@ pub fn meet<'a>(
     if ia.0 == ib.0 {
         return None;
     }
-    let Some((i, k)) = layout::held_at(ws, n, ia) else {
-        return None;
-    };
-    let Some((j, m)) = layout::held_at(ws, n, ib) else {
-        return None;
-    };
+    let (i, k) = layout::held_at(ws, n, ia)?;
+    let (j, m) = layout::held_at(ws, n, ib)?;
     let inv = i ^ a.inv() ^ (j ^ b.inv());
     Some(plan::plan_of(k, m, inv, rule, text))
 }
@@ -154,12 +137,10 @@ pub fn seek<'a>(
     requires { child_words (b + count) ≤ length ks.now }
     ensures { sought_means result ≡ sought_in (texts rule.now text.now) ks.now (name_of name) b count }
 {
-    let mut j: u32 = 0;
-    while j < count {
+    for j in 0..count {
         if names::same_name_by_pieces(name, kid_name(ks, b, j), rule, text) {
             return Some(kid(ks, b, j));
         }
-        j += 1;
     }
     None
 }
@@ -175,10 +156,7 @@ fn middle(low: u32, high: u32) -> u32
 fn first_look(i: u32, count: u32) -> u32
     ensures { Middle 0 count result }
 {
-    if i < count {
-        return i;
-    }
-    middle(0, count)
+    if i < count { i } else { middle(0, count) }
 }
 
 // Where it is looked for then: beside the i-th place, as long as that alone was looked at, and by halves after that.
@@ -186,17 +164,13 @@ fn next_look(low: u32, high: u32, i: u32) -> u32
     requires { low ≤ high }
     ensures { Middle low high result }
 {
-    if low < high {
-        if high == i {
-            return high - 1;
-        }
-        if low > 0 {
-            if low - 1 == i {
-                return low;
-            }
-        }
+    if low < high && high == i {
+        high - 1
+    } else if low < high && low > 0 && low - 1 == i {
+        low
+    } else {
+        middle(low, high)
     }
-    middle(low, high)
 }
 
 // The type beside a name among count children from b on whose names ascend, where it stands between low and high, if anywhere: the child between them is looked at,
@@ -284,13 +258,12 @@ fn returns(s: Runs) -> Runs
     requires { Lasts s }
     ensures { Returns s result }
 {
-    let inv = s.inv;
     Runs {
         a: s.a + (s.na - 1),
         na: 1,
         b: s.b + (s.nb - 1),
         nb: 1,
-        inv,
+        ..s
     }
 }
 
@@ -300,15 +273,12 @@ fn signature(s: Runs) -> Steps
     ensures { Stepped (plans.Signature s) result }
 {
     if s.na == s.nb {
-        return Steps::Run(UnifyResult::Success, s);
+        Steps::Run(UnifyResult::Success, s)
+    } else if s.na == 0 || s.nb == 0 {
+        Steps::Answer(UnifyResult::Failure)
+    } else {
+        Steps::Run(UnifyResult::Failure, returns(s))
     }
-    if s.na == 0 {
-        return Steps::Answer(UnifyResult::Failure);
-    }
-    if s.nb == 0 {
-        return Steps::Answer(UnifyResult::Failure);
-    }
-    Steps::Run(UnifyResult::Failure, returns(s))
 }
 
 pub fn in_steps(p: Plan) -> Steps

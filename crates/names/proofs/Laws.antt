@@ -1,17 +1,18 @@
 -- Laws of names: being the same bytes is equality, and a name that lies in its text has its own length. The loop of `before` uses the steps: what two
--- lists say from place i on, by what stands at i and what they say from i + 1 on.
+-- lists say by their first bytes and what they say behind these.
 -- Assumes nothing.
 use mathlib.Core.Path.{◌≡◌, refl, sym, ap, ap₂, ◌∙◌}
 use mathlib.Core.Bool.{Bool, true, false, ◌&&◌, and_assoc, and-true, false≢true}
 use mathlib.Core.List.{List, [], ◌∷◌, ◌++◌}
-use Prim.Native.Nat.{ℕ, zero, suc, ◌+◌, ◌-◌, ◌≤◌, ◌<◌, min}
+use mathlib.Core.Logic.{◌⊎◌, inl, inr}
+use Prim.Native.Nat.{ℕ, suc, ◌+◌, ◌-◌, ◌≤◌, ◌<◌}
 use native.Mathlib.Numerals.{add-one}
 use native.Mathlib.Decide.{dec_lt}
 use native.Mathlib.Omega.{arith}
 use borrow.Author.Tests.{eq-eqb, ne_eqb, lt-ltb, le-ltb, leb-true}
 use lib.Dec.{eqb, ltb, leb}
-use lib.ListN.{length, get_or, take, drop, take-append-drop, length-take, length-drop, drop_of_length-le}
-use lib.Seq.{drop-cons, take_all, take-nil, take-suc, take-add, take-take}
+use lib.ListN.{length, get_or, take, drop, take-append-drop, length-take, length-drop}
+use lib.Seq.{take_all, take-suc, take-add, take-take}
 use Rattle.scope.specs.Limits.{MAX_NAME}
 use Rattle.scope.specs.Names.{Texts, Name, text_of, bytes, in_text, name_ok, eq_bytes, lt_bytes}
 use Rattle.scope.proofs.NameLaws.{eq_bytes_lem, bytes_eq}
@@ -21,11 +22,6 @@ use Rattle.names.proofs.Tests.{both}
 -- what is said of two found lists is said of what they are
 pub compared : (f : List ℕ → List ℕ → Bool) {r : Bool} {a b x y : List ℕ} → r ≡ f a b → a ≡ x → b ≡ y → r ≡ f x y
 compared f h e g = rw (e, g) at h
-
--- any number but 0 selects the chart text
-pub chart_text : (x : Texts) (t : ℕ) → (t ≡ 0 → ⊥) → text_of x t ≡ x.chart
-chart_text x zero n = absurd (n refl)
-chart_text x (suc t) n = refl
 
 -- a comparison that says whether two lists are equal is `eq_bytes`
 pub same_by : (r : Bool) (a b : List ℕ) → (r ≡ true → a ≡ b) × (a ≡ b → r ≡ true) → r ≡ eq_bytes a b
@@ -88,45 +84,48 @@ unfolding lt_bytes
 none_before [] = refl
 none_before (x ∷ a) = refl
 
--- one list is at its end
-pub before_over : (a b : List ℕ) (i : ℕ) → i ≡ min (length a) (length b) → lt_bytes (drop i a) (drop i b) ≡ ltb (length a) (length b)
+none_less : (a : List ℕ) → lt_bytes [] a ≡ ltb 0 (length a)
 unfolding lt_bytes
-before_over a b i h = go (dec_lt i (length b))
-  where
-    go : Dec (i < length b) → lt_bytes (drop i a) (drop i b) ≡ ltb (length a) (length b)
-    go (yes k) =
-        let l : length a ≤ i = omega arith in
-        rw (drop_of_length-le a l, drop-cons b i 0 k, lt-ltb (length a) (length b) (omega arith))
-    go (no k) =
-        let l : length b ≤ i = omega arith in
-        rw (drop_of_length-le b l, le-ltb (length a) (length b) (omega arith)) (none_before (drop i a))
+none_less [] = refl
+none_less (x ∷ a) = sym (lt-ltb 0 (length (x ∷ a)) (omega arith))
 
-module _ (a b : List ℕ) (i : ℕ) (h : i < length a) (k : i < length b) where
-  pub before_other : (get_or a i 0 ≡ get_or b i 0 → ⊥) → lt_bytes (drop i a) (drop i b) ≡ ltb (get_or a i 0) (get_or b i 0)
-  before_other z = go (dec_lt (get_or a i 0) (get_or b i 0))
+-- what is left of two lists, of which as many bytes were compared: their first bytes differ, or are the same, or one list is at its end
+module _ {xs ys us vs : List ℕ} {x y : ℕ} (p : xs ≡ x ∷ us) (q : ys ≡ y ∷ vs) where
+  pub before_other : (x ≡ y → ⊥) → ltb x y ≡ lt_bytes xs ys
+  before_other z = go (dec_lt x y)
     where
-      go : Dec (get_or a i 0 < get_or b i 0) → lt_bytes (drop i a) (drop i b) ≡ ltb (get_or a i 0) (get_or b i 0)
-      go (yes l) = rw (drop-cons a i 0 h, drop-cons b i 0 k, lt-ltb (get_or a i 0) (get_or b i 0) l) (head_less _ _ _ _ l)
+      go : Dec (x < y) → ltb x y ≡ lt_bytes xs ys
+      go (yes l) = rw (p, q, lt-ltb x y l) (sym (head_less x y us vs l))
       go (no l) =
-          let m : get_or b i 0 < get_or a i 0 = omega (arith, z) in
-          rw (drop-cons a i 0 h, drop-cons b i 0 k, le-ltb (get_or a i 0) (get_or b i 0) (omega arith)) (head_more _ _ _ _ m)
+          let m : y < x = omega (arith, z) in
+          rw (p, q, le-ltb x y (omega arith)) (sym (head_more x y us vs m))
 
-  pub before_step : get_or a i 0 ≡ get_or b i 0 → lt_bytes (drop i a) (drop i b) ≡ lt_bytes (drop (i + 1) a) (drop (i + 1) b)
-  before_step e = rw (drop-cons a i 0 h, drop-cons b i 0 k, add-one) (head_same _ _ _ _ e)
+  pub before_same : (a b : List ℕ) → x ≡ y → lt_bytes xs ys ≡ lt_bytes a b → length a + length ys ≡ length b + length xs
+      → (lt_bytes us vs ≡ lt_bytes a b) × (length a + length vs ≡ length b + length us)
+  before_same a b e h l =
+      let n : length xs ≡ suc (length us) = ap length p in
+      let m : length ys ≡ suc (length vs) = ap length q in
+      (sym (head_same x y us vs e) ∙ (ap₂ lt_bytes (sym p) (sym q) ∙ h), omega arith)
 
--- a part that is clipped at the slice's end
-module _ (s : List ℕ) (i n : ℕ) where
-  rest : take (length s - i) (drop i s) ≡ drop i s
-  rest = take_all (length s - i) (drop i s) (rw length-drop (omega arith))
+less_left : (n m : ℕ) (ys : List ℕ) → n + length ys ≡ m → ltb n m ≡ ltb 0 (length ys)
+less_left n m ys l = go (dec_lt 0 (length ys))
+  where
+    go : Dec (0 < length ys) → ltb n m ≡ ltb 0 (length ys)
+    go (yes k) = lt-ltb n m (omega arith) ∙ sym (lt-ltb 0 (length ys) k)
+    go (no k) = le-ltb n m (omega arith) ∙ sym (le-ltb 0 (length ys) (omega arith))
 
-  pub clip_start : length s ≤ i → take 0 s ≡ take n (drop i s)
-  clip_start h = rw (drop_of_length-le s h, take-nil n)
+pub before_over : (a b : List ℕ) {xs ys : List ℕ} → (xs ≡ []) ⊎ (ys ≡ []) → length a + length ys ≡ length b + length xs
+    → ltb (length a) (length b) ≡ lt_bytes xs ys
+before_over a b {xs} {ys} (inl e) l =
+    let n : length xs ≡ 0 = ap length e in
+    less_left (length a) (length b) ys (omega arith) ∙ sym (ap (λ (k : List ℕ). lt_bytes k ys) e ∙ none_less ys)
+before_over a b {xs} {ys} (inr e) l =
+    let n : length ys ≡ 0 = ap length e in
+    le-ltb (length a) (length b) (omega arith) ∙ sym (ap (lt_bytes xs) e ∙ none_before xs)
 
-  pub clip_end : length (take (length s - i) (drop i s)) ≤ n → take (length s - i) (drop i s) ≡ take n (drop i s)
-  clip_end h = rest ∙ sym (take_all n (drop i s) (rw rest at h))
-
-  pub clip_none : take n (take (length s - i) (drop i s)) ≡ take n (drop i s)
-  clip_none = rw rest
+-- all from place i on
+rest : (s : List ℕ) (i : ℕ) → take (length s - i) (drop i s) ≡ drop i s
+rest s i = take_all (length s - i) (drop i s) (rw length-drop (omega arith))
 
 -- two lists of n bytes, the same up to i; the last piece of each begins at last
 pub record SameTo (a b : List ℕ) (n last i : ℕ) : Type 0 where
@@ -154,10 +153,10 @@ module _ {a b : List ℕ} {n last i : ℕ} (s : SameTo a b n last i) where
 
   pub last_lengths : (length (take (length a - last) (drop last a)) ≡ PIECE) × (length (take (length b - last) (drop last b)) ≡ PIECE)
   last_lengths =
-      (rw (rest a last 0, length-drop last a) (omega (arith, s.long, s.ends)), rw (rest b last 0, length-drop last b) (omega (arith, s.both_long, s.ends)))
+      (rw (rest a last, length-drop last a) (omega (arith, s.long, s.ends)), rw (rest b last, length-drop last b) (omega (arith, s.both_long, s.ends)))
 
   pub same_end : last ≤ i → {r : Bool} → r ≡ eq_bytes (take (length a - last) (drop last a)) (take (length b - last) (drop last b)) → r ≡ eq_bytes a b
-  same_end l h = rw (rest a last 0, rest b last 0) at h ∙ go (eq_bytes (drop last a) (drop last b)) refl
+  same_end l h = rw (rest a last, rest b last) at h ∙ go (eq_bytes (drop last a) (drop last b)) refl
     where
       front : take last a ≡ take last b
       front = sym (take-take last i a l) ∙ (ap (take last) s.same ∙ take-take last i b l)

@@ -1,6 +1,6 @@
 #![tactic(auto)]
 // "A name is a part of the rule text or of the chart text, compared as bytes." Its lookup returns a part of one of the two lent slices. No call here asks anything of its arguments.
-ghost use Rattle.std.specs.Prelude.{◌≡◌, min, length, take, drop};
+ghost use Rattle.std.specs.Prelude.{◌≡◌, length, take, drop};
 ghost use Rattle.scope.specs.Names.{text_of, bytes, in_text, name_ok, eq_bytes, lt_bytes};
 ghost use Rattle.names.specs.Place.{texts, name_of, PIECE};
 
@@ -21,30 +21,31 @@ pub const NO_NAME: Name = Name {
     len: 0,
 };
 
+// The two texts that names are parts of.
+#[derive(Clone, Copy)]
+pub struct Texts<'a> {
+    pub rule: &'a [u8],
+    pub chart: &'a [u8],
+}
+
 // So many bytes are compared at once.
 const PIECE: usize = 64;
 
 fn text_of<'a>(text: u32, rule: &'a [u8], chart: &'a [u8]) -> &'a [u8]
     ensures { result.now ≡ text_of (texts rule.now chart.now) text }
 {
-    if text == 0 {
-        return rule;
+    match text {
+        0 => rule,
+        _ => chart,
     }
-    chart
 }
 
 // A start or an end past the slice is taken for the slice's end.
 fn part(s: &[u8], start: usize, len: usize) -> &[u8]
     ensures { result.now ≡ take len (drop start s.now) }
 {
-    if s.len() <= start {
-        return &s[..0];
-    }
-    let rest = &s[start..];
-    if rest.len() <= len {
-        return rest;
-    }
-    &rest[..len]
+    let rest = &s[start.min(s.len())..];
+    &rest[..len.min(rest.len())]
 }
 
 pub fn bytes_of<'a>(n: Name, rule: &'a [u8], chart: &'a [u8]) -> &'a [u8]
@@ -69,10 +70,8 @@ fn same_piece(a: &[u8], b: &[u8]) -> bool
     ensures { result ≡ eq_bytes a.now b.now }
 {
     let mut same = true;
-    let mut i: usize = 0;
-    while i < PIECE {
-        same = same & (a[i] == b[i]);
-        i += 1;
+    for i in 0..PIECE {
+        same &= a[i] == b[i];
     }
     same
 }
@@ -90,43 +89,25 @@ pub fn same_by_pieces(a: &[u8], b: &[u8]) -> bool
         return false;
     }
     let last = n - PIECE;
-    let mut i: usize = 0;
-    while i < last {
+    for i in (0..last).step_by(PIECE) {
         let e = i + PIECE;
         if !same_piece(&a[i..e], &b[i..e]) {
             return false;
         }
-        i = e;
     }
     same_piece(&a[last..], &b[last..])
-}
-
-fn lesser(n: usize, m: usize) -> usize
-    ensures { result ≡ min n m }
-{
-    if n < m {
-        return n;
-    }
-    m
 }
 
 // Byte by byte, unsigned, up to the first that differs; a prefix comes first.
 pub fn before(a: &[u8], b: &[u8]) -> bool
     ensures { result ≡ lt_bytes a.now b.now }
 {
-    let n = a.len();
-    let m = b.len();
-    let end = lesser(n, m);
-    let mut i: usize = 0;
-    while i < end {
-        let x = a[i];
-        let y = b[i];
-        if x != y {
-            return x < y;
+    for (x, y) in a.iter().zip(b) {
+        if *x != *y {
+            return *x < *y;
         }
-        i += 1;
     }
-    n < m
+    a.len() < b.len()
 }
 
 pub fn same_name<'a>(a: Name, b: Name, rule: &'a [u8], chart: &'a [u8]) -> bool
@@ -152,25 +133,17 @@ pub fn name_before<'a>(a: Name, b: Name, rule: &'a [u8], chart: &'a [u8]) -> boo
 pub fn in_text(n: Name, rule: &[u8], chart: &[u8]) -> bool
     ensures { result ≡ in_text (texts rule.now chart.now) (name_of n) }
 {
-    if n.text > 1 {
-        return false;
-    }
     let end = n.start as usize + n.len as usize;
-    if n.text == 0 {
-        return end <= rule.len();
+    match n.text {
+        0 => end <= rule.len(),
+        1 => end <= chart.len(),
+        _ => false,
     }
-    end <= chart.len()
 }
 
 // "names and paths 1 to 255 bytes"
 pub fn name_ok(n: Name, rule: &[u8], chart: &[u8]) -> bool
     ensures { result ≡ name_ok (texts rule.now chart.now) (name_of n) }
 {
-    if !in_text(n, rule, chart) {
-        return false;
-    }
-    if n.len < 1 {
-        return false;
-    }
-    n.len as usize <= MAX_NAME
+    in_text(n, rule, chart) && n.len >= 1 && n.len as usize <= MAX_NAME
 }

@@ -3,14 +3,14 @@
 use mathlib.Core.Path.{◌≡◌, refl, ap, sym, ◌∙◌, subst}
 use mathlib.Core.Bool.{Bool, true, false}
 use mathlib.Core.Option.{Option, none, some}
-use mathlib.Core.List.{List, [], ◌∷◌, map}
-use Prim.Native.Nat.{ℕ, zero, suc, ◌+◌, ◌≤◌, ◌<◌}
+use mathlib.Core.List.{List, ◌∷◌, map}
+use Prim.Native.Nat.{ℕ, ◌+◌, ◌≤◌, ◌<◌}
 use native.Mathlib.Omega.{arith}
 use native.Mathlib.Numerals.{add-one}
 use lib.Dec.{eqb, ltb}
 use lib.ListN.{length, length-map, get_or, drop, get_or-map}
 use lib.Seq.{drop-cons}
-use borrow.Author.Tests.{eqb-true, eqb-false, eq-eqb, ne_eqb, ltb-true, ltb-false, lt-ltb, le-ltb}
+use borrow.Author.Tests.{eqb-true, eqb-false, ltb-true, ltb-false}
 use Rattle.scope.specs.Base.{pick}
 use Rattle.scope.specs.Types.{Ty, ty, ty_of}
 use Rattle.scope.specs.Kinds.{PARAM}
@@ -27,35 +27,9 @@ use Rattle.layout.proofs.ChildLaws.{length_slots, slots_get, length_kids, kind_r
 use Rattle.layout.proofs.KindLaws.{kind_code, kind_number, kind_kids}
 use Rattle.layout.proofs.HeldLaws.{state_read, state_fits_lem}
 use Rattle.needs.specs.Roots.{Params}
-use Rattle.std.specs.Prelude.{Some, None}
 use Rattle.needs.specs.declared.Asks.{Asks}
 use Rattle.needs.specs.declared.Asks.TheVariants.{Replaced, Missing, Node}
 use Rattle.needs.specs.Roots.{params_for, kind_asks, asks_of}
-
--- within a list any default will do
-pub get_any : (l : List ℕ) (i d e : ℕ) → i < length l → get_or l i d ≡ get_or l i e
-get_any [] i d e h = absurd (omega arith)
-get_any (x ∷ l) zero d e h = refl
-get_any (x ∷ l) (suc i) d e h = get_any l i d e (omega arith)
-
--- what the code's tests say of a kind
-
-pub asks_other : (p : Params) (k : Kind) → (k.code ≡ PARAM → ⊥) → Node k.first k.count ≡ kind_asks p k
-asks_other p k h = rw (ne_eqb k.code PARAM h)
-
-pub asks_unlisted : {p : Params} (k : Kind) → p ≡ None → Node k.first k.count ≡ kind_asks p k
-asks_unlisted k e = rw e (go (eqb k.code PARAM))
-  where
-    go : (b : Bool) → Node k.first k.count ≡ pick b (Node k.first k.count) (Node k.first k.count)
-    go true = refl
-    go false = refl
-
-module _ {p : Params} {m : ℕ} (k : Kind) (param : k.code ≡ PARAM) (e : p ≡ Some m) where
-  pub asks_entry : k.number < m → Replaced ≡ kind_asks p k
-  asks_entry h = rw (e, eq-eqb k.code PARAM param, lt-ltb k.number m h)
-
-  pub asks_none : m ≤ k.number → Missing ≡ kind_asks p k
-  asks_none h = rw (e, eq-eqb k.code PARAM param, le-ltb k.number m h)
 
 -- a run of children: so many types, from a place on
 abbrev pub kids_in : List ℕ → ℕ → ℕ → List Ty

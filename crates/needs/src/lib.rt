@@ -37,16 +37,15 @@ pub enum Asks {
 fn kind_asks(params: Option<u32>, kind: Kind) -> Asks
     ensures { result ≡ kind_asks params kind }
 {
-    if kind.code != kinds::PARAM {
-        return Asks::Node(kind.first, kind.count);
-    }
-    let Some(count) = params else {
-        return Asks::Node(kind.first, kind.count);
-    };
-    if kind.number < count {
-        Asks::Replaced
-    } else {
-        Asks::Missing
+    match params {
+        Some(count) if kind.code == kinds::PARAM => {
+            if kind.number < count {
+                Asks::Replaced
+            } else {
+                Asks::Missing
+            }
+        }
+        _ => Asks::Node(kind.first, kind.count),
     }
 }
 
@@ -64,11 +63,7 @@ fn root_asks(ws: &[u32], n: u32, params: Option<u32>, root: TypeIdx) -> Asks
 fn is_counted(marks: &[u8], i: TypeIdx) -> bool
     ensures { result ≡ not (eqb (get_or marks.now i.0 1) 0) }
 {
-    let at = i.0 as usize;
-    if at < marks.len() {
-        return marks[at] != 0;
-    }
-    true
+    marks.get(i.0 as usize).copied().unwrap_or(1) != 0
 }
 
 fn mark(marks: &mut [u8], i: TypeIdx)
@@ -122,20 +117,17 @@ fn count(
         Asks::Replaced => sum,
         Asks::Missing => Needs {
             missing: true,
-            nodes: sum.nodes,
-            children: sum.children,
+            ..sum
         },
         Asks::Node(first, kids) => {
             mark(marks, root);
             let mut all = Needs {
-                missing: sum.missing,
                 nodes: sum.nodes + 1,
                 children: sum.children + kids,
+                ..sum
             };
-            let mut j: u32 = 0;
-            while j < kids {
+            for j in 0..kids {
                 let kid = child(ks, first, j).ty;
-                j += 1;
                 if !is_met(ws, n, cache, marks, kid) {
                     all = count(ws, ks, n, params, cache, marks, all, kid, depth - 1);
                 }
@@ -161,10 +153,8 @@ fn count_all(
         × Cached ws.now n cache.new }
 {
     let mut all = sum;
-    let mut i = 0;
-    while i < ts.len() {
-        all = count(ws, ks, n, params, cache, marks, all, Type(ts[i]), n);
-        i += 1;
+    for t in ts {
+        all = count(ws, ks, n, params, cache, marks, all, Type(*t), n);
     }
     all
 }
@@ -216,11 +206,9 @@ pub fn of_export(h: &[u32], ws: &[u32], ks: &[u32], ts: &[u32]) -> Needs
 {
     let x = layout::read_header(h);
     let n = x.nodes;
-    let error = x.error;
-    let nil = x.nil;
     let mut cache = [0u16; MAX_NODES];
     let mut marks = [0u8; MAX_NODES];
-    let first = count_remembered(ws, ks, n, &mut cache, &mut marks, nothing(), error);
-    let next = count_remembered(ws, ks, n, &mut cache, &mut marks, first, nil);
+    let first = count_remembered(ws, ks, n, &mut cache, &mut marks, nothing(), x.error);
+    let next = count_remembered(ws, ks, n, &mut cache, &mut marks, first, x.nil);
     count_all(ws, ks, n, None, &mut cache, &mut marks, next, ts)
 }

@@ -1,16 +1,16 @@
 -- What a quick yes says of a kind and of a node, and the ways out of a node's test.
 -- Assumes nothing.
 use mathlib.Core.Path.{◌≡◌, refl, ap, sym, ◌∙◌, subst}
-use mathlib.Core.Bool.{Bool, true, false, not, ◌&&◌, false≢true}
-use mathlib.Core.List.{List, [], ◌∷◌, map}
+use mathlib.Core.Bool.{Bool, true, false, not, ◌&&◌, and_assoc, false≢true}
+use mathlib.Core.List.{List, []}
 use Prim.Native.Nat.{ℕ, zero, suc, ◌+◌, ◌-◌, ◌≤◌, ◌<◌}
 use native.Mathlib.Omega.{arith}
-use lib.Dec.{eqb, ltb, leb}
+use lib.Dec.{eqb, ltb}
 use lib.ListN.{length, get_or, set, length-set, replicate, length-replicate}
-use lib.Seq.{get_or-set_other}
+use lib.Seq.{get_or-set_same, get_or-set_other}
 use native.Mathlib.Decide.{ℕ_discrete}
 use borrow.Author.Count.{below_more}
-use borrow.Author.Tests.{ne_eqb, eqb-true, lt-ltb, le-leb}
+use borrow.Author.Tests.{eqb-true, lt-ltb, le-leb}
 use Rattle.scope.specs.Base.{pick, all, from, or_else}
 use Rattle.scope.specs.Limits.{MAX_WIDTH, MAX_CHILDREN, KINDS}
 use Rattle.scope.specs.Types.{ty_of}
@@ -34,15 +34,15 @@ use Rattle.names.specs.Place.{texts, name_of}
 use Rattle.names.proofs.Tests.{both}
 use Rattle.names.proofs.Laws.{name_length_lem}
 use Rattle.layout.specs.Words.{KNOWN_TAG, slot_at, slots, node_at, node_clean}
-use Rattle.layout.specs.Meaning.{cell_in, cell_of, cell_words, cell_kind, kind_cell, kind_means, node_means, node_of, read_at, slot_means}
+use Rattle.layout.specs.Meaning.{cell_in, cell_words, cell_kind, kind_cell, kind_means, node_means, node_of, read_at, slot_means}
 use Rattle.layout.specs.declared.Cell.{Cell}
 use Rattle.layout.specs.declared.Kind.{Kind}
 use Rattle.layout.specs.declared.Slot.{Slot}
 use Rattle.layout.specs.declared.TypeNode.{TypeNode}
-use Rattle.layout.proofs.Lists.{all_from, from_all}
+use Rattle.layout.proofs.Lists.{all_from, from_all, all_map}
 use Rattle.layout.proofs.Laws.{past}
 use Rattle.layout.proofs.Cells.{cell_node, cell_clean, node_words_lem, clean_words, says}
-use Rattle.clean.proofs.Laws.{all_map, child_clean, slots_run, names_run, cell_known, known_parts, known_names}
+use Rattle.clean.proofs.Laws.{run_next, child_clean, slots_run, names_run, cell_known, known_parts, known_names}
 use Rattle.kind_sound.proofs.Laws.{made_tests, kind_tests, sound_narrow}
 use Rattle.kind_sound.proofs.NameLaws.{no_empty, some_before, child_names, up_from, up_start, up_end, up_step, names_test, child_names_lem, no_names}
 use Rattle.node_sound.specs.Tests.{node_test, plain_slot, inside_at, name_at, Told, Framed, Rises, TrueSeen, Follows, Named, PlainKind, PlainNode}
@@ -99,22 +99,26 @@ up_all x ks i (suc n) p o l r =
     ∙ up_all x ks (suc i) n (bytes x (name_at ks i)) (λ j a b. o j (omega arith) (omega arith))
     (λ h. let z : suc i - 1 ≡ i = omega arith in rw z at (r (suc i) (omega arith) (omega arith))) (λ j a b. r j (omega arith) (omega arith))
 
+-- plain_children: a flag that says of the children before i takes in child i
+pub flag_more : (p : ℕ → Bool) (i e : ℕ) (ok b : Bool) → i < e → b ≡ p i → (ok && all p (from i (e - i))) ≡ ((ok && b) && all p (from (i + 1) (e - (i + 1))))
+flag_more p i e ok b h q = rw (run_next p i e h, q, and_assoc)
+
 -- what was seen
 
-pub seen_none : (x : Texts) (ks : List ℕ) → TrueSeen x ks (replicate MAX_CHILDREN 0)
-seen_none x ks = record { long = length-replicate {A = ℕ} MAX_CHILDREN 0; right = λ i z. absurd (z (zeros MAX_CHILDREN i)) }
+pub seen_none : (x : Texts) (ks : List ℕ) → TrueSeen x ks (replicate MAX_CHILDREN false)
+seen_none x ks = record { long = length-replicate {A = Bool} MAX_CHILDREN false; right = λ i z. absurd (false≢true (sym (zeros MAX_CHILDREN i) ∙ z)) }
   where
-    zeros : (m v : ℕ) → ◌≡◌ {A = ℕ} (get_or (replicate m 0) v 0) 0
+    zeros : (m v : ℕ) → ◌≡◌ {A = Bool} (get_or (replicate m false) v false) false
     zeros zero v = refl
     zeros (suc m) zero = refl
     zeros (suc m) (suc v) = zeros m v
 
-pub seen_more : {x : Texts} {ks seen : List ℕ} {i : ℕ} (m : ℕ) → TrueSeen x ks seen → i < MAX_CHILDREN → Rises x ks i → TrueSeen x ks (set seen i m)
-seen_more {x} {ks} {seen} {i} m s l r = record { long = length-set seen i m ∙ s.long; right = λ j z. go j z (ℕ_discrete j i) }
+pub seen_more : {x : Texts} {ks : List ℕ} {seen : List Bool} {i : ℕ} (b : Bool) → TrueSeen x ks seen → i < MAX_CHILDREN → (b ≡ true → Rises x ks i) → TrueSeen x ks (set seen i b)
+seen_more {x} {ks} {seen} {i} b s l r = record { long = length-set seen i b ∙ s.long; right = λ j z. go j z (ℕ_discrete j i) }
   where
-    go : (j : ℕ) → (get_or (set seen i m) j 0 ≡ 0 → ⊥) → Dec (j ≡ i) → Rises x ks j
-    go j z (yes e) = rw e r
-    go j z (no d) = s.right j (λ q. z (get_or-set_other seen i j m 0 d ∙ q))
+    go : (j : ℕ) → get_or (set seen i b) j false ≡ true → Dec (j ≡ i) → Rises x ks j
+    go j z (yes e) = rw e (r (sym (get_or-set_same seen i b false (omega (arith, l, s.long))) ∙ (ap (λ (k : ℕ). get_or (set seen i b) k false) (sym e) ∙ z)))
+    go j z (no d) = s.right j (sym (get_or-set_other seen i j b false d) ∙ z)
 
 -- child i, where the code has read it and the one before it
 
@@ -141,15 +145,15 @@ module _ (ks : List ℕ) (i : ℕ) (child : Slot) (e : slot_means child ≡ slot
       (named_first x p.0, ap (λ (s : sound.Slot). ltb (ty_of s.type).idx n) (sym e) ∙ p.1)
 
 -- named_children: those after a and before i follow
-pub record Gone (x : Texts) (ks : List ℕ) (n a i : ℕ) (marks : List ℕ) : Type 0 where
+pub record Gone (x : Texts) (ks : List ℕ) (n a i : ℕ) (marks : List Bool) : Type 0 where
   pub known : TrueSeen x ks marks
   pub low : a < i
   pub each : (j : ℕ) → a < j → j < i → Follows x ks n j
 
-pub gone_none : {x : Texts} {ks marks : List ℕ} (n a : ℕ) → TrueSeen x ks marks → Gone x ks n a (a + 1) marks
+pub gone_none : {x : Texts} {ks : List ℕ} {marks : List Bool} (n a : ℕ) → TrueSeen x ks marks → Gone x ks n a (a + 1) marks
 gone_none n a s = record { known = s; low = omega arith; each = λ j l m. absurd (omega arith) }
 
-pub gone_more : {x : Texts} {ks marks marks' : List ℕ} {n a i : ℕ} → Gone x ks n a i marks → TrueSeen x ks marks' → Follows x ks n i → Gone x ks n a (i + 1) marks'
+pub gone_more : {x : Texts} {ks : List ℕ} {marks marks' : List Bool} {n a i : ℕ} → Gone x ks n a i marks → TrueSeen x ks marks' → Follows x ks n i → Gone x ks n a (i + 1) marks'
 gone_more {x} {ks} {n = n} {a} {i} w s f = record {
   known = s;
   low = omega (arith, w.low);

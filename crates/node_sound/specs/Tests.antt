@@ -56,11 +56,11 @@ pub record Rises (x : Texts) (ks : List ℕ) (i : ℕ) : Type 0 where
   pub after : lt_bytes (bytes x (name_at ks (i - 1))) (bytes x (name_at ks i)) ≡ true
 
 -- a child that was seen has such a name
-pub record TrueSeen (x : Texts) (ks seen : List ℕ) : Type 0 where
+pub record TrueSeen (x : Texts) (ks : List ℕ) (seen : List Bool) : Type 0 where
   pub long : length seen ≡ MAX_CHILDREN
-  pub right : (i : ℕ) → (get_or seen i 0 ≡ 0 → ⊥) → Rises x ks i
+  pub right : (i : ℕ) → get_or seen i false ≡ true → Rises x ks i
 
-pub record Goes (x : Texts) (ks seen : List ℕ) (i : ℕ) : Type 0 where
+pub record Goes (x : Texts) (ks : List ℕ) (seen : List Bool) (i : ℕ) : Type 0 where
   pub known : TrueSeen x ks seen
   pub some : 0 < i
   pub few : i < MAX_CHILDREN

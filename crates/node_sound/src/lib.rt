@@ -23,17 +23,14 @@ use layout::{CHILD_WORDS, Cell, KNOWN_TAG, Kind, Slot};
 use scope::{MAX_CHILDREN, MAX_WIDTH};
 use types::TypeIdx;
 
-// A byte for each child: whether it was seen to have a name that comes after the one before it.
-type Seen = [u8; MAX_CHILDREN];
+// For each child whether it was seen to have a name that comes after the one before it.
+type Seen = [bool; MAX_CHILDREN];
 
 // A child without a name, one of n nodes.
 fn plain_child(x: Slot, n: u32) -> bool
     ensures { result ≡ plain_slot n (slot_means x) }
 {
-    if !clean::name_clean(false, x.name) {
-        return false;
-    }
-    x.ty.idx().0 < n
+    clean::name_clean(false, x.name) && x.ty.idx().0 < n
 }
 
 // A quick yes to whether the children a to e are such. Each is looked at, whatever the others are. A run that is not all in ks has no quick yes, so a child
@@ -45,13 +42,8 @@ fn plain_children(ks: &[u32], a: usize, e: usize, n: u32) -> bool
         return false;
     }
     let mut plain = true;
-    let mut i = a;
-    while i < e {
-        let child = layout::child_at(ks, i);
-        i += 1;
-        if !plain_child(child, n) {
-            plain = false;
-        }
+    for i in a..e {
+        plain &= plain_child(layout::child_at(ks, i), n);
     }
     plain
 }
@@ -65,7 +57,7 @@ fn told(k: Kind, row: Row, chart: &[u32]) -> bool
         (Number::Definition(_, _), _) => kind_sound::is_defined(k, chart)
             && kind_sound::has_chart_flag(k, chart),
         (_, SelfDual::AsChart) => false,
-        (_, _) => !k.dual,
+        _ => !k.dual,
     }
 }
 
@@ -75,35 +67,20 @@ fn frame_ok(k: Kind, row: Row, chart: &[u32]) -> bool
     ensures { result ≡ true → Framed chart.now k }
 {
     let count = k.count as usize;
-    if k.code > ERROR {
-        return false;
-    }
-    if count > MAX_WIDTH {
-        return false;
-    }
-    if k.flex != 0 {
-        return false;
-    }
-    if !kinds::row_fits(row, count) {
-        return false;
-    }
-    if !kinds::row_number_ok(row, k.number) {
-        return false;
-    }
-    if !clean::name_clean(false, k.name) {
-        return false;
-    }
-    told(k, row, chart)
+    k.code <= ERROR
+        && count <= MAX_WIDTH
+        && k.flex == 0
+        && kinds::row_fits(row, count)
+        && kinds::row_number_ok(row, k.number)
+        && clean::name_clean(false, k.name)
+        && told(k, row, chart)
 }
 
 // An object's first child: it has a name and is one of n nodes.
 fn named_child<'a>(child: Slot, n: u32, rule: &'a [u8], text: &'a [u8]) -> bool
     ensures { result ≡ (name_ok (texts rule.now text.now) (name_of child.name) && ltb (ty_of child.ty.0).idx n) }
 {
-    if !names::name_ok(child.name, rule, text) {
-        return false;
-    }
-    child.ty.idx().0 < n
+    names::name_ok(child.name, rule, text) && child.ty.idx().0 < n
 }
 
 // A quick yes to whether an object's child i, which is not the first, follows. What was seen of its name is not looked at again.
@@ -126,18 +103,12 @@ fn next_child<'a>(
     if child.ty.idx().0 >= n {
         return false;
     }
-    if seen[i] != 0 {
-        return true;
+    if !seen[i] {
+        let last = layout::child_at(ks, i - 1);
+        seen[i] = names::name_ok(child.name, rule, text)
+            && names::name_before(last.name, child.name, rule, text);
     }
-    let last = layout::child_at(ks, i - 1);
-    if !names::name_ok(child.name, rule, text) {
-        return false;
-    }
-    if !names::name_before(last.name, child.name, rule, text) {
-        return false;
-    }
-    seen[i] = 1;
-    true
+    seen[i]
 }
 
 // An object's children a to e.
@@ -160,10 +131,7 @@ fn named_children<'a>(
     if !named_child(layout::child_at(ks, a), n, rule, text) {
         return false;
     }
-    let mut next = a + 1;
-    while next < e {
-        let i = next;
-        next += 1;
+    for i in a + 1..e {
         if !next_child(ks, i, n, rule, text, seen) {
             return false;
         }
@@ -213,19 +181,11 @@ fn plain_node<'a>(
     ensures { (result ≡ true → PlainNode chart.now rule.now text.now ks.now n c x)
         × TrueSeen (texts rule.now text.now) ks.now seen.new }
 {
-    if x.tag != KNOWN_TAG {
-        return false;
-    }
-    if (c as u64) < x.link as u64 + x.count as u64 {
-        return false;
-    }
-    if 1 < x.inv {
-        return false;
-    }
-    if 1 < x.dual {
-        return false;
-    }
-    plain_kind(layout::kind_in(x), ks, n, chart, rule, text, seen)
+    x.tag == KNOWN_TAG
+        && u64::from(x.link) + u64::from(x.count) <= u64::from(c)
+        && x.inv <= 1
+        && x.dual <= 1
+        && plain_kind(layout::kind_in(x), ks, n, chart, rule, text, seen)
 }
 
 // Node i of n, with c children made.
@@ -237,25 +197,19 @@ fn node_sound<'a>(
     chart: &[u32],
     rule: &'a [u8],
     text: &'a [u8],
-    i: u32,
+    i: TypeIdx,
     seen: &mut Seen,
 ) -> bool
-    requires { (node_words n ≤ length ws.now) × (i < n) × (c ≤ MAX_CHILDREN) × TrueSeen (texts rule.now text.now) ks.now seen.old }
+    requires { (node_words n ≤ length ws.now) × (i.0 < n) × (c ≤ MAX_CHILDREN) × TrueSeen (texts rule.now text.now) ks.now seen.old }
     ensures { ((ns : List Node) → length ns ≡ n → result ≡ node_test (chart_in chart.now rule.now text.now)
-        ws.now ks.now c ns i)
+        ws.now ks.now c ns i.0)
         × TrueSeen (texts rule.now text.now) ks.now seen.new }
 {
-    let x = layout::cell_at(ws, TypeIdx(i));
-    if plain_node(x, ks, n, c, chart, rule, text, seen) {
-        return true;
-    }
-    if x.count as usize > MAX_WIDTH {
-        return false;
-    }
-    if !clean::node_clean(ws, ks, c, i) {
-        return false;
-    }
-    kind_sound::node_sound(layout::node_at(ws, n, TypeIdx(i)), ks, n, chart, rule, text)
+    let x = layout::cell_at(ws, i);
+    plain_node(x, ks, n, c, chart, rule, text, seen)
+        || x.count as usize <= MAX_WIDTH
+            && clean::node_clean(ws, ks, c, i.0)
+            && kind_sound::node_sound(layout::node_at(ws, n, i), ks, n, chart, rule, text)
 }
 
 // All n nodes. An object's names that were seen to ascend are not compared again where runs of children overlap.
@@ -271,13 +225,11 @@ pub fn nodes_sound<'a>(
     requires { (node_words n ≤ length ws.now) × (c ≤ MAX_CHILDREN) }
     ensures { result ≡ nodes_test (chart_in chart.now rule.now text.now) ws.now ks.now c n }
 {
-    let mut seen: Seen = [0u8; MAX_CHILDREN];
-    let mut i: u32 = 0;
-    while i < n {
-        if !node_sound(ws, ks, n, c, chart, rule, text, i, &mut seen) {
+    let mut seen: Seen = [false; MAX_CHILDREN];
+    for i in 0..n {
+        if !node_sound(ws, ks, n, c, chart, rule, text, TypeIdx(i), &mut seen) {
             return false;
         }
-        i += 1;
     }
     true
 }

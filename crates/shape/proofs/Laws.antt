@@ -19,7 +19,7 @@ use Rattle.layout.proofs.Lists.{all_stop, all_done}
 use Rattle.shape.specs.declared.Up.{Up}
 use Rattle.shape.specs.declared.Up.TheVariants.{Root, Parent}
 use Rattle.shape.specs.Walks.{ends, upward, Leads, here, more}
-use Rattle.shape.specs.Read.{ups, root_of, tallied, size_fits}
+use Rattle.shape.specs.Read.{ups, root_of, tallied}
 use Rattle.shape.specs.Asks.{ParentsInside, TrueRoots, Climbs, Climbed, ClimbedAll, Rooted, Tallies, Tallied}
 use Rattle.shape.proofs.Tables.{zeros, blank_long, stored_by}
 use Rattle.shape.proofs.Lists.{count_most, count_last}
@@ -164,15 +164,3 @@ pub counted_all : {roots counts : List ℕ} {n v : ℕ} → Counted roots counts
 counted_all {roots} {counts} {n} {v} w l =
     let e : v ≡ n = omega (arith, w.most) in
     record { each = λ u k. w.each u k ∙ ap (λ (x : ℕ). tallied roots x u) e }
-
--- sizes_ok: the sizes of the first v nodes fit
-
-module _ (ws roots : List ℕ) (n v : ℕ) where
-  pub size_root : {z m : ℕ} → ups ws n v ≡ Root z → m ≡ tallied roots n v → z ≡ m → size_fits ws n roots v ≡ true
-  size_root {z} e f q = rw e (eq-eqb z (tallied roots n v) (q ∙ f))
-
-  pub size_other : {z m : ℕ} → ups ws n v ≡ Root z → m ≡ tallied roots n v → (z ≡ m → ⊥) → size_fits ws n roots v ≡ false
-  size_other {z} e f q = rw e (ne_eqb z (tallied roots n v) (λ x. q (x ∙ sym f)))
-
-  pub size_child : {u : TypeIdx} → ups ws n v ≡ Parent u → size_fits ws n roots v ≡ true
-  size_child e = rw e

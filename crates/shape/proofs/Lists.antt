@@ -1,13 +1,11 @@
 -- Tests and counts over the numbers from i on: a test fails somewhere or nowhere, and a test that holds of one number more counts one more.
 -- Assumes nothing.
-use mathlib.Core.Path.{◌≡◌, refl, sym, ap, ◌∙◌}
+use mathlib.Core.Path.{◌≡◌, refl, sym}
 use mathlib.Core.Bool.{Bool, true, false, ◌&&◌, false≢true}
-use mathlib.Core.List.{List, [], ◌∷◌, map}
 use Prim.Native.Nat.{ℕ, zero, suc, ◌+◌, ◌≤◌, ◌<◌}
 use native.Mathlib.Decide.{ℕ_discrete}
 use native.Mathlib.Omega.{arith}
 use Rattle.scope.specs.Base.{pick, all, count, from}
-use Rattle.layout.proofs.Lists.{all_from}
 
 pub is_false : (b : Bool) → (b ≡ true → ⊥) → b ≡ false
 is_false true f = absurd (f refl)
@@ -19,9 +17,6 @@ same_test true b f g = sym (f refl)
 same_test false b f g = sym (is_false b (λ e. false≢true (g e)))
 
 -- all
-
-pub all_not : (p : ℕ → Bool) (i n j : ℕ) → i ≤ j → j < i + n → p j ≡ false → all p (from i n) ≡ false
-all_not p i n j a b e = is_false (all p (from i n)) (λ t. false≢true (sym e ∙ all_from p i n t j a b))
 
 -- a number at which the test fails
 abbrev pub Fails : (ℕ → Bool) → ℕ → ℕ → Type 0
@@ -38,10 +33,6 @@ all_find p i (suc n) e = go (p i) refl e (all_find p (suc i) n)
 pub all_same : (p q : ℕ → Bool) (i n : ℕ) → ((j : ℕ) → i ≤ j → j < i + n → p j ≡ q j) → all p (from i n) ≡ all q (from i n)
 all_same p q i zero e = refl
 all_same p q i (suc n) e = rw (e i (omega arith) (omega arith), all_same p q (suc i) n (λ j a b. e j (omega arith) (omega arith)))
-
-pub all_map : {A B : Type 0} (p : B → Bool) (f : A → B) (xs : List A) → all p (map f xs) ≡ all (λ x. p (f x)) xs
-all_map p f [] = refl
-all_map p f (x ∷ xs) = ap (λ (b : Bool). p (f x) && b) (all_map p f xs)
 
 -- count
 

@@ -9,7 +9,7 @@ use native.Mathlib.Omega.{arith}
 use borrow.Author.Tests.{ltb-true}
 use lib.Dec.{eqb}
 use lib.ListN.{length, replicate}
-use Rattle.scope.specs.Base.{all, count, from}
+use Rattle.scope.specs.Base.{all, from}
 use Rattle.scope.specs.Limits.{MAX_NODES}
 use Rattle.scope.specs.Types.{Ty, ty, flip, ty_of}
 use Rattle.scope.specs.Nodes.{Node, at, climb, find, state_of, kids_of}
@@ -18,7 +18,7 @@ use Rattle.scope.proofs.Laws as scope
 use Rattle.scope.specs.Sound.{rooted, falls, tree_size, size_is, in_store, shape_sound}
 use Rattle.types.specs.declared.TypeIdx.{TypeIdx}
 use Rattle.layout.specs.Words.{slot_at, decode}
-use Rattle.layout.proofs.Lists.{all_from}
+use Rattle.layout.proofs.Lists.{all_from, all_map}
 use Rattle.layout.proofs.Laws.{length_decode, read_node}
 use Rattle.layout.proofs.HeldLaws.{held_kids_lem}
 use Rattle.layout.specs.Meaning.{read_at, held_in, held_kids, node_means, kind_means}
@@ -31,7 +31,7 @@ use Rattle.shape.specs.declared.Up.TheVariants.{Root, Parent}
 use Rattle.shape.specs.Walks.{ends, InRun, upward, to_by, Leads, here, more}
 use Rattle.shape.specs.Read.{idx_of, up_in, first_of, count_of, kid_at, ups, root_of, kids, tallied, size_by, size_fits}
 use Rattle.shape.specs.Asks.{node_inside, Shaped, Complete, ClimbsAll, ClimbedAll, Rooted, Sizes, Falls}
-use Rattle.shape.proofs.Lists.{same_test, all_same, all_map, count_same}
+use Rattle.shape.proofs.Lists.{same_test, all_same, count_same}
 use Rattle.shape.proofs.Walks.{ends_none, ends_more, ends_root, ends_up, up_within, leads_ends, leads_below}
 use Rattle.shape.proofs.Laws.{right_none}
 

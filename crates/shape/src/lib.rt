@@ -8,7 +8,7 @@ ghost use Rattle.scope.specs.Sound.{shape_sound};
 ghost use Rattle.layout.specs.Words.{node_words, decode};
 ghost use Rattle.layout.specs.Meaning.{read_at};
 ghost use Rattle.shape.specs.Walks.{ends};
-ghost use Rattle.shape.specs.Read.{up_in, kid_at, ups, root_of, kids, size_fits};
+ghost use Rattle.shape.specs.Read.{up_in, kid_at, ups, root_of, kids, size_by, size_fits};
 ghost use Rattle.shape.specs.Asks.{Shaped, Climbs, Climbed, ClimbsAll, ClimbedAll, Tallies, Tallied, Sizes, Falls, Visits, Tries, Visited};
 
 use layout::{CHILD_WORDS, TypeNode};
@@ -101,14 +101,10 @@ fn find_roots(ws: &[u32], n: u32, roots: &mut Table) -> bool
     requires { ClimbsAll ws.now roots.old n }
     ensures { ClimbedAll (ups ws.now n) n roots.new result }
 {
-    let mut next: u32 = 0;
-    while next < n {
-        let v = TypeIdx(next);
-        next += 1;
+    for i in 0..n {
+        let v = TypeIdx(i);
         match up_of(ws, n, v) {
-            Up::Root(_) => {
-                put(roots, v, next);
-            }
+            Up::Root(_) => put(roots, v, i + 1),
             Up::Parent(_) => {
                 if !climb(ws, n, roots, v, n) {
                     return false;
@@ -124,12 +120,21 @@ fn tally(roots: &Table, n: u32, counts: &mut Table)
     requires { Tallies roots.now counts.old n }
     ensures { Tallied roots.now n counts.new }
 {
-    let mut v: u32 = 0;
-    while v < n {
-        let r = root_of(roots, TypeIdx(v));
+    for i in 0..n {
+        let r = root_of(roots, TypeIdx(i));
         let count = at(counts, r);
         put(counts, r, count + 1);
-        v += 1;
+    }
+}
+
+// Whether v's size, if it is a root, is the one counted.
+fn size_ok(ws: &[u32], n: u32, counts: &Table, v: TypeIdx) -> bool
+    requires { (node_words n ≤ length ws.now) × (v.0 < MAX_NODES) }
+    ensures { result ≡ size_by (get_or counts.now v.0 0) (ups ws.now n v.0) }
+{
+    match up_of(ws, n, v) {
+        Up::Root(size) => size == at(counts, v),
+        Up::Parent(_) => true,
     }
 }
 
@@ -140,18 +145,7 @@ fn sizes_ok(ws: &[u32], n: u32, roots: &Table) -> bool
 {
     let mut counts: Table = [0u32; MAX_NODES];
     tally(roots, n, &mut counts);
-    let mut v: u32 = 0;
-    while v < n {
-        let up = up_of(ws, n, TypeIdx(v));
-        let count = at(&counts, TypeIdx(v));
-        v += 1;
-        if let Up::Root(size) = up {
-            if size != count {
-                return false;
-            }
-        }
-    }
-    true
+    (0..n).all(|i| size_ok(ws, n, &counts, TypeIdx(i)))
 }
 
 // Whether every walk from v to the roots of children ends. One that comes back to an open node does not, and one to a done node does.
@@ -171,14 +165,12 @@ fn visit(ws: &[u32], ks: &[u32], n: u32, roots: &Table, marks: &mut Table, v: Ty
         put(marks, v, DONE);
         return true;
     };
-    let mut i = kind.first as usize;
-    let end = i + kind.count as usize;
-    while i < end {
+    let first = kind.first as usize;
+    for i in first..first + kind.count as usize {
         let r = root_of(roots, kid_at(ks, i));
         if !visit(ws, ks, n, roots, marks, r) {
             return false;
         }
-        i += 1;
     }
     put(marks, v, DONE);
     true
@@ -193,20 +185,16 @@ fn kids_done(ws: &[u32], ks: &[u32], n: u32, roots: &Table, marks: &Table, v: Ty
     let Some((_, kind)) = layout::held_at(ws, n, v) else {
         return true;
     };
-    let mut done = true;
-    let mut i = kind.first as usize;
-    let end = i + kind.count as usize;
+    let first = kind.first as usize;
+    let end = first + kind.count as usize;
     if ks.len() / CHILD_WORDS < end {
         return false;
     }
-    while i < end {
+    let mut done = true;
+    for i in first..end {
         let root_more = at(roots, kid_at(ks, i));
-        i += 1;
-        if v.0 < root_more {
-            let root = root_more - 1;
-            if at(marks, TypeIdx(root)) != DONE {
-                done = false;
-            }
+        if v.0 < root_more && at(marks, TypeIdx(root_more - 1)) != DONE {
+            done = false;
         }
     }
     done
@@ -218,18 +206,14 @@ fn falls_ok(ws: &[u32], ks: &[u32], n: u32, roots: &Table) -> bool
     ensures { result ≡ all (ends (kids ws.now ks.now n roots.now) n) (from 0 n) }
 {
     let mut marks: Table = [0u32; MAX_NODES];
-    let mut next: u32 = 0;
-    while next < n {
-        let v = TypeIdx(next);
-        next += 1;
+    for i in 0..n {
+        let v = TypeIdx(i);
         if at(&marks, v) == DONE {
             continue;
         }
         if kids_done(ws, ks, n, roots, &marks, v) {
             put(&mut marks, v, DONE);
-            continue;
-        }
-        if !visit(ws, ks, n, roots, &mut marks, v) {
+        } else if !visit(ws, ks, n, roots, &mut marks, v) {
             return false;
         }
     }
@@ -242,11 +226,5 @@ pub fn shape_ok(ws: &[u32], ks: &[u32], n: u32) -> bool
     ensures { result ≡ shape_sound (decode ws.now ks.now n) }
 {
     let mut roots: Table = [0u32; MAX_NODES];
-    if !find_roots(ws, n, &mut roots) {
-        return false;
-    }
-    if !sizes_ok(ws, n, &roots) {
-        return false;
-    }
-    falls_ok(ws, ks, n, &roots)
+    find_roots(ws, n, &mut roots) && sizes_ok(ws, n, &roots) && falls_ok(ws, ks, n, &roots)
 }

@@ -2,10 +2,10 @@
 -- Beside them what a word's digits say, what types read so far and those to come say together, and what a command with some types is.
 -- Assumes nothing.
 use mathlib.Core.Path.{◌≡◌, refl, sym, ap, ◌∙◌}
-use mathlib.Core.Bool.{Bool, true, false, not, ◌&&◌}
+use mathlib.Core.Bool.{Bool, true, false, ◌&&◌}
 use mathlib.Core.List.{List, [], ◌∷◌, ◌++◌, map, map-append, append_assoc, append-nil}
 use mathlib.Core.Option.{Option, none, some}
-use Prim.Native.Nat.{ℕ, zero, suc, ◌+◌, ◌-◌, ◌*◌, ◌≤◌, ◌<◌}
+use Prim.Native.Nat.{ℕ, zero, suc, ◌+◌, ◌-◌, ◌*◌, ◌≤◌, ◌<◌, max}
 use native.Mathlib.Numerals.{add-one}
 use native.Mathlib.Decide.{dec_le}
 use native.Mathlib.Omega.{arith}
@@ -40,7 +40,7 @@ word_is w v e h = eq_bytes_lem w v (said e h)
 -- where a byte stands next
 
 -- a place past the end is its own
-pub place_past : (b : ℕ) (s : List ℕ) (i : ℕ) → length s < i → i ≡ next_place b s i
+place_past : (b : ℕ) (s : List ℕ) (i : ℕ) → length s < i → i ≡ next_place b s i
 unfolding index_of
 place_past b s i h =
     let past : length s ≤ i = omega arith in
@@ -56,9 +56,17 @@ unfolding index_of
 place_next b s i l e = rw (add-one, drop-cons s i 0 l, ne_eqb (get_or s i 0) b e) (omega arith)
 
 -- nothing stands from the end on
-pub place_none : (b : ℕ) (s : List ℕ) (i : ℕ) → length s ≤ i → i ≡ next_place b s i
+place_none : (b : ℕ) (s : List ℕ) (i : ℕ) → length s ≤ i → i ≡ next_place b s i
 unfolding index_of
 place_none b s i h = rw (drop_of_length-le s h) (omega arith)
+
+-- a walk from i on, that has come to the end, has found none
+pub place_end : (b : ℕ) (s : List ℕ) {i j : ℕ} → (i ≤ length s → j ≤ length s) → length s ≤ j → next_place b s j ≡ next_place b s i → max i (length s) ≡ next_place b s i
+place_end b s {i} {j} w l e = go (dec_le i (length s))
+  where
+    go : Dec (i ≤ length s) → max i (length s) ≡ next_place b s i
+    go (yes h) = let z = w h in let same : max i (length s) ≡ j = omega arith in same ∙ (place_none b s j l ∙ e)
+    go (no h) = let over : max i (length s) ≡ i = omega arith in over ∙ place_past b s i (omega arith)
 
 run_within_by : (b x : ℕ) (xs : List ℕ) (t : Bool) → eqb x b ≡ t → index_of b xs ≤ length xs → index_of b (x ∷ xs) ≤ suc (length xs)
 unfolding index_of
@@ -202,25 +210,6 @@ module _ (w : List ℕ) (i : ℕ) (h : i < length w) where
   pub value_step : (n d : ℕ) → d ≡ get_or w i 0 - 48 → value_from (n * 10 + d) (drop (i + 1) w) ≡ value_from n (drop i w)
   value_step n d e = rw (drop-cons w i 0 h, add-one i, e)
 
--- how long a node's word is, and how it begins
-
-pub shape_empty : (w : List ℕ) → length w ≡ 0 → false ≡ (leb (length w) MAX_DIGITS && no_leading_zero w)
-shape_empty [] h = refl
-shape_empty (b ∷ w) h = absurd (omega arith)
-
-pub shape_one : (w : List ℕ) → length w ≡ 1 → true ≡ (leb (length w) MAX_DIGITS && no_leading_zero w)
-shape_one [] h = absurd (omega arith)
-shape_one (b ∷ []) h = refl
-shape_one (b ∷ c ∷ w) h = absurd (omega arith)
-
-pub shape_long : (w : List ℕ) → MAX_DIGITS < length w → false ≡ (leb (length w) MAX_DIGITS && no_leading_zero w)
-shape_long w h = rw (lt-leb (length w) MAX_DIGITS h)
-
-pub shape_first : (w : List ℕ) → 2 ≤ length w → length w ≤ MAX_DIGITS → not (eqb (get_or w 0 0) 48) ≡ (leb (length w) MAX_DIGITS && no_leading_zero w)
-shape_first [] h k = absurd (omega arith)
-shape_first (b ∷ []) h k = absurd (omega arith)
-shape_first (b ∷ c ∷ w) h k = rw (le-leb (suc (suc (length w))) MAX_DIGITS k)
-
 -- a word that is no node
 pub node_shapeless : (b : Bool) (w : List ℕ) → (leb (length w) MAX_DIGITS && no_leading_zero w) ≡ false → node_word b w ≡ none
 node_shapeless b w e = go (all is_digit w)
@@ -362,33 +351,6 @@ module _ {t : «Type»} (out : List ℕ) (q : take 1 out ≡ t.0 ∷ []) where
   pub ref_fits : Over REF 1 out
   unfolding sheet_line row_of
   ref_fits = record { few = omega arith; names = refl; says = λ s. rw q }
-
--- the first word is the first of them
-pub take_first : (out : List ℕ) → 1 ≤ length out → take 1 out ≡ get_or out 0 0 ∷ []
-take_first [] h = absurd (omega arith)
-take_first (a ∷ out) h = refl
-
-pub with_none : (w out : List ℕ) (n : ℕ) → n ≡ 0 → plain_line w ≡ with_types w (some (map ty_of (take n out)))
-with_none w out n e = rw e
-
-with_first : (w out : List ℕ) → 1 ≤ length out → one_type w (ty_of (get_or out 0 0)) ≡ with_types w (some (map ty_of (take 1 out)))
-with_first w [] h = absurd (omega arith)
-with_first w (a ∷ out) h = refl
-
-with_both : (w out : List ℕ) → 2 ≤ length out → two_types w (ty_of (get_or out 0 0)) (ty_of (get_or out 1 0)) ≡ with_types w (some (map ty_of (take 2 out)))
-with_both w [] h = absurd (omega arith)
-with_both w (a ∷ []) h = absurd (omega arith)
-with_both w (a ∷ b ∷ out) h = refl
-
-pub with_one : (w out : List ℕ) (n : ℕ) → n ≡ 1 → 1 ≤ length out → one_type w (ty_of (get_or out 0 0)) ≡ with_types w (some (map ty_of (take n out)))
-with_one w out n e h = rw e (with_first w out h)
-
-pub with_two :
-    (w out : List ℕ) (n : ℕ) →
-    n ≡ 2 →
-    2 ≤ length out →
-    two_types w (ty_of (get_or out 0 0)) (ty_of (get_or out 1 0)) ≡ with_types w (some (map ty_of (take n out)))
-with_two w out n e h = rw e (with_both w out h)
 
 pub with_more :
     (w : List ℕ) (n : ℕ) (out : List ℕ) →

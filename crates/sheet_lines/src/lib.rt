@@ -53,27 +53,19 @@ fn digit_of(d: u8) -> u32
 fn next_place(s: &[u8], from: usize, byte: u8) -> usize
     ensures { result ≡ next_place byte s.now from }
 {
-    if s.len() < from {
-        return from;
-    }
-    let mut i = from;
-    while i < s.len() {
+    for i in from..s.len() {
         if s[i] == byte {
             return i;
         }
-        i += 1;
     }
-    i
+    from.max(s.len())
 }
 
 // How many bytes of a line a buffer holds that has `at` of it: all, or as many as there is room for.
 pub fn kept(buffer: &[u8], at: usize) -> usize
     ensures { result ≡ min at (length buffer.now) }
 {
-    if buffer.len() < at {
-        return buffer.len();
-    }
-    at
+    at.min(buffer.len())
 }
 
 // Where the line that starts at `from` ends: "a last line may lack its newline"
@@ -87,16 +79,11 @@ pub fn line_end(input: &[u8], from: usize) -> usize
 fn node_shape(w: &[u8]) -> bool
     ensures { result ≡ (leb (length w.now) «MAX_DIGITS» && no_leading_zero w.now) }
 {
-    if w.len() == 0 {
-        return false;
+    match w {
+        [] => false,
+        [_] => true,
+        [first, ..] => w.len() <= MAX_DIGITS && *first != b'0',
     }
-    if w.len() == 1 {
-        return true;
-    }
-    if w.len() > MAX_DIGITS {
-        return false;
-    }
-    w[0] != b'0'
 }
 
 fn node_of(inv: Inverted, w: &[u8]) -> Option<Type>
@@ -106,17 +93,11 @@ fn node_of(inv: Inverted, w: &[u8]) -> Option<Type>
         return None;
     }
     let mut n: u32 = 0;
-    let mut i: usize = 0;
-    while i < w.len() {
-        let d = w[i];
-        if d < b'0' {
+    for d in w {
+        if *d < b'0' || *d > b'9' {
             return None;
         }
-        if d > b'9' {
-            return None;
-        }
-        n = n * 10 + digit_of(d);
-        i += 1;
+        n = n * 10 + digit_of(*d);
     }
     Some(Type::new(inv, TypeIdx(n)))
 }
@@ -126,12 +107,12 @@ fn type_of(w: &[u8]) -> Option<Type>
     ensures { word_means result ≡ type_word w.now }
 {
     if w.len() == 0 {
-        return None;
+        None
+    } else if w[0] == b'~' {
+        node_of(Inverted(true), &w[1..])
+    } else {
+        node_of(Inverted(false), w)
     }
-    if w[0] == b'~' {
-        return node_of(Inverted(true), &w[1..]);
-    }
-    node_of(Inverted(false), w)
 }
 
 // The words from a place on, read as types into `out`.
@@ -141,11 +122,10 @@ fn types_from(line: &[u8], from: usize, out: &mut [u32]) -> Option<u32>
 {
     let mut n: usize = 0;
     let mut at = from;
+    // Kept (3): the new form is no plainer: a turn goes on by a word and its space, so no range has its places, and a split gives the words without them.
     while at <= line.len() {
         let e = next_place(line, at, b' ');
-        let Some(t) = type_of(&line[at..e]) else {
-            return None;
-        };
+        let t = type_of(&line[at..e])?;
         out[n] = t.0;
         n += 1;
         at = e + 1;
@@ -158,27 +138,22 @@ fn plain_line(w: &[u8]) -> Plain
     ensures { Always result (plain_line w.now) }
 {
     if same_bytes(w, b"var") {
-        return Plain::Make(Maker::Var);
+        Plain::Make(Maker::Var)
+    } else if same_bytes(w, b"nil") {
+        Plain::Make(Maker::Nil)
+    } else if same_bytes(w, b"never") {
+        Plain::Make(Maker::Over(NEVER, 0))
+    } else if same_bytes(w, b"default") {
+        Plain::Make(Maker::Over(DEFAULT, 0))
+    } else if same_bytes(w, b"error") {
+        Plain::Make(Maker::Error)
+    } else if same_bytes(w, b"finish") {
+        Plain::Finish
+    } else if same_bytes(w, b"tuple") {
+        Plain::Make(Maker::Over(TUPLE, 0))
+    } else {
+        Plain::Bad
     }
-    if same_bytes(w, b"nil") {
-        return Plain::Make(Maker::Nil);
-    }
-    if same_bytes(w, b"never") {
-        return Plain::Make(Maker::Over(NEVER, 0));
-    }
-    if same_bytes(w, b"default") {
-        return Plain::Make(Maker::Over(DEFAULT, 0));
-    }
-    if same_bytes(w, b"error") {
-        return Plain::Make(Maker::Error);
-    }
-    if same_bytes(w, b"finish") {
-        return Plain::Finish;
-    }
-    if same_bytes(w, b"tuple") {
-        return Plain::Make(Maker::Over(TUPLE, 0));
-    }
-    Plain::Bad
 }
 
 // A command with one type, that is no tuple
@@ -186,12 +161,12 @@ fn one_type(w: &[u8], t: Type) -> Line
     ensures { OneBeside result t w.now (one_type w.now (ty_of t.0)) }
 {
     if same_bytes(w, b"ref") {
-        return Line::Plain(Plain::Make(Maker::Over(REF, 1)));
+        Line::Plain(Plain::Make(Maker::Over(REF, 1)))
+    } else if same_bytes(w, b"show") {
+        Line::Show(t)
+    } else {
+        Line::Plain(Plain::Bad)
     }
-    if same_bytes(w, b"show") {
-        return Line::Show(t);
-    }
-    Line::Plain(Plain::Bad)
 }
 
 // A command with two types, that is no tuple
@@ -199,9 +174,10 @@ fn two_types(w: &[u8], t: Type, u: Type) -> Line
     ensures { Unless result w.now (two_types w.now (ty_of t.0) (ty_of u.0)) }
 {
     if same_bytes(w, b"unify") {
-        return Line::Unify(t, u);
+        Line::Unify(t, u)
+    } else {
+        Line::Plain(Plain::Bad)
     }
-    Line::Plain(Plain::Bad)
 }
 
 // "`tuple` takes any number of types, none included; `ref` and `show` one; `unify` two; the rest none."
@@ -209,19 +185,13 @@ fn line_of(w: &[u8], n: u32, out: &[u32]) -> Line
     requires { (n ≤ «LINE_TYPES») × («LINE_TYPES» ≤ length out.now) }
     ensures { Parsed result out.now (with_types w.now (some (map ty_of (take n out.now)))) }
 {
-    if n == 0 {
-        return Line::Plain(plain_line(w));
+    match n {
+        0 => Line::Plain(plain_line(w)),
+        _ if same_bytes(w, b"tuple") => Line::Plain(Plain::Make(Maker::Over(TUPLE, n))),
+        1 => one_type(w, Type(out[0])),
+        2 => two_types(w, Type(out[0]), Type(out[1])),
+        _ => Line::Plain(Plain::Bad),
     }
-    if same_bytes(w, b"tuple") {
-        return Line::Plain(Plain::Make(Maker::Over(TUPLE, n)));
-    }
-    if n == 1 {
-        return one_type(w, Type(out[0]));
-    }
-    if n == 2 {
-        return two_types(w, Type(out[0]), Type(out[1]));
-    }
-    Line::Plain(Plain::Bad)
 }
 
 // The words lent have room for the types of any line. What else they hold afterwards is left free.

@@ -83,10 +83,8 @@ fn free_all(bs: &mut [u32], nodes: u32, children: u32)
     requires { book_words nodes children ≤ length bs.old }
     ensures { FreeTo bs.old bs.new nodes children MAX_STATES }
 {
-    let mut i = 0;
-    while i < MAX_STATES {
+    for i in 0..MAX_STATES {
         free_at(bs, nodes, children, i);
-        i += 1;
     }
 }
 

@@ -24,7 +24,6 @@ use Rattle.heed.specs.Told.{Settles, SettledTold}
 use Rattle.heed.proofs.Laws.{since_then, SelfsKept, marks_kept}
 use Rattle.meeting.specs.Asks.{SoundWords, Inside}
 use Rattle.plan.specs.Meaning.{plan_means}
-use Rattle.plan.specs.declared.Plan.{Plan}
 use Rattle.meeting.specs.Steps.{steps_mean, StepsReady}
 use Rattle.meeting.specs.Meets.{does, pairs_of, BothKnown}
 use Rattle.meeting.specs.declared.Steps.{Steps}

@@ -35,7 +35,7 @@ pub fn unify<'a>(
     ensures { Unified (texts rule.now text.now) ws.old ks.now memory.old ws.new memory.new n
         (unify_f (texts rule.now text.now) n depth (decode ws.old ks.now n) (ty_of a.0) (ty_of b.0)) result }
 {
-    if depth < 1 {
+    if depth == 0 {
         return UnifyResult::Failure;
     }
     if heed::small(ws, n, memory, a, b) {
@@ -61,8 +61,7 @@ pub fn unify_pair<'a>(
     ensures { Unified (texts rule.now text.now) ws.old ks.now memory.old ws.new memory.new n
         (unify_f (texts rule.now text.now) n depth (decode ws.old ks.now n) (ty_of a.0) (ty_of b.0)) result }
 {
-    let e = unify_enter::enter(ws, ks, n, rule, text, memory, a, b, depth);
-    match e {
+    match unify_enter::enter(ws, ks, n, rule, text, memory, a, b, depth) {
         Entered::Done(r) => r,
         Entered::Kids(p, began, ra, rb) => match p {
             Steps::Answer(r) => heed::settle(ws, n, memory, began, ra, rb, r),
@@ -99,13 +98,10 @@ pub fn unify_types<'a>(
     if s.na != s.nb {
         return UnifyResult::Failure;
     }
-    let inv = s.inv;
     let mut r = UnifyResult::Success;
-    let mut i: u32 = 0;
-    while i < s.na {
+    for i in 0..s.na {
         let x = meeting::kid(ks, s.a, i);
-        let y = meeting::kid(ks, s.b, i).invert_if(inv);
-        i += 1;
+        let y = meeting::kid(ks, s.b, i).invert_if(s.inv);
         if !heed::quick(ws, n, memory, x, y, depth) {
             r = r.and(unify_pair(ws, ks, n, rule, text, memory, x, y, depth));
         }
@@ -131,23 +127,17 @@ pub fn unify_objects<'a>(
         (does (unify_f (texts rule.now text.now) n depth) (decode ws.old ks.now n)
         (plan_means ks.now (texts rule.now text.now) (plans.Object s))) result }
 {
-    let inv = s.inv;
     let mut r = UnifyResult::from(s.na == s.nb);
-    let mut j: u32 = 0;
-    while j < s.na {
+    for j in 0..s.na {
         let x = meeting::kid(ks, s.a, j);
         let f = meeting::seek_near(ks, meeting::kid_name(ks, s.a, j), j, s.b, s.nb, rule, text);
-        j += 1;
-        match f {
-            Some(t) => {
-                let u = t.invert_if(inv);
-                if !heed::quick(ws, n, memory, x, u, depth) {
-                    r = r.and(unify_pair(ws, ks, n, rule, text, memory, x, u, depth));
-                }
-            }
-            None => {
-                r = r.and(UnifyResult::Failure);
-            }
+        let Some(t) = f else {
+            r = r.and(UnifyResult::Failure);
+            continue;
+        };
+        let u = t.invert_if(s.inv);
+        if !heed::quick(ws, n, memory, x, u, depth) {
+            r = r.and(unify_pair(ws, ks, n, rule, text, memory, x, u, depth));
         }
     }
     r

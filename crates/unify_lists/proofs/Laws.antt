@@ -73,10 +73,10 @@ list_rest v xs ys i = zipped v (types_in (drop i xs)) (types_in (drop i ys))
 pub record ListLeft (x : Texts) (ws₀ ks m₀ : List ℕ) (n : ℕ) (xs ys : List ℕ) (v : Bool) (ws m : List ℕ) (r : UnifyResult) (i : ℕ) : Type 0 where
   pub going : Going x ws₀ ks m₀ n n (unify_types x (decode ws₀ ks n) (types_in xs) (types_in ys) v) ws m (answer_of r) (list_rest v xs ys i)
 
--- the same, and the next pair's second type is in the word b
-pub record ListNext (x : Texts) (ws₀ ks m₀ : List ℕ) (n : ℕ) (xs ys : List ℕ) (v : Bool) (ws m : List ℕ) (r : UnifyResult) (i b : ℕ) : Type 0 where
+-- the same, and the next pair is of the types in the words a and b
+pub record ListNext (x : Texts) (ws₀ ks m₀ : List ℕ) (n : ℕ) (xs ys : List ℕ) (v : Bool) (ws m : List ℕ) (r : UnifyResult) (i a b : ℕ) : Type 0 where
   pub going : Going x ws₀ ks m₀ n n (unify_types x (decode ws₀ ks n) (types_in xs) (types_in ys) v) ws m (answer_of r)
-      ((ty_of (get_or xs i 0), ty_of b) ∷ list_rest v xs ys (i + 1))
+      ((ty_of a, ty_of b) ∷ list_rest v xs ys (i + 1))
 
 lists_length : (xs : List ℕ) → length (types_in xs) ≡ length xs
 lists_length xs = length-map xs ty_of
@@ -115,17 +115,17 @@ module _ {x : Texts} {ws ks m : List ℕ} {n : ℕ} {xs ys : List ℕ} {inv : In
   }
 
 module _ {x : Texts} {ws₀ ks m₀ : List ℕ} {n : ℕ} {xs ys : List ℕ} {v : Bool} {ws m : List ℕ} {r : UnifyResult} {i : ℕ} where
-  pub list_pair : {b : ℕ} → ListLeft x ws₀ ks m₀ n xs ys v ws m r i → length xs ≡ length ys → i < length xs → ty_of b ≡ flip v (ty_of (get_or ys i 0))
-      → ListNext x ws₀ ks m₀ n xs ys v ws m r i b
-  list_pair g e h eb = record {
-    going = going_to refl (list_more v xs ys i h (omega arith) ∙ ap (λ (t : Ty). (ty_of (get_or xs i 0), t) ∷ list_rest v xs ys (i + 1)) (sym eb)) g.going;
+  pub list_pair : {a b t : ℕ} → ListLeft x ws₀ ks m₀ n xs ys v ws m r i → length xs ≡ length ys → i < length xs → a ≡ get_or xs i 0 → t ≡ get_or ys i 0
+      → ty_of b ≡ flip v (ty_of t) → ListNext x ws₀ ks m₀ n xs ys v ws m r i a b
+  list_pair g e h ea et eb = record {
+    going = going_to refl (list_more v xs ys i h (omega arith) ∙ (λ k. (ty_of (sym ea k), (ap (λ w. flip v (ty_of w)) (sym et) ∙ sym eb) k) ∷ list_rest v xs ys (i + 1))) g.going;
   }
 
-  pub list_asks : {b : ℕ} → ListNext x ws₀ ks m₀ n xs ys v ws m r i b → Asked x ws ks m n n ((ty_of (get_or xs i 0), ty_of b) ∷ [])
+  pub list_asks : {a b : ℕ} → ListNext x ws₀ ks m₀ n xs ys v ws m r i a b → Asked x ws ks m n n ((ty_of a, ty_of b) ∷ [])
   list_asks p = going_pair p.going
 
-  pub list_next : {b : ℕ} {ws' m' : List ℕ} {q r' : UnifyResult} → ListNext x ws₀ ks m₀ n xs ys v ws m r i b
-      → Unified x ws ks m ws' m' n (unify_f x n n (decode ws ks n) (ty_of (get_or xs i 0)) (ty_of b)) q → answer_of r' ≡ both (answer_of r) (answer_of q)
+  pub list_next : {a b : ℕ} {ws' m' : List ℕ} {q r' : UnifyResult} → ListNext x ws₀ ks m₀ n xs ys v ws m r i a b
+      → Unified x ws ks m ws' m' n (unify_f x n n (decode ws ks n) (ty_of a) (ty_of b)) q → answer_of r' ≡ both (answer_of r) (answer_of q)
       → ListLeft x ws₀ ks m₀ n xs ys v ws' m' r' (i + 1)
   list_next p l f = record { going = going_to (sym f) refl (going_on p.going l) }
 

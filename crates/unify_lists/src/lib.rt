@@ -57,12 +57,9 @@ pub fn unify_lists<'a>(
         return UnifyResult::Failure;
     }
     let mut r = UnifyResult::Success;
-    let mut i: usize = 0;
-    while i < xs.len() {
-        let x = Type(xs[i]);
-        let y = Type(ys[i]).invert_if(inv);
-        i += 1;
-        r = r.and(unify::unify(ws, ks, n, rule, text, memory, x, y, n));
+    for (x, y) in xs.iter().zip(ys) {
+        let y = Type(*y).invert_if(inv);
+        r = r.and(unify::unify(ws, ks, n, rule, text, memory, Type(*x), y, n));
     }
     r
 }
@@ -95,19 +92,14 @@ pub fn unify_entries<'a>(
     let na = entries(xs);
     let nb = entries(ys);
     let mut r = UnifyResult::from(na == nb);
-    let mut j: u32 = 0;
-    while j < na {
+    for j in 0..na {
         let x = meeting::kid(xs, 0, j);
         let f = meeting::seek(ys, meeting::kid_name(xs, 0, j), 0, nb, rule, text);
-        j += 1;
-        match f {
-            Some(t) => {
-                r = r.and(unify::unify(ws, ks, n, rule, text, memory, x, t.invert_if(inv), n));
-            }
-            None => {
-                r = r.and(UnifyResult::Failure);
-            }
-        }
+        let q = match f {
+            Some(t) => unify::unify(ws, ks, n, rule, text, memory, x, t.invert_if(inv), n),
+            None => UnifyResult::Failure,
+        };
+        r = r.and(q);
     }
     r
 }
@@ -153,10 +145,7 @@ pub fn unify_impl_type<'a>(
         (unify_impl_type (texts rule.now text.now) (decode ws.old ks.now n)
         (impl_means a xs.now) (impl_means b ys.now)) result }
 {
-    let Impl::Trait(i) = a else {
-        return UnifyResult::Indeterminate;
-    };
-    let Impl::Trait(j) = b else {
+    let (Impl::Trait(i), Impl::Trait(j)) = (a, b) else {
         return UnifyResult::Indeterminate;
     };
     if i != j {

@@ -2,7 +2,7 @@
 -- code reads.
 -- Assumes nothing.
 use mathlib.Core.Path.{◌≡◌, refl, ap, sym, ◌∙◌}
-use mathlib.Core.Bool.{Bool, false, ◌&&◌}
+use mathlib.Core.Bool.{false, ◌&&◌}
 use mathlib.Core.List.{List, [], ◌∷◌}
 use Prim.Native.Nat.{ℕ, ◌+◌, ◌≤◌, ◌<◌}
 use native.Mathlib.Omega.{arith}
@@ -29,9 +29,6 @@ use Rattle.layout.proofs.HeldLaws.{held_by_lem}
 use Rattle.walk.specs.Read.{nil_by}
 
 -- one node
-
-pub nil_told : {v q w : Held} {b : Bool} → v ≡ w → v ≡ q → b ≡ nil_by q → b ≡ nil_by w
-nil_told e s h = h ∙ ap nil_by (sym s ∙ e)
 
 abbrev pub mod_in : Env → (Ty → force.Mod) → List ℕ → Held → force.Mod
 mod_in e g ks (Some (i, k)) = mod_of_state e g (nodes.Known false (kind_means ks k))

@@ -4,7 +4,6 @@
 ghost use Rattle.std.specs.Prelude.{◌≡◌, ◌≤◌, ◌<◌, length};
 ghost use Rattle.scope.specs.Types.{ty_of};
 ghost use Rattle.scope.specs.Unify.{occurs, self_inverse_of};
-ghost use Rattle.scope.specs.Force.{has_def};
 ghost use Rattle.layout.specs.Words.{node_words, decode};
 ghost use Rattle.layout.specs.Meaning.{read_at, held_in, kind_means, Linked};
 ghost use Rattle.chart.specs.Words.{records_of};
@@ -41,10 +40,8 @@ fn look(ws: &[u32], ks: &[u32], n: u32, x: TypeIdx, kind: Kind) -> Glance
     requires { Stands ws.now ks.now n × (1 < n) }
     ensures { Looked (decode ws.now ks.now n) n x.0 (kind_means ks.now kind).kids result }
 {
-    let mut j: u32 = 0;
-    while j < kind.count {
+    for j in 0..kind.count {
         let kid = layout::child_of(ks, kind, j).ty;
-        j += 1;
         let Some(root) = roots::near(ws, n, kid) else {
             return Glance::Deep;
         };
@@ -116,13 +113,7 @@ pub fn nil_at(ws: &[u32], n: u32, i: TypeIdx) -> bool
     requires { node_words n ≤ length ws.now }
     ensures { result ≡ nil_by (held_in (read_at ws.now n i.0)) }
 {
-    let Some((_, kind)) = layout::held_at(ws, n, i) else {
-        return false;
-    };
-    if kind.code == kinds::TUPLE {
-        return kind.count == 0;
-    }
-    false
+    layout::held_at(ws, n, i).is_some_and(|(_, kind)| kind.code == kinds::TUPLE && kind.count == 0)
 }
 
 // A root is told at once.
@@ -137,33 +128,17 @@ pub fn is_nil(ws: &[u32], n: u32, t: Type) -> bool
     nil_at(ws, n, roots::find(ws, n, t).idx())
 }
 
-// A kind that is a definition.
-fn has_def(code: u32) -> bool
-    ensures { result ≡ has_def code }
-{
-    if code == kinds::OPAQUE {
-        return true;
-    }
-    if code == kinds::STRUCT {
-        return true;
-    }
-    if code == kinds::ENUM {
-        return true;
-    }
-    code == kinds::UNION
-}
-
-// get_mod's answer for a kind that is no Ref.
+// get_mod's answer for a kind that is no Ref: one that is a definition has a number in the chart.
 fn mod_of(chart: &[u32], kind: Kind) -> Mod
     ensures { mod_means result ≡ mod_by (records_of chart.now) kind.code kind.number }
 {
-    if has_def(kind.code) {
-        return Mod::Def(chart::def_at(chart, kind.number));
+    match kind.code {
+        kinds::OPAQUE | kinds::STRUCT | kinds::ENUM | kinds::UNION => {
+            Mod::Def(chart::def_at(chart, kind.number))
+        }
+        kinds::ERROR => Mod::Error,
+        _ => Mod::Nothing,
     }
-    if kind.code == kinds::ERROR {
-        return Mod::Error;
-    }
-    Mod::Nothing
 }
 
 // A definition's def number, through Refs.
@@ -172,20 +147,13 @@ pub fn get_mod(ws: &[u32], ks: &[u32], n: u32, chart: &[u32], t: Type) -> Mod
     ensures { Modded ws.now ks.now n chart.now t.0 result }
 {
     let mut cur = t;
-    let mut left = n;
-    while 0 < left {
+    for _ in 0..n {
         let root = roots::find(ws, n, cur).idx();
-        let Some((_, kind)) = layout::held_at(ws, n, root) else {
-            return Mod::Nothing;
-        };
-        if kind.code != kinds::REF {
-            return mod_of(chart, kind);
+        match layout::held_at(ws, n, root) {
+            Some((_, kind)) if kind.code != kinds::REF => return mod_of(chart, kind),
+            Some((_, kind)) if kind.count > 0 => cur = layout::child_of(ks, kind, 0).ty,
+            _ => return Mod::Nothing,
         }
-        if kind.count < 1 {
-            return Mod::Nothing;
-        }
-        cur = layout::child_of(ks, kind, 0).ty;
-        left -= 1;
     }
     Mod::Nothing
 }

@@ -1,36 +1,32 @@
--- `book::find_free` meets its contract. The invariant: what is found from place i on is what is found in the whole. The measure is how many places are left.
+-- `book::find_free` meets its contract: the test is made of each place.
 -- Assumes nothing.
-use mathlib.Core.Path.{sym, ◌∙◌}
-use Prim.Native.Nat.{◌-◌}
-use native.Mathlib.Omega.{arith}
+use mathlib.Core.Path.{◌≡◌, refl, sym, ◌∙◌}
+use Prim.Native.Nat.{ℕ}
+use lib.Dec.{eqb}
+use borrow.Author.Rules.{rules}
+use borrow.Author.Tests.{tests}
+use Rattle.std.proofs.lemmas.Iterator.{YieldsList-from_range, serves_from_Range}
+use Rattle.std.proofs.lemmas.Iterator.Adapters.{option_map_id}
+use Rattle.std.proofs.lemmas.Iterator.Search.{find_from_yields_List}
 use Rattle.scope.specs.States.{is_free}
-use Rattle.book.specs.Places.{place_of}
-use Rattle.book.proofs.Places.{book_lies}
-use Rattle.book.proofs.Names.{place_free, place_held}
-use Rattle.book.proofs.Search.{search_start, search_found, search_on, search_end}
+use Rattle.book.specs.Places.{PlaceLies, place_of}
+use Rattle.book.specs.Words.{name_length_in, place_at}
+use Rattle.book.proofs.Names.{free_is, place_there}
+use Rattle.book.proofs.Search.{find_places}
 use Rattle.book.proofs.find_free.Goals as goal
 
-pub loop-i-init : goal.loop-i-init
-loop-i-init c = (omega arith, search_start is_free (place_of c.args.bs.now))
-
-pub place-requires : goal.place-requires
-place-requires c = let b = book_lies c.args.bs.now c.requires in
-    rw c.room_of-room.ensures (record { words = b.words; index = c.loop-i-test.true })
-
-pub returns-then-name_length-eq0 : goal.returns-then-name_length-eq0
-returns-then-name_length-eq0 c = let a = c.args in
-    let t = c.loop-i-test.true in
-    let w = rw c.room_of-room.ensures at c.place.ensures in
-    let e = place_free a.bs.now _ c.loop-i.i w (sym c.name_length.ensures ∙ c.if-name_length-eq0.true) in
-    sym (search_found is_free (place_of a.bs.now) c.loop-i.i t e) ∙ c.loop-i.invariant.1
-
-pub loop-i-preserved : goal.loop-i-preserved
-loop-i-preserved c = let a = c.args in
-    let t = c.loop-i-test.true in
-    let w = rw c.room_of-room.ensures at c.place.ensures in
-    let e = place_held a.bs.now _ c.loop-i.i w (λ z. c.if-name_length-eq0.false (c.name_length.ensures ∙ z)) in
-    (omega arith, sym (search_on is_free (place_of a.bs.now) c.loop-i.i t e) ∙ c.loop-i.invariant.1)
+pub find-requires-clause-callable : goal.find-requires-clause-callable
+find-requires-clause-callable c =
+    let bs = c.args.bs.now in
+    let r = c.room_of-room.result in
+    serves_from_Range (λ x q p. search rules)
+    (λ x a b. let lies : (j : ℕ) → j ≡ x → PlaceLies bs r.nodes r.children j = place_there bs c.requires c.room_of-room.ensures b in search (rules, lies))
 
 pub returns : goal.returns
-returns c = let a = c.args in
-    sym (search_end is_free (place_of a.bs.now) c.loop-i.i c.loop-i.invariant.0 (omega arith)) ∙ c.loop-i.invariant.1
+returns c =
+    let bs = c.args.bs.now in
+    let r = c.room_of-room.result in
+    let t = λ (i : ℕ). eqb (name_length_in (place_at bs r.nodes r.children i)) 0 in
+    sym (option_map_id _)
+    ∙ (find_from_yields_List t _ _ _ c.find.ensures.ran (YieldsList-from_range 0 8 8 refl refl) (λ x b q k. search (rules, tests))
+    ∙ find_places is_free (place_of bs) t (λ j h. rw c.room_of-room.ensures (sym (free_is _ _ _))))

@@ -1,43 +1,35 @@
--- `book::find_name` meets its contract. The invariant: what is found from place i on is what is found in the whole. The measure is how many places are left.
+-- `book::find_name` meets its contract: each place's name is compared.
 -- Assumes nothing.
-use mathlib.Core.Path.{sym, ◌∙◌}
-use mathlib.Core.Bool.{true, false}
-use Prim.Native.Nat.{◌-◌}
-use native.Mathlib.Omega.{arith}
+use mathlib.Core.Path.{◌≡◌, refl, sym, ◌∙◌}
+use Prim.Native.Nat.{ℕ}
+use mathlib.Core.List.{List}
+use borrow.Author.Rules.{rules}
+use borrow.Author.Tests.{tests}
+use Rattle.std.proofs.lemmas.Iterator.{YieldsList-from_range, serves_from_Range}
+use Rattle.std.proofs.lemmas.Iterator.Adapters.{option_map_id}
+use Rattle.std.proofs.lemmas.Iterator.Search.{find_from_yields_List}
 use Rattle.scope.specs.States.{under}
-use Rattle.book.specs.Places.{place_of}
-use Rattle.book.proofs.Places.{book_lies}
-use Rattle.book.proofs.Names.{place_name, place_under}
-use Rattle.book.proofs.Search.{search_start, search_found, search_on, search_end}
+use Rattle.book.specs.Places.{PlaceLies, NameLies, held_under, place_of}
+use Rattle.book.specs.Words.{place_at}
+use Rattle.book.proofs.Names.{under_is, place_there, place_named}
+use Rattle.book.proofs.Search.{find_places}
 use Rattle.book.proofs.find_name.Goals as goal
 
-pub loop-i-init : goal.loop-i-init
-loop-i-init c = let a = c.args in
-    (omega arith, search_start (under a.name.now) (place_of a.bs.now))
-
-pub place-requires : goal.place-requires
-place-requires c = let b = book_lies c.args.bs.now c.requires in
-    rw c.room_of-room.ensures (record { words = b.words; index = c.loop-i-test.true })
-
-pub same_name-requires : goal.same_name-requires
-same_name-requires c = let a = c.args in
-    let w = rw c.room_of-room.ensures at c.place.ensures in
-    rw w (place_name a.bs.now c.loop-i.i c.requires c.loop-i-test.true)
-
-pub returns-then-same_name : goal.returns-then-same_name
-returns-then-same_name c = let a = c.args in
-    let t = c.loop-i-test.true in
-    let w = rw c.room_of-room.ensures at c.place.ensures in
-    let e = place_under a.bs.now _ c.loop-i.i w a.name.now true (sym c.if-same_name.true ∙ c.same_name.ensures) in
-    sym (search_found (under a.name.now) (place_of a.bs.now) c.loop-i.i t e) ∙ c.loop-i.invariant.1
-
-pub loop-i-preserved : goal.loop-i-preserved
-loop-i-preserved c = let a = c.args in
-    let t = c.loop-i-test.true in
-    let w = rw c.room_of-room.ensures at c.place.ensures in
-    let e = place_under a.bs.now _ c.loop-i.i w a.name.now false (sym c.if-same_name.false ∙ c.same_name.ensures) in
-    (omega arith, sym (search_on (under a.name.now) (place_of a.bs.now) c.loop-i.i t e) ∙ c.loop-i.invariant.1)
+pub find-requires-clause-callable : goal.find-requires-clause-callable
+find-requires-clause-callable c =
+    let bs = c.args.bs.now in
+    let r = c.room_of-room.result in
+    serves_from_Range (λ x q p. search rules)
+    (λ x a b y e.
+    let lies : (j : ℕ) → j ≡ x → PlaceLies bs r.nodes r.children j = place_there bs c.requires c.room_of-room.ensures b in
+    let named : (j : ℕ) → j ≡ x → (ps : List ℕ) → ps ≡ place_at bs r.nodes r.children j → NameLies ps = place_named bs c.requires c.room_of-room.ensures b in
+    (search (rules, lies), λ _ _ _ _ _ _ _ _ _ _ place _. named y.now e place.result.now place.ensures))
 
 pub returns : goal.returns
-returns c = let a = c.args in
-    sym (search_end (under a.name.now) (place_of a.bs.now) c.loop-i.i c.loop-i.invariant.0 (omega arith)) ∙ c.loop-i.invariant.1
+returns c =
+    let bs = c.args.bs.now in
+    let r = c.room_of-room.result in
+    let t = λ (i : ℕ). held_under c.args.name.now (place_at bs r.nodes r.children i) in
+    sym (option_map_id _)
+    ∙ (find_from_yields_List t _ _ _ c.find.ensures.ran (YieldsList-from_range 0 8 8 refl refl) (λ x b q k. search (rules, tests))
+    ∙ find_places (under c.args.name.now) (place_of bs) t (λ j h. rw c.room_of-room.ensures (sym (under_is _ _ _ _))))

@@ -1,45 +1,32 @@
--- `book::same_name` meets its contract. The invariant: from byte i on the two say what they say as a whole. The measure is what is left of the name.
+-- `book::same_name` meets its contract: a free place has no name, names of other lengths are others, and those of one length are compared byte by byte.
 -- Assumes nothing.
-use mathlib.Core.Path.{◌≡◌, refl, sym, ◌∙◌}
-use Prim.Native.Nat.{◌+◌, ◌-◌}
+use mathlib.Core.Path.{refl, ◌∙◌}
+use mathlib.Core.Logic.{inl, inr}
+use Prim.Native.Nat.{ℕ, ◌+◌}
 use native.Mathlib.Omega.{arith}
+use lib.Dec.{eqb}
 use lib.ListN.{get_or}
-use Rattle.book.specs.Words.{name_length_in}
-use Rattle.book.proofs.Names.{compare_free, compare_length, compare_stop, compare_step, compare_end}
+use borrow.Author.Rules.{rules}
+use borrow.Author.Tests.{tests}
+use Rattle.std.proofs.lemmas.Iterator.{YieldsList-from_range}
+use Rattle.std.proofs.lemmas.Iterator.Search.{all_from_yields_List}
+use Rattle.layout.proofs.Lists.{all_range}
+use Rattle.book.proofs.Names.{told_free, told_length, told_each}
 use Rattle.book.proofs.same_name.Goals as goal
-
-pub returns-then-n-eq0 : goal.returns-then-n-eq0
-returns-then-n-eq0 c = let a = c.args in
-    compare_free a.ps.now a.name.now c.requires (sym c.name_length-n.ensures ∙ c.if-n-eq0.true)
+use Rattle.book.proofs.same_name.Goals.{then-n-ne0, else-n-ne0}
 
 pub returns-then-n-name : goal.returns-then-n-name
 returns-then-n-name c = let a = c.args in
-    let n = c.name_length-n.ensures in
-    let held : name_length_in a.ps.now ≡ 0 → ⊥ = λ e. c.if-n-eq0.false (n ∙ e) in
-    compare_length a.ps.now a.name.now c.requires held (λ e. c.if-n-name.true (n ∙ e))
+    let t = λ (i : ℕ). eqb (get_or a.ps.now (i + 1) 0) (get_or a.name.now i 0) in
+    let n = c.name_length-n in
+    let told = c.if-n-name.true in
+    all_from_yields_List t _ _ _ c.all.ensures.ran (YieldsList-from_range 0 n.result n.result refl (omega arith)) (λ x b q k. search (rules, tests))
+    ∙ (all_range t 0 n.result ∙ told_each a.ps.now a.name.now c.requires n.ensures told.0 told.1 t (λ i. refl))
 
-pub loop-i-init : goal.loop-i-init
-loop-i-init c = (omega arith, refl)
-
-pub returns-then-word-byte : goal.returns-then-word-byte
-returns-then-word-byte c = let a = c.args in
+pub returns-else-n-name : goal.returns-else-n-name
+returns-else-n-name c = let a = c.args in
     let n = c.name_length-n.ensures in
-    let held : name_length_in a.ps.now ≡ 0 → ⊥ = λ e. c.if-n-eq0.false (n ∙ e) in
-    let len = sym n ∙ c.if-n-name.false in
-    let other : get_or a.ps.now (c.loop-i.i + 1) 0 ≡ get_or a.name.now c.loop-i.i 0 → ⊥ = λ e. c.if-word-byte.true (c.word.ensures ∙ (e ∙ sym c.byte.ensures)) in
-    compare_stop a.ps.now a.name.now c.requires held len c.loop-i.i c.loop-i.invariant.1 (omega arith) other
-
-pub loop-i-preserved : goal.loop-i-preserved
-loop-i-preserved c = let a = c.args in
-    let n = c.name_length-n.ensures in
-    let held : name_length_in a.ps.now ≡ 0 → ⊥ = λ e. c.if-n-eq0.false (n ∙ e) in
-    let len = sym n ∙ c.if-n-name.false in
-    let same = sym c.word.ensures ∙ (c.if-word-byte.false ∙ c.byte.ensures) in
-    (omega arith, compare_step a.ps.now a.name.now c.requires held len c.loop-i.i c.loop-i.invariant.1 (omega arith) same)
-
-pub returns : goal.returns
-returns c = let a = c.args in
-    let n = c.name_length-n.ensures in
-    let held : name_length_in a.ps.now ≡ 0 → ⊥ = λ e. c.if-n-eq0.false (n ∙ e) in
-    let len = sym n ∙ c.if-n-name.false in
-    compare_end a.ps.now a.name.now c.requires held len c.loop-i.i c.loop-i.invariant.1 (omega arith)
+    elim c.if-n-ne0.branch [
+      | then-n-ne0 w ↦ w.t-6-is ∙ told_length a.ps.now a.name.now c.requires n w.if-n-ne0.true (λ q. elim c.if-n-name.either [ inl p ↦ p.1 q | inr z ↦ w.if-n-ne0.true z ])
+      | else-n-ne0 w ↦ w.t-6-is ∙ told_free a.ps.now a.name.now c.requires n w.if-n-ne0.false
+    ]

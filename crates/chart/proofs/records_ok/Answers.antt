@@ -1,34 +1,23 @@
--- `chart::records_ok` meets its contract. The loop's invariant: the records from n on pass if and only if all of them do. The measure is what is left of
--- them. Assumes nothing.
-use mathlib.Core.Path.{refl, sym, ◌∙◌}
+-- `chart::records_ok` meets its contract: the test is made of each record, by its number.
+-- Assumes nothing.
+use mathlib.Core.Path.{refl, ◌∙◌}
+use Prim.Native.Nat.{ℕ}
 use native.Mathlib.Omega.{arith}
-use Prim.Native.Nat.{◌-◌}
-use Rattle.scope.specs.Chart.{record_ok, no_record}
-use Rattle.names.proofs.Tests.{passes, fails, all_step, all_fails, all_end}
+use lib.ListN.{length}
+use borrow.Author.Rules.{rules}
+use borrow.Author.Tests.{tests}
+use Rattle.std.proofs.lemmas.Iterator.{YieldsList-from_range}
+use Rattle.std.proofs.lemmas.Iterator.Search.{all_from_yields_List}
+use Rattle.scope.specs.Chart.{record_ok, record_at, no_record}
+use Rattle.names.proofs.Tests.{all_numbers}
 use Rattle.chart.specs.Words.{records_of}
-use Rattle.chart.specs.Env.{chart_in}
+use Rattle.chart.specs.Env.{chart_in, chart_alone}
 use Rattle.chart.proofs.records_ok.Goals as goal
 
-pub loop-n-init : goal.loop-n-init
-loop-n-init c = (omega arith, refl)
-
-pub returns-then-not-record_ok : goal.returns-then-not-record_ok
-returns-then-not-record_ok c = let s = c.args in
-    let ok = record_ok (chart_in s.chart.now s.rule.now s.text.now) in
-    sym (all_fails ok (records_of s.chart.now) no_record c.loop-n.n (omega arith) (fails c.record_ok.ensures c.if-not-record_ok.true-raw)) ∙ c.loop-n.invariant.1
-
-pub overflow_add-n : goal.overflow_add-n
-overflow_add-n c = omega arith
-
-pub loop-n-smaller : goal.loop-n-smaller
-loop-n-smaller c = omega arith
-
-pub loop-n-preserved : goal.loop-n-preserved
-loop-n-preserved c = let s = c.args in
-    let ok = record_ok (chart_in s.chart.now s.rule.now s.text.now) in
-    let step = all_step ok (records_of s.chart.now) no_record c.loop-n.n (omega arith) (passes c.record_ok.ensures c.if-not-record_ok.false-raw) in
-    (omega arith, sym step ∙ c.loop-n.invariant.1)
-
 pub returns : goal.returns
-returns c = let s = c.args in
-    sym (all_end (record_ok (chart_in s.chart.now s.rule.now s.text.now)) (records_of s.chart.now) no_record c.loop-n.n (omega arith)) ∙ c.loop-n.invariant.1
+returns c = let a = c.args in
+    let e = chart_in a.chart.now a.rule.now a.text.now in
+    let t = λ (n : ℕ). record_ok e (record_at (chart_alone a.chart.now) n) in
+    let n = length (records_of a.chart.now) in
+    all_from_yields_List t _ _ _ c.all.ensures.ran (YieldsList-from_range 0 c.record_count-count.result n refl (omega (arith, c.record_count-count.ensures))) (λ x b q k. search (rules, tests))
+    ∙ all_numbers (record_ok e) (records_of a.chart.now) no_record t (λ i h. refl)

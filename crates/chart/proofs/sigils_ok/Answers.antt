@@ -1,48 +1,24 @@
--- `chart::sigils_ok` meets its contract. The loop's invariant: the sigils from i on pass if and only if all four do. The measure is what is left of
--- them. Assumes nothing.
-use mathlib.Core.Path.{refl, sym, ◌∙◌}
-use native.Mathlib.Omega.{arith}
-use Prim.Native.Nat.{◌-◌}
+-- `chart::sigils_ok` meets its contract: the test is made of each of the four.
+-- Assumes nothing.
+use mathlib.Core.Path.{refl, ap, sym, ◌∙◌}
+use mathlib.Core.List.{[]}
+use Prim.Native.Nat.{ℕ}
+use borrow.Author.Rules.{rules}
+use borrow.Author.Tests.{tests}
+use Rattle.std.proofs.lemmas.Iterator.{YieldsList-from_range}
+use Rattle.std.proofs.lemmas.Iterator.Search.{all_from_yields_List}
+use Rattle.std.specs.List.{list_all, range_with_len}
 use Rattle.scope.specs.Names.{name}
-use Rattle.scope.specs.Chart.{sigil_ok}
+use Rattle.scope.specs.Chart.{sigil_ok, sigil_at}
 use Rattle.names.specs.Place.{texts}
-use Rattle.names.proofs.Tests.{passes, fails, all_step, all_fails, all_end}
-use Rattle.chart.specs.Env.{sigils_of}
-use Rattle.chart.proofs.Laws as laws
+use Rattle.names.proofs.Tests.{all_numbers}
+use Rattle.chart.specs.Env.{env_of, sigils_of}
+use Rattle.chart.proofs.Laws.{sigils_length}
 use Rattle.chart.proofs.sigils_ok.Goals as goal
 
-pub loop-i-init : goal.loop-i-init
-loop-i-init c = (omega arith, refl)
-
-pub returns-then-not-in_text : goal.returns-then-not-in_text
-returns-then-not-in_text c = let s = c.args in
-    let names = sigils_of s.beside.sigils in
-    let ok = sigil_ok (texts s.rule.now s.text.now) in
-    sym (all_fails ok names (name 0 0 0) c.loop-i.i (omega (arith, laws.sigils_length s.beside.sigils))
-    (rw (← c.sigil_at-sigil.ensures) (laws.sigil_strays _ _ (fails c.in_text.ensures c.if-not-in_text.true-raw)))) ∙ c.loop-i.invariant.1
-
-pub returns-then-sigil-gt-MAX_NAME : goal.returns-then-sigil-gt-MAX_NAME
-returns-then-sigil-gt-MAX_NAME c =
-    let s = c.args in
-    let names = sigils_of s.beside.sigils in
-    let ok = sigil_ok (texts s.rule.now s.text.now) in
-    sym (all_fails ok names (name 0 0 0) c.loop-i.i (omega (arith, laws.sigils_length s.beside.sigils))
-    (rw (← c.sigil_at-sigil.ensures) (laws.sigil_long _ _ (passes c.in_text.ensures c.if-not-in_text.false-raw) c.if-sigil-gt-MAX_NAME.true))) ∙ c.loop-i.invariant.1
-
-pub overflow_add-i : goal.overflow_add-i
-overflow_add-i c = omega arith
-
-pub loop-i-smaller : goal.loop-i-smaller
-loop-i-smaller c = omega arith
-
-pub loop-i-preserved : goal.loop-i-preserved
-loop-i-preserved c = let s = c.args in
-    let names = sigils_of s.beside.sigils in
-    let ok = sigil_ok (texts s.rule.now s.text.now) in
-    let step = all_step ok names (name 0 0 0) c.loop-i.i (omega (arith, laws.sigils_length s.beside.sigils))
-    (rw (← c.sigil_at-sigil.ensures) (laws.sigil_fits _ _ (passes c.in_text.ensures c.if-not-in_text.false-raw) c.if-sigil-gt-MAX_NAME.false)) in
-    (omega arith, sym step ∙ c.loop-i.invariant.1)
-
 pub returns : goal.returns
-returns c = let s = c.args in
-    sym (all_end (sigil_ok (texts s.rule.now s.text.now)) (sigils_of s.beside.sigils) (name 0 0 0) c.loop-i.i (omega (arith, laws.sigils_length s.beside.sigils))) ∙ c.loop-i.invariant.1
+returns c = let a = c.args in
+    let ok = sigil_ok (texts a.rule.now a.text.now) in
+    let t = λ (i : ℕ). ok (sigil_at (env_of [] a.beside [] []) i) in
+    all_from_yields_List t _ _ _ c.all.ensures.ran (YieldsList-from_range 0 4 4 refl refl) (λ x b q k. search (rules, tests))
+    ∙ (ap (λ n. list_all t (range_with_len 0 n)) (sym (sigils_length a.beside.sigils)) ∙ all_numbers ok (sigils_of a.beside.sigils) (name 0 0 0) t (λ i h. refl))

@@ -6,17 +6,9 @@ use native.Mathlib.Omega.{arith}
 use Rattle.chart.proofs.Laws as laws
 use Rattle.chart.proofs.word.Goals as goal
 
-pub bounds-chart-at : goal.bounds-chart-at
-bounds-chart-at c = omega (arith, laws.records_length c.args.chart.now, c.record_count.ensures)
+pub bounds-chart-i : goal.bounds-chart-i
+bounds-chart-i c = omega (arith, laws.records_length c.args.chart.now, c.record_count.ensures)
 
 pub returns-then-i-record_count : goal.returns-then-i-record_count
 returns-then-i-record_count c = let s = c.args in
     sym (laws.word_there s.chart.now s.n s.field (omega arith) (search rules))
-
-pub returns-then-field-eq-SORT_FIELD : goal.returns-then-field-eq-SORT_FIELD
-returns-then-field-eq-SORT_FIELD c = let s = c.args in
-    sym (laws.word_sort s.chart.now s.n s.field (omega arith) c.if-field-eq-SORT_FIELD.true)
-
-pub returns : goal.returns
-returns c = let s = c.args in
-    sym (laws.word_none s.chart.now s.n s.field (omega arith) c.if-field-eq-SORT_FIELD.false)

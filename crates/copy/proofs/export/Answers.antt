@@ -1,7 +1,6 @@
 -- `copy::export` meets its contract: three lists, one after another over one table, are what the export makes, and what the source remembers is
 -- remembered as its copy.
 -- Assumes nothing.
-use native.Mathlib.Omega.{arith}
 use Rattle.scope.specs.Limits.{MAX_NODES}
 use Rattle.copy.proofs.WholeLaws.{error_copyable, nil_copyable, list_copyable, remember_long, export_is}
 use Rattle.roots.proofs.KeptLaws.{cached_zeros}

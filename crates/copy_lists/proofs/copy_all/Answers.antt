@@ -1,7 +1,6 @@
 -- `copy_lists::copy_all` meets its contract. The loop's invariant: what is left of the list gives what the whole list gives, and the copies so far stand at the
--- front of the answer's list. The measure is what is left of its length.
+-- front of the answer's list.
 -- Assumes nothing.
-use Prim.Native.Nat.{◌-◌}
 use native.Mathlib.Omega.{arith}
 use lib.ListN.{length, length-map}
 use Rattle.scope.specs.Types.{ty_of}
@@ -15,30 +14,13 @@ pub loop-i-init : goal.loop-i-init
 loop-i-init c =
     (listing_start c.requires.all_copyable, c.requires.cached, refl)
 
-pub offset_bounds-ts-i : goal.offset_bounds-ts-i
-offset_bounds-ts-i c = omega arith
-
-pub bounds-ts-i : goal.bounds-ts-i
-bounds-ts-i c = omega arith
-
 pub copy-next-requires : goal.copy-next-requires
 copy-next-requires c =
     (listing_copyable c.loop-i.invariant.0 _ (listed_next c.args.ts.now c.loop-i.i c.loop-i-test.true) c.requires.all_copyable.source, c.loop-i.invariant.1)
 
-pub offset_bounds-out-i : goal.offset_bounds-out-i
-offset_bounds-out-i c =
-    omega (arith, c.loop-i-test.true)
-
 pub bounds-out-i : goal.bounds-out-i
 bounds-out-i c =
     omega (arith, c.loop-i-test.true, c.loop-i.invariant.0.wide, c.requires.ts_in_bounds)
-
-pub overflow_add-i : goal.overflow_add-i
-overflow_add-i c =
-    omega (arith, c.loop-i-test.true)
-
-pub loop-i-smaller : goal.loop-i-smaller
-loop-i-smaller c = omega arith
 
 pub loop-i-preserved : goal.loop-i-preserved
 loop-i-preserved c = (

@@ -2,6 +2,7 @@
 -- Assumes nothing.
 use mathlib.Core.Path.{refl, sym, ◌∙◌}
 use Rattle.layout.specs.declared.TypeState.TheVariants.{Known, Unknown, InferenceFailed}
+use Rattle.copy_parts.specs.Places.{params_in}
 use Rattle.copy_parts.proofs.PlaceLaws.{place_read, become_unknown, become_failed}
 use Rattle.copy_parts.proofs.state_place.Goals as goal
 
@@ -13,9 +14,9 @@ returns-in-Known c =
 pub returns-in-Unknown : goal.returns-in-Unknown
 returns-in-Unknown c =
     place_read (Unknown _) _ c.idx.ensures c.node_at.ensures (sym c.in-Unknown.is ∙ c.state_of.ensures)
-    (λ ks. become_unknown c.args.with c.args.params.now ks c.args.root _) (refl, refl)
+    (λ ks. become_unknown (params_in c.args.params) ks c.args.root _) (refl, refl)
 
 pub returns-in-InferenceFailed : goal.returns-in-InferenceFailed
 returns-in-InferenceFailed c =
     place_read InferenceFailed _ c.idx.ensures c.node_at.ensures (sym c.in-InferenceFailed.is ∙ c.state_of.ensures)
-    (λ ks. become_failed c.args.with c.args.params.now ks c.args.root) (refl, refl)
+    (λ ks. become_failed (params_in c.args.params) ks c.args.root) (refl, refl)

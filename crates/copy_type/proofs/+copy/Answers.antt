@@ -2,13 +2,12 @@
 -- `Filling`: what is left of them gives what all of them give, and those done stand in the run reserved for them. Beside it the cache keeps roots.
 -- Assumes nothing.
 use mathlib.Core.Path.{refl, ap, ◌∙◌}
-use Prim.Native.Nat.{◌-◌}
 use native.Mathlib.Omega.{arith}
 use Rattle.layout.specs.declared.Header.{Header}
 use Rattle.layout.proofs.LinkLaws.{clean_linked}
 use Rattle.layout.proofs.StoreLaws.{clean_nodes}
 use Rattle.needs.proofs.CountLaws.{kid_next}
-use Rattle.copy_type.proofs.FillLaws.{kids_few, kid_copyable, kid_room, filling_next}
+use Rattle.copy_type.proofs.FillLaws.{kid_copyable, kid_room, filling_next}
 use Rattle.copy_type.proofs.NodeLaws.{copied_shallow, place_few, copied_is, node_ready, filling_start, copied_node}
 use Rattle.copy_type.proofs.+copy.Goals as goal
 
@@ -26,12 +25,12 @@ root_place-requires t c =
 
 pub begin-new-requires : goal.begin-new-requires
 begin-new-requires t c =
-    node_ready _ _ _ _ _ _ _ _ _ _ _ _ c.requires.0 c.if-depth-eq0.false c.find_by-root.ensures.0 c.root_place.ensures
+    node_ready _ _ _ _ _ _ _ _ _ _ _ c.requires.0 c.if-depth-eq0.false c.find_by-root.ensures.0 c.root_place.ensures
     c.in-Node.is
 
 pub loop-j-init : goal.loop-j-init
 loop-j-init t c = (
-  filling_start _ _ _ _ _ _ _ _ _ _ _ _ c.requires.0 c.if-depth-eq0.false c.find_by-root.ensures.0 c.root_place.ensures
+  filling_start _ _ _ _ _ _ _ _ _ _ _ c.requires.0 c.if-depth-eq0.false c.find_by-root.ensures.0 c.root_place.ensures
       c.in-Node.is c.idx-at.ensures (ap (λ (yy : Header). yy.children) c.read_header-from.ensures) c.begin-new.ensures,
   c.find_by-root.ensures.1,
   refl,
@@ -56,14 +55,6 @@ move_child-requires t c =
     kid_room c.loop-j.invariant.0 c.loop-j-test.true _
     (kid_next c.args.sk.now _ _ _ c.child.result c.loop-j-test.true c.child.ensures) c.copy-next.ensures.0
 
-pub overflow_add-j : goal.overflow_add-j
-overflow_add-j t c =
-    omega (arith, c.loop-j-test.true, kids_few c.loop-j.invariant.0)
-
-pub loop-j-smaller : goal.loop-j-smaller
-loop-j-smaller t c =
-    omega (arith, c.loop-j-test.true)
-
 pub loop-j-preserved : goal.loop-j-preserved
 loop-j-preserved t c = (
   filling_next c.loop-j.invariant.0 c.loop-j-test.true _ (kid_next c.args.sk.now _ _ _ c.child.result c.loop-j-test.true c.child.ensures)
@@ -84,7 +75,7 @@ end-requires t c =
 
 pub returns-in-Is : goal.returns-in-Is
 returns-in-Is t c = (
-  copied_is _ _ _ _ _ _ _ _ _ _ _ _ c.requires.0 c.if-depth-eq0.false c.find_by-root.ensures.0
+  copied_is _ _ _ _ _ _ _ _ _ _ _ c.requires.0 c.if-depth-eq0.false c.find_by-root.ensures.0
       c.root_place.ensures c.in-Is.is,
   c.find_by-root.ensures.1,
 )
@@ -110,7 +101,7 @@ shape_of-ks t c = c.loop-j.invariant.0.long.kids
 
 pub returns-after-loop-j : goal.returns-after-loop-j
 returns-after-loop-j t c = (
-  copied_node _ _ _ _ _ _ _ _ _ _ _ _ c.requires.0 c.if-depth-eq0.false c.find_by-root.ensures.0 c.root_place.ensures
+  copied_node _ _ _ _ _ _ _ _ _ _ _ c.requires.0 c.if-depth-eq0.false c.find_by-root.ensures.0 c.root_place.ensures
       c.in-Node.is c.idx-at.ensures (ap (λ (yy : Header). yy.children) c.read_header-from.ensures) c.begin-new.ensures
       c.loop-j.invariant.0 c.loop-j-test.false c.inv.result c.idx.ensures c.end.ensures
       c.inv.ensures c.invert_if.ensures,

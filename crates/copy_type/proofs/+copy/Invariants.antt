@@ -5,7 +5,7 @@ use mathlib.Core.Path.{◌≡◌}
 use Prim.Native.Nat.{◌-◌}
 use lib.ListN.{length}
 use Rattle.roots.specs.Kept.{Cached}
-use Rattle.copy_parts.specs.Places.{list_of}
+use Rattle.copy_parts.specs.Places.{params_in}
 use Rattle.copy_type.proofs.FillLaws.{Filling}
 use Rattle.copy_type.proofs.+copy.Given as goal
 
@@ -14,8 +14,5 @@ decreases-copy l = l.depth
 
 abbrev pub invariant-loop-j : goal.invariant-loop-j
 invariant-loop-j l =
-    Filling l.sw l.sk l.n (list_of l.listed l.params) (l.depth - 1) l.first l.count l.from l.initial.table l.initial.h l.initial.ws l.initial.ks l.table l.h l.ws l.ks l.j
+    Filling l.sw l.sk l.n (params_in l.params) (l.depth - 1) l.first l.count l.from l.initial.table l.initial.h l.initial.ws l.initial.ks l.table l.h l.ws l.ks l.j
     × Cached l.sw l.n l.cache × (length l.cache ≡ length l.initial.cache)
-
-abbrev pub decreases-loop-j : goal.decreases-loop-j
-decreases-loop-j l = l.count - l.j

@@ -17,4 +17,4 @@ returns-in-Good c =
 
 pub returns-in-Run : goal.returns-in-Run
 returns-in-Run c =
-    glance_run c.requires.0 c.requires.1 c.find.ensures c.idx-root.ensures c.judge.ensures c.in-Run.is c.visits-most.ensures c.inverse_run.ensures
+    glance_run c.requires.0 c.requires.1 c.find.ensures c.idx-root.ensures c.judge.ensures c.in-Run.is c.visits.ensures c.inverse_run.ensures

@@ -1,8 +1,7 @@
 -- `kind_sound::child_names_fit` meets its contract. The loop's invariant: the names from j on, with the last one passed before them, are ascending if and
--- only if all names are. The measure is what is left of the children.
+-- only if all names are.
 -- Assumes nothing.
 use mathlib.Core.Path.{◌≡◌}
-use Prim.Native.Nat.{◌-◌}
 use lib.ListN.{drop}
 use Rattle.scope.specs.Names.{bytes}
 use Rattle.scope.specs.Kinds.{object_names_ok}
@@ -13,6 +12,3 @@ use Rattle.kind_sound.proofs.child_names_fit.Given as goal
 abbrev pub invariant-loop-j : goal.invariant-loop-j
 invariant-loop-j l = up_from (texts l.rule l.text) (bytes (texts l.rule l.text) (name_of l.last)) (drop l.j (child_names l.ks l.k.first l.k.count))
     ≡ object_names_ok (texts l.rule l.text) (child_names l.ks l.k.first l.k.count)
-
-abbrev pub decreases-loop-j : goal.decreases-loop-j
-decreases-loop-j l = l.k.count - l.j

@@ -1,40 +1,22 @@
--- `kind_sound::parameter_names_fit` meets its contract. The loop's invariant: the names from j on pass if and only if all do. The measure is what is left
--- of the parameters.
+-- `kind_sound::parameter_names_fit` meets its contract: the test is made of each parameter's name.
 -- Assumes nothing.
-use mathlib.Core.Path.{refl, sym, ap, ◌∙◌}
-use mathlib.Core.Option.{none}
-use Prim.Native.Nat.{◌-◌}
+use mathlib.Core.Path.{◌∙◌}
+use Prim.Native.Nat.{◌+◌}
 use native.Mathlib.Omega.{arith}
+use borrow.Author.Rules.{rules}
+use borrow.Author.Tests.{tests}
+use Rattle.std.proofs.lemmas.Iterator.{YieldsList-from_range}
+use Rattle.std.proofs.lemmas.Iterator.Search.{all_from_yields_List}
 use Rattle.scope.specs.Names.{named_or_none}
+use Rattle.scope.specs.Sound.{slot_name}
 use Rattle.names.specs.Place.{texts}
-use Rattle.names.proofs.Tests.{passes, fails, all_step, all_fails, all_end}
-use Rattle.kind_sound.proofs.NameLaws.{child_names, name_below, names_past, name_there}
+use Rattle.layout.specs.Words.{slot_at}
+use Rattle.kind_sound.proofs.NameLaws.{names_run}
 use Rattle.kind_sound.proofs.parameter_names_fit.Goals as goal
-
-pub loop-j-init : goal.loop-j-init
-loop-j-init c = refl
-
-pub returns-then-not-name_or_none : goal.returns-then-not-name_or_none
-returns-then-not-name_or_none c =
-    let a = c.args in
-    let p = named_or_none (texts a.rule.now a.text.now) in
-    sym (all_fails p (child_names a.ks.now a.k.first a.n) none c.loop-j.j (name_below a.ks.now a.k.first a.n c.loop-j.j c.loop-j-test.true)
-    (ap p (name_there a.ks.now a.k.first a.n c.loop-j.j c.loop-j-test.true c.child_of.result c.child_of.ensures) ∙ fails c.name_or_none.ensures c.if-not-name_or_none.true-raw)) ∙ c.loop-j.invariant
-
-pub overflow_add-j : goal.overflow_add-j
-overflow_add-j c = omega arith
-
-pub loop-j-smaller : goal.loop-j-smaller
-loop-j-smaller c = omega arith
-
-pub loop-j-preserved : goal.loop-j-preserved
-loop-j-preserved c =
-    let a = c.args in
-    let p = named_or_none (texts a.rule.now a.text.now) in
-    sym (all_step p (child_names a.ks.now a.k.first a.n) none c.loop-j.j (name_below a.ks.now a.k.first a.n c.loop-j.j c.loop-j-test.true)
-    (ap p (name_there a.ks.now a.k.first a.n c.loop-j.j c.loop-j-test.true c.child_of.result c.child_of.ensures) ∙ passes c.name_or_none.ensures c.if-not-name_or_none.false-raw)) ∙ c.loop-j.invariant
 
 pub returns : goal.returns
 returns c = let a = c.args in
-    sym (all_end (named_or_none (texts a.rule.now a.text.now)) (child_names a.ks.now a.k.first a.n) none c.loop-j.j
-    (names_past a.ks.now a.k.first a.n c.loop-j.j c.loop-j-test.false)) ∙ c.loop-j.invariant
+    let test = named_or_none (texts a.rule.now a.text.now) in
+    all_from_yields_List (λ i. test (slot_name (slot_at a.ks.now (a.k.first + i)))) _ _ _ c.all.ensures.ran
+    (YieldsList-from_range 0 a.n a.n (cc) (omega arith)) (λ x b q k. search (rules, tests))
+    ∙ names_run test a.ks.now a.k.first a.n

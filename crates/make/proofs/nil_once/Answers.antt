@@ -10,11 +10,11 @@ enum_told-1 c = search rules
 
 pub push_bare-requires : goal.push_bare-requires
 push_bare-requires c =
-    rw c.read_header-x.ensures (c.requires.pushable (sym c.nil_made-was.ensures ∙ c.in-None.is))
+    rw c.read_header-x.ensures (c.requires.pushable (sym c.nil_made.ensures ∙ c.in-None.is))
 
 pub returns-in-Some : goal.returns-in-Some
-returns-in-Some c = once_same (sym c.nil_made-was.ensures ∙ c.in-Some.is)
+returns-in-Some c = once_same (sym c.nil_made.ensures ∙ c.in-Some.is)
 
 pub returns-in-None : goal.returns-in-None
 returns-in-None c =
-    once_new (sym c.nil_made-was.ensures ∙ c.in-None.is) refl (rw c.read_header-x.ensures at c.push_bare.ensures)
+    once_new (sym c.nil_made.ensures ∙ c.in-None.is) refl (rw c.read_header-x.ensures at c.push_bare.ensures)

@@ -2,7 +2,6 @@
 -- Assumes nothing.
 use native.Mathlib.Omega.{arith}
 use Rattle.meeting.proofs.KidLaws.{between_over, between_before, between_behind, seek_near}
-use Prim.Native.Nat.{◌-◌}
 use Rattle.meeting.proofs.+seek_between.Goals as goal
 
 pub returns-then-low-high : goal.returns-then-low-high

@@ -1,9 +1,10 @@
 -- `meeting::bare_roots` meets its contract: each variant of the nodes that were read, and of their states.
 -- Assumes nothing.
-use mathlib.Core.Path.{refl}
-use Rattle.meeting.proofs.MeetLaws.{bare_one, bare_child, bare_other, bare_states_lem}
+use mathlib.Core.Path.{refl, sym, ◌∙◌}
+use Rattle.meeting.proofs.MeetLaws.{bare_one, bare_child, bare_other, bare_states_lem, both_known, first_bare, second_bare}
 use borrow.Author.Rules.{rules}
 use Rattle.meeting.proofs.bare_roots.Goals as goal
+use Rattle.meeting.proofs.bare_roots.Goals.{in-Known-Known, in_default-matches, in_default-matches-2}
 
 pub returns-then-ia-ib : goal.returns-then-ia-ib
 returns-then-ia-ib c = bare_one _ _ _ _ c.idx-ia.ensures c.idx-ib.ensures c.if-ia-ib.true
@@ -19,25 +20,11 @@ pub returns-in_default-node_at : goal.returns-in_default-node_at
 returns-in_default-node_at c =
     bare_other _ _ _ _ c.idx-ia.ensures c.idx-ib.ensures c.if-ia-ib.false c.node_at.ensures c.in-Root.is c.node_at-2.ensures c.in_default-node_at.is
 
-pub returns-in-Known-t : goal.returns-in-Known-t
-returns-in-Known-t c =
-    bare_states_lem _ _ _ _ c.idx-ia.ensures c.idx-ib.ensures c.if-ia-ib.false c.node_at.ensures c.in-Root.is c.node_at-2.ensures c.in-Root-node_at.is
-    c.in-Known.is c.in-Known-t.is
-
-pub returns-in-Unknown-t : goal.returns-in-Unknown-t
-returns-in-Unknown-t c =
-    bare_states_lem _ _ _ _ c.idx-ia.ensures c.idx-ib.ensures c.if-ia-ib.false c.node_at.ensures c.in-Root.is c.node_at-2.ensures c.in-Root-node_at.is
-    c.in-Known.is c.in-Unknown-t.is
-
-pub returns-in-InferenceFailed-t : goal.returns-in-InferenceFailed-t
-returns-in-InferenceFailed-t c =
-    bare_states_lem _ _ _ _ c.idx-ia.ensures c.idx-ib.ensures c.if-ia-ib.false c.node_at.ensures c.in-Root.is c.node_at-2.ensures c.in-Root-node_at.is
-    c.in-Known.is c.in-InferenceFailed-t.is
-
-pub returns-in-Unknown : goal.returns-in-Unknown
-returns-in-Unknown c =
-    bare_states_lem _ _ _ _ c.idx-ia.ensures c.idx-ib.ensures c.if-ia-ib.false c.node_at.ensures c.in-Root.is c.node_at-2.ensures c.in-Root-node_at.is c.in-Unknown.is refl
-
-pub returns-in-InferenceFailed : goal.returns-in-InferenceFailed
-returns-in-InferenceFailed c =
-    bare_states_lem _ _ _ _ c.idx-ia.ensures c.idx-ib.ensures c.if-ia-ib.false c.node_at.ensures c.in-Root.is c.node_at-2.ensures c.in-Root-node_at.is c.in-InferenceFailed.is refl
+pub returns : goal.returns
+returns c =
+    let told = bare_states_lem _ _ _ _ c.idx-ia.ensures c.idx-ib.ensures c.if-ia-ib.false c.node_at.ensures c.in-Root.is c.node_at-2.ensures c.in-Root-node_at.is refl refl in
+    elim c.match-matches.branch [
+      | in-Known-Known w ↦ rw w.matches-is (sym (both_known w.in-Known-Known.is-0 w.in-Known-Known.is-1) ∙ told)
+      | in_default-matches w ↦ rw w.matches-is (sym (second_bare c.in-Root.s c.in-Root-node_at.t w.in_default-matches.not-Known-1) ∙ told)
+      | in_default-matches-2 w ↦ rw w.matches-is (sym (first_bare c.in-Root.s c.in-Root-node_at.t w.in_default-matches.not-Known-0) ∙ told)
+    ]

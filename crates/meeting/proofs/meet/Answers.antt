@@ -7,18 +7,18 @@ pub returns-then-ia-ib : goal.returns-then-ia-ib
 returns-then-ia-ib c =
     met_same c.requires c.idx-ia.ensures c.idx-ib.ensures c.if-ia-ib.true
 
-pub returns-in_default : goal.returns-in_default
-returns-in_default c =
-    met_bare_first c.requires c.idx-ia.ensures c.idx-ib.ensures c.if-ia-ib.false c.held_at.ensures c.in_default.is
+pub returns-in_err-i : goal.returns-in_err-i
+returns-in_err-i c =
+    rw c.from_residual.ensures (met_bare_first c.requires c.idx-ia.ensures c.idx-ib.ensures c.if-ia-ib.false c.held_at.ensures c.in_err-i.was)
 
 pub held_at-requires-2 : goal.held_at-requires-2
 held_at-requires-2 c = c.requires.pair.words.clean.room
 
-pub returns-in_default-held_at : goal.returns-in_default-held_at
-returns-in_default-held_at c =
-    met_bare_second c.requires c.idx-ia.ensures c.idx-ib.ensures c.if-ia-ib.false c.held_at-2.ensures c.in_default-held_at.is
+pub returns-in_err-j : goal.returns-in_err-j
+returns-in_err-j c =
+    rw c.from_residual-in_err-j.ensures (met_bare_second c.requires c.idx-ia.ensures c.idx-ib.ensures c.if-ia-ib.false c.held_at-2.ensures c.in_err-j.was)
 
 pub returns : goal.returns
 returns c =
-    met_kids c.requires c.idx-ia.ensures c.idx-ib.ensures c.if-ia-ib.false c.held_at.ensures c.in-Some.is c.held_at-2.ensures c.in-Some-held_at.is
+    met_kids c.requires c.idx-ia.ensures c.idx-ib.ensures c.if-ia-ib.false c.held_at.ensures c.in_ok-i.was c.held_at-2.ensures c.in_ok-j.was
     c.inv.ensures c.bitxor.ensures c.inv-2.ensures c.bitxor-2.ensures c.bitxor-inv.ensures c.plan_of.ensures

@@ -11,5 +11,5 @@ returns-then-inv c =
     same_crossed c.requires.tops.first c.inv.ensures c.inv-2.ensures c.bitxor-inv.ensures
     c.if-inv.true c.self_inverse.ensures c.from.ensures
 
-pub returns : goal.returns
-returns c = same_agrees c.inv.ensures c.inv-2.ensures c.bitxor-inv.ensures c.if-inv.false
+pub returns-else-inv : goal.returns-else-inv
+returns-else-inv c = same_agrees c.inv.ensures c.inv-2.ensures c.bitxor-inv.ensures c.if-inv.false

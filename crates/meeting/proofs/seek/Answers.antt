@@ -1,6 +1,5 @@
--- `meeting::seek` meets its contract. The invariant: what the children from j on give is what all give. The measure is what is left of them.
+-- `meeting::seek` meets its contract. The invariant: what the children from j on give is what all give.
 -- Assumes nothing.
-use Prim.Native.Nat.{◌-◌}
 use native.Mathlib.Omega.{arith}
 use Rattle.meeting.proofs.KidLaws.{seek_start, seek_here, seek_on, seek_over}
 use Rattle.meeting.proofs.seek.Goals as goal

@@ -1,12 +1,8 @@
--- `meeting::seek` meets its contract. The invariant: what the children from j on give is what all give. The measure is what is left of them.
+-- `meeting::seek` meets its contract. The invariant: what the children from j on give is what all give.
 -- Assumes nothing.
-use Prim.Native.Nat.{◌-◌}
 use Rattle.names.specs.Place.{texts, name_of}
 use Rattle.meeting.proofs.KidLaws.{Seeking}
 use Rattle.meeting.proofs.seek.Given as goal
 
 abbrev pub invariant-loop-j : goal.invariant-loop-j
 invariant-loop-j l = Seeking (texts l.rule l.text) l.ks (name_of l.name) l.b l.count l.j
-
-abbrev pub decreases-loop-j : goal.decreases-loop-j
-decreases-loop-j l = l.count - l.j

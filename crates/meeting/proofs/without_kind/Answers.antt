@@ -1,9 +1,18 @@
 -- `meeting::without_kind` meets its contract: Failure where either root occurs in the other, else they are to be merged; in one without a kind nothing else occurs.
 -- Assumes nothing.
-use Rattle.meeting.proofs.MeetLaws.{words_walk, bare_first, bare_second, bare_binds, bare_alone}
-use mathlib.Core.Path.{sym, subst}
+use mathlib.Core.Path.{◌≡◌, refl, sym, subst, ◌∙◌}
+use mathlib.Core.Bool.{false, false≢true}
+use Rattle.std.specs.Prelude.{Some, None}
+use Rattle.std.specs.Option.{is_some}
+use Rattle.layout.specs.Meaning.{Held}
+use Rattle.meeting.proofs.MeetLaws.{words_walk, bare_first, bare_back, bare_alone}
 use Prim.Native.Nat.{ℕ, ◌<◌}
 use Rattle.meeting.proofs.without_kind.Goals as goal
+use Rattle.meeting.proofs.without_kind.Goals.{then-occurs, else-occurs+then-is_some, else-occurs+else-is_some}
+
+absent : (h : Held) → is_some h ≡ false → h ≡ None
+absent (Some p) e = absurd (false≢true (sym e))
+absent None e = refl
 
 pub occurs-requires : goal.occurs-requires
 occurs-requires c = let t = c.requires.tops in
@@ -15,18 +24,11 @@ occurs-requires c = let t = c.requires.tops in
       root = t.second;
     }
 
-pub returns-then-occurs : goal.returns-then-occurs
-returns-then-occurs c = bare_first c.idx-ia.ensures c.occurs.ensures c.if-occurs.true
-
 pub held_at-requires : goal.held_at-requires
 held_at-requires c = c.requires.tops.pair.words.clean.room
 
-pub returns-in_default : goal.returns-in_default
-returns-in_default c =
-    bare_alone c.requires.tops.pair c.idx-ia.ensures c.occurs.ensures c.if-occurs.false c.held_at.ensures c.in_default.is
-
-pub occurs-requires-2 : goal.occurs-requires-2
-occurs-requires-2 c = let t = c.requires.tops in
+pub occurs-requires-then-is_some : goal.occurs-requires-then-is_some
+occurs-requires-then-is_some c = let t = c.requires.tops in
     let n = c.args.n in
     record {
       walks = words_walk t.pair.words;
@@ -35,10 +37,14 @@ occurs-requires-2 c = let t = c.requires.tops in
       root = t.first;
     }
 
-pub returns-then-occurs-2 : goal.returns-then-occurs-2
-returns-then-occurs-2 c =
-    bare_second c.idx-ia.ensures c.occurs.ensures c.if-occurs.false c.idx.ensures c.occurs-2.ensures c.if-occurs-2.true
-
 pub returns : goal.returns
-returns c =
-    bare_binds c.idx-ia.ensures c.occurs.ensures c.if-occurs.false c.idx.ensures c.occurs-2.ensures c.if-occurs-2.false
+returns c = elim c.if-occurs.branch [
+  | then-occurs w ↦ rw (c.then_some.ensures, w.occurs-is, w.if-occurs.true) (bare_first c.idx-ia.ensures c.occurs.ensures w.if-occurs.true)
+  | else-occurs+then-is_some w ↦
+      rw (c.then_some.ensures, w.occurs-is)
+      (bare_back c.idx-ia.ensures c.occurs.ensures w.if-occurs.false w.idx.ensures w.occurs-then-is_some.ensures w.occurs-then-is_some.result refl)
+  | else-occurs+else-is_some w ↦
+      let none = absent w.held_at.result (sym w.is_some.ensures ∙ w.if-is_some.false) in
+      rw (c.then_some.ensures, w.occurs-is, w.if-is_some.false)
+      (bare_alone c.requires.tops.pair c.idx-ia.ensures c.occurs.ensures w.if-occurs.false w.held_at.ensures none)
+]

@@ -1,23 +1,14 @@
--- `names::name_ok` meets its contract: the tests are those of the definition, in its order. Assumes nothing.
-use borrow.Author.Tests.{lt-leb, le-leb}
+-- `names::name_ok` meets its contract: the tests are those of the definition, in its order.
+-- Assumes nothing.
+use Rattle.std.proofs.Common.{arith}
+use Rattle.std.proofs.lemmas.Bool.Decides.{nat_tests}
 use Rattle.scope.specs.Names.{name_ok}
-use Rattle.names.proofs.Tests.{passes, fails}
 use Rattle.names.proofs.name_ok.Goals as goal
 
-pub returns-then-not-in_text : goal.returns-then-not-in_text
+pub returns-then-n-ge1 : goal.returns-then-n-ge1
 unfolding name_ok
-returns-then-not-in_text c = rw (fails c.in_text.ensures c.if-not-in_text.true-raw)
+returns-then-n-ge1 c = grind (arith, nat_tests)
 
-pub returns-then-n-lt1 : goal.returns-then-n-lt1
+pub returns-else-n-ge1 : goal.returns-else-n-ge1
 unfolding name_ok
-returns-then-n-lt1 c = rw (
-  passes c.in_text.ensures c.if-not-in_text.false-raw,
-  lt-leb 1 c.args.n.len c.if-n-lt1.true,
-)
-
-pub returns : goal.returns
-unfolding name_ok
-returns c = rw (
-  passes c.in_text.ensures c.if-not-in_text.false-raw,
-  le-leb 1 c.args.n.len c.if-n-lt1.false,
-)
+returns-else-n-ge1 c = grind (arith, nat_tests)

@@ -8,6 +8,7 @@ use lib.ListN.{take, drop}
 use Rattle.names.specs.Place.{PIECE}
 use Rattle.names.proofs.Laws.{same_start, same_on, same_end, other_part, other_length, piece_length, last_lengths}
 use Rattle.names.proofs.same_by_pieces.Goals as goal
+use Rattle.names.proofs.same_by_pieces.Goals.{else-loop-i-test, then-loop-i-test+else-not-same_piece+else-last-i-gt64}
 
 pub returns-then-n-lt-PIECE : goal.returns-then-n-lt-PIECE
 returns-then-n-lt-PIECE c = c.same_bytes.ensures
@@ -56,4 +57,11 @@ pub same_piece-requires-2 : goal.same_piece-requires-2
 same_piece-requires-2 c = last_lengths c.loop-i.invariant
 
 pub returns : goal.returns
-returns c = same_end c.loop-i.invariant (omega (arith, c.loop-i-test.false)) c.same_piece-2.ensures
+returns c =
+    let inv = c.loop-i.invariant in
+    elim c.loop-i-test.branch [
+      | else-loop-i-test w ↦ same_end inv (omega (arith, w.loop-i-test.false)) c.same_piece-2.ensures
+      | then-loop-i-test+else-not-same_piece+else-last-i-gt64 w ↦
+          let on = same_on inv (c.loop-i.i + PIECE) (omega arith) (omega (arith, inv.ends, w.loop-i-test.true)) (sym w.same_piece.ensures ∙ w.if-not-same_piece.false) in
+          same_end on (omega arith) c.same_piece-2.ensures
+    ]

@@ -2,12 +2,12 @@
 -- invariant: what is left of them gives what all of them give, and what the cache keeps are roots.
 -- Assumes nothing.
 use mathlib.Core.Path.{refl, ◌∙◌}
-use Prim.Native.Nat.{◌-◌}
 use native.Mathlib.Omega.{arith}
 use Rattle.layout.proofs.LinkLaws.{clean_linked}
 use Rattle.needs.proofs.CountLaws.{turn_next, kid_next, root_is}
 use Rattle.needs.proofs.CountLaws.{count_shallow, count_met, count_replaced, count_lacking, node_fits, node_turn, count_node}
 use Rattle.needs.proofs.+count.Goals as goal
+use Rattle.needs.proofs.+count.Goals.{then-not-is_met, else-not-is_met}
 
 pub returns-then-depth-eq0 : goal.returns-then-depth-eq0
 returns-then-depth-eq0 t c = (count_shallow c.if-depth-eq0.true, c.requires.1)
@@ -44,9 +44,6 @@ loop-j-init t c = (
   refl,
 )
 
-pub overflow_add-j : goal.overflow_add-j
-overflow_add-j t c = omega (arith, c.loop-j-test.true)
-
 pub is_met-requires : goal.is_met-requires
 is_met-requires t c =
     (clean_linked _ _ _ _ c.requires.0.source.clean, c.loop-j.invariant.1)
@@ -64,28 +61,21 @@ count-all-requires t c = (
   ),
 )
 
-pub loop-j-smaller-then-not-is_met : goal.loop-j-smaller-then-not-is_met
-loop-j-smaller-then-not-is_met t c =
-    omega (arith, c.loop-j-test.true)
-
-pub loop-j-preserved-then-not-is_met : goal.loop-j-preserved-then-not-is_met
-loop-j-preserved-then-not-is_met t c = (
-  turn_next c.loop-j.invariant.0 c.requires.0.source (kid_next c.args.ks.now _ _ _ c.child.result c.loop-j-test.true c.child.ensures)
-      c.count-all.ensures.0 c.count-all.auto.marks,
-  c.count-all.ensures.1,
-  c.count-all.auto.cache ∙ (c.is_met.auto.cache ∙ c.loop-j.invariant.2),
-)
-
-pub loop-j-smaller : goal.loop-j-smaller
-loop-j-smaller t c = omega (arith, c.loop-j-test.true)
-
 pub loop-j-preserved : goal.loop-j-preserved
-loop-j-preserved t c = (
-  turn_next c.loop-j.invariant.0 c.requires.0.source (kid_next c.args.ks.now _ _ _ c.child.result c.loop-j-test.true c.child.ensures)
-      (c.is_met.ensures.0.is c.if-not-is_met.false c.args.ks.now _ _ _) refl,
-  c.is_met.ensures.1,
-  c.is_met.auto.cache ∙ c.loop-j.invariant.2,
-)
+loop-j-preserved t c =
+    let e = kid_next c.args.ks.now _ _ _ c.child.result c.loop-j-test.true c.child.ensures in
+    elim c.if-not-is_met.branch [
+      | then-not-is_met w ↦ rw (w.cache-is, w.marks-is, w.all-is) (
+        turn_next c.loop-j.invariant.0 c.requires.0.source e w.count-all.ensures.0 w.count-all.auto.marks,
+        w.count-all.ensures.1,
+        w.count-all.auto.cache ∙ (c.is_met.auto.cache ∙ c.loop-j.invariant.2),
+      )
+      | else-not-is_met w ↦ rw (w.cache-is, w.marks-is, w.all-is) (
+        turn_next c.loop-j.invariant.0 c.requires.0.source e (c.is_met.ensures.0.is w.if-not-is_met.false c.args.ks.now _ _ _) refl,
+        c.is_met.ensures.1,
+        c.is_met.auto.cache ∙ c.loop-j.invariant.2,
+      )
+    ]
 
 pub returns-in-Replaced : goal.returns-in-Replaced
 returns-in-Replaced t c = (

@@ -16,6 +16,3 @@ abbrev pub invariant-loop-j : goal.invariant-loop-j
 invariant-loop-j l =
     Turn l.ws l.ks l.n l.params (l.depth - 1) (kids_in l.ks l.first l.kids) l.initial.marks l.initial.all l.marks l.all l.j
     × Cached l.ws l.n l.cache × (length l.cache ≡ length l.initial.cache)
-
-abbrev pub decreases-loop-j : goal.decreases-loop-j
-decreases-loop-j l = l.kids - l.j

@@ -1,7 +1,6 @@
 -- `node_sound::named_children` meets its contract. The loop's invariant: the children after the first and before the next follow, each the one before it.
 -- Assumes nothing.
 use mathlib.Core.Bool.{false≢true}
-use Prim.Native.Nat.{◌-◌}
 use native.Mathlib.Omega.{arith}
 use Rattle.names.specs.Place.{texts}
 use Rattle.names.proofs.Tests.{passes}
@@ -15,34 +14,25 @@ returns-then-e-a c = let none = c.if-e-a.true in
 pub returns-then-not-named_child : goal.returns-then-not-named_child
 returns-then-not-named_child c = (λ t. absurd (false≢true t), c.requires.0)
 
-pub overflow_add-next : goal.overflow_add-next
-overflow_add-next c = omega (arith, c.requires.1, c.if-e-a.false)
-
-pub loop-next-init : goal.loop-next-init
-loop-next-init c =
+pub loop-i-init : goal.loop-i-init
+loop-i-init c =
     gone_none c.args.n c.args.a c.requires.0
 
-pub overflow_add-next-in-loop-next : goal.overflow_add-next-in-loop-next
-overflow_add-next-in-loop-next c = omega (arith, c.requires.1, c.loop-next-test.true)
-
 pub next_child-requires : goal.next_child-requires
-next_child-requires c = let gone = c.loop-next.invariant in
+next_child-requires c = let gone = c.loop-i.invariant in
     let end = c.requires.1 in
-    record { known = gone.known; some = omega (arith, gone.low); few = omega (arith, end, c.loop-next-test.true) }
+    record { known = gone.known; some = omega (arith, gone.low); few = omega (arith, end, c.loop-i-test.true) }
 
 pub returns-then-not-next_child : goal.returns-then-not-next_child
 returns-then-not-next_child c = (λ t. absurd (false≢true t), c.next_child.ensures.1)
 
-pub loop-next-smaller : goal.loop-next-smaller
-loop-next-smaller c = omega (arith, c.loop-next-test.true)
-
-pub loop-next-preserved : goal.loop-next-preserved
-loop-next-preserved c = let next = c.next_child.ensures in
-    gone_more c.loop-next.invariant next.1 (next.0 c.if-not-next_child.false)
+pub loop-i-preserved : goal.loop-i-preserved
+loop-i-preserved c = let next = c.next_child.ensures in
+    gone_more c.loop-i.invariant next.1 (next.0 c.if-not-next_child.false)
 
 pub returns : goal.returns
 returns c = let a = c.args in
     let x = texts a.rule.now a.text.now in
-    let gone = c.loop-next.invariant in
+    let gone = c.loop-i.invariant in
     let first = first_at a.ks.now a.a c.child_at.result c.child_at.ensures x a.n (passes c.named_child.ensures c.if-not-named_child.false-raw) in
-    (λ _. record { first = λ _. first; others = λ j l m. gone.each j l (omega (arith, m, c.loop-next-test.false)) }, gone.known)
+    (λ _. record { first = λ _. first; others = λ j l m. gone.each j l (omega (arith, m, c.loop-i-test.false)) }, gone.known)

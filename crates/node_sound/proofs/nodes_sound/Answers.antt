@@ -1,7 +1,5 @@
 -- `node_sound::nodes_sound` meets its contract. The loop's invariant: the nodes below i pass, and what was seen is so. The measure is what is left of them.
 -- Assumes nothing.
-use mathlib.Core.Bool.{true}
-use Prim.Native.Nat.{◌-◌}
 use native.Mathlib.Omega.{arith}
 use borrow.Author.Count.{below_more}
 use Rattle.names.proofs.Tests.{passes, fails}
@@ -26,12 +24,6 @@ returns-then-not-node_sound c = let a = c.args in
     let l = length_decode a.ws.now a.ks.now a.n in
     let test = node_test (chart_in a.chart.now a.rule.now a.text.now) a.ws.now a.ks.now a.c ns in
     all_stop test a.n c.loop-i.i c.loop-i-test.true (fails (c.node_sound.ensures.0 ns l) c.if-not-node_sound.true-raw)
-
-pub overflow_add-i : goal.overflow_add-i
-overflow_add-i c = omega (arith, c.loop-i-test.true)
-
-pub loop-i-smaller : goal.loop-i-smaller
-loop-i-smaller c = omega (arith, c.loop-i-test.true)
 
 pub loop-i-preserved : goal.loop-i-preserved
 loop-i-preserved c = let a = c.args in

@@ -1,8 +1,8 @@
--- `node_sound::nodes_sound` meets its contract. The loop's invariant: the nodes below i pass, and what was seen is so. The measure is what is left of them.
+-- `node_sound::nodes_sound` meets its contract. The loop's invariant: the nodes below i pass, and what was seen is so.
 -- Assumes nothing.
 use mathlib.Core.Path.{◌≡◌}
 use mathlib.Core.Bool.{true}
-use Prim.Native.Nat.{ℕ, ◌-◌, ◌≤◌, ◌<◌}
+use Prim.Native.Nat.{ℕ, ◌≤◌, ◌<◌}
 use Rattle.names.specs.Place.{texts}
 use Rattle.chart.specs.Env.{chart_in}
 use Rattle.layout.specs.Words.{decode}
@@ -11,6 +11,3 @@ use Rattle.node_sound.proofs.nodes_sound.Given as goal
 
 abbrev pub invariant-loop-i : goal.invariant-loop-i
 invariant-loop-i l = (l.i ≤ l.n) × ((u : ℕ) → u < l.i → node_test (chart_in l.chart l.rule l.text) l.ws l.ks l.c (decode l.ws l.ks l.n) u ≡ true) × TrueSeen (texts l.rule l.text) l.ks l.seen
-
-abbrev pub decreases-loop-i : goal.decreases-loop-i
-decreases-loop-i l = l.n - l.i

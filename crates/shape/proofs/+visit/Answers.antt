@@ -5,7 +5,6 @@ use mathlib.Core.Path.{sym, ap, ◌∙◌}
 use native.Mathlib.Omega.{arith}
 use Rattle.shape.specs.Read.{root_of}
 use Rattle.shape.proofs.VisitLaws as laws
-use Prim.Native.Nat.{◌-◌}
 use Rattle.shape.proofs.+visit.Goals as goal
 
 pub at-mark-requires : goal.at-mark-requires
@@ -58,12 +57,6 @@ returns-then-not-visit t c =
     let run = laws.in_run p.falls p.node c.held_at.ensures c.in-Some.is inv.low c.loop-i-test.true in
     let kid = c.root_of-r.ensures ∙ ap (root_of c.args.roots.now) c.kid_at.ensures in
     laws.visit_failed _ _ p.marked (laws.mark_small p) (laws.passed_from _ _ c.put.ensures inv) run kid c.if-not-visit.true c.visit.ensures
-
-pub overflow_add-i : goal.overflow_add-i
-overflow_add-i t c = omega (arith, c.loop-i-test.true)
-
-pub loop-i-smaller : goal.loop-i-smaller
-loop-i-smaller t c = omega (arith, c.loop-i-test.true)
 
 pub loop-i-preserved : goal.loop-i-preserved
 loop-i-preserved t c = let args = c.args in

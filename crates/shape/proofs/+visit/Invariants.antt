@@ -4,7 +4,6 @@
 use Rattle.shape.specs.Read.{kids}
 use Rattle.shape.specs.Asks.{fresh}
 use Rattle.shape.proofs.VisitLaws as laws
-use Prim.Native.Nat.{◌-◌}
 use Rattle.shape.proofs.+visit.Given as goal
 
 abbrev pub decreases-visit : goal.decreases-visit
@@ -12,6 +11,3 @@ decreases-visit l = fresh l.n l.marks.now
 
 abbrev pub invariant-loop-i : goal.invariant-loop-i
 invariant-loop-i l = laws.Passed (kids l.ws l.ks l.n l.roots) l.n l.v.0 l.i l.initial.marks l.marks
-
-abbrev pub decreases-loop-i : goal.decreases-loop-i
-decreases-loop-i l = l.end - l.i

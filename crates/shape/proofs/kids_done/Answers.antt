@@ -3,10 +3,10 @@
 -- Assumes nothing.
 use mathlib.Core.Path.{sym, ◌∙◌}
 use mathlib.Core.Bool.{false≢true}
-use Prim.Native.Nat.{◌-◌}
-use native.Mathlib.Omega.{arith}
 use Rattle.shape.proofs.VisitLaws as laws
 use Rattle.shape.proofs.kids_done.Goals as goal
+use Rattle.shape.proofs.kids_done.Goals.{then-v-root_more+then-at-ne-DONE, else-v-root_more}
+use Rattle.shape.proofs.kids_done.Goals.{else-v-root_more-via-then-v-root_more+else-at-ne-DONE, else-v-root_more-via-else-v-root_more}
 
 pub held_at-requires : goal.held_at-requires
 held_at-requires c = c.requires.visits.falls.room
@@ -29,9 +29,6 @@ at-root_more-requires c = let falls = c.requires.visits.falls in
     let run = laws.in_run falls node held is (laws.run_low falls node held is c.loop-i.invariant.low) c.loop-i-test.true in
     (laws.kid_known falls node run c.kid_at.ensures).0
 
-pub overflow_add-i : goal.overflow_add-i
-overflow_add-i c = omega (arith, c.loop-i-test.true)
-
 pub at-requires : goal.at-requires
 at-requires c = let asked = c.requires.visits in
     let falls = asked.falls in
@@ -42,30 +39,6 @@ at-requires c = let asked = c.requires.visits in
     let run = laws.in_run falls node held is (laws.run_low falls node held is passed.low) c.loop-i-test.true in
     laws.root_marked falls node run c.kid_at.ensures c.at-root_more.ensures
 
-pub loop-i-smaller-then-at-ne-DONE : goal.loop-i-smaller-then-at-ne-DONE
-loop-i-smaller-then-at-ne-DONE c = omega (arith, c.loop-i-test.true)
-
-pub loop-i-preserved-then-at-ne-DONE : goal.loop-i-preserved-then-at-ne-DONE
-loop-i-preserved-then-at-ne-DONE c = laws.ended_not _ _ c.loop-i.invariant
-
-pub loop-i-smaller-else-at-ne-DONE : goal.loop-i-smaller-else-at-ne-DONE
-loop-i-smaller-else-at-ne-DONE c = omega (arith, c.loop-i-test.true)
-
-pub loop-i-preserved-else-at-ne-DONE : goal.loop-i-preserved-else-at-ne-DONE
-loop-i-preserved-else-at-ne-DONE c = let asked = c.requires.visits in
-    let falls = asked.falls in
-    let node = asked.node in
-    let held = c.held_at.ensures in
-    let is = c.in-Some.is in
-    let passed = c.loop-i.invariant in
-    let run = laws.in_run falls node held is (laws.run_low falls node held is passed.low) c.loop-i-test.true in
-    let root = laws.kid_root falls node run c.kid_at.ensures c.at-root_more.ensures in
-    let mark = c.at.ensures in
-    laws.ended_more _ _ passed (rw root (asked.marked.done _ (sym mark ∙ c.if-at-ne-DONE.false)))
-
-pub loop-i-smaller : goal.loop-i-smaller
-loop-i-smaller c = omega (arith, c.loop-i-test.true)
-
 pub loop-i-preserved : goal.loop-i-preserved
 loop-i-preserved c = let tries = c.requires in
     let asked = tries.visits in
@@ -75,8 +48,18 @@ loop-i-preserved c = let tries = c.requires in
     let is = c.in-Some.is in
     let passed = c.loop-i.invariant in
     let run = laws.in_run falls node held is (laws.run_low falls node held is passed.low) c.loop-i-test.true in
-    let lower = laws.kid_before falls node run c.kid_at.ensures c.at-root_more.ensures c.if-v-root_more.false in
-    laws.ended_more _ _ passed (tries.ended _ lower)
+    elim c.if-v-root_more.branch [
+      | then-v-root_more+then-at-ne-DONE w ↦ rw w.done-is (laws.ended_not _ _ passed)
+      | else-v-root_more w ↦ rw w.done-is (elim w.else-v-root_more.branch [
+        | else-v-root_more-via-then-v-root_more+else-at-ne-DONE w' ↦
+            let root = laws.kid_root falls node run c.kid_at.ensures c.at-root_more.ensures in
+            let mark = w'.at.ensures in
+            laws.ended_more _ _ passed (rw root (asked.marked.done _ (sym mark ∙ w'.if-at-ne-DONE.false)))
+        | else-v-root_more-via-else-v-root_more w' ↦
+            let lower = laws.kid_before falls node run c.kid_at.ensures c.at-root_more.ensures w'.if-v-root_more.false in
+            laws.ended_more _ _ passed (tries.ended _ lower)
+      ])
+    ]
 
 pub returns : goal.returns
 returns c = let asked = c.requires.visits in

@@ -2,7 +2,7 @@
 -- Assumes nothing.
 use mathlib.Core.Path.{◌≡◌}
 use mathlib.Core.Bool.{true, ◌&&◌}
-use Prim.Native.Nat.{◌+◌, ◌-◌, ◌≤◌}
+use Prim.Native.Nat.{◌+◌, ◌≤◌}
 use lib.Dec.{leb}
 use lib.ListN.{length, drop}
 use Rattle.scope.specs.Base.{all}
@@ -10,13 +10,9 @@ use Rattle.scope.specs.Sheet.{is_digit, value_from, no_leading_zero}
 use Rattle.sheet_lines.proofs.Laws as laws
 use Rattle.sheet_lines.proofs.node_of.Given as goal
 
-abbrev pub invariant-loop-i : goal.invariant-loop-i
-invariant-loop-i l = (l.i ≤ length l.w)
-    × ((leb (length l.w) 4 && no_leading_zero l.w) ≡ true)
+abbrev pub invariant-loop-d : goal.invariant-loop-d
+invariant-loop-d l = ((leb (length l.w) 4 && no_leading_zero l.w) ≡ true)
     × (length l.w ≤ 4)
-    × (l.n + 1 ≤ laws.tens l.i)
-    × (all is_digit (drop l.i l.w) ≡ all is_digit l.w)
-    × (value_from l.n (drop l.i l.w) ≡ value_from 0 l.w)
-
-abbrev pub decreases-loop-i : goal.decreases-loop-i
-decreases-loop-i l = length l.w - l.i
+    × (l.n + 1 ≤ laws.tens l.d-index)
+    × (all is_digit (drop l.d-index l.w) ≡ all is_digit l.w)
+    × (value_from l.n (drop l.d-index l.w) ≡ value_from 0 l.w)

@@ -6,5 +6,5 @@ use Rattle.sheet_lines.proofs.two_types.Goals as goal
 pub returns-then-same_bytes : goal.returns-then-same_bytes
 returns-then-same_bytes c = record { beside = λ nt out. record { means = rw (nt, laws.said c.same_bytes.ensures c.if-same_bytes.true); fits = tt } }
 
-pub returns : goal.returns
-returns c = record { beside = λ nt out. record { means = rw (nt, laws.said c.same_bytes.ensures c.if-same_bytes.false); fits = tt } }
+pub returns-else-same_bytes : goal.returns-else-same_bytes
+returns-else-same_bytes c = record { beside = λ nt out. record { means = rw (nt, laws.said c.same_bytes.ensures c.if-same_bytes.false); fits = tt } }

@@ -12,6 +12,6 @@ pub returns-then-w-eq126 : goal.returns-then-w-eq126
 returns-then-w-eq126 c = let some = c.if-w-eq0.false in
     c.node_of.ensures ∙ laws.type_tilde c.args.w.now (omega (arith, some)) c.if-w-eq126.true
 
-pub returns : goal.returns
-returns c = let some = c.if-w-eq0.false in
-    c.node_of-2.ensures ∙ laws.type_plain c.args.w.now (omega (arith, some)) c.if-w-eq126.false
+pub returns-else-w-eq126 : goal.returns-else-w-eq126
+returns-else-w-eq126 c = let some = c.if-w-eq0.false in
+    c.node_of-else-w-eq126.ensures ∙ laws.type_plain c.args.w.now (omega (arith, some)) c.if-w-eq126.false

@@ -2,8 +2,6 @@
 -- Assumes nothing.
 use mathlib.Core.Path.{refl, sym, ap, ◌∙◌}
 use mathlib.Core.List.{map}
-use Prim.Native.Nat.{◌-◌}
-use borrow.Author.Rules.{rules}
 use native.Mathlib.Omega.{arith}
 use lib.ListN.{take, length-set}
 use Rattle.scope.specs.Types.{ty_of}
@@ -41,21 +39,15 @@ slice_bounds-type_of-end c = let line = c.args.line.now in
     let p = c.next_place-e.ensures in
     (laws.place_within 32 line i e h p).1
 
-pub enum_told-1 : goal.enum_told-1
-enum_told-1 c = search rules
-
-pub shape_of-out-in_default : goal.shape_of-out-in_default
-shape_of-out-in_default c = c.loop-at.invariant.0
-
-pub returns-in_default : goal.returns-in_default
-returns-in_default c = let line = c.args.line.now in
+pub returns-in_err-t : goal.returns-in_err-t
+returns-in_err-t c = let line = c.args.line.now in
     let i = c.loop-at.at in
     let e = c.next_place-e.result in
     let h = c.loop-at-test.true in
     let p = c.next_place-e.ensures in
-    let k = ap word_means (sym c.in_default.is) ∙ c.type_of.ensures in
+    let k = ap word_means (sym c.in_err-t.was) ∙ c.type_of.ensures in
     let ts = map ty_of (take c.loop-at.n c.loop-at.out) in
-    record { means = laws.turn_bad line i e h p ts k ∙ c.loop-at.invariant.3; fits = omega arith }
+    rw c.from_residual.ensures (record { means = laws.turn_bad line i e h p ts k ∙ c.loop-at.invariant.3; fits = omega arith })
 
 pub offset_bounds-out-n : goal.offset_bounds-out-n
 offset_bounds-out-n c = omega arith
@@ -90,12 +82,11 @@ loop-at-preserved c = let line = c.args.line.now in
     let e = c.next_place-e.result in
     let h = c.loop-at-test.true in
     let p = c.next_place-e.ensures in
-    let k = ap word_means (sym c.in-Some.is) ∙ c.type_of.ensures in
-    let v = c.in-Some.t.0 in (
-      length-set c.loop-at.out c.loop-at.n v ∙ c.loop-at.invariant.0,
+    let k = ap word_means (sym c.in_ok-t.was) ∙ c.type_of.ensures in (
+      length-set c.loop-at.out c.loop-at.n _ ∙ c.loop-at.invariant.0,
       omega (arith, laws.turn_longer line c.loop-at.at e h p k),
       omega (arith, pre.short),
-      laws.turn_type line c.loop-at.at e h p c.loop-at.out c.loop-at.n v (omega (arith, pre.short, pre.room)) k ∙ c.loop-at.invariant.3,
+      laws.turn_type line c.loop-at.at e h p c.loop-at.out c.loop-at.n _ (omega (arith, pre.short, pre.room)) k ∙ c.loop-at.invariant.3,
     )
 
 pub shape_of-out : goal.shape_of-out

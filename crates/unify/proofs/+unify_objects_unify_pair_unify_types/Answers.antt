@@ -4,7 +4,6 @@
 use mathlib.Core.Path.{refl, ◌∙◌}
 use native.Mathlib.Omega.{arith}
 use native.Mathlib.Nat.{pos_of_ne-zero}
-use borrow.Author.Rules.{rules}
 use Rattle.scope.specs.Types.{ty_of}
 use Rattle.unify_enter.proofs.Laws.{entered_done, entered_kids}
 use Rattle.unify.proofs.QuickLaws.{quick_adds, quick_merged, quick_asked, quick_not}
@@ -12,6 +11,7 @@ use Rattle.unify.proofs.RunLaws.{both_success, run_fails, run_start, run_pair, r
 use Rattle.unify.proofs.RunLaws.{stored_start, object_none, object_pair, object_asks, object_next, stored_ends}
 use Rattle.unify.proofs.StepLaws.{answer_settles, way_answer, object_asked, object_settles, way_object, run_asked, run_settles, way_run}
 use Rattle.unify.proofs.+unify_objects_unify_pair_unify_types.Goals as goal
+use Rattle.unify.proofs.+unify_objects_unify_pair_unify_types.Goals.{unify_objects-then-not-quick, unify_objects-else-not-quick, unify_types-then-not-quick, unify_types-else-not-quick}
 
 -- two objects
 
@@ -40,29 +40,28 @@ unify_objects-unify_pair-requires t c = (
       c.quick.ensures c.if-not-quick.true,
 )
 
-pub unify_objects-loop-j-preserved-then-not-quick : goal.unify_objects-loop-j-preserved-then-not-quick
-unify_objects-loop-j-preserved-then-not-quick t c = (
-  search rules,
-  search rules,
-  object_next
-      (object_pair c.loop-j.invariant.2 c.loop-j-test.true c.kid_name.ensures c.seek_near-f.ensures c.in-Some.is c.kid-x.ensures c.invert_if-u.ensures)
-      (quick_not c.quick.ensures c.if-not-quick.true c.unify_pair.ensures) c.and-r.ensures,
-)
-
-pub unify_objects-loop-j-preserved-else-not-quick : goal.unify_objects-loop-j-preserved-else-not-quick
-unify_objects-loop-j-preserved-else-not-quick t c =
-    let next =
-    object_pair c.loop-j.invariant.2 c.loop-j-test.true c.kid_name.ensures c.seek_near-f.ensures c.in-Some.is c.kid-x.ensures c.invert_if-u.ensures in (
-      search rules,
-      search rules,
-      object_next next (quick_merged (object_asks next) c.quick.ensures c.if-not-quick.false) (both_success _),
-    )
-
 pub unify_objects-loop-j-preserved : goal.unify_objects-loop-j-preserved
-unify_objects-loop-j-preserved t c = (
+unify_objects-loop-j-preserved t c =
+    let next =
+    object_pair c.loop-j.invariant.2 c.loop-j-test.true c.kid_name.ensures c.seek_near-f.ensures c.in-Some.is c.kid-x.ensures c.invert_if-u.ensures in
+    elim c.if-not-quick.branch [
+      | unify_objects-then-not-quick w ↦ rw (w.ws-is, w.memory-is, w.r-is) (
+        w.unify_pair.auto.ws ∙ (c.quick.auto.ws ∙ c.loop-j.invariant.0),
+        w.unify_pair.auto.memory ∙ (c.quick.auto.memory ∙ c.loop-j.invariant.1),
+        object_next next (quick_not c.quick.ensures w.if-not-quick.true w.unify_pair.ensures) w.and-r-then-not-quick.ensures,
+      )
+      | unify_objects-else-not-quick w ↦ rw (w.ws-is, w.memory-is, w.r-is) (
+        c.quick.auto.ws ∙ c.loop-j.invariant.0,
+        c.quick.auto.memory ∙ c.loop-j.invariant.1,
+        object_next next (quick_merged (object_asks next) c.quick.ensures w.if-not-quick.false) (both_success _),
+      )
+    ]
+
+pub unify_objects-loop-j-preserved-in_default : goal.unify_objects-loop-j-preserved-in_default
+unify_objects-loop-j-preserved-in_default t c = (
   c.loop-j.invariant.0,
   c.loop-j.invariant.1,
-  object_none c.loop-j.invariant.2 c.loop-j-test.true c.kid_name.ensures c.seek_near-f.ensures c.in-None.is c.and-r-in-None.ensures,
+  object_none c.loop-j.invariant.2 c.loop-j-test.true c.kid_name.ensures c.seek_near-f.ensures c.in_default.is c.and-r.ensures,
 )
 
 pub unify_objects-returns : goal.unify_objects-returns
@@ -70,55 +69,55 @@ unify_objects-returns t c = stored_ends c.loop-j.invariant.2 c.loop-j-test.false
 
 -- a pair
 
-pub unify_pair-enter-e-requires : goal.unify_pair-enter-e-requires
-unify_pair-enter-e-requires t c = c.requires
+pub unify_pair-enter-requires : goal.unify_pair-enter-requires
+unify_pair-enter-requires t c = c.requires
 
 pub unify_pair-settle-requires : goal.unify_pair-settle-requires
 unify_pair-settle-requires t c =
-    answer_settles (entered_kids c.args.depth (ty_of c.args.a.0) (ty_of c.args.b.0) c.enter-e.ensures c.in-Kids.is) c.in-Answer.is
+    answer_settles (entered_kids c.args.depth (ty_of c.args.a.0) (ty_of c.args.b.0) c.enter.ensures c.in-Kids.is) c.in-Answer.is
 
 pub unify_pair-overflow_sub-depth : goal.unify_pair-overflow_sub-depth
 unify_pair-overflow_sub-depth t c =
-    pos_of_ne-zero (entered_kids c.args.depth (ty_of c.args.a.0) (ty_of c.args.b.0) c.enter-e.ensures c.in-Kids.is).roots.up.deep
+    pos_of_ne-zero (entered_kids c.args.depth (ty_of c.args.a.0) (ty_of c.args.b.0) c.enter.ensures c.in-Kids.is).roots.up.deep
 
 pub unify_pair-unify_objects-r-requires : goal.unify_pair-unify_objects-r-requires
 unify_pair-unify_objects-r-requires t c =
-    let l = entered_kids c.args.depth (ty_of c.args.a.0) (ty_of c.args.b.0) c.enter-e.ensures c.in-Kids.is in
+    let l = entered_kids c.args.depth (ty_of c.args.a.0) (ty_of c.args.b.0) c.enter.ensures c.in-Kids.is in
     (omega (arith, pos_of_ne-zero l.roots.up.deep), object_asked l c.in-Object.is)
 
 pub unify_pair-settle-requires-in-Object : goal.unify_pair-settle-requires-in-Object
 unify_pair-settle-requires-in-Object t c =
-    object_settles (entered_kids c.args.depth (ty_of c.args.a.0) (ty_of c.args.b.0) c.enter-e.ensures c.in-Kids.is) c.in-Object.is c.unify_objects-r.ensures
+    object_settles (entered_kids c.args.depth (ty_of c.args.a.0) (ty_of c.args.b.0) c.enter.ensures c.in-Kids.is) c.in-Object.is c.unify_objects-r.ensures
 
 pub unify_pair-overflow_sub-depth-in-Run : goal.unify_pair-overflow_sub-depth-in-Run
 unify_pair-overflow_sub-depth-in-Run t c =
-    pos_of_ne-zero (entered_kids c.args.depth (ty_of c.args.a.0) (ty_of c.args.b.0) c.enter-e.ensures c.in-Kids.is).roots.up.deep
+    pos_of_ne-zero (entered_kids c.args.depth (ty_of c.args.a.0) (ty_of c.args.b.0) c.enter.ensures c.in-Kids.is).roots.up.deep
 
 pub unify_pair-unify_types-requires : goal.unify_pair-unify_types-requires
 unify_pair-unify_types-requires t c =
-    let l = entered_kids c.args.depth (ty_of c.args.a.0) (ty_of c.args.b.0) c.enter-e.ensures c.in-Kids.is in
+    let l = entered_kids c.args.depth (ty_of c.args.a.0) (ty_of c.args.b.0) c.enter.ensures c.in-Kids.is in
     (omega (arith, pos_of_ne-zero l.roots.up.deep), run_asked l c.in-Run.is)
 
 pub unify_pair-settle-requires-in-Run : goal.unify_pair-settle-requires-in-Run
 unify_pair-settle-requires-in-Run t c =
-    run_settles (entered_kids c.args.depth (ty_of c.args.a.0) (ty_of c.args.b.0) c.enter-e.ensures c.in-Kids.is) c.in-Run.is
+    run_settles (entered_kids c.args.depth (ty_of c.args.a.0) (ty_of c.args.b.0) c.enter.ensures c.in-Kids.is) c.in-Run.is
     c.unify_types.ensures c.and-r.result c.and-r.ensures
 
 pub unify_pair-returns-in-Done : goal.unify_pair-returns-in-Done
-unify_pair-returns-in-Done t c = entered_done c.args.depth (ty_of c.args.a.0) (ty_of c.args.b.0) c.enter-e.ensures c.in-Done.is
+unify_pair-returns-in-Done t c = entered_done c.args.depth (ty_of c.args.a.0) (ty_of c.args.b.0) c.enter.ensures c.in-Done.is
 
 pub unify_pair-returns-in-Answer : goal.unify_pair-returns-in-Answer
 unify_pair-returns-in-Answer t c =
-    way_answer (entered_kids c.args.depth (ty_of c.args.a.0) (ty_of c.args.b.0) c.enter-e.ensures c.in-Kids.is) c.in-Answer.is c.settle.ensures
+    way_answer (entered_kids c.args.depth (ty_of c.args.a.0) (ty_of c.args.b.0) c.enter.ensures c.in-Kids.is) c.in-Answer.is c.settle.ensures
 
 pub unify_pair-returns-in-Object : goal.unify_pair-returns-in-Object
 unify_pair-returns-in-Object t c =
-    way_object (entered_kids c.args.depth (ty_of c.args.a.0) (ty_of c.args.b.0) c.enter-e.ensures c.in-Kids.is) c.in-Object.is
+    way_object (entered_kids c.args.depth (ty_of c.args.a.0) (ty_of c.args.b.0) c.enter.ensures c.in-Kids.is) c.in-Object.is
     c.unify_objects-r.ensures c.settle-in-Object.ensures
 
 pub unify_pair-returns-in-Run : goal.unify_pair-returns-in-Run
 unify_pair-returns-in-Run t c =
-    way_run (entered_kids c.args.depth (ty_of c.args.a.0) (ty_of c.args.b.0) c.enter-e.ensures c.in-Kids.is) c.in-Run.is
+    way_run (entered_kids c.args.depth (ty_of c.args.a.0) (ty_of c.args.b.0) c.enter.ensures c.in-Kids.is) c.in-Run.is
     c.unify_types.ensures c.and-r.result c.and-r.ensures c.settle-in-Run.ensures
 
 -- two runs
@@ -146,21 +145,21 @@ unify_types-unify_pair-requires t c = (
       c.quick.ensures c.if-not-quick.true,
 )
 
-pub unify_types-loop-i-preserved-then-not-quick : goal.unify_types-loop-i-preserved-then-not-quick
-unify_types-loop-i-preserved-then-not-quick t c = (
-  search rules,
-  search rules,
-  run_next (run_pair c.loop-i.invariant.2 c.loop-i-test.true c.kid-x.ensures c.kid.ensures c.invert_if-y.ensures)
-      (quick_not c.quick.ensures c.if-not-quick.true c.unify_pair.ensures) c.and-r.ensures,
-)
-
 pub unify_types-loop-i-preserved : goal.unify_types-loop-i-preserved
 unify_types-loop-i-preserved t c =
-    let next = run_pair c.loop-i.invariant.2 c.loop-i-test.true c.kid-x.ensures c.kid.ensures c.invert_if-y.ensures in (
-      search rules,
-      search rules,
-      run_next next (quick_merged (run_asks next) c.quick.ensures c.if-not-quick.false) (both_success _),
-    )
+    let next = run_pair c.loop-i.invariant.2 c.loop-i-test.true c.kid-x.ensures c.kid.ensures c.invert_if-y.ensures in
+    elim c.if-not-quick.branch [
+      | unify_types-then-not-quick w ↦ rw (w.ws-is, w.memory-is, w.r-is) (
+        w.unify_pair.auto.ws ∙ (c.quick.auto.ws ∙ c.loop-i.invariant.0),
+        w.unify_pair.auto.memory ∙ (c.quick.auto.memory ∙ c.loop-i.invariant.1),
+        run_next next (quick_not c.quick.ensures w.if-not-quick.true w.unify_pair.ensures) w.and-r.ensures,
+      )
+      | unify_types-else-not-quick w ↦ rw (w.ws-is, w.memory-is, w.r-is) (
+        c.quick.auto.ws ∙ c.loop-i.invariant.0,
+        c.quick.auto.memory ∙ c.loop-i.invariant.1,
+        run_next next (quick_merged (run_asks next) c.quick.ensures w.if-not-quick.false) (both_success _),
+      )
+    ]
 
 pub unify_types-returns : goal.unify_types-returns
 unify_types-returns t c = run_ends c.loop-i.invariant.2 c.loop-i-test.false

@@ -7,7 +7,7 @@ use lib.ListN.{length}
 use Rattle.names.specs.Place.{texts}
 use Rattle.unify.proofs.RunLaws.{RunLeft}
 use Rattle.unify.proofs.RunLaws.{ObjectLeft}
-use Prim.Native.Nat.{◌+◌, ◌-◌, ◌*◌}
+use Prim.Native.Nat.{◌+◌, ◌*◌}
 use Rattle.unify.proofs.+unify_objects_unify_pair_unify_types.Given as goal
 
 abbrev pub decreases-unify_objects : goal.decreases-unify_objects
@@ -23,12 +23,6 @@ abbrev pub invariant-unify_objects-loop-j : goal.invariant-unify_objects-loop-j
 invariant-unify_objects-loop-j l = (length l.ws ≡ length l.initial.ws) × (length l.memory ≡ length l.initial.memory)
     × ObjectLeft (texts l.rule l.text) l.ks l.ks l.initial.ws l.ks l.initial.memory l.n l.depth l.s l.ws l.memory l.r l.j
 
-abbrev pub decreases-unify_objects-loop-j : goal.decreases-unify_objects-loop-j
-decreases-unify_objects-loop-j l = l.s.na - l.j
-
 abbrev pub invariant-unify_types-loop-i : goal.invariant-unify_types-loop-i
 invariant-unify_types-loop-i l = (length l.ws ≡ length l.initial.ws) × (length l.memory ≡ length l.initial.memory)
     × RunLeft (texts l.rule l.text) l.initial.ws l.ks l.initial.memory l.n l.depth l.s l.ws l.memory l.r l.i
-
-abbrev pub decreases-unify_types-loop-i : goal.decreases-unify_types-loop-i
-decreases-unify_types-loop-i l = l.s.na - l.i

@@ -1,8 +1,7 @@
 -- `unify_lists::unify_entries` meets its contract. The invariant: what the names from j on ask gives what all ask, as for two objects of one store; the first object's
--- entries lie in xs, the second's in ys. The measure is what is left of the first object.
+-- entries lie in xs, the second's in ys.
 -- Assumes nothing.
 use mathlib.Core.Path.{◌≡◌}
-use Prim.Native.Nat.{◌-◌}
 use lib.ListN.{length}
 use Rattle.names.specs.Place.{texts}
 use Rattle.unify_lists.specs.Lent.{from_first}
@@ -12,6 +11,3 @@ use Rattle.unify_lists.proofs.unify_entries.Given as goal
 abbrev pub invariant-loop-j : goal.invariant-loop-j
 invariant-loop-j l = (length l.ws ≡ length l.initial.ws) × (length l.memory ≡ length l.initial.memory)
     × ObjectLeft (texts l.rule l.text) l.xs l.ys l.initial.ws l.ks l.initial.memory l.n l.n (from_first l.na l.nb l.inv) l.ws l.memory l.r l.j
-
-abbrev pub decreases-loop-j : goal.decreases-loop-j
-decreases-loop-j l = l.na - l.j

@@ -1,6 +1,5 @@
--- `walk::look` meets its contract. The invariant: what is left of the children tells what all of them tell. The measure is how many are left.
+-- `walk::look` meets its contract. The invariant: what is left of the children tells what all of them tell.
 -- Assumes nothing.
-use Prim.Native.Nat.{◌-◌}
 use native.Mathlib.Omega.{arith}
 use Rattle.scope.specs.Types.{ty_of}
 use Rattle.layout.proofs.LinkLaws.{clean_linked}
@@ -10,9 +9,6 @@ use Rattle.walk.proofs.look.Goals as goal
 
 pub loop-j-init : goal.loop-j-init
 loop-j-init c = left_start _ _ _
-
-pub overflow_add-j : goal.overflow_add-j
-overflow_add-j c = omega (arith, c.loop-j-test.true)
 
 pub near-requires : goal.near-requires
 near-requires c = clean_linked _ _ _ _ c.requires.0.clean
@@ -31,9 +27,6 @@ is_leaf-requires c = c.requires.0.clean.room
 
 pub returns-then-not-is_leaf : goal.returns-then-not-is_leaf
 returns-then-not-is_leaf c = looked_deep
-
-pub loop-j-smaller : goal.loop-j-smaller
-loop-j-smaller c = omega (arith, c.loop-j-test.true)
 
 pub loop-j-preserved : goal.loop-j-preserved
 loop-j-preserved c =
