@@ -174,7 +174,7 @@ pub extern "C" fn faroalder_direct_import(
         (types_in ts.now)) (length ts.now)
         h.old ws.old ks.old h.new ws.new ks.new out.old out.new }
 {
-    copy::import(sw, sk, n, false, ts, h, ws, ks, ts, out);
+    copy::import(sw, sk, n, None, h, ws, ks, ts, out);
 }
 
 // The place where the text ends; one past the buffer where it does not fit.

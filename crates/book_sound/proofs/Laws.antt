@@ -22,11 +22,9 @@ use Rattle.chart.specs.Env.{env_of, chart_in}
 use Rattle.layout.specs.Words.{store_in, lent_of}
 use Rattle.layout.specs.Meaning.{header_in}
 use Rattle.layout.specs.declared.Header.{Header}
-use Rattle.layout.proofs.Lists.{and_left}
+use Rattle.layout.proofs.Lists.{and_left, all_map}
 use Rattle.layout.proofs.StoreLaws.{lent_clean}
-use Rattle.clean.proofs.Laws.{all_map}
-use Rattle.refusals.specs.Codes.{code_of}
-use Rattle.refusals.proofs.Laws.{code_none, test_passed, tests_passed, code_first, code_next}
+use Rattle.refusals.proofs.Laws.{broken_first, broken_next, test_passed, tests_passed}
 use Rattle.sound.specs.Tests.{env_in}
 use Rattle.sound.proofs.Laws.{all_both, sound_beside, sound_clean, env_ok, env_whole}
 use Rattle.book.specs.Words.{BOOK_HEAD, book_words, place_at, place_clean, node_room_in, child_room_in, places_in, book_in, book_clean, lent_book_of}
@@ -200,7 +198,7 @@ module _ (ws : List ℕ) (b : Beside) (rule text : List ℕ) where
   book_beside s (reads_book k) =
       rw (all_like (place_sound (env_of ws b rule text) k) (place_sound (chart_in ws rule text) k) k.places (place_beside k)) refl
 
-  module _ (h ns ks : List ℕ) (k : LentBook) (n : ℕ) (q : first_broken (lent_tests (env_in ws b rule text) (lent_of h ns ks)) ≡ code_of n) where
+  module _ (h ns ks : List ℕ) (k : LentBook) where
     abbrev tests : List (Bool × ℕ)
     tests = book_tests (env_in ws b rule text) (lent_of h ns ks) k
 
@@ -209,25 +207,22 @@ module _ (ws : List ℕ) (b : Beside) (rule text : List ℕ) where
     last = (not (lent_book_sound (env_in ws b rule text) (store_of (lent_of h ns ks)) k), UNSOUND) ∷ []
 
     -- 2 or 8 of the store
-    pub names_back : (n ≡ 0 → ⊥) → first_broken tests ≡ code_of n
-    names_back z = code_first (lent_tests (env_in ws b rule text) (lent_of h ns ks)) last n q z
+    pub names_back : {n : ℕ} → first_broken (lent_tests (env_in ws b rule text) (lent_of h ns ks)) ≡ some n → first_broken tests ≡ some n
+    names_back {n = n} q = broken_first (lent_tests (env_in ws b rule text) (lent_of h ns ks)) last n q
 
-    module _ (z : n ≡ 0) where
-      none_stands : first_broken (lent_tests (env_in ws b rule text) (lent_of h ns ks)) ≡ none
-      none_stands = q ∙ code_none n z
-
+    module _ (q : first_broken (lent_tests (env_in ws b rule text) (lent_of h ns ks)) ≡ none) where
       abbrev store_test : List (Bool × ℕ)
       store_test = (not (sound (env_in ws b rule text) (lent_of h ns ks)), UNSOUND) ∷ []
 
       chart_stands : env_in ws b rule text ≡ env_of ws b rule text
       chart_stands =
           let c : chart_ok (env_in ws b rule text) ≡ true =
-          not-false _ (test_passed (not (chart_ok (env_in ws b rule text))) BAD_CHART store_test none_stands) in
+          not-false _ (test_passed (not (chart_ok (env_in ws b rule text))) BAD_CHART store_test q) in
           env_whole ws b rule text (sym (env_ok ws b rule text) ∙ c)
 
       store_stands : lent_of h ns ks ≡ reads (store_in h ns ks)
       store_stands =
-          let r = tests_passed (not (chart_ok (env_in ws b rule text))) BAD_CHART store_test none_stands in
+          let r = tests_passed (not (chart_ok (env_in ws b rule text))) BAD_CHART store_test q in
           let s : sound (env_in ws b rule text) (lent_of h ns ks) ≡ true =
           not-false _ (test_passed (not (sound (env_in ws b rule text) (lent_of h ns ks))) UNSOUND [] r) in
           lent_clean h ns ks (sound_clean h ns ks (env_in ws b rule text) s)
@@ -241,7 +236,7 @@ module _ (ws : List ℕ) (b : Beside) (rule text : List ℕ) where
 
       left : first_broken tests ≡ first_broken ((not (lent_book_sound (chart_in ws rule text) (room_alone h) k), UNSOUND) ∷ [])
       left =
-          code_next (lent_tests (env_in ws b rule text) (lent_of h ns ks)) last n q z
+          broken_next (lent_tests (env_in ws b rule text) (lent_of h ns ks)) last q
           ∙ ap (λ (t : Bool). first_broken ((not t, UNSOUND) ∷ [])) book_stands
 
       pub names_unsound : lent_book_sound (chart_in ws rule text) (room_alone h) k ≡ false → first_broken tests ≡ some UNSOUND

@@ -3,22 +3,20 @@
 use mathlib.Core.Path.{◌≡◌, refl, ap, sym, ◌∙◌}
 use mathlib.Core.Bool.{Bool, true, false, not, ◌&&◌, ◌||◌}
 use mathlib.Core.List.{List, [], ◌∷◌, map}
-use Prim.Native.Nat.{ℕ, suc, ◌+◌, ◌-◌, ◌≤◌, ◌<◌}
+use Prim.Native.Nat.{ℕ, zero, suc, ◌+◌, ◌-◌, ◌≤◌, ◌<◌}
 use native.Mathlib.Omega.{arith}
-use native.Mathlib.Numerals.{add-one}
 use lib.Dec.{eqb}
 use lib.ListN.{length}
 use borrow.Author.Tests.{ne_eqb, eqb-true, eqb-false}
 use Rattle.scope.specs.Base.{all, any, from}
 use Rattle.scope.specs.Limits.{MAX_STATES}
 use Rattle.scope.specs.States.{Place, under, held_once, names_differ}
-use Rattle.layout.proofs.Lists.{from_all}
-use Rattle.clean.proofs.Laws.{all_map}
+use Rattle.layout.proofs.Lists.{from_all, all_map}
 use Rattle.book.specs.Words.{place_at, name_length_in, name_bytes_in, place_in, node_room_in, child_room_in, book_clean}
 use Rattle.book.specs.declared.Room.{Room}
 use Rattle.book.specs.Places.{room_in, place_of, held_under}
 use Rattle.book.proofs.Names.{under_is, place_in_free, place_name, name_is, name_length_lem, apart_length}
-use Rattle.book_sound.specs.Tests.{name_once}
+use Rattle.book_sound.specs.Tests.{other_name, name_once}
 
 -- tests of every element
 
@@ -38,14 +36,10 @@ all_like p q (x ∷ l) e = rw (e x, all_like p q l e) refl
 abbrev words : List ℕ → ℕ → List ℕ
 words bs i = place_at bs (node_room_in bs) (child_room_in bs) i
 
--- place j is not held under place i's name
-abbrev pub other_name : List ℕ → ℕ → ℕ → Bool
-other_name bs i j = not (held_under (name_bytes_in (words bs i)) (words bs j))
-
 -- what the code reads: a room r, the words x and y of places j and i, and whether y's name is x's
-pub other_told : (bs : List ℕ) (i j : ℕ) {r : Room} {x y : List ℕ} {t b : Bool} → r ≡ room_in bs → x ≡ place_at bs r.nodes r.children j
-    → y ≡ place_at bs r.nodes r.children i → t ≡ held_under (name_bytes_in y) x → t ≡ b → other_name bs i j ≡ not b
-other_told bs i j w ex ey h e = ap not (sym (rw (ex, ey, w) at h) ∙ e)
+pub other_told : (bs : List ℕ) (i j : ℕ) {r : Room} {x y : List ℕ} {t : Bool} → r ≡ room_in bs → x ≡ place_at bs r.nodes r.children j
+    → y ≡ place_at bs r.nodes r.children i → t ≡ held_under (name_bytes_in y) x → not t ≡ other_name bs i j
+other_told bs i j w ex ey h = ap not (rw (ex, ey, w) at h)
 
 module _ (bs : List ℕ) (cl : book_clean bs ≡ true) (i : ℕ) where
   -- behind a held place
@@ -86,10 +80,6 @@ module _ (bs : List ℕ) (cl : book_clean bs ≡ true) (i : ℕ) where
   pub once_run : i < MAX_STATES → name_once bs i ≡ all (other_name bs i) (from (suc i) (MAX_STATES - suc i))
   once_run h = run_by (eqb (name_length_in (words bs i)) 0) refl h
 
--- where the places behind place i begin
-pub once_start : (bs : List ℕ) (i j : ℕ) → j ≡ suc i → all (other_name bs i) (from (suc i) (MAX_STATES - suc i)) ≡ all (other_name bs i) (from j (MAX_STATES - j))
-once_start bs i j e = rw e refl
-
 -- from place i on
 abbrev pub differ_from : List ℕ → ℕ → Bool
 differ_from bs i = names_differ (map (place_of bs) (from i (MAX_STATES - i)))
@@ -98,11 +88,6 @@ module _ (bs : List ℕ) (i : ℕ) where
   next : i < MAX_STATES → differ_from bs i ≡ (name_once bs i && differ_from bs (suc i))
   next h = let z : MAX_STATES - i ≡ suc (MAX_STATES - suc i) = omega arith in rw z refl
 
-  pub differ_step : i < MAX_STATES → name_once bs i ≡ true → differ_from bs i ≡ differ_from bs (i + 1)
-  differ_step h e = next h ∙ rw (e, add-one i) refl
-
-  pub differ_stop : i < MAX_STATES → name_once bs i ≡ false → differ_from bs i ≡ false
-  differ_stop h e = next h ∙ rw e refl
-
-  pub differ_end : MAX_STATES ≤ i → differ_from bs i ≡ true
-  differ_end h = let z : MAX_STATES - i ≡ 0 = omega arith in rw z refl
+pub differ_all : (bs : List ℕ) (i n : ℕ) → i + n ≡ MAX_STATES → all (name_once bs) (from i n) ≡ differ_from bs i
+differ_all bs i zero e = let z : MAX_STATES - i ≡ 0 = omega arith in rw z refl
+differ_all bs i (suc n) e = rw (differ_all bs (suc i) n (omega arith)) (sym (next bs i (omega arith)))

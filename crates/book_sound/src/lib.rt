@@ -1,20 +1,21 @@
 #![tactic(auto)]
 // Refusal 8 of a names buffer: "unsound, too short or made for other capacities". Any numbers at all may be lent. Lengths and capacities are tested first,
 // then each held place once, whatever is asked for, by the tests that a store has; last that no two names are the same.
-ghost use Rattle.std.specs.Prelude.{◌≡◌, true, ◌≤◌, length};
+ghost use Rattle.std.specs.Prelude.{◌≡◌, true, ◌≤◌, ◌<◌, length};
 ghost use Rattle.scope.specs.Base.{all};
+ghost use Rattle.scope.specs.Limits.{MAX_STATES};
 ghost use Rattle.scope.specs.Refusals.{first_broken};
 ghost use Rattle.scope.specs.States.{names_differ, lent_book_sound, book_tests};
-ghost use Rattle.chart.specs.Env.{chart_in};
+ghost use Rattle.chart.specs.Env.{chart_lent};
 ghost use Rattle.layout.specs.Words.{between, lent_of};
-ghost use Rattle.refusals.specs.Codes.{code_of};
-ghost use Rattle.sound.specs.Tests.{env_in};
+ghost use Rattle.refusals.specs.Codes.{told};
+ghost use Rattle.sound.specs.Tests.{env_lent};
 ghost use Rattle.book.specs.Words.{NAME_WORDS, place_words, book_words, places_in, name_words_clean, book_clean, lent_book_of};
-ghost use Rattle.book_sound.specs.Tests.{room_alone, Run, is_below, place_ok, places_ok, Listed, name_once};
+ghost use Rattle.book_sound.specs.Tests.{room_alone, Run, is_below, place_ok, places_ok, Listed, other_name, name_once};
 
 use book::{NAME_WORDS, name_length, place};
-use chart::Beside;
-use refusals::{NO_REFUSAL, UNSOUND};
+use chart::Env;
+use refusals::Refusal;
 use scope::{MAX_CHILDREN, MAX_NODES, MAX_STATE_NAME, MAX_STATES};
 
 // One more than the largest byte.
@@ -25,14 +26,7 @@ fn below(s: &[u32], a: usize, e: usize, limit: u32) -> bool
     requires { Run s.now a e }
     ensures { result ≡ all (is_below limit) (between s.now a e) }
 {
-    let mut i = a;
-    while i < e {
-        if limit <= s[i] {
-            return false;
-        }
-        i += 1;
-    }
-    true
+    s[a..e].iter().all(|&word| word < limit)
 }
 
 // A name's length is one that a name can have, its words are bytes, and unused ones are zero.
@@ -41,80 +35,53 @@ fn name_clean(ps: &[u32]) -> bool
     ensures { result ≡ name_words_clean ps.now }
 {
     let n = name_length(ps) as usize;
-    if MAX_STATE_NAME < n {
-        return false;
-    }
-    let e = n + 1;
-    below(ps, 1, e, BYTES) && below(ps, e, NAME_WORDS, 1)
+    n <= MAX_STATE_NAME && below(ps, 1, n + 1, BYTES) && below(ps, n + 1, NAME_WORDS, 1)
 }
 
 // A free place passes. A held head says its counts as its capacities, so the slots behind what is used are not looked at.
-fn place_sound<'a>(
-    chart: &[u32],
-    rule: &'a [u8],
-    text: &'a [u8],
-    ps: &[u32],
-    nodes: u32,
-    children: u32,
-) -> bool
+fn place_sound(env: &Env<'_>, ps: &[u32], nodes: u32, children: u32) -> bool
     requires { length ps.now ≡ place_words nodes children }
-    ensures { result ≡ place_ok (chart_in chart.now rule.now text.now) nodes children ps.now }
+    ensures { result ≡ place_ok (chart_lent env.now) nodes children ps.now }
 {
     if name_length(ps) == 0 {
         return true;
     }
-    if !name_clean(ps) {
-        return false;
-    }
-    if MAX_NODES < nodes as usize {
-        return false;
-    }
-    if MAX_CHILDREN < children as usize {
-        return false;
-    }
     let x = layout::read_header(book::head_of(ps));
-    if x.node_room != x.nodes {
-        return false;
-    }
-    if x.child_room != x.children {
-        return false;
-    }
-    sound::store_sound(
-        chart,
-        rule,
-        text,
-        book::head_of(ps),
-        book::nodes_of(ps, nodes),
-        book::kids_of(ps, nodes, children),
-    )
+    name_clean(ps)
+        && nodes as usize <= MAX_NODES
+        && children as usize <= MAX_CHILDREN
+        && x.node_room == x.nodes
+        && x.child_room == x.children
+        && sound::store_sound(
+            env,
+            book::head_of(ps),
+            book::nodes_of(ps, nodes),
+            book::kids_of(ps, nodes, children),
+        )
 }
 
-fn places_sound<'a>(
-    chart: &[u32],
-    rule: &'a [u8],
-    text: &'a [u8],
-    bs: &[u32],
-    nodes: u32,
-    children: u32,
-) -> bool
+fn places_sound(env: &Env<'_>, bs: &[u32], nodes: u32, children: u32) -> bool
     requires { book_words nodes children ≤ length bs.now }
-    ensures { result ≡ places_ok (chart_in chart.now rule.now text.now) nodes children bs.now }
+    ensures { result ≡ places_ok (chart_lent env.now) nodes children bs.now }
 {
-    let mut i = 0;
-    while i < MAX_STATES {
-        if !place_sound(
-            chart,
-            rule,
-            text,
-            place(bs, nodes, children, i),
-            nodes,
-            children,
-        ) {
+    for i in 0..MAX_STATES {
+        if !place_sound(env, place(bs, nodes, children, i), nodes, children) {
             return false;
         }
-        i += 1;
     }
     true
+}
+
+// Place j is not held under place i's name.
+fn other_name(bs: &[u32], i: usize, j: usize) -> bool
+    requires { Listed bs.now i × (j < MAX_STATES) }
+    ensures { result ≡ other_name bs.now i j }
+{
+    let room = book::room_of(bs);
+    !book::same_names(
+        place(bs, room.nodes, room.children, j),
+        place(bs, room.nodes, room.children, i),
+    )
 }
 
 // No place behind place i is held under its name.
@@ -122,75 +89,37 @@ fn name_once(bs: &[u32], i: usize) -> bool
     requires { Listed bs.now i }
     ensures { result ≡ name_once bs.now i }
 {
-    let room = book::room_of(bs);
-    let mut j = i + 1;
-    while j < MAX_STATES {
-        if book::same_names(
-            place(bs, room.nodes, room.children, j),
-            place(bs, room.nodes, room.children, i),
-        ) {
-            return false;
-        }
-        j += 1;
-    }
-    true
+    (i + 1..MAX_STATES).all(|j| other_name(bs, i, j))
 }
 
 fn names_differ(bs: &[u32]) -> bool
     requires { book_clean bs.now ≡ true }
     ensures { result ≡ names_differ (places_in bs.now) }
 {
-    let mut i = 0;
-    while i < MAX_STATES {
-        if !name_once(bs, i) {
-            return false;
-        }
-        i += 1;
-    }
-    true
+    (0..MAX_STATES).all(|i| name_once(bs, i))
 }
 
 // Whether refusal 8 does not stand of a names buffer beside a store with this head.
-pub fn book_sound<'a>(chart: &[u32], rule: &'a [u8], text: &'a [u8], h: &[u32], bs: &[u32]) -> bool
-    ensures { result ≡ lent_book_sound (chart_in chart.now rule.now text.now) (room_alone h.now) (lent_book_of bs.now) }
+pub fn book_sound(env: &Env<'_>, h: &[u32], bs: &[u32]) -> bool
+    ensures { result ≡ lent_book_sound (chart_lent env.now) (room_alone h.now) (lent_book_of bs.now) }
 {
     let x = layout::read_header(h);
     let room = book::room_of(bs);
-    if bs.len() < book::book_words(room.nodes, room.children) {
-        return false;
-    }
-    if room.nodes != x.node_room {
-        return false;
-    }
-    if room.children != x.child_room {
-        return false;
-    }
-    if !places_sound(chart, rule, text, bs, room.nodes, room.children) {
-        return false;
-    }
-    names_differ(bs)
+    book::book_words(room.nodes, room.children) <= bs.len()
+        && room.nodes == x.node_room
+        && room.children == x.child_room
+        && places_sound(env, bs, room.nodes, room.children)
+        && names_differ(bs)
 }
 
-// The first of refusals 2 and 8 that stands, of a chart, a store and its names buffer, and 0 where none does.
-pub fn names_refusal<'a>(
-    chart: &[u32],
-    beside: Beside,
-    rule: &'a [u8],
-    text: &'a [u8],
-    h: &[u32],
-    ws: &[u32],
-    ks: &[u32],
-    bs: &[u32],
-) -> u32
-    ensures { first_broken (book_tests (env_in chart.now beside rule.now text.now) (lent_of h.now ws.now ks.now)
-        (lent_book_of bs.now)) ≡ code_of result }
+// The first of refusals 2 and 8 that stands, of a chart, a store and its names buffer.
+pub fn lent(env: &Env<'_>, h: &[u32], ws: &[u32], ks: &[u32], bs: &[u32]) -> Result<(), Refusal>
+    ensures { first_broken (book_tests (env_lent env.now) (lent_of h.now ws.now ks.now)
+        (lent_book_of bs.now)) ≡ told result }
 {
-    let r = sound::refusal(chart, beside, rule, text, h, ws, ks);
-    if r != NO_REFUSAL {
-        return r;
+    sound::lent(env, h, ws, ks)?;
+    if !book_sound(env, h, bs) {
+        return Err(Refusal::Unsound);
     }
-    if !book_sound(chart, rule, text, h, bs) {
-        return UNSOUND;
-    }
-    NO_REFUSAL
+    Ok(())
 }

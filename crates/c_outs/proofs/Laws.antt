@@ -6,30 +6,29 @@ use Prim.Native.Nat.{ℕ, ◌+◌, ◌<◌}
 use native.Mathlib.Nat.{mod-add-div'}
 use native.Mathlib.Omega.{arith}
 use lib.Dec.{eqb}
+use Rattle.std.specs.Prelude.{Result, Ok, Err}
+use Rattle.std.specs.declared.option.Option as option
+use Rattle.std.specs.declared.option.Option.TheVariants.{Some, None}
 use Rattle.types.specs.declared.Inverted.{Inverted}
-use Rattle.layout.specs.Meaning.{HALF}
+use Rattle.names.specs.declared.Name.{Name}
+use Rattle.layout.specs.Meaning.{HALF, Remembered}
 use Rattle.layout.specs.declared.Kind.{Kind}
 use Rattle.layout.specs.declared.Header.{Header}
-use Rattle.layout.specs.Meaning.{Remembered}
-use Rattle.std.specs.declared.option.Option.TheVariants as was
+use Rattle.layout.specs.declared.TypeState.TheVariants as state
+use Rattle.layout.specs.declared.TypeNode.{TypeNode}
+use Rattle.layout.specs.declared.TypeNode.TheVariants as node
+use Rattle.force.specs.declared.Forced.{Forced}
+use Rattle.force.specs.declared.Forced.TheVariants as forced
+use Rattle.walk.specs.declared.Mod.{Mod}
 use Rattle.walk.specs.declared.Mod.TheVariants as mods
-use Rattle.call_read.specs.declared.NodeAnswer.{NodeAnswer}
-use Rattle.call_read.specs.declared.NodeAnswer.TheVariants as node
-use Rattle.call_read.specs.declared.ChildAnswer.{ChildAnswer}
-use Rattle.call_read.specs.declared.ChildAnswer.TheVariants as child
-use Rattle.call_read.specs.declared.NameAnswer.{NameAnswer}
-use Rattle.call_read.specs.declared.NameAnswer.TheVariants as name
-use Rattle.call_read.specs.declared.FiguresAnswer.{FiguresAnswer}
-use Rattle.call_read.specs.declared.FiguresAnswer.TheVariants as figures
-use Rattle.call_ask.specs.declared.ModAnswer.{ModAnswer}
-use Rattle.call_ask.specs.declared.ModAnswer.TheVariants as told
-use Rattle.call_force.specs.declared.ForcedAnswer.{ForcedAnswer}
-use Rattle.call_force.specs.declared.ForcedAnswer.TheVariants as forced
+use Rattle.refusals.specs.declared.Refusal.{Refusal}
+use Rattle.refusals.specs.Codes.{number}
+use Rattle.promise.specs.Promise.{value}
 use Rattle.c_words.specs.Numbers.{REFUSED, answer_in}
 use Rattle.c_words.proofs.Laws.{number_value, number_refused}
-use Rattle.c_outs.specs.Outs.{Told, bit, plain_out, kind_out, inverted_from, kind_from, node_case, node_in, node_out, forced_case, forced_in, forced_out}
-use Rattle.c_outs.specs.Outs.{child_case, child_in, child_out, name_case, name_answer_in, name_out, mod_number, mod_case, mod_in, mod_out}
-use Rattle.c_outs.specs.Outs.{has_word, type_or_zero, remembered_from, figures_out, figures_from, figures_in, figures_put}
+use Rattle.c_outs.specs.Outs.{left, Told, bit, plain_out, kind_out, inverted_from, kind_from, node_case, node_in, node_out, forced_case, forced_in, forced_out}
+use Rattle.c_outs.specs.Outs.{child_case, child_in, child_out, name_case, name_in, name_out, mod_number, mod_case, mod_in, mod_out}
+use Rattle.c_outs.specs.Outs.{has_word, type_or_zero, remembered_from, figures_out, figures_from, figures_in}
 
 bit_back : (b : Bool) → eqb (bit b) 1 ≡ b
 bit_back true = refl
@@ -42,93 +41,88 @@ kind_back : (i : Inverted) (k : Kind) (z : ℕ) → kind_from (kind_out i k z) �
 kind_back i k z =
     ap (λ (b : Bool). record { code = k.code; number = k.number; dual = b; flex = k.flex; name = k.name; first = k.first; count = k.count }) (bit_back k.dual)
 
--- the number of each answer
-abbrev pub node_number : NodeAnswer → ℕ
-node_number (node.Known i k z) = 3
-node_number (node.Unknown p z) = 1
-node_number (node.InferenceFailed z) = 2
+-- a value's number
+abbrev pub node_number : TypeNode → ℕ
+node_number (node.Root (state.Known i k) z) = 3
+node_number (node.Root (state.Unknown p) z) = 1
+node_number (node.Root state.InferenceFailed z) = 2
 node_number (node.Child t) = 0
-node_number (node.Refused n) = REFUSED + n
 
-abbrev pub forced_number : ForcedAnswer → ℕ
+abbrev pub forced_number : Forced → ℕ
 forced_number (forced.Known i k) = 3
 forced_number (forced.Reported p) = 1
 forced_number forced.Failed = 2
-forced_number (forced.Refused n) = REFUSED + n
 
-abbrev pub child_number : ChildAnswer → ℕ
-child_number (child.Is t) = 1
-child_number child.Nothing = 0
-child_number (child.Refused n) = REFUSED + n
+abbrev pub some_number : {A : Type 0} → option.Option A → ℕ
+some_number (Some x) = 1
+some_number None = 0
 
-abbrev pub name_number : NameAnswer → ℕ
-name_number (name.Is n) = 1
-name_number name.Nothing = 0
-name_number (name.Refused n) = REFUSED + n
+-- an answer's, where a value's is by f
+abbrev pub answer_number : {A : Type 0} → (A → ℕ) → Result A Refusal → ℕ
+answer_number f (Ok a) = f a
+answer_number f (Err r) = REFUSED + number r
 
-abbrev pub mod_answer_number : ModAnswer → ℕ
-mod_answer_number (told.Is m) = mod_number m
-mod_answer_number (told.Refused n) = REFUSED + n
+-- where values are told, refusals are
+told_all : {A : Type 0} (n : ℕ) (is : List ℕ → ℕ → A) (put : A → List ℕ) (f : A → ℕ) (out : List ℕ) → n < REFUSED
+    → ((a : A) → answer_in n (is (put a)) (f a) ≡ value a)
+    → (a : Result A Refusal) → Told (λ r words. answer_in n (is words) r) put a out (left put a out) (answer_number f a)
+told_all n is put f out low back (Ok a) = record { answer = back a; out = refl }
+told_all n is put f out low back (Err r) = record { answer = number_refused n (is out) (number r) (omega (arith, low)); out = refl }
 
-abbrev pub figures_number : FiguresAnswer → ℕ
-figures_number (figures.Is x) = 0
-figures_number (figures.Refused n) = REFUSED + n
+node_back : (a : TypeNode) → answer_in 4 (node_case (node_out a)) (node_number a) ≡ value a
+unfolding answer_in
+node_back (node.Root (state.Known i k) z) = rw (inverted_back i k z, kind_back i k z) refl
+node_back (node.Root (state.Unknown p) z) = refl
+node_back (node.Root state.InferenceFailed z) = refl
+node_back (node.Child t) = refl
+
+forced_back : (a : Forced) → answer_in 4 (forced_case (forced_out a)) (forced_number a) ≡ value a
+unfolding answer_in
+forced_back (forced.Known i k) = rw (inverted_back i k 0, kind_back i k 0) refl
+forced_back (forced.Reported p) = refl
+forced_back forced.Failed = refl
+
+child_back : (a : Remembered) → answer_in 2 (child_case (child_out a)) (some_number a) ≡ value a
+unfolding answer_in
+child_back (Some t) = refl
+child_back None = refl
+
+name_back : (a : option.Option Name) → answer_in 2 (name_case (name_out a)) (some_number a) ≡ value a
+unfolding answer_in
+name_back (Some n) = refl
+name_back None = refl
+
+mod_back : (a : Mod) → answer_in 3 (mod_case (mod_out a)) (mod_number a) ≡ value a
+unfolding answer_in
+mod_back mods.Nothing = refl
+mod_back (mods.Def d) = refl
+mod_back mods.Error = refl
+
+remembered_back : (t : Remembered) → remembered_from (has_word t) (type_or_zero t) ≡ t
+remembered_back (Some t) = refl
+remembered_back None = refl
+
+figures_back : (x : Header) → figures_from (figures_out x) ≡ x
+figures_back x = rw (remembered_back x.error, remembered_back x.nil, mod-add-div' x.reports HALF)
+
+figures_value : (x : Header) → answer_in 1 (λ w. figures_from (figures_out x)) 0 ≡ value x
+figures_value x = number_value 1 (λ w. figures_from (figures_out x)) 0 (omega arith) ∙ ap value (figures_back x)
 
 module _ (out : List ℕ) where
-  node_value : (a : NodeAnswer) (words : List ℕ) (r : ℕ) → r < 4 → node_case words r ≡ a → node_in r words ≡ a
-  node_value a words r low e = number_value 4 (node_case words) node.Refused r low ∙ e
+  pub node_told : (a : Result TypeNode Refusal) → Told node_in node_out a out (left node_out a out) (answer_number node_number a)
+  node_told a = told_all 4 node_case node_out node_number out (omega arith) node_back a
 
-  pub node_told : (a : NodeAnswer) → Told node_in node_out a out (node_out a out) (node_number a)
-  node_told (node.Known i k z) = record {
-    answer = node_value (node.Known i k z) (kind_out i k z) 3 (omega arith) (rw (inverted_back i k z, kind_back i k z));
-    out = refl;
-  }
-  node_told (node.Unknown p z) = record { answer = node_value (node.Unknown p z) (plain_out p z) 1 (omega arith) refl; out = refl }
-  node_told (node.InferenceFailed z) = record { answer = node_value (node.InferenceFailed z) (plain_out 0 z) 2 (omega arith) refl; out = refl }
-  node_told (node.Child t) = record { answer = node_value (node.Child t) (plain_out t.0 0) 0 (omega arith) refl; out = refl }
-  node_told (node.Refused n) = record { answer = number_refused 4 (node_case out) node.Refused n (omega arith); out = refl }
+  pub forced_told : (a : Result Forced Refusal) → Told forced_in forced_out a out (left forced_out a out) (answer_number forced_number a)
+  forced_told a = told_all 4 forced_case forced_out forced_number out (omega arith) forced_back a
 
-  forced_value : (a : ForcedAnswer) (words : List ℕ) (r : ℕ) → r < 4 → forced_case words r ≡ a → forced_in r words ≡ a
-  forced_value a words r low e = number_value 4 (forced_case words) forced.Refused r low ∙ e
+  pub child_told : (a : Result Remembered Refusal) → Told child_in child_out a out (left child_out a out) (answer_number some_number a)
+  child_told a = told_all 2 child_case child_out some_number out (omega arith) child_back a
 
-  pub forced_told : (a : ForcedAnswer) → Told forced_in forced_out a out (forced_out a out) (forced_number a)
-  forced_told (forced.Known i k) = record {
-    answer = forced_value (forced.Known i k) (kind_out i k 0) 3 (omega arith) (rw (inverted_back i k 0, kind_back i k 0));
-    out = refl;
-  }
-  forced_told (forced.Reported p) = record { answer = forced_value (forced.Reported p) (plain_out p 0) 1 (omega arith) refl; out = refl }
-  forced_told forced.Failed = record { answer = forced_value forced.Failed (plain_out 0 0) 2 (omega arith) refl; out = refl }
-  forced_told (forced.Refused n) = record { answer = number_refused 4 (forced_case out) forced.Refused n (omega arith); out = refl }
+  pub name_told : (a : Result (option.Option Name) Refusal) → Told name_in name_out a out (left name_out a out) (answer_number some_number a)
+  name_told a = told_all 2 name_case name_out some_number out (omega arith) name_back a
 
-  pub child_told : (a : ChildAnswer) → Told child_in child_out a out (child_out a out) (child_number a)
-  unfolding answer_in
-  child_told (child.Is t) = record { answer = refl; out = refl }
-  child_told child.Nothing = record { answer = refl; out = refl }
-  child_told (child.Refused n) = record { answer = number_refused 2 (child_case out) child.Refused n (omega arith); out = refl }
+  pub mod_told : (a : Result Mod Refusal) → Told mod_in mod_out a out (left mod_out a out) (answer_number mod_number a)
+  mod_told a = told_all 3 mod_case mod_out mod_number out (omega arith) mod_back a
 
-  pub name_told : (a : NameAnswer) → Told name_answer_in name_out a out (name_out a out) (name_number a)
-  unfolding answer_in
-  name_told (name.Is n) = record { answer = refl; out = refl }
-  name_told name.Nothing = record { answer = refl; out = refl }
-  name_told (name.Refused n) = record { answer = number_refused 2 (name_case out) name.Refused n (omega arith); out = refl }
-
-  pub mod_told : (a : ModAnswer) → Told mod_in mod_out a out (mod_out a out) (mod_answer_number a)
-  unfolding answer_in
-  mod_told (told.Is mods.Nothing) = record { answer = refl; out = refl }
-  mod_told (told.Is (mods.Def d)) = record { answer = refl; out = refl }
-  mod_told (told.Is mods.Error) = record { answer = refl; out = refl }
-  mod_told (told.Refused n) = record { answer = number_refused 3 (λ w. told.Is (mod_case out w)) told.Refused n (omega arith); out = refl }
-
-  remembered_back : (t : Remembered) → remembered_from (has_word t) (type_or_zero t) ≡ t
-  remembered_back (was.Some t) = refl
-  remembered_back was.None = refl
-
-  figures_back : (x : Header) → figures_from (figures_out x) ≡ x
-  figures_back x = rw (remembered_back x.error, remembered_back x.nil, mod-add-div' x.reports HALF)
-
-  pub figures_told : (a : FiguresAnswer) → Told figures_in figures_put a out (figures_put a out) (figures_number a)
-  figures_told (figures.Is x) = record {
-    answer = number_value 1 (λ w. figures.Is (figures_from (figures_out x))) figures.Refused 0 (omega arith) ∙ ap figures.Is (figures_back x);
-    out = refl;
-  }
-  figures_told (figures.Refused n) = record { answer = number_refused 1 (λ w. figures.Is (figures_from out)) figures.Refused n (omega arith); out = refl }
+  pub figures_told : (a : Result Header Refusal) → Told figures_in figures_out a out (left figures_out a out) (answer_number (λ x. 0) a)
+  figures_told a = told_all 1 (λ words w. figures_from words) figures_out (λ x. 0) out (omega arith) figures_value a

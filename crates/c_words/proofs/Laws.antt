@@ -13,32 +13,32 @@ use lib.Seq.{length-take-le, take_at, drop_at}
 use mir.Val.{bool_byte}
 use Rattle.scope.specs.Nodes.{Store}
 use Rattle.scope.specs.Calls.{Printed}
-use Rattle.promise.specs.Promise.{Reply}
+use Rattle.promise.specs.Promise.{Reply, value, refusal}
 use Rattle.promise.specs.Prints.{PrintPromised}
-use Rattle.promise.specs.declared.BoolAnswer.TheVariants.{Is}
-use Rattle.types.specs.Answers.{number_of}
+use Rattle.types.specs.Answers.{answer_of, number_of}
 use Rattle.types.specs.declared.UnifyResult.{UnifyResult}
 use Rattle.types.specs.declared.UnifyResult.TheVariants.{Success, Failure, Indeterminate}
-use Rattle.c_words.specs.Numbers.{REFUSED, answer_in, bool_in, RESULTS, result_in, LONGEST, counted, CutPromised}
+use Rattle.c_words.specs.Numbers.{REFUSED, answer_in, bool_in, unify_in, LONGEST, counted, CutPromised}
 
-module _ {A : Type 0} (n : ℕ) (is refused : ℕ → A) where
-  pub number_value : (r : ℕ) → r < n → answer_in n is refused r ≡ is r
+module _ {A : Type 0} (n : ℕ) (is : ℕ → A) where
+  pub number_value : (r : ℕ) → r < n → answer_in n is r ≡ value (is r)
   unfolding answer_in
   number_value r below = rw (lt-ltb r n below)
 
-  pub number_refused : (m : ℕ) → n ≤ REFUSED → answer_in n is refused (REFUSED + m) ≡ refused m
+  pub number_refused : (m : ℕ) → n ≤ REFUSED → answer_in n is (REFUSED + m) ≡ refusal m
   unfolding answer_in
   number_refused m low =
       let over : n ≤ REFUSED + m = omega (arith, low) in
       rw (le-ltb (REFUSED + m) n over, add-sub_cancel_left)
 
-pub number_result : (u : UnifyResult) (r : ℕ) → r ≡ number_of u → (r < RESULTS) × (result_in r ≡ u)
-number_result Success r q = rw q (omega arith, refl)
-number_result Failure r q = rw q (omega arith, refl)
-number_result Indeterminate r q = rw q (omega arith, refl)
+pub number_result : (u : UnifyResult) → unify_in (number_of u) ≡ value (answer_of u)
+unfolding answer_in
+number_result Success = refl
+number_result Failure = refl
+number_result Indeterminate = refl
 
 -- yes and no are 1 and 0
-pub number_bool : (b : Bool) → bool_in (bool_byte b) ≡ Is b
+pub number_bool : (b : Bool) → bool_in (bool_byte b) ≡ value b
 unfolding answer_in
 number_bool true = refl
 number_bool false = refl

@@ -1,5 +1,7 @@
 -- What a caller in another language gives as numbers.
-use Rattle.std.specs.Prelude.{Bool, not, List, ℕ, eqb}
+use Rattle.std.specs.Prelude.{Bool, not, List, ℕ, eqb, Some, None}
+use Rattle.std.specs.declared.option.Option as option
+use Rattle.std.specs.Borrow.{Bor}
 use Rattle.scope.specs.Base.{pick}
 use Rattle.scope.specs.Limits.{NONE}
 use Rattle.types.specs.declared.Inverted.{Inverted}
@@ -7,6 +9,7 @@ use Rattle.types.specs.declared.Impl.{Impl}
 use Rattle.types.specs.declared.Impl.TheVariants.{Trait, Error}
 use Rattle.scope.specs.Chart.{Env}
 use Rattle.chart.specs.declared.Beside.{Beside}
+use Rattle.chart.specs.declared.Env as lent
 use Rattle.sound.specs.Tests.{env_in}
 use Rattle.lent_kind.specs.declared.KindArgs.{KindArgs}
 
@@ -14,9 +17,17 @@ use Rattle.lent_kind.specs.declared.KindArgs.{KindArgs}
 abbrev pub beside_in : ℕ → List ℕ → Beside
 beside_in t ws = record { fn_trait = t; sigils = ws }
 
+-- chart, what is beside it, and the two texts
+abbrev pub env_of : Bor (List ℕ) → ℕ → List ℕ → Bor (List ℕ) → Bor (List ℕ) → lent.Env
+env_of chart t sigils rule text = record { chart = chart; beside = beside_in t sigils; texts = record { rule = rule; chart = text } }
+
 -- any number but 0 is yes
 abbrev pub set_in : ℕ → Bool
 set_in n = not (eqb n 0)
+
+-- a list, if a number says that there is one
+abbrev pub list_if : ℕ → Bor (List ℕ) → option.Option (Bor (List ℕ))
+list_if n l = pick (set_in n) (Some l) None
 
 abbrev pub inverted_in : ℕ → Inverted
 inverted_in n = record { 0 = set_in n }

@@ -1,62 +1,60 @@
 -- The numbers that a caller in another language gets. A type is its word, yes is 1 and no 0, and an answer of `unify` its place in the Rust's enum. A public
 -- call answers a value's number, which is below 4,294,967,296, or the sum of 4,294,967,296 and a refusal's number.
-use Rattle.std.specs.Prelude.{◌≡◌, Bool, true, List, ℕ, ◌-◌, eqb, ltb, leb, length, take, drop}
+use Rattle.std.specs.Prelude.{◌≡◌, Bool, true, List, ℕ, ◌-◌, eqb, ltb, leb, length, take, drop, Result, Ok, Err}
+use Rattle.std.proofs.Math.Option.{Option, none, some}
 use Rattle.scope.specs.Base.{pick}
+use Rattle.scope.specs.Types.{Ty, ty_of}
+use Rattle.scope.specs.Answers.{Answer, Success, Failure, Indeterminate}
 use Rattle.scope.specs.Nodes.{Store}
 use Rattle.scope.specs.Calls.{Printed}
-use Rattle.types.specs.declared.«Type».{«Type»}
-use Rattle.types.specs.declared.UnifyResult.{UnifyResult}
-use Rattle.types.specs.declared.UnifyResult.TheVariants.{Success, Failure, Indeterminate}
-use Rattle.promise.specs.Promise.{Reply}
+use Rattle.refusals.specs.declared.Refusal.{Refusal}
+use Rattle.promise.specs.Promise.{Reply, value, refusal}
 use Rattle.promise.specs.Prints.{PrintPromised}
-use Rattle.promise.specs.declared.TypeAnswer.{TypeAnswer}
-use Rattle.promise.specs.declared.TypeAnswer.TheVariants as type
-use Rattle.promise.specs.declared.DoneAnswer.{DoneAnswer}
-use Rattle.promise.specs.declared.DoneAnswer.TheVariants as end
-use Rattle.promise.specs.declared.BoolAnswer.{BoolAnswer}
-use Rattle.promise.specs.declared.BoolAnswer.TheVariants as bool
-use Rattle.promise.specs.declared.CountAnswer.{CountAnswer}
-use Rattle.promise.specs.declared.CountAnswer.TheVariants as count
-use Rattle.call_unify.specs.declared.UnifyAnswer.{UnifyAnswer}
-use Rattle.call_unify.specs.declared.UnifyAnswer.TheVariants as unify
 
 -- refusal n is this and n; every value is below
 abbrev pub REFUSED : ℕ
 REFUSED = 4294967296
 
--- the answer that the number r is, where there are n values, numbered from 0
-unfoldable pub answer_in : {A : Type 0} → ℕ → (ℕ → A) → (ℕ → A) → ℕ → A
-answer_in n is refused r = pick (ltb r n) (is r) (refused (r - REFUSED))
+-- what the number r replies, where there are n values, numbered from 0
+unfoldable pub answer_in : {A : Type 0} → ℕ → (ℕ → A) → ℕ → Reply A
+answer_in n is r = pick (ltb r n) (value (is r)) (refusal (r - REFUSED))
 
-abbrev pub type_word : ℕ → «Type»
-type_word w = record { 0 = w }
+abbrev pub type_in : ℕ → Reply Ty
+type_in r = answer_in REFUSED ty_of r
 
-abbrev pub type_in : ℕ → TypeAnswer
-type_in r = answer_in REFUSED (λ w. type.Is (type_word w)) type.Refused r
+abbrev pub done_in : ℕ → Reply (Unit {0})
+done_in r = answer_in 1 (λ w. tt) r
 
-abbrev pub done_in : ℕ → DoneAnswer
-done_in r = answer_in 1 (λ w. end.Done) end.Refused r
-
-abbrev pub bool_in : ℕ → BoolAnswer
-bool_in r = answer_in 2 (λ w. bool.Is (eqb w 1)) bool.Refused r
+abbrev pub bool_in : ℕ → Reply Bool
+bool_in r = answer_in 2 (λ w. eqb w 1) r
 
 -- 0 Success, 1 Failure, 2 Indeterminate
 abbrev pub RESULTS : ℕ
 RESULTS = 3
 
-abbrev pub result_in : ℕ → UnifyResult
+abbrev pub result_in : ℕ → Answer
 result_in r = pick (eqb r 0) Success (pick (eqb r 1) Failure Indeterminate)
 
-abbrev pub unify_in : ℕ → UnifyAnswer
-unify_in r = answer_in RESULTS (λ w. unify.Is (result_in w)) unify.Refused r
+abbrev pub unify_in : ℕ → Reply Answer
+unify_in r = answer_in RESULTS result_in r
 
-abbrev pub count_in : ℕ → CountAnswer
-count_in r = answer_in REFUSED count.Is count.Refused r
+abbrev pub count_in : ℕ → Reply ℕ
+count_in r = answer_in REFUSED (λ n. n) r
+
+-- a refusal's own number, 0 where none stands
+abbrev pub refusal_in : ℕ → Option ℕ
+refusal_in n = pick (eqb n 0) none (some n)
+
+-- the answer of which P holds replies by f what is said
+pub record Says {A B : Type 0} (f : A → Reply B) (said : Reply B) (P : A → Type 0) : Type 0 where
+  pub answer : A
+  pub reply : said ≡ f answer
+  pub promised : P answer
 
 -- a length that a number below every refusal's can tell
-abbrev pub count_low : CountAnswer → Bool
-count_low (count.Is n) = ltb n REFUSED
-count_low (count.Refused n) = true
+abbrev pub count_low : Result ℕ Refusal → Bool
+count_low (Ok n) = ltb n REFUSED
+count_low (Err r) = true
 
 -- the longest such length, and how much of a buffer is used
 abbrev pub LONGEST : ℕ

@@ -1,17 +1,20 @@
 #![tactic(auto)]
 // What a caller in another language gives and gets, as numbers. A type is its word; a public call answers a value's number, which is below 4,294,967,296, or
 // the sum of 4,294,967,296 and a refusal's number.
-ghost use Rattle.std.specs.Prelude.{◌≡◌, true};
-ghost use Rattle.c_words.specs.Numbers.{type_in, done_in, bool_in, unify_in, count_in, count_low, counted};
-ghost use Rattle.c_words.specs.Given.{set_in, inverted_in, impl_in, kind_args_in, beside_in};
+ghost use Rattle.std.specs.Prelude.{◌≡◌, true, ◌+◌};
+ghost use Rattle.refusals.specs.Codes.{number, told};
+ghost use Rattle.promise.specs.Promise.{type_reply, bool_reply, done_reply};
+ghost use Rattle.promise.specs.Prints.{count_reply};
+ghost use Rattle.call_unify.specs.Answers.{unify_reply};
+ghost use Rattle.c_words.specs.Numbers.{«REFUSED», type_in, done_in, bool_in, unify_in, count_in, count_low, refusal_in, counted};
+ghost use Rattle.c_words.specs.Given.{env_of, set_in, list_if, inverted_in, impl_in, kind_args_in};
 
-use call_unify::UnifyAnswer;
-use chart::Beside;
+use chart::{Beside, Env};
 use lent_kind::KindArgs;
-use names::Name;
-use promise::{BoolAnswer, CountAnswer, DoneAnswer, TypeAnswer};
+use names::{Name, Texts};
+use refusals::Refusal;
 use scope::NONE;
-use types::{Impl, Inverted};
+use types::{Impl, Inverted, Type, UnifyResult};
 
 // Refusal n is this and n; every value is below.
 pub const REFUSED: u64 = 4_294_967_296;
@@ -19,14 +22,23 @@ pub const REFUSED: u64 = 4_294_967_296;
 // The longest text that a length below that can tell.
 const LONGEST: usize = 4_294_967_295;
 
-// The number of the builtin fn trait, and the twelve words of the four sigils.
-pub fn beside_of(fn_trait: u32, sigils: &[u32; 12]) -> Beside
-    ensures { result ≡ beside_in fn_trait sigils.now }
+// What every call reads: the chart's words, the number of the builtin fn trait and the twelve words of the four sigils, and the two texts.
+pub fn env_of<'a>(
+    chart: &'a [u32],
+    fn_trait: u32,
+    sigils: &[u32; 12],
+    rule: &'a [u8],
+    text: &'a [u8],
+) -> Env<'a>
+    ensures { result ≡ env_of chart.entry fn_trait sigils.now rule.entry text.entry }
 {
-    let words = *sigils;
-    Beside {
-        fn_trait,
-        sigils: words,
+    Env {
+        chart,
+        beside: Beside {
+            fn_trait,
+            sigils: *sigils,
+        },
+        texts: Texts { rule, chart: text },
     }
 }
 
@@ -41,6 +53,16 @@ pub fn inverted_of(n: u32) -> Inverted
     ensures { result ≡ inverted_in n }
 {
     Inverted(is_set(n))
+}
+
+// A list that may be absent: with 0 beside it, what is lent says nothing.
+pub fn list_if(listed: u32, list: &[u32]) -> Option<&[u32]>
+    ensures { result ≡ list_if listed list.entry }
+{
+    if is_set(listed) {
+        return Some(list);
+    }
+    None
 }
 
 // No chart has so many records that a trait has this number.
@@ -75,49 +97,67 @@ pub fn kind_args(
     }
 }
 
-pub fn type_number(a: TypeAnswer) -> u64
-    ensures { type_in result ≡ a }
+// A refusal as an answer.
+pub fn refused(r: Refusal) -> u64
+    ensures { result ≡ «REFUSED» + number r }
+{
+    REFUSED + u64::from(u32::from(r))
+}
+
+// A refusal's own number, or 0 where none stands.
+pub fn refusal_number(a: Result<(), Refusal>) -> u32
+    ensures { refusal_in result ≡ told a }
+{
+    let Err(r) = a else {
+        return 0;
+    };
+    u32::from(r)
+}
+
+// Kept (2): tried, and the proof did not close: one function with a closure for the value's number hides that a word or length is below 4,294,967,296; a match shows it.
+pub fn type_number(a: Result<Type, Refusal>) -> u64
+    ensures { type_in result ≡ type_reply a }
 {
     match a {
-        TypeAnswer::Is(t) => t.0 as u64,
-        TypeAnswer::Refused(n) => REFUSED + n as u64,
+        Ok(t) => u64::from(t.0),
+        Err(r) => refused(r),
     }
 }
 
-pub fn done_number(a: DoneAnswer) -> u64
-    ensures { done_in result ≡ a }
+pub fn done_number(a: Result<(), Refusal>) -> u64
+    ensures { done_in result ≡ done_reply a }
 {
     match a {
-        DoneAnswer::Done => 0,
-        DoneAnswer::Refused(n) => REFUSED + n as u64,
+        Ok(()) => 0,
+        Err(r) => refused(r),
     }
 }
 
-pub fn bool_number(a: BoolAnswer) -> u64
-    ensures { bool_in result ≡ a }
+pub fn bool_number(a: Result<bool, Refusal>) -> u64
+    ensures { bool_in result ≡ bool_reply a }
 {
     match a {
-        BoolAnswer::Is(b) => b as u64,
-        BoolAnswer::Refused(n) => REFUSED + n as u64,
+        Ok(b) => u64::from(b),
+        Err(r) => refused(r),
     }
 }
 
-pub fn unify_number(a: UnifyAnswer) -> u64
-    ensures { unify_in result ≡ a }
+pub fn unify_number(a: Result<UnifyResult, Refusal>) -> u64
+    ensures { unify_in result ≡ unify_reply a }
 {
     match a {
-        UnifyAnswer::Is(u) => u64::from(u32::from(u)),
-        UnifyAnswer::Refused(n) => REFUSED + n as u64,
+        Ok(u) => u64::from(u32::from(u)),
+        Err(r) => refused(r),
     }
 }
 
-pub fn count_number(a: CountAnswer) -> u64
+pub fn count_number(a: Result<usize, Refusal>) -> u64
     requires { count_low a ≡ true }
-    ensures { count_in result ≡ a }
+    ensures { count_in result ≡ count_reply a }
 {
     match a {
-        CountAnswer::Is(n) => n as u64,
-        CountAnswer::Refused(n) => REFUSED + n as u64,
+        Ok(n) => n as u64,
+        Err(r) => refused(r),
     }
 }
 

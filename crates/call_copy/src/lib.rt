@@ -5,49 +5,40 @@ ghost use Rattle.std.specs.Prelude.{length};
 ghost use Rattle.scope.specs.Calls.{import_call, export_call};
 ghost use Rattle.layout.specs.Words.{lent_of, store_in};
 ghost use Rattle.store.specs.Entries.{types_in};
-ghost use Rattle.sound.specs.Tests.{env_in};
+ghost use Rattle.sound.specs.Tests.{env_lent};
 ghost use Rattle.promise.specs.Lists.{ListPromised};
-ghost use Rattle.copy_parts.specs.Places.{list_of};
+ghost use Rattle.copy_parts.specs.Places.{params_in};
 ghost use Rattle.tested_import.specs.Tests.{StoresTested};
 ghost use Rattle.refusals.specs.Opening.{enough};
 ghost use Rattle.promise.specs.Exports.{ExportPromised};
+ghost use Rattle.refusals.specs.Codes.{told};
 
-use chart::Beside;
-use promise::DoneAnswer;
-use refusals::{NO_REFUSAL, SOURCE_UNSOUND};
+use chart::Env;
+use refusals::Refusal;
 
-// The first of refusals 2, 8 and 9 that stands, and 0 where none does: the destination, then the source.
-fn stores<'a>(
-    chart: &[u32],
-    beside: Beside,
-    rule: &'a [u8],
-    text: &'a [u8],
+// The first of refusals 2, 8 and 9 that stands: the destination, then the source.
+fn stores(
+    env: &Env<'_>,
     h: &[u32],
     ws: &[u32],
     ks: &[u32],
     sh: &[u32],
     sw: &[u32],
     sk: &[u32],
-) -> u32
-    ensures { StoresTested chart.now beside rule.now text.now h.now ws.now ks.now
-        sh.now sw.now sk.now result }
+) -> Result<(), Refusal>
+    ensures { StoresTested (env_lent env.now) h.now ws.now ks.now
+        sh.now sw.now sk.now (told result) }
 {
-    let lent = sound::refusal(chart, beside, rule, text, h, ws, ks);
-    if lent != NO_REFUSAL {
-        return lent;
+    sound::lent(env, h, ws, ks)?;
+    if !sound::store_sound(env, sh, sw, sk) {
+        return Err(Refusal::SourceUnsound);
     }
-    if !sound::store_sound(chart, rule, text, sh, sw, sk) {
-        return SOURCE_UNSOUND;
-    }
-    NO_REFUSAL
+    Ok(())
 }
 
-// The listed types of the source, which is only read; what they become stands at the front of `out`. `params` is a parameter list where `listed` says so.
-pub fn import<'a>(
-    chart: &[u32],
-    beside: Beside,
-    rule: &'a [u8],
-    text: &'a [u8],
+// The listed types of the source, which is only read; what they become stands at the front of `out`. `params` is a parameter list, if there is one.
+pub fn import(
+    env: &Env<'_>,
     h: &mut [u32],
     ws: &mut [u32],
     ks: &mut [u32],
@@ -55,33 +46,24 @@ pub fn import<'a>(
     sw: &[u32],
     sk: &[u32],
     ts: &[u32],
-    listed: bool,
-    params: &[u32],
+    params: Option<&[u32]>,
     out: &mut [u32],
-) -> DoneAnswer
+) -> Result<(), Refusal>
     ensures { ListPromised
-        (import_call (env_in chart.now beside rule.now text.now) (lent_of h.old ws.old ks.old)
-        (lent_of sh.now sw.now sk.now) (types_in ts.now) (list_of listed params.now)
+        (import_call (env_lent env.now) (lent_of h.old ws.old ks.old)
+        (lent_of sh.now sw.now sk.now) (types_in ts.now) (params_in params.entry)
         (length out.old))
         result (length ts.now) h.old ws.old ks.old h.new ws.new ks.new
         out.old out.new }
 {
-    let broken = stores(chart, beside, rule, text, h, ws, ks, sh, sw, sk);
-    if broken != NO_REFUSAL {
-        return DoneAnswer::Refused(broken);
-    }
-    tested_import::import(
-        chart, beside, rule, text, h, ws, ks, sh, sw, sk, ts, listed, params, out,
-    )
+    stores(env, h, ws, ks, sh, sw, sk)?;
+    tested_import::import(env, h, ws, ks, sh, sw, sk, ts, params, out)
 }
 
 // The listed types; what they become stands at the front of `out`. The fresh store has room for so many nodes and children, and remembers what the source's
 // error and nil became.
-pub fn export<'a>(
-    chart: &[u32],
-    beside: Beside,
-    rule: &'a [u8],
-    text: &'a [u8],
+pub fn export(
+    env: &Env<'_>,
     sh: &[u32],
     sw: &[u32],
     sk: &[u32],
@@ -92,22 +74,14 @@ pub fn export<'a>(
     children: u32,
     ts: &[u32],
     out: &mut [u32],
-) -> DoneAnswer
+) -> Result<(), Refusal>
     ensures { ExportPromised
-        (export_call (env_in chart.now beside rule.now text.now) (lent_of sh.now sw.now sk.now)
+        (export_call (env_lent env.now) (lent_of sh.now sw.now sk.now)
         nodes children (enough nodes children h.old ws.old ks.old) (types_in ts.now) (length out.old))
         result (length ts.now) (store_in sh.now sw.now sk.now)
         h.old ws.old ks.old h.new ws.new ks.new out.old out.new }
 {
-    let opens = refusals::opening(h, ws, ks, nodes, children);
-    if opens != NO_REFUSAL {
-        return DoneAnswer::Refused(opens);
-    }
-    let source = sound::refusal(chart, beside, rule, text, sh, sw, sk);
-    if source != NO_REFUSAL {
-        return DoneAnswer::Refused(source);
-    }
-    tested_export::export(
-        chart, beside, rule, text, sh, sw, sk, h, ws, ks, nodes, children, ts, out,
-    )
+    refusals::opening(h, ws, ks, nodes, children)?;
+    sound::lent(env, sh, sw, sk)?;
+    tested_export::export(env, sh, sw, sk, h, ws, ks, nodes, children, ts, out)
 }

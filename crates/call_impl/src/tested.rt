@@ -5,22 +5,17 @@ ghost use Rattle.scope.specs.Unify.{approx_eq};
 ghost use Rattle.scope.specs.Calls.{unify_impl_type_call, approx_eq_call};
 ghost use Rattle.types.specs.Impls.{impl_means};
 ghost use Rattle.layout.specs.Words.{lent_of};
-ghost use Rattle.sound.specs.Tests.{env_in};
+ghost use Rattle.sound.specs.Tests.{env_lent};
 ghost use Rattle.promise.specs.Promise.{Promised, bool_reply, Tested};
 ghost use Rattle.call_unify.specs.Answers.{unify_reply};
 
-use call_unify::UnifyAnswer;
-use chart::Beside;
-use promise::BoolAnswer;
-use refusals::NO_REFUSAL;
-use types::Impl;
+use chart::Env;
+use refusals::Refusal;
+use types::{Impl, UnifyResult};
 
 // Two traits, each over a list of types, or errors.
-pub fn unify_impl_type_recalling<'a>(
-    chart: &[u32],
-    beside: Beside,
-    rule: &'a [u8],
-    text: &'a [u8],
+pub fn unify_impl_type_recalling(
+    env: &Env<'_>,
     h: &[u32],
     ws: &mut [u32],
     ks: &[u32],
@@ -29,28 +24,33 @@ pub fn unify_impl_type_recalling<'a>(
     xs: &[u32],
     b: Impl,
     ys: &[u32],
-) -> UnifyAnswer
-    requires { Tested chart.now beside rule.now text.now h.now ws.old ks.now }
+) -> Result<UnifyResult, Refusal>
+    requires { Tested (env_lent env.now) h.now ws.old ks.now }
     ensures { Promised
-        (unify_impl_type_call (env_in chart.now beside rule.now text.now) (lent_of h.now ws.old ks.now)
+        (unify_impl_type_call (env_lent env.now) (lent_of h.now ws.old ks.now)
         (impl_means a xs.now) (impl_means b ys.now))
         (unify_reply result) h.now ws.old ks.now h.now ws.new ks.now }
 {
     let x = layout::read_header(h);
-    let refused = lent_tests::impls(a, xs, b, ys, x.nodes, chart);
-    if refused != NO_REFUSAL {
-        return UnifyAnswer::Refused(refused);
-    }
+    lent_tests::impls(a, xs, b, ys, x.nodes, env)?;
     recall::begin(memory);
-    UnifyAnswer::Is(unify_lists::unify_impl_type(ws, ks, x.nodes, rule, text, memory, a, xs, b, ys))
+    Ok(unify_lists::unify_impl_type(
+        ws,
+        ks,
+        x.nodes,
+        env.texts.rule,
+        env.texts.chart,
+        memory,
+        a,
+        xs,
+        b,
+        ys,
+    ))
 }
 
 // The same without a memory.
-pub fn unify_impl_type<'a>(
-    chart: &[u32],
-    beside: Beside,
-    rule: &'a [u8],
-    text: &'a [u8],
+pub fn unify_impl_type(
+    env: &Env<'_>,
     h: &[u32],
     ws: &mut [u32],
     ks: &[u32],
@@ -58,49 +58,30 @@ pub fn unify_impl_type<'a>(
     xs: &[u32],
     b: Impl,
     ys: &[u32],
-) -> UnifyAnswer
-    requires { Tested chart.now beside rule.now text.now h.now ws.old ks.now }
+) -> Result<UnifyResult, Refusal>
+    requires { Tested (env_lent env.now) h.now ws.old ks.now }
     ensures { Promised
-        (unify_impl_type_call (env_in chart.now beside rule.now text.now) (lent_of h.now ws.old ks.now)
+        (unify_impl_type_call (env_lent env.now) (lent_of h.now ws.old ks.now)
         (impl_means a xs.now) (impl_means b ys.now))
         (unify_reply result) h.now ws.old ks.now h.now ws.new ks.now }
 {
     let mut memory = [0u32; unify_lists::OWN_MEMORY];
-    unify_impl_type_recalling(
-        chart,
-        beside,
-        rule,
-        text,
-        h,
-        ws,
-        ks,
-        &mut memory,
-        a,
-        xs,
-        b,
-        ys,
-    )
+    unify_impl_type_recalling(env, h, ws, ks, &mut memory, a, xs, b, ys)
 }
 
 // Are two impl types of one trait? An error is of none.
 fn same_trait(a: Impl, b: Impl) -> bool
     ensures { (xs ys : List ℕ) → result ≡ approx_eq (impl_means a xs) (impl_means b ys) }
 {
-    let Impl::Trait(i) = a else {
-        return false;
-    };
-    match b {
-        Impl::Trait(j) => i == j,
-        Impl::Error => false,
+    match (a, b) {
+        (Impl::Trait(i), Impl::Trait(j)) => i == j,
+        (Impl::Error, _) | (_, Impl::Error) => false,
     }
 }
 
 // `approx_eq`: two impl types, by their traits alone.
-pub fn approx_eq<'a>(
-    chart: &[u32],
-    beside: Beside,
-    rule: &'a [u8],
-    text: &'a [u8],
+pub fn approx_eq(
+    env: &Env<'_>,
     h: &[u32],
     ws: &[u32],
     ks: &[u32],
@@ -108,17 +89,14 @@ pub fn approx_eq<'a>(
     xs: &[u32],
     b: Impl,
     ys: &[u32],
-) -> BoolAnswer
-    requires { Tested chart.now beside rule.now text.now h.now ws.now ks.now }
+) -> Result<bool, Refusal>
+    requires { Tested (env_lent env.now) h.now ws.now ks.now }
     ensures { Promised
-        (approx_eq_call (env_in chart.now beside rule.now text.now) (lent_of h.now ws.now ks.now)
+        (approx_eq_call (env_lent env.now) (lent_of h.now ws.now ks.now)
         (impl_means a xs.now) (impl_means b ys.now))
         (bool_reply result) h.now ws.now ks.now h.now ws.now ks.now }
 {
     let x = layout::read_header(h);
-    let refused = lent_tests::impls(a, xs, b, ys, x.nodes, chart);
-    if refused != NO_REFUSAL {
-        return BoolAnswer::Refused(refused);
-    }
-    BoolAnswer::Is(same_trait(a, b))
+    lent_tests::impls(a, xs, b, ys, x.nodes, env)?;
+    Ok(same_trait(a, b))
 }

@@ -4,18 +4,20 @@ ghost use Rattle.scope.specs.Calls.{open_call};
 ghost use Rattle.refusals.specs.Opening.{enough};
 ghost use Rattle.promise.specs.Promise.{done_reply, Promised};
 
-use promise::DoneAnswer;
-use refusals::NO_REFUSAL;
+use refusals::Refusal;
 
 // A store without nodes, whatever the slices held. "Nodes 0 to 4,096; children over all nodes ever made 0 to 16,384, both chosen at opening"
-pub fn open(h: &mut [u32], ws: &mut [u32], ks: &mut [u32], nodes: u32, children: u32) -> DoneAnswer
+pub fn open(
+    h: &mut [u32],
+    ws: &mut [u32],
+    ks: &mut [u32],
+    nodes: u32,
+    children: u32,
+) -> Result<(), Refusal>
     ensures { Promised (open_call nodes children (enough nodes children h.old ws.old ks.old))
         (done_reply result) h.old ws.old ks.old h.new ws.new ks.new }
 {
-    let code = refusals::opening(h, ws, ks, nodes, children);
-    if code != NO_REFUSAL {
-        return DoneAnswer::Refused(code);
-    }
+    refusals::opening(h, ws, ks, nodes, children)?;
     make::open(h, ws, ks, nodes, children);
-    DoneAnswer::Done
+    Ok(())
 }

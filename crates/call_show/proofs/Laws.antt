@@ -1,16 +1,18 @@
 -- From what a printer promises of its buffer to what its second form promises of the part: a text that fits is the buffer's front, one that does not fill the
--- buffer, and no other refusal has the number 7 or 0.
+-- buffer, and no other refusal has the number 7.
 -- Assumes nothing.
 use mathlib.Core.Path.{◌≡◌, refl, ap, sym, ◌∙◌}
-use mathlib.Core.Bool.{Bool, true, false, not, ◌&&◌, false≢true}
+use mathlib.Core.Bool.{Bool, true, false, not}
 use mathlib.Core.List.{List, [], ◌∷◌, ◌++◌}
 use mathlib.Core.Option.{Option, none, some}
-use Prim.Native.Nat.{ℕ, zero, suc, ◌+◌, ◌≤◌}
+use Prim.Native.Nat.{ℕ, ◌+◌, ◌≤◌}
 use native.Mathlib.Omega.{arith}
 use lib.Dec.{eqb, leb}
 use lib.ListN.{length, take, drop, length-append}
 use lib.Seq.{take_at, take_all}
 use borrow.Author.Tests.{not-true}
+use Rattle.std.specs.Prelude.{Option as OptionOf, Result, Ok, Err}
+use Rattle.std.specs.Result.{result_err}
 use Rattle.scope.proofs.TestLaws.{and_left, and_right}
 use Rattle.scope.specs.Base.{pick, all}
 use Rattle.scope.specs.Chart.{Env}
@@ -21,57 +23,51 @@ use Rattle.scope.specs.Sound.{Lent}
 use Rattle.scope.specs.Refusals.{SHORT}
 use Rattle.scope.specs.Show.{show, show_impl_type}
 use Rattle.scope.specs.Calls.{Printed, refused, done, unprinted, or_unprinted, printed_text, show_call, show_impl_type_call, first_broken, store_of, lent_tests, outside, impl_tests}
-use Rattle.promise.specs.Promise.{refusal}
-use Rattle.promise.specs.Prints.{count_reply, PrintPromised, part_reply, PartPromised}
-use Rattle.promise.specs.declared.CountAnswer.{CountAnswer}
-use Rattle.promise.specs.declared.CountAnswer.TheVariants.{Is, Refused}
-use Rattle.call_show.specs.Parts.{code_in, part_in, Back}
+use Rattle.refusals.specs.declared.Refusal.{Refusal}
+use Rattle.refusals.specs.Codes.{number}
+use Rattle.promise.specs.Prints.{count_reply, PrintPromised, PartPromised}
+use Rattle.call_show.specs.Parts.{part_in, Back}
 
--- a refusal that is told as itself: not 0, and not 7
+-- a refusal other than 7
 
 abbrev plain : ℕ → Bool
-plain n = not (eqb n 0) && not (eqb n SHORT)
+plain n = not (eqb n SHORT)
 
 plain_code : (ts : List (Bool × ℕ)) → all (λ t. plain t.1) ts ≡ true → (m : ℕ) → first_broken ts ≡ some m → plain m ≡ true
 plain_code [] h m e = let z : ◌≡◌ {A = ℕ} 0 1 = cc in absurd (omega arith)
 plain_code ((true, n) ∷ ts) h m e = let w : n ≡ m = cc in rw (← w) (and_left (plain n) (all (λ t. plain t.1) ts) h)
 plain_code ((false, n) ∷ ts) h m e = plain_code ts (and_right (plain n) (all (λ t. plain t.1) ts) h) m e
 
--- such a number is told as a refusal, and its part is empty
-plain_told : (n : ℕ) → plain n ≡ true → (part : List ℕ) → part_reply n part ≡ refusal n
-plain_told zero h part = absurd (false≢true h)
-plain_told (suc n) h part = refl
-
+-- its part is empty
 plain_empty : (n room : ℕ) → plain n ≡ true → pick (eqb n SHORT) room 0 ≡ 0
-plain_empty n room h = rw (not-true (eqb n SHORT) (and_right (not (eqb n 0)) (not (eqb n SHORT)) h)) refl
+plain_empty n room h = rw (not-true (eqb n SHORT) h) refl
 
 -- what the second form hands back of the buffer buf, once the first answered r
-pub record Handed (p : Printed) (r : CountAnswer) (s : Store) (buf : List ℕ) : Type 0 where
+pub record Handed (p : Printed) (r : Result ℕ Refusal) (s : Store) (buf : List ℕ) : Type 0 where
   pub room : part_in r (length buf) ≤ length buf
-  pub promised : PartPromised p (code_in r) (take (part_in r (length buf)) buf) s
+  pub promised : PartPromised p (result_err r) (take (part_in r (length buf)) buf) s
 
 abbrev Hands : Printed → Type 0
-Hands p = (r : CountAnswer) (s : Store) (buf : List ℕ) → PrintPromised p (count_reply r) s buf → Handed p r s buf
+Hands p = (r : Result ℕ Refusal) (s : Store) (buf : List ℕ) → PrintPromised p (count_reply r) s buf → Handed p r s buf
 
 -- a printer that was turned back
 handed_back : (m : ℕ) → plain m ≡ true → (buf₀ : List ℕ) → Hands (unprinted m buf₀)
-handed_back m h buf₀ (Is n) s buf q =
+handed_back m h buf₀ (Ok n) s buf q =
     let o = q.outcome in
     let z : ◌≡◌ {A = ℕ} 0 1 = cc in
     absurd (omega arith)
-handed_back m h buf₀ (Refused n) s buf q =
+handed_back m h buf₀ (Err r) s buf q =
     let o = q.outcome in
-    let w : m ≡ n = cc in
-    let k : plain n ≡ true = rw w at h in
-    let e : pick (eqb n SHORT) (length buf) 0 ≡ 0 = plain_empty n (length buf) k in
+    let w : m ≡ number r = cc in
+    let e : pick (eqb (number r) SHORT) (length buf) 0 ≡ 0 = plain_empty (number r) (length buf) (rw w at h) in
     record {
       room = rw e (omega arith);
-      promised = rw e (record { outcome = rw (plain_told n k []) o; part = refl });
+      promised = rw e (record { outcome = o; part = refl });
     }
 
 -- a text that fits
 handed_fit : (s₀ : Store) (bs rest : List ℕ) → Hands (record { answer = done (length bs) s₀; buffer = bs ++ rest; part = bs })
-handed_fit s₀ bs rest (Is n) s buf q =
+handed_fit s₀ bs rest (Ok n) s buf q =
     let o = q.outcome in
     let w : length bs ≡ n = cc in
     let v : s₀ ≡ s = cc in
@@ -81,24 +77,24 @@ handed_fit s₀ bs rest (Is n) s buf q =
       room = omega (arith, w, long);
       promised = rw front (record { outcome = rw v refl; part = refl });
     }
-handed_fit s₀ bs rest (Refused n) s buf q =
+handed_fit s₀ bs rest (Err r) s buf q =
     let o = q.outcome in
     let z : ◌≡◌ {A = ℕ} 0 1 = cc in
     absurd (omega arith)
 
 -- a text that fills the buffer
 handed_full : (bs : List ℕ) → Hands (record { answer = refused SHORT; buffer = bs; part = bs })
-handed_full bs (Is n) s buf q =
+handed_full bs (Ok n) s buf q =
     let o = q.outcome in
     let z : ◌≡◌ {A = ℕ} 0 1 = cc in
     absurd (omega arith)
-handed_full bs (Refused n) s buf q =
+handed_full bs (Err r) s buf q =
     let o = q.outcome in
-    let w : n ≡ SHORT = cc in
+    let w : number r ≡ SHORT = cc in
     let all : take (length buf) buf ≡ buf = take_all (length buf) buf (omega arith) in
     record {
       room = rw w (omega arith);
-      promised = rw (w, all) (record { outcome = refl; part = q.buffer });
+      promised = rw (w, all) (record { outcome = o; part = q.buffer });
     }
 
 handed_text : (b : Bool) (s : Store) (bs buf : List ℕ)
@@ -126,5 +122,6 @@ unfolding show_impl_type_call
 impl_hands e l a buf = handed (lent_tests e l ++ impl_tests e (store_of l) (a ∷ [])) refl (store_of l) (show_impl_type e (store_of l).nodes a) buf
 
 -- what was handed back is what the second form promises
-pub hand_promised : {p : Printed} {r : CountAnswer} {s : Store} {buf : List ℕ} {n : ℕ} {part : List ℕ} → Handed p r s buf → Back r buf n part → PartPromised p n part s
+pub hand_promised : {p : Printed} {r : Result ℕ Refusal} {s : Store} {buf : List ℕ} {o : OptionOf Refusal} {part : List ℕ} → Handed p r s buf → Back r buf o part
+    → PartPromised p o part s
 hand_promised h b = rw (b.told, b.front) h.promised

@@ -5,79 +5,71 @@ ghost use Rattle.scope.specs.Types.{ty_of};
 ghost use Rattle.scope.specs.Calls.{show_call, show_impl_type_call};
 ghost use Rattle.types.specs.Impls.{impl_means};
 ghost use Rattle.layout.specs.Words.{lent_of, store_in};
-ghost use Rattle.sound.specs.Tests.{env_in};
+ghost use Rattle.sound.specs.Tests.{env_lent};
 ghost use Rattle.promise.specs.Promise.{Tested};
 ghost use Rattle.promise.specs.Prints.{PrintPromised, count_reply};
 ghost use Rattle.call_show.specs.Ends.{end_reply};
 
-use chart::Beside;
-use promise::{CountAnswer, refusal_at};
-use refusals::NO_REFUSAL;
+use chart::Env;
+use promise::inside;
+use refusals::Refusal;
 use types::{Impl, Type};
 
 // A text that ends at its length, or past the buffer.
-fn printed(buf: &[u8], end: usize) -> CountAnswer
+fn printed(buf: &[u8], end: usize) -> Result<usize, Refusal>
     ensures { count_reply result ≡ end_reply (length buf.now) end }
 {
     if append::is_full(buf, end) {
-        return CountAnswer::Refused(refusals::SHORT);
+        return Err(Refusal::Short);
     }
-    CountAnswer::Is(end)
+    Ok(end)
 }
 
 // A type's text.
-pub fn show<'a>(
-    chart: &[u32],
-    beside: Beside,
-    rule: &'a [u8],
-    text: &'a [u8],
+pub fn show(
+    env: &Env<'_>,
     h: &[u32],
     ws: &[u32],
     ks: &[u32],
     t: Type,
     buf: &mut [u8],
-) -> CountAnswer
-    requires { Tested chart.now beside rule.now text.now h.now ws.now ks.now }
+) -> Result<usize, Refusal>
+    requires { Tested (env_lent env.now) h.now ws.now ks.now }
     ensures { PrintPromised
-        (show_call (env_in chart.now beside rule.now text.now) (lent_of h.now ws.now ks.now)
+        (show_call (env_lent env.now) (lent_of h.now ws.now ks.now)
         (ty_of t.0) buf.old)
         (count_reply result) (store_in h.now ws.now ks.now) buf.new }
 {
-    let code = refusal_at(h, t);
-    if code != NO_REFUSAL {
-        return CountAnswer::Refused(code);
-    }
+    inside(h, t)?;
     let x = layout::read_header(h);
     let n = x.nodes;
-    let end = show::show_all(chart, beside, rule, text, ws, ks, n, buf, 0, t);
+    let (rule, text) = (env.texts.rule, env.texts.chart);
+    let end = show::show_all(env.chart, env.beside, rule, text, ws, ks, n, buf, 0, t);
     printed(buf, end)
 }
 
 // An impl type's text, its types lent beside it.
-pub fn show_impl_type<'a>(
-    chart: &[u32],
-    beside: Beside,
-    rule: &'a [u8],
-    text: &'a [u8],
+pub fn show_impl_type(
+    env: &Env<'_>,
     h: &[u32],
     ws: &[u32],
     ks: &[u32],
     a: Impl,
     xs: &[u32],
     buf: &mut [u8],
-) -> CountAnswer
-    requires { Tested chart.now beside rule.now text.now h.now ws.now ks.now }
+) -> Result<usize, Refusal>
+    requires { Tested (env_lent env.now) h.now ws.now ks.now }
     ensures { PrintPromised
-        (show_impl_type_call (env_in chart.now beside rule.now text.now) (lent_of h.now ws.now ks.now)
+        (show_impl_type_call (env_lent env.now) (lent_of h.now ws.now ks.now)
         (impl_means a xs.now) buf.old)
         (count_reply result) (store_in h.now ws.now ks.now) buf.new }
 {
     let x = layout::read_header(h);
     let n = x.nodes;
-    let refused = lent_tests::one_impl(a, xs, n, chart);
-    if refused != NO_REFUSAL {
-        return CountAnswer::Refused(refused);
-    }
-    let end = show_impl::show_impl_type(chart, beside, rule, text, ws, ks, n, buf, 0, a, xs);
+    lent_tests::one_impl(a, xs, n, env)?;
+    let (rule, text) = (env.texts.rule, env.texts.chart);
+    let end = show_impl::show_impl_type(
+        env.chart, env.beside, rule, text, ws, ks, n, buf, 0, a, xs,
+    );
     printed(buf, end)
 }

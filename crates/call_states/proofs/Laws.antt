@@ -1,10 +1,10 @@
 -- Where 2 or 8 stands, of chart, store or names buffer, a call's outcome is that refusal, whatever its other tests and its work are; where none does, they are
--- tested. And opening a names buffer: one law for each way out, from the code of its test.
+-- tested. And opening a names buffer: one law for each way out, from what its test tells.
 -- Assumes nothing.
 use mathlib.Core.Path.{◌≡◌, refl, ap, sym, ◌∙◌}
 use mathlib.Core.Bool.{Bool, not, ◌||◌}
 use mathlib.Core.List.{List, [], ◌∷◌, ◌++◌}
-use mathlib.Core.Option.{Option}
+use mathlib.Core.Option.{Option, none, some}
 use Prim.Native.Nat.{ℕ, ◌≤◌}
 use native.Mathlib.Omega.{arith}
 use lib.Dec.{ltb, leb}
@@ -18,26 +18,17 @@ use Rattle.scope.specs.Refusals.{UNOPENABLE, Outcome, done, judged, first_broken
 use Rattle.scope.specs.States.{Book, LentBook, book_of, blank, store_under, book_tests, wrong_length, unheld, no_place, opens, or_unopened, open_names_call}
 use Rattle.scope.specs.States.{named, name_state_call, keep_reports, return_to_call, dropped, drop_name_call, reset_names_call}
 use Rattle.scope.proofs.TestLaws.{or_no}
-use Rattle.chart.specs.declared.Beside.{Beside}
-use Rattle.layout.specs.Words.{lent_of}
-use Rattle.refusals.specs.Codes.{code_of}
-use Rattle.refusals.proofs.Laws.{code_none, code_some, code_first, judged_refused, test_passed}
-use Rattle.sound.specs.Tests.{env_in}
+use Rattle.refusals.proofs.Laws.{broken_first, judged_refused, test_passed}
 use Rattle.promise.specs.Promise.{value, refusal}
-use Rattle.book.specs.Words.{book_words, lent_book_of, BookBecame}
-use Rattle.call_states.specs.Promise.{NamesPromised, NamesOpened, TestedNames}
+use Rattle.book.specs.Words.{book_words, BookBecame}
+use Rattle.call_states.specs.Promise.{NamesPromised, NamesOpened}
 use Rattle.call_states.proofs.tested.Laws.{names_back}
 
--- no refusal stands
-pub names_tested : {chart : List ℕ} {b : Beside} {rule text h ws ks bs : List ℕ} {n : ℕ}
-    → first_broken (book_tests (env_in chart b rule text) (lent_of h ws ks) (lent_book_of bs)) ≡ code_of n → n ≡ 0 → TestedNames chart b rule text h ws ks bs
-names_tested {n = n} q z = record { passed = q ∙ code_none n z }
+-- one refusal stands
 
--- one does
-
-module _ (e : Env) (l : Lent) (k : LentBook) {n : ℕ} (q : first_broken (book_tests e l k) ≡ code_of n) (z : n ≡ 0 → ⊥) {h ws ks bs : List ℕ} where
+module _ (e : Env) (l : Lent) (k : LentBook) {n : ℕ} (q : first_broken (book_tests e l k) ≡ some n) {h ws ks bs : List ℕ} where
   turned : (us : List (Bool × ℕ)) (o : Outcome Book) → NamesPromised (judged (book_tests e l k ++ us) o) (refusal n) h ws ks bs h ws ks bs
-  turned us o = names_back (judged_refused (book_tests e l k ++ us) o n (code_first (book_tests e l k) us n q z) z)
+  turned us o = names_back (judged_refused (book_tests e l k ++ us) o n (broken_first (book_tests e l k) us n q))
 
   pub name_back : (m : List ℕ) → NamesPromised (name_state_call e l k m) (refusal n) h ws ks bs h ws ks bs
   unfolding name_state_call
@@ -57,30 +48,30 @@ module _ (e : Env) (l : Lent) (k : LentBook) {n : ℕ} (q : first_broken (book_t
 
 -- opening
 
-module _ (n c : ℕ) (bs : List ℕ) (r : ℕ) (q : first_broken (open_test n c (leb (book_words n c) (length bs)) ∷ []) ≡ code_of r) where
+module _ (n c : ℕ) (bs : List ℕ) where
   abbrev enough : Bool
   enough = leb (book_words n c) (length bs)
 
-  pub open_back : (r ≡ 0 → ⊥) → NamesOpened (open_names_call n c enough) (refusal r) bs bs
+  pub open_back : {r : ℕ} → first_broken (open_test n c enough ∷ []) ≡ some r → NamesOpened (open_names_call n c enough) (refusal r) bs bs
   unfolding open_names_call
-  open_back z = record {
-    outcome = ap (λ (o : Option ℕ). or_unopened o (blank n c)) (q ∙ code_some r z);
+  open_back q = record {
+    outcome = ap (λ (o : Option ℕ). or_unopened o (blank n c)) q;
     book = λ y. let v : ◌≡◌ {A = ℕ} 0 1 = cc in absurd (omega arith);
     kept = λ y. refl;
   }
 
-  module _ (z : r ≡ 0) where
+  module _ (q : first_broken (open_test n c enough ∷ []) ≡ none) where
     pub open_words : book_words n c ≤ length bs
     open_words =
         let t : Bool × ℕ = open_test n c enough in
-        let p = or_no (ltb MAX_NODES n) (ltb MAX_CHILDREN c || not enough) (test_passed t.0 UNOPENABLE [] (q ∙ code_none r z)) in
+        let p = or_no (ltb MAX_NODES n) (ltb MAX_CHILDREN c || not enough) (test_passed t.0 UNOPENABLE [] q) in
         let o = or_no (ltb MAX_CHILDREN c) (not enough) p.1 in
         leb-true (book_words n c) (length bs) (not-false enough o.1)
 
     pub open_done : {bs' : List ℕ} → BookBecame bs bs' (blank n c) → NamesOpened (open_names_call n c enough) (value tt) bs bs'
     unfolding open_names_call
     open_done b = record {
-      outcome = ap (λ (o : Option ℕ). or_unopened o (blank n c)) (q ∙ code_none r z) ∙ ap opens (sym b.is);
+      outcome = ap (λ (o : Option ℕ). or_unopened o (blank n c)) q ∙ ap opens (sym b.is);
       book = λ y. rw b.is b;
       kept = λ y. let v : ◌≡◌ {A = ℕ} 0 1 = cc in absurd (omega arith);
     }

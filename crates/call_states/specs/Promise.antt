@@ -1,13 +1,12 @@
 -- What a call on a store and its names buffer promises: its whole outcome, every word of both afterwards, and that a refusal leaves every word as found.
+use Rattle.scope.specs.Chart.{Env}
 use Rattle.std.specs.Prelude.{◌≡◌, List, true, false, ℕ}
 use Rattle.std.proofs.Math.Option.{none}
 use Rattle.scope.specs.Nodes.{Store}
 use Rattle.scope.specs.Refusals.{Outcome, refused, done, first_broken}
 use Rattle.scope.specs.States.{Book, Opening, unopened, opens, book_tests}
-use Rattle.chart.specs.declared.Beside.{Beside}
 use Rattle.layout.specs.Words.{store_in, lent_of}
 use Rattle.store.specs.Holds.{Became}
-use Rattle.sound.specs.Tests.{env_in}
 use Rattle.book.specs.Words.{book_in, lent_book_of, BookBecame}
 use Rattle.promise.specs.Promise.{Reply, value, refusal, answered, AsFound}
 
@@ -34,5 +33,5 @@ pub record NamesOpened (o : Opening) (r : Reply (Unit {0})) (bs bs' : List ℕ) 
   pub kept : answered r ≡ false → bs' ≡ bs
 
 -- chart, store and names buffer pass the tests of 2 and 8
-pub record TestedNames (chart : List ℕ) (b : Beside) (rule text h ws ks bs : List ℕ) : Type 0 where
-  pub passed : first_broken (book_tests (env_in chart b rule text) (lent_of h ws ks) (lent_book_of bs)) ≡ none
+pub record TestedNames (e : Env) (h ws ks bs : List ℕ) : Type 0 where
+  pub passed : first_broken (book_tests e (lent_of h ws ks) (lent_book_of bs)) ≡ none

@@ -7,137 +7,102 @@ ghost use Rattle.std.specs.Prelude.{leb, length, ◌≡◌, [], ◌∷◌};
 ghost use Rattle.scope.specs.Refusals.{first_broken, open_test};
 ghost use Rattle.scope.specs.States.{open_names_call, name_state_call, return_to_call, drop_name_call, reset_names_call};
 ghost use Rattle.layout.specs.Words.{lent_of};
-ghost use Rattle.refusals.specs.Codes.{code_of};
-ghost use Rattle.sound.specs.Tests.{env_in};
+ghost use Rattle.refusals.specs.Codes.{told};
+ghost use Rattle.sound.specs.Tests.{env_lent};
 ghost use Rattle.promise.specs.Promise.{done_reply};
 ghost use Rattle.book.specs.Words.{book_words, lent_book_of};
 ghost use Rattle.call_states.specs.Promise.{NamesPromised, NamesOpened};
 
-use chart::Beside;
-use promise::DoneAnswer;
-use refusals::{NO_REFUSAL, UNOPENABLE};
+use chart::Env;
+use refusals::Refusal;
 use scope::{MAX_CHILDREN, MAX_NODES};
 
-// Refusal 1 where it stands, and 0 where it does not.
-fn opening(bs: &[u32], nodes: u32, children: u32) -> u32
-    ensures { first_broken (open_test nodes children (leb (book_words nodes children) (length bs.now)) ∷ []) ≡ code_of result }
+// Refusal 1 where it stands.
+fn opening(bs: &[u32], nodes: u32, children: u32) -> Result<(), Refusal>
+    ensures { first_broken (open_test nodes children (leb (book_words nodes children) (length bs.now)) ∷ []) ≡ told result }
 {
-    if nodes as usize > MAX_NODES {
-        return UNOPENABLE;
+    if MAX_NODES < nodes as usize
+        || MAX_CHILDREN < children as usize
+        || bs.len() < book::book_words(nodes, children)
+    {
+        return Err(Refusal::Unopenable);
     }
-    if children as usize > MAX_CHILDREN {
-        return UNOPENABLE;
-    }
-    if bs.len() < book::book_words(nodes, children) {
-        return UNOPENABLE;
-    }
-    NO_REFUSAL
+    Ok(())
 }
 
 // A names buffer without a name, for a store of these capacities, whatever the slice held.
-pub fn open_names(bs: &mut [u32], nodes: u32, children: u32) -> DoneAnswer
+pub fn open_names(bs: &mut [u32], nodes: u32, children: u32) -> Result<(), Refusal>
     ensures { NamesOpened (open_names_call nodes children (leb (book_words nodes children) (length bs.old)))
         (done_reply result) bs.old bs.new }
 {
-    let short = opening(bs, nodes, children);
-    if short != NO_REFUSAL {
-        return DoneAnswer::Refused(short);
-    }
+    opening(bs, nodes, children)?;
     states::open_names(bs, nodes, children);
-    DoneAnswer::Done
+    Ok(())
 }
 
 // "Let a planner name the present state, at most eight names of 1 to 255 bytes". "Naming again under a held name replaces it".
-pub fn name_state<'a>(
-    chart: &[u32],
-    beside: Beside,
-    rule: &'a [u8],
-    text: &'a [u8],
+pub fn name_state(
+    env: &Env<'_>,
     h: &[u32],
     ws: &[u32],
     ks: &[u32],
     bs: &mut [u32],
     name: &[u8],
-) -> DoneAnswer
+) -> Result<(), Refusal>
     ensures { NamesPromised
-        (name_state_call (env_in chart.now beside rule.now text.now) (lent_of h.now ws.now ks.now)
-        (lent_book_of bs.old) name.now)
-        (done_reply result) h.now ws.now ks.now bs.old h.now ws.now ks.now bs.new }
+        (name_state_call (env_lent env.now) (lent_of h.now ws.now ks.now) (lent_book_of bs.old) name.now) (done_reply result) h.now ws.now ks.now bs.old h.now ws.now ks.now bs.new }
 {
-    let code = book_sound::names_refusal(chart, beside, rule, text, h, ws, ks, bs);
-    if code != NO_REFUSAL {
-        return DoneAnswer::Refused(code);
-    }
-    tested::name_state(chart, beside, rule, text, h, ws, ks, bs, name)
+    book_sound::lent(env, h, ws, ks, bs)?;
+    tested::name_state(env, h, ws, ks, bs, name)
 }
 
 // "Returning restores every node, the remembered error and nil types and every capacity figure; the report count does not go back".
-pub fn return_to<'a>(
-    chart: &[u32],
-    beside: Beside,
-    rule: &'a [u8],
-    text: &'a [u8],
+pub fn return_to(
+    env: &Env<'_>,
     h: &mut [u32],
     ws: &mut [u32],
     ks: &mut [u32],
     bs: &[u32],
     name: &[u8],
-) -> DoneAnswer
+) -> Result<(), Refusal>
     ensures { NamesPromised
-        (return_to_call (env_in chart.now beside rule.now text.now) (lent_of h.old ws.old ks.old)
+        (return_to_call (env_lent env.now) (lent_of h.old ws.old ks.old)
         (lent_book_of bs.now) name.now)
         (done_reply result) h.old ws.old ks.old bs.now h.new ws.new ks.new bs.now }
 {
-    let broken = book_sound::names_refusal(chart, beside, rule, text, h, ws, ks, bs);
-    if broken != NO_REFUSAL {
-        return DoneAnswer::Refused(broken);
-    }
-    tested::return_to(chart, beside, rule, text, h, ws, ks, bs, name)
+    book_sound::lent(env, h, ws, ks, bs)?;
+    tested::return_to(env, h, ws, ks, bs, name)
 }
 
 // "dropping a name makes its place usable"
-pub fn drop_name<'a>(
-    chart: &[u32],
-    beside: Beside,
-    rule: &'a [u8],
-    text: &'a [u8],
+pub fn drop_name(
+    env: &Env<'_>,
     h: &[u32],
     ws: &[u32],
     ks: &[u32],
     bs: &mut [u32],
     name: &[u8],
-) -> DoneAnswer
+) -> Result<(), Refusal>
     ensures { NamesPromised
-        (drop_name_call (env_in chart.now beside rule.now text.now) (lent_of h.now ws.now ks.now)
-        (lent_book_of bs.old) name.now)
-        (done_reply result) h.now ws.now ks.now bs.old h.now ws.now ks.now bs.new }
+        (drop_name_call (env_lent env.now) (lent_of h.now ws.now ks.now) (lent_book_of bs.old) name.now) (done_reply result) h.now ws.now ks.now bs.old h.now ws.now ks.now bs.new }
 {
-    let lent = book_sound::names_refusal(chart, beside, rule, text, h, ws, ks, bs);
-    if lent != NO_REFUSAL {
-        return DoneAnswer::Refused(lent);
-    }
-    tested::drop_name(chart, beside, rule, text, h, ws, ks, bs, name)
+    book_sound::lent(env, h, ws, ks, bs)?;
+    tested::drop_name(env, h, ws, ks, bs, name)
 }
 
 // "`reset` frees all"; the report count "outlives `reset`", and "`reset` drops all names".
-pub fn reset<'a>(
-    chart: &[u32],
-    beside: Beside,
-    rule: &'a [u8],
-    text: &'a [u8],
+pub fn reset(
+    env: &Env<'_>,
     h: &mut [u32],
     ws: &mut [u32],
     ks: &mut [u32],
     bs: &mut [u32],
-) -> DoneAnswer
+) -> Result<(), Refusal>
     ensures { NamesPromised
-        (reset_names_call (env_in chart.now beside rule.now text.now) (lent_of h.old ws.old ks.old)
+        (reset_names_call (env_lent env.now) (lent_of h.old ws.old ks.old)
         (lent_book_of bs.old))
         (done_reply result) h.old ws.old ks.old bs.old h.new ws.new ks.new bs.new }
 {
-    let refused = book_sound::names_refusal(chart, beside, rule, text, h, ws, ks, bs);
-    if refused != NO_REFUSAL {
-        return DoneAnswer::Refused(refused);
-    }
-    tested::reset(chart, beside, rule, text, h, ws, ks, bs)
+    book_sound::lent(env, h, ws, ks, bs)?;
+    tested::reset(env, h, ws, ks, bs)
 }

@@ -1,10 +1,10 @@
 -- What the calls reply: unify's answer, or a refusal's number.
+use Rattle.std.specs.Prelude.{Result}
 use Rattle.scope.specs.Answers.{Answer}
 use Rattle.types.specs.Answers.{answer_of}
-use Rattle.promise.specs.Promise.{Reply, value, refusal}
-use Rattle.call_unify.specs.declared.UnifyAnswer.{UnifyAnswer}
-use Rattle.call_unify.specs.declared.UnifyAnswer.TheVariants.{Is, Refused}
+use Rattle.types.specs.declared.UnifyResult.{UnifyResult}
+use Rattle.promise.specs.Promise.{Reply, reply}
+use Rattle.refusals.specs.declared.Refusal.{Refusal}
 
-abbrev pub unify_reply : UnifyAnswer → Reply Answer
-unify_reply (Is r) = value (answer_of r)
-unify_reply (Refused n) = refusal n
+abbrev pub unify_reply : Result UnifyResult Refusal → Reply Answer
+unify_reply r = reply answer_of r

@@ -9,67 +9,49 @@ ghost use Rattle.scope.specs.Limits.{«MAX_NODES»};
 ghost use Rattle.scope.specs.Types.{ty_of};
 ghost use Rattle.scope.specs.Calls.{unify_call};
 ghost use Rattle.layout.specs.Words.{lent_of};
-ghost use Rattle.sound.specs.Tests.{env_in};
+ghost use Rattle.sound.specs.Tests.{env_lent};
 ghost use Rattle.recall.specs.Memory.{words_for};
 ghost use Rattle.promise.specs.Promise.{Promised};
 ghost use Rattle.call_unify.specs.Answers.{unify_reply};
 
-use chart::Beside;
-use refusals::NO_REFUSAL;
+use chart::Env;
+use refusals::Refusal;
 use scope::MAX_NODES;
 use types::{Type, UnifyResult};
 
-// Unify's answer, or a refusal's number.
-#[derive(Clone, Copy)]
-pub enum UnifyAnswer {
-    Is(UnifyResult),
-    Refused(u32),
-}
-
 // "`unify` takes both roots with `find_mut`." The memory is any slice, whatever it holds: nothing of it is believed, and what stands in it afterwards means nothing.
-pub fn unify_recalling<'a>(
-    chart: &[u32],
-    beside: Beside,
-    rule: &'a [u8],
-    text: &'a [u8],
+pub fn unify_recalling(
+    env: &Env<'_>,
     h: &[u32],
     ws: &mut [u32],
     ks: &[u32],
     memory: &mut [u32],
     a: Type,
     b: Type,
-) -> UnifyAnswer
+) -> Result<UnifyResult, Refusal>
     ensures { Promised
-        (unify_call (env_in chart.now beside rule.now text.now) (lent_of h.now ws.old ks.now)
-        (ty_of a.0) (ty_of b.0))
-        (unify_reply result) h.now ws.old ks.now h.now ws.new ks.now }
+        (unify_call (env_lent env.now) (lent_of h.now ws.old ks.now) (ty_of a.0) (ty_of b.0)) (unify_reply result) h.now ws.old ks.now h.now ws.new ks.now }
 {
-    let lent = sound::refusal(chart, beside, rule, text, h, ws, ks);
-    if lent != NO_REFUSAL {
-        return UnifyAnswer::Refused(lent);
-    }
-    tested::unify_recalling(chart, beside, rule, text, h, ws, ks, memory, a, b)
+    sound::lent(env, h, ws, ks)?;
+    tested::unify_recalling(env, h, ws, ks, memory, a, b)
 }
 
 // The same without a memory.
-pub fn unify<'a>(
-    chart: &[u32],
-    beside: Beside,
-    rule: &'a [u8],
-    text: &'a [u8],
+pub fn unify(
+    env: &Env<'_>,
     h: &[u32],
     ws: &mut [u32],
     ks: &[u32],
     a: Type,
     b: Type,
-) -> UnifyAnswer
+) -> Result<UnifyResult, Refusal>
     ensures { Promised
-        (unify_call (env_in chart.now beside rule.now text.now) (lent_of h.now ws.old ks.now)
+        (unify_call (env_lent env.now) (lent_of h.now ws.old ks.now)
         (ty_of a.0) (ty_of b.0))
         (unify_reply result) h.now ws.old ks.now h.now ws.new ks.now }
 {
     let mut memory = [0u32; unify_lists::OWN_MEMORY];
-    unify_recalling(chart, beside, rule, text, h, ws, ks, &mut memory, a, b)
+    unify_recalling(env, h, ws, ks, &mut memory, a, b)
 }
 
 // So many words of memory make every pair of types of n nodes rememberable; 0 where no store has so many nodes.

@@ -3,61 +3,60 @@
 ghost use Rattle.scope.specs.Types.{ty_of};
 ghost use Rattle.scope.specs.Calls.{unify_call};
 ghost use Rattle.layout.specs.Words.{lent_of};
-ghost use Rattle.sound.specs.Tests.{env_in};
+ghost use Rattle.sound.specs.Tests.{env_lent};
 ghost use Rattle.promise.specs.Promise.{Promised, Tested};
 ghost use Rattle.call_unify.specs.Answers.{unify_reply};
 
-use crate::UnifyAnswer;
-use chart::Beside;
-use refusals::NO_REFUSAL;
-use types::Type;
+use chart::Env;
+use refusals::Refusal;
+use types::{Type, UnifyResult};
 
 // "`unify` takes both roots with `find_mut`." The memory is any slice, whatever it holds: nothing of it is believed, and what stands in it afterwards means nothing.
-pub fn unify_recalling<'a>(
-    chart: &[u32],
-    beside: Beside,
-    rule: &'a [u8],
-    text: &'a [u8],
+pub fn unify_recalling(
+    env: &Env<'_>,
     h: &[u32],
     ws: &mut [u32],
     ks: &[u32],
     memory: &mut [u32],
     a: Type,
     b: Type,
-) -> UnifyAnswer
-    requires { Tested chart.now beside rule.now text.now h.now ws.old ks.now }
+) -> Result<UnifyResult, Refusal>
+    requires { Tested (env_lent env.now) h.now ws.old ks.now }
     ensures { Promised
-        (unify_call (env_in chart.now beside rule.now text.now) (lent_of h.now ws.old ks.now)
+        (unify_call (env_lent env.now) (lent_of h.now ws.old ks.now)
         (ty_of a.0) (ty_of b.0))
         (unify_reply result) h.now ws.old ks.now h.now ws.new ks.now }
 {
     let x = layout::read_header(h);
-    let refused = lent_tests::pair(a, b, x.nodes);
-    if refused != NO_REFUSAL {
-        return UnifyAnswer::Refused(refused);
-    }
+    lent_tests::pair(a, b, x.nodes)?;
     recall::begin(memory);
-    UnifyAnswer::Is(unify_lists::unify_all(ws, ks, x.nodes, rule, text, memory, a, b))
+    Ok(unify_lists::unify_all(
+        ws,
+        ks,
+        x.nodes,
+        env.texts.rule,
+        env.texts.chart,
+        memory,
+        a,
+        b,
+    ))
 }
 
 // The same without a memory.
-pub fn unify<'a>(
-    chart: &[u32],
-    beside: Beside,
-    rule: &'a [u8],
-    text: &'a [u8],
+pub fn unify(
+    env: &Env<'_>,
     h: &[u32],
     ws: &mut [u32],
     ks: &[u32],
     a: Type,
     b: Type,
-) -> UnifyAnswer
-    requires { Tested chart.now beside rule.now text.now h.now ws.old ks.now }
+) -> Result<UnifyResult, Refusal>
+    requires { Tested (env_lent env.now) h.now ws.old ks.now }
     ensures { Promised
-        (unify_call (env_in chart.now beside rule.now text.now) (lent_of h.now ws.old ks.now)
+        (unify_call (env_lent env.now) (lent_of h.now ws.old ks.now)
         (ty_of a.0) (ty_of b.0))
         (unify_reply result) h.now ws.old ks.now h.now ws.new ks.now }
 {
     let mut memory = [0u32; unify_lists::OWN_MEMORY];
-    unify_recalling(chart, beside, rule, text, h, ws, ks, &mut memory, a, b)
+    unify_recalling(env, h, ws, ks, &mut memory, a, b)
 }

@@ -4,23 +4,19 @@
 ghost use Rattle.scope.specs.Types.{ty_of};
 ghost use Rattle.scope.specs.Calls.{unify_types_call, unify_objects_call, unify_fn_sig_call};
 ghost use Rattle.layout.specs.Words.{lent_of};
-ghost use Rattle.sound.specs.Tests.{env_in};
+ghost use Rattle.sound.specs.Tests.{env_lent};
 ghost use Rattle.promise.specs.Promise.{Promised};
 ghost use Rattle.store.specs.Entries.{types_in};
 ghost use Rattle.lent_tests.specs.Given.{entries_in};
 ghost use Rattle.call_unify.specs.Answers.{unify_reply};
 
-use call_unify::UnifyAnswer;
-use chart::Beside;
-use refusals::NO_REFUSAL;
-use types::{Inverted, Type};
+use chart::Env;
+use refusals::Refusal;
+use types::{Inverted, Type, UnifyResult};
 
 // Two lists of types, a word a type, the second's inverted if inv says so.
-pub fn unify_types_recalling<'a>(
-    chart: &[u32],
-    beside: Beside,
-    rule: &'a [u8],
-    text: &'a [u8],
+pub fn unify_types_recalling(
+    env: &Env<'_>,
     h: &[u32],
     ws: &mut [u32],
     ks: &[u32],
@@ -28,61 +24,36 @@ pub fn unify_types_recalling<'a>(
     xs: &[u32],
     ys: &[u32],
     inv: Inverted,
-) -> UnifyAnswer
+) -> Result<UnifyResult, Refusal>
     ensures { Promised
-        (unify_types_call (env_in chart.now beside rule.now text.now) (lent_of h.now ws.old ks.now)
-        (types_in xs.now) (types_in ys.now) inv.0)
-        (unify_reply result) h.now ws.old ks.now h.now ws.new ks.now }
+        (unify_types_call (env_lent env.now) (lent_of h.now ws.old ks.now) (types_in xs.now) (types_in ys.now) inv.0) (unify_reply result) h.now ws.old ks.now h.now ws.new ks.now }
 {
-    let lent = sound::refusal(chart, beside, rule, text, h, ws, ks);
-    if lent != NO_REFUSAL {
-        return UnifyAnswer::Refused(lent);
-    }
-    tested_unify_lists::unify_types_recalling(
-        chart, beside, rule, text, h, ws, ks, memory, xs, ys, inv,
-    )
+    sound::lent(env, h, ws, ks)?;
+    tested_unify_lists::unify_types_recalling(env, h, ws, ks, memory, xs, ys, inv)
 }
 
 // The same without a memory.
-pub fn unify_types<'a>(
-    chart: &[u32],
-    beside: Beside,
-    rule: &'a [u8],
-    text: &'a [u8],
+pub fn unify_types(
+    env: &Env<'_>,
     h: &[u32],
     ws: &mut [u32],
     ks: &[u32],
     xs: &[u32],
     ys: &[u32],
     inv: Inverted,
-) -> UnifyAnswer
+) -> Result<UnifyResult, Refusal>
     ensures { Promised
-        (unify_types_call (env_in chart.now beside rule.now text.now) (lent_of h.now ws.old ks.now)
+        (unify_types_call (env_lent env.now) (lent_of h.now ws.old ks.now)
         (types_in xs.now) (types_in ys.now) inv.0)
         (unify_reply result) h.now ws.old ks.now h.now ws.new ks.now }
 {
     let mut memory = [0u32; unify_lists::OWN_MEMORY];
-    unify_types_recalling(
-        chart,
-        beside,
-        rule,
-        text,
-        h,
-        ws,
-        ks,
-        &mut memory,
-        xs,
-        ys,
-        inv,
-    )
+    unify_types_recalling(env, h, ws, ks, &mut memory, xs, ys, inv)
 }
 
 // Two objects, four words an entry, as children lie in a store.
-pub fn unify_objects_recalling<'a>(
-    chart: &[u32],
-    beside: Beside,
-    rule: &'a [u8],
-    text: &'a [u8],
+pub fn unify_objects_recalling(
+    env: &Env<'_>,
     h: &[u32],
     ws: &mut [u32],
     ks: &[u32],
@@ -90,61 +61,37 @@ pub fn unify_objects_recalling<'a>(
     xs: &[u32],
     ys: &[u32],
     inv: Inverted,
-) -> UnifyAnswer
+) -> Result<UnifyResult, Refusal>
     ensures { Promised
-        (unify_objects_call (env_in chart.now beside rule.now text.now) (lent_of h.now ws.old ks.now)
-        (entries_in xs.now) (entries_in ys.now) inv.0)
-        (unify_reply result) h.now ws.old ks.now h.now ws.new ks.now }
+        (unify_objects_call (env_lent env.now) (lent_of h.now ws.old ks.now) (entries_in xs.now) (entries_in ys.now) inv.0) (unify_reply result) h.now ws.old ks.now h.now ws.new ks.now }
 {
-    let broken = sound::refusal(chart, beside, rule, text, h, ws, ks);
-    if broken != NO_REFUSAL {
-        return UnifyAnswer::Refused(broken);
-    }
-    tested_unify_lists::unify_objects_recalling(
-        chart, beside, rule, text, h, ws, ks, memory, xs, ys, inv,
-    )
+    let lent = sound::lent(env, h, ws, ks);
+    lent?;
+    tested_unify_lists::unify_objects_recalling(env, h, ws, ks, memory, xs, ys, inv)
 }
 
 // The same without a memory.
-pub fn unify_objects<'a>(
-    chart: &[u32],
-    beside: Beside,
-    rule: &'a [u8],
-    text: &'a [u8],
+pub fn unify_objects(
+    env: &Env<'_>,
     h: &[u32],
     ws: &mut [u32],
     ks: &[u32],
     xs: &[u32],
     ys: &[u32],
     inv: Inverted,
-) -> UnifyAnswer
+) -> Result<UnifyResult, Refusal>
     ensures { Promised
-        (unify_objects_call (env_in chart.now beside rule.now text.now) (lent_of h.now ws.old ks.now)
+        (unify_objects_call (env_lent env.now) (lent_of h.now ws.old ks.now)
         (entries_in xs.now) (entries_in ys.now) inv.0)
         (unify_reply result) h.now ws.old ks.now h.now ws.new ks.now }
 {
     let mut memory = [0u32; unify_lists::OWN_MEMORY];
-    unify_objects_recalling(
-        chart,
-        beside,
-        rule,
-        text,
-        h,
-        ws,
-        ks,
-        &mut memory,
-        xs,
-        ys,
-        inv,
-    )
+    unify_objects_recalling(env, h, ws, ks, &mut memory, xs, ys, inv)
 }
 
 // Two signatures: a list of parameters, and a return.
-pub fn unify_fn_sig_recalling<'a>(
-    chart: &[u32],
-    beside: Beside,
-    rule: &'a [u8],
-    text: &'a [u8],
+pub fn unify_fn_sig_recalling(
+    env: &Env<'_>,
     h: &[u32],
     ws: &mut [u32],
     ks: &[u32],
@@ -153,27 +100,20 @@ pub fn unify_fn_sig_recalling<'a>(
     r: Type,
     ys: &[u32],
     q: Type,
-) -> UnifyAnswer
+) -> Result<UnifyResult, Refusal>
     ensures { Promised
-        (unify_fn_sig_call (env_in chart.now beside rule.now text.now) (lent_of h.now ws.old ks.now)
+        (unify_fn_sig_call (env_lent env.now) (lent_of h.now ws.old ks.now)
         (types_in xs.now) (ty_of r.0) (types_in ys.now) (ty_of q.0))
         (unify_reply result) h.now ws.old ks.now h.now ws.new ks.now }
 {
-    let code = sound::refusal(chart, beside, rule, text, h, ws, ks);
-    if code != NO_REFUSAL {
-        return UnifyAnswer::Refused(code);
-    }
-    tested_unify_lists::unify_fn_sig_recalling(
-        chart, beside, rule, text, h, ws, ks, memory, xs, r, ys, q,
-    )
+    let tested = sound::lent(env, h, ws, ks);
+    tested?;
+    tested_unify_lists::unify_fn_sig_recalling(env, h, ws, ks, memory, xs, r, ys, q)
 }
 
 // The same without a memory.
-pub fn unify_fn_sig<'a>(
-    chart: &[u32],
-    beside: Beside,
-    rule: &'a [u8],
-    text: &'a [u8],
+pub fn unify_fn_sig(
+    env: &Env<'_>,
     h: &[u32],
     ws: &mut [u32],
     ks: &[u32],
@@ -181,25 +121,12 @@ pub fn unify_fn_sig<'a>(
     r: Type,
     ys: &[u32],
     q: Type,
-) -> UnifyAnswer
+) -> Result<UnifyResult, Refusal>
     ensures { Promised
-        (unify_fn_sig_call (env_in chart.now beside rule.now text.now) (lent_of h.now ws.old ks.now)
+        (unify_fn_sig_call (env_lent env.now) (lent_of h.now ws.old ks.now)
         (types_in xs.now) (ty_of r.0) (types_in ys.now) (ty_of q.0))
         (unify_reply result) h.now ws.old ks.now h.now ws.new ks.now }
 {
     let mut memory = [0u32; unify_lists::OWN_MEMORY];
-    unify_fn_sig_recalling(
-        chart,
-        beside,
-        rule,
-        text,
-        h,
-        ws,
-        ks,
-        &mut memory,
-        xs,
-        r,
-        ys,
-        q,
-    )
+    unify_fn_sig_recalling(env, h, ws, ks, &mut memory, xs, r, ys, q)
 }

@@ -1,4 +1,4 @@
--- What is given by a lent kind, and one law for each way out of `kind_refusal`. A kind that 4 does not turn back has whole entries and no name too many, so
+-- What is given by a lent kind, and one law for each way out of `test_kind`. A kind that 4 does not turn back has whole entries and no name too many, so
 -- it is the kind that the entries' words mean. What stands beside the chart is not looked at.
 -- Assumes nothing.
 use mathlib.Core.Path.{◌≡◌, refl, ap, sym, ◌∙◌}
@@ -29,7 +29,6 @@ use Rattle.kind_sound.proofs.Laws.{flag_reads, defined_chart}
 use Rattle.store.specs.Entries.{entry_count, entry_types}
 use Rattle.make.specs.Given.{kind_at}
 use Rattle.make.specs.declared.Head as make
-use Rattle.refusals.specs.Codes.{code_of}
 use Rattle.store.proofs.EntryLaws.{entries_long}
 use Rattle.lent_kind.specs.declared.KindArgs.{KindArgs}
 use Rattle.lent_kind.specs.Lent.{with_flag, kind_lent, tidy, given, kind_tests}
@@ -87,7 +86,7 @@ module _ (k : KindArgs) (es : List ℕ) where
   pub untidy_test : (e : Env) (ts : List (Bool × ℕ)) → tidy k es ≡ false → first_broken (kind_tests e (given k es) ++ ts) ≡ some UNMAKEABLE
   untidy_test e ts t = rw (untidy_unmakeable e t)
 
--- kind_refusal
+-- test_kind
 
 module _ (cs rule text : List ℕ) (k : KindArgs) (es : List ℕ) where
   abbrev env : Env
@@ -99,7 +98,7 @@ module _ (cs rule text : List ℕ) (k : KindArgs) (es : List ℕ) where
   pub flag_is : flag ≡ flag_of env k.code k.number
   flag_is = flag_reads (chart_alone cs) env refl k.code k.number
 
-  pub torn_refused : (length es % CHILD_WORDS ≡ 0 → ⊥) → first_broken (kind_tests env (given k es)) ≡ code_of UNMAKEABLE
+  pub torn_refused : (length es % CHILD_WORDS ≡ 0 → ⊥) → first_broken (kind_tests env (given k es)) ≡ some UNMAKEABLE
   torn_refused z = untidy_test k es env [] (rw (ne_eqb (length es % CHILD_WORDS) 0 z))
 
   module _ {n : make.Head} {kind : Kind} (f : n ≡ with_flag k flag) (g : kind ≡ kind_at n 0 (entry_count es)) (whole : length es % CHILD_WORDS ≡ 0) where
@@ -109,7 +108,7 @@ module _ (cs rule text : List ℕ) (k : KindArgs) (es : List ℕ) where
     tidy_by : {b : Bool} → b ≡ names_clean (kind_cell es kind) → tidy k es ≡ b
     tidy_by q = rw (eq-eqb (length es % CHILD_WORDS) 0 whole) (sym (q ∙ ap (λ (y : Kind). names_clean (kind_cell es y)) kind_is))
 
-    pub unclean_refused : {b : Bool} → b ≡ names_clean (kind_cell es kind) → b ≡ false → first_broken (kind_tests env (given k es)) ≡ code_of UNMAKEABLE
+    pub unclean_refused : {b : Bool} → b ≡ names_clean (kind_cell es kind) → b ≡ false → first_broken (kind_tests env (given k es)) ≡ some UNMAKEABLE
     unclean_refused q z = untidy_test k es env [] (tidy_by q ∙ z)
 
     module _ {b : Bool} (q : b ≡ names_clean (kind_cell es kind)) (y : b ≡ true) where
@@ -124,7 +123,7 @@ module _ (cs rule text : List ℕ) (k : KindArgs) (es : List ℕ) where
         made_test =
             ap (λ (y : nodes.Kind). makeable (texts rule text) y.head (length (given k es).kids)) made_is ∙ rw width_is (sym p)
 
-        pub unmade_refused : m ≡ false → first_broken (kind_tests env (given k es)) ≡ code_of UNMAKEABLE
+        pub unmade_refused : m ≡ false → first_broken (kind_tests env (given k es)) ≡ some UNMAKEABLE
         unmade_refused z = rw (made_test ∙ z)
 
         module _ {d : Bool} (r : d ≡ defined (chart_alone cs) (kind_means [] kind).head) (o : m ≡ true) where
@@ -134,8 +133,8 @@ module _ (cs rule text : List ℕ) (k : KindArgs) (es : List ℕ) where
               ap (λ (y : nodes.Kind). defined env y.head) made_is ∙ (defined_chart env cs refl es kind ∙ sym r) in
               rw (made_test ∙ o, v)
 
-          pub undefined_refused : d ≡ false → first_broken (kind_tests env (given k es)) ≡ code_of UNDEFINED
+          pub undefined_refused : d ≡ false → first_broken (kind_tests env (given k es)) ≡ some UNDEFINED
           undefined_refused z = defined_test ∙ rw z
 
-          pub kind_passed : d ≡ true → first_broken (kind_tests env (given k es)) ≡ code_of 0
+          pub kind_passed : d ≡ true → first_broken (kind_tests env (given k es)) ≡ none
           kind_passed z = defined_test ∙ rw z

@@ -5,16 +5,17 @@ ghost use Rattle.std.specs.Prelude.{◌≡◌, ◌≤◌, length};
 ghost use Rattle.scope.specs.Limits.{MAX_WIDTH};
 ghost use Rattle.scope.specs.Kinds.{flag_of};
 ghost use Rattle.scope.specs.Calls.{first_broken};
-ghost use Rattle.chart.specs.Env.{chart_in, chart_alone};
+ghost use Rattle.chart.specs.Env.{chart_lent, chart_alone};
 ghost use Rattle.layout.specs.Words.{child_words};
 ghost use Rattle.store.specs.Entries.{entry_count};
-ghost use Rattle.refusals.specs.Codes.{code_of};
+ghost use Rattle.refusals.specs.Codes.{told};
 ghost use Rattle.lent_kind.specs.Lent.{with_flag, given, plain_args, TypesPut, list_tests, kind_tests};
 
+use chart::Env;
 use layout::{CHILD_WORDS, Slot};
 use make::Head;
 use names::{NO_NAME, Name};
-use refusals::{NO_REFUSAL, OUTSIDE, UNDEFINED, UNMAKEABLE};
+use refusals::Refusal;
 use scope::MAX_WIDTH;
 use types::Type;
 
@@ -32,57 +33,48 @@ pub struct KindArgs {
 pub fn flagged(k: KindArgs, chart: &[u32]) -> Head
     ensures { result ≡ with_flag k (flag_of (chart_alone chart.now) k.code k.number) }
 {
-    let name = k.name;
     Head {
         code: k.code,
         number: k.number,
         dual: kind_sound::chart_flag(k.code, k.number, chart),
         flex: k.flex,
-        name,
+        name: k.name,
     }
 }
 
-// The first of refusals 4 and 5 that stands, and 0 where none does.
-pub fn kind_refusal<'a>(
-    chart: &[u32],
-    rule: &'a [u8],
-    text: &'a [u8],
-    k: KindArgs,
-    entries: &[u32],
-) -> u32
+// The first of refusals 4 and 5 that stands.
+pub fn test_kind(env: &Env<'_>, k: KindArgs, entries: &[u32]) -> Result<(), Refusal>
     requires { entry_count entries.now ≤ MAX_WIDTH }
     ensures { first_broken
-        (kind_tests (chart_in chart.now rule.now text.now) (given k entries.now)) ≡ code_of result }
+        (kind_tests (chart_lent env.now) (given k entries.now)) ≡ told result }
 {
     if entries.len() % CHILD_WORDS != 0 {
-        return UNMAKEABLE;
+        return Err(Refusal::Unmakeable);
     }
     let count = (entries.len() / CHILD_WORDS) as u32;
-    let kind = make::kind_of(flagged(k, chart), 0, count);
-    if !clean::names_clean(entries, kind) {
-        return UNMAKEABLE;
+    let kind = make::kind_of(flagged(k, env.chart), 0, count);
+    if !clean::names_clean(entries, kind)
+        || !kind_sound::can_be_made(kind, entries, env.texts.rule, env.texts.chart)
+    {
+        return Err(Refusal::Unmakeable);
     }
-    if !kind_sound::can_be_made(kind, entries, rule, text) {
-        return UNMAKEABLE;
+    if !kind_sound::is_defined(kind, env.chart) {
+        return Err(Refusal::Undefined);
     }
-    if !kind_sound::is_defined(kind, chart) {
-        return UNDEFINED;
-    }
-    NO_REFUSAL
+    Ok(())
 }
 
 // The first of refusals 3 and 4 that stands for a list of n types: "over 255 children" comes after a type that is not in the store.
-pub fn list_refusal(inside: bool, n: usize) -> u32
-    ensures { first_broken (list_tests inside n) ≡ code_of result }
+pub fn test_list(inside: bool, n: usize) -> Result<(), Refusal>
+    ensures { first_broken (list_tests inside n) ≡ told result }
 {
     if !inside {
-        return OUTSIDE;
+        return Err(Refusal::Outside);
     }
     if n > MAX_WIDTH {
-        UNMAKEABLE
-    } else {
-        NO_REFUSAL
+        return Err(Refusal::Unmakeable);
     }
+    Ok(())
 }
 
 // The listed types as entries without names.
@@ -90,15 +82,12 @@ pub fn put_types(es: &mut [u32], types: &[u32])
     requires { child_words (length types.now) ≤ length es.old }
     ensures { TypesPut types.now (length types.now) es.new }
 {
-    let mut i = 0;
-    while i < types.len() {
-        let w = types[i];
+    for (i, w) in types.iter().enumerate() {
         let slot = Slot {
-            ty: Type(w),
+            ty: Type(*w),
             name: NO_NAME,
         };
         layout::put_child(es, i, slot);
-        i += 1;
     }
 }
 

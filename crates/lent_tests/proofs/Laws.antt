@@ -9,13 +9,13 @@ use Prim.Native.Nat.{ℕ, ◌%◌, ◌≤◌, ◌<◌}
 use native.Mathlib.Decide.{dec_lt}
 use native.Mathlib.Omega.{arith}
 use lib.Dec.{eqb, ltb}
-use lib.ListN.{length, length-map, length-append}
-use borrow.Author.Tests.{eq-eqb, ne_eqb, eqb-true, lt-ltb, le-ltb, not-true, not-false}
+use lib.ListN.{length, length-append}
+use borrow.Author.Tests.{eq-eqb, ne_eqb, eqb-true, lt-ltb, le-ltb}
 use Rattle.scope.specs.Base.{all, pick}
 use Rattle.scope.specs.Limits.{MAX_LIST}
 use Rattle.scope.specs.Names.{Name}
 use Rattle.scope.specs.Chart.{Env}
-use Rattle.scope.specs.Types.{Ty, ty_of}
+use Rattle.scope.specs.Types.{Ty}
 use Rattle.scope.specs.Kinds.{CHILD_NAMES, rows, row_of, object_names_ok}
 use Rattle.scope.specs.Nodes.{Node, Store}
 use Rattle.scope.specs.Unify.{ImplType, Trait, Error}
@@ -27,10 +27,9 @@ use Rattle.chart.specs.declared.Beside.{Beside}
 use Rattle.layout.specs.Words.{CHILD_WORDS}
 use Rattle.layout.specs.declared.Kind.{Kind}
 use Rattle.kind_sound.proofs.NameLaws.{length_names, names_test, child_names_lem}
-use Rattle.store.specs.Entries.{entry_count, entry_names, entry_types, types_in}
+use Rattle.store.specs.Entries.{entry_count, entry_names, entry_types}
 use Rattle.store.proofs.EntryLaws.{entries_long}
-use Rattle.refusals.specs.Codes.{NO_REFUSAL, code_of}
-use Rattle.refusals.proofs.Laws.{code_first, code_next}
+use Rattle.refusals.proofs.Laws.{broken_first, broken_next}
 use Rattle.lent_tests.specs.Given.{pair_tests, list_tests, sig_tests, object_tests, impls_tests, one_impl_tests, entries_in, object_of, FirstOf}
 
 -- tests of two things each, in 01's order
@@ -45,41 +44,40 @@ pub record Row (ts : Store → List (Bool × ℕ)) (A B : List Node → Bool) (v
 -- What the code's tests answered, in its order. i and j say A and B of the nodes, k and l say v and w, g and h say p and q
 module _ {n : ℕ} {ts : Store → List (Bool × ℕ)} {A B : List Node → Bool} {v w p q : Bool} (f : Row ts A B v w p q)
     {i : Bool} (ei : (ns : List Node) → length ns ≡ n → i ≡ A ns) where
-  pub row_first : not i ≡ true → FirstOf n ts OUTSIDE
-  row_first z = record { code = λ s m. f.is s ∙ ap (λ (a : Bool). row a (B s.nodes) v w p q) (sym (ei s.nodes m) ∙ not-true i z) }
+  pub row_first : i ≡ false → FirstOf n ts (some OUTSIDE)
+  row_first z = record { code = λ s m. f.is s ∙ ap (λ (a : Bool). row a (B s.nodes) v w p q) (sym (ei s.nodes m) ∙ z) }
 
-  module _ (ti : not i ≡ false) {j : Bool} (ej : (ns : List Node) → length ns ≡ n → j ≡ B ns) where
+  module _ (ti : i ≡ true) {j : Bool} (ej : (ns : List Node) → length ns ≡ n → j ≡ B ns) where
     row_on : (s : Store) → length s.nodes ≡ n → (b : Bool) → j ≡ b → first_broken (ts s) ≡ row true b v w p q
     row_on s m b z =
         f.is s
-        ∙ (ap (λ (a : Bool). row a (B s.nodes) v w p q) (sym (ei s.nodes m) ∙ not-false i ti)
+        ∙ (ap (λ (a : Bool). row a (B s.nodes) v w p q) (sym (ei s.nodes m) ∙ ti)
         ∙ ap (λ (c : Bool). row true c v w p q) (sym (ej s.nodes m) ∙ z))
 
-    pub row_second : not j ≡ true → FirstOf n ts OUTSIDE
-    row_second z = record { code = λ s m. row_on s m false (not-true j z) }
+    pub row_second : j ≡ false → FirstOf n ts (some OUTSIDE)
+    row_second z = record { code = λ s m. row_on s m false z }
 
-    module _ (tj : not j ≡ false) where
-      pub row_inside : (r : ℕ) → row true true v w p q ≡ code_of r → FirstOf n ts r
-      row_inside r z = record { code = λ s m. row_on s m true (not-false j tj) ∙ z }
+    module _ (tj : j ≡ true) where
+      pub row_inside : {o : Option ℕ} → row true true v w p q ≡ o → FirstOf n ts o
+      row_inside z = record { code = λ s m. row_on s m true tj ∙ z }
 
       module _ {k : Bool} (ek : k ≡ v) where
-        pub row_many : k ≡ true → FirstOf n ts UNMAKEABLE
-        row_many z = row_inside UNMAKEABLE (rw (← ek, z) refl)
+        pub row_many : k ≡ true → FirstOf n ts (some UNMAKEABLE)
+        row_many z = row_inside (rw (← ek, z) refl)
 
         module _ (fk : k ≡ false) {l : Bool} (el : l ≡ w) where
-          pub row_many_too : l ≡ true → FirstOf n ts UNMAKEABLE
-          row_many_too z = row_inside UNMAKEABLE (rw (← ek, fk, ← el, z) refl)
+          pub row_many_too : l ≡ true → FirstOf n ts (some UNMAKEABLE)
+          row_many_too z = row_inside (rw (← ek, fk, ← el, z) refl)
 
-          pub row_made : l ≡ false → p ≡ true → q ≡ true → FirstOf n ts NO_REFUSAL
-          row_made z tp tq = row_inside NO_REFUSAL (rw (← ek, fk, ← el, z, tp, tq) refl)
+          pub row_made : l ≡ false → p ≡ true → q ≡ true → FirstOf n ts none
+          row_made z tp tq = row_inside (rw (← ek, fk, ← el, z, tp, tq) refl)
 
           module _ (fl : l ≡ false) {g : Bool} (eg : g ≡ p) where
-            pub row_absent : not g ≡ true → FirstOf n ts UNDEFINED
-            row_absent z = row_inside UNDEFINED (rw (← ek, fk, ← el, fl, ← eg, not-true g z) refl)
+            pub row_absent : g ≡ false → FirstOf n ts (some UNDEFINED)
+            row_absent z = row_inside (rw (← ek, fk, ← el, fl, ← eg, z) refl)
 
-            module _ (tg : not g ≡ false) {h : Bool} (eh : h ≡ q) where
-              pub row_defined : not h ≡ false → FirstOf n ts NO_REFUSAL
-              row_defined z = row_inside NO_REFUSAL (rw (← ek, fk, ← el, fl, ← eg, not-false g tg, ← eh, not-false h z) refl)
+            pub row_defined : g ≡ true → q ≡ true → FirstOf n ts none
+            row_defined z tq = row_inside (rw (← ek, fk, ← el, fl, ← eg, z, tq) refl)
 
 -- the tests of each call as such a row
 
@@ -118,30 +116,18 @@ pub one_row : (e : Env) (a : ImplType)
 unfolding impls_tests one_impl_tests
 one_row e a = record { is = λ s. (impl_row e a Error).is s }
 
-pub one_error : (e : Env) {n : ℕ} → FirstOf n (one_impl_tests e Error) NO_REFUSAL
+pub one_error : (e : Env) {n : ℕ} → FirstOf n (one_impl_tests e Error) none
 unfolding one_impl_tests
 one_error e = record { code = λ s m. refl }
 
--- of two numbers the smaller one that refuses
+-- of two refusals the one with the smaller number
 
-abbrev is_second : ℕ → ℕ → Bool
-is_second x y = eqb x NO_REFUSAL || (not (eqb y NO_REFUSAL) && ltb y x)
+abbrev sooner : Option ℕ → Option ℕ → Option ℕ
+sooner none y = y
+sooner (some m) none = some m
+sooner (some m) (some n) = some (pick (ltb n m) n m)
 
-abbrev sooner : ℕ → ℕ → ℕ
-sooner x y = pick (is_second x y) y x
-
-abbrev number_of : Option ℕ → ℕ
-number_of none = NO_REFUSAL
-number_of (some n) = n
-
-number_code : (x : ℕ) → number_of (code_of x) ≡ x
-number_code x = go (eqb x NO_REFUSAL) refl
-  where
-    go : (b : Bool) → eqb x NO_REFUSAL ≡ b → number_of (pick b none (some x)) ≡ x
-    go true e = sym (eqb-true x NO_REFUSAL e)
-    go false e = refl
-
-sooner_row : (a b v w p q : Bool) → row a b v w p q ≡ code_of (sooner (number_of (row a true v false p true)) (number_of (row b true w false q true)))
+sooner_row : (a b v w p q : Bool) → row a b v w p q ≡ sooner (row a true v false p true) (row b true w false q true)
 sooner_row false false v w p q = refl
 sooner_row false true v true p q = refl
 sooner_row false true v false p false = refl
@@ -159,30 +145,22 @@ sooner_row true true false false false true = refl
 sooner_row true true false false true false = refl
 sooner_row true true false false true true = refl
 
--- what one impl type answers, as a number
-unfoldable one_number : Env → ImplType → Store → ℕ
-one_number e a s = number_of (row (all (in_store s.nodes) (impl_types a)) true (too_many (impl_types a)) false (impl_defined e a) true)
+module _ (e : Env) (a b : ImplType) {n : ℕ} where
+  pub both : {x y : Option ℕ} → FirstOf n (one_impl_tests e a) x → FirstOf n (one_impl_tests e b) y → FirstOf n (impls_tests e a b) (sooner x y)
+  both f g = record {
+    code = λ s m.
+        let i : Ty → Bool = in_store s.nodes in
+        (impl_row e a b).is s
+        ∙ (sooner_row (all i (impl_types a)) (all i (impl_types b)) (too_many (impl_types a)) (too_many (impl_types b)) (impl_defined e a) (impl_defined e b)
+        ∙ (λ k. sooner ((sym ((one_row e a).is s) ∙ f.code s m) k) ((sym ((one_row e b).is s) ∙ g.code s m) k)));
+  }
 
-one_number_lem : (e : Env) (a : ImplType) {n x : ℕ} → FirstOf n (one_impl_tests e a) x → (s : Store) → length s.nodes ≡ n → one_number e a s ≡ x
-unfolding one_number
-one_number_lem e a {x = x} f s m = ap number_of (sym ((one_row e a).is s) ∙ f.code s m) ∙ number_code x
+  module _ {m k : ℕ} (f : FirstOf n (one_impl_tests e a) (some m)) (g : FirstOf n (one_impl_tests e b) (some k)) where
+    pub second_sooner : k < m → FirstOf n (impls_tests e a b) (some k)
+    second_sooner l = subst (λ (t : Bool). FirstOf n (impls_tests e a b) (some (pick t k m))) (lt-ltb k m l) (both f g)
 
-module _ (e : Env) (a b : ImplType) {n x y : ℕ} (f : FirstOf n (one_impl_tests e a) x) (g : FirstOf n (one_impl_tests e b) y) where
-  both_numbers : (s : Store) → first_broken (impls_tests e a b s) ≡ code_of (sooner (one_number e a s) (one_number e b s))
-  unfolding one_number
-  both_numbers s =
-      let f : Ty → Bool = in_store s.nodes in
-      (impl_row e a b).is s
-      ∙ sooner_row (all f (impl_types a)) (all f (impl_types b)) (too_many (impl_types a)) (too_many (impl_types b)) (impl_defined e a) (impl_defined e b)
-
-  both : FirstOf n (impls_tests e a b) (sooner x y)
-  both = record { code = λ s m. both_numbers s ∙ (λ k. code_of (sooner (one_number_lem e a f s m k) (one_number_lem e b g s m k))) }
-
-  pub both_second : is_second x y ≡ true → FirstOf n (impls_tests e a b) y
-  both_second z = subst (λ (t : Bool). FirstOf n (impls_tests e a b) (pick t y x)) z both
-
-  pub both_first : is_second x y ≡ false → FirstOf n (impls_tests e a b) x
-  both_first z = subst (λ (t : Bool). FirstOf n (impls_tests e a b) (pick t y x)) z both
+    pub first_sooner : m ≤ k → FirstOf n (impls_tests e a b) (some m)
+    first_sooner l = subst (λ (t : Bool). FirstOf n (impls_tests e a b) (some (pick t k m))) (le-ltb k m l) (both f g)
 
 -- two signatures: returns first, then parameters
 
@@ -208,17 +186,13 @@ module _ (xs : List Ty) (a : Ty) (ys : List Ty) (b : Ty) where
       ∙ (turn (all f xs) (f a) (all f ys) (f b) ∙ ap (λ (z : Bool). all f (a ∷ b ∷ []) && z) (sym (all_append f xs ys)))) in
       ap (λ (z : Bool). first_broken ((not z, OUTSIDE) ∷ us)) e ∙ and_split (all f (a ∷ b ∷ [])) (all f (xs ++ ys)) OUTSIDE us
 
-  module _ {n r : ℕ} (p : FirstOf n (pair_tests a b) r) where
-    pub sig_back : (r ≡ 0 → ⊥) → FirstOf n (sig_tests xs a ys b) r
-    sig_back z = record { code = λ s m. sig_split s ∙ code_first (pair_tests a b s) (list_tests xs ys s) r (p.code s m) z }
+  pub sig_back : {n r : ℕ} → FirstOf n (pair_tests a b) (some r) → FirstOf n (sig_tests xs a ys b) (some r)
+  sig_back {r = r} p = record { code = λ s m. sig_split s ∙ broken_first (pair_tests a b s) (list_tests xs ys s) r (p.code s m) }
 
-    pub sig_on : {t : ℕ} → r ≡ 0 → FirstOf n (list_tests xs ys) t → FirstOf n (sig_tests xs a ys b) t
-    sig_on z l = record { code = λ s m. sig_split s ∙ (code_next (pair_tests a b s) (list_tests xs ys s) r (p.code s m) z ∙ l.code s m) }
+  pub sig_on : {n : ℕ} {o : Option ℕ} → FirstOf n (pair_tests a b) none → FirstOf n (list_tests xs ys) o → FirstOf n (sig_tests xs a ys b) o
+  sig_on p l = record { code = λ s m. sig_split s ∙ (broken_next (pair_tests a b s) (list_tests xs ys s) (p.code s m) ∙ l.code s m) }
 
 -- lists and entries
-
-pub list_many : (xs : List ℕ) → too_many (types_in xs) ≡ ltb MAX_LIST (length xs)
-list_many xs = rw (length-map xs ty_of) refl
 
 module _ (xs : List ℕ) where
   names_whole : length xs % CHILD_WORDS ≡ 0 → (entries_in xs).names ≡ entry_names xs

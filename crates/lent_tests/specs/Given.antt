@@ -1,6 +1,6 @@
 -- What the public calls test of what is lent, once 2 and 8 do not turn them back: 3, then 4, then 5, each over all the lists.
 use Rattle.std.specs.Prelude.{◌≡◌, List, [], ◌∷◌, ◌++◌, Bool, false, ◌||◌, ℕ, ◌%◌, eqb, length}
-use Rattle.std.proofs.Math.Option.{none}
+use Rattle.std.proofs.Math.Option.{Option, none}
 use Rattle.scope.specs.Base.{pick}
 use Rattle.scope.specs.Chart.{Env}
 use Rattle.scope.specs.Types.{Ty}
@@ -13,7 +13,6 @@ use Rattle.names.specs.Place.{no_name}
 use Rattle.layout.specs.Words.{CHILD_WORDS}
 use Rattle.layout.specs.declared.Kind.{Kind}
 use Rattle.store.specs.Entries.{entry_names, entry_types}
-use Rattle.refusals.specs.Codes.{code_of}
 
 -- two types
 unfoldable pub pair_tests : Ty → Ty → Store → List (Bool × ℕ)
@@ -50,6 +49,6 @@ entries_in xs = record {
 abbrev pub object_of : ℕ → Kind
 object_of n = record { code = OBJECT; number = 0; dual = false; flex = 0; name = no_name; first = 0; count = n }
 
--- of any store with n nodes, the first of these tests that breaks has the number r, and 0 where none does
-pub record FirstOf (n : ℕ) (ts : Store → List (Bool × ℕ)) (r : ℕ) : Type 0 where
-  pub code : (s : Store) → length s.nodes ≡ n → first_broken (ts s) ≡ code_of r
+-- of any store with n nodes, the first of these tests that breaks has the number that r tells, if one breaks
+pub record FirstOf (n : ℕ) (ts : Store → List (Bool × ℕ)) (r : Option ℕ) : Type 0 where
+  pub code : (s : Store) → length s.nodes ≡ n → first_broken (ts s) ≡ r

@@ -5,28 +5,27 @@ ghost use Rattle.std.specs.Prelude.{◌≡◌, []};
 ghost use Rattle.scope.specs.Types.{ty_of};
 ghost use Rattle.scope.specs.Calls.{too_many, bad_entries};
 ghost use Rattle.types.specs.Impls.{impl_means};
-ghost use Rattle.chart.specs.Env.{chart_in, chart_alone};
+ghost use Rattle.chart.specs.Env.{texts_lent, chart_alone};
 ghost use Rattle.store.specs.Entries.{types_in};
 ghost use Rattle.lent_tests.specs.Given.{pair_tests, list_tests, sig_tests, object_tests, impls_tests, one_impl_tests, entries_in, FirstOf};
+ghost use Rattle.refusals.specs.Codes.{told};
 
+use chart::Env;
 use kinds::OBJECT;
 use layout::{CHILD_WORDS, Kind};
 use names::NO_NAME;
-use refusals::{NO_REFUSAL, OUTSIDE, UNDEFINED, UNMAKEABLE};
+use refusals::Refusal;
 use scope::MAX_LIST;
 use types::{Impl, Type};
 
 // Two types among n nodes.
-pub fn pair(a: Type, b: Type, n: u32) -> u32
-    ensures { FirstOf n (pair_tests (ty_of a.0) (ty_of b.0)) result }
+pub fn pair(a: Type, b: Type, n: u32) -> Result<(), Refusal>
+    ensures { FirstOf n (pair_tests (ty_of a.0) (ty_of b.0)) (told result) }
 {
-    if !refusals::type_inside(a, n) {
-        return OUTSIDE;
+    if !refusals::type_inside(a, n) || !refusals::type_inside(b, n) {
+        return Err(Refusal::Outside);
     }
-    if !refusals::type_inside(b, n) {
-        return OUTSIDE;
-    }
-    NO_REFUSAL
+    Ok(())
 }
 
 // "over 255 listed types or parameters"
@@ -37,44 +36,32 @@ pub fn too_many(xs: &[u32]) -> bool
 }
 
 // Two lists of types.
-pub fn lists(xs: &[u32], ys: &[u32], n: u32) -> u32
-    ensures { FirstOf n (list_tests (types_in xs.now) (types_in ys.now)) result }
+pub fn lists(xs: &[u32], ys: &[u32], n: u32) -> Result<(), Refusal>
+    ensures { FirstOf n (list_tests (types_in xs.now) (types_in ys.now)) (told result) }
 {
-    if !refusals::types_inside(xs, n) {
-        return OUTSIDE;
+    if !refusals::types_inside(xs, n) || !refusals::types_inside(ys, n) {
+        return Err(Refusal::Outside);
     }
-    if !refusals::types_inside(ys, n) {
-        return OUTSIDE;
+    if too_many(xs) || too_many(ys) {
+        return Err(Refusal::Unmakeable);
     }
-    if too_many(xs) {
-        return UNMAKEABLE;
-    }
-    if too_many(ys) {
-        return UNMAKEABLE;
-    }
-    NO_REFUSAL
+    Ok(())
 }
 
 // Two signatures: their parameters, and a return each.
-pub fn signatures(xs: &[u32], a: Type, ys: &[u32], b: Type, n: u32) -> u32
-    ensures { FirstOf n (sig_tests (types_in xs.now) (ty_of a.0) (types_in ys.now) (ty_of b.0)) result }
+pub fn signatures(xs: &[u32], a: Type, ys: &[u32], b: Type, n: u32) -> Result<(), Refusal>
+    ensures { FirstOf n (sig_tests (types_in xs.now) (ty_of a.0) (types_in ys.now) (ty_of b.0)) (told result) }
 {
-    let returns = pair(a, b, n);
-    if returns != NO_REFUSAL {
-        return returns;
-    }
+    pair(a, b, n)?;
     lists(xs, ys, n)
 }
 
 // Too many entries, no whole ones, or a bad name: "object names not strictly ascending". Names are read once their number is tested.
-fn bad_entries<'a>(xs: &[u32], rule: &'a [u8], text: &'a [u8]) -> bool
-    ensures { result ≡ bad_entries (chart_in [] rule.now text.now) (entries_in xs.now) }
+fn bad_entries(xs: &[u32], env: &Env<'_>) -> bool
+    ensures { result ≡ bad_entries (texts_lent env.now) (entries_in xs.now) }
 {
     let count = store::entry_count(xs);
-    if count > MAX_LIST {
-        return true;
-    }
-    if xs.len() % CHILD_WORDS != 0 {
+    if count > MAX_LIST || xs.len() % CHILD_WORDS != 0 {
         return true;
     }
     let width = count as u32;
@@ -87,60 +74,52 @@ fn bad_entries<'a>(xs: &[u32], rule: &'a [u8], text: &'a [u8]) -> bool
         first: 0,
         count: width,
     };
-    !kind_sound::names_fit(object, xs, rule, text)
+    !kind_sound::names_fit(object, xs, env.texts.rule, env.texts.chart)
 }
 
 // Two objects, by their entries.
-pub fn objects<'a>(xs: &[u32], ys: &[u32], n: u32, rule: &'a [u8], text: &'a [u8]) -> u32
+pub fn objects(xs: &[u32], ys: &[u32], n: u32, env: &Env<'_>) -> Result<(), Refusal>
     ensures { FirstOf n
-        (object_tests (chart_in [] rule.now text.now) (entries_in xs.now) (entries_in ys.now)) result }
+        (object_tests (texts_lent env.now) (entries_in xs.now) (entries_in ys.now)) (told result) }
 {
-    if !refusals::entries_inside(xs, n) {
-        return OUTSIDE;
+    if !refusals::entries_inside(xs, n) || !refusals::entries_inside(ys, n) {
+        return Err(Refusal::Outside);
     }
-    if !refusals::entries_inside(ys, n) {
-        return OUTSIDE;
+    if bad_entries(xs, env) || bad_entries(ys, env) {
+        return Err(Refusal::Unmakeable);
     }
-    if bad_entries(xs, rule, text) {
-        return UNMAKEABLE;
-    }
-    if bad_entries(ys, rule, text) {
-        return UNMAKEABLE;
-    }
-    NO_REFUSAL
+    Ok(())
 }
 
 // One impl type. The list beside an error is not read. "a definition is absent or of another sort": a trait's record stands at its number.
-pub fn one_impl(a: Impl, xs: &[u32], n: u32, chart: &[u32]) -> u32
-    ensures { FirstOf n (one_impl_tests (chart_alone chart.now) (impl_means a xs.now)) result }
+pub fn one_impl(a: Impl, xs: &[u32], n: u32, env: &Env<'_>) -> Result<(), Refusal>
+    ensures { FirstOf n (one_impl_tests (chart_alone env.now.chart.now) (impl_means a xs.now)) (told result) }
 {
     match a {
         Impl::Trait(i) => {
             if !refusals::types_inside(xs, n) {
-                return OUTSIDE;
+                return Err(Refusal::Outside);
             }
             if too_many(xs) {
-                return UNMAKEABLE;
+                return Err(Refusal::Unmakeable);
             }
-            if !chart::is_trait(chart, i) {
-                return UNDEFINED;
+            if !chart::is_trait(env.chart, i) {
+                return Err(Refusal::Undefined);
             }
-            NO_REFUSAL
+            Ok(())
         }
-        Impl::Error => NO_REFUSAL,
+        Impl::Error => Ok(()),
     }
 }
 
 // Two impl types: what is tested first has the smaller number.
-pub fn impls(a: Impl, xs: &[u32], b: Impl, ys: &[u32], n: u32, chart: &[u32]) -> u32
+pub fn impls(a: Impl, xs: &[u32], b: Impl, ys: &[u32], n: u32, env: &Env<'_>) -> Result<(), Refusal>
     ensures { FirstOf n
-        (impls_tests (chart_alone chart.now) (impl_means a xs.now) (impl_means b ys.now)) result }
+        (impls_tests (chart_alone env.now.chart.now) (impl_means a xs.now) (impl_means b ys.now)) (told result) }
 {
-    let first = one_impl(a, xs, n, chart);
-    let second = one_impl(b, ys, n, chart);
-    let sooner = (second != NO_REFUSAL) & (second < first);
-    if (first == NO_REFUSAL) | sooner {
-        return second;
+    match (one_impl(a, xs, n, env), one_impl(b, ys, n, env)) {
+        (Err(r), Err(q)) => Err(if u32::from(q) < u32::from(r) { q } else { r }),
+        (Err(r), _) => Err(r),
+        (Ok(()), second) => second,
     }
-    first
 }

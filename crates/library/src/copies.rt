@@ -7,8 +7,9 @@ ghost use Rattle.refusals.specs.Opening.{enough};
 ghost use Rattle.copy_parts.specs.Places.{list_of};
 ghost use Rattle.promise.specs.Lists.{ListPromised};
 ghost use Rattle.promise.specs.Exports.{ExportPromised};
-ghost use Rattle.c_words.specs.Numbers.{done_in};
+ghost use Rattle.c_words.specs.Numbers.{done_in, Says};
 ghost use Rattle.c_words.specs.Given.{set_in, lent_env};
+ghost use Rattle.promise.specs.Promise.{done_reply};
 
 // The listed types of the source, which is only read; what they become stands at the front of `out`. `params` is a parameter list where `listed` says so.
 #[unsafe(no_mangle)]
@@ -29,19 +30,16 @@ pub extern "C" fn faroalder_import<'a>(
     params: &[u32],
     out: &mut [u32],
 ) -> u64
-    ensures { ListPromised
+    ensures { Says done_reply (done_in result) (λ a. ListPromised
         (import_call (lent_env chart.now fn_trait sigils.now rule.now text.now) (lent_of h.old ws.old ks.old)
         (lent_of sh.now sw.now sk.now) (types_in ts.now) (list_of (set_in listed) params.now)
         (length out.old))
-        (done_in result) (length ts.now) h.old ws.old ks.old h.new ws.new ks.new
-        out.old out.new }
+        a (length ts.now) h.old ws.old ks.old h.new ws.new ks.new
+        out.old out.new) }
 {
-    let beside = c_words::beside_of(fn_trait, sigils);
+    let env = c_words::env_of(chart, fn_trait, sigils, rule, text);
     c_words::done_number(call_copy::import(
-        chart,
-        beside,
-        rule,
-        text,
+        &env,
         h,
         ws,
         ks,
@@ -49,8 +47,7 @@ pub extern "C" fn faroalder_import<'a>(
         sw,
         sk,
         ts,
-        c_words::is_set(listed),
-        params,
+        c_words::list_if(listed, params),
         out,
     ))
 }
@@ -75,14 +72,12 @@ pub extern "C" fn faroalder_export<'a>(
     ts: &[u32],
     out: &mut [u32],
 ) -> u64
-    ensures { ExportPromised
+    ensures { Says done_reply (done_in result) (λ a. ExportPromised
         (export_call (lent_env chart.now fn_trait sigils.now rule.now text.now) (lent_of sh.now sw.now sk.now)
         nodes children (enough nodes children h.old ws.old ks.old) (types_in ts.now) (length out.old))
-        (done_in result) (length ts.now) (store_in sh.now sw.now sk.now)
-        h.old ws.old ks.old h.new ws.new ks.new out.old out.new }
+        a (length ts.now) (store_in sh.now sw.now sk.now)
+        h.old ws.old ks.old h.new ws.new ks.new out.old out.new) }
 {
-    let beside = c_words::beside_of(fn_trait, sigils);
-    c_words::done_number(call_copy::export(
-        chart, beside, rule, text, sh, sw, sk, h, ws, ks, nodes, children, ts, out,
-    ))
+    let env = c_words::env_of(chart, fn_trait, sigils, rule, text);
+    c_words::done_number(call_copy::export(&env, sh, sw, sk, h, ws, ks, nodes, children, ts, out))
 }

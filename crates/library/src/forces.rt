@@ -1,13 +1,12 @@
 // Forcing a type, and finishing inference.
-ghost use Rattle.std.specs.Prelude.{◌≡◌};
 ghost use Rattle.scope.specs.Types.{ty_of};
 ghost use Rattle.scope.specs.Calls.{force_kind_call, finish_inference_call, finish_where_call};
 ghost use Rattle.layout.specs.Words.{lent_of};
-ghost use Rattle.promise.specs.Promise.{Promised, done_reply};
+ghost use Rattle.promise.specs.Promise.{Promised};
 ghost use Rattle.call_force.specs.Replies.{ForcePromised};
 ghost use Rattle.c_words.specs.Numbers.{done_in};
 ghost use Rattle.c_words.specs.Given.{lent_env};
-ghost use Rattle.c_outs.specs.Outs.{forced_in, forced_out};
+ghost use Rattle.c_outs.specs.Outs.{forced_in, forced_out, Tells};
 
 use types::Type;
 
@@ -25,16 +24,12 @@ pub extern "C" fn faroalder_force_kind<'a>(
     t: u32,
     out: &mut [u32; 12],
 ) -> u64
-    ensures { (ForcePromised
+    ensures { Tells forced_in forced_out out.old out.new result (λ a. ForcePromised
         (force_kind_call (lent_env chart.now fn_trait sigils.now rule.now text.now) (lent_of h.old ws.old ks.now) (ty_of t))
-        (forced_in result out.new) h.old ws.old ks.now h.new ws.new)
-        × (out.new ≡ forced_out (forced_in result out.new) out.old) }
+        a h.old ws.old ks.now h.new ws.new) }
 {
-    let beside = c_words::beside_of(fn_trait, sigils);
-    c_outs::tell_forced(
-        call_force::force_kind(chart, beside, rule, text, h, ws, ks, Type(t)),
-        out,
-    )
+    let env = c_words::env_of(chart, fn_trait, sigils, rule, text);
+    c_outs::tell_forced(call_force::force_kind(&env, h, ws, ks, Type(t)), out)
 }
 
 // "only roots without a kind change, each to Default uninverted"
@@ -51,10 +46,10 @@ pub extern "C" fn faroalder_finish_inference<'a>(
 ) -> u64
     ensures { Promised
         (finish_inference_call (lent_env chart.now fn_trait sigils.now rule.now text.now) (lent_of h.now ws.old ks.now))
-        (done_reply (done_in result)) h.now ws.old ks.now h.now ws.new ks.now }
+        (done_in result) h.now ws.old ks.now h.now ws.new ks.now }
 {
-    let beside = c_words::beside_of(fn_trait, sigils);
-    c_words::done_number(call_force::finish_inference(chart, beside, rule, text, h, ws, ks))
+    let env = c_words::env_of(chart, fn_trait, sigils, rule, text);
+    c_words::done_number(call_force::finish_inference(&env, h, ws, ks))
 }
 
 // "a lent byte for each node, nonzero chooses, absent means no"
@@ -73,10 +68,8 @@ pub extern "C" fn faroalder_finish_inference_where<'a>(
     ensures { Promised
         (finish_where_call (lent_env chart.now fn_trait sigils.now rule.now text.now) (lent_of h.now ws.old ks.now)
         bytes.now)
-        (done_reply (done_in result)) h.now ws.old ks.now h.now ws.new ks.now }
+        (done_in result) h.now ws.old ks.now h.now ws.new ks.now }
 {
-    let beside = c_words::beside_of(fn_trait, sigils);
-    c_words::done_number(call_force::finish_inference_where(
-        chart, beside, rule, text, h, ws, ks, bytes,
-    ))
+    let env = c_words::env_of(chart, fn_trait, sigils, rule, text);
+    c_words::done_number(call_force::finish_inference_where(&env, h, ws, ks, bytes))
 }

@@ -2,7 +2,6 @@
 // family with the same name, but for `new_over`, which is `new` of a kind without names.
 ghost use Rattle.scope.specs.Types.{ty_of};
 ghost use Rattle.scope.specs.Calls.{new_var_call, error_call, nil_call, find_call, find_mut_call};
-ghost use Rattle.promise.specs.Promise.{type_reply};
 ghost use Rattle.tested_lean.specs.Each.{Passed, EachPromised, EachAnswered};
 ghost use Rattle.tested_over.specs.Over.{PassedBy, OverPromised};
 ghost use Rattle.c_words.specs.Numbers.{type_in};
@@ -13,7 +12,7 @@ use types::Type;
 #[unsafe(no_mangle)]
 pub extern "C" fn faroalder_lean_new_var(h: &mut [u32], ws: &mut [u32], span: u32) -> u64
     requires { Passed h.old ws.old }
-    ensures { EachPromised (λ e l. new_var_call e l span) (type_reply (type_in result)) h.old ws.old h.new ws.new }
+    ensures { EachPromised (λ e l. new_var_call e l span) (type_in result) h.old ws.old h.new ws.new }
 {
     c_words::type_number(tested_lean::new_var(h, ws, span))
 }
@@ -22,7 +21,7 @@ pub extern "C" fn faroalder_lean_new_var(h: &mut [u32], ws: &mut [u32], span: u3
 #[unsafe(no_mangle)]
 pub extern "C" fn faroalder_lean_error(h: &mut [u32], ws: &mut [u32]) -> u64
     requires { Passed h.old ws.old }
-    ensures { EachPromised error_call (type_reply (type_in result)) h.old ws.old h.new ws.new }
+    ensures { EachPromised error_call (type_in result) h.old ws.old h.new ws.new }
 {
     c_words::type_number(tested_lean::error(h, ws))
 }
@@ -31,7 +30,7 @@ pub extern "C" fn faroalder_lean_error(h: &mut [u32], ws: &mut [u32]) -> u64
 #[unsafe(no_mangle)]
 pub extern "C" fn faroalder_lean_nil(h: &mut [u32], ws: &mut [u32]) -> u64
     requires { Passed h.old ws.old }
-    ensures { EachPromised nil_call (type_reply (type_in result)) h.old ws.old h.new ws.new }
+    ensures { EachPromised nil_call (type_in result) h.old ws.old h.new ws.new }
 {
     c_words::type_number(tested_lean::nil(h, ws))
 }
@@ -40,7 +39,7 @@ pub extern "C" fn faroalder_lean_nil(h: &mut [u32], ws: &mut [u32]) -> u64
 #[unsafe(no_mangle)]
 pub extern "C" fn faroalder_lean_find(h: &[u32], ws: &[u32], t: u32) -> u64
     requires { Passed h.now ws.now }
-    ensures { EachAnswered (λ e l. find_call e l (ty_of t)) (type_reply (type_in result)) h.now ws.now }
+    ensures { EachAnswered (λ e l. find_call e l (ty_of t)) (type_in result) h.now ws.now }
 {
     c_words::type_number(tested_lean::find(h, ws, Type(t)))
 }
@@ -49,7 +48,7 @@ pub extern "C" fn faroalder_lean_find(h: &[u32], ws: &[u32], t: u32) -> u64
 #[unsafe(no_mangle)]
 pub extern "C" fn faroalder_lean_find_mut(h: &[u32], ws: &mut [u32], t: u32) -> u64
     requires { Passed h.now ws.old }
-    ensures { EachPromised (λ e l. find_mut_call e l (ty_of t)) (type_reply (type_in result)) h.now ws.old h.now ws.new }
+    ensures { EachPromised (λ e l. find_mut_call e l (ty_of t)) (type_in result) h.now ws.old h.now ws.new }
 {
     c_words::type_number(tested_lean::find_mut(h, ws, Type(t)))
 }
@@ -66,7 +65,7 @@ pub extern "C" fn faroalder_lean_new_over(
     types: &[u32],
 ) -> u64
     requires { PassedBy chart.now h.old ws.old ks.old }
-    ensures { OverPromised chart.now code number types.now (type_reply (type_in result))
+    ensures { OverPromised chart.now code number types.now (type_in result)
         h.old ws.old ks.old h.new ws.new ks.new }
 {
     c_words::type_number(tested_over::new_over(chart, h, ws, ks, code, number, types))

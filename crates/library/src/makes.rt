@@ -4,9 +4,9 @@ ghost use Rattle.scope.specs.Calls.{new_var_call, new_vars_call, error_call, nil
 ghost use Rattle.layout.specs.Words.{lent_of};
 ghost use Rattle.store.specs.Entries.{types_in};
 ghost use Rattle.lent_kind.specs.Lent.{given};
-ghost use Rattle.promise.specs.Promise.{Promised, type_reply};
+ghost use Rattle.promise.specs.Promise.{Promised, done_reply};
 ghost use Rattle.promise.specs.Lists.{ListPromised};
-ghost use Rattle.c_words.specs.Numbers.{type_in, done_in};
+ghost use Rattle.c_words.specs.Numbers.{type_in, done_in, Says};
 ghost use Rattle.c_words.specs.Given.{kind_args_in, lent_env};
 
 // "`new_var`": a type without a kind, and its span.
@@ -24,10 +24,10 @@ pub extern "C" fn faroalder_new_var<'a>(
 ) -> u64
     ensures { Promised
         (new_var_call (lent_env chart.now fn_trait sigils.now rule.now text.now) (lent_of h.old ws.old ks.now) span)
-        (type_reply (type_in result)) h.old ws.old ks.now h.new ws.new ks.now }
+        (type_in result) h.old ws.old ks.now h.new ws.new ks.now }
 {
-    let beside = c_words::beside_of(fn_trait, sigils);
-    c_words::type_number(call_make::new_var(chart, beside, rule, text, h, ws, ks, span))
+    let env = c_words::env_of(chart, fn_trait, sigils, rule, text);
+    c_words::type_number(call_make::new_var(&env, h, ws, ks, span))
 }
 
 // `count` types without a kind; they stand at the front of `out`. "The count given to `new_vars` is limited by 10 and 7 only"
@@ -45,16 +45,14 @@ pub extern "C" fn faroalder_new_vars<'a>(
     count: u32,
     out: &mut [u32],
 ) -> u64
-    ensures { ListPromised
+    ensures { Says done_reply (done_in result) (λ a. ListPromised
         (new_vars_call (lent_env chart.now fn_trait sigils.now rule.now text.now) (lent_of h.old ws.old ks.now)
         span count (length out.old))
-        (done_in result) count h.old ws.old ks.now h.new ws.new ks.now
-        out.old out.new }
+        a count h.old ws.old ks.now h.new ws.new ks.now
+        out.old out.new) }
 {
-    let beside = c_words::beside_of(fn_trait, sigils);
-    c_words::done_number(call_make::new_vars(
-        chart, beside, rule, text, h, ws, ks, span, count, out,
-    ))
+    let env = c_words::env_of(chart, fn_trait, sigils, rule, text);
+    c_words::done_number(call_make::new_vars(&env, h, ws, ks, span, count, out))
 }
 
 // The error type.
@@ -71,10 +69,10 @@ pub extern "C" fn faroalder_error<'a>(
 ) -> u64
     ensures { Promised
         (error_call (lent_env chart.now fn_trait sigils.now rule.now text.now) (lent_of h.old ws.old ks.now))
-        (type_reply (type_in result)) h.old ws.old ks.now h.new ws.new ks.now }
+        (type_in result) h.old ws.old ks.now h.new ws.new ks.now }
 {
-    let beside = c_words::beside_of(fn_trait, sigils);
-    c_words::type_number(call_make::error(chart, beside, rule, text, h, ws, ks))
+    let env = c_words::env_of(chart, fn_trait, sigils, rule, text);
+    c_words::type_number(call_make::error(&env, h, ws, ks))
 }
 
 // The type of nothing: a Tuple without children.
@@ -91,10 +89,10 @@ pub extern "C" fn faroalder_nil<'a>(
 ) -> u64
     ensures { Promised
         (nil_call (lent_env chart.now fn_trait sigils.now rule.now text.now) (lent_of h.old ws.old ks.now))
-        (type_reply (type_in result)) h.old ws.old ks.now h.new ws.new ks.now }
+        (type_in result) h.old ws.old ks.now h.new ws.new ks.now }
 {
-    let beside = c_words::beside_of(fn_trait, sigils);
-    c_words::type_number(call_make::nil(chart, beside, rule, text, h, ws, ks))
+    let env = c_words::env_of(chart, fn_trait, sigils, rule, text);
+    c_words::type_number(call_make::nil(&env, h, ws, ks))
 }
 
 // `new`: a kind with its children as entries, each a type and its name's text, start and length.
@@ -119,11 +117,11 @@ pub extern "C" fn faroalder_new<'a>(
     ensures { Promised
         (new_call (lent_env chart.now fn_trait sigils.now rule.now text.now) (lent_of h.old ws.old ks.old)
         (given (kind_args_in code number flex name_text name_start name_len) entries.now))
-        (type_reply (type_in result)) h.old ws.old ks.old h.new ws.new ks.new }
+        (type_in result) h.old ws.old ks.old h.new ws.new ks.new }
 {
-    let beside = c_words::beside_of(fn_trait, sigils);
+    let env = c_words::env_of(chart, fn_trait, sigils, rule, text);
     let k = c_words::kind_args(code, number, flex, name_text, name_start, name_len);
-    c_words::type_number(call_new::new(chart, beside, rule, text, h, ws, ks, k, entries))
+    c_words::type_number(call_new::new(&env, h, ws, ks, k, entries))
 }
 
 // `new_struct`: a Struct over a definition.
@@ -143,10 +141,10 @@ pub extern "C" fn faroalder_new_struct<'a>(
     ensures { Promised
         (new_struct_call (lent_env chart.now fn_trait sigils.now rule.now text.now) (lent_of h.old ws.old ks.old)
         number (types_in types.now))
-        (type_reply (type_in result)) h.old ws.old ks.old h.new ws.new ks.new }
+        (type_in result) h.old ws.old ks.old h.new ws.new ks.new }
 {
-    let beside = c_words::beside_of(fn_trait, sigils);
-    c_words::type_number(call_new::new_struct(chart, beside, rule, text, h, ws, ks, number, types))
+    let env = c_words::env_of(chart, fn_trait, sigils, rule, text);
+    c_words::type_number(call_new::new_struct(&env, h, ws, ks, number, types))
 }
 
 // `new_union`: a Union over a definition.
@@ -166,8 +164,8 @@ pub extern "C" fn faroalder_new_union<'a>(
     ensures { Promised
         (new_union_call (lent_env chart.now fn_trait sigils.now rule.now text.now) (lent_of h.old ws.old ks.old)
         number (types_in types.now))
-        (type_reply (type_in result)) h.old ws.old ks.old h.new ws.new ks.new }
+        (type_in result) h.old ws.old ks.old h.new ws.new ks.new }
 {
-    let beside = c_words::beside_of(fn_trait, sigils);
-    c_words::type_number(call_new::new_union(chart, beside, rule, text, h, ws, ks, number, types))
+    let env = c_words::env_of(chart, fn_trait, sigils, rule, text);
+    c_words::type_number(call_new::new_union(&env, h, ws, ks, number, types))
 }

@@ -8,12 +8,11 @@ ghost use Rattle.chart.specs.Words.{«RECORD_WORDS»};
 ghost use Rattle.layout.specs.Words.{HEAD_WORDS, node_words, child_words, lent_of};
 ghost use Rattle.book.specs.Words.{book_words, lent_book_of};
 ghost use Rattle.recall.specs.Memory.{words_for};
-ghost use Rattle.refusals.specs.Codes.{code_of};
 ghost use Rattle.refusals.specs.Opening.{enough};
-ghost use Rattle.promise.specs.Promise.{Promised, done_reply};
+ghost use Rattle.promise.specs.Promise.{Promised};
 ghost use Rattle.call_states.specs.Promise.{NamesOpened};
 ghost use Rattle.records.specs.Loaded.{LoadPromised};
-ghost use Rattle.c_words.specs.Numbers.{done_in};
+ghost use Rattle.c_words.specs.Numbers.{done_in, refusal_in};
 ghost use Rattle.c_words.specs.Given.{lent_env};
 
 use chart::RECORD_WORDS;
@@ -69,9 +68,9 @@ pub extern "C" fn faroalder_names_words(nodes: u32, children: u32) -> usize
 // The chart's words from records: 0, or 7 where there is too little room for them.
 #[unsafe(no_mangle)]
 pub extern "C" fn faroalder_load(records: &[Record], words: &mut [u32]) -> u32
-    ensures { LoadPromised records.now words.old words.new result }
+    ensures { LoadPromised records.now words.old words.new (refusal_in result) }
 {
-    records::load(records, words)
+    c_words::refusal_number(records::load(records, words))
 }
 
 // A store without nodes, whatever the slices held.
@@ -85,7 +84,7 @@ pub extern "C" fn faroalder_open(
 ) -> u64
     ensures { Promised
         (open_call nodes children (enough nodes children h.old ws.old ks.old))
-        (done_reply (done_in result)) h.old ws.old ks.old h.new ws.new ks.new }
+        (done_in result) h.old ws.old ks.old h.new ws.new ks.new }
 {
     c_words::done_number(call_open::open(h, ws, ks, nodes, children))
 }
@@ -105,17 +104,17 @@ pub extern "C" fn faroalder_refusal<'a>(
     ensures { first_broken
         (lent_tests (lent_env chart.now fn_trait sigils.now rule.now text.now)
         (lent_of h.now ws.now ks.now))
-        ≡ code_of result }
+        ≡ refusal_in result }
 {
-    let beside = c_words::beside_of(fn_trait, sigils);
-    sound::refusal(chart, beside, rule, text, h, ws, ks)
+    let env = c_words::env_of(chart, fn_trait, sigils, rule, text);
+    c_words::refusal_number(sound::lent(&env, h, ws, ks))
 }
 
 // A names buffer without a name, whatever the slice held: 1 where a capacity is above its limit or the slice is too short.
 #[unsafe(no_mangle)]
 pub extern "C" fn faroalder_open_names(bs: &mut [u32], nodes: u32, children: u32) -> u64
     ensures { NamesOpened (open_names_call nodes children (leb (book_words nodes children) (length bs.old)))
-        (done_reply (done_in result)) bs.old bs.new }
+        (done_in result) bs.old bs.new }
 {
     c_words::done_number(call_states::open_names(bs, nodes, children))
 }
@@ -136,8 +135,8 @@ pub extern "C" fn faroalder_names_refusal<'a>(
     ensures { first_broken
         (book_tests (lent_env chart.now fn_trait sigils.now rule.now text.now)
         (lent_of h.now ws.now ks.now) (lent_book_of bs.now))
-        ≡ code_of result }
+        ≡ refusal_in result }
 {
-    let beside = c_words::beside_of(fn_trait, sigils);
-    book_sound::names_refusal(chart, beside, rule, text, h, ws, ks, bs)
+    let env = c_words::env_of(chart, fn_trait, sigils, rule, text);
+    c_words::refusal_number(book_sound::lent(&env, h, ws, ks, bs))
 }

@@ -3,11 +3,11 @@ ghost use Rattle.std.specs.Prelude.{◌≡◌, false};
 ghost use Rattle.scope.specs.Types.{ty_of};
 ghost use Rattle.scope.specs.Calls.{is_nil_call, self_inverse_call, get_mod_call, find_related_call};
 ghost use Rattle.layout.specs.Words.{lent_of, store_in};
-ghost use Rattle.promise.specs.Promise.{Tested, bool_reply, outcome_by};
+ghost use Rattle.promise.specs.Promise.{Tested, outcome_by, done_reply};
 ghost use Rattle.call_ask.specs.Replies.{mod_reply, MarksPromised};
-ghost use Rattle.c_words.specs.Numbers.{done_in, bool_in};
-ghost use Rattle.c_words.specs.Given.{set_in, beside_in, lent_env};
-ghost use Rattle.c_outs.specs.Outs.{mod_in, mod_out};
+ghost use Rattle.c_words.specs.Numbers.{done_in, bool_in, Says};
+ghost use Rattle.c_words.specs.Given.{set_in, lent_env};
+ghost use Rattle.c_outs.specs.Outs.{mod_in, mod_out, Tells};
 
 use types::Type;
 
@@ -24,13 +24,13 @@ pub extern "C" fn faroalder_tested_is_nil<'a>(
     ks: &[u32],
     t: u32,
 ) -> u64
-    requires { Tested chart.now (beside_in fn_trait sigils.now) rule.now text.now h.now ws.now ks.now }
+    requires { Tested (lent_env chart.now fn_trait sigils.now rule.now text.now) h.now ws.now ks.now }
     ensures { is_nil_call
         (lent_env chart.now fn_trait sigils.now rule.now text.now) (lent_of h.now ws.now ks.now) (ty_of t)
-        ≡ outcome_by (bool_reply (bool_in result)) (store_in h.now ws.now ks.now) }
+        ≡ outcome_by (bool_in result) (store_in h.now ws.now ks.now) }
 {
-    let beside = c_words::beside_of(fn_trait, sigils);
-    c_words::bool_number(call_ask::tested::is_nil(chart, beside, rule, text, h, ws, ks, Type(t)))
+    let env = c_words::env_of(chart, fn_trait, sigils, rule, text);
+    c_words::bool_number(call_ask::tested::is_nil(&env, h, ws, ks, Type(t)))
 }
 
 // "`self_inverse` holds where the root has a self-dual kind and it holds of every child; never where there is no kind."
@@ -46,22 +46,13 @@ pub extern "C" fn faroalder_tested_self_inverse<'a>(
     ks: &[u32],
     t: u32,
 ) -> u64
-    requires { Tested chart.now (beside_in fn_trait sigils.now) rule.now text.now h.now ws.now ks.now }
+    requires { Tested (lent_env chart.now fn_trait sigils.now rule.now text.now) h.now ws.now ks.now }
     ensures { self_inverse_call
         (lent_env chart.now fn_trait sigils.now rule.now text.now) (lent_of h.now ws.now ks.now) (ty_of t) false
-        ≡ outcome_by (bool_reply (bool_in result)) (store_in h.now ws.now ks.now) }
+        ≡ outcome_by (bool_in result) (store_in h.now ws.now ks.now) }
 {
-    let beside = c_words::beside_of(fn_trait, sigils);
-    c_words::bool_number(call_ask::tested::self_inverse(
-        chart,
-        beside,
-        rule,
-        text,
-        h,
-        ws,
-        ks,
-        Type(t),
-    ))
+    let env = c_words::env_of(chart, fn_trait, sigils, rule, text);
+    c_words::bool_number(call_ask::tested::self_inverse(&env, h, ws, ks, Type(t)))
 }
 
 // `_self_inverse`: a Param counts as param says.
@@ -78,17 +69,14 @@ pub extern "C" fn faroalder_tested_self_inverse_param<'a>(
     t: u32,
     param: u32,
 ) -> u64
-    requires { Tested chart.now (beside_in fn_trait sigils.now) rule.now text.now h.now ws.now ks.now }
+    requires { Tested (lent_env chart.now fn_trait sigils.now rule.now text.now) h.now ws.now ks.now }
     ensures { self_inverse_call
         (lent_env chart.now fn_trait sigils.now rule.now text.now) (lent_of h.now ws.now ks.now) (ty_of t) (set_in param)
-        ≡ outcome_by (bool_reply (bool_in result)) (store_in h.now ws.now ks.now) }
+        ≡ outcome_by (bool_in result) (store_in h.now ws.now ks.now) }
 {
-    let beside = c_words::beside_of(fn_trait, sigils);
+    let env = c_words::env_of(chart, fn_trait, sigils, rule, text);
     c_words::bool_number(call_ask::tested::self_inverse_param(
-        chart,
-        beside,
-        rule,
-        text,
+        &env,
         h,
         ws,
         ks,
@@ -111,17 +99,13 @@ pub extern "C" fn faroalder_tested_get_mod<'a>(
     t: u32,
     out: &mut [u32; 1],
 ) -> u64
-    requires { Tested chart.now (beside_in fn_trait sigils.now) rule.now text.now h.now ws.now ks.now }
-    ensures { (get_mod_call
+    requires { Tested (lent_env chart.now fn_trait sigils.now rule.now text.now) h.now ws.now ks.now }
+    ensures { Tells mod_in mod_out out.old out.new result (λ a. get_mod_call
         (lent_env chart.now fn_trait sigils.now rule.now text.now) (lent_of h.now ws.now ks.now) (ty_of t)
-        ≡ outcome_by (mod_reply (mod_in result out.new)) (store_in h.now ws.now ks.now))
-        × (out.new ≡ mod_out (mod_in result out.new) out.old) }
+        ≡ outcome_by (mod_reply a) (store_in h.now ws.now ks.now)) }
 {
-    let beside = c_words::beside_of(fn_trait, sigils);
-    c_outs::tell_mod(
-        call_ask::tested::get_mod(chart, beside, rule, text, h, ws, ks, Type(t)),
-        out,
-    )
+    let env = c_words::env_of(chart, fn_trait, sigils, rule, text);
+    c_outs::tell_mod(call_ask::tested::get_mod(&env, h, ws, ks, Type(t)), out)
 }
 
 // "`find_related` (lent marks, a byte for each node: nonzero means already in the set, and 1 is written for each root added; too few marks: 7)"
@@ -138,22 +122,12 @@ pub extern "C" fn faroalder_tested_find_related<'a>(
     marks: &mut [u8],
     t: u32,
 ) -> u64
-    requires { Tested chart.now (beside_in fn_trait sigils.now) rule.now text.now h.now ws.now ks.now }
-    ensures { MarksPromised
+    requires { Tested (lent_env chart.now fn_trait sigils.now rule.now text.now) h.now ws.now ks.now }
+    ensures { Says done_reply (done_in result) (λ a. MarksPromised
         (find_related_call (lent_env chart.now fn_trait sigils.now rule.now text.now) (lent_of h.now ws.now ks.now)
         (ty_of t) marks.old)
-        (done_in result) (store_in h.now ws.now ks.now) marks.old marks.new }
+        a (store_in h.now ws.now ks.now) marks.old marks.new) }
 {
-    let beside = c_words::beside_of(fn_trait, sigils);
-    c_words::done_number(call_ask::tested::find_related(
-        chart,
-        beside,
-        rule,
-        text,
-        h,
-        ws,
-        ks,
-        marks,
-        Type(t),
-    ))
+    let env = c_words::env_of(chart, fn_trait, sigils, rule, text);
+    c_words::done_number(call_ask::tested::find_related(&env, h, ws, ks, marks, Type(t)))
 }

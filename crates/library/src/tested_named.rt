@@ -2,10 +2,9 @@
 ghost use Rattle.scope.specs.States.{name_state_call, return_to_call, drop_name_call, reset_names_call};
 ghost use Rattle.layout.specs.Words.{lent_of};
 ghost use Rattle.book.specs.Words.{lent_book_of};
-ghost use Rattle.promise.specs.Promise.{done_reply};
 ghost use Rattle.call_states.specs.Promise.{NamesPromised, TestedNames};
 ghost use Rattle.c_words.specs.Numbers.{done_in};
-ghost use Rattle.c_words.specs.Given.{beside_in, lent_env};
+ghost use Rattle.c_words.specs.Given.{lent_env};
 
 // "Let a planner name the present state": 12 where the name has a wrong length, 13 where it is not held and no place is free.
 #[unsafe(no_mangle)]
@@ -21,17 +20,15 @@ pub extern "C" fn faroalder_tested_name_state<'a>(
     bs: &mut [u32],
     name: &[u8],
 ) -> u64
-    requires { TestedNames chart.now (beside_in fn_trait sigils.now) rule.now text.now h.now ws.now ks.now bs.old }
+    requires { TestedNames (lent_env chart.now fn_trait sigils.now rule.now text.now) h.now ws.now ks.now bs.old }
     ensures { NamesPromised
         (name_state_call (lent_env chart.now fn_trait sigils.now rule.now text.now)
         (lent_of h.now ws.now ks.now) (lent_book_of bs.old) name.now)
-        (done_reply (done_in result)) h.now ws.now ks.now bs.old
+        (done_in result) h.now ws.now ks.now bs.old
         h.now ws.now ks.now bs.new }
 {
-    let beside = c_words::beside_of(fn_trait, sigils);
-    c_words::done_number(call_states::tested::name_state(
-        chart, beside, rule, text, h, ws, ks, bs, name,
-    ))
+    let env = c_words::env_of(chart, fn_trait, sigils, rule, text);
+    c_words::done_number(call_states::tested::name_state(&env, h, ws, ks, bs, name))
 }
 
 // "and return to one": 12 where the name is not held. The report count "does not go back".
@@ -48,17 +45,15 @@ pub extern "C" fn faroalder_tested_return_to<'a>(
     bs: &[u32],
     name: &[u8],
 ) -> u64
-    requires { TestedNames chart.now (beside_in fn_trait sigils.now) rule.now text.now h.old ws.old ks.old bs.now }
+    requires { TestedNames (lent_env chart.now fn_trait sigils.now rule.now text.now) h.old ws.old ks.old bs.now }
     ensures { NamesPromised
         (return_to_call (lent_env chart.now fn_trait sigils.now rule.now text.now)
         (lent_of h.old ws.old ks.old) (lent_book_of bs.now) name.now)
-        (done_reply (done_in result)) h.old ws.old ks.old bs.now
+        (done_in result) h.old ws.old ks.old bs.now
         h.new ws.new ks.new bs.now }
 {
-    let beside = c_words::beside_of(fn_trait, sigils);
-    c_words::done_number(call_states::tested::return_to(
-        chart, beside, rule, text, h, ws, ks, bs, name,
-    ))
+    let env = c_words::env_of(chart, fn_trait, sigils, rule, text);
+    c_words::done_number(call_states::tested::return_to(&env, h, ws, ks, bs, name))
 }
 
 // "dropping a name makes its place usable": 12 where it is not held.
@@ -75,17 +70,15 @@ pub extern "C" fn faroalder_tested_drop_name<'a>(
     bs: &mut [u32],
     name: &[u8],
 ) -> u64
-    requires { TestedNames chart.now (beside_in fn_trait sigils.now) rule.now text.now h.now ws.now ks.now bs.old }
+    requires { TestedNames (lent_env chart.now fn_trait sigils.now rule.now text.now) h.now ws.now ks.now bs.old }
     ensures { NamesPromised
         (drop_name_call (lent_env chart.now fn_trait sigils.now rule.now text.now)
         (lent_of h.now ws.now ks.now) (lent_book_of bs.old) name.now)
-        (done_reply (done_in result)) h.now ws.now ks.now bs.old
+        (done_in result) h.now ws.now ks.now bs.old
         h.now ws.now ks.now bs.new }
 {
-    let beside = c_words::beside_of(fn_trait, sigils);
-    c_words::done_number(call_states::tested::drop_name(
-        chart, beside, rule, text, h, ws, ks, bs, name,
-    ))
+    let env = c_words::env_of(chart, fn_trait, sigils, rule, text);
+    c_words::done_number(call_states::tested::drop_name(&env, h, ws, ks, bs, name))
 }
 
 // "`reset` frees all" and "drops all names"; the report count "outlives `reset`".
@@ -101,13 +94,13 @@ pub extern "C" fn faroalder_tested_reset<'a>(
     ks: &mut [u32],
     bs: &mut [u32],
 ) -> u64
-    requires { TestedNames chart.now (beside_in fn_trait sigils.now) rule.now text.now h.old ws.old ks.old bs.old }
+    requires { TestedNames (lent_env chart.now fn_trait sigils.now rule.now text.now) h.old ws.old ks.old bs.old }
     ensures { NamesPromised
         (reset_names_call (lent_env chart.now fn_trait sigils.now rule.now text.now)
         (lent_of h.old ws.old ks.old) (lent_book_of bs.old))
-        (done_reply (done_in result)) h.old ws.old ks.old bs.old
+        (done_in result) h.old ws.old ks.old bs.old
         h.new ws.new ks.new bs.new }
 {
-    let beside = c_words::beside_of(fn_trait, sigils);
-    c_words::done_number(call_states::tested::reset(chart, beside, rule, text, h, ws, ks, bs))
+    let env = c_words::env_of(chart, fn_trait, sigils, rule, text);
+    c_words::done_number(call_states::tested::reset(&env, h, ws, ks, bs))
 }

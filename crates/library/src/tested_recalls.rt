@@ -6,9 +6,8 @@ ghost use Rattle.types.specs.Impls.{impl_means};
 ghost use Rattle.store.specs.Entries.{types_in};
 ghost use Rattle.lent_tests.specs.Given.{entries_in};
 ghost use Rattle.promise.specs.Promise.{Promised, Tested};
-ghost use Rattle.call_unify.specs.Answers.{unify_reply};
 ghost use Rattle.c_words.specs.Numbers.{unify_in};
-ghost use Rattle.c_words.specs.Given.{set_in, impl_in, beside_in, lent_env};
+ghost use Rattle.c_words.specs.Given.{set_in, impl_in, lent_env};
 
 use types::Type;
 
@@ -27,18 +26,15 @@ pub extern "C" fn faroalder_tested_unify_recalling<'a>(
     b: u32,
     memory: &mut [u32],
 ) -> u64
-    requires { Tested chart.now (beside_in fn_trait sigils.now) rule.now text.now h.now ws.old ks.now }
+    requires { Tested (lent_env chart.now fn_trait sigils.now rule.now text.now) h.now ws.old ks.now }
     ensures { Promised
         (unify_call (lent_env chart.now fn_trait sigils.now rule.now text.now) (lent_of h.now ws.old ks.now)
         (ty_of a) (ty_of b))
-        (unify_reply (unify_in result)) h.now ws.old ks.now h.now ws.new ks.now }
+        (unify_in result) h.now ws.old ks.now h.now ws.new ks.now }
 {
-    let beside = c_words::beside_of(fn_trait, sigils);
+    let env = c_words::env_of(chart, fn_trait, sigils, rule, text);
     c_words::unify_number(call_unify::tested::unify_recalling(
-        chart,
-        beside,
-        rule,
-        text,
+        &env,
         h,
         ws,
         ks,
@@ -64,16 +60,16 @@ pub extern "C" fn faroalder_tested_unify_types_recalling<'a>(
     inv: u32,
     memory: &mut [u32],
 ) -> u64
-    requires { Tested chart.now (beside_in fn_trait sigils.now) rule.now text.now h.now ws.old ks.now }
+    requires { Tested (lent_env chart.now fn_trait sigils.now rule.now text.now) h.now ws.old ks.now }
     ensures { Promised
         (unify_types_call (lent_env chart.now fn_trait sigils.now rule.now text.now) (lent_of h.now ws.old ks.now)
         (types_in xs.now) (types_in ys.now) (set_in inv))
-        (unify_reply (unify_in result)) h.now ws.old ks.now h.now ws.new ks.now }
+        (unify_in result) h.now ws.old ks.now h.now ws.new ks.now }
 {
-    let beside = c_words::beside_of(fn_trait, sigils);
+    let env = c_words::env_of(chart, fn_trait, sigils, rule, text);
     let inv = c_words::inverted_of(inv);
     c_words::unify_number(tested_unify_lists::unify_types_recalling(
-        chart, beside, rule, text, h, ws, ks, memory, xs, ys, inv,
+        &env, h, ws, ks, memory, xs, ys, inv,
     ))
 }
 
@@ -93,16 +89,16 @@ pub extern "C" fn faroalder_tested_unify_objects_recalling<'a>(
     inv: u32,
     memory: &mut [u32],
 ) -> u64
-    requires { Tested chart.now (beside_in fn_trait sigils.now) rule.now text.now h.now ws.old ks.now }
+    requires { Tested (lent_env chart.now fn_trait sigils.now rule.now text.now) h.now ws.old ks.now }
     ensures { Promised
         (unify_objects_call (lent_env chart.now fn_trait sigils.now rule.now text.now) (lent_of h.now ws.old ks.now)
         (entries_in xs.now) (entries_in ys.now) (set_in inv))
-        (unify_reply (unify_in result)) h.now ws.old ks.now h.now ws.new ks.now }
+        (unify_in result) h.now ws.old ks.now h.now ws.new ks.now }
 {
-    let beside = c_words::beside_of(fn_trait, sigils);
+    let env = c_words::env_of(chart, fn_trait, sigils, rule, text);
     let inv = c_words::inverted_of(inv);
     c_words::unify_number(tested_unify_lists::unify_objects_recalling(
-        chart, beside, rule, text, h, ws, ks, memory, xs, ys, inv,
+        &env, h, ws, ks, memory, xs, ys, inv,
     ))
 }
 
@@ -123,18 +119,15 @@ pub extern "C" fn faroalder_tested_unify_fn_sig_recalling<'a>(
     q: u32,
     memory: &mut [u32],
 ) -> u64
-    requires { Tested chart.now (beside_in fn_trait sigils.now) rule.now text.now h.now ws.old ks.now }
+    requires { Tested (lent_env chart.now fn_trait sigils.now rule.now text.now) h.now ws.old ks.now }
     ensures { Promised
         (unify_fn_sig_call (lent_env chart.now fn_trait sigils.now rule.now text.now) (lent_of h.now ws.old ks.now)
         (types_in xs.now) (ty_of r) (types_in ys.now) (ty_of q))
-        (unify_reply (unify_in result)) h.now ws.old ks.now h.now ws.new ks.now }
+        (unify_in result) h.now ws.old ks.now h.now ws.new ks.now }
 {
-    let beside = c_words::beside_of(fn_trait, sigils);
+    let env = c_words::env_of(chart, fn_trait, sigils, rule, text);
     c_words::unify_number(tested_unify_lists::unify_fn_sig_recalling(
-        chart,
-        beside,
-        rule,
-        text,
+        &env,
         h,
         ws,
         ks,
@@ -163,18 +156,15 @@ pub extern "C" fn faroalder_tested_unify_impl_type_recalling<'a>(
     ys: &[u32],
     memory: &mut [u32],
 ) -> u64
-    requires { Tested chart.now (beside_in fn_trait sigils.now) rule.now text.now h.now ws.old ks.now }
+    requires { Tested (lent_env chart.now fn_trait sigils.now rule.now text.now) h.now ws.old ks.now }
     ensures { Promised
         (unify_impl_type_call (lent_env chart.now fn_trait sigils.now rule.now text.now) (lent_of h.now ws.old ks.now)
         (impl_means (impl_in a) xs.now) (impl_means (impl_in b) ys.now))
-        (unify_reply (unify_in result)) h.now ws.old ks.now h.now ws.new ks.now }
+        (unify_in result) h.now ws.old ks.now h.now ws.new ks.now }
 {
-    let beside = c_words::beside_of(fn_trait, sigils);
+    let env = c_words::env_of(chart, fn_trait, sigils, rule, text);
     c_words::unify_number(call_impl::tested::unify_impl_type_recalling(
-        chart,
-        beside,
-        rule,
-        text,
+        &env,
         h,
         ws,
         ks,

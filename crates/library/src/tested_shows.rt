@@ -4,9 +4,8 @@ ghost use Rattle.scope.specs.Calls.{show_call, show_impl_type_call};
 ghost use Rattle.layout.specs.Words.{lent_of, store_in};
 ghost use Rattle.types.specs.Impls.{impl_means};
 ghost use Rattle.promise.specs.Promise.{Tested};
-ghost use Rattle.promise.specs.Prints.{count_reply};
 ghost use Rattle.c_words.specs.Numbers.{count_in, CutPromised};
-ghost use Rattle.c_words.specs.Given.{impl_in, beside_in, lent_env};
+ghost use Rattle.c_words.specs.Given.{impl_in, lent_env};
 
 use types::Type;
 
@@ -24,25 +23,15 @@ pub extern "C" fn faroalder_tested_show<'a>(
     t: u32,
     buf: &mut [u8],
 ) -> u64
-    requires { Tested chart.now (beside_in fn_trait sigils.now) rule.now text.now h.now ws.now ks.now }
+    requires { Tested (lent_env chart.now fn_trait sigils.now rule.now text.now) h.now ws.now ks.now }
     ensures { CutPromised
         (show_call (lent_env chart.now fn_trait sigils.now rule.now text.now) (lent_of h.now ws.now ks.now)
         (ty_of t))
-        (count_reply (count_in result)) (store_in h.now ws.now ks.now) buf.old buf.new }
+        (count_in result) (store_in h.now ws.now ks.now) buf.old buf.new }
 {
-    let beside = c_words::beside_of(fn_trait, sigils);
+    let env = c_words::env_of(chart, fn_trait, sigils, rule, text);
     let n = c_words::counted(buf.len());
-    c_words::count_number(call_show::tested::show(
-        chart,
-        beside,
-        rule,
-        text,
-        h,
-        ws,
-        ks,
-        Type(t),
-        &mut buf[..n],
-    ))
+    c_words::count_number(call_show::tested::show(&env, h, ws, ks, Type(t), &mut buf[..n]))
 }
 
 // An impl type's text, its types lent beside it.
@@ -60,19 +49,16 @@ pub extern "C" fn faroalder_tested_show_impl_type<'a>(
     xs: &[u32],
     buf: &mut [u8],
 ) -> u64
-    requires { Tested chart.now (beside_in fn_trait sigils.now) rule.now text.now h.now ws.now ks.now }
+    requires { Tested (lent_env chart.now fn_trait sigils.now rule.now text.now) h.now ws.now ks.now }
     ensures { CutPromised
         (show_impl_type_call (lent_env chart.now fn_trait sigils.now rule.now text.now) (lent_of h.now ws.now ks.now)
         (impl_means (impl_in a) xs.now))
-        (count_reply (count_in result)) (store_in h.now ws.now ks.now) buf.old buf.new }
+        (count_in result) (store_in h.now ws.now ks.now) buf.old buf.new }
 {
-    let beside = c_words::beside_of(fn_trait, sigils);
+    let env = c_words::env_of(chart, fn_trait, sigils, rule, text);
     let n = c_words::counted(buf.len());
     c_words::count_number(call_show::tested::show_impl_type(
-        chart,
-        beside,
-        rule,
-        text,
+        &env,
         h,
         ws,
         ks,

@@ -5,10 +5,9 @@ ghost use Rattle.layout.specs.Words.{lent_of};
 ghost use Rattle.types.specs.Impls.{impl_means};
 ghost use Rattle.store.specs.Entries.{types_in};
 ghost use Rattle.lent_tests.specs.Given.{entries_in};
-ghost use Rattle.promise.specs.Promise.{Promised, Tested, bool_reply};
-ghost use Rattle.call_unify.specs.Answers.{unify_reply};
+ghost use Rattle.promise.specs.Promise.{Promised, Tested};
 ghost use Rattle.c_words.specs.Numbers.{bool_in, unify_in};
-ghost use Rattle.c_words.specs.Given.{set_in, impl_in, beside_in, lent_env};
+ghost use Rattle.c_words.specs.Given.{set_in, impl_in, lent_env};
 
 use types::Type;
 
@@ -26,24 +25,14 @@ pub extern "C" fn faroalder_tested_unify<'a>(
     a: u32,
     b: u32,
 ) -> u64
-    requires { Tested chart.now (beside_in fn_trait sigils.now) rule.now text.now h.now ws.old ks.now }
+    requires { Tested (lent_env chart.now fn_trait sigils.now rule.now text.now) h.now ws.old ks.now }
     ensures { Promised
         (unify_call (lent_env chart.now fn_trait sigils.now rule.now text.now) (lent_of h.now ws.old ks.now)
         (ty_of a) (ty_of b))
-        (unify_reply (unify_in result)) h.now ws.old ks.now h.now ws.new ks.now }
+        (unify_in result) h.now ws.old ks.now h.now ws.new ks.now }
 {
-    let beside = c_words::beside_of(fn_trait, sigils);
-    c_words::unify_number(call_unify::tested::unify(
-        chart,
-        beside,
-        rule,
-        text,
-        h,
-        ws,
-        ks,
-        Type(a),
-        Type(b),
-    ))
+    let env = c_words::env_of(chart, fn_trait, sigils, rule, text);
+    c_words::unify_number(call_unify::tested::unify(&env, h, ws, ks, Type(a), Type(b)))
 }
 
 // Two lists of types, a word a type, the second's inverted if inv says so.
@@ -61,17 +50,15 @@ pub extern "C" fn faroalder_tested_unify_types<'a>(
     ys: &[u32],
     inv: u32,
 ) -> u64
-    requires { Tested chart.now (beside_in fn_trait sigils.now) rule.now text.now h.now ws.old ks.now }
+    requires { Tested (lent_env chart.now fn_trait sigils.now rule.now text.now) h.now ws.old ks.now }
     ensures { Promised
         (unify_types_call (lent_env chart.now fn_trait sigils.now rule.now text.now) (lent_of h.now ws.old ks.now)
         (types_in xs.now) (types_in ys.now) (set_in inv))
-        (unify_reply (unify_in result)) h.now ws.old ks.now h.now ws.new ks.now }
+        (unify_in result) h.now ws.old ks.now h.now ws.new ks.now }
 {
-    let beside = c_words::beside_of(fn_trait, sigils);
+    let env = c_words::env_of(chart, fn_trait, sigils, rule, text);
     let inv = c_words::inverted_of(inv);
-    c_words::unify_number(tested_unify_lists::unify_types(
-        chart, beside, rule, text, h, ws, ks, xs, ys, inv,
-    ))
+    c_words::unify_number(tested_unify_lists::unify_types(&env, h, ws, ks, xs, ys, inv))
 }
 
 // Two objects, four words an entry, as children lie in a store.
@@ -89,17 +76,15 @@ pub extern "C" fn faroalder_tested_unify_objects<'a>(
     ys: &[u32],
     inv: u32,
 ) -> u64
-    requires { Tested chart.now (beside_in fn_trait sigils.now) rule.now text.now h.now ws.old ks.now }
+    requires { Tested (lent_env chart.now fn_trait sigils.now rule.now text.now) h.now ws.old ks.now }
     ensures { Promised
         (unify_objects_call (lent_env chart.now fn_trait sigils.now rule.now text.now) (lent_of h.now ws.old ks.now)
         (entries_in xs.now) (entries_in ys.now) (set_in inv))
-        (unify_reply (unify_in result)) h.now ws.old ks.now h.now ws.new ks.now }
+        (unify_in result) h.now ws.old ks.now h.now ws.new ks.now }
 {
-    let beside = c_words::beside_of(fn_trait, sigils);
+    let env = c_words::env_of(chart, fn_trait, sigils, rule, text);
     let inv = c_words::inverted_of(inv);
-    c_words::unify_number(tested_unify_lists::unify_objects(
-        chart, beside, rule, text, h, ws, ks, xs, ys, inv,
-    ))
+    c_words::unify_number(tested_unify_lists::unify_objects(&env, h, ws, ks, xs, ys, inv))
 }
 
 // Two signatures: a list of parameters, and a return.
@@ -118,18 +103,15 @@ pub extern "C" fn faroalder_tested_unify_fn_sig<'a>(
     ys: &[u32],
     q: u32,
 ) -> u64
-    requires { Tested chart.now (beside_in fn_trait sigils.now) rule.now text.now h.now ws.old ks.now }
+    requires { Tested (lent_env chart.now fn_trait sigils.now rule.now text.now) h.now ws.old ks.now }
     ensures { Promised
         (unify_fn_sig_call (lent_env chart.now fn_trait sigils.now rule.now text.now) (lent_of h.now ws.old ks.now)
         (types_in xs.now) (ty_of r) (types_in ys.now) (ty_of q))
-        (unify_reply (unify_in result)) h.now ws.old ks.now h.now ws.new ks.now }
+        (unify_in result) h.now ws.old ks.now h.now ws.new ks.now }
 {
-    let beside = c_words::beside_of(fn_trait, sigils);
+    let env = c_words::env_of(chart, fn_trait, sigils, rule, text);
     c_words::unify_number(tested_unify_lists::unify_fn_sig(
-        chart,
-        beside,
-        rule,
-        text,
+        &env,
         h,
         ws,
         ks,
@@ -156,18 +138,15 @@ pub extern "C" fn faroalder_tested_unify_impl_type<'a>(
     b: u32,
     ys: &[u32],
 ) -> u64
-    requires { Tested chart.now (beside_in fn_trait sigils.now) rule.now text.now h.now ws.old ks.now }
+    requires { Tested (lent_env chart.now fn_trait sigils.now rule.now text.now) h.now ws.old ks.now }
     ensures { Promised
         (unify_impl_type_call (lent_env chart.now fn_trait sigils.now rule.now text.now) (lent_of h.now ws.old ks.now)
         (impl_means (impl_in a) xs.now) (impl_means (impl_in b) ys.now))
-        (unify_reply (unify_in result)) h.now ws.old ks.now h.now ws.new ks.now }
+        (unify_in result) h.now ws.old ks.now h.now ws.new ks.now }
 {
-    let beside = c_words::beside_of(fn_trait, sigils);
+    let env = c_words::env_of(chart, fn_trait, sigils, rule, text);
     c_words::unify_number(call_impl::tested::unify_impl_type(
-        chart,
-        beside,
-        rule,
-        text,
+        &env,
         h,
         ws,
         ks,
@@ -194,18 +173,15 @@ pub extern "C" fn faroalder_tested_approx_eq<'a>(
     b: u32,
     ys: &[u32],
 ) -> u64
-    requires { Tested chart.now (beside_in fn_trait sigils.now) rule.now text.now h.now ws.now ks.now }
+    requires { Tested (lent_env chart.now fn_trait sigils.now rule.now text.now) h.now ws.now ks.now }
     ensures { Promised
         (approx_eq_call (lent_env chart.now fn_trait sigils.now rule.now text.now) (lent_of h.now ws.now ks.now)
         (impl_means (impl_in a) xs.now) (impl_means (impl_in b) ys.now))
-        (bool_reply (bool_in result)) h.now ws.now ks.now h.now ws.now ks.now }
+        (bool_in result) h.now ws.now ks.now h.now ws.now ks.now }
 {
-    let beside = c_words::beside_of(fn_trait, sigils);
+    let env = c_words::env_of(chart, fn_trait, sigils, rule, text);
     c_words::bool_number(call_impl::tested::approx_eq(
-        chart,
-        beside,
-        rule,
-        text,
+        &env,
         h,
         ws,
         ks,

@@ -5,8 +5,7 @@ ghost use Rattle.layout.specs.Words.{lent_of};
 ghost use Rattle.types.specs.Impls.{impl_means};
 ghost use Rattle.store.specs.Entries.{types_in};
 ghost use Rattle.lent_tests.specs.Given.{entries_in};
-ghost use Rattle.promise.specs.Promise.{Promised, bool_reply};
-ghost use Rattle.call_unify.specs.Answers.{unify_reply};
+ghost use Rattle.promise.specs.Promise.{Promised};
 ghost use Rattle.c_words.specs.Numbers.{bool_in, unify_in};
 ghost use Rattle.c_words.specs.Given.{set_in, impl_in, lent_env};
 
@@ -29,10 +28,10 @@ pub extern "C" fn faroalder_unify<'a>(
     ensures { Promised
         (unify_call (lent_env chart.now fn_trait sigils.now rule.now text.now) (lent_of h.now ws.old ks.now)
         (ty_of a) (ty_of b))
-        (unify_reply (unify_in result)) h.now ws.old ks.now h.now ws.new ks.now }
+        (unify_in result) h.now ws.old ks.now h.now ws.new ks.now }
 {
-    let beside = c_words::beside_of(fn_trait, sigils);
-    c_words::unify_number(call_unify::unify(chart, beside, rule, text, h, ws, ks, Type(a), Type(b)))
+    let env = c_words::env_of(chart, fn_trait, sigils, rule, text);
+    c_words::unify_number(call_unify::unify(&env, h, ws, ks, Type(a), Type(b)))
 }
 
 // Two lists of types, a word a type, the second's inverted if inv says so.
@@ -53,13 +52,11 @@ pub extern "C" fn faroalder_unify_types<'a>(
     ensures { Promised
         (unify_types_call (lent_env chart.now fn_trait sigils.now rule.now text.now) (lent_of h.now ws.old ks.now)
         (types_in xs.now) (types_in ys.now) (set_in inv))
-        (unify_reply (unify_in result)) h.now ws.old ks.now h.now ws.new ks.now }
+        (unify_in result) h.now ws.old ks.now h.now ws.new ks.now }
 {
-    let beside = c_words::beside_of(fn_trait, sigils);
+    let env = c_words::env_of(chart, fn_trait, sigils, rule, text);
     let inv = c_words::inverted_of(inv);
-    c_words::unify_number(call_unify_lists::unify_types(
-        chart, beside, rule, text, h, ws, ks, xs, ys, inv,
-    ))
+    c_words::unify_number(call_unify_lists::unify_types(&env, h, ws, ks, xs, ys, inv))
 }
 
 // Two objects, four words an entry, as children lie in a store.
@@ -80,13 +77,11 @@ pub extern "C" fn faroalder_unify_objects<'a>(
     ensures { Promised
         (unify_objects_call (lent_env chart.now fn_trait sigils.now rule.now text.now) (lent_of h.now ws.old ks.now)
         (entries_in xs.now) (entries_in ys.now) (set_in inv))
-        (unify_reply (unify_in result)) h.now ws.old ks.now h.now ws.new ks.now }
+        (unify_in result) h.now ws.old ks.now h.now ws.new ks.now }
 {
-    let beside = c_words::beside_of(fn_trait, sigils);
+    let env = c_words::env_of(chart, fn_trait, sigils, rule, text);
     let inv = c_words::inverted_of(inv);
-    c_words::unify_number(call_unify_lists::unify_objects(
-        chart, beside, rule, text, h, ws, ks, xs, ys, inv,
-    ))
+    c_words::unify_number(call_unify_lists::unify_objects(&env, h, ws, ks, xs, ys, inv))
 }
 
 // Two signatures: a list of parameters, and a return.
@@ -108,22 +103,10 @@ pub extern "C" fn faroalder_unify_fn_sig<'a>(
     ensures { Promised
         (unify_fn_sig_call (lent_env chart.now fn_trait sigils.now rule.now text.now) (lent_of h.now ws.old ks.now)
         (types_in xs.now) (ty_of r) (types_in ys.now) (ty_of q))
-        (unify_reply (unify_in result)) h.now ws.old ks.now h.now ws.new ks.now }
+        (unify_in result) h.now ws.old ks.now h.now ws.new ks.now }
 {
-    let beside = c_words::beside_of(fn_trait, sigils);
-    c_words::unify_number(call_unify_lists::unify_fn_sig(
-        chart,
-        beside,
-        rule,
-        text,
-        h,
-        ws,
-        ks,
-        xs,
-        Type(r),
-        ys,
-        Type(q),
-    ))
+    let env = c_words::env_of(chart, fn_trait, sigils, rule, text);
+    c_words::unify_number(call_unify_lists::unify_fn_sig(&env, h, ws, ks, xs, Type(r), ys, Type(q)))
 }
 
 // Two traits, each over a list of types, or errors.
@@ -145,14 +128,11 @@ pub extern "C" fn faroalder_unify_impl_type<'a>(
     ensures { Promised
         (unify_impl_type_call (lent_env chart.now fn_trait sigils.now rule.now text.now) (lent_of h.now ws.old ks.now)
         (impl_means (impl_in a) xs.now) (impl_means (impl_in b) ys.now))
-        (unify_reply (unify_in result)) h.now ws.old ks.now h.now ws.new ks.now }
+        (unify_in result) h.now ws.old ks.now h.now ws.new ks.now }
 {
-    let beside = c_words::beside_of(fn_trait, sigils);
+    let env = c_words::env_of(chart, fn_trait, sigils, rule, text);
     c_words::unify_number(call_impl::unify_impl_type(
-        chart,
-        beside,
-        rule,
-        text,
+        &env,
         h,
         ws,
         ks,
@@ -182,14 +162,11 @@ pub extern "C" fn faroalder_approx_eq<'a>(
     ensures { Promised
         (approx_eq_call (lent_env chart.now fn_trait sigils.now rule.now text.now) (lent_of h.now ws.now ks.now)
         (impl_means (impl_in a) xs.now) (impl_means (impl_in b) ys.now))
-        (bool_reply (bool_in result)) h.now ws.now ks.now h.now ws.now ks.now }
+        (bool_in result) h.now ws.now ks.now h.now ws.now ks.now }
 {
-    let beside = c_words::beside_of(fn_trait, sigils);
+    let env = c_words::env_of(chart, fn_trait, sigils, rule, text);
     c_words::bool_number(call_impl::approx_eq(
-        chart,
-        beside,
-        rule,
-        text,
+        &env,
         h,
         ws,
         ks,

@@ -6,6 +6,7 @@ use mathlib.Core.Bool.{Bool, true, false, not}
 use mathlib.Core.List.{List}
 use mathlib.Core.Option.{Option, none, some}
 use Prim.Native.Nat.{ℕ}
+use Rattle.std.specs.Prelude.{Err}
 use Rattle.scope.specs.Base.{pick}
 use Rattle.scope.specs.Chart.{Env, chart_ok}
 use Rattle.scope.specs.Types.{Ty}
@@ -13,21 +14,18 @@ use Rattle.scope.specs.Nodes.{Store}
 use Rattle.scope.specs.Sound.{sound}
 use Rattle.scope.specs.Refusals.{BAD_CHART, UNSOUND}
 use Rattle.scope.specs.Calls.{Outcome, refused, or_refused, first_broken, lent_tests, Printed, or_unprinted}
-use Rattle.chart.specs.declared.Beside.{Beside}
 use Rattle.layout.specs.Words.{lent_of}
-use Rattle.sound.specs.Tests.{env_in}
-use Rattle.refusals.specs.Codes.{code_of}
+use Rattle.refusals.specs.declared.Refusal.{Refusal}
+use Rattle.refusals.specs.Codes.{number}
 use Rattle.promise.specs.Promise.{refusal, Promised, Tested}
 use Rattle.promise.specs.Lists.{ListPromised}
 use Rattle.promise.specs.Prints.{PrintPromised}
-use Rattle.promise.specs.declared.DoneAnswer.TheVariants.{Refused}
-use Rattle.refusals.proofs.Laws.{code_none, code_some, none_some}
+use Rattle.refusals.proofs.Laws.{none_some}
 use Rattle.promise.proofs.Laws.{promised_back}
 
 -- no refusal stands
-pub tested : {chart : List ℕ} {b : Beside} {rule text h ws ks : List ℕ} {n : ℕ} → first_broken (lent_tests (env_in chart b rule text) (lent_of h ws ks)) ≡ code_of n → n ≡ 0
-    → Tested chart b rule text h ws ks
-tested {n = n} q z = record { passed = q ∙ code_none n z }
+pub tested : {e : Env} {h ws ks : List ℕ} → first_broken (lent_tests e (lent_of h ws ks)) ≡ none → Tested e h ws ks
+tested q = record { passed = q }
 
 -- the tests of 2 and 8, and what the tests behind them give
 abbrev behind : Bool → Bool → Option ℕ → Option ℕ
@@ -38,21 +36,21 @@ stands false s n rest q = q
 stands true false n rest q = q
 stands true true n rest q = none_some n (sym q)
 
-module _ (e : Env) (h ws ks : List ℕ) (n : ℕ) (q : first_broken (lent_tests e (lent_of h ws ks)) ≡ code_of n) (z : n ≡ 0 → ⊥) (rest : Option ℕ) where
+module _ (e : Env) (h ws ks : List ℕ) (r : Refusal) (q : first_broken (lent_tests e (lent_of h ws ks)) ≡ some (number r)) (rest : Option ℕ) where
   abbrev first : Option ℕ
   first = behind (chart_ok e) (sound e (lent_of h ws ks)) rest
 
-  lent_first : first ≡ some n
-  lent_first = stands (chart_ok e) (sound e (lent_of h ws ks)) n rest (q ∙ code_some n z)
+  lent_first : first ≡ some (number r)
+  lent_first = stands (chart_ok e) (sound e (lent_of h ws ks)) (number r) rest q
 
-  pub told_back : {A : Type 0} (o : Outcome A) → or_refused first o ≡ refused n
+  pub told_back : {A : Type 0} (o : Outcome A) → or_refused first o ≡ refused (number r)
   told_back o = ap (λ (x : Option ℕ). or_refused x o) lent_first
 
-  pub did_back : {A : Type 0} (o : Outcome A) → Promised (or_refused first o) (refusal n) h ws ks h ws ks
+  pub did_back : {A : Type 0} (o : Outcome A) → Promised (or_refused first o) (refusal (number r)) h ws ks h ws ks
   did_back o = promised_back (told_back o)
 
-  pub list_back : (o : Outcome (List Ty)) {k : ℕ} {out : List ℕ} → ListPromised (or_refused first o) (Refused n) k h ws ks h ws ks out out
+  pub list_back : (o : Outcome (List Ty)) {k : ℕ} {out : List ℕ} → ListPromised (or_refused first o) (Err r) k h ws ks h ws ks out out
   list_back o = record { promised = did_back o; rest = refl; kept = λ y. refl }
 
-  pub print_back : (s : Store) {buf : List ℕ} (p : Printed) → PrintPromised (or_unprinted first buf p) (refusal n) s buf
+  pub print_back : (s : Store) {buf : List ℕ} (p : Printed) → PrintPromised (or_unprinted first buf p) (refusal (number r)) s buf
   print_back s p = record { outcome = rw lent_first; buffer = rw lent_first }

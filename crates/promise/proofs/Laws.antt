@@ -4,7 +4,7 @@
 use mathlib.Core.Path.{◌≡◌, refl, ap, sym, ◌∙◌}
 use mathlib.Core.Bool.{Bool, true, false, not, and-true}
 use mathlib.Core.List.{List, [], ◌∷◌, ◌++◌}
-use mathlib.Core.Option.{none}
+use mathlib.Core.Option.{Option, none, some}
 use Prim.Native.Nat.{ℕ}
 use native.Mathlib.Omega.{arith}
 use lib.ListN.{length}
@@ -16,7 +16,7 @@ use Rattle.scope.specs.Sound.{Lent, in_store, sound}
 use Rattle.scope.specs.Refusals.{BAD_CHART, OUTSIDE, UNSOUND}
 use Rattle.scope.specs.Calls.{Outcome, refused, done, first_broken, store_of, lent_tests, outside}
 use Rattle.scope.proofs.SoundLaws.{SoundFacts, sound_facts}
-use Rattle.chart.specs.declared.Beside.{Beside}
+use Rattle.chart.specs.declared.Env as declared
 use Rattle.chart.specs.Env.{env_of}
 use Rattle.layout.specs.Words.{nodes_made, children_made, store_in, clean, lent_of}
 use Rattle.layout.specs.Meaning.{Linked, header_in}
@@ -25,9 +25,8 @@ use Rattle.layout.proofs.LinkLaws.{clean_linked}
 use Rattle.layout.proofs.StoreLaws.{clean_nodes, lent_clean}
 use Rattle.store.specs.Holds.{Became}
 use Rattle.store.proofs.Laws.{store_count}
-use Rattle.refusals.specs.Codes.{code_of}
-use Rattle.refusals.proofs.Laws.{code_none, none_some, broken_next, passed_first, code_first, code_next}
-use Rattle.sound.specs.Tests.{env_in}
+use Rattle.refusals.proofs.Laws.{none_some, broken_first, broken_next, passed_first}
+use Rattle.sound.specs.Tests.{env_lent}
 use Rattle.sound.proofs.Laws.{sound_clean, env_ok, env_whole}
 use Rattle.promise.specs.Promise.{value, refusal, Promised, Tested, TypesTested, TypesInside}
 
@@ -74,50 +73,41 @@ module _ (e : Env) (h ws ks : List ℕ) where
         → ((ns : List Node) → length ns ≡ x.nodes → b ≡ all (in_store ns) ts) → outside (store_of lent) ts ≡ (not b, OUTSIDE)
     lent_outside x g ts b i = ap (λ (y : Bool). (not y, OUTSIDE)) (lent_inside x g ts b i)
 
-  -- a code of 2 and 8, and then the test of listed types
-
   -- "Tested in the order 1, 2, 8"
-  pub lent_refused : (us : List (Bool × ℕ)) (n : ℕ) → first_broken (lent_tests e lent) ≡ code_of n → (n ≡ 0 → ⊥)
-      → first_broken (lent_tests e lent ++ us) ≡ code_of n
-  lent_refused us n q z = code_first (lent_tests e lent) us n q z
+  pub lent_refused : (us : List (Bool × ℕ)) (n : ℕ) → first_broken (lent_tests e lent) ≡ some n → first_broken (lent_tests e lent ++ us) ≡ some n
+  lent_refused us n q = broken_first (lent_tests e lent) us n q
 
-  pub lent_next : (us : List (Bool × ℕ)) (n : ℕ) → first_broken (lent_tests e lent) ≡ code_of n → n ≡ 0
-      → first_broken (lent_tests e lent ++ us) ≡ first_broken us
-  lent_next us n q z = code_next (lent_tests e lent) us n q z
+  pub lent_next : (us : List (Bool × ℕ)) → first_broken (lent_tests e lent) ≡ none → first_broken (lent_tests e lent ++ us) ≡ first_broken us
+  lent_next us q = broken_next (lent_tests e lent) us q
 
   -- a call that no test turns back
-  pub call_passed : (us : List (Bool × ℕ)) (n : ℕ) → first_broken (lent_tests e lent ++ us) ≡ code_of n → n ≡ 0 → first_broken (lent_tests e lent) ≡ none
-  call_passed us n q z = passed_first (lent_tests e lent) us (q ∙ code_none n z)
-
-  module _ (n : ℕ) (q : first_broken (lent_tests e lent) ≡ code_of n) (z : n ≡ 0) where
-    pub lent_passed : first_broken (lent_tests e lent) ≡ none
-    lent_passed = q ∙ code_none n z
+  pub call_passed : (us : List (Bool × ℕ)) → first_broken (lent_tests e lent ++ us) ≡ none → first_broken (lent_tests e lent) ≡ none
+  call_passed us q = passed_first (lent_tests e lent) us q
 
 -- numbers that 2 does not turn back are the chart of their records
-pub lent_env : (chart : List ℕ) (b : Beside) (rule text h ws ks : List ℕ) → first_broken (lent_tests (env_in chart b rule text) (lent_of h ws ks)) ≡ none
-    → env_in chart b rule text ≡ env_of chart b rule text
-lent_env chart b rule text h ws ks q =
-    env_whole chart b rule text (sym (env_ok chart b rule text) ∙ lent_chart (env_in chart b rule text) h ws ks q)
+pub lent_env : (l : declared.Env) (h ws ks : List ℕ) → first_broken (lent_tests (env_lent l) (lent_of h ws ks)) ≡ none
+    → env_lent l ≡ env_of l.chart.now l.beside l.texts.rule.now l.texts.chart.now
+lent_env l h ws ks q =
+    let rule = l.texts.rule.now in
+    let text = l.texts.chart.now in
+    env_whole l.chart.now l.beside rule text (sym (env_ok l.chart.now l.beside rule text) ∙ lent_chart (env_lent l) h ws ks q)
 
 -- a tested store: once 2 and 8 are passed a call's tests are those of its arguments, asked of the store that the slices hold
 
-module _ {chart : List ℕ} {b : Beside} {rule text h ws ks : List ℕ} (q : Tested chart b rule text h ws ks) where
-  abbrev env : Env
-  env = env_in chart b rule text
-
-  pub tested_next : (us : Store → List (Bool × ℕ)) → first_broken (lent_tests env (lent_of h ws ks) ++ us (store_of (lent_of h ws ks))) ≡ first_broken (us (store_in h ws ks))
+module _ {e : Env} {h ws ks : List ℕ} (q : Tested e h ws ks) where
+  pub tested_next : (us : Store → List (Bool × ℕ)) → first_broken (lent_tests e (lent_of h ws ks) ++ us (store_of (lent_of h ws ks))) ≡ first_broken (us (store_in h ws ks))
   tested_next us =
-      broken_next (lent_tests env (lent_of h ws ks)) (us (store_of (lent_of h ws ks))) q.passed
-      ∙ ap (λ (s : Store). first_broken (us s)) (lent_store env h ws ks q.passed)
+      broken_next (lent_tests e (lent_of h ws ks)) (us (store_of (lent_of h ws ks))) q.passed
+      ∙ ap (λ (s : Store). first_broken (us s)) (lent_store e h ws ks q.passed)
 
   pub tested_clean : clean h ws ks ≡ true
-  tested_clean = lent_clean_words env h ws ks q.passed
+  tested_clean = lent_clean_words e h ws ks q.passed
 
-  pub inside_tested : {ts : List Ty} {n : ℕ} → TypesInside h ts n → TypesTested chart b rule text h ws ks ts n
+  pub inside_tested : {ts : List Ty} {n : Option ℕ} → TypesInside h ts n → TypesTested e h ws ks ts n
   inside_tested {ts} p = record { first = tested_next (λ s. outside s ts ∷ []) ∙ p.code ws ks }
 
   -- a call on no listed type
-  pub none_listed : TypesTested chart b rule text h ws ks [] 0
+  pub none_listed : TypesTested e h ws ks [] none
   none_listed = record { first = q.passed }
 
 -- one type, by the header alone
@@ -128,10 +118,10 @@ module _ (h : List ℕ) {x : Header} (g : x ≡ header_in h) (t : Ty) {b : Bool}
       ap (λ (y : Bool). first_broken ((not y, OUTSIDE) ∷ []))
       (and-true (in_store (store_in h ws ks).nodes t) ∙ sym (i (store_in h ws ks).nodes (store_count h ws ks ∙ sym (ap (λ (y : Header). y.nodes) g))))
 
-  pub one_outside : b ≡ false → TypesInside h (t ∷ []) OUTSIDE
+  pub one_outside : b ≡ false → TypesInside h (t ∷ []) (some OUTSIDE)
   one_outside f = record { code = λ ws ks. one_test ws ks ∙ rw f }
 
-  pub one_inside : b ≡ true → TypesInside h (t ∷ []) 0
+  pub one_inside : b ≡ true → TypesInside h (t ∷ []) none
   one_inside f = record { code = λ ws ks. one_test ws ks ∙ rw f }
 
 -- a call that is turned back, and one that is done

@@ -3,7 +3,7 @@
 -- Assumes nothing.
 use mathlib.Core.Path.{◌≡◌, ap, sym, ◌∙◌}
 use mathlib.Core.Bool.{true}
-use mathlib.Core.Option.{none}
+use mathlib.Core.Option.{none, some}
 use mathlib.Core.List.{List, [], ◌∷◌}
 use Prim.Native.Nat.{ℕ}
 use borrow.Author.Tests.{not-false}
@@ -14,32 +14,27 @@ use Rattle.scope.specs.Nodes.{Node, Store}
 use Rattle.scope.specs.Sound.{in_store}
 use Rattle.scope.specs.Calls.{refused, done, first_broken, store_of, lent_tests, outside, read_call}
 use Rattle.scope.proofs.SoundLaws.{SoundFacts}
-use Rattle.chart.specs.declared.Beside.{Beside}
 use Rattle.layout.specs.Words.{nodes_made, children_made, decode, store_in, lent_of}
 use Rattle.layout.specs.Meaning.{Clean, Linked, header_in}
 use Rattle.layout.specs.declared.Header.{Header}
 use Rattle.layout.proofs.StoreLaws.{clean_nodes}
 use Rattle.store.proofs.Laws.{store_nodes}
-use Rattle.sound.specs.Tests.{env_in}
 use Rattle.promise.specs.Promise.{types_tests, TypesTested}
-use Rattle.refusals.proofs.Laws.{code_none, judged_refused, passed_next, test_passed}
+use Rattle.refusals.proofs.Laws.{judged_refused, passed_next, test_passed}
 use Rattle.promise.proofs.Laws.{call_passed, lent_clean_words, lent_store, lent_facts, lent_linked}
 use Rattle.promise.proofs.CallLaws.{call_outcome}
 
-module _ {chart : List ℕ} {b : Beside} {rule text h ws ks : List ℕ} {ts : List Ty} {n : ℕ} (q : TypesTested chart b rule text h ws ks ts n) where
-  abbrev e : Env
-  e = env_in chart b rule text
+module _ {e : Env} {h ws ks : List ℕ} {ts : List Ty} where
+  pub read_refused : {A : Type 0} {n : ℕ} → TypesTested e h ws ks ts (some n) → (a : A) → read_call e (lent_of h ws ks) ts a ≡ refused n
+  read_refused {n} q a = judged_refused (types_tests e (lent_of h ws ks) ts) (done a (store_of (lent_of h ws ks))) n q.first
 
-  pub read_refused : {A : Type 0} → (n ≡ 0 → ⊥) → (a : A) → read_call e (lent_of h ws ks) ts a ≡ refused n
-  read_refused z a = judged_refused (types_tests e (lent_of h ws ks) ts) (done a (store_of (lent_of h ws ks))) n q.first z
-
-  module _ (z : n ≡ 0) where
+  module _ (q : TypesTested e h ws ks ts none) where
     pub read_passed : first_broken (lent_tests e (lent_of h ws ks)) ≡ none
-    read_passed = call_passed e h ws ks (outside (store_of (lent_of h ws ks)) ts ∷ []) n q.first z
+    read_passed = call_passed e h ws ks (outside (store_of (lent_of h ws ks)) ts ∷ []) q.first
 
     pub read_done : {A : Type 0} (f : Store → A)
         → read_call e (lent_of h ws ks) ts (f (store_of (lent_of h ws ks))) ≡ done (f (store_in h ws ks)) (store_in h ws ks)
-    read_done f = call_outcome e h ws ks (λ s. outside s ts ∷ []) (λ s. done (f s) s) n q.first z
+    read_done f = call_outcome e h ws ks (λ s. outside s ts ∷ []) (λ s. done (f s) s) q.first
 
     pub read_facts : SoundFacts e (store_in h ws ks)
     read_facts = lent_facts e h ws ks read_passed
@@ -47,7 +42,7 @@ module _ {chart : List ℕ} {b : Beside} {rule text h ws ks : List ℕ} {ts : Li
     pub read_inside : all (in_store (store_in h ws ks).nodes) ts ≡ true
     read_inside =
         let o = outside (store_of (lent_of h ws ks)) ts in
-        let p = passed_next (lent_tests e (lent_of h ws ks)) (o ∷ []) (q.first ∙ code_none n z) in
+        let p = passed_next (lent_tests e (lent_of h ws ks)) (o ∷ []) q.first in
         ap (λ (s : Store). all (in_store s.nodes) ts) (sym (lent_store e h ws ks read_passed))
         ∙ not-false (all (in_store (store_of (lent_of h ws ks)).nodes) ts) (test_passed o.0 o.1 [] p)
 

@@ -1,5 +1,6 @@
 -- What a record of the slice means, and the words that the records become: ten for each, in `chart`'s order, at the front of a lent list.
-use Rattle.std.specs.Prelude.{◌≡◌, Bool, List, [], ◌∷◌, ◌++◌, ℕ, ◌*◌, ◌/◌, leb, length, take, drop}
+use Rattle.std.specs.Prelude.{◌≡◌, Bool, List, [], ◌∷◌, ◌++◌, ℕ, ◌*◌, ◌/◌, leb, length, drop}
+use Rattle.std.proofs.Math.Option.{Option, none, some}
 use Rattle.scope.specs.Base.{pick}
 use Rattle.scope.specs.Names.{Name, name}
 use Rattle.scope.specs.Refusals.{SHORT}
@@ -37,23 +38,19 @@ unfoldable pub chart_words : List Record → List ℕ
 chart_words [] = []
 chart_words (r ∷ rs) = numbers r ++ chart_words rs
 
--- the list ws with the words of the first n records at its front
-abbrev pub loaded_to : List ℕ → List Record → ℕ → List ℕ
-loaded_to ws rs n = chart_words (take n rs) ++ drop (n * RECORD_WORDS) ws
+-- the list ws with the words of all records at its front
+abbrev pub loaded : List ℕ → List Record → List ℕ
+loaded ws rs = chart_words rs ++ drop (length rs * RECORD_WORDS) ws
 
 -- n records have room in so many words
 abbrev pub fits : ℕ → ℕ → Bool
 fits n room = leb n (room / RECORD_WORDS)
 
--- all or none of them
-abbrev pub fitting : ℕ → ℕ → ℕ
-fitting n room = pick (fits n room) n 0
+-- "the answer's buffer is too short" where they have none
+abbrev pub short_by : ℕ → ℕ → Option ℕ
+short_by n room = pick (fits n room) none (some SHORT)
 
--- 0, or "the answer's buffer is too short"
-abbrev pub short_by : ℕ → ℕ → ℕ
-short_by n room = pick (fits n room) 0 SHORT
-
--- the list was ws and is now ws', and n is the refusal's number, 0 where none stands
-pub record LoadPromised (rs : List Record) (ws ws' : List ℕ) (n : ℕ) : Type 0 where
-  pub code : n ≡ short_by (length rs) (length ws)
-  pub words : ws' ≡ pick (fits (length rs) (length ws)) (chart_words rs ++ drop (length rs * RECORD_WORDS) ws) ws
+-- the list was ws and is now ws', and o is the refusal that is told, if one stands
+pub record LoadPromised (rs : List Record) (ws ws' : List ℕ) (o : Option ℕ) : Type 0 where
+  pub code : o ≡ short_by (length rs) (length ws)
+  pub words : ws' ≡ pick (fits (length rs) (length ws)) (loaded ws rs) ws

@@ -4,10 +4,11 @@
 ghost use Rattle.std.specs.Prelude.{◌≡◌, ◌+◌, ◌*◌, ◌≤◌, ◌<◌, length, get_or};
 ghost use Rattle.std.proofs.lemmas.List.Edits.{sets};
 ghost use Rattle.chart.specs.Words.{«RECORD_WORDS»};
-ghost use Rattle.records.specs.Loaded.{no_record, numbers, loaded_to, fitting, short_by, LoadPromised};
+ghost use Rattle.refusals.specs.Codes.{told};
+ghost use Rattle.records.specs.Loaded.{no_record, numbers, loaded, LoadPromised};
 
 use chart::RECORD_WORDS;
-use refusals::{NO_REFUSAL, SHORT};
+use refusals::Refusal;
 
 // "A name is a part of the rule text or of the chart text": 0 or 1, where it begins, and its length.
 #[repr(C)]
@@ -52,67 +53,37 @@ fn put_record(words: &mut [u32], at: usize, r: Record)
     requires { at + «RECORD_WORDS» ≤ length words.old }
     ensures { words.new ≡ sets words.old at (numbers r) }
 {
-    let end = at + RECORD_WORDS;
-    let s = &mut words[at..end];
-    s[0] = r.sort;
-    s[1] = r.name.text;
-    s[2] = r.name.start;
-    s[3] = r.name.len;
-    s[4] = r.path.text;
-    s[5] = r.path.start;
-    s[6] = r.path.len;
-    s[7] = r.def;
-    s[8] = r.dual;
-    s[9] = r.trait_number;
+    words[at..at + RECORD_WORDS].copy_from_slice(&[
+        r.sort,
+        r.name.text,
+        r.name.start,
+        r.name.len,
+        r.path.text,
+        r.path.start,
+        r.path.len,
+        r.def,
+        r.dual,
+        r.trait_number,
+    ]);
 }
 
-// Writes record i's words.
-fn copy_record(records: &[Record], i: usize, words: &mut [u32], at: usize)
-    requires { (i < length records.now) × (at + «RECORD_WORDS» ≤ length words.old) }
-    ensures { words.new ≡ sets words.old at (numbers (get_or records.now i no_record)) }
+// Writes the words of all records, which have room.
+fn copy_all(records: &[Record], words: &mut [u32])
+    requires { length records.now * «RECORD_WORDS» ≤ length words.old }
+    ensures { words.new ≡ loaded words.old records.now }
 {
-    let r = record_at(records, i);
-    put_record(words, at, r)
-}
-
-// Writes the words of the first n records.
-fn copy_first(records: &[Record], words: &mut [u32], n: usize)
-    requires { (n ≤ length records.now) × (n * «RECORD_WORDS» ≤ length words.old) }
-    ensures { words.new ≡ loaded_to words.old records.now n }
-{
-    let mut i: usize = 0;
-    while i < n {
-        copy_record(records, i, words, i * RECORD_WORDS);
-        i += 1;
+    for i in 0..records.len() {
+        put_record(words, i * RECORD_WORDS, records[i]);
     }
-}
-
-// How many of n records are written into so many words: all or none.
-fn fitting(n: usize, room: usize) -> usize
-    ensures { result ≡ fitting n room }
-{
-    if n <= room / RECORD_WORDS {
-        return n;
-    }
-    0
-}
-
-// 7 where n records do not fit into so many words, and else 0.
-fn short_by(n: usize, room: usize) -> u32
-    ensures { result ≡ short_by n room }
-{
-    if n <= room / RECORD_WORDS {
-        return NO_REFUSAL;
-    }
-    SHORT
 }
 
 // Writes the words of all records, at the front. "7. the answer's buffer is too short"; words past them are as found, and on 7 all are.
-pub fn load(records: &[Record], words: &mut [u32]) -> u32
-    ensures { LoadPromised records.now words.old words.new result }
+pub fn load(records: &[Record], words: &mut [u32]) -> Result<(), Refusal>
+    ensures { LoadPromised records.now words.old words.new (told result) }
 {
-    let n = fitting(records.len(), words.len());
-    let code = short_by(records.len(), words.len());
-    copy_first(records, words, n);
-    code
+    if words.len() / RECORD_WORDS < records.len() {
+        return Err(Refusal::Short);
+    }
+    copy_all(records, words);
+    Ok(())
 }

@@ -1,31 +1,32 @@
--- Listed types among n nodes, tested one after the other: those from place i on pass just where all do, whatever the n nodes are.
+-- Listed types and lent entries among some nodes: a test of each word, and of each place, is the test of the types there.
 -- Assumes nothing.
 use mathlib.Core.Path.{◌≡◌, refl, ap, sym, ◌∙◌}
-use mathlib.Core.Bool.{Bool, true, false, not}
-use mathlib.Core.List.{List}
-use Prim.Native.Nat.{ℕ, ◌+◌, ◌≤◌, ◌<◌}
-use lib.ListN.{length, get_or, drop}
-use Rattle.scope.specs.Base.{all}
-use Rattle.scope.specs.Types.{Ty, ty_of}
+use mathlib.Core.Bool.{Bool, ◌&&◌}
+use mathlib.Core.List.{List, map}
+use Prim.Native.Nat.{ℕ, zero, suc, ◌+◌}
+use native.Mathlib.Omega.{arith}
+use Rattle.std.specs.List.{list_all, range_with_len}
+use Rattle.scope.specs.Base.{all, from}
+use Rattle.scope.specs.Types.{ty_of}
 use Rattle.scope.specs.Nodes.{Node}
-use Rattle.scope.specs.Sound.{in_store}
-use Rattle.names.proofs.Tests.{passes, fails, all_step, all_fails, all_end}
+use Rattle.scope.specs.Sound.{in_store, Slot}
+use Rattle.layout.specs.Words.{slots, slot_at}
+use Rattle.layout.proofs.Lists.{all_map, all_list, all_range}
+use Rattle.store.specs.Entries.{types_in}
 
--- of any n nodes
-abbrev pub Among : ℕ → (List Node → Type 0) → Type 0
-Among n f = (ns : List Node) → length ns ≡ n → f ns
+-- a test of the numbers from a on, each i more
+all_shift : (p : ℕ → Bool) (i a n : ℕ) → all (λ j. p (i + j)) (from a n) ≡ all p (from (i + a) n)
+all_shift p i a zero = refl
+all_shift p i a (suc n) = let q : i + suc a ≡ suc (i + a) = omega arith in ap (λ (b : Bool). p (i + a) && b) (rw q at (all_shift p i (suc a) n))
 
--- the types from place i on pass just where all do
-abbrev pub Left : ℕ → List Ty → ℕ → Type 0
-Left n ts i = Among n (λ ns. all (in_store ns) (drop i ts) ≡ all (in_store ns) ts)
+module _ (ns : List Node) where
+  pub all_types : (ts : List ℕ) → list_all (λ w. in_store ns (ty_of w)) ts ≡ all (in_store ns) (types_in ts)
+  all_types ts = all_list _ ts ∙ sym (all_map (in_store ns) ty_of ts)
 
-module _ {n : ℕ} (ts : List Ty) (i : ℕ) (o : Left n ts i) where
-  module _ {r : Bool} (l : i < length ts) {t : Ty} (e : get_or ts i (ty_of 0) ≡ t) (q : Among n (λ ns. r ≡ in_store ns t)) where
-    pub inside_stop : not r ≡ true → Among n (λ ns. false ≡ all (in_store ns) ts)
-    inside_stop f = λ ns m. sym (all_fails (in_store ns) ts (ty_of 0) i l (ap (in_store ns) e ∙ fails (q ns m) f)) ∙ o ns m
-
-    pub inside_next : not r ≡ false → Left n ts (i + 1)
-    inside_next f = λ ns m. sym (all_step (in_store ns) ts (ty_of 0) i l (ap (in_store ns) e ∙ passes (q ns m) f)) ∙ o ns m
-
-  pub inside_end : length ts ≤ i → Among n (λ ns. true ≡ all (in_store ns) ts)
-  inside_end l = λ ns m. sym (all_end (in_store ns) ts (ty_of 0) i l) ∙ o ns m
+  -- n children from i on
+  pub all_slots : (ks : List ℕ) (i n : ℕ) → list_all (λ j. in_store ns (ty_of (slot_at ks (i + j)).type)) (range_with_len 0 n) ≡ all (in_store ns) (map (λ (s : Slot). ty_of s.type) (slots ks i n))
+  all_slots ks i n =
+      all_range _ 0 n
+      ∙ (all_shift (λ (j : ℕ). in_store ns (ty_of (slot_at ks j).type)) i 0 n
+      ∙ (let z : i + 0 ≡ i = omega arith in rw z (sym (all_map (λ (s : Slot). in_store ns (ty_of s.type)) (slot_at ks) (from i n)))
+      ∙ sym (all_map (in_store ns) (λ (s : Slot). ty_of s.type) (slots ks i n))))

@@ -1,5 +1,5 @@
--- The first test that is broken: tests in a row give what their first part gives, or what the rest gives where the first part passes. So a code that a
--- function gives for a part of a call's tests is the call's, and it makes the call's outcome.
+-- The first test that is broken: tests in a row give what their first part gives, or what the rest gives where the first part passes. So a refusal that a
+-- function tells of a part of a call's tests is the call's, and it makes the call's outcome.
 -- Assumes nothing.
 use mathlib.Core.Path.{◌≡◌, refl, ap, sym, ◌∙◌}
 use mathlib.Core.Bool.{Bool, true, false}
@@ -7,18 +7,9 @@ use mathlib.Core.List.{List, [], ◌∷◌, ◌++◌}
 use mathlib.Core.Option.{Option, none, some}
 use Prim.Native.Nat.{ℕ}
 use native.Mathlib.Omega.{arith}
-use borrow.Author.Tests.{eq-eqb, ne_eqb}
+use Rattle.std.specs.Prelude.{Result, Ok, Err, IsErrAnd}
 use Rattle.scope.specs.Base.{pick}
 use Rattle.scope.specs.Calls.{Outcome, refused, or_refused, judged, first_broken}
-use Rattle.refusals.specs.Codes.{code_of}
-
--- a refusal's number as an option
-
-pub code_none : (n : ℕ) → n ≡ 0 → code_of n ≡ none
-code_none n z = rw (eq-eqb n 0 z)
-
-pub code_some : (n : ℕ) → (n ≡ 0 → ⊥) → code_of n ≡ some n
-code_some n z = rw (ne_eqb n 0 z)
 
 pub none_some : {A : Type 0} (n : ℕ) → ◌≡◌ {A = Option ℕ} (some n) none → A
 none_some n q = let z : ◌≡◌ {A = ℕ} 0 1 = cc in absurd (omega arith)
@@ -62,20 +53,15 @@ test_passed b n ts q = next_step b n (first_broken ts) (λ f r. f) q
 pub tests_passed : (b : Bool) (n : ℕ) (ts : List (Bool × ℕ)) → first_broken ((b, n) ∷ ts) ≡ none → first_broken ts ≡ none
 tests_passed b n ts q = next_step b n (first_broken ts) (λ f r. r) q
 
--- a code that a part of the tests gives
+-- what the tests make of a call
 
-module _ (ts us : List (Bool × ℕ)) (n : ℕ) (q : first_broken ts ≡ code_of n) where
-  pub code_first : (n ≡ 0 → ⊥) → first_broken (ts ++ us) ≡ code_of n
-  code_first z = let m = code_some n z in broken_first ts us n (q ∙ m) ∙ sym m
+pub judged_refused : {A : Type 0} (ts : List (Bool × ℕ)) (o : Outcome A) (n : ℕ) → first_broken ts ≡ some n → judged ts o ≡ refused n
+judged_refused ts o n q = ap (λ (x : Option ℕ). or_refused x o) q
 
-  pub code_next : n ≡ 0 → first_broken (ts ++ us) ≡ first_broken us
-  code_next z = broken_next ts us (q ∙ code_none n z)
+pub judged_done : {A : Type 0} (ts : List (Bool × ℕ)) (o : Outcome A) → first_broken ts ≡ none → judged ts o ≡ o
+judged_done ts o q = ap (λ (x : Option ℕ). or_refused x o) q
 
--- what a code makes of a call
-
-module _ {A : Type 0} (ts : List (Bool × ℕ)) (o : Outcome A) (n : ℕ) (q : first_broken ts ≡ code_of n) where
-  pub judged_refused : (n ≡ 0 → ⊥) → judged ts o ≡ refused n
-  judged_refused z = ap (λ (x : Option ℕ). or_refused x o) (q ∙ code_some n z)
-
-  pub judged_done : n ≡ 0 → judged ts o ≡ o
-  judged_done z = ap (λ (x : Option ℕ). or_refused x o) (q ∙ code_none n z)
+-- an error that `?` hands on is the error that it met
+pub err_told : {A B : Type 0} (r : Result A B) {e : B} → IsErrAnd r (λ x. x ≡ e) → r ≡ Err e
+err_told (Ok a) q = absurd q
+err_told (Err x) q = ap Err q

@@ -15,9 +15,8 @@ use Rattle.names.proofs.Tests.{both}
 use Rattle.layout.specs.Words.{HEAD_WORDS, node_words, child_words}
 use Rattle.store.specs.Holds.{Openable}
 use Rattle.scope.specs.Refusals.{UNOPENABLE}
-use Rattle.refusals.specs.Codes.{code_of}
 use Rattle.refusals.specs.Opening.{enough}
-use Rattle.refusals.proofs.Laws.{code_none, test_passed}
+use Rattle.refusals.proofs.Laws.{test_passed}
 
 -- refusal 1
 
@@ -53,12 +52,12 @@ module _ (n c : ℕ) (h ws ks : List ℕ) where
 
   -- what the test gives
 
-  module _ (r : ℕ) (q : first_broken (open_test n c (enough n c h ws ks) ∷ []) ≡ code_of r) where
-    pub openable : r ≡ 0 → Openable n c h ws ks
+  module _ (q : first_broken (open_test n c (enough n c h ws ks) ∷ []) ≡ none) where
+    pub openable : Openable n c h ws ks
     unfolding enough
-    openable z =
+    openable =
         let t : Bool × ℕ = open_test n c (enough n c h ws ks) in
-        let p = or_no (ltb MAX_NODES n) (ltb MAX_CHILDREN c || not (enough n c h ws ks)) (test_passed t.0 UNOPENABLE [] (q ∙ code_none r z)) in
+        let p = or_no (ltb MAX_NODES n) (ltb MAX_CHILDREN c || not (enough n c h ws ks)) (test_passed t.0 UNOPENABLE [] q) in
         let o = or_no (ltb MAX_CHILDREN c) (not (enough n c h ws ks)) p.1 in
         let a : Bool = leb (node_words n) (length ws) in
         let b : Bool = leb (child_words c) (length ks) in

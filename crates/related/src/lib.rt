@@ -68,6 +68,7 @@ fn mark_below(
     };
     let mut s = kind.first as usize;
     let end = s + kind.count as usize;
+    // Kept (3): as a `for` it is no plainer: a turn goes on behind as many slots as the skips tell, so places are no counter.
     while s < end {
         let far = skips::pass(skip, s);
         if 0 < far {

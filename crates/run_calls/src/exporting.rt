@@ -1,14 +1,11 @@
-// An export out of the store in hand into words of its own, whatever they held.
+// An export out of the store in hand into words of its own, whatever they held: nodes, children, room for answers, words lent of each slice, then types.
 use crate::{HEAD, KIDS, NODES, asking};
-use chart::Beside;
-use promise::DoneAnswer;
+use chart::Env;
 use run_text::numbers::{after, upto, word};
 use run_text::writing;
 use scope::MAX_LIST;
 use std::io;
 use std::io::Write;
-
-pub(crate) const EXPORT: u32 = 61; // nodes, children, room for answers, words lent of each slice, then types
 
 // One more than a list may have.
 const ROOM: usize = MAX_LIST + 1;
@@ -17,12 +14,9 @@ const ROOM: usize = MAX_LIST + 1;
 const USED: u32 = 3_735_928_559;
 
 // The types, and every node of the fresh store.
-fn export_into<'a, W: Write>(
+fn export_into<W: Write>(
     to: &mut W,
-    chart: &[u32],
-    beside: Beside,
-    rule: &'a [u8],
-    text: &'a [u8],
+    env: &Env<'_>,
     h: &[u32],
     ws: &[u32],
     ks: &[u32],
@@ -35,23 +29,18 @@ fn export_into<'a, W: Write>(
     let ts = after(a, 6);
     let nodes = word(a, 0);
     let children = word(a, 1);
-    let r = call_copy::export(
-        chart, beside, rule, text, h, ws, ks, eh, ew, ek, nodes, children, ts, out,
-    );
+    let r = call_copy::export(env, h, ws, ks, eh, ew, ek, nodes, children, ts, out);
     writing::listed(to, r, out, ts.len())?;
     match r {
-        DoneAnswer::Done => asking::store(to, chart, beside, rule, text, eh, ew, ek),
-        DoneAnswer::Refused(_) => Ok(()),
+        Ok(()) => asking::store(to, env, eh, ew, ek),
+        Err(_) => Ok(()),
     }
 }
 
 // Into as many of the words as the list says.
-fn export_lent<'a, W: Write>(
+fn export_lent<W: Write>(
     to: &mut W,
-    chart: &[u32],
-    beside: Beside,
-    rule: &'a [u8],
-    text: &'a [u8],
+    env: &Env<'_>,
     h: &[u32],
     ws: &[u32],
     ks: &[u32],
@@ -67,10 +56,7 @@ fn export_lent<'a, W: Write>(
     let z = upto(ek, word(a, 5) as usize);
     export_into(
         to,
-        chart,
-        beside,
-        rule,
-        text,
+        env,
         h,
         ws,
         ks,
@@ -82,12 +68,9 @@ fn export_lent<'a, W: Write>(
     )
 }
 
-pub(crate) fn export<'a, W: Write>(
+pub(crate) fn export<W: Write>(
     to: &mut W,
-    chart: &[u32],
-    beside: Beside,
-    rule: &'a [u8],
-    text: &'a [u8],
+    env: &Env<'_>,
     h: &[u32],
     ws: &[u32],
     ks: &[u32],
@@ -97,7 +80,5 @@ pub(crate) fn export<'a, W: Write>(
     let mut ew = [USED; NODES];
     let mut ek = [USED; KIDS];
     let mut out = [0u32; ROOM];
-    export_lent(
-        to, chart, beside, rule, text, h, ws, ks, &mut eh, &mut ew, &mut ek, a, &mut out,
-    )
+    export_lent(to, env, h, ws, ks, &mut eh, &mut ew, &mut ek, a, &mut out)
 }

@@ -1,54 +1,42 @@
 // Forcing and finishing.
-use chart::Beside;
-use promise::DoneAnswer;
-use run_text::numbers::word;
-use run_text::{numbers, writing};
+use call_force::{finish_inference, finish_inference_where, force_kind};
+use chart::Env;
+use run_text::numbers::{to_bytes, word};
+use run_text::writing;
 use scope::MAX_NODES;
 use std::io;
 use std::io::Write;
 use types::Type;
 
-pub(crate) const FORCE_KIND: u32 = 19; // type
-
-const FINISH: u32 = 20;
-
-const FINISH_WHERE: u32 = 21; // a byte for each node
-
-// Whether a number is one of the last two.
-pub(crate) fn finishes(op: u32) -> bool {
-    op == FINISH || op == FINISH_WHERE
+#[derive(Clone, Copy)]
+pub(crate) enum Forcing {
+    // A type.
+    ForceKind,
+    Finish,
+    // A byte for each node.
+    FinishWhere,
 }
 
-pub(crate) fn force<'a, W: Write>(
+pub(crate) fn call<W: Write>(
     to: &mut W,
-    chart: &[u32],
-    beside: Beside,
-    rule: &'a [u8],
-    text: &'a [u8],
+    c: Forcing,
+    env: &Env<'_>,
     h: &mut [u32],
     ws: &mut [u32],
     ks: &[u32],
     a: &[u32],
 ) -> io::Result<()> {
-    let r = call_force::force_kind(chart, beside, rule, text, h, ws, ks, Type(word(a, 0)));
-    writing::forced_answer(to, r, ks, rule, text)
-}
-
-pub(crate) fn finish<'a>(
-    op: u32,
-    chart: &[u32],
-    beside: Beside,
-    rule: &'a [u8],
-    text: &'a [u8],
-    h: &[u32],
-    ws: &mut [u32],
-    ks: &[u32],
-    a: &[u32],
-) -> DoneAnswer {
-    let mut bytes = [0u8; MAX_NODES];
-    let n = numbers::to_bytes(a, &mut bytes);
-    match op {
-        FINISH => call_force::finish_inference(chart, beside, rule, text, h, ws, ks),
-        _ => call_force::finish_inference_where(chart, beside, rule, text, h, ws, ks, &bytes[..n]),
+    match c {
+        Forcing::ForceKind => {
+            let r = force_kind(env, h, ws, ks, Type(word(a, 0)));
+            writing::forced_answer(to, r, ks, env)
+        }
+        Forcing::Finish => writing::done(to, finish_inference(env, h, ws, ks)),
+        Forcing::FinishWhere => {
+            let mut bytes = [0u8; MAX_NODES];
+            let n = to_bytes(a, &mut bytes);
+            let r = finish_inference_where(env, h, ws, ks, &bytes[..n]);
+            writing::done(to, r)
+        }
     }
 }

@@ -1,22 +1,17 @@
-// An import into the store in hand out of the other one.
-use chart::Beside;
+// An import into the store in hand out of the other one: room for answers, 1 with a parameter list, how many types, these, then the entries.
+use chart::Env;
 use run_text::numbers::{after, first, upto, word};
 use run_text::writing;
 use scope::MAX_LIST;
 use std::io;
 use std::io::Write;
 
-pub(crate) const IMPORT: u32 = 60; // room for answers, 1 with a parameter list, how many types, these, then the entries
-
 // One more than a list may have.
 const ROOM: usize = MAX_LIST + 1;
 
-fn import_into<'a, W: Write>(
+fn import_into<W: Write>(
     to: &mut W,
-    chart: &[u32],
-    beside: Beside,
-    rule: &'a [u8],
-    text: &'a [u8],
+    env: &Env<'_>,
     h: &mut [u32],
     ws: &mut [u32],
     ks: &mut [u32],
@@ -28,33 +23,19 @@ fn import_into<'a, W: Write>(
 ) -> io::Result<()> {
     let given = after(a, 3);
     let ts = first(given, word(a, 2) as usize);
-    let params = after(given, ts.len());
-    let r = call_copy::import(
-        chart,
-        beside,
-        rule,
-        text,
-        h,
-        ws,
-        ks,
-        sh,
-        sw,
-        sk,
-        ts,
-        word(a, 1) != 0,
-        params,
-        out,
-    );
+    let params = if word(a, 1) != 0 {
+        Some(after(given, ts.len()))
+    } else {
+        None
+    };
+    let r = call_copy::import(env, h, ws, ks, sh, sw, sk, ts, params, out);
     writing::listed(to, r, out, ts.len())
 }
 
 // Out of the words sh, sw, sk.
-pub(crate) fn import<'a, W: Write>(
+pub(crate) fn import<W: Write>(
     to: &mut W,
-    chart: &[u32],
-    beside: Beside,
-    rule: &'a [u8],
-    text: &'a [u8],
+    env: &Env<'_>,
     h: &mut [u32],
     ws: &mut [u32],
     ks: &mut [u32],
@@ -65,19 +46,5 @@ pub(crate) fn import<'a, W: Write>(
 ) -> io::Result<()> {
     let mut out = [0u32; ROOM];
     let room = upto(&out, word(a, 0) as usize);
-    import_into(
-        to,
-        chart,
-        beside,
-        rule,
-        text,
-        h,
-        ws,
-        ks,
-        sh,
-        sw,
-        sk,
-        a,
-        &mut out[..room],
-    )
+    import_into(to, env, h, ws, ks, sh, sw, sk, a, &mut out[..room])
 }

@@ -1,29 +1,30 @@
 // find_mut, unify and its family.
-use call_unify::UnifyAnswer;
-use chart::Beside;
+use call_impl::{approx_eq, unify_impl_type};
+use call_unify_lists::{unify_fn_sig, unify_objects, unify_types};
+use chart::Env;
+use refusals::Refusal;
 use run_text::numbers::{after, first, word};
 use run_text::writing;
 use std::io;
 use std::io::Write;
-use types::{Impl, Inverted, Type};
+use types::{Impl, Inverted, Type, UnifyResult};
 
-const FIND_MUT: u32 = 31; // type
-
-const UNIFY: u32 = 50; // two types
-
-const UNIFY_TYPES: u32 = 51; // inversion, how many types the first list has, both lists
-
-const UNIFY_OBJECTS: u32 = 52; // inversion, how many numbers the first object has, both objects: four numbers for each child
-
-const UNIFY_FN_SIG: u32 = 53; // the returns, how many parameters the first has, both lists
-
-const UNIFY_IMPL_TYPE: u32 = 54; // 1 for an error and the trait's number, twice; how many types the first has, both lists
-
-const APPROX_EQ: u32 = 55; // the same
-
-// Whether a number is one of these.
-pub(crate) fn is(op: u32) -> bool {
-    op == FIND_MUT || UNIFY <= op && op <= APPROX_EQ
+#[derive(Clone, Copy)]
+pub(crate) enum Joining {
+    // A type.
+    FindMut,
+    // Two types.
+    Unify,
+    // Inversion, how many types the first list has, both lists.
+    UnifyTypes,
+    // Inversion, how many numbers the first object has, both objects: four numbers for each child.
+    UnifyObjects,
+    // The returns, how many parameters the first has, both lists.
+    UnifyFnSig,
+    // 1 for an error and the trait's number, twice; how many types the first has, both lists.
+    UnifyImplType,
+    // The same.
+    ApproxEq,
 }
 
 fn impl_of(error: u32, number: u32) -> Impl {
@@ -33,54 +34,45 @@ fn impl_of(error: u32, number: u32) -> Impl {
     Impl::Trait(number)
 }
 
-fn lists<'a>(
-    op: u32,
-    chart: &[u32],
-    beside: Beside,
-    rule: &'a [u8],
-    text: &'a [u8],
+fn lists(
+    of_objects: bool,
+    env: &Env<'_>,
     h: &[u32],
     ws: &mut [u32],
     ks: &[u32],
     a: &[u32],
-) -> UnifyAnswer {
+) -> Result<UnifyResult, Refusal> {
     let inv = Inverted(word(a, 0) != 0);
     let n = word(a, 1) as usize;
     let both = after(a, 2);
     let xs = first(both, n);
     let ys = after(both, n);
-    if op == UNIFY_TYPES {
-        return call_unify_lists::unify_types(chart, beside, rule, text, h, ws, ks, xs, ys, inv);
+    if of_objects {
+        return unify_objects(env, h, ws, ks, xs, ys, inv);
     }
-    call_unify_lists::unify_objects(chart, beside, rule, text, h, ws, ks, xs, ys, inv)
+    unify_types(env, h, ws, ks, xs, ys, inv)
 }
 
-fn signatures<'a>(
-    chart: &[u32],
-    beside: Beside,
-    rule: &'a [u8],
-    text: &'a [u8],
+fn signatures(
+    env: &Env<'_>,
     h: &[u32],
     ws: &mut [u32],
     ks: &[u32],
     a: &[u32],
-) -> UnifyAnswer {
+) -> Result<UnifyResult, Refusal> {
     let n = word(a, 2) as usize;
     let both = after(a, 3);
     let xs = first(both, n);
     let ys = after(both, n);
     let x = Type(word(a, 0));
     let y = Type(word(a, 1));
-    call_unify_lists::unify_fn_sig(chart, beside, rule, text, h, ws, ks, xs, x, ys, y)
+    unify_fn_sig(env, h, ws, ks, xs, x, ys, y)
 }
 
-fn impls<'a, W: Write>(
+fn impls<W: Write>(
     to: &mut W,
-    op: u32,
-    chart: &[u32],
-    beside: Beside,
-    rule: &'a [u8],
-    text: &'a [u8],
+    approximate: bool,
+    env: &Env<'_>,
     h: &[u32],
     ws: &mut [u32],
     ks: &[u32],
@@ -92,57 +84,32 @@ fn impls<'a, W: Write>(
     let both = after(a, 5);
     let xs = first(both, n);
     let ys = after(both, n);
-    if op == UNIFY_IMPL_TYPE {
-        let r = call_impl::unify_impl_type(chart, beside, rule, text, h, ws, ks, p, xs, q, ys);
-        return writing::unify_answer(to, r);
+    if approximate {
+        return writing::bool_answer(to, approx_eq(env, h, ws, ks, p, xs, q, ys));
     }
-    let r = call_impl::approx_eq(chart, beside, rule, text, h, ws, ks, p, xs, q, ys);
-    writing::bool_answer(to, r)
+    writing::unify_answer(to, unify_impl_type(env, h, ws, ks, p, xs, q, ys))
 }
 
-fn pair<'a>(
-    chart: &[u32],
-    beside: Beside,
-    rule: &'a [u8],
-    text: &'a [u8],
-    h: &[u32],
-    ws: &mut [u32],
-    ks: &[u32],
-    a: &[u32],
-) -> UnifyAnswer {
-    let x = Type(word(a, 0));
-    let y = Type(word(a, 1));
-    call_unify::unify(chart, beside, rule, text, h, ws, ks, x, y)
-}
-
-pub(crate) fn call<'a, W: Write>(
+pub(crate) fn call<W: Write>(
     to: &mut W,
-    op: u32,
-    chart: &[u32],
-    beside: Beside,
-    rule: &'a [u8],
-    text: &'a [u8],
+    c: Joining,
+    env: &Env<'_>,
     h: &[u32],
     ws: &mut [u32],
     ks: &[u32],
     a: &[u32],
 ) -> io::Result<()> {
-    if op == FIND_MUT {
-        let t = Type(word(a, 0));
-        let r = call_find::find_mut(chart, beside, rule, text, h, ws, ks, t);
-        return writing::type_answer(to, r);
+    let t = Type(word(a, 0));
+    match c {
+        Joining::FindMut => writing::type_answer(to, call_find::find_mut(env, h, ws, ks, t)),
+        Joining::Unify => {
+            let r = call_unify::unify(env, h, ws, ks, t, Type(word(a, 1)));
+            writing::unify_answer(to, r)
+        }
+        Joining::UnifyTypes => writing::unify_answer(to, lists(false, env, h, ws, ks, a)),
+        Joining::UnifyObjects => writing::unify_answer(to, lists(true, env, h, ws, ks, a)),
+        Joining::UnifyFnSig => writing::unify_answer(to, signatures(env, h, ws, ks, a)),
+        Joining::UnifyImplType => impls(to, false, env, h, ws, ks, a),
+        Joining::ApproxEq => impls(to, true, env, h, ws, ks, a),
     }
-    if op == UNIFY {
-        let r = pair(chart, beside, rule, text, h, ws, ks, a);
-        return writing::unify_answer(to, r);
-    }
-    if op <= UNIFY_OBJECTS {
-        let r = lists(op, chart, beside, rule, text, h, ws, ks, a);
-        return writing::unify_answer(to, r);
-    }
-    if op == UNIFY_FN_SIG {
-        let r = signatures(chart, beside, rule, text, h, ws, ks, a);
-        return writing::unify_answer(to, r);
-    }
-    impls(to, op, chart, beside, rule, text, h, ws, ks, a)
 }

@@ -1,20 +1,19 @@
 // What is lent to the calls: a chart and texts, by where they stand among the list's numbers, and how many words of two stores and of the names buffer.
-use chart::Beside;
+use chart::{Beside, Env};
+use names::Texts;
 use run_text::numbers::{after, first, word};
 
-const RULE: u32 = 0;
-
-const TEXT: u32 = 1;
-
-const CHART: u32 = 2;
-
-const BESIDE: u32 = 3;
-
-// Words of each slice of the store in hand, then of the names buffer.
-pub(crate) const LEND: u32 = 4;
-
-// The other store in hand.
-pub(crate) const SWAP: u32 = 9;
+#[derive(Clone, Copy)]
+pub(crate) enum Lending {
+    Rule,
+    Text,
+    Chart,
+    Beside,
+    // Words of each slice of the store in hand, then of the names buffer.
+    Sizes,
+    // The other store in hand.
+    Swap,
+}
 
 // A part of the list's numbers.
 #[derive(Clone, Copy)]
@@ -76,16 +75,21 @@ pub(crate) fn part(s: &[u32], p: Place) -> &[u32] {
     first(after(s, p.at), p.len)
 }
 
-fn sigils_of(a: &[u32]) -> [u32; 12] {
-    let mut s = [0u32; 12];
-    for i in 0..12 {
-        s[i] = word(a, i);
+// The chart that is lent, and the texts' bytes.
+pub(crate) fn env_of<'a>(l: Lent, s: &'a [u32], rule: &'a [u8], text: &'a [u8]) -> Env<'a> {
+    let texts = Texts { rule, chart: text };
+    Env {
+        chart: part(s, l.chart),
+        beside: l.beside,
+        texts,
     }
-    s
 }
 
 fn beside_of(a: &[u32]) -> Beside {
-    let sigils = sigils_of(after(a, 1));
+    let mut sigils = [0u32; 12];
+    for (w, &v) in sigils.iter_mut().zip(after(a, 1)) {
+        *w = v;
+    }
     Beside {
         fn_trait: word(a, 0),
         sigils,
@@ -102,31 +106,24 @@ fn sizes_of(a: &[u32]) -> Sizes {
 }
 
 // What is lent from now on; `at` is where the call's numbers a stand.
-pub(crate) fn lend(op: u32, l: Lent, at: usize, a: &[u32]) -> Lent {
-    let mut m = l;
-    let p = Place { at, len: a.len() };
-    if op == RULE {
-        m.rule = p;
+pub(crate) fn lend(c: Lending, l: Lent, at: usize, a: &[u32]) -> Lent {
+    let place = Place { at, len: a.len() };
+    match c {
+        Lending::Rule => Lent { rule: place, ..l },
+        Lending::Text => Lent { text: place, ..l },
+        Lending::Chart => Lent { chart: place, ..l },
+        Lending::Beside => Lent {
+            beside: beside_of(a),
+            ..l
+        },
+        Lending::Sizes => Lent {
+            here: sizes_of(a),
+            ..l
+        },
+        Lending::Swap => Lent {
+            here: l.there,
+            there: l.here,
+            ..l
+        },
     }
-    if op == TEXT {
-        m.text = p;
-    }
-    if op == CHART {
-        m.chart = p;
-    }
-    if op == BESIDE {
-        let beside = beside_of(a);
-        m.beside = beside;
-    }
-    if op == LEND {
-        let here = sizes_of(a);
-        m.here = here;
-    }
-    if op == SWAP {
-        let here = l.here;
-        let there = l.there;
-        m.here = there;
-        m.there = here;
-    }
-    m
 }

@@ -5,6 +5,7 @@
 ghost use Rattle.std.specs.Prelude.{◌<◌, ◌≤◌, length, IfOk};
 
 mod asking; // what a store, a node or a type tells
+mod calls; // the calls by their numbers
 mod exporting; // export
 mod forcing; // forcing and finishing
 mod importing; // import
@@ -14,20 +15,15 @@ mod making; // open and the makers
 mod naming; // named states, and reset
 mod printing; // show and show_impl_type
 
-use crate::lending::{LEND, Lent, SWAP, lend, nothing_lent, part};
-use chart::Beside;
+use crate::calls::Call;
+use crate::lending::{Lending, Lent, env_of, lend, nothing_lent, part};
+use chart::Env;
 use layout::{CHILD_WORDS, HEAD_WORDS, NODE_WORDS};
 use run_text::numbers::{after, first, numbers, set, to_bytes, upto, word};
 use run_text::writing;
 use scope::{MAX_CHILDREN, MAX_NODES};
 use std::io;
 use std::io::{Read, Write};
-
-const POKE: u32 = 5; // slice 0 to 2, or 3 for the names buffer, word, what it becomes
-
-const CASE: u32 = 7;
-
-const WORDS: u32 = 8;
 
 // More words than the largest store needs, so that some are left over.
 pub(crate) const HEAD: usize = HEAD_WORDS + 2;
@@ -72,88 +68,11 @@ fn words<W: Write>(to: &mut W, h: &[u32], ws: &[u32], ks: &[u32]) -> io::Result<
     writing::words(to, ks)
 }
 
-// The calls that write no word of a store.
-fn reading<'a, W: Write>(
+// A call on what is lent; sh, sw, sk are the other store's words, bs those of the names buffer.
+fn call<W: Write>(
     to: &mut W,
-    op: u32,
-    chart: &[u32],
-    beside: Beside,
-    rule: &'a [u8],
-    text: &'a [u8],
-    h: &[u32],
-    ws: &[u32],
-    ks: &[u32],
-    a: &[u32],
-) -> io::Result<()> {
-    match op {
-        WORDS => words(to, h, ws, ks),
-        CASE => writing::case(to, word(a, 0)),
-        exporting::EXPORT => exporting::export(to, chart, beside, rule, text, h, ws, ks, a),
-        asking::FIND..=asking::STORE => {
-            asking::call(to, op, chart, beside, rule, text, h, ws, ks, a)
-        }
-        printing::SHOW..=printing::SHOW_IMPL_TYPE_PART => {
-            printing::call(to, op, chart, beside, rule, text, h, ws, ks, a)
-        }
-        _ => Ok(()),
-    }
-}
-
-// And those that write nodes alone.
-fn changing<'a, W: Write>(
-    to: &mut W,
-    op: u32,
-    chart: &[u32],
-    beside: Beside,
-    rule: &'a [u8],
-    text: &'a [u8],
-    h: &[u32],
-    ws: &mut [u32],
-    ks: &[u32],
-    a: &[u32],
-) -> io::Result<()> {
-    if forcing::finishes(op) {
-        let r = forcing::finish(op, chart, beside, rule, text, h, ws, ks, a);
-        return writing::done(to, r);
-    }
-    if joining::is(op) {
-        return joining::call(to, op, chart, beside, rule, text, h, ws, ks, a);
-    }
-    reading(to, op, chart, beside, rule, text, h, ws, ks, a)
-}
-
-// And those that write the header too.
-fn adding<'a, W: Write>(
-    to: &mut W,
-    op: u32,
-    chart: &[u32],
-    beside: Beside,
-    rule: &'a [u8],
-    text: &'a [u8],
-    h: &mut [u32],
-    ws: &mut [u32],
-    ks: &[u32],
-    a: &[u32],
-) -> io::Result<()> {
-    match op {
-        making::NEW_VARS => making::new_vars(to, chart, beside, rule, text, h, ws, ks, a),
-        making::NEW_VAR | making::ERROR | making::NIL => {
-            let r = making::plain(op, chart, beside, rule, text, h, ws, ks, a);
-            writing::type_answer(to, r)
-        }
-        forcing::FORCE_KIND => forcing::force(to, chart, beside, rule, text, h, ws, ks, a),
-        _ => changing(to, op, chart, beside, rule, text, h, ws, ks, a),
-    }
-}
-
-// And those that write all; sh, sw, sk are the other store's words, bs those of the names buffer.
-fn call<'a, W: Write>(
-    to: &mut W,
-    op: u32,
-    chart: &[u32],
-    beside: Beside,
-    rule: &'a [u8],
-    text: &'a [u8],
+    c: Call,
+    env: &Env<'_>,
     h: &mut [u32],
     ws: &mut [u32],
     ks: &mut [u32],
@@ -163,37 +82,30 @@ fn call<'a, W: Write>(
     sk: &[u32],
     a: &[u32],
 ) -> io::Result<()> {
-    if naming::is(op) {
-        let r = naming::call(op, chart, beside, rule, text, h, ws, ks, bs, a);
-        return writing::done(to, r);
-    }
-    match op {
-        POKE => {
+    match c {
+        Call::Lend(_) => Ok(()),
+        Call::Poke => {
             poke(h, ws, ks, bs, a);
             Ok(())
         }
-        making::OPEN => {
-            let r = making::open(h, ws, ks, a);
-            writing::done(to, r)
-        }
-        making::NEW | making::NEW_STRUCT | making::NEW_UNION => {
-            let r = making::kind(op, chart, beside, rule, text, h, ws, ks, a);
-            writing::type_answer(to, r)
-        }
-        importing::IMPORT => {
-            importing::import(to, chart, beside, rule, text, h, ws, ks, sh, sw, sk, a)
-        }
-        _ => adding(to, op, chart, beside, rule, text, h, ws, ks, a),
+        Call::Case => writing::case(to, word(a, 0)),
+        Call::Words => words(to, h, ws, ks),
+        Call::Make(m) => making::call(to, m, env, h, ws, ks, a),
+        Call::Name(m) => writing::done(to, naming::call(m, env, h, ws, ks, bs, a)),
+        Call::Force(f) => forcing::call(to, f, env, h, ws, ks, a),
+        Call::Ask(q) => asking::call(to, q, env, h, ws, ks, a),
+        Call::Join(j) => joining::call(to, j, env, h, ws, ks, a),
+        Call::Import => importing::import(to, env, h, ws, ks, sh, sw, sk, a),
+        Call::Export => exporting::export(to, env, h, ws, ks, a),
+        Call::Print(p) => printing::call(to, p, env, h, ws, ks, a),
     }
 }
 
-// A call on what is lent of the store in hand.
-fn on<'a, W: Write>(
+// The same on what is lent of the two stores.
+fn on<W: Write>(
     to: &mut W,
-    op: u32,
-    chart: &[u32],
-    rule: &'a [u8],
-    text: &'a [u8],
+    c: Call,
+    env: &Env<'_>,
     l: Lent,
     h: &mut [u32],
     ws: &mut [u32],
@@ -213,11 +125,8 @@ fn on<'a, W: Write>(
     let b = upto(bs, here.names);
     call(
         to,
-        op,
-        chart,
-        l.beside,
-        rule,
-        text,
+        c,
+        env,
         &mut h[..x],
         &mut ws[..y],
         &mut ks[..z],
@@ -233,7 +142,7 @@ fn on<'a, W: Write>(
 fn act<W: Write>(
     to: &mut W,
     s: &[u32],
-    op: u32,
+    c: Call,
     l: Lent,
     h: &mut [u32],
     ws: &mut [u32],
@@ -246,20 +155,8 @@ fn act<W: Write>(
     let mut text = [0u8; BYTES];
     let r = to_bytes(part(s, l.rule), &mut rule);
     let t = to_bytes(part(s, l.text), &mut text);
-    on(
-        to,
-        op,
-        part(s, l.chart),
-        &rule[..r],
-        &text[..t],
-        l,
-        h,
-        ws,
-        ks,
-        bs,
-        o,
-        a,
-    )
+    let env = env_of(l, s, &rule[..r], &text[..t]);
+    on(to, c, &env, l, h, ws, ks, bs, o, a)
 }
 
 // Where a call's numbers stand: behind its own and their count.
@@ -291,21 +188,13 @@ fn next(s: &[u32], at: usize) -> usize
 
 // Words for those that stand in o from there on.
 fn exchange(x: &mut [u32], o: &mut [u32], from: usize) {
-    let mut i = 0;
-    let mut j = from;
-    while i < x.len() {
-        if o.len() <= j {
-            return;
-        }
-        let v = x[i];
-        x[i] = o[j];
-        o[j] = v;
-        i += 1;
-        j += 1;
+    let at = upto(o, from);
+    for (v, w) in x.iter_mut().zip(o[at..].iter_mut()) {
+        std::mem::swap(v, w);
     }
 }
 
-// The call that stands there, on what is lent, and what is lent from now on.
+// The call that stands there, on what is lent, and what is lent from now on. A number that is no call's does nothing.
 fn turn<W: Write>(
     to: &mut W,
     s: &[u32],
@@ -317,20 +206,22 @@ fn turn<W: Write>(
     bs: &mut [u32],
     o: &mut [u32],
 ) -> io::Result<Lent> {
-    let op = word(s, at);
     let a = given(s, at);
-    let m = lend(op, l, behind(at), a);
-    if op <= LEND {
-        return Ok(m);
+    match Call::try_from(word(s, at)) {
+        Ok(Call::Lend(c)) => {
+            if let Lending::Swap = c {
+                exchange(h, o, 0);
+                exchange(ws, o, NODES_AT);
+                exchange(ks, o, KIDS_AT);
+            }
+            Ok(lend(c, l, behind(at), a))
+        }
+        Ok(c) => {
+            act(to, s, c, l, h, ws, ks, bs, o, a)?;
+            Ok(l)
+        }
+        Err(_) => Ok(l),
     }
-    if op == SWAP {
-        exchange(h, o, 0);
-        exchange(ws, o, NODES_AT);
-        exchange(ks, o, KIDS_AT);
-        return Ok(m);
-    }
-    act(to, s, op, l, h, ws, ks, bs, o, a)?;
-    Ok(m)
 }
 
 // The calls one after the other, on these buffers.
@@ -345,6 +236,7 @@ fn turns<W: Write>(
 ) -> io::Result<()> {
     let mut l = nothing_lent();
     let mut at = 0;
+    // Kept (3): the new form is no plainer: each call says itself how many numbers follow it, and so where the next one stands.
     while at < s.len() {
         l = turn(to, s, at, l, h, ws, ks, bs, o)?;
         at = next(s, at);
@@ -366,6 +258,7 @@ fn read_input<R: Read>(from: &mut R, input: &mut [u8]) -> io::Result<usize>
     ensures { IfOk result (λ n. n ≤ length input.new) }
 {
     let mut at: usize = 0;
+    // Kept (3): the new form is no plainer: a read gives as many bytes as it likes, and none at the end.
     while at < input.len() {
         let got = from.read(&mut input[at..])?;
         if got == 0 {

@@ -1,23 +1,27 @@
 // The printers, into a buffer of dots: the answer, and then every byte of the buffer, or of the part that is handed back, between bars.
-use chart::Beside;
-use promise::CountAnswer;
-use run_text::numbers::{after, word};
-use run_text::{numbers, writing};
+use call_show::{show, show_impl_type, show_impl_type_part, show_part};
+use chart::Env;
+use refusals::Refusal;
+use run_text::numbers::{after, bytes_upto, word};
+use run_text::writing;
 use std::io;
 use std::io::Write;
 use types::{Impl, Type};
 
-pub(crate) const SHOW: u32 = 70; // how long the buffer is, type
-
-const SHOW_IMPL_TYPE: u32 = 71; // how long the buffer is, 1 for an error, the trait's number, its types
-// Their second forms.
-const SHOW_PART: u32 = 72;
-
-pub(crate) const SHOW_IMPL_TYPE_PART: u32 = 73;
+#[derive(Clone, Copy)]
+pub(crate) enum Printing {
+    // How long the buffer is, type.
+    Show,
+    // How long the buffer is, 1 for an error, the trait's number, its types.
+    ShowImplType,
+    // Their second forms.
+    ShowPart,
+    ShowImplTypePart,
+}
 
 const ROOM: usize = 4096;
 
-const DOT: u8 = 46;
+const DOT: u8 = b'.';
 
 // Bytes between bars, to the line's end.
 fn bytes<W: Write>(to: &mut W, s: &[u8]) -> io::Result<()> {
@@ -26,15 +30,22 @@ fn bytes<W: Write>(to: &mut W, s: &[u8]) -> io::Result<()> {
     writing::say(to, b"|\n")
 }
 
-fn count<W: Write>(to: &mut W, a: CountAnswer) -> io::Result<()> {
+fn count<W: Write>(to: &mut W, a: Result<usize, Refusal>) -> io::Result<()> {
     match a {
-        CountAnswer::Is(n) => write!(to, "length {n}"),
-        CountAnswer::Refused(n) => write!(to, "refused {n}"),
+        Ok(n) => write!(to, "length {n}"),
+        Err(r) => {
+            let n = u32::from(r);
+            write!(to, "refused {n}")
+        }
     }
 }
 
-// The number beside a part.
-fn code<W: Write>(to: &mut W, n: u32) -> io::Result<()> {
+// What is told beside a part.
+fn code<W: Write>(to: &mut W, told: Option<Refusal>) -> io::Result<()> {
+    let n = match told {
+        Some(r) => u32::from(r),
+        None => 0,
+    };
     write!(to, "code {n}")
 }
 
@@ -45,101 +56,51 @@ fn impl_of(a: &[u32]) -> Impl {
     Impl::Trait(word(a, 2))
 }
 
-fn whole<'a, W: Write>(
+fn print<W: Write>(
     to: &mut W,
-    op: u32,
-    chart: &[u32],
-    beside: Beside,
-    rule: &'a [u8],
-    text: &'a [u8],
+    c: Printing,
+    env: &Env<'_>,
     h: &[u32],
     ws: &[u32],
     ks: &[u32],
     buf: &mut [u8],
     a: &[u32],
 ) -> io::Result<()> {
-    if op == SHOW {
-        let t = Type(word(a, 1));
-        let r = call_show::show(chart, beside, rule, text, h, ws, ks, t, buf);
-        count(to, r)?;
-        return bytes(to, buf);
-    }
+    let t = Type(word(a, 1));
     let i = impl_of(a);
     let xs = after(a, 3);
-    let r = call_show::show_impl_type(chart, beside, rule, text, h, ws, ks, i, xs, buf);
-    count(to, r)?;
-    bytes(to, buf)
-}
-
-fn part<'a, W: Write>(
-    to: &mut W,
-    op: u32,
-    chart: &[u32],
-    beside: Beside,
-    rule: &'a [u8],
-    text: &'a [u8],
-    h: &[u32],
-    ws: &[u32],
-    ks: &[u32],
-    buf: &mut [u8],
-    a: &[u32],
-) -> io::Result<()> {
-    let mut n: u32 = 0;
-    if op == SHOW_PART {
-        let t = Type(word(a, 1));
-        let p = call_show::show_part(chart, beside, rule, text, h, ws, ks, t, buf, &mut n);
-        code(to, n)?;
-        return bytes(to, p);
+    match c {
+        Printing::Show => {
+            count(to, show(env, h, ws, ks, t, buf))?;
+            bytes(to, buf)
+        }
+        Printing::ShowImplType => {
+            count(to, show_impl_type(env, h, ws, ks, i, xs, buf))?;
+            bytes(to, buf)
+        }
+        Printing::ShowPart => {
+            let (p, told) = show_part(env, h, ws, ks, t, buf);
+            code(to, told)?;
+            bytes(to, p)
+        }
+        Printing::ShowImplTypePart => {
+            let (p, told) = show_impl_type_part(env, h, ws, ks, i, xs, buf);
+            code(to, told)?;
+            bytes(to, p)
+        }
     }
-    let i = impl_of(a);
-    let xs = after(a, 3);
-    let p = call_show::show_impl_type_part(
-        chart, beside, rule, text, h, ws, ks, i, xs, buf, &mut n,
-    );
-    code(to, n)?;
-    bytes(to, p)
 }
 
-pub(crate) fn call<'a, W: Write>(
+pub(crate) fn call<W: Write>(
     to: &mut W,
-    op: u32,
-    chart: &[u32],
-    beside: Beside,
-    rule: &'a [u8],
-    text: &'a [u8],
+    c: Printing,
+    env: &Env<'_>,
     h: &[u32],
     ws: &[u32],
     ks: &[u32],
     a: &[u32],
 ) -> io::Result<()> {
     let mut buf = [DOT; ROOM];
-    let n = numbers::bytes_upto(&buf, word(a, 0) as usize);
-    if op < SHOW_PART {
-        return whole(
-            to,
-            op,
-            chart,
-            beside,
-            rule,
-            text,
-            h,
-            ws,
-            ks,
-            &mut buf[..n],
-            a,
-        );
-    }
-    part(
-        to,
-        op,
-        chart,
-        beside,
-        rule,
-        text,
-        h,
-        ws,
-        ks,
-        &mut buf[..n],
-        a,
-    )
+    let n = bytes_upto(&buf, word(a, 0) as usize);
+    print(to, c, env, h, ws, ks, &mut buf[..n], a)
 }

@@ -1,13 +1,11 @@
 // A list of calls as text: decimal numbers with anything else between them; from '#' to the line's end is for the reader. Its numbers, and parts of them.
 ghost use Rattle.std.specs.Prelude.{◌≡◌, ◌≤◌, length};
 
-const NEWLINE: u8 = 10;
+const NEWLINE: u8 = b'\n';
 
-const HASH: u8 = 35;
+const HASH: u8 = b'#';
 
-const ZERO: u8 = 48;
-
-const NINE: u8 = 57;
+const ZERO: u8 = b'0';
 
 // What the bytes so far have said: numbers written, the one being read, whether one is, and whether a remark is.
 #[derive(Clone, Copy)]
@@ -34,15 +32,15 @@ fn with_digit(value: u32, b: u8) -> u32 {
 }
 
 fn is_digit(b: u8) -> bool {
-    ZERO <= b && b <= NINE
+    b.is_ascii_digit()
 }
 
 fn put(out: &mut [u32], i: usize, v: u32) -> usize {
-    if i < out.len() {
-        out[i] = v;
-        return i + 1;
-    }
-    i
+    let Some(w) = out.get_mut(i) else {
+        return i;
+    };
+    *w = v;
+    i + 1
 }
 
 // No number is being read.
@@ -87,47 +85,45 @@ pub fn numbers(text: &[u8], out: &mut [u32]) -> usize {
         digits: false,
         remark: false,
     };
-    for b in text {
-        s = step(out, s, *b);
+    for &b in text {
+        s = step(out, s, b);
     }
     s.count
 }
 
 // Number i, or 0.
 pub fn word(s: &[u32], i: usize) -> u32 {
-    if i < s.len() { s[i] } else { 0 }
+    s.get(i).copied().unwrap_or(0)
 }
 
 // Number i becomes v, if it is there.
 pub fn set(s: &mut [u32], i: u32, v: u32) {
-    let j = i as usize;
-    if j < s.len() {
-        s[j] = v;
+    if let Some(w) = s.get_mut(i as usize) {
+        *w = v;
     }
 }
 
 // The numbers from a on.
 pub fn after(s: &[u32], a: usize) -> &[u32] {
-    if a < s.len() { &s[a..] } else { &s[..0] }
+    &s[upto(s, a)..]
 }
 
 // The first n numbers, or all.
 pub fn first(s: &[u32], n: usize) -> &[u32] {
-    let m = upto(s, n);
-    &s[..m]
+    &s[..upto(s, n)]
 }
 
 // How many of n words there are; of n bytes below.
 pub fn upto(s: &[u32], n: usize) -> usize
     ensures { result ≤ length s.now }
 {
-    if n < s.len() { n } else { s.len() }
+    n.min(s.len())
 }
 
 pub fn bytes_upto(s: &[u8], n: usize) -> usize
     ensures { result ≤ length s.now }
 {
-    if n < s.len() { n } else { s.len() }
+    n.min(s.len())
 }
 
 // The numbers as bytes, and how many.
@@ -135,8 +131,8 @@ pub fn to_bytes(s: &[u32], out: &mut [u8]) -> usize
     ensures { result ≤ length out.new }
 {
     let n = bytes_upto(out, s.len());
-    for i in 0..n {
-        out[i] = (word(s, i) % 256) as u8;
+    for (b, &w) in out.iter_mut().zip(s) {
+        *b = (w % 256) as u8;
     }
     n
 }

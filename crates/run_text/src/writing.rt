@@ -1,12 +1,10 @@
 // What the public calls answer, as lines of text.
-use crate::numbers::{first, word};
-use call_ask::ModAnswer;
-use call_force::ForcedAnswer;
-use call_read::{ChildAnswer, FiguresAnswer, NameAnswer, NodeAnswer};
-use call_unify::UnifyAnswer;
-use layout::{Header, Kind};
+use crate::numbers::first;
+use chart::Env;
+use force::Forced;
+use layout::{Header, Kind, TypeNode, TypeState};
 use names::Name;
-use promise::{BoolAnswer, DoneAnswer, TypeAnswer};
+use refusals::Refusal;
 use std::io;
 use std::io::Write;
 use types::{Inverted, Type, UnifyResult};
@@ -44,104 +42,78 @@ fn flag<W: Write>(to: &mut W, b: bool) -> io::Result<()> {
     if b { say(to, b"1") } else { say(to, b"0") }
 }
 
-// What a list is of.
-#[derive(Clone, Copy)]
-enum Form {
-    Word,
-    Type,
-    // A mark is written as its place.
-    Mark,
-}
-
-// The place of a mark.
-fn place<W: Write>(to: &mut W, i: usize) -> io::Result<()> {
-    write!(to, " {i}")
-}
-
-// Item i of a list of words or of marks.
-fn item<W: Write>(to: &mut W, f: Form, ws: &[u32], marks: &[u8], i: usize) -> io::Result<()> {
-    match f {
-        Form::Word => {
-            number(to, word(ws, i))?;
-            say(to, b" ")
-        }
-        Form::Type => {
-            say(to, b" ")?;
-            typ(to, Type(word(ws, i)))
-        }
-        Form::Mark => {
-            if i < marks.len() && marks[i] != 0 {
-                place(to, i)
-            } else {
-                Ok(())
-            }
-        }
-    }
-}
-
-// The first n items, to the line's end.
-fn list<W: Write>(to: &mut W, f: Form, n: usize, ws: &[u32], marks: &[u8]) -> io::Result<()> {
-    for i in 0..n {
-        item(to, f, ws, marks, i)?;
+// Numbers on a line of their own.
+pub fn words<W: Write>(to: &mut W, s: &[u32]) -> io::Result<()> {
+    for &w in s {
+        write!(to, "{w} ")?;
     }
     line(to)
 }
 
-// Numbers on a line of their own.
-pub fn words<W: Write>(to: &mut W, s: &[u32]) -> io::Result<()> {
-    list(to, Form::Word, s.len(), s, b"")
-}
-
 pub fn types<W: Write>(to: &mut W, s: &[u32]) -> io::Result<()> {
     say(to, b"types")?;
-    list(to, Form::Type, s.len(), s, b"")
+    for &w in s {
+        say(to, b" ")?;
+        typ(to, Type(w))?;
+    }
+    line(to)
 }
 
 // The nodes with a mark.
 pub fn marked<W: Write>(to: &mut W, marks: &[u8]) -> io::Result<()> {
     say(to, b"marked")?;
-    list(to, Form::Mark, marks.len(), &[0u32], marks)
-}
-
-pub fn refused<W: Write>(to: &mut W, n: u32) -> io::Result<()> {
-    say(to, b"refused ")?;
-    number(to, n)?;
+    for (i, &m) in marks.iter().enumerate() {
+        if m != 0 {
+            write!(to, " {i}")?;
+        }
+    }
     line(to)
 }
 
-pub fn done<W: Write>(to: &mut W, a: DoneAnswer) -> io::Result<()> {
+pub fn refused<W: Write>(to: &mut W, r: Refusal) -> io::Result<()> {
+    say(to, b"refused ")?;
+    number(to, u32::from(r))?;
+    line(to)
+}
+
+pub fn done<W: Write>(to: &mut W, a: Result<(), Refusal>) -> io::Result<()> {
     match a {
-        DoneAnswer::Done => say(to, b"done\n"),
-        DoneAnswer::Refused(n) => refused(to, n),
+        Ok(()) => say(to, b"done\n"),
+        Err(r) => refused(to, r),
     }
 }
 
 // The types that stand at the front of `out`, if the call was done.
-pub fn listed<W: Write>(to: &mut W, a: DoneAnswer, out: &[u32], count: usize) -> io::Result<()> {
+pub fn listed<W: Write>(
+    to: &mut W,
+    a: Result<(), Refusal>,
+    out: &[u32],
+    count: usize,
+) -> io::Result<()> {
     match a {
-        DoneAnswer::Done => types(to, first(out, count)),
-        DoneAnswer::Refused(n) => refused(to, n),
+        Ok(()) => types(to, first(out, count)),
+        Err(r) => refused(to, r),
     }
 }
 
-pub fn type_answer<W: Write>(to: &mut W, a: TypeAnswer) -> io::Result<()> {
+pub fn type_answer<W: Write>(to: &mut W, a: Result<Type, Refusal>) -> io::Result<()> {
     match a {
-        TypeAnswer::Is(t) => {
+        Ok(t) => {
             say(to, b"=")?;
             typ(to, t)?;
             line(to)
         }
-        TypeAnswer::Refused(n) => refused(to, n),
+        Err(r) => refused(to, r),
     }
 }
 
-pub fn bool_answer<W: Write>(to: &mut W, a: BoolAnswer) -> io::Result<()> {
+pub fn bool_answer<W: Write>(to: &mut W, a: Result<bool, Refusal>) -> io::Result<()> {
     match a {
-        BoolAnswer::Is(b) => {
+        Ok(b) => {
             flag(to, b)?;
             line(to)
         }
-        BoolAnswer::Refused(n) => refused(to, n),
+        Err(r) => refused(to, r),
     }
 }
 
@@ -153,102 +125,80 @@ fn result<W: Write>(to: &mut W, r: UnifyResult) -> io::Result<()> {
     }
 }
 
-pub fn unify_answer<W: Write>(to: &mut W, a: UnifyAnswer) -> io::Result<()> {
+pub fn unify_answer<W: Write>(to: &mut W, a: Result<UnifyResult, Refusal>) -> io::Result<()> {
     match a {
-        UnifyAnswer::Is(r) => result(to, r),
-        UnifyAnswer::Refused(n) => refused(to, n),
+        Ok(r) => result(to, r),
+        Err(r) => refused(to, r),
     }
 }
 
-pub fn mod_answer<W: Write>(to: &mut W, a: ModAnswer) -> io::Result<()> {
+pub fn mod_answer<W: Write>(to: &mut W, a: Result<Mod, Refusal>) -> io::Result<()> {
     match a {
-        ModAnswer::Is(m) => match m {
-            Mod::Nothing => say(to, b"none\n"),
-            Mod::Error => say(to, b"error\n"),
-            Mod::Def(d) => {
-                say(to, b"def ")?;
-                number(to, d)?;
-                line(to)
-            }
-        },
-        ModAnswer::Refused(n) => refused(to, n),
+        Ok(Mod::Nothing) => say(to, b"none\n"),
+        Ok(Mod::Error) => say(to, b"error\n"),
+        Ok(Mod::Def(d)) => {
+            say(to, b"def ")?;
+            number(to, d)?;
+            line(to)
+        }
+        Err(r) => refused(to, r),
     }
 }
 
-pub fn child_answer<W: Write>(to: &mut W, a: ChildAnswer) -> io::Result<()> {
+pub fn child_answer<W: Write>(to: &mut W, a: Result<Option<Type>, Refusal>) -> io::Result<()> {
     match a {
-        ChildAnswer::Is(t) => {
+        Ok(Some(t)) => {
             typ(to, t)?;
             line(to)
         }
-        ChildAnswer::Nothing => say(to, b"none\n"),
-        ChildAnswer::Refused(n) => refused(to, n),
+        Ok(None) => say(to, b"none\n"),
+        Err(r) => refused(to, r),
     }
 }
 
 // A name's bytes between bars.
-fn name<'a, W: Write>(to: &mut W, n: Name, rule: &'a [u8], text: &'a [u8]) -> io::Result<()> {
+fn name<W: Write>(to: &mut W, n: Name, env: &Env<'_>) -> io::Result<()> {
     say(to, b"|")?;
-    say(to, names::bytes_of(n, rule, text))?;
+    say(to, names::bytes_of(n, env.texts.rule, env.texts.chart))?;
     say(to, b"|")
 }
 
-pub fn name_answer<'a, W: Write>(
+pub fn name_answer<W: Write>(
     to: &mut W,
-    a: NameAnswer,
-    rule: &'a [u8],
-    text: &'a [u8],
+    a: Result<Option<Name>, Refusal>,
+    env: &Env<'_>,
 ) -> io::Result<()> {
     match a {
-        NameAnswer::Is(n) => {
-            name(to, n, rule, text)?;
+        Ok(Some(n)) => {
+            name(to, n, env)?;
             line(to)
         }
-        NameAnswer::Nothing => say(to, b"none\n"),
-        NameAnswer::Refused(n) => refused(to, n),
+        Ok(None) => say(to, b"none\n"),
+        Err(r) => refused(to, r),
     }
 }
 
 // A child's type, and its name if it has one.
-fn child<'a, W: Write>(
-    to: &mut W,
-    ks: &[u32],
-    k: Kind,
-    j: u32,
-    rule: &'a [u8],
-    text: &'a [u8],
-) -> io::Result<()> {
+fn child<W: Write>(to: &mut W, ks: &[u32], k: Kind, j: u32, env: &Env<'_>) -> io::Result<()> {
     let s = layout::child_of(ks, k, j);
     say(to, b" ")?;
     typ(to, s.ty)?;
     let n = s.name;
     if n.len != 0 {
-        return name(to, n, rule, text);
+        return name(to, n, env);
     }
     Ok(())
 }
 
-fn children<'a, W: Write>(
-    to: &mut W,
-    ks: &[u32],
-    k: Kind,
-    rule: &'a [u8],
-    text: &'a [u8],
-) -> io::Result<()> {
+fn children<W: Write>(to: &mut W, ks: &[u32], k: Kind, env: &Env<'_>) -> io::Result<()> {
     for j in 0..k.count {
-        child(to, ks, k, j, rule, text)?;
+        child(to, ks, k, j, env)?;
     }
     Ok(())
 }
 
 // A kind: code, number, flag, `Flex`, its own name if it has one, its children.
-fn kind<'a, W: Write>(
-    to: &mut W,
-    ks: &[u32],
-    k: Kind,
-    rule: &'a [u8],
-    text: &'a [u8],
-) -> io::Result<()> {
+fn kind<W: Write>(to: &mut W, ks: &[u32], k: Kind, env: &Env<'_>) -> io::Result<()> {
     number(to, k.code)?;
     say(to, b" ")?;
     number(to, k.number)?;
@@ -259,9 +209,9 @@ fn kind<'a, W: Write>(
     let n = k.name;
     if n.len != 0 {
         say(to, b" ")?;
-        name(to, n, rule, text)?;
+        name(to, n, env)?;
     }
-    children(to, ks, k, rule, text)
+    children(to, ks, k, env)
 }
 
 fn root<W: Write>(to: &mut W, size: u32) -> io::Result<()> {
@@ -270,48 +220,41 @@ fn root<W: Write>(to: &mut W, size: u32) -> io::Result<()> {
     say(to, b" ")
 }
 
-fn known<'a, W: Write>(
-    to: &mut W,
-    ks: &[u32],
-    i: Inverted,
-    k: Kind,
-    rule: &'a [u8],
-    text: &'a [u8],
-) -> io::Result<()> {
+fn known<W: Write>(to: &mut W, ks: &[u32], i: Inverted, k: Kind, env: &Env<'_>) -> io::Result<()> {
     say(to, b"known ")?;
     inverse(to, i)?;
-    kind(to, ks, k, rule, text)
+    kind(to, ks, k, env)
 }
 
-pub fn node_answer<'a, W: Write>(
+fn state<W: Write>(to: &mut W, ks: &[u32], s: TypeState, env: &Env<'_>) -> io::Result<()> {
+    match s {
+        TypeState::Known(i, k) => known(to, ks, i, k, env),
+        TypeState::Unknown(span) => {
+            say(to, b"unknown ")?;
+            number(to, span)
+        }
+        TypeState::InferenceFailed => say(to, b"failed"),
+    }
+}
+
+pub fn node_answer<W: Write>(
     to: &mut W,
-    a: NodeAnswer,
+    a: Result<TypeNode, Refusal>,
     ks: &[u32],
-    rule: &'a [u8],
-    text: &'a [u8],
+    env: &Env<'_>,
 ) -> io::Result<()> {
     match a {
-        NodeAnswer::Known(i, k, size) => {
+        Ok(TypeNode::Root { state: s, size }) => {
             root(to, size)?;
-            known(to, ks, i, k, rule, text)?;
+            state(to, ks, s, env)?;
             line(to)
         }
-        NodeAnswer::Unknown(span, size) => {
-            root(to, size)?;
-            say(to, b"unknown ")?;
-            number(to, span)?;
-            line(to)
-        }
-        NodeAnswer::InferenceFailed(size) => {
-            root(to, size)?;
-            say(to, b"failed\n")
-        }
-        NodeAnswer::Child(t) => {
+        Ok(TypeNode::Child(t)) => {
             say(to, b"child ")?;
             typ(to, t)?;
             line(to)
         }
-        NodeAnswer::Refused(n) => refused(to, n),
+        Err(r) => refused(to, r),
     }
 }
 
@@ -320,29 +263,28 @@ fn no_kind<W: Write>(to: &mut W) -> io::Result<()> {
     say(to, b"known 14 0 0 0")
 }
 
-pub fn forced_answer<'a, W: Write>(
+pub fn forced_answer<W: Write>(
     to: &mut W,
-    a: ForcedAnswer,
+    a: Result<Forced, Refusal>,
     ks: &[u32],
-    rule: &'a [u8],
-    text: &'a [u8],
+    env: &Env<'_>,
 ) -> io::Result<()> {
     match a {
-        ForcedAnswer::Known(i, k) => {
-            known(to, ks, i, k, rule, text)?;
+        Ok(Forced::Known(i, k)) => {
+            known(to, ks, i, k, env)?;
             line(to)
         }
-        ForcedAnswer::Reported(span) => {
+        Ok(Forced::Reported(span)) => {
             no_kind(to)?;
             say(to, b" reported ")?;
             number(to, span)?;
             line(to)
         }
-        ForcedAnswer::Failed => {
+        Ok(Forced::Failed) => {
             no_kind(to)?;
             line(to)
         }
-        ForcedAnswer::Refused(n) => refused(to, n),
+        Err(r) => refused(to, r),
     }
 }
 
@@ -355,8 +297,6 @@ fn remembered<W: Write>(to: &mut W, r: Option<Type>) -> io::Result<()> {
 
 // Counts, capacities, the remembered types, the report count.
 fn header<W: Write>(to: &mut W, x: Header) -> io::Result<()> {
-    let error = x.error;
-    let nil = x.nil;
     say(to, b"nodes ")?;
     number(to, x.nodes)?;
     say(to, b" of ")?;
@@ -366,16 +306,16 @@ fn header<W: Write>(to: &mut W, x: Header) -> io::Result<()> {
     say(to, b" of ")?;
     number(to, x.child_room)?;
     say(to, b", error ")?;
-    remembered(to, error)?;
+    remembered(to, x.error)?;
     say(to, b", nil ")?;
-    remembered(to, nil)?;
+    remembered(to, x.nil)?;
     let reports = x.reports;
     writeln!(to, ", reports {reports}")
 }
 
-pub fn figures_answer<W: Write>(to: &mut W, a: FiguresAnswer) -> io::Result<()> {
+pub fn figures_answer<W: Write>(to: &mut W, a: Result<Header, Refusal>) -> io::Result<()> {
     match a {
-        FiguresAnswer::Is(x) => header(to, x),
-        FiguresAnswer::Refused(n) => refused(to, n),
+        Ok(x) => header(to, x),
+        Err(r) => refused(to, r),
     }
 }

@@ -41,11 +41,10 @@ fn feed_all<W: Write>(
     ensures { Kept h.new ws.new ks.new line.new result }
 {
     let mut p = at;
-    let mut left = piece.len();
-    while left > 0 {
-        let i = piece.len() - left;
-        let f = sheet_feed::feed(h, ws, ks, memory, line, p, &piece[i..], text);
-        match f {
+    let mut rest = piece;
+    // Kept (3): the new form is no plainer: each turn takes as many bytes from its front as the line had.
+    while !rest.is_empty() {
+        match sheet_feed::feed(h, ws, ks, memory, line, p, rest, text) {
             Fed::More(q) => {
                 return Some(q);
             }
@@ -54,7 +53,7 @@ fn feed_all<W: Write>(
                     return None;
                 }
                 p = 0;
-                left -= k;
+                rest = &rest[k..];
             }
         }
     }

@@ -6,6 +6,7 @@ use mathlib.Core.List.{List, [], ◌∷◌, ◌++◌}
 use mathlib.Core.Option.{Option, none, some}
 use Prim.Native.Nat.{ℕ}
 use native.Mathlib.Omega.{arith}
+use Rattle.std.specs.Prelude.{Result, Ok, Err}
 use lib.Dec.{eqb, leb}
 use lib.ListN.{length, take, drop}
 use Rattle.scope.specs.Base.{pick}
@@ -25,11 +26,11 @@ use Rattle.scope.proofs.SoundKept.{opened_facts}
 use Rattle.scope.proofs.SoundLaws.{SoundFacts, sound_facts, facts_sound}
 use Rattle.layout.specs.Words.{store_in}
 use Rattle.layout.proofs.StoreLaws.{lent_clean}
+use Rattle.types.specs.declared.«Type».{«Type»}
 use Rattle.store.specs.Holds.{Holds, Became}
+use Rattle.refusals.specs.declared.Refusal.{Refusal}
 use Rattle.store.proofs.Laws.{beyond_refl}
 use Rattle.promise.specs.Promise.{Promised, AsFound, value, refusal, type_reply}
-use Rattle.promise.specs.declared.TypeAnswer.{TypeAnswer}
-use Rattle.promise.specs.declared.TypeAnswer.TheVariants as type
 use Rattle.sheet_lines.specs.Meaning.{first_of, kind_line}
 use Rattle.sheet_say.specs.Front.{Front}
 use Rattle.sheet_say.specs.Texts.{refused_text, type_text}
@@ -106,10 +107,10 @@ module _ {h ws ks : List ℕ} (ok : SheetStore h ws ks) where
     by_said : (d : Said) → sheet_line s l ≡ d → Front out out' n d.bytes → Became h ws ks h' ws' ks' d.store → Ran s l h ws ks h' ws' ks' out out' n
     by_said d e f b = ran l (rw (leaves, e) f) (rw e b)
 
-    pub ran_type : (o : Outcome Ty) (a : TypeAnswer) → sheet_line s l ≡ say_type s o → Promised o (type_reply a) h ws ks h' ws' ks' → Front out out' n (type_text a)
+    pub ran_type : (o : Outcome Ty) (a : Result «Type» Refusal) → sheet_line s l ≡ say_type s o → Promised o (type_reply a) h ws ks h' ws' ks' → Front out out' n (type_text a)
         → Ran s l h ws ks h' ws' ks' out out' n
-    ran_type o (type.Is t) e p f = by_said _ (e ∙ ap (say_type s) p.outcome) f (p.again refl)
-    ran_type o (type.Refused m) e p f = by_said _ (e ∙ ap (say_type s) p.outcome) f (found_store (p.kept refl))
+    ran_type o (Ok t) e p f = by_said _ (e ∙ ap (say_type s) p.outcome) f (p.again refl)
+    ran_type o (Err m) e p f = by_said _ (e ∙ ap (say_type s) p.outcome) f (found_store (p.kept refl))
 
     pub ran_answer : (o : Outcome Answer) {r : Answer} → sheet_line s l ≡ say_answer s o → Promised o (value r) h ws ks h' ws' ks' → Front out out' n (answer_text r)
         → Ran s l h ws ks h' ws' ks' out out' n
@@ -123,10 +124,10 @@ module _ {h ws ks : List ℕ} (ok : SheetStore h ws ks) where
         → Ran s l h ws ks h' ws' ks' out out' n
     ran_done o e p f = by_said _ (e ∙ ap (say_done s) p.outcome) f (p.again refl)
 
-  pub made : (l : Line) {h' ws' ks' : List ℕ} (o : Outcome Ty) (a : TypeAnswer) → sheet_line s l ≡ say_type s o → ((out : List ℕ) → line_leaves s l out ≡ out)
+  pub made : (l : Line) {h' ws' ks' : List ℕ} (o : Outcome Ty) (a : Result «Type» Refusal) → sheet_line s l ≡ say_type s o → ((out : List ℕ) → line_leaves s l out ≡ out)
       → Promised o (type_reply a) h ws ks h' ws' ks' → Made s l h ws ks h' ws' ks' a
   made l o a says leaves p = record { outcome = o; says = says; leaves = leaves; promised = p }
 
-  pub ran_made : (l : Line) {h' ws' ks' out out' : List ℕ} {n : ℕ} {a : TypeAnswer} → Made s l h ws ks h' ws' ks' a → Front out out' n (type_text a)
+  pub ran_made : (l : Line) {h' ws' ks' out out' : List ℕ} {n : ℕ} {a : Result «Type» Refusal} → Made s l h ws ks h' ws' ks' a → Front out out' n (type_text a)
       → Ran s l h ws ks h' ws' ks' out out' n
   ran_made l {out = out} {a = a} m f = ran_type l (m.leaves out) m.outcome a m.says m.promised f

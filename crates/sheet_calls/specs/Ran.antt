@@ -1,14 +1,15 @@
 -- What a line of `sheet` prints and leaves: scope's `sheet_line` of the store that the slices hold, and every byte of the lent buffer.
-use Rattle.std.specs.Prelude.{◌≡◌, List, ◌++◌, ℕ, take, drop}
+use Rattle.std.specs.Prelude.{◌≡◌, List, ◌++◌, ℕ, take, drop, Result}
 use Rattle.scope.specs.Limits.{SHEET_TEXT}
 use Rattle.scope.specs.Types.{Ty}
 use Rattle.scope.specs.Nodes.{Store}
 use Rattle.scope.specs.Sound.{reads}
 use Rattle.scope.specs.Calls.{Outcome, show_call}
 use Rattle.scope.specs.Sheet.{Line, sheet_env, sheet_line, say_type}
+use Rattle.types.specs.declared.«Type».{«Type»}
 use Rattle.store.specs.Holds.{Became}
+use Rattle.refusals.specs.declared.Refusal.{Refusal}
 use Rattle.promise.specs.Promise.{Promised, type_reply}
-use Rattle.promise.specs.declared.TypeAnswer.{TypeAnswer}
 use Rattle.sheet_say.specs.Front.{Front}
 use Rattle.sheet_calls.specs.Store.{SheetStore}
 
@@ -42,8 +43,8 @@ pub record Ran (s : Store) (l : Line) (h ws ks h' ws' ks' out out' : List ℕ) (
   pub sound : SheetStore h' ws' ks'
 
 -- the call of a line that makes a type, on the slices h ws ks, and its answer: what the line says is what is said for the call's outcome, and the buffer is as found
-pub record Made (s : Store) (l : Line) (h ws ks h' ws' ks' : List ℕ) (a : TypeAnswer) : Type 0 where
+pub record Made (s : Store) (l : Line) (h ws ks h' ws' ks' : List ℕ) (r : Result «Type» Refusal) : Type 0 where
   pub outcome : Outcome Ty
   pub says : sheet_line s l ≡ say_type s outcome
   pub leaves : (out : List ℕ) → line_leaves s l out ≡ out
-  pub promised : Promised outcome (type_reply a) h ws ks h' ws' ks'
+  pub promised : Promised outcome (type_reply r) h ws ks h' ws' ks'

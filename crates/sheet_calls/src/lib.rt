@@ -11,9 +11,10 @@ ghost use Rattle.sheet_lines.specs.Meaning.{maker_means, MakerFits, plain_means,
 ghost use Rattle.sheet_calls.specs.Store.{SheetStore};
 ghost use Rattle.sheet_calls.specs.Ran.{Ran, Made};
 
-use promise::TypeAnswer;
+use refusals::Refusal;
 use scope::{NONE, SHEET_CHILDREN, SHEET_NODES};
 use sheet_lines::{Maker, Plain};
+use types::Type;
 
 // The store before the first line: "`sheet` opens 256 nodes and 1,024 children", whatever the slices held.
 pub fn start(h: &mut [u32], ws: &mut [u32], ks: &mut [u32])
@@ -24,7 +25,13 @@ pub fn start(h: &mut [u32], ws: &mut [u32], ks: &mut [u32])
 }
 
 // The type that a line makes; the types that it is over stand at the front of `types`.
-fn made(h: &mut [u32], ws: &mut [u32], ks: &mut [u32], m: Maker, types: &[u32]) -> TypeAnswer
+fn made(
+    h: &mut [u32],
+    ws: &mut [u32],
+    ks: &mut [u32],
+    m: Maker,
+    types: &[u32],
+) -> Result<Type, Refusal>
     requires sheet_store { SheetStore h.old ws.old ks.old }
     requires maker_fits { MakerFits m types.now }
     requires in_bounds { LINE_TYPES ≤ length types.now }

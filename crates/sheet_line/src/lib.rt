@@ -4,16 +4,16 @@
 ghost use Rattle.std.specs.Prelude.{◌≡◌, ◌≤◌, length};
 ghost use Rattle.scope.specs.Limits.{SHEET_TEXT};
 ghost use Rattle.scope.specs.Types.{ty_of};
-ghost use Rattle.scope.specs.Sheet.{unify, parse};
+ghost use Rattle.scope.specs.Sheet.{sheet_env, unify, parse};
 ghost use Rattle.layout.specs.Words.{store_in};
-ghost use Rattle.sheet_calls.specs.Store.{sheet_beside, SheetStore};
+ghost use Rattle.sound.specs.Tests.{env_lent};
+ghost use Rattle.sheet_calls.specs.Store.{SheetStore};
 ghost use Rattle.sheet_calls.specs.Ran.{Ran, Shown};
 
-use call_unify::UnifyAnswer;
 use call_unify::tested::unify_recalling;
-use chart::Beside;
+use chart::{Beside, Env};
 use layout::{CHILD_WORDS, NODE_WORDS};
-use promise::CountAnswer;
+use names::Texts;
 use recall::{ENTRY, HEAD};
 use scope::{NONE, SHEET_CHILDREN, SHEET_NODES, SHEET_TEXT};
 use sheet_lines::{LINE_TYPES, Line};
@@ -27,13 +27,22 @@ pub const SHEET_CHILD_WORDS: usize = CHILD_WORDS * SHEET_CHILDREN;
 // The words of a memory with an entry for each pair of types, as `recall::words_for` says them: a type is a node or its inverse.
 pub const SHEET_MEMORY_WORDS: usize = HEAD + ENTRY * (2 * SHEET_NODES) * (2 * SHEET_NODES);
 
-// What is lent beside the store: no fn trait, and four empty sigils.
-fn beside() -> Beside
-    ensures { result ≡ sheet_beside }
+// What is lent beside the store: a chart without records, no fn trait, four empty sigils, and two empty texts.
+fn empty_env<'a>() -> Env<'a>
+    ensures { env_lent result ≡ sheet_env }
 {
-    Beside {
+    let beside = Beside {
         fn_trait: NONE,
         sigils: [0; 12],
+    };
+    let texts = Texts {
+        rule: b"",
+        chart: b"",
+    };
+    Env {
+        chart: &[],
+        beside,
+        texts,
     }
 }
 
@@ -43,21 +52,11 @@ fn show_line(h: &[u32], ws: &[u32], ks: &[u32], t: Type, out: &mut [u8]) -> usiz
     requires in_bounds { SHEET_TEXT ≤ length out.old }
     ensures { Shown (store_in h.now ws.now ks.now) (ty_of t.0) out.old out.new result }
 {
-    let chart = [0u32; 0];
-    let shown = call_show::tested::show(
-        &chart,
-        beside(),
-        b"",
-        b"",
-        h,
-        ws,
-        ks,
-        t,
-        &mut out[..SHEET_TEXT],
-    );
+    let env = empty_env();
+    let shown = call_show::tested::show(&env, h, ws, ks, t, &mut out[..SHEET_TEXT]);
     match shown {
-        CountAnswer::Is(n) => n,
-        CountAnswer::Refused(n) => sheet_say::put_refused(out, n),
+        Ok(n) => n,
+        Err(e) => sheet_say::put_refused(out, e),
     }
 }
 
@@ -76,11 +75,11 @@ fn unify_line(
     ensures { Ran (store_in h.now ws.old ks.now) (unify (ty_of a.0) (ty_of b.0))
         h.now ws.old ks.now h.now ws.new ks.now out.old out.new result }
 {
-    let chart = [0u32; 0];
-    let answer = unify_recalling(&chart, beside(), b"", b"", h, ws, ks, memory, a, b);
+    let env = empty_env();
+    let answer = unify_recalling(&env, h, ws, ks, memory, a, b);
     match answer {
-        UnifyAnswer::Is(r) => sheet_say::put_unify(out, r),
-        UnifyAnswer::Refused(n) => sheet_say::put_refused(out, n),
+        Ok(r) => sheet_say::put_unify(out, r),
+        Err(e) => sheet_say::put_refused(out, e),
     }
 }
 

@@ -7,8 +7,7 @@ ghost use Rattle.promise.specs.Prints.{count_reply, PrintPromised};
 ghost use Rattle.sheet_run.specs.Starts.{next_start};
 
 use layout::HEAD_WORDS;
-use promise::CountAnswer;
-use refusals::SHORT;
+use refusals::Refusal;
 use scope::SHEET_TEXT;
 use sheet_line::{SHEET_CHILD_WORDS, SHEET_NODE_WORDS};
 
@@ -21,7 +20,7 @@ fn next_start(input: &[u8], e: usize) -> usize
 
 // A whole input, from bytes to bytes, with a memory for its unify, whatever it holds. Where the output does not fit, `out` is filled with its first bytes, as a
 // printer's buffer is.
-pub fn run(input: &[u8], memory: &mut [u32], out: &mut [u8]) -> CountAnswer
+pub fn run(input: &[u8], memory: &mut [u32], out: &mut [u8]) -> Result<usize, Refusal>
     ensures { PrintPromised (printed_text sheet_store (sheet input.now) out.old) (count_reply result) sheet_store out.new }
 {
     let mut h = [0u32; HEAD_WORDS];
@@ -31,6 +30,7 @@ pub fn run(input: &[u8], memory: &mut [u32], out: &mut [u8]) -> CountAnswer
     let mut text = [0u8; SHEET_TEXT];
     let mut at: usize = 0;
     let mut i: usize = 0;
+    // Kept (3): the new form is no plainer: each turn starts past the newline that it found, which a last line may lack.
     while i < input.len() {
         let e = sheet_lines::line_end(input, i);
         let n = sheet_line::run_line(&mut h, &mut ws, &mut ks, memory, &input[i..e], &mut text);
@@ -39,7 +39,7 @@ pub fn run(input: &[u8], memory: &mut [u32], out: &mut [u8]) -> CountAnswer
         i = next_start(input, e);
     }
     if append::is_full(out, at) {
-        return CountAnswer::Refused(SHORT);
+        return Err(Refusal::Short);
     }
-    CountAnswer::Is(at)
+    Ok(at)
 }

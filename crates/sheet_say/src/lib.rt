@@ -5,32 +5,33 @@ ghost use Rattle.std.specs.Prelude.{◌≤◌, length};
 ghost use Rattle.scope.specs.Limits.{SHEET_TEXT};
 ghost use Rattle.scope.specs.Sheet.{answer_text};
 ghost use Rattle.types.specs.Answers.{answer_of};
+ghost use Rattle.refusals.specs.Codes.{number};
 ghost use Rattle.sheet_say.specs.Front.{Front};
 ghost use Rattle.sheet_say.specs.Texts.{refused_text, type_text};
 
-use promise::TypeAnswer;
-use types::UnifyResult;
+use refusals::Refusal;
+use types::{Type, UnifyResult};
 
 // "A refusal prints as `refused 3`."
-pub fn put_refused(out: &mut [u8], n: u32) -> usize
+pub fn put_refused(out: &mut [u8], r: Refusal) -> usize
     requires { SHEET_TEXT ≤ length out.old }
-    ensures { Front out.old out.new result (refused_text n) }
+    ensures { Front out.old out.new result (refused_text (number r)) }
 {
     let at = append::put(out, 0, b"refused ");
-    append::put_decimal(out, at, n)
+    append::put_decimal(out, at, u32::from(r))
 }
 
 // "`=` and the node"
-pub fn put_type(out: &mut [u8], a: TypeAnswer) -> usize
+pub fn put_type(out: &mut [u8], r: Result<Type, Refusal>) -> usize
     requires { SHEET_TEXT ≤ length out.old }
-    ensures { Front out.old out.new result (type_text a) }
+    ensures { Front out.old out.new result (type_text r) }
 {
-    match a {
-        TypeAnswer::Is(t) => {
+    match r {
+        Ok(t) => {
             let at = append::put(out, 0, b"=");
             append::put_decimal(out, at, t.idx().0)
         }
-        TypeAnswer::Refused(n) => put_refused(out, n),
+        Err(e) => put_refused(out, e),
     }
 }
 

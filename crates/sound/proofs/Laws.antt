@@ -26,7 +26,7 @@ use Rattle.layout.specs.declared.Header.{Header}
 use Rattle.layout.proofs.Laws.{past, length_decode}
 use Rattle.layout.proofs.StoreLaws.{remembered_means_lem, lies, clean_lies, clean_nodes, lent_clean}
 use Rattle.clean.specs.Parts.{room_clean}
-use Rattle.clean.proofs.Laws.{all_map}
+use Rattle.layout.proofs.Lists.{all_map}
 use Rattle.kind_sound.proofs.Laws.{kind_inside, nodes_beside}
 use Rattle.node_sound.specs.Tests.{nodes_test}
 use Rattle.shape.specs.Asks.{node_inside, Shaped}

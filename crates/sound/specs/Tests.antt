@@ -5,6 +5,7 @@ use Rattle.scope.specs.Limits.{MAX_NODES, MAX_CHILDREN, NONE}
 use Rattle.scope.specs.Chart.{Env, no_record}
 use Rattle.names.specs.Place.{texts}
 use Rattle.chart.specs.declared.Beside.{Beside}
+use Rattle.chart.specs.declared.Env as lent
 use Rattle.chart.specs.Words.{RECORD_WORDS}
 use Rattle.chart.specs.Env.{env_of}
 use Rattle.layout.specs.Words.{node_room, child_room}
@@ -25,3 +26,6 @@ no_chart = record { records = no_record ∷ []; fn_trait = NONE; sigils = []; te
 -- what every call reads, of any numbers
 unfoldable pub env_in : List ℕ → Beside → List ℕ → List ℕ → Env
 env_in ws b rule text = pick (eqb (length ws % RECORD_WORDS) 0) (env_of ws b rule text) no_chart
+
+abbrev pub env_lent : lent.Env → Env
+env_lent l = env_in l.chart.now l.beside l.texts.rule.now l.texts.chart.now

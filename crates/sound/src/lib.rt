@@ -5,13 +5,13 @@
 ghost use Rattle.std.specs.Prelude.{◌≡◌};
 ghost use Rattle.scope.specs.Sound.{sound};
 ghost use Rattle.scope.specs.Refusals.{first_broken, lent_tests};
-ghost use Rattle.chart.specs.Env.{chart_in};
+ghost use Rattle.chart.specs.Env.{chart_lent};
 ghost use Rattle.layout.specs.Words.{lent_of};
-ghost use Rattle.refusals.specs.Codes.{code_of};
-ghost use Rattle.sound.specs.Tests.{readable, env_in};
+ghost use Rattle.refusals.specs.Codes.{told};
+ghost use Rattle.sound.specs.Tests.{readable, env_lent};
 
-use chart::Beside;
-use refusals::{BAD_CHART, NO_REFUSAL, UNSOUND};
+use chart::Env;
+use refusals::Refusal;
 use scope::{MAX_CHILDREN, MAX_NODES};
 
 // The capacities are within the limits, no slice is too short for them, and no unused number is not zero.
@@ -19,62 +19,44 @@ fn readable(h: &[u32], ws: &[u32], ks: &[u32]) -> bool
     ensures { result ≡ readable h.now ws.now ks.now }
 {
     let x = layout::read_header(h);
-    if x.node_room as usize > MAX_NODES {
-        return false;
-    }
-    if x.child_room as usize > MAX_CHILDREN {
-        return false;
-    }
-    clean::room_clean(h, ws, ks)
+    x.node_room as usize <= MAX_NODES
+        && x.child_room as usize <= MAX_CHILDREN
+        && clean::room_clean(h, ws, ks)
 }
 
 // Whether refusal 8 does not stand, with this chart and these texts.
-pub fn store_sound<'a>(
-    chart: &[u32],
-    rule: &'a [u8],
-    text: &'a [u8],
-    h: &[u32],
-    ws: &[u32],
-    ks: &[u32],
-) -> bool
-    ensures { result ≡ sound (chart_in chart.now rule.now text.now) (lent_of h.now ws.now ks.now) }
+pub fn store_sound(env: &Env<'_>, h: &[u32], ws: &[u32], ks: &[u32]) -> bool
+    ensures { result ≡ sound (chart_lent env.now) (lent_of h.now ws.now ks.now) }
 {
     if !readable(h, ws, ks) {
         return false;
     }
     let x = layout::read_header(h);
-    let n = x.nodes;
-    let error = x.error;
-    let nil = x.nil;
-    if !node_sound::nodes_sound(ws, ks, n, x.children, chart, rule, text) {
+    if !node_sound::nodes_sound(
+        ws,
+        ks,
+        x.nodes,
+        x.children,
+        env.chart,
+        env.texts.rule,
+        env.texts.chart,
+    ) {
         return false;
     }
-    if !kind_sound::remembered_inside(error, n) {
-        return false;
-    }
-    if !kind_sound::remembered_inside(nil, n) {
-        return false;
-    }
-    shape::shape_ok(ws, ks, n)
+    kind_sound::remembered_inside(x.error, x.nodes)
+        && kind_sound::remembered_inside(x.nil, x.nodes)
+        && shape::shape_ok(ws, ks, x.nodes)
 }
 
-// The first of refusals 2 and 8 that stands, and 0 where none does.
-pub fn refusal<'a>(
-    chart: &[u32],
-    beside: Beside,
-    rule: &'a [u8],
-    text: &'a [u8],
-    h: &[u32],
-    ws: &[u32],
-    ks: &[u32],
-) -> u32
-    ensures { first_broken (lent_tests (env_in chart.now beside rule.now text.now) (lent_of h.now ws.now ks.now)) ≡ code_of result }
+// The first of refusals 2 and 8 that stands.
+pub fn lent(env: &Env<'_>, h: &[u32], ws: &[u32], ks: &[u32]) -> Result<(), Refusal>
+    ensures { first_broken (lent_tests (env_lent env.now) (lent_of h.now ws.now ks.now)) ≡ told result }
 {
-    if !chart::chart_ok(chart, beside, rule, text) {
-        return BAD_CHART;
+    if !chart::chart_ok(env.chart, env.beside, env.texts.rule, env.texts.chart) {
+        return Err(Refusal::BadChart);
     }
-    if !store_sound(chart, rule, text, h, ws, ks) {
-        return UNSOUND;
+    if !store_sound(env, h, ws, ks) {
+        return Err(Refusal::Unsound);
     }
-    NO_REFUSAL
+    Ok(())
 }

@@ -4,7 +4,8 @@
 use mathlib.Core.Path.{◌≡◌, refl, ap, sym, ◌∙◌}
 use mathlib.Core.Bool.{Bool, true, false, not}
 use mathlib.Core.List.{List, [], ◌∷◌, ◌++◌}
-use mathlib.Core.Option.{Option, none}
+use mathlib.Core.Option.{Option, none, some}
+use Rattle.std.specs.Prelude.{Ok, Err}
 use Prim.Native.Nat.{ℕ, ◌≤◌, ◌<◌}
 use native.Mathlib.Omega.{arith}
 use lib.ListN.{length, length-map}
@@ -19,20 +20,19 @@ use Rattle.scope.specs.Sound.{Lent, sound, in_store}
 use Rattle.scope.specs.Refusals.{NO_ENTRY, SHORT, SOURCE_UNSOUND}
 use Rattle.scope.specs.Calls.{Outcome, done, judged, first_broken, store_of, lent_tests, too_many, room_tests, short_for, import_list, import_call}
 use Rattle.scope.proofs.NeedsTests.{import_tests_lem}
-use Rattle.chart.specs.declared.Beside.{Beside}
 use Rattle.layout.specs.Words.{nodes_made, decode, store_in, lent_of}
 use Rattle.layout.specs.Meaning.{header_in}
 use Rattle.layout.specs.declared.Header.{Header}
 use Rattle.store.specs.Holds.{Ready}
 use Rattle.store.specs.Entries.{types_in}
 use Rattle.store.proofs.Laws.{store_count, store_nodes}
-use Rattle.refusals.specs.Codes.{code_of}
-use Rattle.refusals.proofs.Laws.{code_none, code_first, code_next, test_stands, test_falls, tests_passed, passed_first, passed_next}
-use Rattle.sound.specs.Tests.{env_in}
+use Rattle.refusals.specs.Codes.{number}
+use Rattle.refusals.specs.declared.Refusal.{Refusal}
+use Rattle.refusals.specs.declared.Refusal.TheVariants.{Short}
+use Rattle.refusals.proofs.Laws.{broken_first, broken_next, test_stands, test_falls, tests_passed, passed_first, passed_next}
 use Rattle.needs.specs.Sources.{Importable}
 use Rattle.needs.proofs.SourceLaws.{sound_import}
 use Rattle.promise.specs.Lists.{ListPromised}
-use Rattle.promise.specs.declared.DoneAnswer.TheVariants.{Done, Refused}
 use Rattle.promise.proofs.Laws.{lent_clean_words, lent_store, lent_facts}
 use Rattle.promise.proofs.CallLaws.{call_back, call_done}
 use Rattle.copy.specs.Whole.{ImportReady, ImportedIs}
@@ -63,10 +63,8 @@ module _ (e : Env) (h ws ks sh sw sk : List ℕ) (q : first_broken (stores_tests
 
 -- the tests of `refusal`
 
-module _ {chart : List ℕ} {b : Beside} {rule text h ws ks sh sw sk : List ℕ} (ts : List ℕ) (ps : Option (List Ty)) {n : ℕ} (q : StoresTested chart b rule text h ws ks sh sw sk n) where
-  abbrev e : Env
-  e = env_in chart b rule text
-
+module _ {e : Env} {h ws ks sh sw sk : List ℕ} (ts : List ℕ) (ps : Option (List Ty)) (q : StoresTested e h ws ks sh sw sk none)
+    {x y : Header} (gx : x ≡ header_in sh) (gy : y ≡ header_in h) where
   abbrev l : Lent
   l = lent_of h ws ks
 
@@ -82,51 +80,37 @@ module _ {chart : List ℕ} {b : Beside} {rule text h ws ks sh sw sk : List ℕ}
   abbrev rest : List (Bool × ℕ)
   rest = needs_tests (needs (store_of src).nodes ps (types_in ts)) (store_of l)
 
-  pub refused_stores : (n ≡ 0 → ⊥) → ImportTested chart b rule text h ws ks sh sw sk ts ps n
-  refused_stores z = record { first = code_first stores (lists ++ rest) n q.first z }
+  lists_code : {m : Option ℕ} → ListsTested ts x.nodes ps y.nodes m → first_broken lists ≡ m
+  lists_code t =
+      let d : length (store_of l).nodes ≡ y.nodes =
+      ap (λ (s : Store). length s.nodes) (dest_is e h ws ks sh sw sk q.first gx) ∙ (store_count h ws ks ∙ sym (made h gy)) in
+      let s : length (store_of src).nodes ≡ x.nodes =
+      ap (λ (s : Store). length s.nodes) (source_is e h ws ks sh sw sk q.first gx) ∙ (store_count sh sw sk ∙ sym (made sh gx)) in
+      (t.first (store_of src) s).code (store_of l) d
 
-  module _ (z : n ≡ 0) {x y : Header} (gx : x ≡ header_in sh) (gy : y ≡ header_in h) {m : ℕ} (t : ListsTested ts x.nodes ps y.nodes m) where
-    both_sound : first_broken stores ≡ none
-    both_sound = q.first ∙ code_none n z
+  pub refused_lists : {m : ℕ} → ListsTested ts x.nodes ps y.nodes (some m) → ImportTested e h ws ks sh sw sk ts ps (some m)
+  refused_lists {m} t = record { first = broken_next stores (lists ++ rest) q.first ∙ broken_first lists rest m (lists_code t) }
 
-    lists_code : first_broken lists ≡ code_of m
-    lists_code =
-        let d : length (store_of l).nodes ≡ y.nodes =
-        ap (λ (s : Store). length s.nodes) (dest_is e h ws ks sh sw sk both_sound gx) ∙ (store_count h ws ks ∙ sym (made h gy)) in
-        let s : length (store_of src).nodes ≡ x.nodes =
-        ap (λ (s : Store). length s.nodes) (source_is e h ws ks sh sw sk both_sound gx) ∙ (store_count sh sw sk ∙ sym (made sh gx)) in
-        (t.first (store_of src) s).code (store_of l) d
+  module _ (t : ListsTested ts x.nodes ps y.nodes none) where
+    pub needs_asks : Importable sw sk x.nodes (types_in ts) × (too_many (import_list ps) ≡ false)
+    needs_asks = (
+      importable e h ws ks sh sw sk q.first gx (types_in ts) (listed_inside (store_of src) (store_of l) (types_in ts) ps (lists_code t)),
+      entries_few (store_of src) (store_of l) (types_in ts) ps (lists_code t),
+    )
 
-    pub refused_lists : (m ≡ 0 → ⊥) → ImportTested chart b rule text h ws ks sh sw sk ts ps m
-    refused_lists w = record { first = code_next stores (lists ++ rest) n q.first z ∙ code_first lists rest m lists_code w }
-
-    module _ (w : m ≡ 0) where
-      lists_passed : first_broken lists ≡ none
-      lists_passed = lists_code ∙ code_none m w
-
-      pub needs_asks : Importable sw sk x.nodes (types_in ts) × (too_many (import_list ps) ≡ false)
-      needs_asks = (
-        importable e h ws ks sh sw sk both_sound gx (types_in ts) (listed_inside (store_of src) (store_of l) (types_in ts) ps lists_passed),
-        entries_few (store_of src) (store_of l) (types_in ts) ps lists_passed,
-      )
-
-      pub refused_needs : {r : ℕ} → NeedsTested h sw sk x.nodes ps ts r → ImportTested chart b rule text h ws ks sh sw sk ts ps r
-      refused_needs k = record {
-        first =
-            code_next stores (lists ++ rest) n q.first z
-            ∙ (code_next lists rest m lists_code w
-            ∙ (ap (λ (ns : List Node). first_broken (needs_tests (needs ns ps (types_in ts)) (store_of l))) (source_nodes e h ws ks sh sw sk both_sound gx)
-            ∙ (ap (λ (s : Store). first_broken (needs_tests (needs (decode sw sk x.nodes) ps (types_in ts)) s)) (dest_is e h ws ks sh sw sk both_sound gx)
-            ∙ k.first ws ks)));
-      }
+    pub refused_needs : {r : Option ℕ} → NeedsTested h sw sk x.nodes ps ts r → ImportTested e h ws ks sh sw sk ts ps r
+    refused_needs k = record {
+      first =
+          broken_next stores (lists ++ rest) q.first
+          ∙ (broken_next lists rest (lists_code t)
+          ∙ (ap (λ (ns : List Node). first_broken (needs_tests (needs ns ps (types_in ts)) (store_of l))) (source_nodes e h ws ks sh sw sk q.first gx)
+          ∙ (ap (λ (s : Store). first_broken (needs_tests (needs (decode sw sk x.nodes) ps (types_in ts)) s)) (dest_is e h ws ks sh sw sk q.first gx)
+          ∙ k.first ws ks)));
+    }
 
 -- the ways out of `import`
 
-module _ {chart : List ℕ} {b : Beside} {rule text h ws ks sh sw sk ts : List ℕ} {ps : Option (List Ty)} {c : ℕ} (out : List ℕ)
-    (q : ImportTested chart b rule text h ws ks sh sw sk ts ps c) where
-  abbrev env : Env
-  env = env_in chart b rule text
-
+module _ (env : Env) (h ws ks sh sw sk ts : List ℕ) (ps : Option (List Ty)) (out : List ℕ) where
   abbrev dest : Lent
   dest = lent_of h ws ks
 
@@ -158,37 +142,34 @@ module _ {chart : List ℕ} {b : Beside} {rule text h ws ks sh sw sk ts : List �
   call_is : import_call env dest from (types_in ts) ps (length out) ≡ judged (lent_tests env dest ++ tests (store_of dest)) (work (store_of dest))
   call_is = import_tests_lem env dest from (types_in ts) ps (length out)
 
-  pub import_back : (c ≡ 0 → ⊥) → ListPromised (import_call env dest from (types_in ts) ps (length out)) (Refused c) (length ts) h ws ks h ws ks out out
-  import_back z = record {
-    promised = rw call_is (call_back env h ws ks tests work c (code_first most (short ∷ []) c q.first z) z);
+  pub import_back : {r : Refusal} → ImportTested env h ws ks sh sw sk ts ps (some (number r))
+      → ListPromised (import_call env dest from (types_in ts) ps (length out)) (Err r) (length ts) h ws ks h ws ks out out
+  import_back {r} q = record {
+    promised = rw call_is (call_back env h ws ks tests work (number r) (broken_first most (short ∷ []) (number r) q.first));
     rest = refl;
     kept = λ y. refl;
   }
 
-  module _ (z : c ≡ 0) where
+  module _ (q : ImportTested env h ws ks sh sw sk ts ps none) where
     last_test : first_broken (lent_tests env dest ++ tests (store_of dest)) ≡ first_broken (short ∷ [])
-    last_test = code_next most (short ∷ []) c q.first z
+    last_test = broken_next most (short ∷ []) q.first
 
     pub import_short : length out < length ts
-        → ListPromised (import_call env dest from (types_in ts) ps (length out)) (Refused SHORT) (length ts) h ws ks h ws ks out out
+        → ListPromised (import_call env dest from (types_in ts) ps (length out)) (Err Short) (length ts) h ws ks h ws ks out out
     import_short l = record {
       promised =
           rw call_is
           (call_back env h ws ks tests work SHORT
-          (last_test ∙ test_stands SHORT [] (lt-ltb (length out) (length (types_in ts)) (rw (length-map ts ty_of) l)))
-          (λ y. absurd (omega arith)));
+          (last_test ∙ test_stands SHORT [] (lt-ltb (length out) (length (types_in ts)) (rw (length-map ts ty_of) l))));
       rest = refl;
       kept = λ y. refl;
     }
 
-    most_passed : first_broken most ≡ none
-    most_passed = q.first ∙ code_none c z
-
     stores_passed : first_broken (stores_tests env dest from) ≡ none
-    stores_passed = passed_first (stores_tests env dest from) (given_tests ++ needed_tests) most_passed
+    stores_passed = passed_first (stores_tests env dest from) (given_tests ++ needed_tests) q.first
 
     later_passed : first_broken (given_tests ++ needed_tests) ≡ none
-    later_passed = passed_next (stores_tests env dest from) (given_tests ++ needed_tests) most_passed
+    later_passed = passed_next (stores_tests env dest from) (given_tests ++ needed_tests) q.first
 
     room_passed : first_broken (room_tests (store_of dest) wanted.nodes wanted.children) ≡ none
     room_passed = tests_passed wanted.missing NO_ENTRY (room_tests (store_of dest) wanted.nodes wanted.children) (passed_next given_tests needed_tests later_passed)
@@ -212,13 +193,13 @@ module _ {chart : List ℕ} {b : Beside} {rule text h ws ks sh sw sk ts : List �
 
       pub import_done : {h' ws' ks' out' : List ℕ}
           → ImportedIs (import (decode sw sk x.nodes) ps (store_in h ws ks) (types_in ts)) (length ts) h ws ks h' ws' ks' out out'
-          → ListPromised (import_call env dest from (types_in ts) ps (length out)) Done (length ts) h ws ks h' ws' ks' out out'
+          → ListPromised (import_call env dest from (types_in ts) ps (length out)) (Ok tt) (length ts) h ws ks h' ws' ks' out out'
       import_done o =
           let m : MovedAll = import (decode sw sk x.nodes) ps (store_in h ws ks) (types_in ts) in
           record {
             promised =
                 rw call_is
-                (call_done env h ws ks tests work 0 (last_test ∙ test_falls SHORT [] (le-ltb (length out) (length (types_in ts)) (rw (length-map ts ty_of) long))) refl
+                (call_done env h ws ks tests work (last_test ∙ test_falls SHORT [] (le-ltb (length out) (length (types_in ts)) (rw (length-map ts ty_of) long)))
                 (rw nodes_are (ap (λ (us : List Ty). done us m.work.dest) (sym o.types))) o.store);
             rest = o.rest;
             kept = λ y. let v : ◌≡◌ {A = ℕ} 0 1 = cc in absurd (omega arith);

@@ -4,7 +4,7 @@
 use mathlib.Core.Path.{◌≡◌, refl, ap, sym, ◌∙◌}
 use mathlib.Core.Bool.{Bool, true, false, not, ◌&&◌, ◌||◌}
 use mathlib.Core.List.{List, [], ◌∷◌}
-use mathlib.Core.Option.{Option, none}
+use mathlib.Core.Option.{Option, none, some}
 use Prim.Native.Nat.{ℕ, ◌≤◌}
 use lib.ListN.{length, length-map}
 use borrow.Author.Tests.{not-false, ltb-false}
@@ -19,12 +19,9 @@ use Rattle.scope.specs.Refusals.{OUTSIDE, UNMAKEABLE, NO_ENTRY, SOURCE_UNSOUND}
 use Rattle.scope.specs.Calls.{first_broken, lent_tests, too_many, room_tests, import_list}
 use Rattle.scope.proofs.TestLaws.{or_no}
 use Rattle.names.proofs.Tests.{both}
-use Rattle.chart.specs.declared.Beside.{Beside}
 use Rattle.layout.specs.Words.{store_in, lent_of}
 use Rattle.store.specs.Entries.{types_in}
-use Rattle.refusals.specs.Codes.{NO_REFUSAL, code_of}
 use Rattle.refusals.proofs.Laws.{test_stands, test_falls, test_passed, tests_passed, passed_first, passed_next}
-use Rattle.sound.specs.Tests.{env_in}
 use Rattle.needs.specs.declared.Needs.{Needs}
 use Rattle.needs.specs.Roots.{Params}
 use Rattle.std.specs.Prelude.{Some}
@@ -33,15 +30,13 @@ use Rattle.needs.specs.Sources.{ImportNeeds}
 use Rattle.promise.specs.Promise.{Tested}
 use Rattle.promise.proofs.Laws.{lent_chart, lent_sound}
 use Rattle.lent_tests.proofs.Laws.{Row, row_first, row_second, row_many, row_many_too, row_made}
-use Rattle.copy_parts.specs.Places.{list_of}
 use Rattle.tested_import.specs.Tests.{stores_tests, lists_tests, needs_tests, StoresTested, ListsTested, NeedsTested}
 
 -- both stores
 
-pub stores_tested : {chart : List ℕ} {b : Beside} {rule text h ws ks sh sw sk : List ℕ} → Tested chart b rule text h ws ks → Tested chart b rule text sh sw sk
-    → StoresTested chart b rule text h ws ks sh sw sk 0
-stores_tested {chart} {b} {rule} {text} {h} {ws} {ks} {sh} {sw} {sk} d s =
-    let e : Env = env_in chart b rule text in
+pub stores_tested : {e : Env} {h ws ks sh sw sk : List ℕ} → Tested e h ws ks → Tested e sh sw sk
+    → StoresTested e h ws ks sh sw sk none
+stores_tested {e} {h} {ws} {ks} {sh} {sw} {sk} d s =
     record { first = rw (lent_chart e h ws ks d.passed, lent_sound e h ws ks d.passed, lent_sound e sh sw sk s.passed) refl }
 
 -- what they say once they are passed: 2 and 8 would turn neither back
@@ -63,22 +58,22 @@ lists_row : (o : Store) (ts : List Ty) (ps : Option (List Ty))
 lists_row o ts ps = record { is = λ s. refl }
 
 module _ {ts : List ℕ} {a d : ℕ} {ps : Option (List Ty)} {i : Bool} (ei : (ns : List Node) → length ns ≡ a → i ≡ all (in_store ns) (types_in ts)) where
-  pub lists_first : not i ≡ true → ListsTested ts a ps d OUTSIDE
+  pub lists_first : i ≡ false → ListsTested ts a ps d (some OUTSIDE)
   lists_first z = record { first = λ o m. row_first (lists_row o (types_in ts) ps) (λ ns l. ei o.nodes m) z }
 
-  module _ (ti : not i ≡ false) {j : Bool} (ej : (ns : List Node) → length ns ≡ d → j ≡ all (in_store ns) (import_list ps)) where
-    pub lists_second : not j ≡ true → ListsTested ts a ps d OUTSIDE
+  module _ (ti : i ≡ true) {j : Bool} (ej : (ns : List Node) → length ns ≡ d → j ≡ all (in_store ns) (import_list ps)) where
+    pub lists_second : j ≡ false → ListsTested ts a ps d (some OUTSIDE)
     lists_second z = record { first = λ o m. row_second (lists_row o (types_in ts) ps) (λ ns l. ei o.nodes m) ti ej z }
 
-    module _ (tj : not j ≡ false) {k : Bool} (ek : k ≡ too_many (types_in ts)) where
-      pub lists_many : k ≡ true → ListsTested ts a ps d UNMAKEABLE
+    module _ (tj : j ≡ true) {k : Bool} (ek : k ≡ too_many (types_in ts)) where
+      pub lists_many : k ≡ true → ListsTested ts a ps d (some UNMAKEABLE)
       lists_many z = record { first = λ o m. row_many (lists_row o (types_in ts) ps) (λ ns l. ei o.nodes m) ti ej tj ek z }
 
       module _ (fk : k ≡ false) {l : Bool} (el : l ≡ too_many (import_list ps)) where
-        pub lists_many_too : l ≡ true → ListsTested ts a ps d UNMAKEABLE
+        pub lists_many_too : l ≡ true → ListsTested ts a ps d (some UNMAKEABLE)
         lists_many_too z = record { first = λ o m. row_many_too (lists_row o (types_in ts) ps) (λ ns v. ei o.nodes m) ti ej tj ek fk el z }
 
-        pub lists_pass : l ≡ false → ListsTested ts a ps d NO_REFUSAL
+        pub lists_pass : l ≡ false → ListsTested ts a ps d none
         lists_pass z = record { first = λ o m. row_made (lists_row o (types_in ts) ps) (λ ns v. ei o.nodes m) ti ej tj ek fk el z refl refl }
 
 -- what they say once they are passed
@@ -102,23 +97,23 @@ module _ (o s : Store) (ts : List Ty) (ps : Option (List Ty)) (q : first_broken 
 
 -- a parameter list as the walk is told of it
 
-module _ (listed : Bool) (ps : List ℕ) (e : listed ≡ true) where
-  pub params_few : too_many (import_list (list_of listed ps)) ≡ false → length ps ≤ MAX_LIST
-  params_few q = rw (length-map ps ty_of) at (ltb-false MAX_LIST (length (types_in ps)) (rw e at q))
+module _ (ps : List ℕ) where
+  pub params_few : too_many (types_in ps) ≡ false → length ps ≤ MAX_LIST
+  params_few q = rw (length-map ps ty_of) at (ltb-false MAX_LIST (length (types_in ps)) q)
 
-  pub params_listed : Some (length ps) ≡ params_for (list_of listed ps)
-  params_listed = rw (e, length-map ps ty_of) refl
+  pub params_listed : Some (length ps) ≡ params_for (some (types_in ps))
+  params_listed = rw (length-map ps ty_of) refl
 
 -- what is needed
 
 module _ {h sw sk ts : List ℕ} {n : ℕ} {p : Params} {ps : Option (List Ty)} {r : Needs} (e : p ≡ params_for ps) (o : ImportNeeds sw sk n p ts r) where
-  pub needs_missing : r.missing ≡ true → NeedsTested h sw sk n ps ts NO_ENTRY
+  pub needs_missing : r.missing ≡ true → NeedsTested h sw sk n ps ts (some NO_ENTRY)
   needs_missing z = record {
     first = λ ws ks. ap (λ (k : scope.Needs). first_broken (needs_tests k (store_in h ws ks))) (sym (o.is ps e))
         ∙ test_stands NO_ENTRY (room_tests (store_in h ws ks) r.nodes r.children) z;
   }
 
-  pub needs_room : {m : ℕ} → r.missing ≡ false → ((ws ks : List ℕ) → first_broken (room_tests (store_in h ws ks) r.nodes r.children) ≡ code_of m)
+  pub needs_room : {m : Option ℕ} → r.missing ≡ false → ((ws ks : List ℕ) → first_broken (room_tests (store_in h ws ks) r.nodes r.children) ≡ m)
       → NeedsTested h sw sk n ps ts m
   needs_room z f = record {
     first = λ ws ks. ap (λ (k : scope.Needs). first_broken (needs_tests k (store_in h ws ks))) (sym (o.is ps e))

@@ -9,11 +9,8 @@ use Rattle.scope.specs.Needs.{Needs, needs}
 use Rattle.scope.specs.Sound.{Lent, sound, in_store}
 use Rattle.scope.specs.Refusals.{OUTSIDE, UNMAKEABLE, NO_ENTRY, SOURCE_UNSOUND}
 use Rattle.scope.specs.Calls.{first_broken, store_of, lent_tests, too_many, room_tests, import_list}
-use Rattle.chart.specs.declared.Beside.{Beside}
 use Rattle.layout.specs.Words.{decode, store_in, lent_of}
 use Rattle.store.specs.Entries.{types_in}
-use Rattle.refusals.specs.Codes.{code_of}
-use Rattle.sound.specs.Tests.{env_in}
 use Rattle.lent_tests.specs.Given.{FirstOf}
 
 -- the destination, then the source
@@ -36,18 +33,18 @@ abbrev pub import_tests : Env → Lent → Lent → List Ty → Option (List Ty)
 import_tests e l src ts ps =
     stores_tests e l src ++ (lists_tests (store_of src) ts ps (store_of l) ++ needs_tests (needs (store_of src).nodes ps ts) (store_of l))
 
--- n is the first of refusals 2, 8 and 9 that stands, and 0 where none does
-pub record StoresTested (chart : List ℕ) (b : Beside) (rule text h ws ks sh sw sk : List ℕ) (n : ℕ) : Type 0 where
-  pub first : first_broken (stores_tests (env_in chart b rule text) (lent_of h ws ks) (lent_of sh sw sk)) ≡ code_of n
+-- n is the first of refusals 2, 8 and 9 that stands, if one does
+pub record StoresTested (e : Env) (h ws ks sh sw sk : List ℕ) (n : Option ℕ) : Type 0 where
+  pub first : first_broken (stores_tests e (lent_of h ws ks) (lent_of sh sw sk)) ≡ n
 
 -- the same for 3 and 4, whatever the nodes are: a of the source and d of the destination
-pub record ListsTested (ts : List ℕ) (a : ℕ) (ps : Option (List Ty)) (d r : ℕ) : Type 0 where
+pub record ListsTested (ts : List ℕ) (a : ℕ) (ps : Option (List Ty)) (d : ℕ) (r : Option ℕ) : Type 0 where
   pub first : (o : Store) → length o.nodes ≡ a → FirstOf d (lists_tests o (types_in ts) ps) r
 
 -- the same for 6, 10 and 11, whatever the destination's nodes and children are; the source has n nodes
-pub record NeedsTested (h sw sk : List ℕ) (n : ℕ) (ps : Option (List Ty)) (ts : List ℕ) (r : ℕ) : Type 0 where
-  pub first : (ws ks : List ℕ) → first_broken (needs_tests (needs (decode sw sk n) ps (types_in ts)) (store_in h ws ks)) ≡ code_of r
+pub record NeedsTested (h sw sk : List ℕ) (n : ℕ) (ps : Option (List Ty)) (ts : List ℕ) (r : Option ℕ) : Type 0 where
+  pub first : (ws ks : List ℕ) → first_broken (needs_tests (needs (decode sw sk n) ps (types_in ts)) (store_in h ws ks)) ≡ r
 
 -- the same for all of these
-pub record ImportTested (chart : List ℕ) (b : Beside) (rule text h ws ks sh sw sk ts : List ℕ) (ps : Option (List Ty)) (n : ℕ) : Type 0 where
-  pub first : first_broken (import_tests (env_in chart b rule text) (lent_of h ws ks) (lent_of sh sw sk) (types_in ts) ps) ≡ code_of n
+pub record ImportTested (e : Env) (h ws ks sh sw sk ts : List ℕ) (ps : Option (List Ty)) (n : Option ℕ) : Type 0 where
+  pub first : first_broken (import_tests e (lent_of h ws ks) (lent_of sh sw sk) (types_in ts) ps) ≡ n

@@ -8,66 +8,60 @@ ghost use Rattle.scope.specs.Sound.{in_store};
 ghost use Rattle.scope.specs.Calls.{too_many, import_list, import_call};
 ghost use Rattle.layout.specs.Words.{lent_of};
 ghost use Rattle.store.specs.Entries.{types_in};
-ghost use Rattle.sound.specs.Tests.{env_in};
+ghost use Rattle.sound.specs.Tests.{env_lent};
 ghost use Rattle.needs.specs.Roots.{params_for};
 ghost use Rattle.needs.specs.Sources.{Importable};
 ghost use Rattle.promise.specs.Promise.{Tested};
 ghost use Rattle.promise.specs.Lists.{ListPromised};
-ghost use Rattle.copy_parts.specs.Places.{list_of};
+ghost use Rattle.copy_parts.specs.Places.{params_in};
 ghost use Rattle.tested_import.specs.Tests.{ListsTested, NeedsTested, ImportTested};
+ghost use Rattle.refusals.specs.Codes.{told};
 
-use chart::Beside;
-use promise::DoneAnswer;
-use refusals::{NO_ENTRY, NO_REFUSAL, OUTSIDE, SHORT, UNMAKEABLE};
+use chart::Env;
+use refusals::Refusal;
 
-// The entries of a parameter list are among n nodes. Where there is none, no word of it is read.
-fn entries_inside(listed: bool, params: &[u32], n: u32) -> bool
-    ensures { (ns : List Node) → length ns ≡ n → result ≡ all (in_store ns) (import_list (list_of listed params.now)) }
+// The entries of a parameter list are among n nodes.
+fn entries_inside(params: Option<&[u32]>, n: u32) -> bool
+    ensures { (ns : List Node) → length ns ≡ n → result ≡ all (in_store ns) (import_list (params_in params.entry)) }
 {
-    if listed {
-        return refusals::types_inside(params, n);
+    match params {
+        Some(ps) => refusals::types_inside(ps, n),
+        None => true,
     }
-    true
 }
 
 // "over 255 listed types or parameters"
-fn too_many_entries(listed: bool, params: &[u32]) -> bool
-    ensures { result ≡ too_many (import_list (list_of listed params.now)) }
+fn too_many_entries(params: Option<&[u32]>) -> bool
+    ensures { result ≡ too_many (import_list (params_in params.entry)) }
 {
-    if listed {
-        return lent_tests::too_many(params);
+    match params {
+        Some(ps) => lent_tests::too_many(ps),
+        None => false,
     }
-    false
 }
 
 // The first of refusals 3 and 4 that stands: the types are of a source of a nodes, the entries of a destination of d.
-fn lists(ts: &[u32], a: u32, listed: bool, params: &[u32], d: u32) -> u32
-    ensures { ListsTested ts.now a (list_of listed params.now) d result }
+fn lists(ts: &[u32], a: u32, params: Option<&[u32]>, d: u32) -> Result<(), Refusal>
+    ensures { ListsTested ts.now a (params_in params.entry) d (told result) }
 {
-    if !refusals::types_inside(ts, a) {
-        return OUTSIDE;
+    if !refusals::types_inside(ts, a) || !entries_inside(params, d) {
+        return Err(Refusal::Outside);
     }
-    if !entries_inside(listed, params, d) {
-        return OUTSIDE;
+    if lent_tests::too_many(ts) || too_many_entries(params) {
+        return Err(Refusal::Unmakeable);
     }
-    if lent_tests::too_many(ts) {
-        return UNMAKEABLE;
-    }
-    if too_many_entries(listed, params) {
-        return UNMAKEABLE;
-    }
-    NO_REFUSAL
+    Ok(())
 }
 
 // No list and an empty list are two different things: in an empty list no Param has an entry.
-fn params_of(listed: bool, params: &[u32]) -> Option<u32>
-    requires { too_many (import_list (list_of listed params.now)) ≡ false }
-    ensures { result ≡ params_for (list_of listed params.now) }
+fn params_of(params: Option<&[u32]>) -> Option<u32>
+    requires { too_many (import_list (params_in params)) ≡ false }
+    ensures { result ≡ params_for (params_in params.entry) }
 {
-    if listed {
-        return Some(params.len() as u32);
+    match params {
+        Some(ps) => Some(ps.len() as u32),
+        None => None,
     }
-    None
 }
 
 // The first of refusals 6, 10 and 11 that stands: what is needed is counted in the source alone, and of the destination only the header is read.
@@ -76,28 +70,22 @@ fn needed(
     sw: &[u32],
     sk: &[u32],
     n: u32,
-    listed: bool,
-    params: &[u32],
+    params: Option<&[u32]>,
     ts: &[u32],
-) -> u32
-    requires { (Importable sw.now sk.now n (types_in ts.now)) × (too_many (import_list (list_of listed params.now)) ≡ false) }
-    ensures { NeedsTested h.now sw.now sk.now n (list_of listed params.now) ts.now result }
+) -> Result<(), Refusal>
+    requires { (Importable sw.now sk.now n (types_in ts.now)) × (too_many (import_list (params_in params)) ≡ false) }
+    ensures { NeedsTested h.now sw.now sk.now n (params_in params.entry) ts.now (told result) }
 {
-    let wanted = needs::of_import(sw, sk, n, params_of(listed, params), ts);
-    let full = refusals::room(h, wanted.nodes, wanted.children);
-    let missing = wanted.missing;
-    if missing {
-        return NO_ENTRY;
+    let wanted = needs::of_import(sw, sk, n, params_of(params), ts);
+    if wanted.missing {
+        return Err(Refusal::NoEntry);
     }
-    full
+    refusals::room(h, wanted.nodes, wanted.children)
 }
 
-// The first of all refusals but 7 that stands, and 0 where none does.
-fn refusal<'a>(
-    chart: &[u32],
-    beside: Beside,
-    rule: &'a [u8],
-    text: &'a [u8],
+// The first of all refusals but 7 that stands.
+fn refusal(
+    env: &Env<'_>,
     h: &[u32],
     ws: &[u32],
     ks: &[u32],
@@ -105,29 +93,22 @@ fn refusal<'a>(
     sw: &[u32],
     sk: &[u32],
     ts: &[u32],
-    listed: bool,
-    params: &[u32],
-) -> u32
-    requires tested { Tested chart.now beside rule.now text.now h.now ws.now ks.now }
-    requires tested_2 { Tested chart.now beside rule.now text.now sh.now sw.now sk.now }
-    ensures { ImportTested chart.now beside rule.now text.now h.now ws.now ks.now
-        sh.now sw.now sk.now ts.now (list_of listed params.now) result }
+    params: Option<&[u32]>,
+) -> Result<(), Refusal>
+    requires tested { Tested (env_lent env.now) h.now ws.now ks.now }
+    requires tested_2 { Tested (env_lent env.now) sh.now sw.now sk.now }
+    ensures { ImportTested (env_lent env.now) h.now ws.now ks.now
+        sh.now sw.now sk.now ts.now (params_in params.entry) (told result) }
 {
     let source = layout::read_header(sh);
     let x = layout::read_header(h);
-    let given = lists(ts, source.nodes, listed, params, x.nodes);
-    if given != NO_REFUSAL {
-        return given;
-    }
-    needed(h, sw, sk, source.nodes, listed, params, ts)
+    lists(ts, source.nodes, params, x.nodes)?;
+    needed(h, sw, sk, source.nodes, params, ts)
 }
 
-// The listed types of the source, which is only read; what they become stands at the front of `out`. `params` is a parameter list where `listed` says so.
-pub fn import<'a>(
-    chart: &[u32],
-    beside: Beside,
-    rule: &'a [u8],
-    text: &'a [u8],
+// The listed types of the source, which is only read; what they become stands at the front of `out`. `params` is a parameter list, if there is one.
+pub fn import(
+    env: &Env<'_>,
     h: &mut [u32],
     ws: &mut [u32],
     ks: &mut [u32],
@@ -135,29 +116,23 @@ pub fn import<'a>(
     sw: &[u32],
     sk: &[u32],
     ts: &[u32],
-    listed: bool,
-    params: &[u32],
+    params: Option<&[u32]>,
     out: &mut [u32],
-) -> DoneAnswer
-    requires tested { Tested chart.now beside rule.now text.now h.old ws.old ks.old }
-    requires tested_2 { Tested chart.now beside rule.now text.now sh.now sw.now sk.now }
+) -> Result<(), Refusal>
+    requires tested { Tested (env_lent env.now) h.old ws.old ks.old }
+    requires tested_2 { Tested (env_lent env.now) sh.now sw.now sk.now }
     ensures { ListPromised
-        (import_call (env_in chart.now beside rule.now text.now) (lent_of h.old ws.old ks.old)
-        (lent_of sh.now sw.now sk.now) (types_in ts.now) (list_of listed params.now)
+        (import_call (env_lent env.now) (lent_of h.old ws.old ks.old)
+        (lent_of sh.now sw.now sk.now) (types_in ts.now) (params_in params.entry)
         (length out.old))
         result (length ts.now) h.old ws.old ks.old h.new ws.new ks.new
         out.old out.new }
 {
-    let code = refusal(
-        chart, beside, rule, text, h, ws, ks, sh, sw, sk, ts, listed, params,
-    );
-    if code != NO_REFUSAL {
-        return DoneAnswer::Refused(code);
-    }
+    refusal(env, h, ws, ks, sh, sw, sk, ts, params)?;
     if out.len() < ts.len() {
-        return DoneAnswer::Refused(SHORT);
+        return Err(Refusal::Short);
     }
     let source = layout::read_header(sh);
-    copy::import(sw, sk, source.nodes, listed, params, h, ws, ks, ts, out);
-    DoneAnswer::Done
+    copy::import(sw, sk, source.nodes, params, h, ws, ks, ts, out);
+    Ok(())
 }

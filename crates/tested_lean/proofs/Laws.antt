@@ -3,18 +3,18 @@
 use mathlib.Core.Path.{◌≡◌, refl, ap, sym, ◌∙◌}
 use mathlib.Core.Bool.{Bool, true, false}
 use mathlib.Core.List.{List, [], ◌∷◌}
-use mathlib.Core.Option.{none, some}
+use mathlib.Core.Option.{Option, none, some}
 use Prim.Native.Nat.{ℕ, ◌+◌, ◌≤◌, ◌<◌}
 use native.Mathlib.Omega.{arith}
 use lib.ListN.{length}
 use borrow.Author.Tests.{lt-ltb, le-ltb}
+use Rattle.scope.specs.Chart.{Env}
 use Rattle.scope.specs.Types.{Ty, ty_of}
 use Rattle.scope.specs.Nodes.{Node, find}
 use Rattle.scope.specs.Sound.{in_store}
 use Rattle.scope.specs.Refusals.{OUTSIDE, NODES_FULL}
 use Rattle.scope.specs.Make.{new_var, make_error, make_nil}
 use Rattle.scope.specs.Calls.{first_broken, room_tests, nodes_for, new_var_call, error_call, nil_call, find_call, find_mut_call}
-use Rattle.chart.specs.declared.Beside.{Beside}
 use Rattle.types.specs.declared.«Type».{«Type»}
 use Rattle.layout.specs.Words.{nodes_made, children_made, node_room, child_room, store_in}
 use Rattle.layout.specs.Meaning.{type_of, header_in, remembered_means, Linked, Lies}
@@ -22,7 +22,6 @@ use Rattle.layout.specs.Meaning.{Remembered}
 use Rattle.std.specs.Prelude.{Some}
 use Rattle.layout.specs.declared.TypeState.TheVariants.{Unknown}
 use Rattle.layout.proofs.StoreLaws.{clean_lies}
-use Rattle.store.specs.Holds.{Ready}
 use Rattle.store.proofs.Laws.{error_is, nil_is}
 use Rattle.scope.specs.Kinds.{TUPLE, ERROR}
 use Rattle.roots.specs.Found.{Found, FoundMut, Near}
@@ -30,7 +29,6 @@ use Rattle.roots.specs.Found.{Nearby}
 use Rattle.std.specs.declared.option.Option.TheVariants as near
 use Rattle.make.specs.Header.{Pushed, BlankReady, OnceReady, OnceMade}
 use Rattle.make.proofs.MakeLaws.{blank_ready, blank_made, var_made, once_ready, error_made, nil_made}
-use Rattle.refusals.specs.Codes.{code_of}
 use Rattle.refusals.proofs.RoomLaws.{nodes_full, room_left}
 use Rattle.promise.specs.Promise.{value, refusal, Tested, TypesInside}
 use Rattle.promise.proofs.Laws.{tested_clean, inside_tested, one_outside, one_inside}
@@ -40,7 +38,7 @@ use Rattle.call_make.proofs.tested.MakerLaws.{for_room, maker_back, maker_ready,
 use Rattle.call_find.proofs.tested.Laws.{mut_refused, mut_answer}
 use Rattle.tested_lean.specs.Each.{Passed, EachPromised, EachAnswered, Within}
 
-tested_within : {chart : List ℕ} {b : Beside} {rule text h ws ks : List ℕ} → Tested chart b rule text h ws ks → Within h
+tested_within : {e : Env} {h ws ks : List ℕ} → Tested e h ws ks → Within h
 tested_within {h = h} {ws = ws} {ks = ks} q =
     let l : Lies h ws ks = clean_lies h ws ks (tested_clean q) in
     record { head = l.head; nodes = l.nodes; children = l.children }
@@ -65,102 +63,104 @@ module _ {h : List ℕ} (w : Within h) (ws ks : List ℕ) where
 -- one type, by the number of nodes
 
 module _ {h : List ℕ} {n : ℕ} (g : n ≡ nodes_made h) (t : Ty) {b : Bool} (i : (ns : List Node) → length ns ≡ n → b ≡ in_store ns t) where
-  pub type_outside : b ≡ false → TypesInside h (t ∷ []) OUTSIDE
+  pub type_outside : b ≡ false → TypesInside h (t ∷ []) (some OUTSIDE)
   type_outside f = one_outside h {x = header_in h} refl t (λ ns l. i ns (l ∙ sym g)) f
 
-  pub type_inside : b ≡ true → TypesInside h (t ∷ []) 0
+  pub type_inside : b ≡ true → TypesInside h (t ∷ []) none
   type_inside f = one_inside h {x = header_in h} refl t (λ ns l. i ns (l ∙ sym g)) f
 
 -- new_var
 
-module _ {h ws : List ℕ} {n : ℕ} (span : ℕ) (room : (ws ks : List ℕ) → first_broken (room_tests (store_in h ws ks) 1 0) ≡ code_of n) where
-  for_var : {chart : List ℕ} {b : Beside} {rule text ks : List ℕ} → Tested chart b rule text h ws ks → RoomTested chart b rule text h ws ks (λ _. 1) n
-  for_var {ks = ks} q = for_room 1 n q (room ws ks)
+abbrev pub RoomFor : List ℕ → ℕ → Option ℕ → Type 0
+RoomFor h a o = (ws ks : List ℕ) → first_broken (room_tests (store_in h ws ks) a 0) ≡ o
 
-  pub var_back : (n ≡ 0 → ⊥) → EachPromised (λ e l. new_var_call e l span) (refusal n) h ws h ws
+for_var : {e : Env} {h ws ks : List ℕ} {o : Option ℕ} → RoomFor h 1 o → Tested e h ws ks → RoomTested e h ws ks (λ _. 1) o
+for_var {ws = ws} {ks = ks} room q = for_room 1 q (room ws ks)
+
+module _ {h ws : List ℕ} (span : ℕ) where
+  pub var_back : {n : ℕ} → RoomFor h 1 (some n) → EachPromised (λ e l. new_var_call e l span) (refusal n) h ws h ws
   unfolding new_var_call
-  var_back z = record { each = λ q. maker_back (for_var q) (λ s. new_var s span) z }
+  var_back room = record { each = λ q. maker_back (for_var room q) (λ s. new_var s span) }
 
-  pub var_ready : Passed h ws → n ≡ 0 → BlankReady h ws 0
-  var_ready p z = blank_ready (maker_ready (for_var p.tested) z)
+  pub var_ready : RoomFor h 1 none → Passed h ws → BlankReady h ws 0
+  var_ready room p = blank_ready (maker_ready (for_var room p.tested))
 
-  pub var_done : {h' ws' : List ℕ} {t : «Type»} → n ≡ 0 → Pushed h ws h' ws' (header_in h) 0 (header_in h).error (header_in h).nil (Unknown span) t
+  pub var_done : {h' ws' : List ℕ} {t : «Type»} → RoomFor h 1 none → Pushed h ws h' ws' (header_in h) 0 (header_in h).error (header_in h).nil (Unknown span) t
       → EachPromised (λ e l. new_var_call e l span) (value (ty_of t.0)) h ws h' ws'
   unfolding new_var_call
-  var_done z o = record {
-    each = λ q. maker_done (for_var q) (λ s. new_var s span) z (var_made (blank_made (maker_ready (for_var q) z) o));
+  var_done room o = record {
+    each = λ q. maker_done (for_var room q) (λ s. new_var s span) (var_made (blank_made (maker_ready (for_var room q)) o));
   }
 
 -- error and nil
 
-module _ {h ws : List ℕ} {n : ℕ} {was : Remembered} (room : (ws ks : List ℕ) → first_broken (room_tests (store_in h ws ks) (nodes_for (remembered_means was)) 0) ≡ code_of n) where
+module _ {h : List ℕ} {was : Remembered} where
   module _ (e : was ≡ (header_in h).error) where
-    for_error : {chart : List ℕ} {b : Beside} {rule text ks : List ℕ} → Tested chart b rule text h ws ks
-        → RoomTested chart b rule text h ws ks (λ s. nodes_for s.error) n
-    for_error {ks = ks} q =
-        error_tested {x = header_in h} refl (ap (λ (r : Remembered). nodes_for (remembered_means r)) e) (for_room (nodes_for (remembered_means was)) n q (room ws ks))
+    for_error : {v : Env} {ws ks : List ℕ} {o : Option ℕ} → RoomFor h (nodes_for (remembered_means was)) o → Tested v h ws ks
+        → RoomTested v h ws ks (λ s. nodes_for s.error) o
+    for_error {ws = ws} {ks = ks} room q =
+        error_tested {x = header_in h} refl (ap (λ (r : Remembered). nodes_for (remembered_means r)) e) (for_room (nodes_for (remembered_means was)) q (room ws ks))
 
-    pub error_back : (n ≡ 0 → ⊥) → EachPromised error_call (refusal n) h ws h ws
+    pub error_back : {ws : List ℕ} {n : ℕ} → RoomFor h (nodes_for (remembered_means was)) (some n) → EachPromised error_call (refusal n) h ws h ws
     unfolding error_call
-    error_back z = record { each = λ q. maker_back (for_error q) make_error z }
+    error_back room = record { each = λ q. maker_back (for_error room q) make_error }
 
-    error_room : {chart : List ℕ} {b : Beside} {rule text ks : List ℕ} → Tested chart b rule text h ws ks → n ≡ 0 → Ready h ws ks (nodes_for (store_in h ws ks).error) 0
-    error_room q z = maker_ready (for_error q) z
+    pub error_ready : {ws : List ℕ} → RoomFor h (nodes_for (remembered_means was)) none → Passed h ws → OnceReady h ws (header_in h) (header_in h).error
+    error_ready {ws} room p = once_ready (tested_clean p.tested) (error_is h ws p.kids) (maker_ready (for_error room p.tested))
 
-    pub error_ready : Passed h ws → n ≡ 0 → OnceReady h ws (header_in h) (header_in h).error
-    error_ready p z = once_ready (tested_clean p.tested) (error_is h ws p.kids) (error_room p.tested z)
-
-    pub error_done : {h' ws' : List ℕ} {t : «Type»} → n ≡ 0
+    pub error_done : {ws h' ws' : List ℕ} {t : «Type»} → RoomFor h (nodes_for (remembered_means was)) none
         → OnceMade h ws h' ws' (header_in h) (header_in h).error (Some (type_of (nodes_made h))) (header_in h).nil ERROR t
         → EachPromised error_call (value (ty_of t.0)) h ws h' ws'
     unfolding error_call
-    error_done z o = record { each = λ {ks = ks} q. maker_done (for_error q) make_error z (error_made h ws ks (error_room q z) o) }
+    error_done {ws = ws} room o = record {
+      each = λ {ks = ks} q. maker_done (for_error room q) make_error (error_made h ws ks (maker_ready (for_error room q)) o);
+    }
 
   module _ (e : was ≡ (header_in h).nil) where
-    for_nil : {chart : List ℕ} {b : Beside} {rule text ks : List ℕ} → Tested chart b rule text h ws ks
-        → RoomTested chart b rule text h ws ks (λ s. nodes_for s.nil) n
-    for_nil {ks = ks} q =
-        nil_tested {x = header_in h} refl (ap (λ (r : Remembered). nodes_for (remembered_means r)) e) (for_room (nodes_for (remembered_means was)) n q (room ws ks))
+    for_nil : {v : Env} {ws ks : List ℕ} {o : Option ℕ} → RoomFor h (nodes_for (remembered_means was)) o → Tested v h ws ks
+        → RoomTested v h ws ks (λ s. nodes_for s.nil) o
+    for_nil {ws = ws} {ks = ks} room q =
+        nil_tested {x = header_in h} refl (ap (λ (r : Remembered). nodes_for (remembered_means r)) e) (for_room (nodes_for (remembered_means was)) q (room ws ks))
 
-    pub nil_back : (n ≡ 0 → ⊥) → EachPromised nil_call (refusal n) h ws h ws
+    pub nil_back : {ws : List ℕ} {n : ℕ} → RoomFor h (nodes_for (remembered_means was)) (some n) → EachPromised nil_call (refusal n) h ws h ws
     unfolding nil_call
-    nil_back z = record { each = λ q. maker_back (for_nil q) make_nil z }
+    nil_back room = record { each = λ q. maker_back (for_nil room q) make_nil }
 
-    nil_room : {chart : List ℕ} {b : Beside} {rule text ks : List ℕ} → Tested chart b rule text h ws ks → n ≡ 0 → Ready h ws ks (nodes_for (store_in h ws ks).nil) 0
-    nil_room q z = maker_ready (for_nil q) z
+    pub nil_ready : {ws : List ℕ} → RoomFor h (nodes_for (remembered_means was)) none → Passed h ws → OnceReady h ws (header_in h) (header_in h).nil
+    nil_ready {ws} room p = once_ready (tested_clean p.tested) (nil_is h ws p.kids) (maker_ready (for_nil room p.tested))
 
-    pub nil_ready : Passed h ws → n ≡ 0 → OnceReady h ws (header_in h) (header_in h).nil
-    nil_ready p z = once_ready (tested_clean p.tested) (nil_is h ws p.kids) (nil_room p.tested z)
-
-    pub nil_done : {h' ws' : List ℕ} {t : «Type»} → n ≡ 0
+    pub nil_done : {ws h' ws' : List ℕ} {t : «Type»} → RoomFor h (nodes_for (remembered_means was)) none
         → OnceMade h ws h' ws' (header_in h) (header_in h).nil (header_in h).error (Some (type_of (nodes_made h))) TUPLE t
         → EachPromised nil_call (value (ty_of t.0)) h ws h' ws'
     unfolding nil_call
-    nil_done z o = record { each = λ {ks = ks} q. maker_done (for_nil q) make_nil z (nil_made h ws ks (nil_room q z) o) }
+    nil_done {ws = ws} room o = record {
+      each = λ {ks = ks} q. maker_done (for_nil room q) make_nil (nil_made h ws ks (maker_ready (for_nil room q)) o);
+    }
 
 -- find and find_mut
 
-module _ {h ws : List ℕ} (t : «Type») {n : ℕ} (inside : TypesInside h (ty_of t.0 ∷ []) n) where
-  pub find_back : (n ≡ 0 → ⊥) → EachAnswered (λ e l. find_call e l (ty_of t.0)) (refusal n) h ws
-  unfolding find_call
-  find_back z = record { each = λ q. read_refused (inside_tested q inside) z _ }
+module _ {h : List ℕ} (t : «Type») where
+  module _ {n : ℕ} (outside : TypesInside h (ty_of t.0 ∷ []) (some n)) where
+    pub find_back : {ws : List ℕ} → EachAnswered (λ e l. find_call e l (ty_of t.0)) (refusal n) h ws
+    unfolding find_call
+    find_back = record { each = λ q. read_refused (inside_tested q outside) _ }
 
-  pub mut_back : (n ≡ 0 → ⊥) → EachPromised (λ e l. find_mut_call e l (ty_of t.0)) (refusal n) h ws h ws
-  mut_back z = record { each = λ q. mut_refused t (inside_tested q inside) z }
+    pub mut_back : {ws : List ℕ} → EachPromised (λ e l. find_mut_call e l (ty_of t.0)) (refusal n) h ws h ws
+    mut_back = record { each = λ q. mut_refused t (inside_tested q outside) }
 
-  module _ (z : n ≡ 0) {m : ℕ} (g : m ≡ nodes_made h) where
+  module _ (inside : TypesInside h (ty_of t.0 ∷ []) none) {ws : List ℕ} {m : ℕ} (g : m ≡ nodes_made h) where
     pub find_linked : Passed h ws → Linked ws m
-    find_linked p = rw g (read_linked (inside_tested p.tested inside) z {x = header_in h} refl)
+    find_linked p = rw g (read_linked (inside_tested p.tested inside) {x = header_in h} refl)
 
     pub find_done : {r : «Type»} → Found ws m t.0 r.0 → EachAnswered (λ e l. find_call e l (ty_of t.0)) (value (ty_of r.0)) h ws
     unfolding find_call
     find_done f = record {
-      each = λ {ks = ks} q. read_nodes (inside_tested q inside) z {x = header_in h} refl (λ (ns : List Node). find ns (ty_of t.0)) ((rw g at f).root ks);
+      each = λ {ks = ks} q. read_nodes (inside_tested q inside) {x = header_in h} refl (λ (ns : List Node). find ns (ty_of t.0)) ((rw g at f).root ks);
     }
 
     pub mut_done : {ws' : List ℕ} {r : «Type»} → FoundMut ws m ws' t.0 r.0
         → EachPromised (λ e l. find_mut_call e l (ty_of t.0)) (value (ty_of r.0)) h ws h ws'
-    mut_done f = record { each = λ q. mut_answer t (inside_tested q inside) z {x = header_in h} refl (rw g at f) }
+    mut_done f = record { each = λ q. mut_answer t (inside_tested q inside) {x = header_in h} refl (rw g at f) }
 
 -- near its root
 pub near_mut : {ws : List ℕ} {n t : ℕ} {q : Nearby} {r : «Type»} → Linked ws n → Near ws n t q → q ≡ near.Some r → FoundMut ws n ws t r.0

@@ -5,29 +5,24 @@ use Rattle.scope.specs.Chart.{Env}
 use Rattle.scope.specs.Types.{Ty}
 use Rattle.scope.specs.Sound.{Lent}
 use Rattle.scope.specs.Calls.{Outcome}
-use Rattle.chart.specs.declared.Beside.{Beside}
 use Rattle.layout.specs.Words.{HEAD_WORDS, nodes_made, children_made, node_room, child_room, store_in, lent_of}
-use Rattle.sound.specs.Tests.{env_in}
 use Rattle.promise.specs.Promise.{Reply, outcome_by, Promised, Tested}
 
 -- header and nodes are those of a tested store
 pub record Passed (h ws : List ℕ) : Type 0 where
-  pub chart : List ℕ
-  pub beside : Beside
-  pub rule : List ℕ
-  pub text : List ℕ
+  pub env : Env
   pub kids : List ℕ
-  pub tested : Tested chart beside rule text h ws kids
+  pub tested : Tested env h ws kids
 
 -- a call that writes
 pub record EachPromised (call : Env → Lent → Outcome Ty) (r : Reply Ty) (h ws h' ws' : List ℕ) : Type 0 where
-  pub each : {chart : List ℕ} {b : Beside} {rule text ks : List ℕ} → Tested chart b rule text h ws ks
-      → Promised (call (env_in chart b rule text) (lent_of h ws ks)) r h ws ks h' ws' ks
+  pub each : {e : Env} {ks : List ℕ} → Tested e h ws ks
+      → Promised (call e (lent_of h ws ks)) r h ws ks h' ws' ks
 
 -- a call that reads
 pub record EachAnswered (call : Env → Lent → Outcome Ty) (r : Reply Ty) (h ws : List ℕ) : Type 0 where
-  pub each : {chart : List ℕ} {b : Beside} {rule text ks : List ℕ} → Tested chart b rule text h ws ks
-      → call (env_in chart b rule text) (lent_of h ws ks) ≡ outcome_by r (store_in h ws ks)
+  pub each : {e : Env} {ks : List ℕ} → Tested e h ws ks
+      → call e (lent_of h ws ks) ≡ outcome_by r (store_in h ws ks)
 
 -- a header's words are there, and its counts are within their room
 pub record Within (h : List ℕ) : Type 0 where

@@ -7,46 +7,45 @@ ghost use Rattle.scope.specs.Calls.{first_broken, room_tests, nodes_for, new_var
 ghost use Rattle.layout.specs.Words.{HEAD_WORDS, store_in};
 ghost use Rattle.layout.specs.Meaning.{remembered_means, Linked};
 ghost use Rattle.roots.specs.Found.{Found};
-ghost use Rattle.refusals.specs.Codes.{code_of};
+ghost use Rattle.refusals.specs.Codes.{told};
 ghost use Rattle.promise.specs.Promise.{type_reply, TypesInside};
 ghost use Rattle.tested_lean.specs.Each.{Passed, EachPromised, EachAnswered, Within};
 
-use promise::TypeAnswer;
-use refusals::{NO_REFUSAL, NODES_FULL, OUTSIDE};
+use refusals::Refusal;
 use types::Type;
 
-// The first of refusals 10 and 11 that stands where one node more is to be made, and 0 where none does: 11 does not.
-fn node_refusal(h: &[u32]) -> u32
+// The first of refusals 10 and 11 that stands where one node more is to be made: 11 does not.
+fn node_room(h: &[u32]) -> Result<(), Refusal>
     requires { Within h.now }
-    ensures { (ws ks : List ℕ) → first_broken (room_tests (store_in h.now ws ks) 1 0) ≡ code_of result }
+    ensures { (ws ks : List ℕ) → first_broken (room_tests (store_in h.now ws ks) 1 0) ≡ told result }
 {
     if heads::node_room(h) <= heads::nodes_made(h) {
-        return NODES_FULL;
+        return Err(Refusal::NodesFull);
     }
-    NO_REFUSAL
+    Ok(())
 }
 
 // The same for a type that is made once: one that is remembered needs no node.
-fn once_refusal(h: &[u32], was: Option<Type>) -> u32
+fn once_room(h: &[u32], was: Option<Type>) -> Result<(), Refusal>
     requires { Within h.now }
-    ensures { (ws ks : List ℕ) → first_broken (room_tests (store_in h.now ws ks) (nodes_for (remembered_means was)) 0) ≡ code_of result }
+    ensures { (ws ks : List ℕ) → first_broken (room_tests (store_in h.now ws ks) (nodes_for (remembered_means was)) 0) ≡ told result }
 {
     match was {
-        Some(_) => NO_REFUSAL,
-        None => node_refusal(h),
+        Some(_) => Ok(()),
+        None => node_room(h),
     }
 }
 
-// Refusal 3 where a type's node is not in the store, and 0 where it is.
-fn inside_refusal(h: &[u32], t: Type) -> u32
+// Refusal 3 where a type's node is not in the store.
+fn inside(h: &[u32], t: Type) -> Result<(), Refusal>
     requires { HEAD_WORDS ≤ length h.now }
-    ensures { TypesInside h.now (ty_of t.0 ∷ []) result }
+    ensures { TypesInside h.now (ty_of t.0 ∷ []) (told result) }
 {
     let n = heads::nodes_made(h);
     if refusals::type_inside(t, n) {
-        return NO_REFUSAL;
+        return Ok(());
     }
-    OUTSIDE
+    Err(Refusal::Outside)
 }
 
 // The root of a type among n nodes. Most are near it.
@@ -54,73 +53,55 @@ fn root_of(ws: &[u32], n: u32, t: Type) -> Type
     requires { Linked ws.now n }
     ensures { Found ws.now n t.0 result.0 }
 {
-    match roots::near(ws, n, t) {
-        Some(root) => root,
-        None => roots::find(ws, n, t),
-    }
+    roots::near(ws, n, t).unwrap_or_else(|| roots::find(ws, n, t))
 }
 
 // "`new_var`": a type without a kind, and its span.
-pub fn new_var(h: &mut [u32], ws: &mut [u32], span: u32) -> TypeAnswer
+pub fn new_var(h: &mut [u32], ws: &mut [u32], span: u32) -> Result<Type, Refusal>
     requires { Passed h.old ws.old }
     ensures { EachPromised (λ e l. new_var_call e l span) (type_reply result) h.old ws.old h.new ws.new }
 {
-    let code = node_refusal(h);
-    if code != NO_REFUSAL {
-        return TypeAnswer::Refused(code);
-    }
-    TypeAnswer::Is(make::push_unknown(h, ws, span, 0))
+    node_room(h)?;
+    Ok(make::push_unknown(h, ws, span, 0))
 }
 
 // The error type.
-pub fn error(h: &mut [u32], ws: &mut [u32]) -> TypeAnswer
+pub fn error(h: &mut [u32], ws: &mut [u32]) -> Result<Type, Refusal>
     requires { Passed h.old ws.old }
     ensures { EachPromised error_call (type_reply result) h.old ws.old h.new ws.new }
 {
-    let code = once_refusal(h, heads::error_made(h));
-    if code != NO_REFUSAL {
-        return TypeAnswer::Refused(code);
-    }
-    TypeAnswer::Is(make::error_once(h, ws))
+    once_room(h, heads::error_made(h))?;
+    Ok(make::error_once(h, ws))
 }
 
 // The type of nothing: a Tuple without children.
-pub fn nil(h: &mut [u32], ws: &mut [u32]) -> TypeAnswer
+pub fn nil(h: &mut [u32], ws: &mut [u32]) -> Result<Type, Refusal>
     requires { Passed h.old ws.old }
     ensures { EachPromised nil_call (type_reply result) h.old ws.old h.new ws.new }
 {
-    let code = once_refusal(h, heads::nil_made(h));
-    if code != NO_REFUSAL {
-        return TypeAnswer::Refused(code);
-    }
-    TypeAnswer::Is(make::nil_once(h, ws))
+    once_room(h, heads::nil_made(h))?;
+    Ok(make::nil_once(h, ws))
 }
 
 // "`find` follows parents, combining inversions by exclusive or."
-pub fn find(h: &[u32], ws: &[u32], t: Type) -> TypeAnswer
+pub fn find(h: &[u32], ws: &[u32], t: Type) -> Result<Type, Refusal>
     requires { Passed h.now ws.now }
     ensures { EachAnswered (λ e l. find_call e l (ty_of t.0)) (type_reply result) h.now ws.now }
 {
-    let code = inside_refusal(h, t);
-    if code != NO_REFUSAL {
-        return TypeAnswer::Refused(code);
-    }
+    inside(h, t)?;
     let n = heads::nodes_made(h);
-    TypeAnswer::Is(root_of(ws, n, t))
+    Ok(root_of(ws, n, t))
 }
 
 // "`find_mut` also points every node on the path straight at the root, keeping each node's meaning." Near its root a type's path has no other node.
-pub fn find_mut(h: &[u32], ws: &mut [u32], t: Type) -> TypeAnswer
+pub fn find_mut(h: &[u32], ws: &mut [u32], t: Type) -> Result<Type, Refusal>
     requires { Passed h.now ws.old }
     ensures { EachPromised (λ e l. find_mut_call e l (ty_of t.0)) (type_reply result) h.now ws.old h.now ws.new }
 {
-    let code = inside_refusal(h, t);
-    if code != NO_REFUSAL {
-        return TypeAnswer::Refused(code);
-    }
+    inside(h, t)?;
     let n = heads::nodes_made(h);
     match roots::near(ws, n, t) {
-        Some(root) => TypeAnswer::Is(root),
-        None => TypeAnswer::Is(roots::find_mut(ws, n, t)),
+        Some(root) => Ok(root),
+        None => Ok(roots::find_mut(ws, n, t)),
     }
 }

@@ -3,11 +3,12 @@
 use mathlib.Core.Path.{◌≡◌, refl, ap, sym, ◌∙◌}
 use mathlib.Core.Bool.{Bool, true, false, not, false≢true}
 use mathlib.Core.List.{List}
+use mathlib.Core.Option.{Option, none, some}
 use Prim.Native.Nat.{ℕ, ◌+◌, ◌≤◌}
 use native.Mathlib.Omega.{arith}
 use lib.ListN.{length, length-map}
 use denote.Enum.Bare.{sameb}
-use Rattle.scope.specs.Limits.{MAX_WIDTH, MAX_CHILDREN}
+use Rattle.scope.specs.Limits.{MAX_CHILDREN}
 use Rattle.scope.specs.Types.{Ty, ty_of}
 use Rattle.scope.specs.Kinds.{Row, NO_NAMES, row_of, flag_of}
 use Rattle.scope.specs.Nodes.{Node}
@@ -36,13 +37,12 @@ use Rattle.make.specs.Given.{kind_at, kind_given, KindReady, Put}
 use Rattle.make.specs.declared.Head as make
 use Rattle.make.proofs.MakeLaws.{RoomIn, ready_room, pushable_in}
 use Rattle.make.proofs.NewLaws.{kind_head, entries_ready, children_room, kind_made_lem}
-use Rattle.refusals.specs.Codes.{code_of}
 use Rattle.promise.specs.Promise.{Reply, value, refusal, Promised}
 use Rattle.lent_kind.specs.declared.KindArgs.{KindArgs}
 use Rattle.lent_kind.specs.Lent.{with_flag, given, plain_args, kind_tests, list_tests}
 use Rattle.call_make.proofs.tested.RoomLaws.{lent_within}
 use Rattle.tested_new.specs.Inside.{inside_call}
-use Rattle.tested_new.proofs.Laws.{inside_refused, inside_full, inside_ready, inside_made, listed_narrow, new_listed, new_promised}
+use Rattle.tested_new.proofs.Laws.{inside_refused, inside_full, inside_ready, inside_made, new_listed, new_promised}
 use Rattle.sound.specs.Tests.{env_in}
 use Rattle.tested_over.specs.Over.{entries_of, PassedBy, OverPromised}
 use Rattle.tested_over.proofs.EntryLaws.{entries_count, entries_given}
@@ -74,34 +74,42 @@ module _ (ts : List ℕ) {h ws ks : List ℕ} {k : make.Head} (r : KindReady h w
 
 -- make_over
 
-module _ (cs h ws ks ts : List ℕ) (c m : ℕ) (row : (row_of c).names ≡ NO_NAMES) (v : ℕ)
-    (q : (rule text : List ℕ) (us : List Ty) → length us ≡ length ts → first_broken (kind_tests (chart_in cs rule text) (over c m us)) ≡ code_of v) where
+-- what a test of n types alone tells of each list of so many, and what room tells of each store with this header
+abbrev pub PlainTold : List ℕ → ℕ → ℕ → ℕ → Option ℕ → Type 0
+PlainTold cs c m n o = (rule text : List ℕ) (us : List Ty) → length us ≡ n → first_broken (kind_tests (chart_in cs rule text) (over c m us)) ≡ o
+
+abbrev pub RoomTold : List ℕ → ℕ → Option ℕ → Type 0
+RoomTold h n o = (ws ks : List ℕ) → first_broken (room_tests (store_in h ws ks) 1 n) ≡ o
+
+module _ (cs h ws ks ts : List ℕ) (c m : ℕ) (row : (row_of c).names ≡ NO_NAMES) where
   abbrev args : KindArgs
   args = plain_args c m
 
-  tests : (rule text : List ℕ) → first_broken (kind_tests (chart_in cs rule text) (given args (entries_of ts))) ≡ code_of v
-  tests rule text = rw (entries_given ts c m row) (q rule text (types_in ts) (length-map ts ty_of))
+  tests : {o : Option ℕ} → PlainTold cs c m (length ts) o → (rule text : List ℕ) → first_broken (kind_tests (chart_in cs rule text) (given args (entries_of ts))) ≡ o
+  tests q rule text = rw (entries_given ts c m row) (q rule text (types_in ts) (length-map ts ty_of))
 
-  pub over_refused : (v ≡ 0 → ⊥) → (rule text : List ℕ) → Promised (inside_call (chart_in cs rule text) (store_in h ws ks) (given args (entries_of ts))) (refusal v) h ws ks h ws ks
-  over_refused z rule text = inside_refused cs rule text h ws ks args (entries_of ts) v (tests rule text) z
+  rooms : {o : Option ℕ} → RoomTold h (length ts) o → RoomTold h (entry_count (entries_of ts)) o
+  rooms room ws ks = rw (entries_count ts) (room ws ks)
 
-  module _ (z : v ≡ 0) (u : ℕ) (room : (ws ks : List ℕ) → first_broken (room_tests (store_in h ws ks) 1 (length ts)) ≡ code_of u) where
-    rooms : (ws ks : List ℕ) → first_broken (room_tests (store_in h ws ks) 1 (entry_count (entries_of ts))) ≡ code_of u
-    rooms ws ks = rw (entries_count ts) (room ws ks)
+  pub over_refused : {v : ℕ} → PlainTold cs c m (length ts) (some v) → (rule text : List ℕ)
+      → Promised (inside_call (chart_in cs rule text) (store_in h ws ks) (given args (entries_of ts))) (refusal v) h ws ks h ws ks
+  over_refused q rule text = inside_refused cs rule text h ws ks args (entries_of ts) (tests q rule text)
 
-    pub over_full : (u ≡ 0 → ⊥) → (rule text : List ℕ) → Promised (inside_call (chart_in cs rule text) (store_in h ws ks) (given args (entries_of ts))) (refusal u) h ws ks h ws ks
-    over_full y rule text = inside_full cs rule text h ws ks args (entries_of ts) v (tests rule text) z u rooms y
+  module _ (q : PlainTold cs c m (length ts) none) where
+    pub over_full : {u : ℕ} → RoomTold h (length ts) (some u) → (rule text : List ℕ)
+        → Promised (inside_call (chart_in cs rule text) (store_in h ws ks) (given args (entries_of ts))) (refusal u) h ws ks h ws ks
+    over_full room rule text = inside_full cs rule text h ws ks args (entries_of ts) (tests q rule text) (rooms room)
 
-    module _ (y : u ≡ 0) {k : KindArgs} {f : make.Head} (a : k ≡ args) (g : f ≡ with_flag k (flag_of (chart_alone cs) k.code k.number)) where
+    module _ (room : RoomTold h (length ts) none) {k : KindArgs} {f : make.Head} (a : k ≡ args) (g : f ≡ with_flag k (flag_of (chart_alone cs) k.code k.number)) where
       flag_is : f ≡ with_flag args (flag_of (chart_alone cs) c m)
       flag_is = rw a at g
 
       pub over_ready : Ready h ws ks 0 0 → (rule text : List ℕ) → KindReady h ws ks f (entries_of ts)
-      over_ready r rule text = inside_ready cs rule text h ws ks args (entries_of ts) v (tests rule text) z u rooms y flag_is r
+      over_ready r rule text = inside_ready cs rule text h ws ks args (entries_of ts) (tests q rule text) (rooms room) flag_is r
 
       pub over_made : {h' ws' ks' : List ℕ} {t : «Type»} → MadeIs h ws ks h' ws' ks' t (new (store_in h ws ks) (kind_given f (entries_of ts)))
           → (rule text : List ℕ) → Promised (inside_call (chart_in cs rule text) (store_in h ws ks) (given args (entries_of ts))) (value (ty_of t.0)) h ws ks h' ws' ks'
-      over_made o rule text = inside_made cs rule text h ws ks args (entries_of ts) v (tests rule text) z u rooms y flag_is o
+      over_made o rule text = inside_made cs rule text h ws ks args (entries_of ts) (tests q rule text) (rooms room) flag_is o
 
 -- new_over
 
@@ -132,24 +140,19 @@ module _ (cs h ws ks ts : List ℕ) (c m n : ℕ) (row : (row_of c).names ≡ n)
   pub nameless : n ≡ NO_NAMES → (row_of c).names ≡ NO_NAMES
   nameless e = row ∙ e
 
-  module _ (e : n ≡ NO_NAMES) {x : Header} (g : x ≡ header_in h) (i : Bool) (o : (ns : List Node) → length ns ≡ x.nodes → i ≡ all (in_store ns) (types_in ts)) (v : ℕ)
-      (p : first_broken (list_tests i (length ts)) ≡ code_of v) where
-    pub over_listed : (v ≡ 0 → ⊥) → OverPromised cs c m ts (refusal v) h ws ks h ws ks
-    over_listed z = record {
-      each = λ _ {b} {rule} {text} q.
-          new_listed cs b rule text h ws ks (over c m (types_in ts)) 0 q.passed refl g (types_in ts) refl (length-map ts ty_of) o p z;
+  module _ (e : n ≡ NO_NAMES) {x : Header} (g : x ≡ header_in h) {i : Bool} (o : (ns : List Node) → length ns ≡ x.nodes → i ≡ all (in_store ns) (types_in ts)) where
+    pub over_listed : {v : ℕ} → first_broken (list_tests i (length ts)) ≡ some v → OverPromised cs c m ts (refusal v) h ws ks h ws ks
+    over_listed p = record {
+      each = λ _ b rule text q. new_listed cs b rule text h ws ks (over c m (types_in ts)) q.passed g (types_in ts) refl (length-map ts ty_of) o p;
       named = λ f. absurd (f (nameless e));
     }
 
-    pub over_narrow : v ≡ 0 → length ts ≤ MAX_WIDTH
-    over_narrow z = listed_narrow i (length ts) v p z
-
-    pub over_done : v ≡ 0 → {r : Reply Ty} {h' ws' ks' : List ℕ}
+    pub over_done : first_broken (list_tests i (length ts)) ≡ none → {r : Reply Ty} {h' ws' ks' : List ℕ}
         → ((rule text : List ℕ) → Promised (inside_call (chart_in cs rule text) (store_in h ws ks) (given (plain_args c m) (entries_of ts))) r h ws ks h' ws' ks')
         → OverPromised cs c m ts r h ws ks h' ws' ks'
-    over_done z w = record {
-      each = λ _ {b} {rule} {text} q.
-          new_promised cs b rule text h ws ks (over c m (types_in ts)) 0 q.passed refl g (types_in ts) refl (length-map ts ty_of) o p z
+    over_done p w = record {
+      each = λ _ b rule text q.
+          new_promised cs b rule text h ws ks (over c m (types_in ts)) q.passed g (types_in ts) refl (length-map ts ty_of) o p
           (entries_given ts c m (nameless e)) (w rule text);
       named = λ f. absurd (f (nameless e));
     }

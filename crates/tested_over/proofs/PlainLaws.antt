@@ -1,8 +1,9 @@
--- One law for each way out of `plain_refusal`: 4 and 5 of a kind without names over n types, which look at its code, its number and n alone.
+-- One law for each way out of `test_plain`: 4 and 5 of a kind without names over n types, which look at its code, its number and n alone.
 -- Assumes nothing.
 use mathlib.Core.Path.{◌≡◌, refl, sym, ◌∙◌}
 use mathlib.Core.Bool.{Bool, true, false, ◌&&◌}
 use mathlib.Core.List.{List, []}
+use mathlib.Core.Option.{none, some}
 use Prim.Native.Nat.{ℕ, ◌≤◌, ◌<◌}
 use lib.Dec.{eqb, ltb}
 use lib.ListN.{length}
@@ -21,7 +22,6 @@ use Rattle.layout.specs.declared.Kind.{Kind}
 use Rattle.make.specs.Given.{kind_at}
 use Rattle.make.specs.declared.Head as make
 use Rattle.kind_sound.proofs.Laws.{defined_chart}
-use Rattle.refusals.specs.Codes.{code_of}
 use Rattle.lent_kind.specs.declared.KindArgs.{KindArgs}
 use Rattle.lent_kind.specs.Lent.{with_flag, plain_args, kind_tests}
 
@@ -45,15 +45,15 @@ module _ (cs : List ℕ) (c n m : ℕ) (row : (row_of c).names ≡ NO_NAMES) (na
   unfolding makeable
   made_over = rw (many, le-leb m MAX_WIDTH narrow, nameless env.texts, no_flex c)
 
-  pub code_unmade : KINDS ≤ c → first_broken (kind_tests env (over c n ts)) ≡ code_of UNMAKEABLE
+  pub code_unmade : KINDS ≤ c → first_broken (kind_tests env (over c n ts)) ≡ some UNMAKEABLE
   code_unmade h = rw (made_over, le-ltb c KINDS h)
 
   module _ (code : c < KINDS) where
-    pub shape_unmade : shape_fits (row_of c).shape m ≡ false → first_broken (kind_tests env (over c n ts)) ≡ code_of UNMAKEABLE
+    pub shape_unmade : shape_fits (row_of c).shape m ≡ false → first_broken (kind_tests env (over c n ts)) ≡ some UNMAKEABLE
     shape_unmade s = rw (made_over, lt-ltb c KINDS code, s)
 
     module _ (shape : shape_fits (row_of c).shape m ≡ true) where
-      pub number_unmade : number_ok (row_of c).number n ≡ false → first_broken (kind_tests env (over c n ts)) ≡ code_of UNMAKEABLE
+      pub number_unmade : number_ok (row_of c).number n ≡ false → first_broken (kind_tests env (over c n ts)) ≡ some UNMAKEABLE
       number_unmade s = rw (made_over, lt-ltb c KINDS code, shape, s)
 
       module _ (number : number_ok (row_of c).number n ≡ true) {k : KindArgs} {f : make.Head} {kind : Kind} {d : Bool} (a : k ≡ plain_args c n)
@@ -66,8 +66,8 @@ module _ (cs : List ℕ) (c n m : ℕ) (row : (row_of c).names ≡ NO_NAMES) (na
         defined_is : defined env (kind_made env (over c n ts)).head ≡ d
         defined_is = same_definition ∙ (defined_chart env cs refl [] kind ∙ sym r)
 
-        pub undefined_over : d ≡ false → first_broken (kind_tests env (over c n ts)) ≡ code_of UNDEFINED
+        pub undefined_over : d ≡ false → first_broken (kind_tests env (over c n ts)) ≡ some UNDEFINED
         undefined_over z = rw (made_over, lt-ltb c KINDS code, shape, number, defined_is ∙ z)
 
-        pub over_passed : d ≡ true → first_broken (kind_tests env (over c n ts)) ≡ code_of 0
+        pub over_passed : d ≡ true → first_broken (kind_tests env (over c n ts)) ≡ none
         over_passed z = rw (made_over, lt-ltb c KINDS code, shape, number, defined_is ∙ z)

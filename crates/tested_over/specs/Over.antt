@@ -21,10 +21,10 @@ pub record PassedBy (chart h ws ks : List ℕ) : Type 0 where
   pub beside : Beside
   pub rule : List ℕ
   pub text : List ℕ
-  pub tested : Tested chart beside rule text h ws ks
+  pub tested : Tested (env_in chart beside rule text) h ws ks
 
 -- a kind whose row has no names is made as `new` makes it; any other is turned back with 4, and every word is as found
 pub record OverPromised (chart : List ℕ) (code number : ℕ) (types : List ℕ) (r : Reply Ty) (h ws ks h' ws' ks' : List ℕ) : Type 0 where
-  pub each : (row_of code).names ≡ NO_NAMES → {b : Beside} {rule text : List ℕ} → Tested chart b rule text h ws ks
+  pub each : (row_of code).names ≡ NO_NAMES → (b : Beside) (rule text : List ℕ) → Tested (env_in chart b rule text) h ws ks
       → Promised (new_call (env_in chart b rule text) (lent_of h ws ks) (over code number (types_in types))) r h ws ks h' ws' ks'
   pub named : ((row_of code).names ≡ NO_NAMES → ⊥) → (r ≡ refusal UNMAKEABLE) × AsFound h ws ks h' ws' ks'

@@ -12,7 +12,7 @@ ghost use Rattle.layout.specs.Words.{child_words, store_in};
 ghost use Rattle.store.specs.Holds.{Ready};
 ghost use Rattle.make.specs.Made.{MadeIs};
 ghost use Rattle.make.specs.Given.{KindReady, Put, kind_given};
-ghost use Rattle.refusals.specs.Codes.{code_of};
+ghost use Rattle.refusals.specs.Codes.{told};
 ghost use Rattle.promise.specs.Promise.{Promised, type_reply};
 ghost use Rattle.lent_kind.specs.Lent.{given, plain_args, kind_tests};
 ghost use Rattle.tested_new.specs.Inside.{inside_call};
@@ -20,11 +20,10 @@ ghost use Rattle.tested_over.specs.Over.{entries_of, PassedBy, OverPromised};
 
 use kinds::{ERROR, Names};
 use layout::{Slot, TypeState};
-use lent_kind::{flagged, list_refusal, plain_args};
+use lent_kind::{flagged, plain_args, test_list};
 use make::Head;
 use names::NO_NAME;
-use promise::TypeAnswer;
-use refusals::{NO_REFUSAL, UNDEFINED, UNMAKEABLE};
+use refusals::Refusal;
 use types::{Inverted, Type};
 
 // The listed types without names, behind the `first` children made.
@@ -33,14 +32,12 @@ fn put_listed(ks: &mut [u32], first: u32, types: &[u32])
     ensures { Put (entries_of types.now) first (length types.now) ks.old ks.new }
 {
     let from = first as usize;
-    let mut i = 0;
-    while i < types.len() {
+    for (i, t) in types.iter().enumerate() {
         let kid = Slot {
-            ty: Type(types[i]),
+            ty: Type(*t),
             name: NO_NAME,
         };
         layout::put_child(ks, from + i, kid);
-        i += 1;
     }
 }
 
@@ -57,26 +54,20 @@ fn new_listed(h: &mut [u32], ws: &mut [u32], ks: &mut [u32], k: Head, types: &[u
     make::push(h, ws, count, state)
 }
 
-// The first of refusals 4 and 5 that stands for a kind without names over n types, and 0 where none does. Its texts are not looked at.
-fn plain_refusal(chart: &[u32], code: u32, number: u32, n: usize) -> u32
+// The first of refusals 4 and 5 that stands for a kind without names over n types. Its texts are not looked at.
+fn test_plain(chart: &[u32], code: u32, number: u32, n: usize) -> Result<(), Refusal>
     requires code_value { (row_of code).names ≡ NO_NAMES }
     requires n_bound { n ≤ MAX_WIDTH }
-    ensures { (rule text : List ℕ) (ts : List Ty) → length ts ≡ n → first_broken (kind_tests (chart_in chart.now rule text) (over code number ts)) ≡ code_of result }
+    ensures { (rule text : List ℕ) (ts : List Ty) → length ts ≡ n → first_broken (kind_tests (chart_in chart.now rule text) (over code number ts)) ≡ told result }
 {
-    if code > ERROR {
-        return UNMAKEABLE;
-    }
-    if !kinds::shape_fits(code, n) {
-        return UNMAKEABLE;
-    }
-    if !kinds::number_ok(code, number) {
-        return UNMAKEABLE;
+    if code > ERROR || !kinds::shape_fits(code, n) || !kinds::number_ok(code, number) {
+        return Err(Refusal::Unmakeable);
     }
     let kind = make::kind_of(flagged(plain_args(code, number), chart), 0, 0);
     if !kind_sound::is_defined(kind, chart) {
-        return UNDEFINED;
+        return Err(Refusal::Undefined);
     }
-    NO_REFUSAL
+    Ok(())
 }
 
 // What is left of `new_over` once 3 is passed.
@@ -88,7 +79,7 @@ fn make_over(
     code: u32,
     number: u32,
     types: &[u32],
-) -> TypeAnswer
+) -> Result<Type, Refusal>
     requires ready { Ready h.old ws.old ks.old 0 0 }
     requires code_value { (row_of code).names ≡ NO_NAMES }
     requires types_len_bound { length types.now ≤ MAX_WIDTH }
@@ -97,16 +88,10 @@ fn make_over(
         (type_reply result) h.old ws.old ks.old h.new ws.new ks.new }
 {
     let n = types.len();
-    let unmade = plain_refusal(chart, code, number, n);
-    if unmade != NO_REFUSAL {
-        return TypeAnswer::Refused(unmade);
-    }
-    let full = refusals::room(h, 1, n as u32);
-    if full != NO_REFUSAL {
-        return TypeAnswer::Refused(full);
-    }
+    test_plain(chart, code, number, n)?;
+    refusals::room(h, 1, n as u32)?;
     let k = flagged(plain_args(code, number), chart);
-    TypeAnswer::Is(new_listed(h, ws, ks, k, types))
+    Ok(new_listed(h, ws, ks, k, types))
 }
 
 // `new` of a kind without names.
@@ -118,19 +103,16 @@ pub fn new_over(
     code: u32,
     number: u32,
     types: &[u32],
-) -> TypeAnswer
+) -> Result<Type, Refusal>
     requires { PassedBy chart.now h.old ws.old ks.old }
     ensures { OverPromised chart.now code number types.now (type_reply result)
         h.old ws.old ks.old h.new ws.new ks.new }
 {
     if kinds::row_of(code).names != Names::No {
-        return TypeAnswer::Refused(UNMAKEABLE);
+        return Err(Refusal::Unmakeable);
     }
     let x = layout::read_header(h);
     let inside = refusals::types_inside(types, x.nodes);
-    let refused = list_refusal(inside, types.len());
-    if refused != NO_REFUSAL {
-        return TypeAnswer::Refused(refused);
-    }
+    test_list(inside, types.len())?;
     make_over(chart, h, ws, ks, code, number, types)
 }

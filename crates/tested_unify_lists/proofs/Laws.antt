@@ -3,6 +3,7 @@
 use mathlib.Core.Path.{◌≡◌, refl}
 use mathlib.Core.Bool.{Bool, false, ◌||◌}
 use mathlib.Core.List.{List, [], ◌∷◌, ◌++◌, map}
+use mathlib.Core.Option.{Option, none}
 use Prim.Native.Nat.{ℕ}
 use Rattle.scope.specs.Base.{all}
 use Rattle.scope.specs.Names.{Texts}
@@ -16,10 +17,9 @@ use Rattle.scope.specs.Calls.{unify_types_call, unify_objects_call, unify_fn_sig
 use Rattle.scope.proofs.TestLaws.{or_no}
 use Rattle.types.specs.declared.Inverted.{Inverted}
 use Rattle.types.specs.declared.UnifyResult.{UnifyResult}
-use Rattle.chart.specs.Env.{env_of, chart_in}
-use Rattle.chart.specs.declared.Beside.{Beside}
+use Rattle.chart.specs.declared.Env as declared
+use Rattle.chart.specs.Env.{env_of, texts_lent}
 use Rattle.layout.specs.Words.{decode}
-use Rattle.layout.specs.declared.Header.{Header}
 use Rattle.layout.proofs.Laws.{length_decode}
 use Rattle.refusals.proofs.Laws.{test_passed}
 use Rattle.recall.specs.Memory.{Begun}
@@ -30,28 +30,28 @@ use Rattle.store.specs.Entries.{entry_names, entry_types}
 use Rattle.unify_lists.proofs.CallerLaws.{given_lists, given_objects, given_signatures}
 use Rattle.lent_tests.specs.Given.{list_tests, sig_tests, object_tests, entries_in, FirstOf}
 use Rattle.lent_tests.proofs.Laws.{fine_names, fine_count}
-use Rattle.call_unify.proofs.tested.Laws.{second_passed, inside, Unifies, Passed}
+use Rattle.call_unify.proofs.tested.Laws.{second_passed, inside, Unifies}
 
 -- what each core asks, of arguments that no test turned back
 
-module _ {x : Texts} {ws ks m : List ℕ} {n r : ℕ} (w : SoundWords x ws ks n) (g : Begun m) where
-  pub lists_ask : (xs ys : List ℕ) (inv : Inverted) → FirstOf n (list_tests (map ty_of xs) (map ty_of ys)) r → r ≡ 0 → Lists x ws ks m n xs ys inv
+module _ {x : Texts} {ws ks m : List ℕ} {n : ℕ} (w : SoundWords x ws ks n) (g : Begun m) where
+  pub lists_ask : (xs ys : List ℕ) (inv : Inverted) → FirstOf n (list_tests (map ty_of xs) (map ty_of ys)) none → Lists x ws ks m n xs ys inv
   unfolding list_tests
-  lists_ask xs ys inv t z =
+  lists_ask xs ys inv t =
       let ps : List Ty = map ty_of xs in
       let qs : List Ty = map ty_of ys in
-      given_lists w g xs ys inv (inside w (λ ns. all (in_store ns) (ps ++ qs)) (λ s. (too_many ps || too_many qs, 4) ∷ []) t z)
+      given_lists w g xs ys inv (inside w (λ ns. all (in_store ns) (ps ++ qs)) (λ s. (too_many ps || too_many qs, 4) ∷ []) t)
 
-  pub signatures_ask : (xs : List ℕ) (a : Ty) (ys : List ℕ) (b : Ty) → FirstOf n (sig_tests (map ty_of xs) a (map ty_of ys) b) r → r ≡ 0
+  pub signatures_ask : (xs : List ℕ) (a : Ty) (ys : List ℕ) (b : Ty) → FirstOf n (sig_tests (map ty_of xs) a (map ty_of ys) b) none
       → Signatures x ws ks m n xs a ys b
   unfolding sig_tests
-  signatures_ask xs a ys b t z =
+  signatures_ask xs a ys b t =
       let ps : List Ty = map ty_of xs in
       let qs : List Ty = map ty_of ys in
-      given_signatures w g xs a ys b (inside w (λ ns. all (in_store ns) (ps ++ (a ∷ qs ++ (b ∷ [])))) (λ s. (too_many ps || too_many qs, 4) ∷ []) t z)
+      given_signatures w g xs a ys b (inside w (λ ns. all (in_store ns) (ps ++ (a ∷ qs ++ (b ∷ [])))) (λ s. (too_many ps || too_many qs, 4) ∷ []) t)
 
   -- entries that 4 does not turn back are whole
-  module _ (e : Env) (xs ys : List ℕ) (t : FirstOf n (object_tests e (entries_in xs) (entries_in ys)) r) (z : r ≡ 0) where
+  module _ (e : Env) (xs ys : List ℕ) (t : FirstOf n (object_tests e (entries_in xs) (entries_in ys)) none) where
     abbrev A : List Node → Bool
     A ns = all (in_store ns) (entry_types xs ++ entry_types ys)
 
@@ -63,11 +63,11 @@ module _ {x : Texts} {ws ks m : List ℕ} {n r : ℕ} (w : SoundWords x ws ks n)
     fine =
         let v : Bool = bad_entries e (entries_in xs) || bad_entries e (entries_in ys) in
         or_no (bad_entries e (entries_in xs)) (bad_entries e (entries_in ys))
-        (test_passed v 4 [] (second_passed A us t z (decode ws ks n) (length_decode ws ks n)))
+        (test_passed v 4 [] (second_passed A us t (decode ws ks n) (length_decode ws ks n)))
 
     pub objects_ask : (inv : Inverted) → Objects x ws ks m n xs ys inv
     unfolding object_tests
-    objects_ask inv = given_objects w g xs ys inv (inside w A us t z) (fine_count xs e fine.0) (fine_count ys e fine.1)
+    objects_ask inv = given_objects w g xs ys inv (inside w A us t) (fine_count xs e fine.0) (fine_count ys e fine.1)
 
     pub objects_leave : (v : Bool) {ws' : List ℕ} {q : UnifyResult}
         → Leaves ws ks ws' n (unify_objects x (decode ws ks n) (entry_names xs) (entry_types xs) (entry_names ys) (entry_types ys) v) q
@@ -76,10 +76,10 @@ module _ {x : Texts} {ws ks m : List ℕ} {n r : ℕ} (w : SoundWords x ws ks n)
 
 -- objects are asked of the texts alone
 
-pub objects_beside : {chart : List ℕ} {b : Beside} {rule text h ws ks : List ℕ} {x : Header} {m : ℕ} → Passed chart b rule text h ws ks x → (i j : Entries)
-    → FirstOf x.nodes (object_tests (chart_in [] rule text) i j) m → FirstOf x.nodes (object_tests (env_of chart b rule text) i j) m
+pub objects_beside : (l : declared.Env) {n : ℕ} {o : Option ℕ} (i j : Entries) → FirstOf n (object_tests (texts_lent l) i j) o
+    → FirstOf n (object_tests (env_of l.chart.now l.beside l.texts.rule.now l.texts.chart.now) i j) o
 unfolding object_tests
-objects_beside c i j t = record { code = t.code }
+objects_beside l i j t = record { code = t.code }
 
 -- the three calls
 

@@ -4,23 +4,19 @@
 ghost use Rattle.scope.specs.Types.{ty_of};
 ghost use Rattle.scope.specs.Calls.{unify_types_call, unify_objects_call, unify_fn_sig_call};
 ghost use Rattle.layout.specs.Words.{lent_of};
-ghost use Rattle.sound.specs.Tests.{env_in};
+ghost use Rattle.sound.specs.Tests.{env_lent};
 ghost use Rattle.promise.specs.Promise.{Promised, Tested};
 ghost use Rattle.store.specs.Entries.{types_in};
 ghost use Rattle.lent_tests.specs.Given.{entries_in};
 ghost use Rattle.call_unify.specs.Answers.{unify_reply};
 
-use call_unify::UnifyAnswer;
-use chart::Beside;
-use refusals::NO_REFUSAL;
-use types::{Inverted, Type};
+use chart::Env;
+use refusals::Refusal;
+use types::{Inverted, Type, UnifyResult};
 
 // Two lists of types, a word a type, the second's inverted if inv says so.
-pub fn unify_types_recalling<'a>(
-    chart: &[u32],
-    beside: Beside,
-    rule: &'a [u8],
-    text: &'a [u8],
+pub fn unify_types_recalling(
+    env: &Env<'_>,
     h: &[u32],
     ws: &mut [u32],
     ks: &[u32],
@@ -28,63 +24,52 @@ pub fn unify_types_recalling<'a>(
     xs: &[u32],
     ys: &[u32],
     inv: Inverted,
-) -> UnifyAnswer
-    requires { Tested chart.now beside rule.now text.now h.now ws.old ks.now }
+) -> Result<UnifyResult, Refusal>
+    requires { Tested (env_lent env.now) h.now ws.old ks.now }
     ensures { Promised
-        (unify_types_call (env_in chart.now beside rule.now text.now) (lent_of h.now ws.old ks.now)
+        (unify_types_call (env_lent env.now) (lent_of h.now ws.old ks.now)
         (types_in xs.now) (types_in ys.now) inv.0)
         (unify_reply result) h.now ws.old ks.now h.now ws.new ks.now }
 {
     let x = layout::read_header(h);
-    let refused = lent_tests::lists(xs, ys, x.nodes);
-    if refused != NO_REFUSAL {
-        return UnifyAnswer::Refused(refused);
-    }
+    lent_tests::lists(xs, ys, x.nodes)?;
     recall::begin(memory);
-    UnifyAnswer::Is(unify_lists::unify_lists(ws, ks, x.nodes, rule, text, memory, xs, ys, inv))
+    Ok(unify_lists::unify_lists(
+        ws,
+        ks,
+        x.nodes,
+        env.texts.rule,
+        env.texts.chart,
+        memory,
+        xs,
+        ys,
+        inv,
+    ))
 }
 
 // The same without a memory.
-pub fn unify_types<'a>(
-    chart: &[u32],
-    beside: Beside,
-    rule: &'a [u8],
-    text: &'a [u8],
+pub fn unify_types(
+    env: &Env<'_>,
     h: &[u32],
     ws: &mut [u32],
     ks: &[u32],
     xs: &[u32],
     ys: &[u32],
     inv: Inverted,
-) -> UnifyAnswer
-    requires { Tested chart.now beside rule.now text.now h.now ws.old ks.now }
+) -> Result<UnifyResult, Refusal>
+    requires { Tested (env_lent env.now) h.now ws.old ks.now }
     ensures { Promised
-        (unify_types_call (env_in chart.now beside rule.now text.now) (lent_of h.now ws.old ks.now)
+        (unify_types_call (env_lent env.now) (lent_of h.now ws.old ks.now)
         (types_in xs.now) (types_in ys.now) inv.0)
         (unify_reply result) h.now ws.old ks.now h.now ws.new ks.now }
 {
     let mut memory = [0u32; unify_lists::OWN_MEMORY];
-    unify_types_recalling(
-        chart,
-        beside,
-        rule,
-        text,
-        h,
-        ws,
-        ks,
-        &mut memory,
-        xs,
-        ys,
-        inv,
-    )
+    unify_types_recalling(env, h, ws, ks, &mut memory, xs, ys, inv)
 }
 
 // Two objects, four words an entry, as children lie in a store.
-pub fn unify_objects_recalling<'a>(
-    chart: &[u32],
-    beside: Beside,
-    rule: &'a [u8],
-    text: &'a [u8],
+pub fn unify_objects_recalling(
+    env: &Env<'_>,
     h: &[u32],
     ws: &mut [u32],
     ks: &[u32],
@@ -92,63 +77,52 @@ pub fn unify_objects_recalling<'a>(
     xs: &[u32],
     ys: &[u32],
     inv: Inverted,
-) -> UnifyAnswer
-    requires { Tested chart.now beside rule.now text.now h.now ws.old ks.now }
+) -> Result<UnifyResult, Refusal>
+    requires { Tested (env_lent env.now) h.now ws.old ks.now }
     ensures { Promised
-        (unify_objects_call (env_in chart.now beside rule.now text.now) (lent_of h.now ws.old ks.now)
+        (unify_objects_call (env_lent env.now) (lent_of h.now ws.old ks.now)
         (entries_in xs.now) (entries_in ys.now) inv.0)
         (unify_reply result) h.now ws.old ks.now h.now ws.new ks.now }
 {
     let x = layout::read_header(h);
-    let refused = lent_tests::objects(xs, ys, x.nodes, rule, text);
-    if refused != NO_REFUSAL {
-        return UnifyAnswer::Refused(refused);
-    }
+    lent_tests::objects(xs, ys, x.nodes, env)?;
     recall::begin(memory);
-    UnifyAnswer::Is(unify_lists::unify_entries(ws, ks, x.nodes, rule, text, memory, xs, ys, inv))
-}
-
-// The same without a memory.
-pub fn unify_objects<'a>(
-    chart: &[u32],
-    beside: Beside,
-    rule: &'a [u8],
-    text: &'a [u8],
-    h: &[u32],
-    ws: &mut [u32],
-    ks: &[u32],
-    xs: &[u32],
-    ys: &[u32],
-    inv: Inverted,
-) -> UnifyAnswer
-    requires { Tested chart.now beside rule.now text.now h.now ws.old ks.now }
-    ensures { Promised
-        (unify_objects_call (env_in chart.now beside rule.now text.now) (lent_of h.now ws.old ks.now)
-        (entries_in xs.now) (entries_in ys.now) inv.0)
-        (unify_reply result) h.now ws.old ks.now h.now ws.new ks.now }
-{
-    let mut memory = [0u32; unify_lists::OWN_MEMORY];
-    unify_objects_recalling(
-        chart,
-        beside,
-        rule,
-        text,
-        h,
+    Ok(unify_lists::unify_entries(
         ws,
         ks,
-        &mut memory,
+        x.nodes,
+        env.texts.rule,
+        env.texts.chart,
+        memory,
         xs,
         ys,
         inv,
-    )
+    ))
+}
+
+// The same without a memory.
+pub fn unify_objects(
+    env: &Env<'_>,
+    h: &[u32],
+    ws: &mut [u32],
+    ks: &[u32],
+    xs: &[u32],
+    ys: &[u32],
+    inv: Inverted,
+) -> Result<UnifyResult, Refusal>
+    requires { Tested (env_lent env.now) h.now ws.old ks.now }
+    ensures { Promised
+        (unify_objects_call (env_lent env.now) (lent_of h.now ws.old ks.now)
+        (entries_in xs.now) (entries_in ys.now) inv.0)
+        (unify_reply result) h.now ws.old ks.now h.now ws.new ks.now }
+{
+    let mut memory = [0u32; unify_lists::OWN_MEMORY];
+    unify_objects_recalling(env, h, ws, ks, &mut memory, xs, ys, inv)
 }
 
 // Two signatures: a list of parameters, and a return.
-pub fn unify_fn_sig_recalling<'a>(
-    chart: &[u32],
-    beside: Beside,
-    rule: &'a [u8],
-    text: &'a [u8],
+pub fn unify_fn_sig_recalling(
+    env: &Env<'_>,
     h: &[u32],
     ws: &mut [u32],
     ks: &[u32],
@@ -157,55 +131,47 @@ pub fn unify_fn_sig_recalling<'a>(
     r: Type,
     ys: &[u32],
     q: Type,
-) -> UnifyAnswer
-    requires { Tested chart.now beside rule.now text.now h.now ws.old ks.now }
+) -> Result<UnifyResult, Refusal>
+    requires { Tested (env_lent env.now) h.now ws.old ks.now }
     ensures { Promised
-        (unify_fn_sig_call (env_in chart.now beside rule.now text.now) (lent_of h.now ws.old ks.now)
+        (unify_fn_sig_call (env_lent env.now) (lent_of h.now ws.old ks.now)
         (types_in xs.now) (ty_of r.0) (types_in ys.now) (ty_of q.0))
         (unify_reply result) h.now ws.old ks.now h.now ws.new ks.now }
 {
     let x = layout::read_header(h);
-    let refused = lent_tests::signatures(xs, r, ys, q, x.nodes);
-    if refused != NO_REFUSAL {
-        return UnifyAnswer::Refused(refused);
-    }
+    lent_tests::signatures(xs, r, ys, q, x.nodes)?;
     recall::begin(memory);
-    UnifyAnswer::Is(unify_lists::unify_fn_sig(ws, ks, x.nodes, rule, text, memory, xs, r, ys, q))
-}
-
-// The same without a memory.
-pub fn unify_fn_sig<'a>(
-    chart: &[u32],
-    beside: Beside,
-    rule: &'a [u8],
-    text: &'a [u8],
-    h: &[u32],
-    ws: &mut [u32],
-    ks: &[u32],
-    xs: &[u32],
-    r: Type,
-    ys: &[u32],
-    q: Type,
-) -> UnifyAnswer
-    requires { Tested chart.now beside rule.now text.now h.now ws.old ks.now }
-    ensures { Promised
-        (unify_fn_sig_call (env_in chart.now beside rule.now text.now) (lent_of h.now ws.old ks.now)
-        (types_in xs.now) (ty_of r.0) (types_in ys.now) (ty_of q.0))
-        (unify_reply result) h.now ws.old ks.now h.now ws.new ks.now }
-{
-    let mut memory = [0u32; unify_lists::OWN_MEMORY];
-    unify_fn_sig_recalling(
-        chart,
-        beside,
-        rule,
-        text,
-        h,
+    Ok(unify_lists::unify_fn_sig(
         ws,
         ks,
-        &mut memory,
+        x.nodes,
+        env.texts.rule,
+        env.texts.chart,
+        memory,
         xs,
         r,
         ys,
         q,
-    )
+    ))
+}
+
+// The same without a memory.
+pub fn unify_fn_sig(
+    env: &Env<'_>,
+    h: &[u32],
+    ws: &mut [u32],
+    ks: &[u32],
+    xs: &[u32],
+    r: Type,
+    ys: &[u32],
+    q: Type,
+) -> Result<UnifyResult, Refusal>
+    requires { Tested (env_lent env.now) h.now ws.old ks.now }
+    ensures { Promised
+        (unify_fn_sig_call (env_lent env.now) (lent_of h.now ws.old ks.now)
+        (types_in xs.now) (ty_of r.0) (types_in ys.now) (ty_of q.0))
+        (unify_reply result) h.now ws.old ks.now h.now ws.new ks.now }
+{
+    let mut memory = [0u32; unify_lists::OWN_MEMORY];
+    unify_fn_sig_recalling(env, h, ws, ks, &mut memory, xs, r, ys, q)
 }

@@ -9,9 +9,8 @@ use Rattle.scope.specs.Calls.{open_call}
 use Rattle.scope.specs.States.{open_names_call}
 use Rattle.book.specs.Words.{book_words}
 use Rattle.promise.specs.Promise.{done_reply}
-use Rattle.promise.specs.declared.DoneAnswer.{DoneAnswer}
 use Rattle.call_states.specs.Promise.{NamesOpened}
-use Rattle.theorem.specs.Memory.{memory_of, roomy, Did}
+use Rattle.theorem.specs.Memory.{CodeAnswer, memory_of, roomy, Did}
 use Rattle.theorem.specs.Steps as ran
 use Rattle.theorem.specs.DeskSteps as desk
 use Rattle.theorem.specs.CallContracts.{Contracts, arg1, arg2, arg3, arg4, arg5, arg6, arg7, source_words, other_words}
@@ -25,7 +24,7 @@ contracts = record {
         let is = memory_of x.0.now x.1.0.now x.1.1.0.now in
         let n : ℕ = a.1.1.1.0 in
         let c : ℕ = a.1.1.1.1.0 in
-        record { found = was; left = subst (λ (y : DoneAnswer). Did (open_call n c (roomy n c was)) (done_reply y) was is) q p };
+        record { found = was; left = subst (λ (y : CodeAnswer (Unit {0})). Did (open_call n c (roomy n c was)) (done_reply y) was is) q p };
   };
   new = record { free = λ κs a. tt; is = λ κs a r x p. ran.new (arg1 a) (arg2 a).now r p };
   new_var = record { free = λ κs a. tt; is = λ κs a r x p. ran.new_var (arg1 a) r p };
@@ -39,7 +38,7 @@ contracts = record {
   unify_recalling = record { free = λ κs a. tt; is = λ κs a r x p. ran.unify (arg2 a) (arg3 a) r p };
   import = record {
     free = λ κs a. tt;
-    is = λ κs a r x p. ran.import (source_words a) (arg4 a).now (arg5 a) (arg6 a).now (arg7 a).now (arg7 x).now r p;
+    is = λ κs a r x p. ran.import (source_words a) (arg4 a).now (arg5 a) (arg6 a).now (arg6 x).now r p;
   };
   find = record { free = λ κs a. tt; is = λ κs a r x p. ran.find (arg1 a) r p };
   find_mut = record { free = λ κs a. tt; is = λ κs a r x p. ran.find_mut (arg1 a) r p };
@@ -69,15 +68,15 @@ contracts = record {
   approx_eq = record { free = λ κs a. tt; is = λ κs a r x p. ran.approx_eq (arg1 a) (arg2 a).now (arg3 a) (arg4 a).now r p };
   show = record { free = λ κs a. tt; is = λ κs a r x p. ran.show (arg1 a) (arg2 a).now (arg2 x).now r p };
   show_impl_type = record { free = λ κs a. tt; is = λ κs a r x p. ran.show_impl_type (arg1 a) (arg2 a).now (arg3 a).now (arg3 x).now r p };
-  show_part = record { free = λ κs a. tt; is = λ κs a r x p. ran.show_part (arg1 a) (arg2 a).now r.now (arg3 x).now p.0 };
-  show_impl_type_part = record { free = λ κs a. tt; is = λ κs a r x p. ran.show_impl_type_part (arg1 a) (arg2 a).now (arg3 a).now r.now (arg4 x).now p.0 };
+  show_part = record { free = λ κs a. tt; is = λ κs a r x p. ran.show_part (arg1 a) (arg2 a).now r.0.now r.1 p.0 };
+  show_impl_type_part = record { free = λ κs a. tt; is = λ κs a r x p. ran.show_impl_type_part (arg1 a) (arg2 a).now (arg3 a).now r.0.now r.1 p.0 };
   opens_names = record {
     free = λ κs a. tt;
     is = λ κs a r x p q.
         let was : List ℕ = a.0.now in
         let n : ℕ = a.1.0 in
         let c : ℕ = a.1.1.0 in
-        record { found = was; left = subst (λ (y : DoneAnswer). NamesOpened (open_names_call n c (leb (book_words n c) (length was))) (done_reply y) was x.0.now) q p };
+        record { found = was; left = subst (λ (y : CodeAnswer (Unit {0})). NamesOpened (open_names_call n c (leb (book_words n c) (length was))) (done_reply y) was x.0.now) q p };
   };
   name_state = record { free = λ κs a. tt; is = λ κs a r x p. desk.name_state (arg2 a).now r p };
   return_to = record { free = λ κs a. tt; is = λ κs a r x p. desk.return_to (arg2 a).now r p };

@@ -19,7 +19,7 @@ use Rattle.scope.proofs.SoundLaws.{facts_sound}
 use Rattle.scope.proofs.StatesKept.{SoundDesk, after_sound, opened_sound}
 use Rattle.refusals.proofs.Laws.{none_some, passed_first, passed_next}
 use Rattle.book.specs.Words.{book_in, book_clean, lent_book_of}
-use Rattle.promise.specs.declared.DoneAnswer.TheVariants as end
+use Rattle.std.specs.Prelude.{Ok, Err}
 use Rattle.promise.proofs.Laws.{lent_chart, lent_facts, lent_store, tested_clean}
 use Rattle.theorem.specs.Memory.{Fixed, env, lent, held, Opened, TestedWords}
 use Rattle.theorem.specs.DeskSteps.{DeskMemory, held_desk, TestedDesk, OpenedNames, DeskRan, name_state}
@@ -112,5 +112,5 @@ done_tested e l k n q =
     passed_first (book_tests e l k) us (judged_done (book_tests e l k ++ us) (done (named n (store_of l) (book_of k)) (store_of l)) q)
 
 pub named_tested : (f : Fixed) {d d' : DeskMemory} {n : List ℕ} {r : Reply} → r ≡ nothing → DeskRan f d (naming (name n)) r d' → TestedDesk f d
-named_tested f q (name_state {d} n end.Done p) = record { passed = done_tested (env f) (lent d.store) (lent_book_of d.names) n p.outcome }
-named_tested f q (name_state n (end.Refused k) p) = let z : ◌≡◌ {A = ℕ} 0 1 = cc in absurd (omega arith)
+named_tested f q (name_state {d} n (Ok u) p) = record { passed = done_tested (env f) (lent d.store) (lent_book_of d.names) n p.outcome }
+named_tested f q (name_state n (Err k) p) = let z : ◌≡◌ {A = ℕ} 0 1 = cc in absurd (omega arith)

@@ -26,9 +26,8 @@ use Rattle.store.specs.Holds.{Beyond}
 use Rattle.refusals.specs.Opening.{enough}
 use Rattle.sound.specs.Tests.{env_in}
 use Rattle.promise.specs.Promise.{value}
-use Rattle.promise.specs.declared.TypeAnswer.TheVariants as type
+use Rattle.std.specs.Prelude.{Ok}
 use Rattle.promise.proofs.Laws.{promised_done}
-use Rattle.call_unify.specs.declared.UnifyAnswer.TheVariants as unified
 use Rattle.theorem.specs.Memory.{Memory, memory_of, Fixed, env, lent, held, roomy, Did, Opened}
 use Rattle.theorem.specs.Steps as ran
 use Rattle.theorem.specs.Runs.{Runs, stop, ◌then◌}
@@ -119,11 +118,11 @@ opened = record { found = found; left = met.0 }
 
 pub run : Runs fixed m₀ m₅
 run =
-    ran.new_var {m = m₀} {h = m₁.head} {ws = m₁.nodes} 5 (type.Is (t 0)) met.1
-    then ran.new_var {m = m₁} {h = m₂.head} {ws = m₂.nodes} 6 (type.Is (t 1)) met.2
-    then ran.new_var {m = m₂} {h = m₃.head} {ws = m₃.nodes} 7 (type.Is (t 2)) met.3
-    then ran.unify {m = m₃} {ws = m₄.nodes} (t 0) (t 1) (unified.Is result.Success) met.4
-    then ran.unify {m = m₄} {ws = m₅.nodes} (t 1) (t 2) (unified.Is result.Success) met.5
+    ran.new_var {m = m₀} {h = m₁.head} {ws = m₁.nodes} 5 (Ok (t 0)) met.1
+    then ran.new_var {m = m₁} {h = m₂.head} {ws = m₂.nodes} 6 (Ok (t 1)) met.2
+    then ran.new_var {m = m₂} {h = m₃.head} {ws = m₃.nodes} 7 (Ok (t 2)) met.3
+    then ran.unify {m = m₃} {ws = m₄.nodes} (t 0) (t 1) (Ok result.Success) met.4
+    then ran.unify {m = m₄} {ws = m₅.nodes} (t 1) (t 2) (Ok result.Success) met.5
     then stop
 
 pub nodes_left : (held m₅).nodes ≡ Child (ty false 1) ∷ Root (Unknown 6) 3 ∷ Child (ty false 1) ∷ []

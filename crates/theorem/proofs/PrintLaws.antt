@@ -18,6 +18,8 @@ use Rattle.scope.specs.Refusals.{SHORT}
 use Rattle.scope.specs.Calls.{refused, done, Printed, or_unprinted, printed_text, first_broken, store_of, lent_tests, outside, impl_tests, show_call, show_impl_type_call}
 use Rattle.scope.specs.Demand.{step}
 use Rattle.scope.specs.Replies.{Reply, text, reply, printed}
+use Rattle.std.specs.declared.option.Option as option
+use Rattle.refusals.specs.declared.Refusal.{Refusal}
 use Rattle.promise.specs.Promise.{value, refusal}
 use Rattle.promise.specs.Promise as promise
 use Rattle.promise.specs.Prints.{part_reply, PrintPromised, PartPromised}
@@ -63,9 +65,9 @@ module _ (p : Lent → Printed) {m : Memory} (k : CleanWords m) where
   by_part {part} {r} q = subst (λ (bs : List ℕ). Leaves (step s (p (reads s)).answer).store (reply (λ n. text bs) (p (reads s)).answer) r m)
       (sym q ∙ ap (λ (l : Lent). (p l).part) (clean_reads k))
 
-  pub parted : (code : ℕ) (part : List ℕ) → PartPromised (p (lent m)) code part s
-      → Leaves (step s (p (reads s)).answer).store (printed (p (reads s))) (replied (λ n. text part) (part_reply code part)) m
-  parted code part q = by_part q.part (told (λ n. text part) (λ l. (p l).answer) k (part_reply code part) q.outcome)
+  pub parted : (r : option.Option Refusal) (part : List ℕ) → PartPromised (p (lent m)) r part s
+      → Leaves (step s (p (reads s)).answer).store (printed (p (reads s))) (replied (λ n. text part) (part_reply r part)) m
+  parted r part q = by_part q.part (told (λ n. text part) (λ l. (p l).answer) k (part_reply r part) q.outcome)
 
   pub shown : Tells (p (lent m)) → (r : promise.Reply ℕ) (buffer : List ℕ) → PrintPromised (p (lent m)) r s buffer
       → Leaves (step s (p (reads s)).answer).store (printed (p (reads s))) (replied (λ n. text (take n buffer)) r) m

@@ -35,7 +35,7 @@ or_passed : (a b : Bool) → (a || b) ≡ false → (a ≡ false) × (b ≡ fals
 or_passed false b q = (refl, q)
 or_passed true b q = let z : ◌≡◌ {A = ℕ} 0 1 = cc in absurd (omega arith)
 
--- what Done says of capacities and of the store
+-- what an opening that is done says of capacities and of the store
 pub record Fresh (n c : ℕ) (s : Store) : Type 0 where
   pub nodes : n ≤ MAX_NODES
   pub children : c ≤ MAX_CHILDREN

@@ -27,8 +27,7 @@ use Rattle.sound.specs.Tests.{env_in}
 use Rattle.book.specs.Words as Words
 use Rattle.book.specs.Words.{book_in, book_clean, lent_book_of, BookBecame}
 use Rattle.promise.specs.Promise.{value}
-use Rattle.promise.specs.declared.DoneAnswer.TheVariants as end
-use Rattle.promise.specs.declared.TypeAnswer.TheVariants as type
+use Rattle.std.specs.Prelude.{Ok}
 use Rattle.promise.proofs.Laws.{promised_done}
 use Rattle.call_states.specs.Promise.{NamesOpened}
 use Rattle.theorem.specs.Memory.{Memory, memory_of, Fixed, env, lent, held, roomy, Did}
@@ -131,9 +130,9 @@ opened = record { store = record { found = found; left = met.0 }; names = states
 
 pub run : DeskRuns fixed (desk_of m₀ b₀) (desk_of m₀ b₁)
 run =
-    name_state {d = desk_of m₀ b₀} {bs = b₁} a end.Done met.2
-    next stood {d = desk_of m₀ b₁} {m = m₁} (ran.new_var {m = m₀} {h = m₁.head} {ws = m₁.nodes} 5 (type.Is (record { 0 = 0 })) met.3)
-    next return_to {d = desk_of m₁ b₁} {m = m₀} a end.Done met.4
+    name_state {d = desk_of m₀ b₀} {bs = b₁} a (Ok tt) met.2
+    next stood {d = desk_of m₀ b₁} {m = m₁} (ran.new_var {m = m₀} {h = m₁.head} {ws = m₁.nodes} 5 (Ok (record { 0 = 0 })) met.3)
+    next return_to {d = desk_of m₁ b₁} {m = m₀} a (Ok tt) met.4
     next halt
 
 -- no node stands behind the state that the return leaves, though the code made one

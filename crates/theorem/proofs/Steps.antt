@@ -22,7 +22,7 @@ use Rattle.call_ask.specs.Replies.{mod_reply, marks_reply}
 use Rattle.call_force.specs.Replies.{forced_reply}
 use Rattle.call_unify.specs.Answers.{unify_reply}
 use Rattle.theorem.specs.Memory.{Memory, Fixed, env, lent, held, roomy}
-use Rattle.copy_parts.specs.Places.{list_of}
+use Rattle.copy_parts.specs.Places.{params_in}
 use Rattle.theorem.specs.Steps.{Ran}
 use Rattle.theorem.specs.Steps as ran
 use Rattle.theorem.proofs.StepLaws.{CleanWords, Stepped, did, told}
@@ -38,8 +38,8 @@ stepped f h (ran.error r p) = did says.type (error_call (env f)) h (type_reply r
 stepped f h (ran.nil r p) = did says.type (nil_call (env f)) h (type_reply r) p
 stepped f h (ran.force_kind {m} t r p) = did says.forced (λ l. force_kind_call (env f) l (ty_of t.0)) h (forced_reply m.kids r) p.promised
 stepped f h (ran.unify a b r p) = did says.answer (λ l. unify_call (env f) l (ty_of a.0) (ty_of b.0)) h (unify_reply r) p
-stepped f h (ran.import from ts b ps out out' r p) =
-    did says.types (λ l. import_call (env f) l (lent from) (types_in ts) (list_of b ps) (length out)) h (list_reply r (take (length ts) out')) p.promised
+stepped f h (ran.import from ts ps out out' r p) =
+    did says.types (λ l. import_call (env f) l (lent from) (types_in ts) (params_in ps) (length out)) h (list_reply r (take (length ts) out')) p.promised
 stepped f h (ran.find t r p) = told says.type (λ l. find_call (env f) l (ty_of t.0)) h (type_reply r) p
 stepped f h (ran.find_mut t r p) = did says.type (λ l. find_mut_call (env f) l (ty_of t.0)) h (type_reply r) p
 stepped f h (ran.node {m} t r p) = told says.a_node (λ l. node_call (env f) l (ty_of t.0)) h (node_reply m.kids r) p.outcome

@@ -16,7 +16,6 @@ use Rattle.scope.specs.Import.{MovedAll, export}
 use Rattle.scope.specs.Sound.{reads, sound}
 use Rattle.scope.specs.Refusals.{UNMAKEABLE, NODES_FULL, CHILDREN_FULL}
 use Rattle.scope.specs.Calls.{Outcome, done, open_test, lent_tests, outside, too_many, short_for, Exported, export_call}
-use Rattle.scope.specs.Demand.{after}
 use Rattle.scope.proofs.TestLaws.{or_no}
 use Rattle.scope.proofs.SoundLaws.{SoundFacts, facts_sound}
 use Rattle.scope.proofs.SoundKept.{opened_facts}

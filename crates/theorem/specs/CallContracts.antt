@@ -1,7 +1,7 @@
 -- Every public function's own contract is a step. `Learnt` is what the kit makes of a function's `ensures` for its callers: a claim of its lifetimes, its
 -- arguments, its answer and its arguments at exit. Each line says that whatever a function's contract allows, on any arguments, is a step of a list on
 -- the words that it was lent, with the answer that it gave and the words that it left. So `Theorem` speaks of every list that the code can run.
-use Rattle.std.specs.Prelude.{◌≡◌, false, List, ℕ, length, take}
+use Rattle.std.specs.Prelude.{◌≡◌, false, List, ℕ, length, take, Ok}
 use borrow.Fn.Kinds.{ParamKind, ResultKind, In, Out, Dens, res_t, ended_of}
 use contract.Lifetimes.{Lfts}
 use Rattle.std.specs.Borrow.{Bor, MutBor}
@@ -14,14 +14,13 @@ use Rattle.scope.specs.StatesDemand as calls
 use Rattle.scope.specs.Replies.{Reply}
 use Rattle.scope.specs.Replies as says
 use Rattle.types.specs.Impls.{impl_means}
-use Rattle.chart.specs.declared.Beside.{Beside}
+use Rattle.chart.specs.declared.Env.{Env}
 use Rattle.store.specs.Entries.{types_in}
 use Rattle.lent_tests.specs.Given.{entries_in}
 use Rattle.promise.specs.Promise.{type_reply, bool_reply, done_reply}
 use Rattle.promise.specs.Lists.{list_reply}
 use Rattle.promise.specs.Prints.{count_reply, part_reply}
 use Rattle.promise.specs.Exports.{export_reply}
-use Rattle.promise.specs.declared.DoneAnswer.TheVariants.{Done}
 use Rattle.call_open.proofs as opening
 use Rattle.call_make.proofs as call_make
 use Rattle.call_new.proofs as call_new
@@ -40,7 +39,7 @@ use Rattle.call_impl.proofs as call_impl
 use Rattle.call_copy.proofs as call_copy
 use Rattle.call_show.proofs as call_show
 use Rattle.call_states.proofs as call_states
-use Rattle.copy_parts.specs.Places.{list_of}
+use Rattle.copy_parts.specs.Places.{params_in}
 use Rattle.theorem.specs.Memory.{Memory, memory_of, nodes_now, head_now, Fixed, lent, held, roomy, Opened}
 use Rattle.theorem.specs.Steps.{replied, Ran}
 use Rattle.theorem.specs.DeskSteps.{DeskMemory, desk_of, store_now, names_now, OpenedNames, DeskRan}
@@ -57,48 +56,48 @@ Slice = Bor (List ℕ)
 abbrev pub SliceMut : Type 0
 SliceMut = MutBor (List ℕ)
 
--- what every call but `open` is lent first: chart, what is beside it, the two texts, and the three slices H, W and K, each to be read or to be written
+-- what every call but `open` is lent first: chart, what is beside it and the two texts as one, and the three slices H, W and K, each to be read or to be written
 abbrev pub Args : Type 0 → Type 0 → Type 0 → Type 0 → Type 0
-Args H W K R = Slice × (Beside × (Slice × (Slice × (H × (W × (K × R))))))
+Args H W K R = Bor Env × (H × (W × (K × R)))
 
 abbrev pub fixed_in : {H W K R : Type 0} → Args H W K R → Fixed
-fixed_in a = record { chart = a.0.now; beside = a.1.0; rule = a.1.1.0.now; text = a.1.1.1.0.now }
+fixed_in a = let e = a.0.now in record { chart = e.chart.now; beside = e.beside; rule = e.texts.rule.now; text = e.texts.chart.now }
 
 -- the words of the three slices: of a call that may write none of them, one that may write the nodes, one that may write header and nodes, and one that may
 -- write all three
 abbrev pub words_read : {R : Type 0} → Args Slice Slice Slice R → Memory
-words_read a = memory_of a.1.1.1.1.0.now a.1.1.1.1.1.0.now a.1.1.1.1.1.1.0.now
+words_read a = memory_of a.1.0.now a.1.1.0.now a.1.1.1.0.now
 
 abbrev pub nodes_in : {R : Type 0} → Args Slice SliceMut Slice R → Memory
-nodes_in a = memory_of a.1.1.1.1.0.now a.1.1.1.1.1.0.now a.1.1.1.1.1.1.0.now
+nodes_in a = memory_of a.1.0.now a.1.1.0.now a.1.1.1.0.now
 
 abbrev pub head_in : {R : Type 0} → Args SliceMut SliceMut Slice R → Memory
-head_in a = memory_of a.1.1.1.1.0.now a.1.1.1.1.1.0.now a.1.1.1.1.1.1.0.now
+head_in a = memory_of a.1.0.now a.1.1.0.now a.1.1.1.0.now
 
 abbrev pub words_in : {R : Type 0} → Args SliceMut SliceMut SliceMut R → Memory
-words_in a = memory_of a.1.1.1.1.0.now a.1.1.1.1.1.0.now a.1.1.1.1.1.1.0.now
+words_in a = memory_of a.1.0.now a.1.1.0.now a.1.1.1.0.now
 
 -- the arguments behind these
 abbrev pub arg1 : {H W K A R : Type 0} → Args H W K (A × R) → A
-arg1 a = a.1.1.1.1.1.1.1.0
+arg1 a = a.1.1.1.1.0
 
 abbrev pub arg2 : {H W K A B R : Type 0} → Args H W K (A × (B × R)) → B
-arg2 a = a.1.1.1.1.1.1.1.1.0
+arg2 a = a.1.1.1.1.1.0
 
 abbrev pub arg3 : {H W K A B C R : Type 0} → Args H W K (A × (B × (C × R))) → C
-arg3 a = a.1.1.1.1.1.1.1.1.1.0
+arg3 a = a.1.1.1.1.1.1.0
 
 abbrev pub arg4 : {H W K A B C D R : Type 0} → Args H W K (A × (B × (C × (D × R)))) → D
-arg4 a = a.1.1.1.1.1.1.1.1.1.1.0
+arg4 a = a.1.1.1.1.1.1.1.0
 
 abbrev pub arg5 : {H W K A B C D E R : Type 0} → Args H W K (A × (B × (C × (D × (E × R))))) → E
-arg5 a = a.1.1.1.1.1.1.1.1.1.1.1.0
+arg5 a = a.1.1.1.1.1.1.1.1.0
 
 abbrev pub arg6 : {H W K A B C D E F R : Type 0} → Args H W K (A × (B × (C × (D × (E × (F × R)))))) → F
-arg6 a = a.1.1.1.1.1.1.1.1.1.1.1.1.0
+arg6 a = a.1.1.1.1.1.1.1.1.1.0
 
 abbrev pub arg7 : {H W K A B C D E F G R : Type 0} → Args H W K (A × (B × (C × (D × (E × (F × (G × R))))))) → G
-arg7 a = a.1.1.1.1.1.1.1.1.1.1.1.1.1.0
+arg7 a = a.1.1.1.1.1.1.1.1.1.1.0
 
 -- a second store's words, which stand first behind these: an import's source, which is read, and an export's destination, which is written
 abbrev pub source_words : {H W K R : Type 0} → Args H W K (Slice × (Slice × (Slice × R))) → Memory
@@ -133,9 +132,9 @@ abbrev pub nodes_left : {R Q : Type 0} → Args Slice SliceMut Slice R → Args 
 nodes_left a x = nodes_now (nodes_in a) (nodes_in x).nodes
 
 pub record Contracts : Type 0 where
-  -- the slices that `open` was lent, when it answered Done
+  -- the slices that `open` was lent, when it answered `Ok`
   pub opens : Allows opening.open.Kinds.ps opening.open.Kinds.r opening.open.Reads.Asked opening.open.Reads.Learnt
-      (λ κs a r x. r ≡ Done → Opened a.1.1.1.0 a.1.1.1.1.0 (memory_of x.0.now x.1.0.now x.1.1.0.now))
+      (λ κs a r x. r ≡ Ok tt → Opened a.1.1.1.0 a.1.1.1.1.0 (memory_of x.0.now x.1.0.now x.1.1.0.now))
   -- the makers
   pub new : Allows call_new.new.Kinds.ps call_new.new.Kinds.r call_new.new.Reads.Asked call_new.new.Reads.Learnt
       (λ κs a r x. RanOn a (words_in a) (call.make (call.new (given (arg1 a) (arg2 a).now))) (replied says.type (type_reply r)) (words_in x))
@@ -160,8 +159,8 @@ pub record Contracts : Type 0 where
       (λ κs a r x. RanOn a (nodes_in a) (call.unify (ty_of (arg2 a).0) (ty_of (arg3 a).0)) (replied says.answer (unify_reply r)) (nodes_left a x))
   -- `import`, whose source is any numbers
   pub import : Allows call_copy.import.Kinds.ps call_copy.import.Kinds.r call_copy.import.Reads.Asked call_copy.import.Reads.Learnt
-      (λ κs a r x. RanOn a (words_in a) (call.import (lent (source_words a)) (types_in (arg4 a).now) (list_of (arg5 a) (arg6 a).now) (length (arg7 a).now))
-      (replied says.types (list_reply r (take (length (arg4 a).now) (arg7 x).now))) (words_in x))
+      (λ κs a r x. RanOn a (words_in a) (call.import (lent (source_words a)) (types_in (arg4 a).now) (params_in (arg5 a)) (length (arg6 a).now))
+      (replied says.types (list_reply r (take (length (arg4 a).now) (arg6 x).now))) (words_in x))
   -- the reads
   pub find : Allows call_find.find.Kinds.ps call_find.find.Kinds.r call_find.find.Reads.Asked call_find.find.Reads.Learnt
       (λ κs a r x. RanOn a (words_read a) (call.read (call.find (ty_of (arg1 a).0))) (replied says.type (type_reply r)) (words_read a))
@@ -227,14 +226,14 @@ pub record Contracts : Type 0 where
       (λ κs a r x. RanOn a (words_read a) (call.later (call.show_impl_type (impl_means (arg1 a) (arg2 a).now) (arg3 a).now))
       (replied (λ n. says.text (take n (arg3 x).now)) (count_reply r)) (words_read a))
   pub show_part : Allows call_show.show_part.Kinds.ps call_show.show_part.Kinds.r call_show.show_part.Reads.Asked call_show.show_part.Reads.Learnt
-      (λ κs a r x. RanOn a (words_read a) (call.later (call.show (ty_of (arg1 a).0) (arg2 a).now)) (replied (λ n. says.text r.now) (part_reply (arg3 x).now r.now)) (words_read a))
+      (λ κs a r x. RanOn a (words_read a) (call.later (call.show (ty_of (arg1 a).0) (arg2 a).now)) (replied (λ n. says.text r.0.now) (part_reply r.1 r.0.now)) (words_read a))
   pub show_impl_type_part : Allows call_show.show_impl_type_part.Kinds.ps call_show.show_impl_type_part.Kinds.r
       call_show.show_impl_type_part.Reads.Asked call_show.show_impl_type_part.Reads.Learnt
       (λ κs a r x. RanOn a (words_read a) (call.later (call.show_impl_type (impl_means (arg1 a) (arg2 a).now) (arg3 a).now))
-      (replied (λ n. says.text r.now) (part_reply (arg4 x).now r.now)) (words_read a))
-  -- the names buffer that `open_names` was lent, when it answered Done
+      (replied (λ n. says.text r.0.now) (part_reply r.1 r.0.now)) (words_read a))
+  -- the names buffer that `open_names` was lent, when it answered `Ok`
   pub opens_names : Allows call_states.open_names.Kinds.ps call_states.open_names.Kinds.r call_states.open_names.Reads.Asked call_states.open_names.Reads.Learnt
-      (λ κs a r x. r ≡ Done → OpenedNames a.1.0 a.1.1.0 x.0.now)
+      (λ κs a r x. r ≡ Ok tt → OpenedNames a.1.0 a.1.1.0 x.0.now)
   -- the calls on a store and its names buffer
   pub name_state : Allows call_states.name_state.Kinds.ps call_states.name_state.Kinds.r call_states.name_state.Reads.Asked call_states.name_state.Reads.Learnt
       (λ κs a r x. DeskRanOn a (desk_names a) (naming (calls.name (arg2 a).now)) (replied (λ u. says.nothing) (done_reply r)) (names_now (desk_names a) (arg1 x).now))

@@ -1,5 +1,5 @@
 -- What a list of calls runs on: three lent slices of words, which each call leaves for the next one, and the chart and the texts, which "stay as they are".
-use Rattle.std.specs.Prelude.{◌≡◌, List, Bool, ℕ}
+use Rattle.std.specs.Prelude.{◌≡◌, List, Bool, ℕ, Result, Ok}
 use Rattle.scope.specs.Chart.{Env}
 use Rattle.scope.specs.Types.{Ty}
 use Rattle.scope.specs.Nodes.{Store}
@@ -11,8 +11,11 @@ use Rattle.refusals.specs.Opening.{enough}
 use Rattle.sound.specs.Tests.{env_in}
 use Rattle.promise.specs.Promise.{Reply, outcome_by, done_reply, Promised, Tested}
 use Rattle.promise.specs.Lists.{ListPromised}
-use Rattle.promise.specs.declared.DoneAnswer.{DoneAnswer}
-use Rattle.promise.specs.declared.DoneAnswer.TheVariants as end
+use Rattle.refusals.specs.declared.Refusal.{Refusal}
+
+-- an answer of the code: a value or a refusal
+abbrev pub CodeAnswer : Type 0 → Type 0
+CodeAnswer A = Result A Refusal
 
 -- the words of a store: its header, its nodes and their children
 pub record Memory : Type 0 where
@@ -50,7 +53,7 @@ held m = store_in m.head m.nodes m.kids
 
 -- chart, texts and words pass the tests of 2 and 8
 abbrev pub TestedWords : Fixed → Memory → Type 0
-TestedWords f m = Tested f.chart f.beside f.rule f.text m.head m.nodes m.kids
+TestedWords f m = Tested (env f) m.head m.nodes m.kids
 
 -- the slices are long enough for n nodes and c children, whatever they hold
 abbrev pub roomy : ℕ → ℕ → Memory → Bool
@@ -65,10 +68,10 @@ abbrev pub Told : {A : Type 0} → Outcome A → Reply A → Memory → Type 0
 Told o r m = o ≡ outcome_by r (held m)
 
 -- the same of a call that writes types at the front of the list `out`, n of them, and leaves it as out'
-abbrev pub DidList : Outcome (List Ty) → DoneAnswer → ℕ → Memory → Memory → List ℕ → List ℕ → Type 0
+abbrev pub DidList : Outcome (List Ty) → CodeAnswer (Unit {0}) → ℕ → Memory → Memory → List ℕ → List ℕ → Type 0
 DidList o r n m m' out out' = ListPromised o r n m.head m.nodes m.kids m'.head m'.nodes m'.kids out out'
 
--- "Each list starts from a store just opened, with no node": the words m are what `open` left, whatever they were, when it answered Done
+-- "Each list starts from a store just opened, with no node": the words m are what `open` left, whatever they were, when it answered `Ok`
 pub record Opened (n c : ℕ) (m : Memory) : Type 0 where
   pub found : Memory
-  pub left : Did (open_call n c (roomy n c found)) (done_reply end.Done) found m
+  pub left : Did (open_call n c (roomy n c found)) (done_reply (Ok tt)) found m

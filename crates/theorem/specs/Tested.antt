@@ -1,7 +1,7 @@
 -- The forms of the calls for a tested store: one that only the library's calls have written since it was opened or tested. Such a form asks that chart, texts
 -- and words pass the tests of 2 and 8, and nothing else; it tests its arguments alone. Its contract is the call's own, so whatever it does the call does, and
 -- it is a step of a list as the call is (Contracts). Opening leaves words that pass, every call of a list does, and export does in its destination.
-use Rattle.std.specs.Prelude.{◌≡◌, true, List, ℕ, length}
+use Rattle.std.specs.Prelude.{◌≡◌, true, List, ℕ, length, Ok}
 use borrow.Fn.Kinds.{ParamKind, ResultKind, In, Out, Dens, res_t, ended_of}
 use contract.Lifetimes.{Lfts}
 use denote.Triple.Clauses.{AtExit}
@@ -9,7 +9,6 @@ use Rattle.scope.specs.Chart.{chart_ok}
 use Rattle.scope.specs.Calls.{export_call}
 use Rattle.store.specs.Entries.{types_in}
 use Rattle.promise.specs.Exports.{ExportPromised}
-use Rattle.promise.specs.declared.DoneAnswer.TheVariants.{Done}
 use Rattle.call_new.proofs as call_new
 use Rattle.tested_new.proofs as tested_new
 use Rattle.call_make.proofs as call_make
@@ -149,6 +148,6 @@ pub record StaysTested : Type 0 where
   pub desk_store : (f : Fixed) (d : DeskMemory) → TestedDesk f d → TestedWords f d.store
   -- the destination of an export that is done
   pub exported : (f : Fixed) (n c : ℕ) (m to to' : Memory) (ts out out' : List ℕ) → TestedWords f m
-      → ExportPromised (export_call (env f) (lent m) n c (roomy n c to) (types_in ts) (length out)) Done (length ts) (held m)
+      → ExportPromised (export_call (env f) (lent m) n c (roomy n c to) (types_in ts) (length out)) (Ok tt) (length ts) (held m)
       to.head to.nodes to.kids to'.head to'.nodes to'.kids out out'
       → TestedWords f to'

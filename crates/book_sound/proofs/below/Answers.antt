@@ -1,35 +1,17 @@
--- `book_sound::below` meets its contract. The invariant: the words from i to e pass just where those from a to e do. The measure is what is left.
+-- `book_sound::below` meets its contract: the test is made of each word of the part.
 -- Assumes nothing.
-use mathlib.Core.Path.{refl, sym, ◌∙◌}
-use mathlib.Core.Bool.{Bool}
-use Prim.Native.Nat.{ℕ, ◌-◌}
-use native.Mathlib.Omega.{arith}
-use lib.ListN.{get_or}
-use borrow.Author.Tests.{lt-ltb, le-ltb}
-use Rattle.clean.proofs.Laws.{run_step, run_stop, run_end}
+use mathlib.Core.Path.{◌∙◌}
+use borrow.Author.Rules.{rules}
+use borrow.Author.Tests.{tests}
+use Rattle.std.proofs.lemmas.Iterator.{YieldsList-from_slice}
+use Rattle.std.proofs.lemmas.Iterator.Search.{all_from_yields_List}
+use Rattle.layout.specs.Words.{between}
+use Rattle.layout.proofs.Lists.{all_list}
 use Rattle.book_sound.specs.Tests.{is_below}
-use Rattle.book_sound.proofs.PlaceLaws.{below_run}
 use Rattle.book_sound.proofs.below.Goals as goal
-
-pub loop-i-init : goal.loop-i-init
-loop-i-init c = refl
-
-pub bounds-s-i : goal.bounds-s-i
-bounds-s-i c = omega (arith, c.requires.inside)
-
-pub returns-then-limit-s : goal.returns-then-limit-s
-returns-then-limit-s c = let a = c.args in
-    let q : ℕ → Bool = λ j. is_below a.limit (get_or a.s.now j 0) in
-    let run = below_run a.limit a.s.now a.a a.e c.requires in
-    sym (run ∙ (c.loop-i.invariant ∙ run_stop q c.loop-i.i a.e c.loop-i-test.true (le-ltb _ _ c.if-limit-s.true)))
-
-pub loop-i-preserved : goal.loop-i-preserved
-loop-i-preserved c = let a = c.args in
-    let q : ℕ → Bool = λ j. is_below a.limit (get_or a.s.now j 0) in
-    c.loop-i.invariant ∙ run_step q c.loop-i.i a.e c.loop-i-test.true (lt-ltb _ _ c.if-limit-s.false)
 
 pub returns : goal.returns
 returns c = let a = c.args in
-    let q : ℕ → Bool = λ j. is_below a.limit (get_or a.s.now j 0) in
-    let run = below_run a.limit a.s.now a.a a.e c.requires in
-    sym (run ∙ (c.loop-i.invariant ∙ run_end q c.loop-i.i a.e c.loop-i-test.false))
+    let words = between a.s.now a.a a.e in
+    all_from_yields_List (is_below a.limit) _ _ _ c.all.ensures.ran (YieldsList-from_slice words c.iter.ensures.rest) (λ x b q k. search (rules, tests))
+    ∙ all_list (is_below a.limit) words

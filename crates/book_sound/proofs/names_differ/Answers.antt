@@ -1,25 +1,18 @@
--- `book_sound::names_differ` meets its contract. The invariant: the places from i on pass just where all do. The measure is how many are left.
+-- `book_sound::names_differ` meets its contract: the test is made of each place.
 -- Assumes nothing.
-use mathlib.Core.Path.{refl, sym, ◌∙◌}
-use Prim.Native.Nat.{◌-◌}
-use Rattle.names.proofs.Tests.{passes, fails}
-use Rattle.book_sound.proofs.NameLaws.{differ_step, differ_stop, differ_end}
+use mathlib.Core.Path.{◌∙◌}
+use native.Mathlib.Omega.{arith}
+use borrow.Author.Rules.{rules}
+use borrow.Author.Tests.{tests}
+use Rattle.std.proofs.lemmas.Iterator.{YieldsList-from_range}
+use Rattle.std.proofs.lemmas.Iterator.Search.{all_from_yields_List}
+use Rattle.scope.specs.Limits.{MAX_STATES}
+use Rattle.layout.proofs.Lists.{all_range}
+use Rattle.book_sound.specs.Tests.{name_once}
+use Rattle.book_sound.proofs.NameLaws.{differ_all}
 use Rattle.book_sound.proofs.names_differ.Goals as goal
 
-pub loop-i-init : goal.loop-i-init
-loop-i-init c = refl
-
-pub name_once-requires : goal.name_once-requires
-name_once-requires c = record { clean = c.requires; index = c.loop-i-test.true }
-
-pub returns-then-not-name_once : goal.returns-then-not-name_once
-returns-then-not-name_once c =
-    sym (differ_stop c.args.bs.now c.loop-i.i c.loop-i-test.true (fails c.name_once.ensures c.if-not-name_once.true-raw)) ∙ c.loop-i.invariant
-
-pub loop-i-preserved : goal.loop-i-preserved
-loop-i-preserved c =
-    sym (differ_step c.args.bs.now c.loop-i.i c.loop-i-test.true (passes c.name_once.ensures c.if-not-name_once.false-raw)) ∙ c.loop-i.invariant
-
 pub returns : goal.returns
-returns c =
-    sym (differ_end c.args.bs.now c.loop-i.i c.loop-i-test.false) ∙ c.loop-i.invariant
+returns c = let bs = c.args.bs.now in
+    all_from_yields_List (name_once bs) _ _ _ c.all.ensures.ran (YieldsList-from_range 0 MAX_STATES MAX_STATES (cc) (omega arith)) (λ x b q k. search (rules, tests))
+    ∙ (all_range (name_once bs) 0 MAX_STATES ∙ differ_all bs 0 MAX_STATES (omega arith))

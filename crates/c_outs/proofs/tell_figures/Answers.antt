@@ -2,8 +2,8 @@
 use Rattle.c_outs.proofs.Laws.{figures_told}
 use Rattle.c_outs.proofs.tell_figures.Goals as goal
 
-pub returns-in-Is : goal.returns-in-Is
-returns-in-Is c = rw (c.in-Is.is, c.figures_out.ensures) (figures_told _ _)
+pub returns-in-Ok : goal.returns-in-Ok
+returns-in-Ok c = rw (c.in-Ok.is, c.figures_out.ensures) (figures_told _ _)
 
-pub returns-in-Refused : goal.returns-in-Refused
-returns-in-Refused c = rw c.in-Refused.is (figures_told _ _)
+pub returns-in-Err : goal.returns-in-Err
+returns-in-Err c = rw (c.in-Err.is, c.refused.ensures) (figures_told _ _)

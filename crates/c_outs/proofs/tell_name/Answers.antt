@@ -1,16 +1,14 @@
 -- `c_outs::tell_name` meets its contract: each case's number and words are the law's. Assumes nothing.
-use borrow.Author.Rules.{rules}
 use Rattle.c_outs.proofs.Laws.{name_told}
 use Rattle.c_outs.proofs.tell_name.Goals as goal
 
-pub enum_told-1 : goal.enum_told-1
-enum_told-1 c = search rules
+pub returns-in-Ok-Some : goal.returns-in-Ok-Some
+returns-in-Ok-Some c = let q = rw c.in-Ok-Some.is at c.in-Ok-Some.field-0-is in
+    rw (c.in-Ok-Some.is, q) (name_told _ _)
 
-pub returns-in-Is : goal.returns-in-Is
-returns-in-Is c = rw c.in-Is.is (name_told _ _)
+pub returns-in-Ok-None : goal.returns-in-Ok-None
+returns-in-Ok-None c = let q = rw c.in-Ok-None.is at c.in-Ok-None.field-0-is in
+    rw (c.in-Ok-None.is, q) (name_told _ _)
 
-pub returns-in-Nothing : goal.returns-in-Nothing
-returns-in-Nothing c = rw c.in-Nothing.is (name_told _ _)
-
-pub returns-in-Refused : goal.returns-in-Refused
-returns-in-Refused c = rw c.in-Refused.is (name_told _ _)
+pub returns-in-Err : goal.returns-in-Err
+returns-in-Err c = rw (c.in-Err.is, c.refused.ensures) (name_told _ _)

@@ -2,12 +2,11 @@
 -- Assumes nothing.
 use mathlib.Core.Path.{refl}
 use Rattle.scope.specs.Calls.{find_related_call}
-use Rattle.promise.proofs.BackLaws.{tested, told_back}
+use Rattle.refusals.proofs.Laws.{err_told}
+use Rattle.promise.proofs.BackLaws.{told_back}
 use Rattle.call_ask.proofs.find_related.Goals as goal
 
-pub returns-then-refused-ne-NO_REFUSAL : goal.returns-then-refused-ne-NO_REFUSAL
+pub returns-in_err-lent : goal.returns-in_err-lent
 unfolding find_related_call
-returns-then-refused-ne-NO_REFUSAL c = record { outcome = told_back _ _ _ _ _ c.refusal-refused.ensures c.if-refused-ne-NO_REFUSAL.true _ _; kept = λ y. refl }
-
-pub find_related-requires : goal.find_related-requires
-find_related-requires c = tested c.refusal-refused.ensures c.if-refused-ne-NO_REFUSAL.false
+returns-in_err-lent c = rw (err_told c.from_residual.result c.from_residual.ensures.1)
+    record { outcome = told_back _ _ _ _ _ c.in_err-lent.ensures _ _; kept = λ y. refl }

@@ -1,24 +1,20 @@
 -- `call_copy::export` meets its contract: the opening is tested first; where 2 and 8 do not stand the source is tested, and the form for such a source
 -- answers.
 -- Assumes nothing.
-use Rattle.promise.proofs.BackLaws.{tested}
+use Rattle.sound.specs.Tests.{env_lent}
+use Rattle.refusals.proofs.Laws.{err_told}
 use Rattle.tested_export.proofs.Laws.{refused_opening, refused_source, export_back}
 use Rattle.call_copy.proofs.export.Goals as goal
 
-pub returns-then-opens-ne-NO_REFUSAL : goal.returns-then-opens-ne-NO_REFUSAL
-returns-then-opens-ne-NO_REFUSAL c = let a = c.args in
+pub returns-in_err-opening : goal.returns-in_err-opening
+returns-in_err-opening c = let a = c.args in
     let first =
-    refused_opening a.chart.now a.beside a.rule.now a.text.now a.sh.now a.sw.now a.sk.now a.h.now a.ws.now a.ks.now
-    a.nodes a.children a.ts.now c.opening-opens.result c.opening-opens.ensures c.if-opens-ne-NO_REFUSAL.true in
-    export_back _ first c.if-opens-ne-NO_REFUSAL.true
+    refused_opening (env_lent a.env.now) a.sh.now a.sw.now a.sk.now a.h.now a.ws.now a.ks.now a.nodes a.children a.ts.now c.in_err-opening.ensures in
+    rw (err_told c.from_residual.result c.from_residual.ensures.1) (export_back _ _ _ _ _ _ _ _ _ _ _ first)
 
-pub returns-then-source-ne-NO_REFUSAL : goal.returns-then-source-ne-NO_REFUSAL
-returns-then-source-ne-NO_REFUSAL c = let a = c.args in
+pub returns-in_err-lent : goal.returns-in_err-lent
+returns-in_err-lent c = let a = c.args in
     let first =
-    refused_source a.chart.now a.beside a.rule.now a.text.now a.sh.now a.sw.now a.sk.now a.h.now a.ws.now a.ks.now
-    a.nodes a.children a.ts.now c.opening-opens.result c.opening-opens.ensures c.if-opens-ne-NO_REFUSAL.false
-    c.refusal-source.result c.refusal-source.ensures c.if-source-ne-NO_REFUSAL.true in
-    export_back _ first c.if-source-ne-NO_REFUSAL.true
-
-pub export-requires : goal.export-requires
-export-requires c = tested c.refusal-source.ensures c.if-source-ne-NO_REFUSAL.false
+    refused_source (env_lent a.env.now) a.sh.now a.sw.now a.sk.now a.h.now a.ws.now a.ks.now a.nodes a.children a.ts.now
+    c.in_ok-opening.ensures c.in_err-lent.ensures in
+    rw (err_told c.from_residual-in_err-lent.result c.from_residual-in_err-lent.ensures.1) (export_back _ _ _ _ _ _ _ _ _ _ _ first)

@@ -4,13 +4,13 @@
 use mathlib.Core.Path.{◌≡◌, refl, ap, sym, ◌∙◌}
 use mathlib.Core.Bool.{Bool}
 use mathlib.Core.List.{List, [], ◌∷◌}
+use mathlib.Core.Option.{none, some}
 use Prim.Native.Nat.{ℕ}
 use Rattle.scope.specs.Chart.{Env}
 use Rattle.scope.specs.Types.{Ty, ty_of}
 use Rattle.scope.specs.Nodes.{Node, Store, find, find_mut, with_nodes}
 use Rattle.scope.specs.Calls.{Outcome, done, outside, find_mut_call}
 use Rattle.types.specs.declared.«Type».{«Type»}
-use Rattle.chart.specs.declared.Beside.{Beside}
 use Rattle.layout.specs.Words.{nodes_made, children_made, decode, store_in, lent_of}
 use Rattle.layout.specs.Meaning.{Clean, header_in}
 use Rattle.layout.specs.declared.Header.{Header}
@@ -18,37 +18,33 @@ use Rattle.layout.proofs.StoreLaws.{clean_nodes}
 use Rattle.store.specs.Holds.{Holds, Became}
 use Rattle.store.proofs.Laws.{store_nodes, holds_with, beyond_with}
 use Rattle.roots.specs.Found.{FoundMut}
-use Rattle.sound.specs.Tests.{env_in}
 use Rattle.promise.specs.Promise.{value, refusal, TypesTested, Promised}
 use Rattle.promise.proofs.Laws.{lent_clean_words}
 use Rattle.promise.proofs.CallLaws.{call_back, call_done}
 use Rattle.promise.proofs.ReadLaws.{read_passed}
 
-module _ {chart : List ℕ} {b : Beside} {rule text h ws ks : List ℕ} (t : «Type») {n : ℕ} (q : TypesTested chart b rule text h ws ks (ty_of t.0 ∷ []) n) where
-  abbrev e : Env
-  e = env_in chart b rule text
+-- its tests, and what it does to a store
 
-  abbrev T : Ty
-  T = ty_of t.0
+abbrev tests : Ty → Store → List (Bool × ℕ)
+tests t s = outside s (t ∷ []) ∷ []
 
-  abbrev S : Store
-  S = store_in h ws ks
+abbrev work : Ty → Store → Outcome Ty
+work t s = done (find s.nodes t) (with_nodes s (find_mut s.nodes t))
 
-  -- its tests, and what it does to a store
-
-  abbrev tests : Store → List (Bool × ℕ)
-  tests s = outside s (T ∷ []) ∷ []
-
-  abbrev work : Store → Outcome Ty
-  work s = done (find s.nodes T) (with_nodes s (find_mut s.nodes T))
-
-  pub mut_refused : (n ≡ 0 → ⊥) → Promised (find_mut_call e (lent_of h ws ks) T) (refusal n) h ws ks h ws ks
+module _ {e : Env} {h ws ks : List ℕ} (t : «Type») where
+  pub mut_refused : {n : ℕ} → TypesTested e h ws ks (ty_of t.0 ∷ []) (some n) → Promised (find_mut_call e (lent_of h ws ks) (ty_of t.0)) (refusal n) h ws ks h ws ks
   unfolding find_mut_call
-  mut_refused z = call_back e h ws ks tests work n q.first z
+  mut_refused {n} q = call_back e h ws ks (tests (ty_of t.0)) (work (ty_of t.0)) n q.first
 
-  module _ (z : n ≡ 0) where
+  module _ (q : TypesTested e h ws ks (ty_of t.0 ∷ []) none) where
+    abbrev T : Ty
+    T = ty_of t.0
+
+    abbrev S : Store
+    S = store_in h ws ks
+
     held : Holds h ws ks S
-    held = record { clean = lent_clean_words e h ws ks (read_passed q z); is = refl }
+    held = record { clean = lent_clean_words e h ws ks (read_passed q); is = refl }
 
     relinked : (ws' : List ℕ) (r : ℕ) → FoundMut ws (nodes_made h) ws' t.0 r → Became h ws ks h ws' ks (with_nodes S (decode ws' ks (nodes_made h)))
     unfolding store_in
@@ -66,4 +62,4 @@ module _ {chart : List ℕ} {b : Beside} {rule text h ws ks : List ℕ} (t : «T
         let f' : FoundMut ws (nodes_made h) ws' t.0 r.0 = rw (ap (λ (y : Header). y.nodes) g) at f in
         let w : ty_of r.0 ≡ find S.nodes T = f'.root ks ∙ ap (λ (l : List Node). find l T) (sym (store_nodes h ws ks)) in
         let d : decode ws' ks (nodes_made h) ≡ find_mut S.nodes T = f'.nodes ks ∙ ap (λ (l : List Node). find_mut l T) (sym (store_nodes h ws ks)) in
-        call_done e h ws ks tests work n q.first z (rw (w, d)) (relinked ws' r.0 f')
+        call_done e h ws ks (tests T) (work T) q.first (rw (w, d)) (relinked ws' r.0 f')

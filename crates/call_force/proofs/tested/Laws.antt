@@ -4,7 +4,10 @@
 use mathlib.Core.Path.{◌≡◌, refl, ap, sym, ◌∙◌}
 use mathlib.Core.Bool.{true}
 use mathlib.Core.List.{List, [], ◌∷◌}
+use mathlib.Core.Option.{none, some}
+use Rattle.std.specs.Prelude.{Ok, Err}
 use Prim.Native.Nat.{ℕ}
+use Rattle.scope.specs.Chart.{Env}
 use Rattle.scope.specs.Types.{Ty, ty_of}
 use Rattle.scope.specs.Nodes.{Store, State, with_nodes, state_at, find, find_mut}
 use Rattle.scope.specs.Nodes as nodes
@@ -12,18 +15,16 @@ use Rattle.scope.specs.Force.{fail, force_kind, finish_inference, finish_where}
 use Rattle.scope.specs.Force as scope
 use Rattle.scope.specs.Calls.{Outcome, done, outside, force_kind_call}
 use Rattle.types.specs.declared.«Type».{«Type»}
-use Rattle.chart.specs.declared.Beside.{Beside}
 use Rattle.layout.specs.Words.{children_made, store_in, lent_of, clean}
 use Rattle.force.specs.Forcing.{forced_fits, ForcedIs}
 use Rattle.force.specs.declared.Forced.{Forced}
-use Rattle.sound.specs.Tests.{env_in}
+use Rattle.refusals.specs.Codes.{number}
+use Rattle.refusals.specs.declared.Refusal.{Refusal}
 use Rattle.promise.specs.Promise.{TypesTested}
 use Rattle.promise.proofs.Laws.{lent_clean_words}
 use Rattle.promise.proofs.CallLaws.{call_back, call_done}
 use Rattle.promise.proofs.ReadLaws.{read_passed}
-use Rattle.call_force.specs.Replies.{Answers, ForcePromised}
-use Rattle.call_force.specs.declared.ForcedAnswer.{ForcedAnswer}
-use Rattle.call_force.specs.declared.ForcedAnswer.TheVariants.{Refused}
+use Rattle.call_force.specs.Replies.{ForcePromised}
 
 -- what a call does to a store
 
@@ -54,27 +55,27 @@ forced_children {h} {ws} {ks} {t = t} o =
 
 -- the ways out
 
-module _ {chart : List ℕ} {b : Beside} {rule text h ws ks : List ℕ} (t : «Type») {n : ℕ} (q : TypesTested chart b rule text h ws ks (ty_of t.0 ∷ []) n) where
-  abbrev T : Ty
-  T = ty_of t.0
-
-  pub forced_back : (n ≡ 0 → ⊥) → ForcePromised (force_kind_call (env_in chart b rule text) (lent_of h ws ks) T) (Refused n) h ws ks h ws
+module _ {e : Env} {h ws ks : List ℕ} (t : «Type») where
+  pub forced_back : {r : Refusal} → TypesTested e h ws ks (ty_of t.0 ∷ []) (some (number r))
+      → ForcePromised (force_kind_call e (lent_of h ws ks) (ty_of t.0)) (Err r) h ws ks h ws
   unfolding force_kind_call
-  forced_back z = record {
+  forced_back {r} q = record {
     fits = refl;
-    promised = call_back (env_in chart b rule text) h ws ks (λ s. outside s (T ∷ []) ∷ []) (forcing T) n q.first z;
+    promised = call_back e h ws ks (λ s. outside s (ty_of t.0 ∷ []) ∷ []) (forcing (ty_of t.0)) (number r) q.first;
   }
 
-  module _ (z : n ≡ 0) where
+  module _ (q : TypesTested e h ws ks (ty_of t.0 ∷ []) none) where
     pub forced_clean : clean h ws ks ≡ true
-    forced_clean = lent_clean_words (env_in chart b rule text) h ws ks (read_passed q z)
+    forced_clean = lent_clean_words e h ws ks (read_passed q)
 
-    pub forced_done : {h' ws' : List ℕ} {f : Forced} {r : ForcedAnswer} → ForcedIs h ws ks h' ws' t f → Answers f r
-        → ForcePromised (force_kind_call (env_in chart b rule text) (lent_of h ws ks) T) r h ws ks h' ws'
+    pub forced_done : {h' ws' : List ℕ} {f : Forced} → ForcedIs h ws ks h' ws' t f
+        → ForcePromised (force_kind_call e (lent_of h ws ks) (ty_of t.0)) (Ok f) h ws ks h' ws'
     unfolding force_kind_call
-    forced_done {h' = h'} {f = f} o w = record {
-      fits = w.fits ks (children_made h') ∙ (ap (λ (m : ℕ). forced_fits ks m f) (forced_children o) ∙ o.fits);
-      promised = rw (w.means ks)
-          (call_done (env_in chart b rule text) h ws ks (λ s. outside s (T ∷ []) ∷ []) (forcing T) n q.first z
-          (ap (λ (y : scope.Forced). done y (force_kind (store_in h ws ks) T).1) (sym o.answer)) o.store);
-    }
+    forced_done {f = f} o =
+        let T : Ty = ty_of t.0 in
+        record {
+          fits = ap (λ (m : ℕ). forced_fits ks m f) (forced_children o) ∙ o.fits;
+          promised =
+              call_done e h ws ks (λ s. outside s (T ∷ []) ∷ []) (forcing T) q.first
+              (ap (λ (y : scope.Forced). done y (force_kind (store_in h ws ks) T).1) (sym o.answer)) o.store;
+        }

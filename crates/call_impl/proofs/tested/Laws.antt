@@ -1,8 +1,9 @@
 -- The calls on impl types: what the core asks follows from the tests that passed, and each call's definition is its tests and its core.
 -- Assumes nothing.
-use mathlib.Core.Path.{◌≡◌, refl}
+use mathlib.Core.Path.{refl}
 use mathlib.Core.Bool.{not}
 use mathlib.Core.List.{List, [], ◌∷◌}
+use mathlib.Core.Option.{Option, none}
 use Prim.Native.Nat.{ℕ}
 use Rattle.scope.specs.Base.{all, any}
 use Rattle.scope.specs.Names.{Texts}
@@ -13,36 +14,37 @@ use Rattle.scope.specs.Calls.{done, too_many, impl_types, impl_defined}
 use Rattle.scope.specs.Calls.{unify_impl_type_call, approx_eq_call}
 use Rattle.types.specs.Impls.{impl_means}
 use Rattle.types.specs.declared.Impl.{Impl}
+use Rattle.chart.specs.declared.Env as declared
 use Rattle.chart.specs.Env.{env_of, chart_alone}
-use Rattle.chart.specs.declared.Beside.{Beside}
-use Rattle.layout.specs.declared.Header.{Header}
 use Rattle.recall.specs.Memory.{Begun}
 use Rattle.meeting.specs.Asks.{SoundWords}
 use Rattle.unify_lists.specs.Lent.{Impls}
 use Rattle.unify_lists.proofs.CallerLaws.{given_impls}
 use Rattle.lent_tests.proofs.Laws.{defined_alone}
 use Rattle.lent_tests.specs.Given.{impls_tests, FirstOf}
-use Rattle.call_unify.proofs.tested.Laws.{inside, Form, Unifies, Passed}
+use Rattle.call_unify.proofs.tested.Laws.{inside, Form, Unifies}
 
 -- what the core asks, of arguments that no test turned back
 
-module _ {x : Texts} {ws ks m : List ℕ} {n r : ℕ} (w : SoundWords x ws ks n) (g : Begun m) where
-  pub impls_ask : (e : Env) (a : Impl) (xs : List ℕ) (b : Impl) (ys : List ℕ) → FirstOf n (impls_tests e (impl_means a xs) (impl_means b ys)) r → r ≡ 0
+module _ {x : Texts} {ws ks m : List ℕ} {n : ℕ} (w : SoundWords x ws ks n) (g : Begun m) where
+  pub impls_ask : (e : Env) (a : Impl) (xs : List ℕ) (b : Impl) (ys : List ℕ) → FirstOf n (impls_tests e (impl_means a xs) (impl_means b ys)) none
       → Impls x ws ks m n a xs b ys
   unfolding impls_tests
-  impls_ask e a xs b ys t z =
+  impls_ask e a xs b ys t =
       let both : List ImplType = impl_means a xs ∷ impl_means b ys ∷ [] in
       given_impls w g a xs b ys (inside w (λ ns. all (λ i. all (in_store ns) (impl_types i)) both)
-      (λ s. (any (λ i. too_many (impl_types i)) both, 4) ∷ (not (all (impl_defined e) both), 5) ∷ []) t z)
+      (λ s. (any (λ i. too_many (impl_types i)) both, 4) ∷ (not (all (impl_defined e) both), 5) ∷ []) t)
 
 -- a trait is asked of the chart's records alone
 
-pub impls_beside : {chart : List ℕ} {b : Beside} {rule text h ws ks : List ℕ} {x : Header} {m : ℕ} → Passed chart b rule text h ws ks x → (i j : ImplType)
-    → FirstOf x.nodes (impls_tests (chart_alone chart) i j) m → FirstOf x.nodes (impls_tests (env_of chart b rule text) i j) m
+pub impls_beside : (l : declared.Env) {n : ℕ} {o : Option ℕ} (i j : ImplType) → FirstOf n (impls_tests (chart_alone l.chart.now) i j) o
+    → FirstOf n (impls_tests (env_of l.chart.now l.beside l.texts.rule.now l.texts.chart.now) i j) o
 unfolding impls_tests
-impls_beside {chart} {b} {rule} {text} c i j t = record {
-  code = λ s m. rw (defined_alone chart b rule text i, defined_alone chart b rule text j) (t.code s m);
-}
+impls_beside l i j t =
+    let chart = l.chart.now in
+    let rule = l.texts.rule.now in
+    let text = l.texts.chart.now in
+    record { code = λ s m. rw (defined_alone chart l.beside rule text i, defined_alone chart l.beside rule text j) (t.code s m) }
 
 -- the two calls
 

@@ -1,12 +1,10 @@
 -- `call_make::error` meets its contract: where 2 and 8 do not stand the store is tested, and the form for such a store answers.
 -- Assumes nothing.
 use Rattle.scope.specs.Calls.{error_call}
-use Rattle.promise.proofs.BackLaws.{tested, did_back}
+use Rattle.refusals.proofs.Laws.{err_told}
+use Rattle.promise.proofs.BackLaws.{did_back}
 use Rattle.call_make.proofs.error.Goals as goal
 
-pub returns-then-broken-ne-NO_REFUSAL : goal.returns-then-broken-ne-NO_REFUSAL
+pub returns-in_err-lent : goal.returns-in_err-lent
 unfolding error_call
-returns-then-broken-ne-NO_REFUSAL c = did_back _ _ _ _ _ c.refusal-broken.ensures c.if-broken-ne-NO_REFUSAL.true _ _
-
-pub error-requires : goal.error-requires
-error-requires c = tested c.refusal-broken.ensures c.if-broken-ne-NO_REFUSAL.false
+returns-in_err-lent c = rw (err_told c.from_residual.result c.from_residual.ensures.1) (did_back _ _ _ _ _ c.in_err-lent.ensures _ _)

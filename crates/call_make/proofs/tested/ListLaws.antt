@@ -4,29 +4,32 @@
 use mathlib.Core.Path.{◌≡◌, refl, ap, sym, ◌∙◌}
 use mathlib.Core.Bool.{Bool, false}
 use mathlib.Core.List.{List, [], ◌∷◌, ◌++◌, map, map-map}
+use mathlib.Core.Option.{none, some}
 use Prim.Native.Nat.{ℕ, zero, suc, ◌+◌, ◌≤◌, ◌<◌}
 use native.Mathlib.Omega.{arith}
 use lib.ListN.{length, take, drop, length-append, length-map}
 use lib.Seq.{take_at, drop_at}
 use borrow.Author.Tests.{lt-ltb, le-ltb}
+use Rattle.std.specs.Prelude.{Ok, Err}
 use Rattle.scope.specs.Base.{from}
 use Rattle.scope.specs.Limits.{MAX_NODES}
 use Rattle.scope.specs.Chart.{Env}
 use Rattle.scope.specs.Types.{Ty, ty, ty_of, word_of}
 use Rattle.scope.specs.Nodes.{Store}
+use Rattle.scope.specs.Sound.{Lent}
 use Rattle.scope.specs.Refusals.{SHORT}
 use Rattle.scope.specs.Make.{MadeAll, new_var, new_vars}
 use Rattle.scope.specs.Calls.{Outcome, done, first_broken, store_of, lent_tests, room_tests, short_for, new_vars_call}
 use Rattle.types.proofs.Laws.{ty_word}
-use Rattle.chart.specs.declared.Beside.{Beside}
 use Rattle.layout.specs.Words.{store_in, lent_of}
 use Rattle.layout.proofs.Lists.{length_from, same_from}
 use Rattle.store.specs.Holds.{Ready}
 use Rattle.make.specs.Made.{MadeAllIs}
-use Rattle.sound.specs.Tests.{env_in}
 use Rattle.promise.specs.Lists.{ListPromised}
-use Rattle.promise.specs.declared.DoneAnswer.TheVariants.{Done, Refused}
-use Rattle.refusals.proofs.Laws.{code_first, code_next, test_stands, test_falls}
+use Rattle.refusals.specs.declared.Refusal.{Refusal}
+use Rattle.refusals.specs.declared.Refusal.TheVariants.{Short}
+use Rattle.refusals.specs.Codes.{number}
+use Rattle.refusals.proofs.Laws.{broken_first, broken_next, test_stands, test_falls}
 use Rattle.promise.proofs.CallLaws.{call_back, call_done}
 use Rattle.call_make.specs.Room.{RoomTested}
 use Rattle.call_make.proofs.tested.MakerLaws.{maker_ready}
@@ -70,48 +73,41 @@ module _ {h ws ks h' ws' ks' out out' : List ℕ} (p n : ℕ) (r : Ready h ws ks
 
 -- the three ways out
 
-module _ {chart : List ℕ} {b : Beside} {rule text h ws ks : List ℕ} (p n : ℕ) (out : List ℕ) {c : ℕ} (q : RoomTested chart b rule text h ws ks (λ _. n) c) where
-  abbrev e : Env
-  e = env_in chart b rule text
+abbrev tests : ℕ → List ℕ → Store → List (Bool × ℕ)
+tests n out s = room_tests s n 0 ++ (short_for (length out) n ∷ [])
 
-  abbrev short : Bool × ℕ
-  short = short_for (length out) n
+abbrev work : ℕ → ℕ → Store → Outcome (List Ty)
+work p n s = let m : MadeAll = new_vars s p n in done m.types m.store
 
-  abbrev tests : Store → List (Bool × ℕ)
-  tests s = room_tests s n 0 ++ (short ∷ [])
+abbrev rooms : Env → Lent → ℕ → List (Bool × ℕ)
+rooms e l n = lent_tests e l ++ room_tests (store_of l) n 0
 
-  abbrev work : Store → Outcome (List Ty)
-  work s = let m : MadeAll = new_vars s p n in done m.types m.store
-
-  pub vars_back : (c ≡ 0 → ⊥) → ListPromised (new_vars_call e (lent_of h ws ks) p n (length out)) (Refused c) n h ws ks h ws ks out out
+module _ (e : Env) (h ws ks : List ℕ) (p n : ℕ) (out : List ℕ) where
+  refused_by : (r : Refusal) → first_broken (lent_tests e (lent_of h ws ks) ++ tests n out (store_of (lent_of h ws ks))) ≡ some (number r)
+      → ListPromised (new_vars_call e (lent_of h ws ks) p n (length out)) (Err r) n h ws ks h ws ks out out
   unfolding new_vars_call
-  vars_back z = record {
-    promised = call_back e h ws ks tests work c
-        (code_first (lent_tests e (lent_of h ws ks) ++ room_tests (store_of (lent_of h ws ks)) n 0) (short ∷ []) c q.first z) z;
-    rest = refl;
-    kept = λ y. refl;
-  }
+  refused_by r q = record { promised = call_back e h ws ks (tests n out) (work p n) (number r) q; rest = refl; kept = λ y. refl }
 
-  module _ (z : c ≡ 0) where
-    last_test : first_broken (lent_tests e (lent_of h ws ks) ++ tests (store_of (lent_of h ws ks))) ≡ first_broken (short ∷ [])
-    last_test = code_next (lent_tests e (lent_of h ws ks) ++ room_tests (store_of (lent_of h ws ks)) n 0) (short ∷ []) c q.first z
+module _ {e : Env} {h ws ks : List ℕ} (p n : ℕ) (out : List ℕ) where
+  pub vars_back : (r : Refusal) → RoomTested e h ws ks (λ _. n) (some (number r))
+      → ListPromised (new_vars_call e (lent_of h ws ks) p n (length out)) (Err r) n h ws ks h ws ks out out
+  vars_back r q = refused_by e h ws ks p n out r (broken_first (rooms e (lent_of h ws ks) n) (short_for (length out) n ∷ []) (number r) q.first)
 
-    pub vars_short : length out < n → ListPromised (new_vars_call e (lent_of h ws ks) p n (length out)) (Refused SHORT) n h ws ks h ws ks out out
-    unfolding new_vars_call
-    vars_short l = record {
-      promised = call_back e h ws ks tests work SHORT (last_test ∙ test_stands SHORT [] (lt-ltb (length out) n l)) (λ y. absurd (omega arith));
-      rest = refl;
-      kept = λ y. refl;
-    }
+  module _ (q : RoomTested e h ws ks (λ _. n) none) where
+    last_test : first_broken (lent_tests e (lent_of h ws ks) ++ tests n out (store_of (lent_of h ws ks))) ≡ first_broken (short_for (length out) n ∷ [])
+    last_test = broken_next (rooms e (lent_of h ws ks) n) (short_for (length out) n ∷ []) q.first
+
+    pub vars_short : length out < n → ListPromised (new_vars_call e (lent_of h ws ks) p n (length out)) (Err Short) n h ws ks h ws ks out out
+    vars_short l = refused_by e h ws ks p n out Short (last_test ∙ test_stands SHORT [] (lt-ltb (length out) n l))
 
     pub vars_ready : Ready h ws ks n 0
-    vars_ready = maker_ready q z
+    vars_ready = maker_ready q
 
     pub vars_done : {h' ws' ks' out' : List ℕ} → n ≤ length out → MadeAllIs h ws ks h' ws' ks' out out' (new_vars (store_in h ws ks) p n)
-        → ListPromised (new_vars_call e (lent_of h ws ks) p n (length out)) Done n h ws ks h' ws' ks' out out'
+        → ListPromised (new_vars_call e (lent_of h ws ks) p n (length out)) (Ok tt) n h ws ks h' ws' ks' out out'
     unfolding new_vars_call
     vars_done l o = record {
-      promised = call_done e h ws ks tests work 0 (last_test ∙ test_falls SHORT [] (le-ltb (length out) n l)) refl
+      promised = call_done e h ws ks (tests n out) (work p n) (last_test ∙ test_falls SHORT [] (le-ltb (length out) n l))
           (ap (λ (ts : List Ty). done ts (new_vars (store_in h ws ks) p n).store) (sym (front p n vars_ready o))) o.store;
       rest = vars_rest p n vars_ready o;
       kept = λ y. let v : ◌≡◌ {A = ℕ} 0 1 = cc in absurd (omega arith);

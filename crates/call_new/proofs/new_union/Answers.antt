@@ -1,15 +1,10 @@
 -- `call_new::new_union` meets its contract: where 2 and 8 do not stand the store is tested, and the form for such a store answers.
 -- Assumes nothing.
 use Rattle.scope.specs.Calls.{new_call, new_union_call}
-use Rattle.promise.proofs.BackLaws.{tested, did_back}
+use Rattle.refusals.proofs.Laws.{err_told}
+use Rattle.promise.proofs.BackLaws.{did_back}
 use Rattle.call_new.proofs.new_union.Goals as goal
 
-pub returns-then-lent-ne-NO_REFUSAL : goal.returns-then-lent-ne-NO_REFUSAL
+pub returns-in_err-lent : goal.returns-in_err-lent
 unfolding new_union_call new_call
-returns-then-lent-ne-NO_REFUSAL c = did_back _ _ _ _ _ c.refusal-lent.ensures c.if-lent-ne-NO_REFUSAL.true _ _
-
-pub new_union-requires : goal.new_union-requires
-new_union-requires c = tested c.refusal-lent.ensures c.if-lent-ne-NO_REFUSAL.false
-
-pub returns : goal.returns
-returns c = c.new_union.ensures
+returns-in_err-lent c = rw (err_told c.from_residual.result c.from_residual.ensures.1) (did_back _ _ _ _ _ c.in_err-lent.ensures _ _)

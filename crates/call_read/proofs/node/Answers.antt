@@ -2,12 +2,10 @@
 -- Assumes nothing.
 use mathlib.Core.Path.{refl}
 use Rattle.scope.specs.Calls.{node_call}
-use Rattle.promise.proofs.BackLaws.{tested, told_back}
+use Rattle.refusals.proofs.Laws.{err_told}
+use Rattle.promise.proofs.BackLaws.{told_back}
 use Rattle.call_read.proofs.node.Goals as goal
 
-pub returns-then-code-ne-NO_REFUSAL : goal.returns-then-code-ne-NO_REFUSAL
+pub returns-in_err-lent : goal.returns-in_err-lent
 unfolding node_call
-returns-then-code-ne-NO_REFUSAL c = record { fits = refl; outcome = told_back _ _ _ _ _ c.refusal-code.ensures c.if-code-ne-NO_REFUSAL.true _ _ }
-
-pub node-requires : goal.node-requires
-node-requires c = tested c.refusal-code.ensures c.if-code-ne-NO_REFUSAL.false
+returns-in_err-lent c = rw (err_told c.from_residual.result c.from_residual.ensures.1) (record { fits = refl; outcome = told_back _ _ _ _ _ c.in_err-lent.ensures _ _ })

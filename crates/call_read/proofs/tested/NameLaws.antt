@@ -22,7 +22,6 @@ use Rattle.layout.specs.declared.Kind.{Kind}
 use Rattle.layout.specs.declared.Slot.{Slot}
 use Rattle.layout.proofs.ChildLaws.{length_slots, slots_get, length_kids, kid_at, front_slots}
 use Rattle.layout.proofs.KindLaws.{names_own, names_child, names_parameters}
-use Rattle.promise.specs.Promise.{Reply, value}
 
 -- what lies at j
 
@@ -42,13 +41,13 @@ abbrev name_or : Name → Option scope.Name
 name_or n = name_in n.text n.start n.len
 
 module _ (ks : List ℕ) (k : Kind) (j : ℕ) where
-  pub kid_is : (s : Slot) → j < k.count → slot_means s ≡ slot_at ks (k.first + j) → value (get_elem? (kind_means ks k).kids j) ≡ value (some (ty_of s.ty.0))
+  pub kid_is : (s : Slot) → j < k.count → slot_means s ≡ slot_at ks (k.first + j) → get_elem? (kind_means ks k).kids j ≡ some (ty_of s.ty.0)
   kid_is s h e =
-      ap value (element_is (kind_means ks k).kids j (ty_of (slot_at ks 0).type) (rw (length_kids ks k) h)
-      ∙ ap some (kid_at ks k j (slot_at ks 0) h ∙ ap (λ (y : sound.Slot). ty_of y.type) (sym e)))
+      element_is (kind_means ks k).kids j (ty_of (slot_at ks 0).type) (rw (length_kids ks k) h)
+      ∙ ap some (kid_at ks k j (slot_at ks 0) h ∙ ap (λ (y : sound.Slot). ty_of y.type) (sym e))
 
-  pub kid_past : k.count ≤ j → value (get_elem? (kind_means ks k).kids j) ≡ value none
-  kid_past h = ap value (element_none (kind_means ks k).kids j (rw (length_kids ks k) h))
+  pub kid_past : k.count ≤ j → get_elem? (kind_means ks k).kids j ≡ none
+  kid_past h = element_none (kind_means ks k).kids j (rw (length_kids ks k) h)
 
   -- the name of child j among the first n
 
@@ -56,24 +55,24 @@ module _ (ks : List ℕ) (k : Kind) (j : ℕ) where
     named_length : length (map slot_name (slots ks k.first n)) ≡ n
     named_length = length-map (slots ks k.first n) slot_name ∙ length_slots ks k.first n
 
-    pub named_is : (s : Slot) {o : Reply (Option scope.Name)} → j < n → slot_means s ≡ slot_at ks (k.first + j) → value (name_or s.name) ≡ o
-        → value (flat (get_elem? (map slot_name (slots ks k.first n)) j)) ≡ o
+    pub named_is : (s : Slot) {o : Option scope.Name} → j < n → slot_means s ≡ slot_at ks (k.first + j) → name_or s.name ≡ o
+        → flat (get_elem? (map slot_name (slots ks k.first n)) j) ≡ o
     named_is s h e w =
         let l = slots ks k.first n in
         let x : get_or (map slot_name l) j (slot_name (slot_at ks 0)) ≡ slot_name (slot_means s) =
         get_or-map slot_name l j (slot_at ks 0) ∙ ap slot_name (slots_get ks k.first n j (slot_at ks 0) h ∙ sym e) in
-        ap value (ap flat (element_is (map slot_name l) j (slot_name (slot_at ks 0)) (rw named_length h)) ∙ x) ∙ w
+        ap flat (element_is (map slot_name l) j (slot_name (slot_at ks 0)) (rw named_length h)) ∙ (x ∙ w)
 
-    pub named_past : n ≤ j → value (flat (get_elem? (map slot_name (slots ks k.first n)) j)) ≡ value none
-    named_past h = ap (λ (o : Option (Option scope.Name)). value (flat o)) (element_none (map slot_name (slots ks k.first n)) j (rw named_length h))
+    pub named_past : n ≤ j → flat (get_elem? (map slot_name (slots ks k.first n)) j) ≡ none
+    named_past h = ap flat (element_none (map slot_name (slots ks k.first n)) j (rw named_length h))
 
   -- name j of a kind, where d is what names its row has
 
-  abbrev name_of : List (Option scope.Name) → Reply (Option scope.Name)
-  name_of l = value (flat (get_elem? l j))
+  abbrev name_of : List (Option scope.Name) → Option scope.Name
+  name_of l = flat (get_elem? l j)
 
-  module _ {o : Reply (Option scope.Name)} {d : ℕ} (e : d ≡ (row_of k.code).names) where
-    pub own_first : d ≡ OWN_NAME → j ≡ 0 → value (name_or k.name) ≡ o → name_of (kind_means ks k).head.names ≡ o
+  module _ {o : Option scope.Name} {d : ℕ} (e : d ≡ (row_of k.code).names) where
+    pub own_first : d ≡ OWN_NAME → j ≡ 0 → name_or k.name ≡ o → name_of (kind_means ks k).head.names ≡ o
     own_first q z w = ap name_of (names_own ks k (sym e ∙ q)) ∙ rw z w
 
     pub child_named : d ≡ CHILD_NAMES → name_of (map slot_name (slots ks k.first k.count)) ≡ o → name_of (kind_means ks k).head.names ≡ o
@@ -88,15 +87,15 @@ module _ (ks : List ℕ) (k : Kind) (j : ℕ) where
         ap name_of (names_parameters ks k (sym e ∙ q) ∙ ap (map slot_name) f) ∙ w
 
   module _ {d : ℕ} (e : d ≡ (row_of k.code).names) where
-    pub own_later : d ≡ OWN_NAME → (j ≡ 0 → ⊥) → name_of (kind_means ks k).head.names ≡ value none
+    pub own_later : d ≡ OWN_NAME → (j ≡ 0 → ⊥) → name_of (kind_means ks k).head.names ≡ none
     own_later q z =
-        ap name_of (names_own ks k (sym e ∙ q)) ∙ ap (λ (o : Option (Option scope.Name)). value (flat o)) (element_none (name_or k.name ∷ []) j (omega arith))
+        ap name_of (names_own ks k (sym e ∙ q)) ∙ ap flat (element_none (name_or k.name ∷ []) j (omega arith))
 
-    pub parameter_none : d ≡ PARAMETER_NAMES → k.count ≤ 0 → name_of (kind_means ks k).head.names ≡ value none
+    pub parameter_none : d ≡ PARAMETER_NAMES → k.count ≤ 0 → name_of (kind_means ks k).head.names ≡ none
     parameter_none q h =
         let m : k.count ≡ 0 = omega arith in
         ap name_of (names_parameters ks k (sym e ∙ q) ∙ ap (λ (n : ℕ). map slot_name (front (slots ks k.first n))) m)
 
-    pub nameless : (d ≡ OWN_NAME → ⊥) → (d ≡ CHILD_NAMES → ⊥) → (d ≡ PARAMETER_NAMES → ⊥) → name_of (kind_means ks k).head.names ≡ value none
+    pub nameless : (d ≡ OWN_NAME → ⊥) → (d ≡ CHILD_NAMES → ⊥) → (d ≡ PARAMETER_NAMES → ⊥) → name_of (kind_means ks k).head.names ≡ none
     unfolding kind_means
     nameless a b p = rw (← e, ne_eqb d OWN_NAME a, ne_eqb d CHILD_NAMES b, ne_eqb d PARAMETER_NAMES p)

@@ -8,4 +8,4 @@ pub slice_bounds-result-end : goal.slice_bounds-result-end
 slice_bounds-result-end c = sym (length-take-le _ _ (rw c.part_in-n.ensures c.requires))
 
 pub returns : goal.returns
-returns c = (record { told = c.code_in.ensures; front = rw c.part_in-n.ensures refl }, refl)
+returns c = (record { told = c.err.ensures.value; front = rw c.part_in-n.ensures refl }, refl)

@@ -1,17 +1,17 @@
 -- `call_states::open_names` meets its contract: a slice that passes the test is long enough, and no name is held then.
 -- Assumes nothing.
+use Rattle.refusals.proofs.Laws.{err_told}
 use Rattle.call_states.proofs.Laws.{open_back, open_words, open_done}
 use Rattle.call_states.proofs.open_names.Goals as goal
 
-pub returns-then-short-ne-NO_REFUSAL : goal.returns-then-short-ne-NO_REFUSAL
-returns-then-short-ne-NO_REFUSAL c =
-    open_back c.args.nodes c.args.children c.args.bs.now c.opening-short.result c.opening-short.ensures c.if-short-ne-NO_REFUSAL.true
+pub returns-in_err-opening : goal.returns-in_err-opening
+returns-in_err-opening c = let a = c.args in
+    rw (err_told c.from_residual.result c.from_residual.ensures.1) (open_back a.nodes a.children a.bs.now c.in_err-opening.ensures)
 
 pub open_names-requires : goal.open_names-requires
-open_names-requires c =
-    open_words c.args.nodes c.args.children c.args.bs.now c.opening-short.result c.opening-short.ensures c.if-short-ne-NO_REFUSAL.false
+open_names-requires c = let a = c.args in
+    open_words a.nodes a.children a.bs.now c.in_ok-opening.ensures
 
 pub returns : goal.returns
-returns c =
-    open_done c.args.nodes c.args.children c.args.bs.now c.opening-short.result c.opening-short.ensures c.if-short-ne-NO_REFUSAL.false
-    c.open_names.ensures
+returns c = let a = c.args in
+    open_done a.nodes a.children a.bs.now c.in_ok-opening.ensures c.open_names.ensures

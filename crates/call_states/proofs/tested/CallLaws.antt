@@ -15,10 +15,8 @@ use Rattle.scope.specs.Force.{reset}
 use Rattle.scope.specs.Refusals.{UNHELD, NO_PLACE, Outcome, refused, done, judged}
 use Rattle.scope.specs.States.{Place, Book, blank, under, is_held, place_where, place_for, name_length, store_under, wrong_length, unheld, no_place}
 use Rattle.scope.specs.States.{named, name_state_call, keep_reports, return_to_call, dropped, drop_name_call, reset_names_call}
-use Rattle.chart.specs.declared.Beside.{Beside}
 use Rattle.layout.specs.Words.{store_in, lent_of}
 use Rattle.store.specs.Holds.{Became}
-use Rattle.sound.specs.Tests.{env_in}
 use Rattle.promise.specs.Promise.{Reply, value, refusal}
 use Rattle.book.specs.Words.{places_in, book_in, lent_book_of, BookBecame}
 use Rattle.states.specs.Ready.{holding, with_place, store_at, AtPlace, NameReady, ReturnReady}
@@ -57,9 +55,9 @@ there_by : (t : Bool) (i : ℕ) → pick t i MAX_STATES < MAX_STATES → pick t 
 there_by true i l = refl
 there_by false i l = absurd (omega arith)
 
-module _ {chart : List ℕ} {b : Beside} {rule text h ws ks bs : List ℕ} (t : TestedNames chart b rule text h ws ks bs) where
+module _ {e : Env} {h ws ks bs : List ℕ} (t : TestedNames e h ws ks bs) where
   abbrev env : Env
-  env = env_in chart b rule text
+  env = e
 
   abbrev s : Store
   s = store_in h ws ks
@@ -89,24 +87,24 @@ module _ {chart : List ℕ} {b : Beside} {rule text h ws ks bs : List ℕ} (t : 
     pub name_wrong : name_length n ≡ false → Names naming (refusal UNHELD) h ws ks bs
     name_wrong e = names_back (naming_is ∙ first_stands (done (named n s (book_in bs)) s) (name_length n) (no_place n ps).0 e)
 
-    module _ (e : name_length n ≡ true) {i : ℕ} (q : i ≡ place_for n (places_in bs)) where
+    module _ (r : name_length n ≡ true) {i : ℕ} (q : i ≡ place_for n (places_in bs)) where
       for_is : i ≡ place_for n ps
       for_is = q ∙ ap (place_for n) places_are
 
       pub name_full : MAX_STATES ≤ i → Names naming (refusal NO_PLACE) h ws ks bs
       name_full l =
           let f = for_is in
-          names_back (naming_is ∙ second_stands (done (named n s (book_in bs)) s) (name_length n) (no_place n ps).0 e
+          names_back (naming_is ∙ second_stands (done (named n s (book_in bs)) s) (name_length n) (no_place n ps).0 r
           (no_place_lem n ps (names_eight t) ∙ le-leb MAX_STATES (place_for n ps) (omega arith)))
 
       module _ (l : i < MAX_STATES) where
         pub name_ready : NameReady h ws ks bs i n
-        name_ready = record { at = at_place l; fits = e }
+        name_ready = record { at = at_place l; fits = r }
 
         passed : naming ≡ done (named n s (book_in bs)) s
         passed =
             let f = for_is in
-            naming_is ∙ none_stands (done (named n s (book_in bs)) s) (name_length n) (no_place n ps).0 e
+            naming_is ∙ none_stands (done (named n s (book_in bs)) s) (name_length n) (no_place n ps).0 r
             (no_place_lem n ps (names_eight t) ∙ lt-leb MAX_STATES (place_for n ps) (omega arith))
 
         pub name_done : {bs' : List ℕ} → BookBecame bs bs' (with_place (book_in bs) i (holding n s)) → Names naming (value tt) h ws ks bs'

@@ -16,12 +16,10 @@ use Rattle.scope.specs.Sound.{Lent}
 use Rattle.scope.specs.Refusals.{UNSOUND, Outcome, refused, done, or_refused, judged, first_broken, store_of, lent_tests}
 use Rattle.scope.specs.States.{Place, Book, LentBook, reads_book, book_of, same_room, book_sound, lent_book_sound, book_tests}
 use Rattle.scope.proofs.BookLaws.{BookFacts, book_facts}
-use Rattle.chart.specs.declared.Beside.{Beside}
 use Rattle.layout.specs.Words.{store_in, clean, lent_of}
 use Rattle.store.specs.Holds.{Became}
 use Rattle.store.proofs.Laws.{beyond_refl}
 use Rattle.refusals.proofs.Laws.{broken_next, passed_first, passed_next, test_passed}
-use Rattle.sound.specs.Tests.{env_in}
 use Rattle.promise.specs.Promise.{value, refusal}
 use Rattle.promise.proofs.Laws.{lent_clean_words, lent_store}
 use Rattle.book.specs.Words.{book_in, book_clean, lent_book_of, BookBecame}
@@ -34,10 +32,7 @@ unfolding lent_book_of
 sound_book e s bs true q h = (rw q refl, q)
 sound_book e s bs false q h = let z : ◌≡◌ {A = Bool} false true = rw q at h in let y : ◌≡◌ {A = ℕ} 0 1 = cc in absurd (omega arith)
 
-module _ {chart : List ℕ} {b : Beside} {rule text h ws ks bs : List ℕ} (t : TestedNames chart b rule text h ws ks bs) where
-  abbrev e : Env
-  e = env_in chart b rule text
-
+module _ {e : Env} {h ws ks bs : List ℕ} (t : TestedNames e h ws ks bs) where
   abbrev l : Lent
   l = lent_of h ws ks
 

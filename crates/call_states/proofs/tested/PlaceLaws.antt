@@ -10,10 +10,11 @@ use native.Mathlib.Omega.{arith}
 use lib.Dec.{ltb, leb}
 use lib.ListN.{length, get_or}
 use borrow.Author.Tests.{lt-ltb, le-ltb, ltb-true, lt-leb, le-leb}
+use Rattle.std.specs.Prelude.{Some, None, Option}
 use Rattle.scope.specs.Base.{pick, any}
 use Rattle.scope.specs.Limits.{MAX_STATES, MAX_STATE_NAME}
 use Rattle.scope.specs.States.{Place, is_free, under, is_held, place_where, place_for, name_length, no_place}
-use Rattle.call_states.specs.Places.{place_held}
+use Rattle.book.specs.Places.{if_place}
 use Rattle.scope.proofs.TestLaws.{or_no}
 use Rattle.scope.proofs.PlaceLaws.{found}
 
@@ -48,11 +49,17 @@ module _ (n : List ℕ) (ps : List Place) (eight : length ps ≡ MAX_STATES) whe
   pub held_nowhere : MAX_STATES ≤ place_where (under n) ps → is_held n ps ≡ false
   held_nowhere l = any_where (under n) ps eight ∙ le-ltb (place_where (under n) ps) MAX_STATES l
 
-  pub for_held : {i : ℕ} → i ≡ place_where (under n) ps → i < MAX_STATES → i ≡ place_for n ps
-  for_held q l = rw (held_there (rw q at l)) q
-
-  pub for_free : {i j : ℕ} → i ≡ place_where (under n) ps → MAX_STATES ≤ i → j ≡ place_where is_free ps → j ≡ place_for n ps
-  for_free q l r = rw (held_nowhere (rw q at l)) r
+  pub for_by : {o r : Option ℕ} → o ≡ if_place (place_where (under n) ps) → (o ≡ None → r ≡ if_place (place_where is_free ps)) → ((i : ℕ) → o ≡ Some i → r ≡ Some i)
+      → r ≡ if_place (place_for n ps)
+  for_by {o} {r} q f g = go (is_held n ps) refl
+    where
+      go : (b : Bool) → is_held n ps ≡ b → r ≡ if_place (pick b (place_where (under n) ps) (place_where is_free ps))
+      go true e =
+          let t : ltb (place_where (under n) ps) MAX_STATES ≡ true = sym (any_where (under n) ps eight) ∙ e in
+          rw t (g (place_where (under n) ps) (rw t at q))
+      go false e =
+          let t : ltb (place_where (under n) ps) MAX_STATES ≡ false = sym (any_where (under n) ps eight) ∙ e in
+          f (rw t at q)
 
   -- "a ninth" has no place
   no_place_by : (b : Bool) → is_held n ps ≡ b → (not b && not (any is_free ps)) ≡ leb MAX_STATES (pick b (place_where (under n) ps) (place_where is_free ps))
@@ -74,12 +81,3 @@ under_held n (some h) e = refl
 
 pub found_held : (n : List ℕ) (ps : List Place) → is_held n ps ≡ true → is_free (get_or ps (place_where (under n) ps) none) ≡ false
 found_held n ps e = under_held n (get_or ps (place_where (under n) ps) none) (found (under n) ps e).passes
-
--- the place that a name is held at, its length tested first
-
-module _ (n : List ℕ) (ps : List Place) where
-  pub wrong_nowhere : name_length n ≡ false → MAX_STATES ≡ place_held n ps
-  wrong_nowhere e = rw e
-
-  pub right_found : {i : ℕ} → name_length n ≡ true → i ≡ place_where (under n) ps → i ≡ place_held n ps
-  right_found e q = rw e q

@@ -1,10 +1,11 @@
 -- `lent_tests::signatures` meets its contract: the returns turn the call back, or the parameters decide.
 -- Assumes nothing.
+use Rattle.refusals.proofs.Laws.{err_told}
 use Rattle.lent_tests.proofs.Laws.{sig_back, sig_on}
 use Rattle.lent_tests.proofs.signatures.Goals as goal
 
-pub returns-then-returns-ne-NO_REFUSAL : goal.returns-then-returns-ne-NO_REFUSAL
-returns-then-returns-ne-NO_REFUSAL c = sig_back _ _ _ _ c.pair-returns.ensures c.if-returns-ne-NO_REFUSAL.true
+pub returns-in_err-pair : goal.returns-in_err-pair
+returns-in_err-pair c = rw (err_told c.from_residual.result c.from_residual.ensures.1) (sig_back _ _ _ _ c.in_err-pair.ensures)
 
 pub returns : goal.returns
-returns c = sig_on _ _ _ _ c.pair-returns.ensures c.if-returns-ne-NO_REFUSAL.false c.lists.ensures
+returns c = sig_on _ _ _ _ c.in_ok-pair.ensures c.lists.ensures

@@ -1,34 +1,21 @@
--- `refusals::entries_inside` meets its contract, as `types_inside` does, over the types of the entries.
+-- `refusals::entries_inside` meets its contract: the test is made of each entry's type.
 -- Assumes nothing.
-use mathlib.Core.Path.{refl, ap, sym, ◌∙◌}
-use Prim.Native.Nat.{◌-◌, ◌<◌}
+use mathlib.Core.Path.{◌∙◌}
+use Prim.Native.Nat.{◌+◌}
 use native.Mathlib.Omega.{arith}
+use borrow.Author.Rules.{rules}
+use borrow.Author.Tests.{tests}
+use Rattle.std.proofs.lemmas.Iterator.{YieldsList-from_range}
+use Rattle.std.proofs.lemmas.Iterator.Search.{all_from_yields_List}
 use Rattle.scope.specs.Types.{ty_of}
-use Rattle.store.specs.Entries.{entry_count, entry_types}
-use Rattle.store.proofs.EntryLaws.{entry_below, entry_past, entry_at}
-use Rattle.refusals.proofs.InsideLaws.{inside_stop, inside_next, inside_end}
+use Rattle.scope.specs.Sound.{in_store}
+use Rattle.layout.specs.Words.{slot_at}
+use Rattle.store.specs.Entries.{entry_count}
+use Rattle.refusals.proofs.InsideLaws.{all_slots}
 use Rattle.refusals.proofs.entries_inside.Goals as goal
 
-pub loop-i-init : goal.loop-i-init
-loop-i-init c = λ ns e. refl
-
-pub returns-then-not-type_inside : goal.returns-then-not-type_inside
-returns-then-not-type_inside c =
-    let es = c.args.es.now in
-    let l : c.loop-i.i < entry_count es = omega (arith, c.entry_count-count.ensures, c.loop-i-test.true) in
-    inside_stop (entry_types es) c.loop-i.i c.loop-i.invariant (entry_below es c.loop-i.i l) (entry_at es c.loop-i.i l ∙ ap (λ s. ty_of s.type) (sym c.child_at.ensures))
-    c.type_inside.ensures c.if-not-type_inside.true-raw
-
-pub loop-i-smaller : goal.loop-i-smaller
-loop-i-smaller c = omega arith
-
-pub loop-i-preserved : goal.loop-i-preserved
-loop-i-preserved c =
-    let es = c.args.es.now in
-    let l : c.loop-i.i < entry_count es = omega (arith, c.entry_count-count.ensures, c.loop-i-test.true) in
-    inside_next (entry_types es) c.loop-i.i c.loop-i.invariant (entry_below es c.loop-i.i l) (entry_at es c.loop-i.i l ∙ ap (λ s. ty_of s.type) (sym c.child_at.ensures))
-    c.type_inside.ensures c.if-not-type_inside.false-raw
-
 pub returns : goal.returns
-returns c = let es = c.args.es.now in
-    inside_end (entry_types es) c.loop-i.i c.loop-i.invariant (entry_past es c.loop-i.i (omega (arith, c.entry_count-count.ensures, c.loop-i-test.false)))
+returns c = λ ns long. let es = c.args.es.now in
+    all_from_yields_List (λ i. in_store ns (ty_of (slot_at es (0 + i)).type)) _ _ _ c.all.ensures.ran
+    (YieldsList-from_range 0 (entry_count es) (entry_count es) (cc) (omega arith)) (λ x b q k. search (rules, tests, long))
+    ∙ all_slots ns es 0 (entry_count es)

@@ -9,7 +9,7 @@ use Rattle.scope.specs.Calls.{over, new_call, new_var_call, error_call, nil_call
 use Rattle.scope.specs.Sheet.{Line, sheet_line}
 use Rattle.layout.specs.Words.{store_in}
 use Rattle.store.specs.Entries.{types_in}
-use Rattle.sheet_calls.proofs.StoreLaws.{sheet_tested, sheet_passed, sheet_by, as_sheet}
+use Rattle.sheet_calls.proofs.StoreLaws.{sheet_env_lem, sheet_tested, sheet_passed, sheet_by, as_sheet}
 use Rattle.sheet_calls.proofs.Laws.{made, kind_leaves}
 use borrow.Author.Rules.{rules}
 use Rattle.sheet_calls.proofs.made.Goals as goal
@@ -37,20 +37,20 @@ new_over-requires c = sheet_by c.requires.sheet_store
 pub returns-in-Var : goal.returns-in-Var
 unfolding sheet_line
 returns-in-Var c =
-    let kept = c.new_var.ensures.each (sheet_tested c.requires.sheet_store) in
-    rw c.in-Var.is (made c.requires.sheet_store Line.var _ c.new_var.result refl (λ out. refl) (as_sheet c.requires.sheet_store (λ e l. new_var_call e l NONE) kept))
+    let kept = c.new_var.ensures.each (sheet_tested c.requires.sheet_store refl) in
+    rw c.in-Var.is (made c.requires.sheet_store Line.var _ c.new_var.result refl (λ out. refl) (as_sheet c.requires.sheet_store refl (λ e l. new_var_call e l NONE) kept))
 
 pub returns-in-Nil : goal.returns-in-Nil
 unfolding sheet_line
 returns-in-Nil c =
-    let kept = c.nil.ensures.each (sheet_tested c.requires.sheet_store) in
-    rw c.in-Nil.is (made c.requires.sheet_store Line.nil _ c.nil.result refl (λ out. refl) (as_sheet c.requires.sheet_store nil_call kept))
+    let kept = c.nil.ensures.each (sheet_tested c.requires.sheet_store refl) in
+    rw c.in-Nil.is (made c.requires.sheet_store Line.nil _ c.nil.result refl (λ out. refl) (as_sheet c.requires.sheet_store refl nil_call kept))
 
 pub returns-in-Error : goal.returns-in-Error
 unfolding sheet_line
 returns-in-Error c =
-    let kept = c.error.ensures.each (sheet_tested c.requires.sheet_store) in
-    rw c.in-Error.is (made c.requires.sheet_store Line.error _ c.error.result refl (λ out. refl) (as_sheet c.requires.sheet_store error_call kept))
+    let kept = c.error.ensures.each (sheet_tested c.requires.sheet_store refl) in
+    rw c.in-Error.is (made c.requires.sheet_store Line.error _ c.error.result refl (λ out. refl) (as_sheet c.requires.sheet_store refl error_call kept))
 
 pub returns-in-Over : goal.returns-in-Over
 returns-in-Over c =
@@ -59,7 +59,7 @@ returns-in-Over c =
     let ts = take c.in-Over.n a.types.now in
     let fits = rw c.in-Over.is at c.requires.maker_fits in
     let s = store_in a.h.now a.ws.now a.ks.now in
-    let kept = c.new_over.ensures.each fits.names (sheet_tested c.requires.sheet_store) in
+    let kept = c.new_over.ensures.each fits.names _ _ _ (sheet_tested c.requires.sheet_store sheet_env_lem) in
     rw c.in-Over.is
     (made c.requires.sheet_store _ _ c.new_over.result (fits.says s) (λ out. kind_leaves s code (types_in ts) out)
-    (as_sheet c.requires.sheet_store (λ e l. new_call e l (over code 0 (types_in ts))) kept))
+    (as_sheet c.requires.sheet_store sheet_env_lem (λ e l. new_call e l (over code 0 (types_in ts))) kept))

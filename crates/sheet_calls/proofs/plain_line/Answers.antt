@@ -5,10 +5,10 @@ use mathlib.Core.Path.{refl}
 use native.Mathlib.Omega.{arith}
 use Rattle.scope.specs.Text.{text}
 use Rattle.scope.specs.Calls.{finish_inference_call}
-use Rattle.scope.specs.Sheet.{Line, sheet_line}
+use Rattle.scope.specs.Sheet.{Line, sheet_env, sheet_line}
 use Rattle.promise.proofs.CallLaws.{call_done}
 use Rattle.sheet_say.proofs.Laws.{front}
-use Rattle.sheet_calls.proofs.StoreLaws.{lent_env, sheet_clean, lent_code, as_sheet}
+use Rattle.sheet_calls.proofs.StoreLaws.{sheet_clean, tests_pass, as_sheet}
 use Rattle.sheet_calls.proofs.Laws.{ran, same_store, ran_made, ran_done, finishing}
 use borrow.Author.Rules.{rules}
 use Rattle.sheet_calls.proofs.plain_line.Goals as goal
@@ -32,8 +32,8 @@ unfolding sheet_line finish_inference_call
 returns-in-Finish c =
     let a = c.args in
     let kept =
-    as_sheet c.requires.sheet_store finish_inference_call
-    (call_done lent_env a.h.now a.ws.now a.ks.now (λ s. []) finishing 0 (lent_code c.requires.sheet_store) refl refl c.finish_inference.ensures) in
+    as_sheet c.requires.sheet_store refl finish_inference_call
+    (call_done sheet_env a.h.now a.ws.now a.ks.now (λ s. []) finishing (tests_pass c.requires.sheet_store) refl c.finish_inference.ensures) in
     rw c.in-Finish.is (ran_done c.requires.sheet_store Line.finish refl _ refl kept (front c.requires.in_bounds_2 (text "done") (omega arith) c.put.ensures))
 
 pub returns-in-Bad : goal.returns-in-Bad

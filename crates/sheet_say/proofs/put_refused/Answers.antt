@@ -7,4 +7,4 @@ use Rattle.sheet_say.proofs.put_refused.Goals as goal
 
 pub returns : goal.returns
 returns c =
-    front_number c.requires (text "refused ") c.args.n (omega arith) c.put-at.ensures c.put_decimal.ensures
+    rw c.from.ensures at (front_number c.requires (text "refused ") c.from.result (omega arith) c.put-at.ensures c.put_decimal.ensures)

@@ -5,9 +5,9 @@ use Rattle.scope.specs.Text.{text}
 use Rattle.sheet_say.proofs.Laws.{front_number}
 use Rattle.sheet_say.proofs.put_type.Goals as goal
 
-pub returns-in-Is : goal.returns-in-Is
-returns-in-Is c =
-    rw (c.in-Is.is, ← c.idx.ensures) (front_number c.requires (text "=") c.idx.result.0 (omega arith) c.put-at.ensures c.put_decimal.ensures)
+pub returns-in-Ok : goal.returns-in-Ok
+returns-in-Ok c =
+    rw (c.in-Ok.is, ← c.idx.ensures) (front_number c.requires (text "=") c.idx.result.0 (omega arith) c.put-at.ensures c.put_decimal.ensures)
 
-pub returns-in-Refused : goal.returns-in-Refused
-returns-in-Refused c = rw c.in-Refused.is c.put_refused.ensures
+pub returns-in-Err : goal.returns-in-Err
+returns-in-Err c = rw c.in-Err.is c.put_refused.ensures

@@ -1,17 +1,18 @@
--- `sound::readable` meets its contract: each way out has its law.
+-- `sound::readable` meets its contract: the header says the capacities.
 -- Assumes nothing.
-use mathlib.Core.Path.{sym, ◌∙◌}
-use Rattle.sound.proofs.Laws.{many_nodes, many_children, readable_room}
+use mathlib.Core.Path.{ap}
+use borrow.Author.Rules.{rules}
+use borrow.Author.Tests.{tests}
+use Rattle.layout.specs.declared.Header.{Header}
+use Rattle.sound.specs.Tests.{readable}
 use Rattle.sound.proofs.readable.Goals as goal
 
-pub returns-then-x-gt-MAX_NODES : goal.returns-then-x-gt-MAX_NODES
-returns-then-x-gt-MAX_NODES c = let a = c.args in
-    sym (many_nodes a.h.now a.ws.now a.ks.now c.read_header-x.result c.read_header-x.ensures c.if-x-gt-MAX_NODES.true)
+pub returns-then-x-le-MAX_CHILDREN : goal.returns-then-x-le-MAX_CHILDREN
+unfolding readable
+returns-then-x-le-MAX_CHILDREN c = let n = ap (λ (x : Header). x.node_room) c.read_header-x.ensures in let k = ap (λ (x : Header). x.child_room) c.read_header-x.ensures in
+    search (rules, tests, n, k)
 
-pub returns-then-x-gt-MAX_CHILDREN : goal.returns-then-x-gt-MAX_CHILDREN
-returns-then-x-gt-MAX_CHILDREN c = let a = c.args in
-    sym (many_children a.h.now a.ws.now a.ks.now c.read_header-x.result c.read_header-x.ensures c.if-x-gt-MAX_CHILDREN.true)
-
-pub returns : goal.returns
-returns c = let a = c.args in
-    c.room_clean.ensures ∙ sym (readable_room a.h.now a.ws.now a.ks.now c.read_header-x.result c.read_header-x.ensures c.if-x-gt-MAX_NODES.false c.if-x-gt-MAX_CHILDREN.false)
+pub returns-else-x-le-MAX_CHILDREN : goal.returns-else-x-le-MAX_CHILDREN
+unfolding readable
+returns-else-x-le-MAX_CHILDREN c = let n = ap (λ (x : Header). x.node_room) c.read_header-x.ensures in let k = ap (λ (x : Header). x.child_room) c.read_header-x.ensures in
+    search (rules, tests, n, k)

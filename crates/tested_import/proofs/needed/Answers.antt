@@ -1,4 +1,4 @@
--- `tested_import::needed` meets its contract: a Param with no entry comes before room, which is asked of the header.
+-- `tested_import::needed` meets its contract: a Param without an entry is told first, then what the room has not.
 -- Assumes nothing.
 use Rattle.tested_import.proofs.TestLaws.{needs_missing, needs_room}
 use Rattle.tested_import.proofs.needed.Goals as goal
@@ -6,8 +6,8 @@ use Rattle.tested_import.proofs.needed.Goals as goal
 pub params_of-requires : goal.params_of-requires
 params_of-requires c = c.requires.1
 
-pub returns-then-missing : goal.returns-then-missing
-returns-then-missing c = needs_missing c.params_of.ensures c.of_import-wanted.ensures c.if-missing.true
+pub returns-then-wanted : goal.returns-then-wanted
+returns-then-wanted c = needs_missing c.params_of.ensures c.of_import-wanted.ensures c.if-wanted.true
 
 pub returns : goal.returns
-returns c = needs_room c.params_of.ensures c.of_import-wanted.ensures c.if-missing.false c.room-full.ensures
+returns c = needs_room c.params_of.ensures c.of_import-wanted.ensures c.if-wanted.false c.room.ensures

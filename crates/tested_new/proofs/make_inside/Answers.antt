@@ -1,26 +1,25 @@
 -- `tested_new::make_inside` meets its contract: a refusal writes nothing, and a kind that passes is the one that the core is given.
 -- Assumes nothing.
+use Rattle.refusals.proofs.Laws.{err_told}
 use Rattle.tested_new.proofs.Laws.{inside_refused, inside_full, inside_ready, inside_made}
 use Rattle.tested_new.proofs.make_inside.Goals as goal
 
-pub returns-then-unmade-ne-NO_REFUSAL : goal.returns-then-unmade-ne-NO_REFUSAL
-returns-then-unmade-ne-NO_REFUSAL c = let a = c.args in
-    inside_refused a.chart.now a.rule.now a.text.now a.h.now a.ws.now a.ks.now a.k a.entries.now
-    c.kind_refusal-unmade.result c.kind_refusal-unmade.ensures c.if-unmade-ne-NO_REFUSAL.true
+pub returns-in_err-test_kind : goal.returns-in_err-test_kind
+returns-in_err-test_kind c = let a = c.args in let l = a.env.now in
+    rw (err_told c.from_residual.result c.from_residual.ensures.1)
+    (inside_refused l.chart.now l.texts.rule.now l.texts.chart.now a.h.now a.ws.now a.ks.now a.k a.entries.now c.in_err-test_kind.ensures)
 
-pub returns-then-full-ne-NO_REFUSAL : goal.returns-then-full-ne-NO_REFUSAL
-returns-then-full-ne-NO_REFUSAL c = let a = c.args in
-    inside_full a.chart.now a.rule.now a.text.now a.h.now a.ws.now a.ks.now a.k a.entries.now c.kind_refusal-unmade.result
-    c.kind_refusal-unmade.ensures c.if-unmade-ne-NO_REFUSAL.false c.room-full.result c.room-full.ensures c.if-full-ne-NO_REFUSAL.true
+pub returns-in_err-room : goal.returns-in_err-room
+returns-in_err-room c = let a = c.args in let l = a.env.now in
+    rw (err_told c.from_residual-in_err-room.result c.from_residual-in_err-room.ensures.1)
+    (inside_full l.chart.now l.texts.rule.now l.texts.chart.now a.h.now a.ws.now a.ks.now a.k a.entries.now c.in_ok-test_kind.ensures c.in_err-room.ensures)
 
 pub new_kind-requires : goal.new_kind-requires
-new_kind-requires c = let a = c.args in
-    let pre = c.requires in
-    inside_ready a.chart.now a.rule.now a.text.now a.h.now a.ws.now a.ks.now a.k a.entries.now c.kind_refusal-unmade.result
-    c.kind_refusal-unmade.ensures c.if-unmade-ne-NO_REFUSAL.false c.room-full.result c.room-full.ensures c.if-full-ne-NO_REFUSAL.false c.flagged.ensures pre.ready
+new_kind-requires c = let a = c.args in let l = a.env.now in
+    inside_ready l.chart.now l.texts.rule.now l.texts.chart.now a.h.now a.ws.now a.ks.now a.k a.entries.now c.in_ok-test_kind.ensures c.in_ok-room.ensures
+    c.flagged.ensures c.requires.ready
 
 pub returns : goal.returns
-returns c =
-    let a = c.args in
-    inside_made a.chart.now a.rule.now a.text.now a.h.now a.ws.now a.ks.now a.k a.entries.now c.kind_refusal-unmade.result
-    c.kind_refusal-unmade.ensures c.if-unmade-ne-NO_REFUSAL.false c.room-full.result c.room-full.ensures c.if-full-ne-NO_REFUSAL.false c.flagged.ensures c.new_kind.ensures
+returns c = let a = c.args in let l = a.env.now in
+    inside_made l.chart.now l.texts.rule.now l.texts.chart.now a.h.now a.ws.now a.ks.now a.k a.entries.now c.in_ok-test_kind.ensures c.in_ok-room.ensures
+    c.flagged.ensures c.new_kind.ensures

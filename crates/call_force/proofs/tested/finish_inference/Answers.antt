@@ -3,7 +3,7 @@
 use mathlib.Core.List.{[]}
 use mathlib.Core.Path.{refl}
 use Rattle.scope.specs.Calls.{finish_inference_call}
-use Rattle.sound.specs.Tests.{env_in}
+use Rattle.sound.specs.Tests.{env_lent}
 use Rattle.promise.proofs.Laws.{tested_clean}
 use Rattle.promise.proofs.CallLaws.{call_done}
 use Rattle.call_force.proofs.tested.Laws.{finishing}
@@ -16,5 +16,5 @@ pub returns : goal.returns
 unfolding finish_inference_call
 returns c = let pre = c.requires in
     let a = c.args in
-    let e = env_in a.chart.now a.beside a.rule.now a.text.now in
-    call_done e a.h.now a.ws.now a.ks.now (λ s. []) finishing 0 pre.passed refl refl c.finish_inference.ensures
+    let e = env_lent a.env.now in
+    call_done e a.h.now a.ws.now a.ks.now (λ s. []) finishing pre.passed refl c.finish_inference.ensures

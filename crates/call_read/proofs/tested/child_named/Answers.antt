@@ -8,4 +8,4 @@ returns-then-n-j c = named_past c.args.ks.now c.args.kind c.args.j c.args.n c.if
 
 pub returns : goal.returns
 returns c = let a = c.args in
-    named_is a.ks.now a.kind a.j a.n c.child_of-kid.result c.if-n-j.false c.child_of-kid.ensures c.told_name.ensures
+    named_is a.ks.now a.kind a.j a.n c.child_of.result c.if-n-j.false c.child_of.ensures c.told_name.ensures

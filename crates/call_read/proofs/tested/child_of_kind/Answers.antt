@@ -7,5 +7,5 @@ pub returns-then-j-kind : goal.returns-then-j-kind
 returns-then-j-kind c = let a = c.args in
     kid_is a.ks.now a.kind a.j c.child_of.result c.if-j-kind.true c.child_of.ensures
 
-pub returns : goal.returns
-returns c = kid_past c.args.ks.now c.args.kind c.args.j c.if-j-kind.false
+pub returns-else-j-kind : goal.returns-else-j-kind
+returns-else-j-kind c = kid_past c.args.ks.now c.args.kind c.args.j c.if-j-kind.false

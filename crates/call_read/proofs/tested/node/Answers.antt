@@ -1,20 +1,20 @@
 -- `call_read::tested::node` meets its contract: a refusal is the first test that breaks, and where none does the node that was read is the store's and fits it.
 -- Assumes nothing.
+use mathlib.Core.Path.{refl}
+use Rattle.scope.specs.Calls.{node_call}
+use Rattle.refusals.proofs.Laws.{err_told}
 use Rattle.promise.proofs.Laws.{inside_tested}
-use Rattle.promise.proofs.ReadLaws.{read_clean}
-use Rattle.call_read.proofs.tested.Laws.{node_refused, node_found}
+use Rattle.promise.proofs.ReadLaws.{read_refused, read_clean}
+use Rattle.call_read.proofs.tested.Laws.{node_found}
 use Rattle.call_read.proofs.tested.node.Goals as goal
 
-pub returns-then-code-ne-NO_REFUSAL : goal.returns-then-code-ne-NO_REFUSAL
-returns-then-code-ne-NO_REFUSAL c = let test = inside_tested c.requires c.refusal_at-code.ensures in
-    node_refused test c.if-code-ne-NO_REFUSAL.true
+pub returns-in_err-inside : goal.returns-in_err-inside
+unfolding node_call
+returns-in_err-inside c = rw (err_told c.from_residual.result c.from_residual.ensures.1)
+    record { fits = refl; outcome = read_refused (inside_tested c.requires c.in_err-inside.ensures) _ }
 
 pub node_at-requires : goal.node_at-requires
-node_at-requires c = let test = inside_tested c.requires c.refusal_at-code.ensures in
-    (read_clean test c.if-code-ne-NO_REFUSAL.false c.read_header-x.ensures).room
+node_at-requires c = (read_clean (inside_tested c.requires c.in_ok-inside.ensures) c.read_header-x.ensures).room
 
 pub returns : goal.returns
-returns c = let pre = c.requires in
-    let head = c.read_header-x.ensures in
-    let test = inside_tested pre c.refusal_at-code.ensures in
-    node_found test c.if-code-ne-NO_REFUSAL.false head c.idx.ensures c.node_at.ensures c.answer.ensures
+returns c = node_found (inside_tested c.requires c.in_ok-inside.ensures) c.read_header-x.ensures c.idx.ensures c.node_at.ensures

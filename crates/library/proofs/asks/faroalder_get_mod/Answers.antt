@@ -1,6 +1,5 @@
--- `library::asks::faroalder_get_mod` meets its contract: it is `call_ask::get_mod`, and its number and words give its answer back. Assumes nothing.
+-- `library::asks::faroalder_get_mod` meets its contract: its number and words tell the answer of the call that it is. Assumes nothing.
 use Rattle.library.proofs.asks.faroalder_get_mod.Goals as goal
 
 pub returns : goal.returns
-returns c = let told = c.tell_mod.ensures in
-    (rw told.answer (rw c.beside_of-beside.ensures at c.get_mod.ensures), rw told.answer told.out)
+returns c = record { answer = c.get_mod.result; told = c.tell_mod.ensures; promised = rw c.env_of-env.ensures at c.get_mod.ensures }

@@ -1,6 +1,5 @@
--- `library::copies::faroalder_export` meets its contract: it is `call_copy::export`, and its number gives its answer back. Assumes nothing.
+-- `library::copies::faroalder_export` meets its contract: its number tells the answer of the call that it is. Assumes nothing.
 use Rattle.library.proofs.copies.faroalder_export.Goals as goal
 
 pub returns : goal.returns
-returns c =
-    rw c.done_number.ensures (rw c.beside_of-beside.ensures at c.export.ensures)
+returns c = record { answer = c.export.result; reply = c.done_number.ensures; promised = rw c.env_of-env.ensures at c.export.ensures }

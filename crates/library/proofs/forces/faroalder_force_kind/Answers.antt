@@ -1,7 +1,5 @@
--- `library::forces::faroalder_force_kind` meets its contract: it is `call_force::force_kind`, and its number and words give its answer back. Assumes nothing.
+-- `library::forces::faroalder_force_kind` meets its contract: its number and words tell the answer of the call that it is. Assumes nothing.
 use Rattle.library.proofs.forces.faroalder_force_kind.Goals as goal
 
 pub returns : goal.returns
-returns c =
-    let told = c.tell_forced.ensures in
-    (rw told.answer (rw c.beside_of-beside.ensures at c.force_kind.ensures), rw told.answer told.out)
+returns c = record { answer = c.force_kind.result; told = c.tell_forced.ensures; promised = rw c.env_of-env.ensures at c.force_kind.ensures }

@@ -1,6 +1,5 @@
--- `library::reads::faroalder_child` meets its contract: it is `call_read::child`, and its number and words give its answer back. Assumes nothing.
+-- `library::reads::faroalder_child` meets its contract: its number and words tell the answer of the call that it is. Assumes nothing.
 use Rattle.library.proofs.reads.faroalder_child.Goals as goal
 
 pub returns : goal.returns
-returns c = let told = c.tell_child.ensures in
-    (rw told.answer (rw c.beside_of-beside.ensures at c.child.ensures), rw told.answer told.out)
+returns c = record { answer = c.child.result; told = c.tell_child.ensures; promised = rw c.env_of-env.ensures at c.child.ensures }

@@ -1,6 +1,5 @@
--- `library::reads::faroalder_figures` meets its contract: it is `call_read::figures`, and its number and words give its answer back. Assumes nothing.
+-- `library::reads::faroalder_figures` meets its contract: its number and words tell the answer of the call that it is. Assumes nothing.
 use Rattle.library.proofs.reads.faroalder_figures.Goals as goal
 
 pub returns : goal.returns
-returns c = let told = c.tell_figures.ensures in
-    (rw told.answer (rw c.beside_of-beside.ensures at c.figures.ensures), rw told.answer told.out)
+returns c = record { answer = c.figures.result; told = c.tell_figures.ensures; promised = rw c.env_of-env.ensures at c.figures.ensures }

@@ -22,4 +22,4 @@ count_number-requires c = let b = c.args.buf.now in
 
 pub returns : goal.returns
 returns c =
-    rw c.count_number.ensures (cut_promised c.args.buf.now _ _ c.counted-n.ensures c.show.auto.buf (rw c.beside_of-beside.ensures at c.show.ensures))
+    rw c.count_number.ensures (cut_promised c.args.buf.now _ _ c.counted-n.ensures c.show.auto.buf (rw c.env_of-env.ensures at c.show.ensures))

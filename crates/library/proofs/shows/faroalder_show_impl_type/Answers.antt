@@ -25,4 +25,4 @@ count_number-requires c =
 pub returns : goal.returns
 returns c =
     rw c.count_number.ensures
-    (cut_promised c.args.buf.now _ _ c.counted-n.ensures c.show_impl_type.auto.buf (rw (c.beside_of-beside.ensures, c.impl_of.ensures) at c.show_impl_type.ensures))
+    (cut_promised c.args.buf.now _ _ c.counted-n.ensures c.show_impl_type.auto.buf (rw (c.env_of-env.ensures, c.impl_of.ensures) at c.show_impl_type.ensures))

@@ -1,10 +1,5 @@
--- `library::tested_asks::faroalder_tested_get_mod` meets its contract: it is `call_ask::tested::get_mod`, its number and words give its answer back, and what it asks for is asked here.
--- Assumes nothing.
+-- `library::tested_asks::faroalder_tested_get_mod` meets its contract: its number and words tell the answer of the call that it is. Assumes nothing.
 use Rattle.library.proofs.tested_asks.faroalder_tested_get_mod.Goals as goal
 
-pub get_mod-requires : goal.get_mod-requires
-get_mod-requires c = rw c.beside_of-beside.ensures c.requires
-
 pub returns : goal.returns
-returns c = let told = c.tell_mod.ensures in
-    (rw told.answer (rw c.beside_of-beside.ensures at c.get_mod.ensures), rw told.answer told.out)
+returns c = record { answer = c.get_mod.result; told = c.tell_mod.ensures; promised = rw c.env_of-env.ensures at c.get_mod.ensures }

@@ -1,10 +1,5 @@
--- `library::tested_reads::faroalder_tested_child_name` meets its contract: it is `call_read::tested::child_name`, its number and words give its answer back, and what it asks for is asked here.
--- Assumes nothing.
+-- `library::tested_reads::faroalder_tested_child_name` meets its contract: its number and words tell the answer of the call that it is. Assumes nothing.
 use Rattle.library.proofs.tested_reads.faroalder_tested_child_name.Goals as goal
 
-pub child_name-requires : goal.child_name-requires
-child_name-requires c = rw c.beside_of-beside.ensures c.requires
-
 pub returns : goal.returns
-returns c = let told = c.tell_name.ensures in
-    (rw told.answer (rw c.beside_of-beside.ensures at c.child_name.ensures), rw told.answer told.out)
+returns c = record { answer = c.child_name.result; told = c.tell_name.ensures; promised = rw c.env_of-env.ensures at c.child_name.ensures }

@@ -16,7 +16,7 @@ slice_bounds-show-end-2 c = let b = c.args.buf.now in
     sym (length-take-le c.counted-n.result b (rw c.counted-n.ensures (counted_few (length b))))
 
 pub show-requires : goal.show-requires
-show-requires c = rw c.beside_of-beside.ensures c.requires
+show-requires c = rw c.env_of-env.ensures c.requires
 
 pub count_number-requires : goal.count_number-requires
 count_number-requires c = let b = c.args.buf.now in
@@ -25,4 +25,4 @@ count_number-requires c = let b = c.args.buf.now in
 
 pub returns : goal.returns
 returns c =
-    rw c.count_number.ensures (cut_promised c.args.buf.now _ _ c.counted-n.ensures c.show.auto.buf (rw c.beside_of-beside.ensures at c.show.ensures))
+    rw c.count_number.ensures (cut_promised c.args.buf.now _ _ c.counted-n.ensures c.show.auto.buf (rw c.env_of-env.ensures at c.show.ensures))

@@ -17,7 +17,7 @@ slice_bounds-show_impl_type-end-2 c = let b = c.args.buf.now in
     sym (length-take-le c.counted-n.result b (rw c.counted-n.ensures (counted_few (length b))))
 
 pub show_impl_type-requires : goal.show_impl_type-requires
-show_impl_type-requires c = rw c.beside_of-beside.ensures c.requires
+show_impl_type-requires c = rw c.env_of-env.ensures c.requires
 
 pub count_number-requires : goal.count_number-requires
 count_number-requires c =
@@ -28,4 +28,4 @@ count_number-requires c =
 pub returns : goal.returns
 returns c =
     rw c.count_number.ensures
-    (cut_promised c.args.buf.now _ _ c.counted-n.ensures c.show_impl_type.auto.buf (rw (c.beside_of-beside.ensures, c.impl_of.ensures) at c.show_impl_type.ensures))
+    (cut_promised c.args.buf.now _ _ c.counted-n.ensures c.show_impl_type.auto.buf (rw (c.env_of-env.ensures, c.impl_of.ensures) at c.show_impl_type.ensures))

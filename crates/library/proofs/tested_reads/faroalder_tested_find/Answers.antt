@@ -1,8 +1,0 @@
--- `library::tested_reads::faroalder_tested_find` meets its contract: it is `call_find::tested::find`, its number gives its answer back, and what it asks for is asked here. Assumes nothing.
-use Rattle.library.proofs.tested_reads.faroalder_tested_find.Goals as goal
-
-pub find-requires : goal.find-requires
-find-requires c = rw c.beside_of-beside.ensures c.requires
-
-pub returns : goal.returns
-returns c = rw c.type_number.ensures (rw c.beside_of-beside.ensures at c.find.ensures)

@@ -1,6 +1,0 @@
--- `library::unifies::faroalder_unify_types` meets its contract: it is `call_unify_lists::unify_types`, and its number gives its answer back. Assumes nothing.
-use Rattle.library.proofs.unifies.faroalder_unify_types.Goals as goal
-
-pub returns : goal.returns
-returns c =
-    rw c.unify_number.ensures (rw (c.beside_of-beside.ensures, c.inverted_of-inv.ensures) at c.unify_types.ensures)

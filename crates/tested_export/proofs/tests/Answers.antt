@@ -1,0 +1,29 @@
+-- `tested_export::tests` meets its contract: the opening, the source's list, and room for what is counted in a source that is sound.
+-- Assumes nothing.
+use mathlib.Core.Path.{refl}
+use Rattle.refusals.proofs.Laws.{err_told}
+use Rattle.sound.specs.Tests.{env_lent}
+use Rattle.tested_export.proofs.Laws.{refused_opening, refused_list, needs_asks, told_room}
+use Rattle.tested_export.proofs.tests.Goals as goal
+
+pub returns-in_err-opening : goal.returns-in_err-opening
+returns-in_err-opening c = let a = c.args in
+    rw (err_told c.from_residual.result c.from_residual.ensures.1) (refused_opening (env_lent a.env.now) a.sh.now a.sw.now a.sk.now a.h.now a.ws.now a.ks.now a.nodes a.children a.ts.now
+    c.in_err-opening.ensures)
+
+pub returns-in_err-list : goal.returns-in_err-list
+returns-in_err-list c = let a = c.args in
+    rw (err_told c.from_residual-in_err-list.result c.from_residual-in_err-list.ensures.1)
+    (refused_list (env_lent a.env.now) a.sh.now a.sw.now a.sk.now a.h.now a.ws.now a.ks.now a.nodes a.children a.ts.now
+    c.in_ok-opening.ensures c.requires c.read_header-x.ensures c.in_err-list.ensures refl)
+
+pub of_export-requires : goal.of_export-requires
+of_export-requires c = let a = c.args in
+    needs_asks (env_lent a.env.now) a.sh.now a.sw.now a.sk.now a.h.now a.ws.now a.ks.now a.nodes a.children a.ts.now
+    c.in_ok-opening.ensures c.requires c.read_header-x.ensures c.in_ok-list.ensures refl
+
+pub returns : goal.returns
+returns c = let a = c.args in
+    told_room (env_lent a.env.now) a.sh.now a.sw.now a.sk.now a.h.now a.ws.now a.ks.now a.nodes a.children a.ts.now
+    c.in_ok-opening.ensures c.requires c.read_header-x.ensures c.in_ok-list.ensures refl
+    c.of_export.ensures c.room.ensures
