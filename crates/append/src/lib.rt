@@ -12,11 +12,14 @@ pub fn is_full(buf: &[u8], at: usize) -> bool
     buf.len() < at
 }
 
-// As many of the piece's bytes as there is room for.
+// As many of the piece's bytes as there is room for. An empty piece, which many are, is told at once.
 pub fn put(buf: &mut [u8], at: usize, piece: &[u8]) -> usize
     ensures { Appended buf.old at buf.new result piece.now }
 {
     if is_full(buf, at) {
+        return at;
+    }
+    if piece.is_empty() {
         return at;
     }
     let room = buf.len() - at;

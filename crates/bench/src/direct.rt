@@ -24,8 +24,9 @@ ghost use Rattle.walk.specs.Asks.{Stands};
 ghost use Rattle.append.specs.Appended.{Appended};
 ghost use Rattle.bench.specs.Numbers.{type_word, RESULTS, result_in, bare};
 
+use chart::Env;
 use make::Head;
-use names::NO_NAME;
+use names::{NO_NAME, Texts};
 use types::Type;
 
 #[unsafe(no_mangle)]
@@ -133,7 +134,8 @@ pub extern "C" fn faroalder_direct_unify_recalling<'a>(
         (unify (texts rule.now text.now) (decode ws.old ks.now n) (ty_of a) (ty_of b)) (result_in result) }
 {
     recall::begin(memory);
-    u32::from(unify_lists::unify_all(ws, ks, n, rule, text, memory, Type(a), Type(b)))
+    let texts = Texts { rule, chart: text };
+    u32::from(unify_lists::unify_all(ws, ks, n, &texts, memory, Type(a), Type(b)))
 }
 
 // The same without a memory.
@@ -193,5 +195,10 @@ pub extern "C" fn faroalder_direct_show<'a>(
     ensures { Appended buf.old 0 buf.new result
         (show (env_of chart.now bare rule.now text.now) (decode ws.now ks.now n) (ty_of t)) }
 {
-    show::show_all(chart, crate::bare(), rule, text, ws, ks, n, buf, 0, Type(t))
+    let env = Env {
+        chart,
+        beside: crate::bare(),
+        texts: Texts { rule, chart: text },
+    };
+    show::show_all(&env, ws, ks, n, buf, 0, Type(t))
 }

@@ -1,14 +1,14 @@
--- A part of a list, words a to e, read and written: what was written is read there, and what lies before it and behind it is as it was. These hold of any
+-- A part of a list, words a to e, read and written: what was written is read there, and what lies before it is as it was. These hold of any
 -- part that a function lends, `&s[a..e]` and `&mut s[a..e]`, in the shapes that these have.
 -- Assumes nothing.
-use mathlib.Core.Path.{◌≡◌, refl, ap}
+use mathlib.Core.Path.{◌≡◌, refl}
 use mathlib.Core.List.{List, ◌++◌}
 use Prim.Native.Nat.{ℕ, ◌-◌, ◌≤◌}
 use native.Mathlib.Omega.{arith}
 use native.Mathlib.Decide.{dec_le}
 use lib.ListN.{length, take, drop}
 use Rattle.layout.specs.Words.{between}
-use Rattle.layout.proofs.Lists.{part_here, part_before, drop_past, length_part}
+use Rattle.layout.proofs.Lists.{part_here, part_before, length_part}
 use Rattle.book.specs.Places.{put_part}
 use Rattle.book.proofs.Geometry.{mid_mid}
 
@@ -18,12 +18,6 @@ module _ (a e : ℕ) (xs ys : List ℕ) (order : a ≤ e) (inside : e ≤ length
 
   pub put_here : between (put_part xs a e ys) a e ≡ ys
   put_here = part_here a (e - a) xs ys len (omega arith)
-
-  pub put_past : (b : ℕ) → e ≤ b → drop b (put_part xs a e ys) ≡ drop b xs
-  put_past b h = drop_past a (e - a) xs ys len (omega arith) b (omega arith)
-
-  pub put_after : (b d : ℕ) → e ≤ b → between (put_part xs a e ys) b d ≡ between xs b d
-  put_after b d h = ap (take (d - b)) (put_past b h)
 
   pub put_before : (b d : ℕ) → d ≤ a → between (put_part xs a e ys) b d ≡ between xs b d
   put_before b d h = go (dec_le b d)

@@ -9,7 +9,7 @@ use native.Mathlib.Omega.{arith}
 use lib.Dec.{eqb, leb}
 use lib.ListN.{length, get_or, set, drop, length-set}
 use lib.Seq.{get_or-set_same, get_or-set_other, ext_get_or}
-use borrow.Rule.Slice.PartMut.{mid_of, put_mid, mid_len}
+use borrow.Rule.Slice.PartMut.{put_mid, mid_len}
 use borrow.Author.Tests.{le-leb, leb-true, eqb-true, eqb-false}
 use Rattle.scope.specs.Base.{all, from}
 use Rattle.scope.specs.Limits.{MAX_STATES}
@@ -18,7 +18,7 @@ use Rattle.layout.proofs.Lists.{and_both, and_left, and_right, part_here, part_o
 use Rattle.book.specs.Words.{BOOK_HEAD, place_from, place_words, book_words, place_at, place_in, place_clean, node_room_in, child_room_in, places_in, book_in, book_clean, BookBecame}
 pub use Rattle.book.specs.Places.{place_of}
 use Rattle.book.specs.Places.{put_place}
-use Rattle.book.proofs.Geometry.{place_span, place_before, place_inside, place_ends, place_lower, place_higher, word_before, mid_within, put_within}
+use Rattle.book.proofs.Geometry.{place_span, place_before, place_inside, place_ends, place_lower, place_higher, word_before}
 
 -- a clean book as plain facts
 pub record BookLies (bs : List ℕ) : Type 0 where
@@ -61,15 +61,6 @@ module _ (bs : List ℕ) (n c i : ℕ) (words : book_words n c ≤ length bs) (l
 
   pub place_length : length (place_at bs n c i) ≡ place_words n c
   place_length = mid_len (place_from n c i) (place_from n c (suc i)) bs (let h = place_ends n c i lies in omega arith) ∙ place_span n c i
-
-  -- part b to b + k of the place, as a part of the whole
-  pub part_of_place : (b k : ℕ) → b + k ≤ place_words n c → mid_of b k (place_at bs n c i) ≡ mid_of (place_from n c i + b) k bs
-  part_of_place b k h = rw (place_span n c i) (mid_within (place_from n c i) (place_words n c) b k bs h fits)
-
-  -- and written as one
-  pub put_of_place : (b k : ℕ) (ys : List ℕ) → b + k ≤ place_words n c
-      → put_mid (place_from n c i + b) k bs ys ≡ put_place bs n c i (put_mid b k (place_at bs n c i) ys)
-  put_of_place b k ys h = rw (place_span n c i) (put_within (place_from n c i) (place_words n c) b k bs h fits ys)
 
   module _ (ps : List ℕ) (len : length ps ≡ place_words n c) where
     put_is : put_place bs n c i ps ≡ put_mid (place_from n c i) (place_words n c) bs ps

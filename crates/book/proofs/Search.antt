@@ -7,7 +7,7 @@ use Prim.Native.Nat.{ℕ, zero, suc, ◌+◌, ◌<◌, ◌≤◌}
 use native.Mathlib.Omega.{arith}
 use native.Mathlib.Numerals.{add-one}
 use lib.Dec.{ltb}
-use lib.ListN.{length, get_or, set, take, drop, length-append, length-drop, take-append-drop}
+use lib.ListN.{length, get_or, set, take, drop, length-append}
 use lib.Seq.{drop-cons, set_at, length-take-le, take-suc-set, drop-set-lt}
 use borrow.Author.Tests.{ltb-true, ltb-false, lt-ltb, le-ltb}
 use Rattle.std.specs.Prelude.{Some, None, Option}
@@ -82,13 +82,6 @@ module _ (ps name : List ℕ) (i : ℕ) where
       let m : length (bytes_to name i) ≡ i = length_from (λ j. get_or name j 0) 0 i in
       omega (arith, length-append (take 1 ps) (bytes_to name i))
 
-  pub put_bytes_length : suc i ≤ length ps → length (bytes_put ps name i) ≡ length ps
-  put_bytes_length h =
-      let a = front h in
-      let l = length-append (take 1 ps ++ bytes_to name i) (drop (suc i) ps) in
-      let d = length-drop (suc i) ps in
-      ap length (sym (append_assoc (take 1 ps) (bytes_to name i) (drop (suc i) ps))) ∙ omega arith
-
   pub put_byte : suc i < length ps → set (bytes_put ps name i) (i + 1) (get_or name i 0) ≡ bytes_put ps name (i + 1)
   put_byte h =
       let b : ℕ = get_or name i 0 in
@@ -105,9 +98,6 @@ module _ (ps name : List ℕ) (i : ℕ) where
       ∙ sym (append_assoc (take 1 ps) (bytes_to name i) (b ∷ r))) in
       ap (λ (l : List ℕ). set l (i + 1) b) s
       ∙ (set_at a (get_or ps (suc i) 0) r b (i + 1) (front (omega arith)) ∙ (sym t ∙ ap (bytes_put ps name) (sym (add-one i))))
-
-pub put_bytes_start : (ps name : List ℕ) → ps ≡ bytes_put ps name 0
-put_bytes_start ps name = sym (take-append-drop 1 ps)
 
 -- once all are written
 pub put_bytes_end : (ps name : List ℕ) (i : ℕ) → NAME_WORDS ≤ length ps → i ≤ MAX_STATE_NAME → MAX_STATE_NAME ≤ i

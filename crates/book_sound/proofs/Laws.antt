@@ -18,14 +18,15 @@ use Rattle.scope.specs.Refusals.{BAD_CHART, UNSOUND, first_broken, store_of, len
 use Rattle.scope.specs.States.{Place, Book, LentBook, stray_book, reads_book, blank, same_room, place_sound, names_differ, book_sound, lent_book_sound, book_tests}
 use Rattle.names.proofs.Tests.{both, passes, fails}
 use Rattle.chart.specs.declared.Beside.{Beside}
-use Rattle.chart.specs.Env.{env_of, chart_in}
+use Rattle.chart.specs.declared.Env as given
+use Rattle.chart.specs.Env.{env_of, env_by, chart_in, chart_lent}
 use Rattle.layout.specs.Words.{store_in, lent_of}
 use Rattle.layout.specs.Meaning.{header_in}
 use Rattle.layout.specs.declared.Header.{Header}
 use Rattle.layout.proofs.Lists.{and_left, all_map}
 use Rattle.layout.proofs.StoreLaws.{lent_clean}
 use Rattle.refusals.proofs.Laws.{broken_first, broken_next, test_passed, tests_passed}
-use Rattle.sound.specs.Tests.{env_in}
+use Rattle.sound.specs.Tests.{env_lent}
 use Rattle.sound.proofs.Laws.{all_both, sound_beside, sound_clean, env_ok, env_whole}
 use Rattle.book.specs.Words.{BOOK_HEAD, book_words, place_at, place_clean, node_room_in, child_room_in, places_in, book_in, book_clean, lent_book_of}
 use Rattle.book.specs.declared.Room.{Room}
@@ -198,49 +199,51 @@ module _ (ws : List ℕ) (b : Beside) (rule text : List ℕ) where
   book_beside s (reads_book k) =
       rw (all_like (place_sound (env_of ws b rule text) k) (place_sound (chart_in ws rule text) k) k.places (place_beside k)) refl
 
-  module _ (h ns ks : List ℕ) (k : LentBook) where
-    abbrev tests : List (Bool × ℕ)
-    tests = book_tests (env_in ws b rule text) (lent_of h ns ks) k
+-- the tests of 2 and 8 of a store and its names buffer
 
-    -- the test of the names buffer
-    abbrev last : List (Bool × ℕ)
-    last = (not (lent_book_sound (env_in ws b rule text) (store_of (lent_of h ns ks)) k), UNSOUND) ∷ []
+module _ (e : given.Env) (h ns ks : List ℕ) (k : LentBook) where
+  abbrev tests : List (Bool × ℕ)
+  tests = book_tests (env_lent e) (lent_of h ns ks) k
 
-    -- 2 or 8 of the store
-    pub names_back : {n : ℕ} → first_broken (lent_tests (env_in ws b rule text) (lent_of h ns ks)) ≡ some n → first_broken tests ≡ some n
-    names_back {n = n} q = broken_first (lent_tests (env_in ws b rule text) (lent_of h ns ks)) last n q
+  -- the test of the names buffer
+  abbrev last : List (Bool × ℕ)
+  last = (not (lent_book_sound (env_lent e) (store_of (lent_of h ns ks)) k), UNSOUND) ∷ []
 
-    module _ (q : first_broken (lent_tests (env_in ws b rule text) (lent_of h ns ks)) ≡ none) where
-      abbrev store_test : List (Bool × ℕ)
-      store_test = (not (sound (env_in ws b rule text) (lent_of h ns ks)), UNSOUND) ∷ []
+  -- 2 or 8 of the store
+  pub names_back : {n : ℕ} → first_broken (lent_tests (env_lent e) (lent_of h ns ks)) ≡ some n → first_broken tests ≡ some n
+  names_back {n = n} q = broken_first (lent_tests (env_lent e) (lent_of h ns ks)) last n q
 
-      chart_stands : env_in ws b rule text ≡ env_of ws b rule text
-      chart_stands =
-          let c : chart_ok (env_in ws b rule text) ≡ true =
-          not-false _ (test_passed (not (chart_ok (env_in ws b rule text))) BAD_CHART store_test q) in
-          env_whole ws b rule text (sym (env_ok ws b rule text) ∙ c)
+  module _ (q : first_broken (lent_tests (env_lent e) (lent_of h ns ks)) ≡ none) where
+    abbrev store_test : List (Bool × ℕ)
+    store_test = (not (sound (env_lent e) (lent_of h ns ks)), UNSOUND) ∷ []
 
-      store_stands : lent_of h ns ks ≡ reads (store_in h ns ks)
-      store_stands =
-          let r = tests_passed (not (chart_ok (env_in ws b rule text))) BAD_CHART store_test q in
-          let s : sound (env_in ws b rule text) (lent_of h ns ks) ≡ true =
-          not-false _ (test_passed (not (sound (env_in ws b rule text) (lent_of h ns ks))) UNSOUND [] r) in
-          lent_clean h ns ks (sound_clean h ns ks (env_in ws b rule text) s)
+    chart_stands : env_lent e ≡ env_by e
+    chart_stands =
+        let c : chart_ok (env_lent e) ≡ true =
+        not-false _ (test_passed (not (chart_ok (env_lent e))) BAD_CHART store_test q) in
+        env_whole _ _ _ _ (sym (env_ok _ _ _ _) ∙ c)
 
-      book_stands : lent_book_sound (env_in ws b rule text) (store_of (lent_of h ns ks)) k ≡ lent_book_sound (chart_in ws rule text) (room_alone h) k
-      unfolding store_in
-      book_stands =
-          ap (λ (e : Env). lent_book_sound e (store_of (lent_of h ns ks)) k) chart_stands
-          ∙ (ap (λ (l : Lent). lent_book_sound (env_of ws b rule text) (store_of l) k) store_stands
-          ∙ (book_beside (store_in h ns ks) k ∙ room_same (chart_in ws rule text) (store_in h ns ks) (room_alone h) refl refl k))
+    store_stands : lent_of h ns ks ≡ reads (store_in h ns ks)
+    store_stands =
+        let r = tests_passed (not (chart_ok (env_lent e))) BAD_CHART store_test q in
+        let s : sound (env_lent e) (lent_of h ns ks) ≡ true =
+        not-false _ (test_passed (not (sound (env_lent e) (lent_of h ns ks))) UNSOUND [] r) in
+        lent_clean h ns ks (sound_clean h ns ks (env_lent e) s)
 
-      left : first_broken tests ≡ first_broken ((not (lent_book_sound (chart_in ws rule text) (room_alone h) k), UNSOUND) ∷ [])
-      left =
-          broken_next (lent_tests (env_in ws b rule text) (lent_of h ns ks)) last q
-          ∙ ap (λ (t : Bool). first_broken ((not t, UNSOUND) ∷ [])) book_stands
+    book_stands : lent_book_sound (env_lent e) (store_of (lent_of h ns ks)) k ≡ lent_book_sound (chart_lent e) (room_alone h) k
+    unfolding store_in
+    book_stands =
+        ap (λ (x : Env). lent_book_sound x (store_of (lent_of h ns ks)) k) chart_stands
+        ∙ (ap (λ (l : Lent). lent_book_sound (env_by e) (store_of l) k) store_stands
+        ∙ (book_beside _ _ _ _ (store_in h ns ks) k ∙ room_same (chart_lent e) (store_in h ns ks) (room_alone h) refl refl k))
 
-      pub names_unsound : lent_book_sound (chart_in ws rule text) (room_alone h) k ≡ false → first_broken tests ≡ some UNSOUND
-      names_unsound f = left ∙ rw f refl
+    left : first_broken tests ≡ first_broken ((not (lent_book_sound (chart_lent e) (room_alone h) k), UNSOUND) ∷ [])
+    left =
+        broken_next (lent_tests (env_lent e) (lent_of h ns ks)) last q
+        ∙ ap (λ (t : Bool). first_broken ((not t, UNSOUND) ∷ [])) book_stands
 
-      pub names_pass : lent_book_sound (chart_in ws rule text) (room_alone h) k ≡ true → first_broken tests ≡ none
-      names_pass t = left ∙ rw t refl
+    pub names_unsound : lent_book_sound (chart_lent e) (room_alone h) k ≡ false → first_broken tests ≡ some UNSOUND
+    names_unsound f = left ∙ rw f refl
+
+    pub names_pass : lent_book_sound (chart_lent e) (room_alone h) k ≡ true → first_broken tests ≡ none
+    names_pass t = left ∙ rw t refl

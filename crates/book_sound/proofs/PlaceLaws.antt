@@ -8,10 +8,10 @@ use mathlib.Core.Option.{some}
 use Prim.Native.Nat.{ℕ, zero, suc, ◌+◌, ◌-◌, ◌≤◌, ◌<◌}
 use native.Mathlib.Omega.{arith}
 use lib.Dec.{eqb, leb, ltb}
-use lib.ListN.{length, get_or}
+use lib.ListN.{length}
 use borrow.Rule.Slice.PartMut.{mid_len}
 use borrow.Author.Tests.{eq-eqb, ne_eqb, le-leb, lt-leb, le-ltb, leb-true}
-use Rattle.scope.specs.Base.{all, from}
+use Rattle.scope.specs.Base.{all}
 use Rattle.scope.specs.Limits.{MAX_NODES, MAX_CHILDREN, MAX_STATE_NAME}
 use Rattle.scope.specs.Chart.{Env}
 use Rattle.scope.specs.Nodes.{Store}
@@ -26,14 +26,9 @@ use Rattle.layout.proofs.StoreLaws.{clean_lies, lent_clean}
 use Rattle.book.specs.Words.{BYTES, NAME_WORDS, nodes_from, kids_from, place_words, name_length_in, name_bytes_in, head_in, nodes_in, kids_in, with_room, held_in, place_in}
 use Rattle.book.specs.Words.{name_words_clean, counts_are_room, held_clean}
 use Rattle.book.proofs.Names.{place_in_free, clean_free, clean_held, name_length_lem}
-use Rattle.book.proofs.Laws.{all_run}
-use Rattle.book_sound.specs.Tests.{Run, is_below, place_ok}
+use Rattle.book_sound.specs.Tests.{is_below, place_ok}
 
 -- words below a limit
-
-pub below_run : (limit : ℕ) (s : List ℕ) (a e : ℕ) → Run s a e
-    → all (is_below limit) (between s a e) ≡ all (λ i. is_below limit (get_or s i 0)) (from a (e - a))
-below_run limit s a e r = let o = r.order in let h = r.inside in all_run (is_below limit) s a (e - a) (omega arith)
 
 one : (w : ℕ) → ltb w 1 ≡ eqb w 0
 one zero = refl

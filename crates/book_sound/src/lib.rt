@@ -64,12 +64,7 @@ fn places_sound(env: &Env<'_>, bs: &[u32], nodes: u32, children: u32) -> bool
     requires { book_words nodes children ≤ length bs.now }
     ensures { result ≡ places_ok (chart_lent env.now) nodes children bs.now }
 {
-    for i in 0..MAX_STATES {
-        if !place_sound(env, place(bs, nodes, children, i), nodes, children) {
-            return false;
-        }
-    }
-    true
+    (0..MAX_STATES).all(|i| place_sound(env, place(bs, nodes, children, i), nodes, children))
 }
 
 // Place j is not held under place i's name.

@@ -14,6 +14,7 @@ use types::{Inverted, Type};
 use walk::Mod;
 
 // Which case a node is.
+// Kept (1): C gets a number for each case.
 const CHILD: u64 = 0;
 
 const UNKNOWN: u64 = 1;
@@ -33,20 +34,17 @@ fn plain_out(link: u32, size: u32) -> [u32; 12]
 fn kind_out(i: Inverted, kind: Kind, size: u32) -> [u32; 12]
     ensures { result ≡ kind_out i kind size }
 {
-    let name = kind.name;
-    let inverted = u32::from(i.0);
-    let dual = u32::from(kind.dual);
     [
         0,
         size,
-        inverted,
+        u32::from(i.0),
         kind.code,
         kind.number,
-        dual,
+        u32::from(kind.dual),
         kind.flex,
-        name.text,
-        name.start,
-        name.len,
+        kind.name.text,
+        kind.name.start,
+        kind.name.len,
         kind.first,
         kind.count,
     ]
@@ -195,17 +193,15 @@ fn type_or_zero(t: Option<Type>) -> u32
 fn figures_out(x: Header) -> [u32; 12]
     ensures { result ≡ figures_out x }
 {
-    let error = x.error;
-    let nil = x.nil;
     [
         x.nodes,
         x.children,
         x.node_room,
         x.child_room,
-        has_word(error),
-        type_or_zero(error),
-        has_word(nil),
-        type_or_zero(nil),
+        has_word(x.error),
+        type_or_zero(x.error),
+        has_word(x.nil),
+        type_or_zero(x.nil),
         (x.reports % HALF) as u32,
         (x.reports / HALF) as u32,
         0,

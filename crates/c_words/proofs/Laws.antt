@@ -2,23 +2,23 @@
 -- Assumes nothing.
 use mathlib.Core.Path.{◌≡◌, refl, ◌∙◌}
 use mathlib.Core.Bool.{Bool, true, false}
-use mathlib.Core.List.{List, ◌++◌}
+use mathlib.Core.List.{List}
 use Prim.Native.Nat.{ℕ, ◌+◌, ◌<◌, ◌≤◌}
 use native.Mathlib.Decide.{dec_le}
 use native.Mathlib.Omega.{arith}
 use native.Mathlib.Nat.{add-sub_cancel_left}
 use borrow.Author.Tests.{lt-ltb, le-ltb, le-leb, lt-leb}
-use lib.ListN.{length, take, drop}
-use lib.Seq.{length-take-le, take_at, drop_at}
+use lib.ListN.{length, take}
+use lib.Seq.{length-take-le}
 use mir.Val.{bool_byte}
-use Rattle.scope.specs.Nodes.{Store}
-use Rattle.scope.specs.Calls.{Printed}
-use Rattle.promise.specs.Promise.{Reply, value, refusal}
-use Rattle.promise.specs.Prints.{PrintPromised}
+use Rattle.std.specs.Prelude.{Result, Ok, Err, IsOkAnd, MatchResult}
+use Rattle.refusals.specs.declared.Refusal.{Refusal}
+use Rattle.refusals.specs.Codes.{number}
+use Rattle.promise.specs.Promise.{value, refusal, reply}
 use Rattle.types.specs.Answers.{answer_of, number_of}
 use Rattle.types.specs.declared.UnifyResult.{UnifyResult}
 use Rattle.types.specs.declared.UnifyResult.TheVariants.{Success, Failure, Indeterminate}
-use Rattle.c_words.specs.Numbers.{REFUSED, answer_in, bool_in, unify_in, LONGEST, counted, CutPromised}
+use Rattle.c_words.specs.Numbers.{REFUSED, answer_in, bool_in, unify_in, LONGEST, counted}
 
 module _ {A : Type 0} (n : ℕ) (is : ℕ → A) where
   pub number_value : (r : ℕ) → r < n → answer_in n is r ≡ value (is r)
@@ -30,6 +30,16 @@ module _ {A : Type 0} (n : ℕ) (is : ℕ → A) where
   number_refused m low =
       let over : n ≤ REFUSED + m = omega (arith, low) in
       rw (le-ltb (REFUSED + m) n over, add-sub_cancel_left)
+
+-- what a result b of numbers tells is what a says, where each number that P gives a value tells it
+module _ {T A : Type 0} (n : ℕ) (is : ℕ → A) (to : T → A) (low : n ≤ REFUSED) (r : ℕ) where
+  pub number_told : {P : T → ℕ → Type 0} (a : Result T Refusal) (b : Result ℕ Refusal) → MatchResult a (λ t. IsOkAnd b (P t)) (λ e. b ≡ Err e)
+      → MatchResult b (λ w. (r ≡ w) × (w < REFUSED)) (λ e. r ≡ REFUSED + number e)
+      → ((t : T) (w : ℕ) → P t w → w < REFUSED → answer_in n is w ≡ value (to t)) → answer_in n is r ≡ reply to a
+  number_told (Ok t) (Ok w) p q one = rw q.0 (one t w p q.1)
+  number_told (Ok t) (Err e) p q one = absurd p
+  number_told (Err e) b p q one = let s = rw p at q in
+      rw s (number_refused n is (number e) low)
 
 pub number_result : (u : UnifyResult) → unify_in (number_of u) ≡ value (answer_of u)
 unfolding answer_in
@@ -44,7 +54,7 @@ number_bool true = refl
 number_bool false = refl
 
 -- a buffer is used whole, or as far as a length can tell; so a length within it is below every refusal's number
-pub counted_few : (n : ℕ) → counted n ≤ n
+counted_few : (n : ℕ) → counted n ≤ n
 counted_few n = go (dec_le n LONGEST)
   where
     go : Dec (n ≤ LONGEST) → counted n ≤ n
@@ -67,13 +77,3 @@ pub counted_long : (b e : List ℕ) (n : ℕ) → n ≡ counted (length b) → l
 counted_long b e n q l =
     let few : n ≤ length b = rw q (counted_few (length b)) in
     l ∙ length-take-le n b few
-
--- a printer that used the front of b, which it left as e
-pub cut_promised : {p : List ℕ → Printed} {r : Reply ℕ} {s : Store} (b e : List ℕ) (n : ℕ) → n ≡ counted (length b) → length e ≡ length (take n b)
-    → PrintPromised (p (take n b)) r s e → CutPromised p r s b (e ++ drop n b)
-cut_promised b e n q l h =
-    let m : length e ≡ n = counted_long b e n q l in
-    record {
-      printed = rw (← q, take_at e (drop n b) n m) h;
-      rest = rw (← q) (drop_at e (drop n b) n m);
-    }

@@ -1,7 +1,7 @@
 #![tactic(auto)]
 // What a caller in another language gives and gets, as numbers. A type is its word; a public call answers a value's number, which is below 4,294,967,296, or
 // the sum of 4,294,967,296 and a refusal's number.
-ghost use Rattle.std.specs.Prelude.{◌≡◌, true, ◌+◌};
+ghost use Rattle.std.specs.Prelude.{◌≡◌, true, ◌+◌, ◌<◌, MatchResult};
 ghost use Rattle.refusals.specs.Codes.{number, told};
 ghost use Rattle.promise.specs.Promise.{type_reply, bool_reply, done_reply};
 ghost use Rattle.promise.specs.Prints.{count_reply};
@@ -59,10 +59,7 @@ pub fn inverted_of(n: u32) -> Inverted
 pub fn list_if(listed: u32, list: &[u32]) -> Option<&[u32]>
     ensures { result ≡ list_if listed list.entry }
 {
-    if is_set(listed) {
-        return Some(list);
-    }
-    None
+    is_set(listed).then_some(list)
 }
 
 // No chart has so many records that a trait has this number.
@@ -108,49 +105,41 @@ pub fn refused(r: Refusal) -> u64
 pub fn refusal_number(a: Result<(), Refusal>) -> u32
     ensures { refusal_in result ≡ told a }
 {
-    let Err(r) = a else {
-        return 0;
-    };
-    u32::from(r)
+    a.err().map_or(0, u32::from)
 }
 
-// Kept (2): tried, and the proof did not close: one function with a closure for the value's number hides that a word or length is below 4,294,967,296; a match shows it.
+// A value's number, or a refusal's over all of these.
+fn answer_number(a: Result<u32, Refusal>) -> u64
+    ensures { MatchResult a (λ n. (result ≡ n) × (n < «REFUSED»)) (λ r. result ≡ «REFUSED» + number r) }
+{
+    a.map_or_else(refused, u64::from)
+}
+
 pub fn type_number(a: Result<Type, Refusal>) -> u64
     ensures { type_in result ≡ type_reply a }
 {
-    match a {
-        Ok(t) => u64::from(t.0),
-        Err(r) => refused(r),
-    }
+    answer_number(a.map(|t| t.0))
 }
 
 pub fn done_number(a: Result<(), Refusal>) -> u64
     ensures { done_in result ≡ done_reply a }
 {
-    match a {
-        Ok(()) => 0,
-        Err(r) => refused(r),
-    }
+    answer_number(a.map(|()| 0))
 }
 
 pub fn bool_number(a: Result<bool, Refusal>) -> u64
     ensures { bool_in result ≡ bool_reply a }
 {
-    match a {
-        Ok(b) => u64::from(b),
-        Err(r) => refused(r),
-    }
+    answer_number(a.map(u32::from))
 }
 
 pub fn unify_number(a: Result<UnifyResult, Refusal>) -> u64
     ensures { unify_in result ≡ unify_reply a }
 {
-    match a {
-        Ok(u) => u64::from(u32::from(u)),
-        Err(r) => refused(r),
-    }
+    answer_number(a.map(u32::from))
 }
 
+// Kept (2): a length may be no u32; that this one is below 4,294,967,296 its callers say.
 pub fn count_number(a: Result<usize, Refusal>) -> u64
     requires { count_low a ≡ true }
     ensures { count_in result ≡ count_reply a }

@@ -34,18 +34,7 @@ pub fn unify_impl_type_recalling(
     let x = layout::read_header(h);
     lent_tests::impls(a, xs, b, ys, x.nodes, env)?;
     recall::begin(memory);
-    Ok(unify_lists::unify_impl_type(
-        ws,
-        ks,
-        x.nodes,
-        env.texts.rule,
-        env.texts.chart,
-        memory,
-        a,
-        xs,
-        b,
-        ys,
-    ))
+    Ok(unify_lists::unify_impl_type(ws, ks, x.nodes, &env.texts, memory, a, xs, b, ys))
 }
 
 // The same without a memory.

@@ -4,16 +4,16 @@ ghost use Rattle.std.specs.Prelude.{◌≡◌, map};
 ghost use Rattle.std.proofs.Math.ListN.{get_elem?};
 ghost use Rattle.scope.specs.Types.{ty_of};
 ghost use Rattle.scope.specs.Sound.{name_in, slot_name};
-ghost use Rattle.scope.specs.Calls.{child_at, flat, child_name_at, node_call, child_call, name_call, figures_call};
+ghost use Rattle.scope.specs.Calls.{flat, node_call, child_call, name_call, figures_call};
 ghost use Rattle.layout.specs.Words.{slots, lent_of, store_in};
-ghost use Rattle.layout.specs.Meaning.{kind_means, node_means};
+ghost use Rattle.layout.specs.Meaning.{kind_means};
 ghost use Rattle.sound.specs.Tests.{env_lent};
 ghost use Rattle.promise.specs.Promise.{outcome_by, Tested};
 ghost use Rattle.call_read.specs.Replies.{child_means, name_means, NodePromised, child_reply, name_reply, figures_reply};
 
 use chart::Env;
 use kinds::Names;
-use layout::{Header, Kind, TypeNode, TypeState};
+use layout::{Header, Kind, TypeNode};
 use names::Name;
 use promise::inside;
 use refusals::Refusal;
@@ -27,19 +27,6 @@ fn child_of_kind(ks: &[u32], kind: Kind, j: u32) -> Option<Type>
         Some(layout::child_of(ks, kind, j).ty)
     } else {
         None
-    }
-}
-
-// Child j of a node that was read; a node without a kind has none.
-fn child_of_node(ks: &[u32], node: TypeNode, j: u32) -> Option<Type>
-    ensures { child_at (node_means ks.now node) j ≡ child_means result }
-{
-    match node {
-        TypeNode::Root {
-            state: TypeState::Known(_, kind),
-            size: _,
-        } => child_of_kind(ks, kind, j),
-        TypeNode::Root { state: _, size: _ } | TypeNode::Child(_) => None,
     }
 }
 
@@ -72,19 +59,6 @@ fn name_of_kind(ks: &[u32], kind: Kind, j: u32) -> Option<Name>
     }
 }
 
-// Name j of a node that was read; a node without a kind has none.
-fn name_of_node(ks: &[u32], node: TypeNode, j: u32) -> Option<Name>
-    ensures { child_name_at (node_means ks.now node) j ≡ name_means result }
-{
-    match node {
-        TypeNode::Root {
-            state: TypeState::Known(_, kind),
-            size: _,
-        } => name_of_kind(ks, kind, j),
-        TypeNode::Root { state: _, size: _ } | TypeNode::Child(_) => None,
-    }
-}
-
 // A type's node as it stands, be it a root or a child.
 pub fn node(env: &Env<'_>, h: &[u32], ws: &[u32], ks: &[u32], t: Type) -> Result<TypeNode, Refusal>
     requires { Tested (env_lent env.now) h.now ws.now ks.now }
@@ -113,7 +87,8 @@ pub fn child(
 {
     inside(h, t)?;
     let x = layout::read_header(h);
-    Ok(child_of_node(ks, layout::node_at(ws, x.nodes, t.idx()), j))
+    let held = layout::held_at(ws, x.nodes, t.idx());
+    Ok(held.and_then(|(_, kind)| child_of_kind(ks, kind, j)))
 }
 
 // Name j of a type's node, none past the end and where there is no name.
@@ -132,7 +107,8 @@ pub fn child_name(
 {
     inside(h, t)?;
     let x = layout::read_header(h);
-    Ok(name_of_node(ks, layout::node_at(ws, x.nodes, t.idx()), j))
+    let found = layout::held_at(ws, x.nodes, t.idx());
+    Ok(found.and_then(|(_, kind)| name_of_kind(ks, kind, j)))
 }
 
 // Counts, capacities, remembered types and the report count.

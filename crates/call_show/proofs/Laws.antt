@@ -111,17 +111,33 @@ handed ts h s bs buf = go (first_broken ts) refl
     go none e = handed_text (leb (length bs) (length buf)) s bs buf
     go (some m) e = handed_back m (plain_code ts h m e) buf
 
--- the two calls
+-- the two calls: the part has room in the buffer, and is what the second form promises
 
-pub show_hands : (e : Env) (l : Lent) (t : Ty) (buf : List ℕ) → Hands (show_call e l t buf)
+show_hands : (e : Env) (l : Lent) (t : Ty) (buf : List ℕ) → Hands (show_call e l t buf)
 unfolding show_call
 show_hands e l t buf = handed (lent_tests e l ++ (outside (store_of l) (t ∷ []) ∷ [])) refl (store_of l) (show e (store_of l).nodes t) buf
 
-pub impl_hands : (e : Env) (l : Lent) (a : ImplType) (buf : List ℕ) → Hands (show_impl_type_call e l a buf)
+impl_hands : (e : Env) (l : Lent) (a : ImplType) (buf : List ℕ) → Hands (show_impl_type_call e l a buf)
 unfolding show_impl_type_call
 impl_hands e l a buf = handed (lent_tests e l ++ impl_tests e (store_of l) (a ∷ [])) refl (store_of l) (show_impl_type e (store_of l).nodes a) buf
 
--- what was handed back is what the second form promises
-pub hand_promised : {p : Printed} {r : Result ℕ Refusal} {s : Store} {buf : List ℕ} {o : OptionOf Refusal} {part : List ℕ} → Handed p r s buf → Back r buf o part
+hand_promised : {p : Printed} {r : Result ℕ Refusal} {s : Store} {buf : List ℕ} {o : OptionOf Refusal} {part : List ℕ} → Handed p r s buf → Back r buf o part
     → PartPromised p o part s
 hand_promised h b = rw (b.told, b.front) h.promised
+
+module _ (e : Env) (l : Lent) where
+  pub show_room : (t : Ty) (buf₀ : List ℕ) (r : Result ℕ Refusal) (s : Store) (buf : List ℕ)
+      → PrintPromised (show_call e l t buf₀) (count_reply r) s buf → part_in r (length buf) ≤ length buf
+  show_room t buf₀ r s buf q = (show_hands e l t buf₀ r s buf q).room
+
+  pub show_part : (t : Ty) (buf₀ : List ℕ) (r : Result ℕ Refusal) {s : Store} {buf : List ℕ} {o : OptionOf Refusal} {part : List ℕ}
+      → PrintPromised (show_call e l t buf₀) (count_reply r) s buf → Back r buf o part → PartPromised (show_call e l t buf₀) o part s
+  show_part t buf₀ r q b = hand_promised (show_hands e l t buf₀ r _ _ q) b
+
+  pub impl_room : (a : ImplType) (buf₀ : List ℕ) (r : Result ℕ Refusal) (s : Store) (buf : List ℕ)
+      → PrintPromised (show_impl_type_call e l a buf₀) (count_reply r) s buf → part_in r (length buf) ≤ length buf
+  impl_room a buf₀ r s buf q = (impl_hands e l a buf₀ r s buf q).room
+
+  pub impl_part : (a : ImplType) (buf₀ : List ℕ) (r : Result ℕ Refusal) {s : Store} {buf : List ℕ} {o : OptionOf Refusal} {part : List ℕ}
+      → PrintPromised (show_impl_type_call e l a buf₀) (count_reply r) s buf → Back r buf o part → PartPromised (show_impl_type_call e l a buf₀) o part s
+  impl_part a buf₀ r q b = hand_promised (impl_hands e l a buf₀ r _ _ q) b

@@ -50,8 +50,7 @@ pub fn show_impl_type(
         (impl_means a xs.now) buf.old)
         (count_reply result) (store_in h.now ws.now ks.now) buf.new }
 {
-    let lent = sound::lent(env, h, ws, ks);
-    lent?;
+    sound::lent(env, h, ws, ks)?;
     tested::show_impl_type(env, h, ws, ks, a, xs, buf)
 }
 
@@ -67,6 +66,7 @@ fn part_in(r: Result<usize, Refusal>, room: usize) -> usize
 }
 
 // The part, and the refusal beside it.
+// Kept (1): C hands back the part that is filled with a refusal too, so that a Result would lose one of the two.
 fn hand_back<'b>(buf: &'b mut [u8], r: Result<usize, Refusal>) -> (&'b mut [u8], Option<Refusal>)
     requires { part_in r (length buf.old) ≤ length buf.old }
     ensures { Back r buf.old result.1 result.0.now × (result.0.ref_ptr ≡ buf.entry.ref_ptr) }
@@ -76,6 +76,7 @@ fn hand_back<'b>(buf: &'b mut [u8], r: Result<usize, Refusal>) -> (&'b mut [u8],
 }
 
 // A type's text.
+#[tactic(auto, using(crate::proofs::Laws::show_room))]
 pub fn show_part<'b>(
     env: &Env<'_>,
     h: &[u32],
@@ -95,6 +96,7 @@ pub fn show_part<'b>(
 }
 
 // An impl type's text, its types lent beside it.
+#[tactic(auto, using(crate::proofs::Laws::impl_room))]
 pub fn show_impl_type_part<'b>(
     env: &Env<'_>,
     h: &[u32],

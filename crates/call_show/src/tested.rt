@@ -43,8 +43,7 @@ pub fn show(
     inside(h, t)?;
     let x = layout::read_header(h);
     let n = x.nodes;
-    let (rule, text) = (env.texts.rule, env.texts.chart);
-    let end = show::show_all(env.chart, env.beside, rule, text, ws, ks, n, buf, 0, t);
+    let end = show::show_all(env, ws, ks, n, buf, 0, t);
     printed(buf, end)
 }
 
@@ -67,9 +66,6 @@ pub fn show_impl_type(
     let x = layout::read_header(h);
     let n = x.nodes;
     lent_tests::one_impl(a, xs, n, env)?;
-    let (rule, text) = (env.texts.rule, env.texts.chart);
-    let end = show_impl::show_impl_type(
-        env.chart, env.beside, rule, text, ws, ks, n, buf, 0, a, xs,
-    );
+    let end = show_impl::show_impl_type(env, ws, ks, n, buf, 0, a, xs);
     printed(buf, end)
 }

@@ -2,23 +2,20 @@
 -- tested. And opening a names buffer: one law for each way out, from what its test tells.
 -- Assumes nothing.
 use mathlib.Core.Path.{◌≡◌, refl, ap, sym, ◌∙◌}
-use mathlib.Core.Bool.{Bool, not, ◌||◌}
+use mathlib.Core.Bool.{Bool}
 use mathlib.Core.List.{List, [], ◌∷◌, ◌++◌}
 use mathlib.Core.Option.{Option, none, some}
-use Prim.Native.Nat.{ℕ, ◌≤◌}
+use Prim.Native.Nat.{ℕ}
 use native.Mathlib.Omega.{arith}
-use lib.Dec.{ltb, leb}
+use lib.Dec.{leb}
 use lib.ListN.{length}
-use borrow.Author.Tests.{leb-true, not-false}
-use Rattle.scope.specs.Limits.{MAX_NODES, MAX_CHILDREN}
 use Rattle.scope.specs.Chart.{Env}
 use Rattle.scope.specs.Force.{reset}
 use Rattle.scope.specs.Sound.{Lent}
-use Rattle.scope.specs.Refusals.{UNOPENABLE, Outcome, done, judged, first_broken, store_of, open_test}
+use Rattle.scope.specs.Refusals.{Outcome, done, judged, first_broken, store_of, open_test}
 use Rattle.scope.specs.States.{Book, LentBook, book_of, blank, store_under, book_tests, wrong_length, unheld, no_place, opens, or_unopened, open_names_call}
 use Rattle.scope.specs.States.{named, name_state_call, keep_reports, return_to_call, dropped, drop_name_call, reset_names_call}
-use Rattle.scope.proofs.TestLaws.{or_no}
-use Rattle.refusals.proofs.Laws.{broken_first, judged_refused, test_passed}
+use Rattle.refusals.proofs.Laws.{broken_first, judged_refused}
 use Rattle.promise.specs.Promise.{value, refusal}
 use Rattle.book.specs.Words.{book_words, BookBecame}
 use Rattle.call_states.specs.Promise.{NamesPromised, NamesOpened}
@@ -61,13 +58,6 @@ module _ (n c : ℕ) (bs : List ℕ) where
   }
 
   module _ (q : first_broken (open_test n c enough ∷ []) ≡ none) where
-    pub open_words : book_words n c ≤ length bs
-    open_words =
-        let t : Bool × ℕ = open_test n c enough in
-        let p = or_no (ltb MAX_NODES n) (ltb MAX_CHILDREN c || not enough) (test_passed t.0 UNOPENABLE [] q) in
-        let o = or_no (ltb MAX_CHILDREN c) (not enough) p.1 in
-        leb-true (book_words n c) (length bs) (not-false enough o.1)
-
     pub open_done : {bs' : List ℕ} → BookBecame bs bs' (blank n c) → NamesOpened (open_names_call n c enough) (value tt) bs bs'
     unfolding open_names_call
     open_done b = record {

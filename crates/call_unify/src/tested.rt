@@ -30,16 +30,7 @@ pub fn unify_recalling(
     let x = layout::read_header(h);
     lent_tests::pair(a, b, x.nodes)?;
     recall::begin(memory);
-    Ok(unify_lists::unify_all(
-        ws,
-        ks,
-        x.nodes,
-        env.texts.rule,
-        env.texts.chart,
-        memory,
-        a,
-        b,
-    ))
+    Ok(unify_lists::unify_all(ws, ks, x.nodes, &env.texts, memory, a, b))
 }
 
 // The same without a memory.

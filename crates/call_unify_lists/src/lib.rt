@@ -65,8 +65,7 @@ pub fn unify_objects_recalling(
     ensures { Promised
         (unify_objects_call (env_lent env.now) (lent_of h.now ws.old ks.now) (entries_in xs.now) (entries_in ys.now) inv.0) (unify_reply result) h.now ws.old ks.now h.now ws.new ks.now }
 {
-    let lent = sound::lent(env, h, ws, ks);
-    lent?;
+    sound::lent(env, h, ws, ks)?;
     tested_unify_lists::unify_objects_recalling(env, h, ws, ks, memory, xs, ys, inv)
 }
 
@@ -102,12 +101,9 @@ pub fn unify_fn_sig_recalling(
     q: Type,
 ) -> Result<UnifyResult, Refusal>
     ensures { Promised
-        (unify_fn_sig_call (env_lent env.now) (lent_of h.now ws.old ks.now)
-        (types_in xs.now) (ty_of r.0) (types_in ys.now) (ty_of q.0))
-        (unify_reply result) h.now ws.old ks.now h.now ws.new ks.now }
+        (unify_fn_sig_call (env_lent env.now) (lent_of h.now ws.old ks.now) (types_in xs.now) (ty_of r.0) (types_in ys.now) (ty_of q.0)) (unify_reply result) h.now ws.old ks.now h.now ws.new ks.now }
 {
-    let tested = sound::lent(env, h, ws, ks);
-    tested?;
+    sound::lent(env, h, ws, ks)?;
     tested_unify_lists::unify_fn_sig_recalling(env, h, ws, ks, memory, xs, r, ys, q)
 }
 

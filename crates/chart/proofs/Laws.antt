@@ -56,10 +56,6 @@ word_there ws n k h l =
 name_from : (ws : List ℕ) (j : ℕ) → name_at 0 (drop j ws) ≡ name_at j ws
 name_from ws j = rw (get_or-drop j ws 0 0, get_or-drop j ws 1 0, get_or-drop j ws 2 0, add-zero)
 
--- a name is known by its three numbers
-pub name_by : {x i n y j m : ℕ} → x ≡ y → i ≡ j → n ≡ m → name x i n ≡ name y j m
-name_by p q r = rw (p, q, r)
-
 pub sigil_there : (ws : List ℕ) (n : ℕ) → n < 4 → get_or (sigils_of ws) n (name 0 0 0) ≡ name_at (n * NAME_WORDS) ws
 sigil_there ws n h = runs_at NAME_WORDS (name_at 0) 4 ws n (name 0 0 0) h ∙ name_from ws (n * NAME_WORDS)
 

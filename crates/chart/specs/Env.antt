@@ -21,6 +21,10 @@ env_of ws b rule text =
       texts = texts rule text;
     }
 
+-- what is lent as one
+abbrev pub env_by : lent.Env → Env
+env_by l = env_of l.chart.now l.beside l.texts.rule.now l.texts.chart.now
+
 -- the same with nothing beside the chart, which the test of a record does not look at
 abbrev pub chart_in : List ℕ → List ℕ → List ℕ → Env
 chart_in ws rule text = record { records = records_of ws; fn_trait = NONE; sigils = []; texts = texts rule text }

@@ -6,9 +6,9 @@ ghost use Rattle.scope.specs.Base.{all};
 ghost use Rattle.scope.specs.Limits.{«MAX_RECORDS»};
 ghost use Rattle.scope.specs.Names.{texts_ok};
 ghost use Rattle.scope.specs.Chart.{record_at, sort_at, dual_at, is_trait, sigil_at, flag_ok, trait_ok, record_ok, sigil_ok, fn_trait_ok};
-ghost use Rattle.names.specs.Place.{name_of, texts};
+ghost use Rattle.names.specs.Place.{name_of, texts, texts_by};
 ghost use Rattle.chart.specs.Words.{«RECORD_WORDS», name_at, words_of, records_of};
-ghost use Rattle.chart.specs.Env.{sigils_of, env_of, chart_in, chart_alone, chart_words_ok};
+ghost use Rattle.chart.specs.Env.{sigils_of, env_of, chart_alone, chart_words_ok, chart_lent};
 
 use kinds::{NO_SORT, STRUCT_SORT, TRAIT_FN_SORT, TRAIT_SORT, UNION_SORT};
 use names::{NO_NAME, Name, Texts};
@@ -156,36 +156,36 @@ fn trait_ok(chart: &[u32], n: u32) -> bool
     }
 }
 
-fn record_ok(chart: &[u32], n: u32, rule: &[u8], text: &[u8]) -> bool
-    ensures { result ≡ record_ok (chart_in chart.now rule.now text.now) (record_at (chart_alone chart.now) n) }
+fn record_ok(env: &Env<'_>, n: u32) -> bool
+    ensures { result ≡ record_ok (chart_lent env.now) (record_at (chart_alone env.now.chart.now) n) }
 {
-    sort_at(chart, n) <= TRAIT_FN_SORT
-        && names::name_ok(name_at(chart, n), rule, text)
-        && names::name_ok(path_at(chart, n), rule, text)
-        && flag_ok(chart, n)
-        && trait_ok(chart, n)
+    sort_at(env.chart, n) <= TRAIT_FN_SORT
+        && names::name_ok(name_at(env.chart, n), &env.texts)
+        && names::name_ok(path_at(env.chart, n), &env.texts)
+        && flag_ok(env.chart, n)
+        && trait_ok(env.chart, n)
 }
 
-fn records_ok(chart: &[u32], rule: &[u8], text: &[u8]) -> bool
-    requires { length (records_of chart.now) ≤ «MAX_RECORDS» }
-    ensures { result ≡ all (record_ok (chart_in chart.now rule.now text.now)) (records_of chart.now) }
+fn records_ok(env: &Env<'_>) -> bool
+    requires { length (records_of env.now.chart.now) ≤ «MAX_RECORDS» }
+    ensures { result ≡ all (record_ok (chart_lent env.now)) (records_of env.now.chart.now) }
 {
-    let count = record_count(chart) as u32;
-    (0..count).all(|n| record_ok(chart, n, rule, text))
+    let count = record_count(env.chart) as u32;
+    (0..count).all(|n| record_ok(env, n))
 }
 
 // It lies in its text and is no longer than a name may be.
-fn sigil_ok(sigil: Name, rule: &[u8], text: &[u8]) -> bool
-    ensures { result ≡ sigil_ok (texts rule.now text.now) (name_of sigil) }
+fn sigil_ok(sigil: Name, texts: &Texts<'_>) -> bool
+    ensures { result ≡ sigil_ok (texts_by texts.now) (name_of sigil) }
 {
-    names::in_text(sigil, rule, text) && sigil.len as usize <= MAX_NAME
+    names::in_text(sigil, texts) && sigil.len as usize <= MAX_NAME
 }
 
 // "the four texts of `sigil` for `Flex`, which alone may be empty"
-fn sigils_ok(beside: Beside, rule: &[u8], text: &[u8]) -> bool
-    ensures { result ≡ all (sigil_ok (texts rule.now text.now)) (sigils_of beside.sigils) }
+fn sigils_ok(beside: Beside, texts: &Texts<'_>) -> bool
+    ensures { result ≡ all (sigil_ok (texts_by texts.now)) (sigils_of beside.sigils) }
 {
-    (0..4).all(|i| sigil_ok(sigil_at(beside, i), rule, text))
+    (0..4).all(|i| sigil_ok(sigil_at(beside, i), texts))
 }
 
 // "4,294,967,295: none; any other must be a trait's record"
@@ -195,20 +195,20 @@ fn fn_trait_ok(chart: &[u32], beside: Beside) -> bool
     beside.fn_trait == NONE || is_trait(chart, beside.fn_trait)
 }
 
-fn texts_ok(rule: &[u8], text: &[u8]) -> bool
-    ensures { result ≡ texts_ok (texts rule.now text.now) }
+fn texts_ok(texts: &Texts<'_>) -> bool
+    ensures { result ≡ texts_ok (texts_by texts.now) }
 {
-    rule.len() <= MAX_TEXT && text.len() <= MAX_TEXT
+    texts.rule.len() <= MAX_TEXT && texts.chart.len() <= MAX_TEXT
 }
 
 // Whether refusal 2 does not stand: "chart or texts break a limit, sort, flag or range".
-pub fn chart_ok(chart: &[u32], beside: Beside, rule: &[u8], text: &[u8]) -> bool
-    ensures { result ≡ chart_words_ok chart.now beside rule.now text.now }
+pub fn chart_ok(env: &Env<'_>) -> bool
+    ensures { result ≡ chart_words_ok env.now.chart.now env.now.beside env.now.texts.rule.now env.now.texts.chart.now }
 {
-    chart.len() % RECORD_WORDS == 0
-        && record_count(chart) <= MAX_RECORDS
-        && texts_ok(rule, text)
-        && records_ok(chart, rule, text)
-        && fn_trait_ok(chart, beside)
-        && sigils_ok(beside, rule, text)
+    env.chart.len() % RECORD_WORDS == 0
+        && record_count(env.chart) <= MAX_RECORDS
+        && texts_ok(&env.texts)
+        && records_ok(env)
+        && fn_trait_ok(env.chart, env.beside)
+        && sigils_ok(env.beside, &env.texts)
 }

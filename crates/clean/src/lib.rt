@@ -124,14 +124,14 @@ fn plain_clean(x: Cell) -> bool
     }
 }
 
-pub fn node_clean(ws: &[u32], ks: &[u32], c: u32, i: u32) -> bool
-    requires { i * NODE_WORDS + NODE_WORDS ≤ length ws.now }
-    ensures { result ≡ node_clean ws.now ks.now c i }
+pub fn node_clean(ws: &[u32], ks: &[u32], c: u32, i: TypeIdx) -> bool
+    requires { i.0 * NODE_WORDS + NODE_WORDS ≤ length ws.now }
+    ensures { result ≡ node_clean ws.now ks.now c i.0 }
 {
-    let a = i as usize * NODE_WORDS;
+    let a = i.0 as usize * NODE_WORDS;
     let e = a + NODE_WORDS;
     let s = &ws[a..e];
-    let x = layout::cell_at(ws, TypeIdx(i));
+    let x = layout::cell_at(ws, i);
     if x.tag == KNOWN_TAG {
         known_clean(ks, c, x)
     } else {

@@ -9,6 +9,7 @@ ghost use Rattle.store.specs.Entries.{types_in};
 ghost use Rattle.copy_parts.specs.Places.{params_in};
 ghost use Rattle.copy.specs.Whole.{ImportReady, ExportReady, ImportedIs};
 
+use copy_parts::Source;
 use scope::MAX_NODES;
 
 // Out of n nodes, with a parameter list or none.
@@ -30,16 +31,20 @@ pub fn import(
 {
     let mut cache = [0u16; MAX_NODES];
     let mut table = [0u32; MAX_NODES];
-    copy_lists::copy_all(
-        sw, sk, n, params, &mut cache, &mut table, h, ws, ks, ts, out,
-    );
+    let source = Source {
+        nodes: sw,
+        children: sk,
+        count: n,
+        params,
+    };
+    copy_lists::copy_all(&source, &mut cache, &mut table, h, ws, ks, ts, out);
 }
 
 // "`export` is the same into a fresh store", "error type first, nil next; it has no parameter list."
-pub fn export(
+pub fn export<'a>(
     sh: &[u32],
-    sw: &[u32],
-    sk: &[u32],
+    sw: &'a [u32],
+    sk: &'a [u32],
     h: &mut [u32],
     ws: &mut [u32],
     ks: &mut [u32],
@@ -54,12 +59,17 @@ pub fn export(
         h.old ws.old ks.old h.new ws.new ks.new out.old out.new }
 {
     let x = layout::read_header(sh);
-    let n = x.nodes;
     make::open(h, ws, ks, nodes, children);
     let mut cache = [0u16; MAX_NODES];
     let mut table = [0u32; MAX_NODES];
-    let error = copy_lists::copy_remembered(sw, sk, n, &mut cache, &mut table, h, ws, ks, x.error);
-    let nil = copy_lists::copy_remembered(sw, sk, n, &mut cache, &mut table, h, ws, ks, x.nil);
-    copy_lists::copy_all(sw, sk, n, None, &mut cache, &mut table, h, ws, ks, ts, out);
+    let source = Source {
+        nodes: sw,
+        children: sk,
+        count: x.nodes,
+        params: None,
+    };
+    let error = copy_lists::copy_remembered(&source, &mut cache, &mut table, h, ws, ks, x.error);
+    let nil = copy_lists::copy_remembered(&source, &mut cache, &mut table, h, ws, ks, x.nil);
+    copy_lists::copy_all(&source, &mut cache, &mut table, h, ws, ks, ts, out);
     make::remember(h, error, nil);
 }

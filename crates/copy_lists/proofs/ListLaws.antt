@@ -15,7 +15,7 @@ use Rattle.scope.specs.Limits.{MAX_NODES, NONE}
 use Rattle.scope.specs.Types.{Ty, ty_of}
 use Rattle.scope.specs.Needs.{listed}
 use Rattle.scope.proofs.CopyTable.{Copying, Copied, CopiedAll, copy_all, copy_f}
-use Rattle.scope.proofs.CopyTableLaws.{Left, left_start, left_next, left_end, left_grows, Placed, copy_placed, copy_inside}
+use Rattle.scope.proofs.CopyTableLaws.{Left, left_next, left_end, left_grows, Placed, copy_placed, copy_inside}
 use Rattle.types.specs.declared.«Type».{«Type»}
 use Rattle.layout.specs.Words.{decode}
 use Rattle.layout.specs.Meaning.{remembered_means, remembered_fits, Clean}
@@ -37,19 +37,6 @@ pub record Listing (sw sk : List ℕ) (n : ℕ) (ps : Option (List Ty)) (us : Li
   pub few : i ≤ length us
   pub long : Long table₀ h₀ ws₀ ks₀ table h ws ks
   pub wide : length out ≡ length out₀
-
-pub listing_start : {sw sk h ws ks table out : List ℕ} {n : ℕ} {ps : Option (List Ty)} {us : List Ty} → AllCopyable sw sk n ps h ws ks table us
-    → Listing sw sk n ps us table h ws ks out table h ws ks out 0
-listing_start {h = h} {ws = ws} {ks = ks} {us = us} p = record {
-  left = left_start _ _ us;
-  room = p.room;
-  placed = p.placed;
-  spared = spared_refl h ws ks p.clean;
-  rest = refl;
-  few = omega arith;
-  long = record { tables = refl; heads = refl; nodes = refl; kids = refl };
-  wide = refl;
-}
 
 module _ {sw sk : List ℕ} {n : ℕ} {ps : Option (List Ty)} {us : List Ty} {table₀ h₀ ws₀ ks₀ out₀ table h ws ks out : List ℕ} {i : ℕ}
     (o : Listing sw sk n ps us table₀ h₀ ws₀ ks₀ out₀ table h ws ks out i) where

@@ -13,14 +13,12 @@ ghost use Rattle.copy_parts.specs.Places.{params_in};
 ghost use Rattle.copy_type.specs.Words.{copying_at};
 ghost use Rattle.copy_lists.specs.Lists.{AllCopyable, AllCopied, RememberedCopied};
 
+use copy_parts::Source;
 use types::Type;
 
 // The copies of a list's types stand at the front of `out`.
 pub fn copy_all(
-    sw: &[u32],
-    sk: &[u32],
-    n: u32,
-    params: Option<&[u32]>,
+    source: &Source<'_>,
     cache: &mut [u16],
     table: &mut [u32],
     h: &mut [u32],
@@ -29,26 +27,26 @@ pub fn copy_all(
     ts: &[u32],
     out: &mut [u32],
 )
-    requires all_copyable { AllCopyable sw.now sk.now n (params_in params) h.old ws.old ks.old table.old (types_in ts.now) }
+    requires all_copyable { AllCopyable source.now.nodes.now source.now.children.now source.now.count (params_in source.now.params)
+        h.old ws.old ks.old table.old (types_in ts.now) }
     requires ts_in_bounds { length ts.now ≤ length out.old }
-    requires cached { Cached sw.now n cache.old }
-    ensures { AllCopied (copy_all (copy_f n (decode sw.now sk.now n) (params_in params.entry))
+    requires cached { Cached source.now.nodes.now source.now.count cache.old }
+    ensures { AllCopied (copy_all
+        (copy_f source.now.count (decode source.now.nodes.now source.now.children.now source.now.count) (params_in source.now.params))
         (copying_at h.old ws.old ks.old table.old) (types_in ts.now)) (length ts.now)
         h.old ws.old ks.old h.new ws.new ks.new table.new
-        out.old out.new × Cached sw.now n cache.new }
+        out.old out.new × Cached source.now.nodes.now source.now.count cache.new }
 {
     for (i, t) in ts.iter().enumerate() {
         let t = Type(*t);
-        let next = copy_type::copy(sw, sk, n, params, cache, table, h, ws, ks, t, n);
+        let next = copy_type::copy(source, cache, table, h, ws, ks, t, source.count);
         out[i] = next.0;
     }
 }
 
-// The copy of a type that the source remembers, if any. There is no parameter list.
+// The copy of a type that the source remembers, if any. No parameter list is used.
 pub fn copy_remembered(
-    sw: &[u32],
-    sk: &[u32],
-    n: u32,
+    source: &Source<'_>,
     cache: &mut [u16],
     table: &mut [u32],
     h: &mut [u32],
@@ -56,12 +54,18 @@ pub fn copy_remembered(
     ks: &mut [u32],
     was: Option<Type>,
 ) -> Option<Type>
-    requires { AllCopyable sw.now sk.now n none h.old ws.old ks.old table.old (listed (remembered_means was)) × Cached sw.now n cache.old }
-    ensures { RememberedCopied (copy_all (copy_f n (decode sw.now sk.now n) none)
+    requires { AllCopyable source.now.nodes.now source.now.children.now source.now.count none
+        h.old ws.old ks.old table.old (listed (remembered_means was))
+        × Cached source.now.nodes.now source.now.count cache.old }
+    ensures { RememberedCopied (copy_all (copy_f source.now.count (decode source.now.nodes.now source.now.children.now source.now.count) none)
         (copying_at h.old ws.old ks.old table.old) (listed (remembered_means was)))
         h.old ws.old ks.old h.new ws.new ks.new table.new result
-        × Cached sw.now n cache.new }
+        × Cached source.now.nodes.now source.now.count cache.new }
 {
     let t = was?;
-    Some(copy_type::copy(sw, sk, n, None, cache, table, h, ws, ks, t, n))
+    let source = Source {
+        params: None,
+        ..*source
+    };
+    Some(copy_type::copy(&source, cache, table, h, ws, ks, t, source.count))
 }

@@ -15,6 +15,15 @@ use layout::{Kind, Slot, TypeNode, TypeState};
 use scope::NONE;
 use types::{Inverted, Type, TypeIdx};
 
+// What is copied from: so many nodes, their children, and the parameter list, if there is one.
+#[derive(Clone, Copy)]
+pub struct Source<'a> {
+    pub nodes: &'a [u32],
+    pub children: &'a [u32],
+    pub count: u32,
+    pub params: Option<&'a [u32]>,
+}
+
 // What a source root becomes.
 #[derive(Clone, Copy)]
 pub enum Place {
@@ -44,18 +53,19 @@ fn kind_place(params: Option<&[u32]>, root: Type, inv: Inverted, kind: Kind) -> 
 }
 
 // "InferenceFailed becomes Unknown with `Span::NONE`."
-fn state_place(sw: &[u32], n: u32, params: Option<&[u32]>, root: Type) -> Place
-    requires { node_words n ≤ length sw.now }
-    ensures { StatePlace sw.now n (params_in params.entry) root result }
+fn state_place(source: &Source<'_>, root: Type) -> Place
+    requires { node_words source.now.count ≤ length source.now.nodes.now }
+    ensures { StatePlace source.now.nodes.now source.now.count (params_in source.now.params) root result }
 {
-    match layout::state_of(layout::node_at(sw, n, root.idx())) {
-        TypeState::Known(inv, kind) => kind_place(params, root, inv, kind),
+    match layout::state_of(layout::node_at(source.nodes, source.count, root.idx())) {
+        TypeState::Known(inv, kind) => kind_place(source.params, root, inv, kind),
         TypeState::Unknown(span) => Place::Node(span, 0, 0),
         TypeState::InferenceFailed => Place::Node(NONE, 0, 0),
     }
 }
 
-// The table's number; past the end 0.
+// The table's number; past the end 0. It is 1 more than the copy, and 0 where there is none.
+// Kept (1): the table is fixed memory, and with an Option of a node in place of a number it would be twice as large.
 fn copy_of(table: &[u32], i: TypeIdx) -> u32
     ensures { result ≡ get_or table.now i.0 0 }
 {
@@ -63,24 +73,15 @@ fn copy_of(table: &[u32], i: TypeIdx) -> u32
 }
 
 // Of a root that has a copy, its copy.
-pub fn root_place(sw: &[u32], n: u32, params: Option<&[u32]>, table: &[u32], root: Type) -> Place
-    requires { (node_words n ≤ length sw.now) × (get_or table.now (ty_of root.0).idx 0 ≤ MAX_NODES) }
-    ensures { RootPlace sw.now n (params_in params.entry) table.now root result }
+pub fn root_place(source: &Source<'_>, table: &[u32], root: Type) -> Place
+    requires { (node_words source.now.count ≤ length source.now.nodes.now) × (get_or table.now (ty_of root.0).idx 0 ≤ MAX_NODES) }
+    ensures { RootPlace source.now.nodes.now source.now.count (params_in source.now.params) table.now root result }
 {
     let was = copy_of(table, root.idx());
     if was != 0 {
         return Place::Is(Type::new(root.inv(), TypeIdx(was - 1)));
     }
-    state_place(sw, n, params, root)
-}
-
-fn note(table: &mut [u32], i: TypeIdx, number: u32)
-    ensures { table.new ≡ set table.old i.0 number }
-{
-    let at = i.0 as usize;
-    if at < table.len() {
-        table[at] = number;
-    }
+    state_place(source, root)
 }
 
 // A new Unknown for the source root i, with `count` children reserved, and the table says so.
@@ -98,26 +99,26 @@ pub fn begin(
         table.new h.new ws.new result }
 {
     let new = make::push_unknown(h, ws, span, count);
-    note(table, i, new.0 + 1);
+    roots::put(table, i.0 as usize, new.0 + 1);
     new
 }
 
 // The type t stands in the reserved slot j, with the name of the source's child j.
-pub fn move_child(sk: &[u32], from: u32, ks: &mut [u32], first: u32, j: u32, t: Type)
+pub fn move_child(source: &Source<'_>, from: u32, ks: &mut [u32], first: u32, j: u32, t: Type)
     requires { (first + j) * CHILD_WORDS + CHILD_WORDS ≤ length ks.old }
-    ensures { ChildMoved sk.now from ks.old first j t.0 ks.new }
+    ensures { ChildMoved source.now.children.now from ks.old first j t.0 ks.new }
 {
-    let name = needs::child(sk, from, j).name;
+    let name = needs::child(source.children, from, j).name;
     layout::put_child(ks, first as usize + j as usize, Slot { ty: t, name });
 }
 
 // It "then takes its kind": the copy of the source root i, with its children from `first` on. What has no kind stays an Unknown.
-pub fn end(sw: &[u32], n: u32, i: TypeIdx, h: &[u32], ws: &mut [u32], new: TypeIdx, first: u32)
-    requires { (node_words n ≤ length sw.now) × (node_words (nodes_made h.now) ≤ length ws.old) }
-    ensures { ws.new ≡ ended ws.old (nodes_made h.now) new.0 first (held_in (read_at sw.now n i.0)) }
+pub fn end(source: &Source<'_>, i: TypeIdx, h: &[u32], ws: &mut [u32], new: TypeIdx, first: u32)
+    requires { (node_words source.now.count ≤ length source.now.nodes.now) × (node_words (nodes_made h.now) ≤ length ws.old) }
+    ensures { ws.new ≡ ended ws.old (nodes_made h.now) new.0 first (held_in (read_at source.now.nodes.now source.now.count i.0)) }
 {
     let made = layout::read_header(h).nodes;
-    let Some((inv, kind)) = layout::held_at(sw, n, i) else {
+    let Some((inv, kind)) = layout::held_at(source.nodes, source.count, i) else {
         return;
     };
     let state = TypeState::Known(inv, Kind { first, ..kind });

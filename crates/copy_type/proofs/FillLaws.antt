@@ -7,7 +7,6 @@ use Prim.Native.Nat.{ℕ, ◌+◌, ◌*◌, ◌≤◌, ◌<◌}
 use native.Mathlib.Omega.{arith}
 use native.Mathlib.Decide.{ℕ_discrete}
 use lib.ListN.{length, drop, drop_of_length-le}
-use Rattle.scope.specs.Limits.{MAX_CHILDREN}
 use Rattle.scope.specs.Types.{Ty, ty_of}
 use Rattle.scope.specs.Nodes.{Store}
 use Rattle.scope.specs.Sound as sound
@@ -19,7 +18,6 @@ use Rattle.layout.specs.Meaning.{Clean}
 use Rattle.layout.proofs.Lists.{same_from}
 use Rattle.layout.proofs.ChildLaws.{slots_push, slot_here, slot_there}
 use Rattle.store.specs.Holds.{Room}
-use Rattle.store.proofs.Laws.{store_children}
 use Rattle.needs.proofs.RootLaws.{kids_in, length_run}
 use Rattle.copy_parts.specs.Steps.{retyped, ChildMoved}
 use Rattle.copy_type.specs.Words.{copying_at, Apart, Spared, Copyable, CopiedIs}
@@ -65,11 +63,6 @@ module _ {sw sk : List ℕ} {n : ℕ} {ps : Option (List Ty)} {depth first count
 
   abbrev kids : List Ty
   kids = kids_in sk first count
-
-  pub kids_few : count ≤ MAX_CHILDREN
-  kids_few =
-      let m = room_less (left_grows (decode sw sk n) ps depth o.left) o.room in
-      omega (arith, o.made, m.children, m.child_limit, store_children h ws ks)
 
   -- all are copied
   module _ (done : count ≤ j) where

@@ -9,15 +9,12 @@ ghost use Rattle.roots.specs.Kept.{Cached};
 ghost use Rattle.copy_parts.specs.Places.{params_in};
 ghost use Rattle.copy_type.specs.Words.{copying_at, Copyable, CopiedIs};
 
-use copy_parts::Place;
+use copy_parts::{Place, Source};
 use types::Type;
 
 // The copy of t, at most so deep.
 pub fn copy(
-    sw: &[u32],
-    sk: &[u32],
-    n: u32,
-    params: Option<&[u32]>,
+    source: &Source<'_>,
     cache: &mut [u16],
     table: &mut [u32],
     h: &mut [u32],
@@ -26,28 +23,30 @@ pub fn copy(
     t: Type,
     depth: u32,
 ) -> Type
-    requires { Copyable sw.now sk.now n (params_in params) depth h.old ws.old ks.old table.old t × Cached sw.now n cache.old }
-    ensures { CopiedIs (copy_f depth (decode sw.now sk.now n) (params_in params.entry)
+    requires { Copyable source.now.nodes.now source.now.children.now source.now.count (params_in source.now.params) depth
+        h.old ws.old ks.old table.old t
+        × Cached source.now.nodes.now source.now.count cache.old }
+    ensures { CopiedIs (copy_f depth (decode source.now.nodes.now source.now.children.now source.now.count) (params_in source.now.params)
         (copying_at h.old ws.old ks.old table.old) (ty_of t.0))
         h.old ws.old ks.old h.new ws.new ks.new table.new result
-        × Cached sw.now n cache.new }
+        × Cached source.now.nodes.now source.now.count cache.new }
 {
     if depth == 0 {
         return t;
     }
-    let root = roots::find_by(sw, n, cache, t);
-    match copy_parts::root_place(sw, n, params, table, root) {
+    let root = roots::find_by(source.nodes, source.count, cache, t);
+    match copy_parts::root_place(source, table, root) {
         Place::Is(u) => u,
         Place::Node(span, first, count) => {
             let at = root.idx();
             let from = layout::read_header(h).children;
             let new = copy_parts::begin(table, h, ws, ks, at, span, count);
             for j in 0..count {
-                let kid = needs::child(sk, first, j).ty;
-                let next = copy(sw, sk, n, params, cache, table, h, ws, ks, kid, depth - 1);
-                copy_parts::move_child(sk, first, ks, from, j, next);
+                let kid = needs::child(source.children, first, j).ty;
+                let next = copy(source, cache, table, h, ws, ks, kid, depth - 1);
+                copy_parts::move_child(source, first, ks, from, j, next);
             }
-            copy_parts::end(sw, n, at, h, ws, new.idx(), from);
+            copy_parts::end(source, at, h, ws, new.idx(), from);
             new.invert_if(root.inv())
         }
     }

@@ -17,25 +17,13 @@ use Rattle.layout.specs.Words.{node_words, nodes_made, children_made, node_room,
 use Rattle.layout.specs.Meaning.{Clean, read_at, put_at, node_size, node_means, node_fits}
 use Rattle.types.specs.declared.TypeIdx.{TypeIdx}
 use Rattle.layout.specs.declared.TypeState.TheVariants.{Known, Unknown, InferenceFailed}
-use Rattle.layout.specs.declared.Kind.{Kind}
 use Rattle.layout.specs.declared.TypeNode.{TypeNode}
 use Rattle.layout.specs.declared.TypeNode.TheVariants.{Root, Child}
 use Rattle.layout.proofs.Laws.{length_put}
-use Rattle.store.specs.Bare.{bare_kind}
 use Rattle.store.specs.Holds.{Holds, Beyond, Became}
 use Rattle.store.proofs.Laws.{store_count, holds_clean, holds_read, holds_put, beyond_put, beyond_refl, beyond_trans, bare_means, bare_fits}
 use Rattle.force.specs.Finish.{default_root, lacks_kind, finish_words, chosen, Finished, Finishes}
 use Rattle.force.proofs.Laws.{Going, going_start, going_skip, going_put, going_end}
-
--- what the code does with the node w that it read
-
-module _ (ws : List ℕ) (n i : ℕ) {v w : TypeNode} {b : Bool} (e : w ≡ v) (s : b ≡ lacks_kind w) where
-  pub finish_put : {z : ℕ} {k : Kind} {ws' : List ℕ} → b ≡ true → z ≡ node_size w → k ≡ bare_kind DEFAULT
-      → ws' ≡ put_at ws n i (Root (Known (record { 0 = false }) k) z) → ws' ≡ finish_words ws n i v
-  finish_put t q r p = p ∙ rw (r, q, ← e, ← s, t) refl
-
-  pub finish_leave : b ≡ false → ws ≡ finish_words ws n i v
-  finish_leave t = rw (← e, ← s, t) refl
 
 -- the definitions, node by node
 
@@ -120,9 +108,6 @@ module _ {h ws₀ ks ws : List ℕ} {to : List Node} {i : ℕ} (o : Turned h ws�
 
   held : Holds h ws ks (store_in h ws ks)
   held = record { clean = o.clean; is = refl }
-
-  pub turned_room : {n : ℕ} → n ≡ nodes_made h → node_words n ≤ length ws
-  turned_room e = rw e (holds_clean held).room
 
   pub turned_skip : at to i ≡ at from i → Turned h ws₀ ks to (i + 1) ws
   turned_skip e = record { clean = o.clean; long = o.long; beyond = o.beyond; going = going_skip o.going e }

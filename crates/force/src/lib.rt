@@ -5,7 +5,7 @@ ghost use Rattle.std.specs.Prelude.{◌≡◌, true, ◌≤◌, length};
 ghost use Rattle.scope.specs.Force.{report, finish_inference, finish_where};
 ghost use Rattle.layout.specs.Words.{node_words, clean};
 ghost use Rattle.layout.specs.Meaning.{read_at};
-ghost use Rattle.force.specs.Finish.{lacks_kind, finish_words, chosen, Finished, FinishedBy};
+ghost use Rattle.force.specs.Finish.{lacks_kind, finish_words, Finished, FinishedBy};
 ghost use Rattle.force.specs.Forcing.{reporting, ForcedIs};
 
 use kinds::DEFAULT;
@@ -69,19 +69,12 @@ pub fn finish_inference(h: &[u32], ws: &mut [u32], ks: &[u32])
     finish_chosen(h, ws, ks, |_| true);
 }
 
-// There is "a lent byte for each node, nonzero chooses, absent means no".
-fn is_chosen(bytes: &[u8], i: TypeIdx) -> bool
-    ensures { result ≡ chosen bytes.now i.0 }
-{
-    bytes.get(i.0 as usize).is_some_and(|&b| b != 0)
-}
-
-// Every chosen root without a kind gets Default.
+// Every chosen root without a kind gets Default. There is "a lent byte for each node, nonzero chooses, absent means no".
 pub fn finish_inference_where(h: &[u32], ws: &mut [u32], ks: &[u32], bytes: &[u8])
     requires { clean h.now ws.old ks.now ≡ true }
     ensures { Finished h.now ws.old ks.now ws.new (finish_where bytes.now) }
 {
-    finish_chosen(h, ws, ks, |i| is_chosen(bytes, i));
+    finish_chosen(h, ws, ks, |i| roots::is_marked(bytes, i));
 }
 
 // The count "stops at its largest value".

@@ -11,7 +11,7 @@ ghost use Rattle.layout.specs.declared.TypeState.TheVariants.{Unknown};
 use layout::{NODE_WORDS, UNKNOWN_TAG, remembered_of};
 use types::{Type, TypeIdx};
 
-// Kept (2): one function of the word's number would say `heads::word::<0>(h)` where callers now say `heads::nodes_made(h)`; each of the six is an index.
+// Kept (2): one function of the word's number would say `heads::word::<0>(h)` where callers say `heads::nodes_made(h)`; each here is an index, and two of them read a type.
 pub fn nodes_made(h: &[u32]) -> u32
     requires { HEAD_WORDS ≤ length h.now }
     ensures { result ≡ nodes_made h.now }

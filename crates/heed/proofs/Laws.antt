@@ -2,9 +2,8 @@
 -- `find` and `settle`.
 -- Assumes nothing.
 use mathlib.Core.Path.{◌≡◌, refl, sym, subst, ◌∙◌}
-use mathlib.Core.Bool.{Bool, true, false}
 use mathlib.Core.List.{List}
-use mathlib.Core.Logic.{inl, inr}
+use mathlib.Core.Logic.{◌⊎◌, inl, inr}
 use Prim.Native.Nat.{ℕ}
 use native.Mathlib.Omega.{arith}
 use Rattle.scope.specs.Names.{Texts}
@@ -14,7 +13,7 @@ use Rattle.scope.specs.Unify.{settle}
 use Rattle.scope.proofs.View.{View, Good, view}
 use Rattle.scope.proofs.Grow.{Grow, Self, self_grow, mono_idx}
 use Rattle.types.specs.declared.UnifyResult.{UnifyResult}
-use Rattle.types.specs.declared.UnifyResult.TheVariants.{Success, Failure, Indeterminate}
+use Rattle.types.specs.declared.UnifyResult.TheVariants.{Failure, Indeterminate}
 use Rattle.layout.specs.Meaning.{Linked}
 use Rattle.types.specs.declared.«Type».{«Type»}
 use Rattle.roots.specs.Found.{FoundMut, Near}
@@ -22,12 +21,11 @@ use Rattle.roots.specs.Found.{Nearby}
 use Rattle.std.specs.Prelude.{Some}
 use Rattle.roots.proofs.Laws.{relinked_refl}
 use Rattle.merge.specs.Meaning.{Settled}
-use Rattle.merge.specs.Quick.{Tried, OneNil}
 use Rattle.marks.specs.Marks.{Knows, Beside, Marked}
 use Rattle.recall.specs.Memory.{Running, Tidy, Begun, Fewer, Forgot, Noted}
 use Rattle.recall.proofs.Laws.{marked_clock, marked_tidy, marked_still}
 use Rattle.heed.specs.Recalls.{Meets, SelfAt, Marks, Recalls, Since}
-use Rattle.heed.specs.Told.{Moved, Closed, FoundTold, QuickTold, SmallTold, SettledTold}
+use Rattle.heed.specs.Told.{Moved, Closed, FoundTold, SettledTold}
 
 -- clocks
 
@@ -110,42 +108,6 @@ found_near {r = r} l d h e = record {
 pub found_far : {ws : List ℕ} {n : ℕ} {ws' m m' : List ℕ} {t r : ℕ} → Forgot m m' → FoundMut ws n ws' t r → FoundTold ws n ws' m m' t r
 found_far d f = record { found = f; told = λ ks. moved_forgot d; marks = d.marks }
 
--- `quick`
-
-pub quick_not : {ws : List ℕ} {n : ℕ} {m : List ℕ} {a b : Ty} {d : ℕ} → QuickTold ws ws n m m a b d false
-quick_not = record {
-  deep = λ e. let z : ◌≡◌ {A = ℕ} 0 1 = cc in absurd (omega arith);
-  merged = λ e. let z : ◌≡◌ {A = ℕ} 0 1 = cc in absurd (omega arith);
-  forgot = λ e. let z : ◌≡◌ {A = ℕ} 0 1 = cc in absurd (omega arith);
-  words = λ e. refl;
-  memory = λ e. refl;
-}
-
-pub quick_stays : {ws ws' : List ℕ} {n : ℕ} {m : List ℕ} {a b : Ty} {d : ℕ} {r : Bool} → Tried ws ws' n a b r → r ≡ false → QuickTold ws ws' n m m a b d false
-quick_stays t f = record {
-  deep = λ e. let z : ◌≡◌ {A = ℕ} 0 1 = cc in absurd (omega arith);
-  merged = λ e. let z : ◌≡◌ {A = ℕ} 0 1 = cc in absurd (omega arith);
-  forgot = λ e. let z : ◌≡◌ {A = ℕ} 0 1 = cc in absurd (omega arith);
-  words = λ e. t.stays f;
-  memory = λ e. refl;
-}
-
-pub quick_merges : {ws ws' : List ℕ} {n : ℕ} {m m' : List ℕ} {a b : Ty} {d : ℕ} {r : Bool} → (d ≡ 0 → ⊥) → Tried ws ws' n a b r → r ≡ true → Forgot m m'
-    → QuickTold ws ws' n m m' a b d true
-quick_merges h t f g = record { deep = λ e. h; merged = λ e. t.merged f; forgot = λ e. g; words = λ e. cc; memory = λ e. cc }
-
--- `small`
-
-pub small_merges : {ws ws' : List ℕ} {n : ℕ} {m m' : List ℕ} {a b : Ty} {r : Bool} → Tried ws ws' n a b r → r ≡ true → Forgot m m' → SmallTold ws ws' n m m' a b true
-small_merges t f g = record { done = λ e. inl (t.merged f, g); words = λ e. cc; memory = λ e. cc }
-
-pub small_nil : {ws ws' : List ℕ} {n : ℕ} {m : List ℕ} {a b : Ty} {r s : Bool} → Tried ws ws' n a b r → r ≡ false → OneNil ws' n a b s → SmallTold ws ws' n m m a b s
-small_nil {ws} {ws'} {n} {m} {a} {b} {s = s} t f o = record {
-  done = λ e. inr (subst (OneNil ws n a b) e (subst (λ (vs : List ℕ). OneNil vs n a b s) (t.stays f) o), (t.stays f, refl));
-  words = λ e. t.stays f;
-  memory = λ e. refl;
-}
-
 -- `settle`
 
 closed_moved : {m m' : List ℕ} {ns ns' : List Node} {began a b : ℕ} {q : UnifyResult} → Moved m m' ns ns' → Closed m m' ns ns' began a b q
@@ -163,18 +125,11 @@ pub settled_merges : {ws ws' : List ℕ} {n : ℕ} {m m' : List ℕ} {began a b 
 settled_merges s f = record { settled = s; told = λ ks. closed_moved (moved_forgot f); marks = f.marks }
 
 -- an answer that merges nothing
-stays : {ws : List ℕ} {n : ℕ} {a b : Ty} (r : UnifyResult) → (r ≡ Success → ⊥) → Settled ws ws n a b r r
+stays : {ws : List ℕ} {n : ℕ} {a b : Ty} {r : UnifyResult} → (r ≡ Failure) ⊎ (r ≡ Indeterminate) → Settled ws ws n a b r r
 unfolding settle
-stays Success h = absurd (h refl)
-stays Failure h = record { tail = refl; clean = λ ks c cl. cl; nodes = λ ks c cl. refl }
-stays Indeterminate h = record { tail = refl; clean = λ ks c cl. cl; nodes = λ ks c cl. refl }
+stays (inl e) = rw e (record { tail = refl; clean = λ ks c cl. cl; nodes = λ ks c cl. refl })
+stays (inr e) = rw e (record { tail = refl; clean = λ ks c cl. cl; nodes = λ ks c cl. refl })
 
-pub settled_notes : {ws : List ℕ} {n : ℕ} {m m' : List ℕ} {began a b : ℕ} {r k : UnifyResult} → r ≡ k → (k ≡ Success → ⊥) → Noted m m' began a b r
+pub settled_notes : {ws : List ℕ} {n : ℕ} {m m' : List ℕ} {began a b : ℕ} {r : UnifyResult} → (r ≡ Failure) ⊎ (r ≡ Indeterminate) → Noted m m' began a b r
     → SettledTold ws ws n m m' began a b r r
-settled_notes {r = r} e h d = record { settled = stays r (λ f. h (sym e ∙ f)); told = λ ks. closed_noted d; marks = d.marks }
-
-pub failure_apart : Failure ≡ Success → ⊥
-failure_apart e = let z : ◌≡◌ {A = ℕ} 0 1 = cc in omega arith
-
-pub indeterminate_apart : Indeterminate ≡ Success → ⊥
-indeterminate_apart e = let z : ◌≡◌ {A = ℕ} 0 1 = cc in omega arith
+settled_notes e d = record { settled = stays e; told = λ ks. closed_noted d; marks = d.marks }

@@ -26,10 +26,7 @@ pub fn quick(ws: &mut [u32], n: u32, memory: &mut [u32], a: Type, b: Type, depth
     requires { Adds ws.old n (ty_of a.0) (ty_of b.0) × Tidy memory.old }
     ensures { QuickTold ws.old ws.new n memory.old memory.new (ty_of a.0) (ty_of b.0) depth result }
 {
-    if depth == 0 {
-        return false;
-    }
-    if !merge::quick(ws, n, a, b) {
+    if depth == 0 || !merge::quick(ws, n, a, b) {
         return false;
     }
     recall::changed(memory);
@@ -67,11 +64,7 @@ pub fn settle(
             recall::changed(memory);
             q
         }
-        UnifyResult::Failure => {
-            recall::note(memory, n, began, a, b, r);
-            r
-        }
-        UnifyResult::Indeterminate => {
+        UnifyResult::Failure | UnifyResult::Indeterminate => {
             recall::note(memory, n, began, a, b, r);
             r
         }

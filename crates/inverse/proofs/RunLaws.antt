@@ -1,4 +1,4 @@
--- The laws of `self_inverse` without marks: what a root tells by itself, and what a walk from it tells, whose runs that are left stand in two lists. A walk that
+-- The laws of `self_inverse` without marks: what a root tells by itself, and what a walk from it tells, whose runs that are left stand in a list. A walk that
 -- meets a root that is not good tells of every depth, and one that ends tells of every depth that it could have reached.
 -- Assumes nothing.
 use mathlib.Core.Path.{◌≡◌, refl, ap, sym, ◌∙◌}
@@ -30,11 +30,12 @@ use Rattle.layout.proofs.HeldLaws.{held_by_lem}
 use Rattle.roots.specs.Found.{Found}
 use Rattle.related.proofs.Laws.{root_is}
 use Rattle.inverse.specs.declared.Glance.{Glance}
-use Rattle.inverse.specs.declared.Glance.TheVariants.{Met, Clear, Deep}
+use Rattle.inverse.specs.declared.Glance.TheVariants.{Met, Clear}
+use Rattle.inverse.specs.declared.Rest.{Rest}
 use Rattle.inverse.specs.declared.Judgement.{Judgement}
 use Rattle.inverse.specs.declared.Judgement.TheVariants.{Bad, Good, Run}
 use Rattle.related.specs.Stands.{Stands}
-use Rattle.inverse.specs.Judged.{kids_in, good_kind, self_below, Judges, Tries, Glanced}
+use Rattle.inverse.specs.Judged.{kids_in, whole, good_kind, self_below, Judges, Tries, Glanced}
 
 -- `self_inverse` by a root's kind; g tells of a child
 
@@ -158,7 +159,7 @@ module _ (param : Bool) {ws : List ℕ} {n i : ℕ} {v : Held} (e : v ≡ held_i
 
 -- a walk: p d says whether a type is good at the depth d
 
--- as many as the lists of runs hold
+-- as many as the list of runs holds
 abbrev pub LEVELS : ℕ
 LEVELS = 8
 
@@ -166,9 +167,12 @@ LEVELS = 8
 abbrev pub FAR : ℕ
 FAR = 8589934592
 
--- the children from a up to b
-abbrev between : List ℕ → ℕ → ℕ → List Ty
-between ks a b = kids_in ks a (b - a)
+-- the children that are left of a run, and what is left behind the first of them
+abbrev left : List ℕ → Rest → List Ty
+left ks r = kids_in ks r.next (r.end - r.next)
+
+abbrev behind : Rest → Rest
+behind r = record { next = r.next + 1; end = r.end }
 
 abbrev Never : (ℕ → Ty → Bool) → List Ty → Type 0
 Never p ts = (d : ℕ) → all (p d) ts ≡ false
@@ -176,58 +180,52 @@ Never p ts = (d : ℕ) → all (p d) ts ≡ false
 abbrev From : (ℕ → Ty → Bool) → ℕ → List Ty → Type 0
 From p v ts = (d : ℕ) → v ≤ d → all (p d) ts ≡ true
 
-between_next : (ks : List ℕ) (a b : ℕ) (s : Slot) → a < b → slot_means s ≡ slot_at ks a → between ks a b ≡ ty_of s.ty.0 ∷ between ks (a + 1) b
-between_next ks a b s h e =
-    let m : b - a ≡ suc (b - (a + 1)) = omega arith in
-    let x : ty_of (slot_at ks a).type ≡ ty_of s.ty.0 = ap (λ w. ty_of w.type) (sym e) in
-    rw (m, x, add-one a) refl
+left_next : (ks : List ℕ) (r : Rest) (s : Slot) → r.next < r.end → slot_means s ≡ slot_at ks r.next → left ks r ≡ ty_of s.ty.0 ∷ left ks (behind r)
+left_next ks r s h e =
+    let m : r.end - r.next ≡ suc (r.end - (r.next + 1)) = omega arith in
+    let x : ty_of (slot_at ks r.next).type ≡ ty_of s.ty.0 = ap (λ w. ty_of w.type) (sym e) in
+    rw (m, x, add-one r.next) refl
 
-between_none : (ks : List ℕ) (a b : ℕ) → b ≤ a → between ks a b ≡ []
-between_none ks a b h = let m : b - a ≡ 0 = omega arith in rw m refl
+left_none : (ks : List ℕ) (r : Rest) → r.end ≤ r.next → left ks r ≡ []
+left_none ks r h = let m : r.end - r.next ≡ 0 = omega arith in rw m refl
 
-between_all : (ks : List ℕ) (a m : ℕ) → between ks a (a + m) ≡ kids_in ks a m
-between_all ks a m = let e : a + m - a ≡ m = omega arith in rw e refl
+left_whole : (ks : List ℕ) (a m : ℕ) → left ks (whole a m) ≡ kids_in ks a m
+left_whole ks a m = let e : a + m - a ≡ m = omega arith in rw e refl
 
 and_no : (b : Bool) → (b && false) ≡ false
 and_no true = refl
 and_no false = refl
 
--- the run from a up to b and those above it, l of them in the lists xs and ys, with v visits left, tell what the types ts tell
-pub record Going (p : ℕ → Ty → Bool) (ks : List ℕ) (ts : List Ty) (most : ℕ) (xs ys : List ℕ) (l a b v : ℕ) : Type 0 where
+-- the run r and those above it, l of them in the list xs, with v visits left, tell what the types ts tell
+pub record Going (p : ℕ → Ty → Bool) (ks : List ℕ) (ts : List Ty) (most : ℕ) (xs : List Rest) (l : ℕ) (r : Rest) (v : ℕ) : Type 0 where
   pub levels : l ≤ LEVELS
-  pub room_x : length xs ≡ LEVELS
-  pub room_y : length ys ≡ LEVELS
-  pub near : b ≤ FAR
-  pub nears : (e : ℕ) → e < l → get_or ys e 0 ≤ FAR
-  pub here : Never p (between ks a b) → Never p ts
-  pub above : (e : ℕ) → e < l → Never p (between ks (get_or xs e 0) (get_or ys e 0)) → Never p ts
-  pub sure : From p v (between ks a b) → ((e : ℕ) → e < l → From p v (between ks (get_or xs e 0) (get_or ys e 0))) → From p most ts
+  pub room : length xs ≡ LEVELS
+  pub near : r.end ≤ FAR
+  pub nears : (e : ℕ) → e < l → (get_or xs e (whole 0 0)).end ≤ FAR
+  pub here : Never p (left ks r) → Never p ts
+  pub above : (e : ℕ) → e < l → Never p (left ks (get_or xs e (whole 0 0))) → Never p ts
+  pub sure : From p v (left ks r) → ((e : ℕ) → e < l → From p v (left ks (get_or xs e (whole 0 0)))) → From p most ts
 
-pub going_start : {p : ℕ → Ty → Bool} (ks : List ℕ) (f c most : ℕ) (xs ys : List ℕ) → length xs ≡ LEVELS → length ys ≡ LEVELS → f + c ≤ FAR
-    → Going p ks (kids_in ks f c) most xs ys 0 f (f + c) most
-going_start {p} ks f c most xs ys x y h = record {
+pub going_start : {p : ℕ → Ty → Bool} (ks : List ℕ) (f c most : ℕ) (xs : List Rest) → length xs ≡ LEVELS → f + c ≤ FAR
+    → Going p ks (kids_in ks f c) most xs 0 (whole f c) most
+going_start {p} ks f c most xs x h = record {
   levels = omega arith;
-  room_x = x;
-  room_y = y;
+  room = x;
   near = h;
   nears = λ e q. absurd (omega arith);
-  here = λ k d. rw (← between_all ks f c) (k d);
+  here = λ k d. rw (← left_whole ks f c) (k d);
   above = λ e q. absurd (omega arith);
-  sure = λ k g d w. rw (← between_all ks f c) (k d w);
+  sure = λ k g d w. rw (← left_whole ks f c) (k d w);
 }
 
-module _ {p : ℕ → Ty → Bool} {ks : List ℕ} {ts : List Ty} {most : ℕ} {xs ys : List ℕ} {l a b v : ℕ} (g : Going p ks ts most xs ys l a b v) where
-  ended : b ≤ a → From p v (between ks a b)
-  ended h d w = ap (all (p d)) (between_none ks a b h)
+module _ {p : ℕ → Ty → Bool} {ks : List ℕ} {ts : List Ty} {most : ℕ} {xs : List Rest} {l : ℕ} {r : Rest} {v : ℕ} (g : Going p ks ts most xs l r v) where
+  ended : r.end ≤ r.next → From p v (left ks r)
+  ended h d w = ap (all (p d)) (left_none ks r h)
 
-  pub going_clear : b ≤ a → l ≡ 0 → From p most ts
-  going_clear h z = g.sure (ended h) (λ e q. absurd (omega arith))
-
-  pub going_up : b ≤ a → (l ≡ 0 → ⊥) → Going p ks ts most xs ys (l - 1) (get_or xs (l - 1) 0) (get_or ys (l - 1) 0) v
+  pub going_up : r.end ≤ r.next → (l ≡ 0 → ⊥) → Going p ks ts most xs (l - 1) (get_or xs (l - 1) (whole 0 0)) v
   going_up h z = record {
     levels = omega (arith, g.levels);
-    room_x = g.room_x;
-    room_y = g.room_y;
+    room = g.room;
     near = g.nears (l - 1) (omega arith);
     nears = λ e q. g.nears e (omega arith);
     here = g.above (l - 1) (omega arith);
@@ -235,35 +233,34 @@ module _ {p : ℕ → Ty → Bool} {ks : List ℕ} {ts : List Ty} {most : ℕ} {
     sure = λ x y. g.sure (ended h) (λ e q. go x y e q (ℕ_discrete e (l - 1)));
   }
     where
-      go : From p v (between ks (get_or xs (l - 1) 0) (get_or ys (l - 1) 0))
-          → ((e : ℕ) → e < l - 1 → From p v (between ks (get_or xs e 0) (get_or ys e 0)))
-          → (e : ℕ) → e < l → Dec (e ≡ l - 1) → From p v (between ks (get_or xs e 0) (get_or ys e 0))
-      go x y e q (yes r) = rw r x
-      go x y e q (no r) = y e (omega arith)
+      go : From p v (left ks (get_or xs (l - 1) (whole 0 0)))
+          → ((e : ℕ) → e < l - 1 → From p v (left ks (get_or xs e (whole 0 0))))
+          → (e : ℕ) → e < l → Dec (e ≡ l - 1) → From p v (left ks (get_or xs e (whole 0 0)))
+      go x y e q (yes i) = rw i x
+      go x y e q (no i) = y e (omega arith)
 
   -- one child, of the type t
-  module _ (s : Slot) (h : a < b) (q : slot_means s ≡ slot_at ks a) where
-    next : (d : ℕ) → all (p d) (between ks a b) ≡ (p d (ty_of s.ty.0) && all (p d) (between ks (a + 1) b))
-    next d = ap (all (p d)) (between_next ks a b s h q)
+  module _ (s : Slot) (h : r.next < r.end) (q : slot_means s ≡ slot_at ks r.next) where
+    next : (d : ℕ) → all (p d) (left ks r) ≡ (p d (ty_of s.ty.0) && all (p d) (left ks (behind r)))
+    next d = ap (all (p d)) (left_next ks r s h q)
 
-    first_no : (d : ℕ) → p d (ty_of s.ty.0) ≡ false → all (p d) (between ks a b) ≡ false
-    first_no d e = next d ∙ ap (λ (c : Bool). c && all (p d) (between ks (a + 1) b)) e
+    first_no : (d : ℕ) → p d (ty_of s.ty.0) ≡ false → all (p d) (left ks r) ≡ false
+    first_no d e = next d ∙ ap (λ (c : Bool). c && all (p d) (left ks (behind r))) e
 
-    rest_no : Never p (between ks (a + 1) b) → Never p ts
+    rest_no : Never p (left ks (behind r)) → Never p ts
     rest_no n = g.here (λ d. next d ∙ (ap (λ (c : Bool). p d (ty_of s.ty.0) && c) (n d) ∙ and_no (p d (ty_of s.ty.0))))
 
-    both : (d : ℕ) → p d (ty_of s.ty.0) ≡ true → all (p d) (between ks (a + 1) b) ≡ true → all (p d) (between ks a b) ≡ true
-    both d e f = next d ∙ (ap (λ (c : Bool). c && all (p d) (between ks (a + 1) b)) e ∙ f)
+    both : (d : ℕ) → p d (ty_of s.ty.0) ≡ true → all (p d) (left ks (behind r)) ≡ true → all (p d) (left ks r) ≡ true
+    both d e f = next d ∙ (ap (λ (c : Bool). c && all (p d) (left ks (behind r))) e ∙ f)
 
     pub going_met : ((d : ℕ) → p d (ty_of s.ty.0) ≡ false) → Never p ts
     going_met n = g.here (λ d. first_no d (n d))
 
     module _ (o : 0 < v) where
-      pub going_good : ((d : ℕ) → p (suc d) (ty_of s.ty.0) ≡ true) → Going p ks ts most xs ys l (a + 1) b (v - 1)
+      pub going_good : ((d : ℕ) → p (suc d) (ty_of s.ty.0) ≡ true) → Going p ks ts most xs l (behind r) (v - 1)
       going_good n = record {
         levels = g.levels;
-        room_x = g.room_x;
-        room_y = g.room_y;
+        room = g.room;
         near = g.near;
         nears = g.nears;
         here = rest_no;
@@ -276,17 +273,14 @@ module _ {p : ℕ → Ty → Bool} {ks : List ℕ} {ts : List Ty} {most : ℕ} {
           at (suc d) i = n d
 
       module _ (lt : l < LEVELS) (f c : ℕ) (fc : f + c ≤ FAR) (z : p 0 (ty_of s.ty.0) ≡ false) (n : (d : ℕ) → p (suc d) (ty_of s.ty.0) ≡ all (p d) (kids_in ks f c)) where
-        put_x : get_or (set xs l (a + 1)) l 0 ≡ a + 1
-        put_x = get_or-set_same xs l (a + 1) 0 (omega (arith, g.room_x))
+        put : get_or (set xs l (behind r)) l (whole 0 0) ≡ behind r
+        put = get_or-set_same xs l (behind r) (whole 0 0) (omega (arith, g.room))
 
-        put_y : get_or (set ys l b) l 0 ≡ b
-        put_y = get_or-set_same ys l b 0 (omega (arith, g.room_y))
+        top : left ks (get_or (set xs l (behind r)) l (whole 0 0)) ≡ left ks (behind r)
+        top = ap (left ks) put
 
-        pushed : (e : ℕ) → (e ≡ l → ⊥) → between ks (get_or (set xs l (a + 1)) e 0) (get_or (set ys l b) e 0) ≡ between ks (get_or xs e 0) (get_or ys e 0)
-        pushed e i = rw (get_or-set_other xs l e (a + 1) 0 i, get_or-set_other ys l e b 0 i) refl
-
-        top : between ks (get_or (set xs l (a + 1)) l 0) (get_or (set ys l b) l 0) ≡ between ks (a + 1) b
-        top = rw (put_x, put_y) refl
+        pushed : (e : ℕ) → (e ≡ l → ⊥) → get_or (set xs l (behind r)) e (whole 0 0) ≡ get_or xs e (whole 0 0)
+        pushed e i = get_or-set_other xs l e (behind r) (whole 0 0) i
 
         at_no : Never p (kids_in ks f c) → (d : ℕ) → p d (ty_of s.ty.0) ≡ false
         at_no k zero = z
@@ -296,43 +290,33 @@ module _ {p : ℕ → Ty → Bool} {ks : List ℕ} {ts : List Ty} {most : ℕ} {
         at_yes k zero i = absurd (omega arith)
         at_yes k (suc d) i = n d ∙ k d (omega arith)
 
-        pub going_down : Going p ks ts most (set xs l (a + 1)) (set ys l b) (l + 1) f (f + c) (v - 1)
+        pub going_down : Going p ks ts most (set xs l (behind r)) (l + 1) (whole f c) (v - 1)
         going_down = record {
           levels = omega arith;
-          room_x = rw length-set g.room_x;
-          room_y = rw length-set g.room_y;
+          room = rw length-set g.room;
           near = fc;
           nears = λ e i. low e i (ℕ_discrete e l);
-          here = λ k. going_met (at_no (λ d. rw (← between_all ks f c) (k d)));
+          here = λ k. going_met (at_no (λ d. rw (← left_whole ks f c) (k d)));
           above = λ e i k. go e i k (ℕ_discrete e l);
           sure = λ x y.
               g.sure
-              (λ d w. both d (at_yes (λ m u. rw (← between_all ks f c) (x m u)) d w) (rw (← top) (y l (omega arith) d (omega arith))))
+              (λ d w. both d (at_yes (λ m u. rw (← left_whole ks f c) (x m u)) d w) (rw (← top) (y l (omega arith) d (omega arith))))
               (λ e i d w. rw (← pushed e (λ r. omega arith)) (y e (omega arith) d (omega arith)));
         }
           where
-            low : (e : ℕ) → e < l + 1 → Dec (e ≡ l) → get_or (set ys l b) e 0 ≤ FAR
-            low e i (yes r) = rw (r, put_y) g.near
-            low e i (no r) = rw (get_or-set_other ys l e b 0 r) (g.nears e (omega arith))
+            low : (e : ℕ) → e < l + 1 → Dec (e ≡ l) → (get_or (set xs l (behind r)) e (whole 0 0)).end ≤ FAR
+            low e i (yes m) = rw (m, put) g.near
+            low e i (no m) = rw (pushed e m) (g.nears e (omega arith))
 
-            go : (e : ℕ) → e < l + 1 → Never p (between ks (get_or (set xs l (a + 1)) e 0) (get_or (set ys l b) e 0)) → Dec (e ≡ l) → Never p ts
-            go e i k (yes r) = rest_no (λ d. rw (← top) (rw r at (k d)))
-            go e i k (no r) = g.above e (omega arith) (λ d. rw (← pushed e r) (k d))
+            go : (e : ℕ) → e < l + 1 → Never p (left ks (get_or (set xs l (behind r)) e (whole 0 0))) → Dec (e ≡ l) → Never p ts
+            go e i k (yes m) = rest_no (λ d. rw (← top) (rw m at (k d)))
+            go e i k (no m) = g.above e (omega arith) (λ d. rw (← pushed e m) (k d))
 
 -- what the code's answers say
 
 module _ {ns : List Node} {param : Bool} {ts : List Ty} {most : ℕ} where
-  pub tries_deep : Tries ns param ts most Deep
-  tries_deep = record {
-    met = λ q. let z : ◌≡◌ {A = ℕ} 0 1 = cc in absurd (omega arith);
-    clear = λ q. let z : ◌≡◌ {A = ℕ} 0 1 = cc in absurd (omega arith);
-  }
-
   pub tries_met : Never (self_below param ns) ts → Tries ns param ts most Met
   tries_met h = record { met = λ q. h; clear = λ q. let z : ◌≡◌ {A = ℕ} 0 1 = cc in absurd (omega arith) }
-
-  pub tries_clear : From (self_below param ns) most ts → Tries ns param ts most Clear
-  tries_clear h = record { met = λ q. let z : ◌≡◌ {A = ℕ} 0 1 = cc in absurd (omega arith); clear = λ q. h }
 
 -- what the root i of the type t, found by the code, tells of t at each depth
 module _ {ws ks : List ℕ} {n t : ℕ} {param : Bool} (o : Stands ws ks n) {a i : ℕ} (f : Found ws n t a) (e : i ≡ (ty_of a).idx) {r : Judgement} (j : Judges ws n param i r) where
@@ -359,19 +343,19 @@ module _ {ns : List Node} {param : Bool} {t : ℕ} where
 
 module _ {ws ks : List ℕ} {n t : ℕ} {param : Bool} (o : Stands ws ks n) (l : (ty_of t).idx < n) {a i : ℕ} (f : Found ws n t a) (e : i ≡ (ty_of a).idx)
     {r : Judgement} (j : Judges ws n param i r) where
-  whole : self_inverse_of (decode ws ks n) (ty_of t) param ≡ self_below param (decode ws ks n) (suc (n - 1)) (ty_of t)
+  one_down : self_inverse_of (decode ws ks n) (ty_of t) param ≡ self_below param (decode ws ks n) (suc (n - 1)) (ty_of t)
   unfolding self_inverse_of
-  whole = let m : length (decode ws ks n) ≡ suc (n - 1) = omega (arith, length_decode ws ks n) in rw m refl
+  one_down = let m : length (decode ws ks n) ≡ suc (n - 1) = omega (arith, length_decode ws ks n) in rw m refl
 
   pub glance_bad : r ≡ Bad → Glanced (decode ws ks n) param t Met
-  glance_bad q = glanced_met (whole ∙ told_bad o f e j q (suc (n - 1)))
+  glance_bad q = glanced_met (one_down ∙ told_bad o f e j q (suc (n - 1)))
 
   pub glance_good : r ≡ Good → Glanced (decode ws ks n) param t Clear
-  glance_good q = glanced_clear (whole ∙ told_good o f e j q (n - 1))
+  glance_good q = glanced_clear (one_down ∙ told_good o f e j q (n - 1))
 
   pub glance_run : {x m : ℕ} → r ≡ Run x m → {most : ℕ} → most < n → {u : Glance} → Tries (decode ws ks n) param (kids_in ks x m) most u
       → Glanced (decode ws ks n) param t u
   glance_run q h w = record {
-    met = λ z. whole ∙ (told_run o f e j q (n - 1) ∙ w.met z (n - 1));
-    clear = λ z. whole ∙ (told_run o f e j q (n - 1) ∙ w.clear z (n - 1) (omega arith));
+    met = λ z. one_down ∙ (told_run o f e j q (n - 1) ∙ w.met z (n - 1));
+    clear = λ z. one_down ∙ (told_run o f e j q (n - 1) ∙ w.clear z (n - 1) (omega arith));
   }

@@ -7,7 +7,7 @@ ghost use Rattle.scope.specs.Types.{ty_of};
 ghost use Rattle.layout.specs.Words.{node_words, decode};
 ghost use Rattle.layout.specs.Meaning.{read_at, held_in};
 ghost use Rattle.related.specs.Stands.{Stands};
-ghost use Rattle.inverse.specs.Judged.{kids_in, good_kind, Judges, Tries, Glanced};
+ghost use Rattle.inverse.specs.Judged.{kids_in, whole, good_kind, Judges, Tries, Glanced};
 ghost use Rattle.inverse.specs.Marked.{good_by, good_at, Beside, MarkedAll};
 
 use layout::Kind;
@@ -27,6 +27,14 @@ enum Judgement {
     Bad,
     Good,
     Run { first: u32, count: u32 },
+}
+
+// What is left of a run of children: those from `next` up to `end`.
+// Kept (6): a Range is no Copy, and an array of such could not be filled.
+#[derive(Clone, Copy)]
+struct Rest {
+    next: usize,
+    end: usize,
 }
 
 // So many visits a walk without marks makes at most, and goes down fewer levels than these.
@@ -65,8 +73,18 @@ fn judge(ws: &[u32], n: u32, i: TypeIdx, param: bool) -> Judgement
     }
 }
 
+fn whole(first: u32, count: u32) -> Rest
+    ensures { result ≡ whole first count }
+{
+    let next = first as usize;
+    Rest {
+        next,
+        end: next + count as usize,
+    }
+}
+
 // A walk of so many visits at most over a run of children, depth first and without marks, which ends at the first root that is not good. What is left of the runs
-// above stands in two lists, so that it calls nothing that calls itself.
+// above stands in a list, so that it calls nothing that calls itself.
 fn inverse_run(
     ws: &[u32],
     ks: &[u32],
@@ -79,34 +97,27 @@ fn inverse_run(
     requires { Stands ws.now ks.now n }
     ensures { Tries (decode ws.now ks.now n) param (kids_in ks.now first count) most result }
 {
-    let mut nexts = [0usize; LEVELS];
-    let mut ends = [0usize; LEVELS];
+    let mut above = [whole(0, 0); LEVELS];
     let mut level = 0;
-    let mut next = first as usize;
-    let mut end = next + count as usize;
+    let mut run = whole(first, count);
     let mut left = most;
     // Kept (3): as a `for` it is no plainer: a turn visits the next child of a run or goes back up to the run above, so turns are no counter.
     while 0 < left {
         if level == LEVELS {
             return Glance::Deep;
         }
-        if next < end {
-            let kid = layout::child_at(ks, next).ty;
+        if run.next < run.end {
+            let kid = layout::child_at(ks, run.next).ty;
             let root = roots::find(ws, n, kid).idx();
-            next += 1;
+            run.next += 1;
             left -= 1;
             match judge(ws, n, root, param) {
                 Judgement::Bad => return Glance::Met,
                 Judgement::Good => {}
-                Judgement::Run {
-                    first: below,
-                    count: many,
-                } => {
-                    nexts[level] = next;
-                    ends[level] = end;
+                Judgement::Run { first, count } => {
+                    above[level] = run;
                     level += 1;
-                    next = below as usize;
-                    end = next + many as usize;
+                    run = whole(first, count);
                 }
             }
         } else {
@@ -114,8 +125,7 @@ fn inverse_run(
                 return Glance::Clear;
             }
             level -= 1;
-            next = nexts[level];
-            end = ends[level];
+            run = above[level];
         }
     }
     Glance::Deep
@@ -149,10 +159,7 @@ fn good_at(ws: &[u32], n: u32, i: TypeIdx, param: bool) -> bool
     requires { node_words n ≤ length ws.now }
     ensures { result ≡ good_by param (held_in (read_at ws.now n i.0)) }
 {
-    match layout::held_at(ws, n, i) {
-        Some((_, kind)) => good_kind(kind, param),
-        None => false,
-    }
+    layout::held_at(ws, n, i).is_some_and(|(_, kind)| good_kind(kind, param))
 }
 
 // A walk writes 1: other marks are older.

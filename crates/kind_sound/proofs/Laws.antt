@@ -17,10 +17,11 @@ use Rattle.scope.specs.Names.{Texts}
 use Rattle.scope.specs.Kinds.{Head, row_of, shape_fits, names_ok, flex_ok, number_ok, makeable, defined, flag_of, flag_is}
 use Rattle.scope.specs.Nodes as nodes
 use Rattle.scope.specs.Sound.{in_store, kind_sound, node_sound}
-use Rattle.names.specs.Place.{texts}
+use Rattle.names.specs.Place.{texts_by}
 use Rattle.chart.specs.Words.{records_of}
-use Rattle.chart.specs.Env.{env_of, chart_in, chart_alone}
+use Rattle.chart.specs.Env.{env_of, chart_in, chart_alone, chart_lent}
 use Rattle.chart.specs.declared.Beside.{Beside}
+use Rattle.chart.specs.declared.Env as lent
 use Rattle.layout.specs.Meaning.{cell_of, kind_means, node_means}
 use Rattle.layout.specs.declared.Kind.{Kind}
 use Rattle.layout.specs.declared.TypeState.TheVariants.{Known, Unknown, InferenceFailed}
@@ -67,13 +68,14 @@ pub made_tests : (x : Texts) (ks : List ℕ) (k : Kind) (n : ℕ)
 unfolding makeable kind_means
 made_tests x ks k n = refl
 
-pub kind_tests : (ws rule text ks : List ℕ) (k : Kind) (ns : List nodes.Node)
-    → kind_sound (chart_in ws rule text) ns (kind_means ks k)
-    ≡ (makeable (texts rule text) (kind_means ks k).head k.count
-    && (defined (chart_alone ws) (kind_means [] k).head && (flag_is (chart_alone ws) (kind_means [] k).head && all (in_store ns) (kind_means ks k).kids)))
+pub kind_tests : (l : lent.Env) (ks : List ℕ) (k : Kind) (ns : List nodes.Node)
+    → kind_sound (chart_lent l) ns (kind_means ks k)
+    ≡ (makeable (texts_by l.texts) (kind_means ks k).head k.count
+    && (defined (chart_alone l.chart.now) (kind_means [] k).head
+    && (flag_is (chart_alone l.chart.now) (kind_means [] k).head && all (in_store ns) (kind_means ks k).kids)))
 unfolding kind_sound
-kind_tests ws rule text ks k ns =
-    rw (length_kids ks k, defined_chart (chart_in ws rule text) ws refl ks k, flag_chart (chart_in ws rule text) ws refl ks k)
+kind_tests l ks k ns =
+    rw (length_kids ks k, defined_chart (chart_lent l) l.chart.now refl ks k, flag_chart (chart_lent l) l.chart.now refl ks k)
 
 -- what is read of the nodes
 

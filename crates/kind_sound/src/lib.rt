@@ -9,32 +9,33 @@ ghost use Rattle.scope.specs.Names.{named_or_none};
 ghost use Rattle.scope.specs.Kinds.{row_of, object_names_ok, names_ok, makeable, defined, flag_of, flag_is};
 ghost use Rattle.scope.specs.Nodes.{Node};
 ghost use Rattle.scope.specs.Sound.{name_in, slot_name, in_store, kind_sound, node_sound, remembered};
-ghost use Rattle.names.specs.Place.{texts};
-ghost use Rattle.chart.specs.Env.{chart_in, chart_alone};
+ghost use Rattle.names.specs.Place.{texts_by};
+ghost use Rattle.chart.specs.Env.{chart_alone, chart_lent};
 ghost use Rattle.layout.specs.Words.{slots};
 ghost use Rattle.layout.specs.Meaning.{kind_means, node_means, remembered_means};
 
+use chart::Env;
 use kinds::{ERROR, Names, SelfDual};
 use layout::{Kind, TypeNode, TypeState};
-use names::{NO_NAME, Name};
+use names::{NO_NAME, Name, Texts};
 use scope::MAX_WIDTH;
 use types::Type;
 
 // A name that may be missing.
-fn name_or_none(n: Name, rule: &[u8], text: &[u8]) -> bool
-    ensures { result ≡ named_or_none (texts rule.now text.now) (name_in n.text n.start n.len) }
+fn name_or_none(n: Name, texts: &Texts<'_>) -> bool
+    ensures { result ≡ named_or_none (texts_by texts.now) (name_in n.text n.start n.len) }
 {
-    n.len == 0 || names::name_ok(n, rule, text)
+    n.len == 0 || names::name_ok(n, texts)
 }
 
 // One name for each child, "strictly ascending". The first is held against the empty name, which comes before any other.
-fn child_names_fit<'a>(k: Kind, ks: &[u32], rule: &'a [u8], text: &'a [u8]) -> bool
-    ensures { result ≡ object_names_ok (texts rule.now text.now) (map slot_name (slots ks.now k.first k.count)) }
+fn child_names_fit(k: Kind, ks: &[u32], texts: &Texts<'_>) -> bool
+    ensures { result ≡ object_names_ok (texts_by texts.now) (map slot_name (slots ks.now k.first k.count)) }
 {
     let mut last = NO_NAME;
     for j in 0..k.count {
         let next = layout::child_of(ks, k, j).name;
-        if !names::name_ok(next, rule, text) || !names::name_before(last, next, rule, text) {
+        if !names::name_ok(next, texts) || !names::name_before(last, next, texts) {
             return false;
         }
         last = next;
@@ -43,33 +44,33 @@ fn child_names_fit<'a>(k: Kind, ks: &[u32], rule: &'a [u8], text: &'a [u8]) -> b
 }
 
 // "for each parameter, a name or none": the first n children are the parameters.
-fn parameter_names_fit(k: Kind, n: u32, ks: &[u32], rule: &[u8], text: &[u8]) -> bool
-    ensures { result ≡ all (named_or_none (texts rule.now text.now)) (map slot_name (slots ks.now k.first n)) }
+fn parameter_names_fit(k: Kind, n: u32, ks: &[u32], texts: &Texts<'_>) -> bool
+    ensures { result ≡ all (named_or_none (texts_by texts.now)) (map slot_name (slots ks.now k.first n)) }
 {
-    (0..n).all(|j| name_or_none(layout::child_of(ks, k, j).name, rule, text))
+    (0..n).all(|j| name_or_none(layout::child_of(ks, k, j).name, texts))
 }
 
 // The names that the kind's row asks for. Each child is read, so a caller tests the width first, as can_be_made does; kids_inside likewise.
-pub fn names_fit<'a>(k: Kind, ks: &[u32], rule: &'a [u8], text: &'a [u8]) -> bool
-    ensures { result ≡ names_ok (texts rule.now text.now) (row_of k.code).names (kind_means ks.now k).head.names k.count }
+pub fn names_fit(k: Kind, ks: &[u32], texts: &Texts<'_>) -> bool
+    ensures { result ≡ names_ok (texts_by texts.now) (row_of k.code).names (kind_means ks.now k).head.names k.count }
 {
     match kinds::row_of(k.code).names {
         Names::No => true,
-        Names::Own => names::name_ok(k.name, rule, text),
-        Names::OfChildren => child_names_fit(k, ks, rule, text),
-        Names::OfParameters => k.count != 0 && parameter_names_fit(k, k.count - 1, ks, rule, text),
+        Names::Own => names::name_ok(k.name, texts),
+        Names::OfChildren => child_names_fit(k, ks, texts),
+        Names::OfParameters => k.count != 0 && parameter_names_fit(k, k.count - 1, ks, texts),
     }
 }
 
 // Whether refusal 4 does not stand: "bad code or name, over 255 children, object names not strictly ascending".
-pub fn can_be_made<'a>(k: Kind, ks: &[u32], rule: &'a [u8], text: &'a [u8]) -> bool
-    ensures { result ≡ makeable (texts rule.now text.now) (kind_means ks.now k).head k.count }
+pub fn can_be_made(k: Kind, ks: &[u32], texts: &Texts<'_>) -> bool
+    ensures { result ≡ makeable (texts_by texts.now) (kind_means ks.now k).head k.count }
 {
     let n = k.count as usize;
     k.code <= ERROR
         && n <= MAX_WIDTH
         && kinds::shape_fits(k.code, n)
-        && names_fit(k, ks, rule, text)
+        && names_fit(k, ks, texts)
         && kinds::flex_ok(k.code, k.flex)
         && kinds::number_ok(k.code, k.number)
 }
@@ -108,46 +109,29 @@ pub fn kids_inside(k: Kind, ks: &[u32], n: u32) -> bool
 pub fn remembered_inside(t: Option<Type>, n: u32) -> bool
     ensures { (ns : List Node) → length ns ≡ n → result ≡ remembered ns (remembered_means t) }
 {
-    match t {
-        Some(t) => refusals::type_inside(t, n),
-        None => true,
-    }
+    t.is_none_or(|t| refusals::type_inside(t, n))
 }
 
 // No "kind that 4 or 5 would turn back", no "flag that isn't the chart's", no child outside the store.
-pub fn kind_sound<'a>(
-    k: Kind,
-    ks: &[u32],
-    n: u32,
-    chart: &[u32],
-    rule: &'a [u8],
-    text: &'a [u8],
-) -> bool
-    ensures { (ns : List Node) → length ns ≡ n → result ≡ kind_sound (chart_in chart.now rule.now text.now) ns (kind_means ks.now k) }
+pub fn kind_sound(k: Kind, ks: &[u32], n: u32, env: &Env<'_>) -> bool
+    ensures { (ns : List Node) → length ns ≡ n → result ≡ kind_sound (chart_lent env.now) ns (kind_means ks.now k) }
 {
-    can_be_made(k, ks, rule, text)
-        && is_defined(k, chart)
-        && has_chart_flag(k, chart)
+    can_be_made(k, ks, &env.texts)
+        && is_defined(k, env.chart)
+        && has_chart_flag(k, env.chart)
         && kids_inside(k, ks, n)
 }
 
 // A node: its kind is sound, or its parent is a node of the store.
-pub fn node_sound<'a>(
-    node: TypeNode,
-    ks: &[u32],
-    n: u32,
-    chart: &[u32],
-    rule: &'a [u8],
-    text: &'a [u8],
-) -> bool
-    ensures { (ns : List Node) → length ns ≡ n → result ≡ node_sound (chart_in chart.now rule.now text.now) ns (node_means ks.now node) }
+pub fn node_sound(node: TypeNode, ks: &[u32], n: u32, env: &Env<'_>) -> bool
+    ensures { (ns : List Node) → length ns ≡ n → result ≡ node_sound (chart_lent env.now) ns (node_means ks.now node) }
 {
     match node {
         TypeNode::Child(t) => refusals::type_inside(t, n),
         TypeNode::Root {
             state: TypeState::Known(_, kind),
             size: _,
-        } => kind_sound(kind, ks, n, chart, rule, text),
+        } => kind_sound(kind, ks, n, env),
         TypeNode::Root {
             state: TypeState::Unknown(_) | TypeState::InferenceFailed,
             size: _,

@@ -5,11 +5,11 @@ use mathlib.Core.Path.{◌≡◌, refl, ap, sym, ◌∙◌, subst}
 use mathlib.Core.Bool.{Bool, true, false, ◌&&◌}
 use mathlib.Core.Option.{none, some}
 use mathlib.Core.List.{List, [], ◌∷◌}
-use Prim.Native.Nat.{ℕ, zero, suc, ◌+◌, ◌*◌, ◌/◌, ◌-◌, ◌<◌, ◌≤◌}
+use Prim.Native.Nat.{ℕ, zero, suc, ◌+◌, ◌*◌, ◌-◌, ◌<◌, ◌≤◌}
 use native.Mathlib.Omega.{arith}
 use lib.Dec.{eqb, leb, leb-zero}
-use lib.ListN.{length, get_or, take, drop, length-drop, get_or-eq_default}
-use lib.Seq.{sets, get_or-take, get_or-drop, take_all, length-take-le, ext_get_or}
+use lib.ListN.{length, get_or, take, drop, length-drop}
+use lib.Seq.{sets, get_or-take, get_or-drop, length-take-le, ext_get_or}
 use borrow.Rule.Slice.PartMut.{put_mid}
 use native.Mathlib.Nat.{add-sub_cancel_left}
 use borrow.Author.Tests.{eq-eqb, ne_eqb, lt-ltb, eqb-true, eqb-false, leb-true}
@@ -17,11 +17,10 @@ use Rattle.scope.specs.Base.{pick, is_some, or_else}
 use Rattle.scope.specs.Limits.{NONE}
 use Rattle.scope.specs.Types.{ty_of}
 use Rattle.scope.specs.Nodes as nodes
-use Rattle.names.specs.Place.{name_from}
 use Rattle.scope.specs.Sound.{zeros, node_in, kind_bare, names_clean, kind_in}
 use Rattle.layout.specs.Words.{node_words, node_field, slot_at, cell_at, node_at, node_clean}
 use Rattle.layout.specs.Meaning.{flag_word, cell_by, cell_in, words_of, node_of, plain_cell, cell_of, cell_kind, cell_words, paste_at}
-use Rattle.layout.specs.Meaning.{read_at, put_at, held_in, cell_means, kind_cell, kind_means, node_means, kind_fits, node_fits, type_of, slot_means}
+use Rattle.layout.specs.Meaning.{read_at, put_at, held_in, cell_means, kind_cell, kind_means, node_means, kind_fits, node_fits, type_of}
 use Rattle.layout.specs.declared.Cell.{Cell}
 use Rattle.layout.specs.declared.Kind.{Kind}
 use Rattle.std.specs.Prelude.{Some, None}
@@ -31,22 +30,6 @@ use Rattle.layout.specs.declared.TypeNode.TheVariants.{Root, Child}
 use Rattle.layout.proofs.Lists.{sets_all, and_both, and_left, and_right, length_from, get_from}
 
 -- children: a part's words, and zeros past the end
-
-pub slot_past : (ks : List ℕ) (i : ℕ) → length ks / 4 < i → slot_means (record { ty = type_of 0; name = name_from 0 0 0 }) ≡ slot_at ks i
-slot_past ks i h = rw (
-  get_or-eq_default ks 0 {n = i * 4 + 0} (omega arith),
-  get_or-eq_default ks 0 {n = i * 4 + 1} (omega arith),
-  get_or-eq_default ks 0 {n = i * 4 + 2} (omega arith),
-  get_or-eq_default ks 0 {n = i * 4 + 3} (omega arith),
-)
-
--- the last number lies past the end of a child that is not whole
-pub slot_part : (ks : List ℕ) (i : ℕ) {x y z : ℕ} → length ks / 4 ≤ i → x ≡ get_or (take (length ks - i * 4) (drop (i * 4) ks)) 0 0
-    → y ≡ get_or (take (length ks - i * 4) (drop (i * 4) ks)) 1 0 → z ≡ get_or (take (length ks - i * 4) (drop (i * 4) ks)) 2 0
-    → slot_means (record { ty = type_of x; name = name_from y z 0 }) ≡ slot_at ks i
-slot_part ks i h ex ey ez =
-    rw (ex, ey, ez, take_all (length ks - i * 4) (drop (i * 4) ks) (simp length-drop (omega arith)))
-    (rw (get_or-drop (i * 4) ks 0 0, get_or-drop (i * 4) ks 1 0, get_or-drop (i * 4) ks 2 0, get_or-eq_default ks 0 {n = i * 4 + 3} (omega arith)))
 
 -- field k of node i is word k of its part
 pub field_word : (ws : List ℕ) (i k : ℕ) → k < 12 → get_or (cell_words ws i) k 0 ≡ node_field ws i k

@@ -17,12 +17,9 @@ use Rattle.scope.specs.Base.{is_some}
 use Rattle.scope.specs.Types.{ty_of}
 use Rattle.scope.specs.Sound as sound
 use Rattle.layout.specs.Words.{child_words, slot_at, slots, first_at, count_at, cell_at, node_at, node_clean, decode}
-use Rattle.layout.specs.Meaning.{slot_in, slot_words, slot_means, put_slot, kind_cell, kind_means, node_means, kind_fits, node_fits, Clean, Kept}
+use Rattle.layout.specs.Meaning.{slot_in, slot_words, slot_means, put_slot, kind_cell, kind_means, kind_fits, Clean, Kept}
 use Rattle.layout.specs.declared.Slot.{Slot}
 use Rattle.layout.specs.declared.Kind.{Kind}
-use Rattle.layout.specs.declared.TypeState.TheVariants.{Known, Unknown, InferenceFailed}
-use Rattle.layout.specs.declared.TypeNode.{TypeNode}
-use Rattle.layout.specs.declared.TypeNode.TheVariants.{Root, Child}
 use Rattle.layout.proofs.Lists.{sets_all, and_both, and_left, and_right, part_here, part_other, drop_past, length_part, length_from, get_from, map_snoc, same_from}
 use Rattle.layout.proofs.Laws.{decode_same}
 
@@ -128,29 +125,6 @@ kind_room ks c k h = leb-true (k.first + k.count) c (and_left (leb (k.first + k.
 module _ (c : ℕ) (ks ks' : List ℕ) (kept : Kept c ks ks') where
   slots_kept : (i n : ℕ) → i + n ≤ c → slots ks' i n ≡ slots ks i n
   slots_kept i n h = same_from (slot_at ks') (slot_at ks) i n (λ j a b. kept.same j (omega arith))
-
-  pub kind_kept : (k : Kind) → kind_fits ks c k ≡ true → kind_means ks' k ≡ kind_means ks k
-  unfolding kind_means
-  kind_kept k h = rw (slots_kept k.first k.count (kind_room ks c k h))
-
-  pub kind_fits_kept : (c' : ℕ) (k : Kind) → c ≤ c' → kind_fits ks c k ≡ true → kind_fits ks' c' k ≡ true
-  unfolding kind_fits
-  kind_fits_kept c' k g h =
-      let r : k.first + k.count ≤ c = kind_room ks c k h in
-      and_both (leb (k.first + k.count) c') (sound.names_clean (kind_cell ks' k)) (le-leb (k.first + k.count) c' (omega arith))
-      (rw (slots_kept k.first k.count r) (and_right (leb (k.first + k.count) c) (sound.names_clean (kind_cell ks k)) h))
-
-  pub node_kept : (v : TypeNode) → node_fits ks c v ≡ true → node_means ks' v ≡ node_means ks v
-  node_kept (Root (Known i k) z) h = rw (kind_kept k h)
-  node_kept (Root (Unknown s) z) h = refl
-  node_kept (Root InferenceFailed z) h = refl
-  node_kept (Child t) h = refl
-
-  pub fits_kept : (c' : ℕ) (v : TypeNode) → c ≤ c' → node_fits ks c v ≡ true → node_fits ks' c' v ≡ true
-  fits_kept c' (Root (Known i k) z) g h = kind_fits_kept c' k g h
-  fits_kept c' (Root (Unknown s) z) g h = refl
-  fits_kept c' (Root InferenceFailed z) g h = refl
-  fits_kept c' (Child t) g h = refl
 
   module _ (ws : List ℕ) where
     clean_room : (i : ℕ) → node_clean ws ks c i ≡ true → first_at ws i + count_at ws i ≤ c

@@ -34,10 +34,6 @@ pub fits_node : (ks : List ℕ) (c : ℕ) (v : TypeNode) → node_fits ks c v �
 fits_node ks c (Root st z) h = h
 fits_node ks c (Child t) h = refl
 
--- what a state that is known holds
-pub held_told : {v w : TypeNode} {st st' : TypeState} → v ≡ w → st ≡ node_state v → st ≡ st' → held_by st' ≡ held_in w
-held_told e s t = ap held_by (sym t ∙ (s ∙ ap node_state e))
-
 -- a state that holds a kind
 pub held_state : (st : TypeState) (i : Inverted) (k : Kind) → held_by st ≡ Some (i, k) → st ≡ Known i k
 held_state (Known j m) i k e = let p : ◌≡◌ {A = Inverted × Kind} (j, m) (i, k) = cc in ap (λ (h : Inverted × Kind). Known h.0 h.1) p

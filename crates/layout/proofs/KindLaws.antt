@@ -14,7 +14,7 @@ use Rattle.scope.specs.Base.{pick, all}
 use Rattle.scope.specs.Names.{Name}
 use Rattle.scope.specs.Types.{ty_of}
 use Rattle.scope.specs.Kinds.{row_of, NO_NAMES, OWN_NAME, CHILD_NAMES, PARAMETER_NAMES}
-use Rattle.scope.specs.Sound.{Slot, zeros, name_in, name_clean, slot_name, slot_clean, slot_bare, front, last, names_clean}
+use Rattle.scope.specs.Sound.{Slot, zeros, name_in, slot_name, slot_bare, front, names_clean}
 use Rattle.layout.specs.Words.{slot_at, slots}
 use Rattle.layout.specs.Meaning.{kind_cell, kind_means, kind_fits, named_of}
 use Rattle.layout.specs.declared.Kind.{Kind}
@@ -41,14 +41,6 @@ module _ (ks : List ℕ) (k : Kind) where
   pub kind_number : (kind_means ks k).head.number ≡ k.number
   unfolding kind_means
   kind_number = refl
-
-  pub kind_dual : (kind_means ks k).head.dual ≡ k.dual
-  unfolding kind_means
-  kind_dual = refl
-
-  pub kind_flex : (kind_means ks k).head.flex ≡ k.flex
-  unfolding kind_means
-  kind_flex = refl
 
   -- the kind's children
   abbrev pub run : List Slot
@@ -93,16 +85,7 @@ module _ (ks : List ℕ) (k : Kind) where
     unfolding kind_fits
     kind_fits_lem h = and_both (leb (k.first + k.count) c) (names_clean (kind_cell ks k)) (le-leb (k.first + k.count) c room) h
 
-    pub fits_own : (row_of k.code).names ≡ OWN_NAME → name_clean k.name.text k.name.start k.name.len ≡ true → all slot_bare run ≡ true → kind_fits ks c k ≡ true
-    fits_own e n b = kind_fits_lem (rw (e, n, b))
-
     module _ (own : zeros (k.name.text ∷ k.name.start ∷ k.name.len ∷ []) ≡ true) where
-      pub fits_child : (row_of k.code).names ≡ CHILD_NAMES → all slot_clean run ≡ true → kind_fits ks c k ≡ true
-      fits_child e b = kind_fits_lem (rw (e, own, b))
-
-      pub fits_parameters : (row_of k.code).names ≡ PARAMETER_NAMES → all slot_clean (front run) ≡ true → all slot_bare (last run) ≡ true → kind_fits ks c k ≡ true
-      fits_parameters e b d = kind_fits_lem (rw (e, own, b, d))
-
       pub fits_none : (row_of k.code).names ≡ NO_NAMES → all slot_bare run ≡ true → kind_fits ks c k ≡ true
       fits_none e b = kind_fits_lem (rw (e, own, b))
 

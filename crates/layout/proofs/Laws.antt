@@ -8,19 +8,17 @@ use Prim.Native.Nat.{ℕ, ◌+◌, ◌*◌, ◌<◌, ◌≤◌}
 use native.Mathlib.Omega.{arith}
 use native.Mathlib.Numerals.{add-one}
 use lib.Dec.{eqb, ltb}
-use lib.ListN.{length, drop, set, length-set, length-drop, get_or-eq_default}
-use lib.Seq.{get_or-set_same, get_or-set_other, ext_get_or, length-take-le}
-use borrow.Rule.Slice.PartMut.{put_same}
+use lib.ListN.{length, drop, set, length-set, get_or-eq_default}
+use lib.Seq.{get_or-set_same, get_or-set_other, ext_get_or}
 use borrow.Author.Tests.{lt-ltb, le-ltb, ltb-true, ltb-false, eqb-true, eqb-false}
 use Rattle.scope.specs.Base.{or_else}
 use Rattle.scope.specs.Limits.{NONE}
 use Rattle.scope.specs.Nodes as nodes
 use Rattle.layout.specs.Words.{node_words, node_at, node_clean, decode}
-use Rattle.layout.specs.Meaning.{cell_in, words_of, cell_of, cell_words, paste_at, read_at, put_at, node_means, node_fits, Clean}
-use Rattle.layout.specs.declared.Cell.{Cell}
+use Rattle.layout.specs.Meaning.{cell_in, words_of, cell_of, cell_words, read_at, put_at, node_means, node_fits, Clean}
 use Rattle.layout.specs.declared.TypeNode.{TypeNode}
 use Rattle.layout.proofs.Lists.{part_here, part_other, drop_past, length_part, length_from, get_from, map_snoc, same_from}
-use Rattle.layout.proofs.Cells.{cell_node, cell_clean, words_back, node_words_lem, clean_words, says, cell_says, cell_clean_lem}
+use Rattle.layout.proofs.Cells.{cell_node, cell_clean, node_words_lem, clean_words, says, cell_says, cell_clean_lem}
 
 -- what stands past the last node
 abbrev pub past : nodes.Node
@@ -169,20 +167,6 @@ module _ (ws ks : List ℕ) (c n : ℕ) (cl : Clean ws ks c n) where
 
   pub read_is_fit : {v : TypeNode} (i : ℕ) → v ≡ read_at ws n i → node_fits ks c v ≡ true
   read_is_fit i e = ap (node_fits ks c) e ∙ read_fits i
-
-  -- what the code reads, put back, changes nothing
-  back_by : (t : Bool) (i : ℕ) → ltb i n ≡ t → put_at ws n i (read_at ws n i) ≡ ws
-  unfolding put_at read_at
-  back_by true i t =
-      let h : i < n = ltb-true i n t in
-      let r : node_words n ≤ length ws = cl.room in
-      let k : length (cell_words ws i) ≡ 12 = length-take-le 12 (drop (i * 12) ws) (simp length-drop (omega arith)) in
-      let s = says ks c (cell_in (cell_words ws i)) (sym (clean_words ws ks c i) ∙ cl.each i h) in
-      rw t (ap (λ (x : Cell). paste_at ws i (words_of x)) s.back ∙ (ap (paste_at ws i) (words_back (cell_words ws i) k) ∙ put_same (i * 12) 12 ws))
-  back_by false i t = rw t refl
-
-  pub put_read : (i : ℕ) → put_at ws n i (read_at ws n i) ≡ ws
-  put_read i = back_by (ltb i n) i refl
 
 -- push: a put past the last appends
 module _ (ws : List ℕ) (n : ℕ) (room : node_words (n + 1) ≤ length ws) (v : TypeNode) (ks : List ℕ) (c : ℕ) (fits : node_fits ks c v ≡ true) where

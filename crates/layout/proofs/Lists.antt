@@ -8,7 +8,7 @@ use Prim.Native.Nat.{ℕ, zero, suc, ◌+◌, ◌-◌, ◌<◌, ◌≤◌}
 use native.Mathlib.Omega.{arith}
 use native.Mathlib.Nat.{add-sub_cancel_left}
 use lib.ListN.{length, get_or, take, drop, take-append-drop, length-drop, drop_of_length-le}
-use lib.Seq.{sets, sets-eq, lt-length-sets, take_at, drop_at, take-append-le, drop-append-le, drop-drop, length-take-le}
+use lib.Seq.{sets, sets-eq, take_at, drop_at, take-append-le, drop-append-le, drop-drop, length-take-le}
 use borrow.Rule.Slice.PartMut.{mid_of, put_mid, drop_put, same_len_mid}
 use lib.Dec.{eqb, ltb}
 use borrow.Author.Tests.{eqb-true, eqb-false, ltb-true, ltb-false}
@@ -35,11 +35,6 @@ pub sets_all : (l vs : List ℕ) → length l ≡ length vs → sets l 0 vs ≡ 
 sets_all l vs h =
     let z : drop (0 + length vs) l ≡ [] = drop_of_length-le l {i = 0 + length vs} (omega arith) in
     sets-eq vs l 0 (omega arith) ∙ rw z (append-nil vs)
-
--- place k of the part from a to e, which is n words long, after the words before it were stored
-pub place_in : (a e n : ℕ) (xs vs : List ℕ) (k : ℕ) → e - a ≡ length (take (e - a) (drop a xs)) → e - a ≡ n → ltb k n ≡ true
-    → k < length (sets (take (e - a) (drop a xs)) 0 (take k vs))
-place_in a e n xs vs k p q h = let b : k < n = ltb-true k n h in lt-length-sets (take (e - a) (drop a xs)) 0 (take k vs) (omega arith)
 
 -- parts
 

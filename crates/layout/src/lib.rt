@@ -22,6 +22,7 @@ pub const CHILD_WORDS: usize = 4;
 pub const HALF: u64 = 4_294_967_296;
 
 // What a node is, in its first word.
+// Kept (1): a tag is a lent word, which may be any number; `node_at` gives the enum.
 pub const CHILD_TAG: u32 = 0;
 
 pub const UNKNOWN_TAG: u32 = 1;

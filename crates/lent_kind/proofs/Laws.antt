@@ -19,8 +19,9 @@ use Rattle.scope.specs.Nodes as nodes
 use Rattle.scope.specs.Sound.{names_clean}
 use Rattle.scope.specs.Refusals.{UNMAKEABLE, UNDEFINED}
 use Rattle.scope.specs.Calls.{first_broken, kind_made}
-use Rattle.names.specs.Place.{texts}
-use Rattle.chart.specs.Env.{chart_in, chart_alone}
+use Rattle.names.specs.Place.{texts_by}
+use Rattle.chart.specs.declared.Env as lent
+use Rattle.chart.specs.Env.{chart_in, chart_alone, chart_lent}
 use Rattle.layout.specs.Words.{CHILD_WORDS}
 use Rattle.layout.specs.Meaning.{kind_cell, kind_means, named_of}
 use Rattle.layout.specs.declared.Kind.{Kind}
@@ -88,15 +89,16 @@ module _ (k : KindArgs) (es : List ℕ) where
 
 -- test_kind
 
-module _ (cs rule text : List ℕ) (k : KindArgs) (es : List ℕ) where
+-- the flag does not look at the texts
+pub flag_is : (cs rule text : List ℕ) (k : KindArgs) (es : List ℕ) → flag_of (chart_alone cs) k.code k.number ≡ flag_of (chart_in cs rule text) k.code k.number
+flag_is cs rule text k es = flag_reads (chart_alone cs) (chart_in cs rule text) refl k.code k.number
+
+module _ (l : lent.Env) (k : KindArgs) (es : List ℕ) where
   abbrev env : Env
-  env = chart_in cs rule text
+  env = chart_lent l
 
   abbrev flag : Bool
-  flag = flag_of (chart_alone cs) k.code k.number
-
-  pub flag_is : flag ≡ flag_of env k.code k.number
-  flag_is = flag_reads (chart_alone cs) env refl k.code k.number
+  flag = flag_of (chart_alone l.chart.now) k.code k.number
 
   pub torn_refused : (length es % CHILD_WORDS ≡ 0 → ⊥) → first_broken (kind_tests env (given k es)) ≡ some UNMAKEABLE
   torn_refused z = untidy_test k es env [] (rw (ne_eqb (length es % CHILD_WORDS) 0 z))
@@ -113,24 +115,24 @@ module _ (cs rule text : List ℕ) (k : KindArgs) (es : List ℕ) where
 
     module _ {b : Bool} (q : b ≡ names_clean (kind_cell es kind)) (y : b ≡ true) where
       made_is : kind_made env (given k es) ≡ kind_means es kind
-      made_is = given_kind k es env flag flag_is (tidy_by q ∙ y) ∙ sym (ap (kind_means es) kind_is)
+      made_is = given_kind k es env flag (flag_is _ _ _ k es) (tidy_by q ∙ y) ∙ sym (ap (kind_means es) kind_is)
 
       width_is : length (given k es).kids ≡ kind.count
       width_is = given_count k es ∙ sym (ap (λ (y : Kind). y.count) kind_is)
 
-      module _ {m : Bool} (p : m ≡ makeable (texts rule text) (kind_means es kind).head kind.count) where
-        made_test : makeable (texts rule text) (kind_made env (given k es)).head (length (given k es).kids) ≡ m
+      module _ {m : Bool} (p : m ≡ makeable (texts_by l.texts) (kind_means es kind).head kind.count) where
+        made_test : makeable (texts_by l.texts) (kind_made env (given k es)).head (length (given k es).kids) ≡ m
         made_test =
-            ap (λ (y : nodes.Kind). makeable (texts rule text) y.head (length (given k es).kids)) made_is ∙ rw width_is (sym p)
+            ap (λ (y : nodes.Kind). makeable (texts_by l.texts) y.head (length (given k es).kids)) made_is ∙ rw width_is (sym p)
 
         pub unmade_refused : m ≡ false → first_broken (kind_tests env (given k es)) ≡ some UNMAKEABLE
         unmade_refused z = rw (made_test ∙ z)
 
-        module _ {d : Bool} (r : d ≡ defined (chart_alone cs) (kind_means [] kind).head) (o : m ≡ true) where
+        module _ {d : Bool} (r : d ≡ defined (chart_alone l.chart.now) (kind_means [] kind).head) (o : m ≡ true) where
           defined_test : first_broken (kind_tests env (given k es)) ≡ first_broken ((not d, UNDEFINED) ∷ [])
           defined_test =
               let v : defined env (kind_made env (given k es)).head ≡ d =
-              ap (λ (y : nodes.Kind). defined env y.head) made_is ∙ (defined_chart env cs refl es kind ∙ sym r) in
+              ap (λ (y : nodes.Kind). defined env y.head) made_is ∙ (defined_chart env l.chart.now refl es kind ∙ sym r) in
               rw (made_test ∙ o, v)
 
           pub undefined_refused : d ≡ false → first_broken (kind_tests env (given k es)) ≡ some UNDEFINED

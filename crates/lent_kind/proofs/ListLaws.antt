@@ -27,9 +27,6 @@ use Rattle.lent_kind.specs.Lent.{kind_lent, tidy, given, plain_args, bare_slot, 
 
 -- put_types
 
-pub listed_none : {ts es : List ℕ} → TypesPut ts 0 es
-listed_none = record { each = λ i h. absurd (omega arith) }
-
 module _ (ts : List ℕ) (i : ℕ) {es es' : List ℕ} {s : code.Slot} (o : TypesPut ts i es) (room : i * CHILD_WORDS + CHILD_WORDS ≤ length es)
     (is : slot_means s ≡ bare_slot (get_or ts i 0)) (q : es' ≡ put_slot es i s) where
   pub listed_more : TypesPut ts (i + 1) es'
@@ -37,9 +34,6 @@ module _ (ts : List ℕ) (i : ℕ) {es es' : List ℕ} {s : code.Slot} (o : Type
     each = below_more (λ j. slot_at (put_slot es i s) j ≡ bare_slot (get_or ts j 0)) i
         (λ j h. slot_there es i s room j (λ z. omega arith) ∙ o.each j h) (slot_here es i s room ∙ is);
   })
-
-pub listed_end : {ts es : List ℕ} {i n : ℕ} → TypesPut ts i es → i ≡ n → TypesPut ts n es
-listed_end o e = rw e at o
 
 -- a list by its places
 map_get : {A : Type 0} (f : ℕ → A) (l : List ℕ) → map (λ i. f (get_or l i 0)) (from 0 (length l)) ≡ map f l

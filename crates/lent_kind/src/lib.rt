@@ -53,9 +53,7 @@ pub fn test_kind(env: &Env<'_>, k: KindArgs, entries: &[u32]) -> Result<(), Refu
     }
     let count = (entries.len() / CHILD_WORDS) as u32;
     let kind = make::kind_of(flagged(k, env.chart), 0, count);
-    if !clean::names_clean(entries, kind)
-        || !kind_sound::can_be_made(kind, entries, env.texts.rule, env.texts.chart)
-    {
+    if !clean::names_clean(entries, kind) || !kind_sound::can_be_made(kind, entries, &env.texts) {
         return Err(Refusal::Unmakeable);
     }
     if !kind_sound::is_defined(kind, env.chart) {

@@ -1,7 +1,7 @@
 -- One law for each way out of the tests of arguments. Two lists are tested one after the other where scope tests both at once; a test of either has the same
 -- number, so the first that breaks is the same. Tests that a call lacks are passed.
 -- Assumes nothing.
-use mathlib.Core.Path.{◌≡◌, refl, ap, sym, ◌∙◌, subst}
+use mathlib.Core.Path.{◌≡◌, refl, ap, sym, ◌∙◌}
 use mathlib.Core.Bool.{Bool, true, false, not, ◌&&◌, ◌||◌, and-true, and-false, and_assoc, or-true, or-false, false≢true}
 use mathlib.Core.List.{List, [], ◌∷◌, ◌++◌}
 use mathlib.Core.Option.{Option, none, some}
@@ -30,7 +30,7 @@ use Rattle.kind_sound.proofs.NameLaws.{length_names, names_test, child_names_lem
 use Rattle.store.specs.Entries.{entry_count, entry_names, entry_types}
 use Rattle.store.proofs.EntryLaws.{entries_long}
 use Rattle.refusals.proofs.Laws.{broken_first, broken_next}
-use Rattle.lent_tests.specs.Given.{pair_tests, list_tests, sig_tests, object_tests, impls_tests, one_impl_tests, entries_in, object_of, FirstOf}
+use Rattle.lent_tests.specs.Given.{three_tests, pair_tests, list_tests, sig_tests, object_tests, impls_tests, one_impl_tests, entries_in, object_of, FirstOf}
 
 -- tests of two things each, in 01's order
 
@@ -41,7 +41,12 @@ row a b v w p q = first_broken ((not (a && b), OUTSIDE) ∷ (v || w, UNMAKEABLE)
 pub record Row (ts : Store → List (Bool × ℕ)) (A B : List Node → Bool) (v w p q : Bool) : Type 0 where
   pub is : (s : Store) → first_broken (ts s) ≡ row (A s.nodes) (B s.nodes) v w p q
 
--- What the code's tests answered, in its order. i and j say A and B of the nodes, k and l say v and w, g and h say p and q
+-- o, m and d say whether 3, 4 and 5 stand, as the code has them
+pub row_told : {n : ℕ} {ts : Store → List (Bool × ℕ)} {A B : List Node → Bool} {v w p q : Bool} → Row ts A B v w p q → {o m d : Bool} {r : Option ℕ}
+    → ((ns : List Node) → length ns ≡ n → o ≡ not (A ns && B ns)) → m ≡ (v || w) → d ≡ not (p && q) → first_broken (three_tests o m d) ≡ r → FirstOf n ts r
+row_told f eo em ed e = record { code = λ s l. f.is s ∙ rw (← eo s.nodes l, ← em, ← ed) e }
+
+-- What the code's tests answered, in its order. i and j say A and B of the nodes, k and l say v and w
 module _ {n : ℕ} {ts : Store → List (Bool × ℕ)} {A B : List Node → Bool} {v w p q : Bool} (f : Row ts A B v w p q)
     {i : Bool} (ei : (ns : List Node) → length ns ≡ n → i ≡ A ns) where
   pub row_first : i ≡ false → FirstOf n ts (some OUTSIDE)
@@ -58,7 +63,7 @@ module _ {n : ℕ} {ts : Store → List (Bool × ℕ)} {A B : List Node → Bool
     row_second z = record { code = λ s m. row_on s m false z }
 
     module _ (tj : j ≡ true) where
-      pub row_inside : {o : Option ℕ} → row true true v w p q ≡ o → FirstOf n ts o
+      row_inside : {o : Option ℕ} → row true true v w p q ≡ o → FirstOf n ts o
       row_inside z = record { code = λ s m. row_on s m true tj ∙ z }
 
       module _ {k : Bool} (ek : k ≡ v) where
@@ -71,13 +76,6 @@ module _ {n : ℕ} {ts : Store → List (Bool × ℕ)} {A B : List Node → Bool
 
           pub row_made : l ≡ false → p ≡ true → q ≡ true → FirstOf n ts none
           row_made z tp tq = row_inside (rw (← ek, fk, ← el, z, tp, tq) refl)
-
-          module _ (fl : l ≡ false) {g : Bool} (eg : g ≡ p) where
-            pub row_absent : g ≡ false → FirstOf n ts (some UNDEFINED)
-            row_absent z = row_inside (rw (← ek, fk, ← el, fl, ← eg, z) refl)
-
-            pub row_defined : g ≡ true → q ≡ true → FirstOf n ts none
-            row_defined z tq = row_inside (rw (← ek, fk, ← el, fl, ← eg, z, tq) refl)
 
 -- the tests of each call as such a row
 
@@ -154,13 +152,6 @@ module _ (e : Env) (a b : ImplType) {n : ℕ} where
         ∙ (sooner_row (all i (impl_types a)) (all i (impl_types b)) (too_many (impl_types a)) (too_many (impl_types b)) (impl_defined e a) (impl_defined e b)
         ∙ (λ k. sooner ((sym ((one_row e a).is s) ∙ f.code s m) k) ((sym ((one_row e b).is s) ∙ g.code s m) k)));
   }
-
-  module _ {m k : ℕ} (f : FirstOf n (one_impl_tests e a) (some m)) (g : FirstOf n (one_impl_tests e b) (some k)) where
-    pub second_sooner : k < m → FirstOf n (impls_tests e a b) (some k)
-    second_sooner l = subst (λ (t : Bool). FirstOf n (impls_tests e a b) (some (pick t k m))) (lt-ltb k m l) (both f g)
-
-    pub first_sooner : m ≤ k → FirstOf n (impls_tests e a b) (some m)
-    first_sooner l = subst (λ (t : Bool). FirstOf n (impls_tests e a b) (some (pick t k m))) (le-ltb k m l) (both f g)
 
 -- two signatures: returns first, then parameters
 

@@ -7,12 +7,16 @@ use Rattle.scope.specs.Types.{Ty}
 use Rattle.scope.specs.Kinds.{OBJECT}
 use Rattle.scope.specs.Nodes.{Store}
 use Rattle.scope.specs.Unify.{ImplType}
-use Rattle.scope.specs.Refusals.{UNMAKEABLE}
+use Rattle.scope.specs.Refusals.{OUTSIDE, UNMAKEABLE, UNDEFINED}
 use Rattle.scope.specs.Calls.{first_broken, outside, too_many, Entries, bad_entries, impl_tests}
 use Rattle.names.specs.Place.{no_name}
 use Rattle.layout.specs.Words.{CHILD_WORDS}
 use Rattle.layout.specs.declared.Kind.{Kind}
 use Rattle.store.specs.Entries.{entry_names, entry_types}
+
+-- 3, 4 and 5, by whether each stands
+abbrev pub three_tests : Bool → Bool → Bool → List (Bool × ℕ)
+three_tests o m d = (o, OUTSIDE) ∷ (m, UNMAKEABLE) ∷ (d, UNDEFINED) ∷ []
 
 -- two types
 unfoldable pub pair_tests : Ty → Ty → Store → List (Bool × ℕ)

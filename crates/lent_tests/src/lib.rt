@@ -3,11 +3,11 @@
 // may be lent.
 ghost use Rattle.std.specs.Prelude.{◌≡◌, []};
 ghost use Rattle.scope.specs.Types.{ty_of};
-ghost use Rattle.scope.specs.Calls.{too_many, bad_entries};
+ghost use Rattle.scope.specs.Calls.{first_broken, too_many, bad_entries};
 ghost use Rattle.types.specs.Impls.{impl_means};
 ghost use Rattle.chart.specs.Env.{texts_lent, chart_alone};
 ghost use Rattle.store.specs.Entries.{types_in};
-ghost use Rattle.lent_tests.specs.Given.{pair_tests, list_tests, sig_tests, object_tests, impls_tests, one_impl_tests, entries_in, FirstOf};
+ghost use Rattle.lent_tests.specs.Given.{three_tests, pair_tests, list_tests, sig_tests, object_tests, impls_tests, one_impl_tests, entries_in, FirstOf};
 ghost use Rattle.refusals.specs.Codes.{told};
 
 use chart::Env;
@@ -18,14 +18,28 @@ use refusals::Refusal;
 use scope::MAX_LIST;
 use types::{Impl, Type};
 
+// The first of refusals 3, 4 and 5 that stands.
+fn first(outside: bool, unmakeable: bool, undefined: bool) -> Result<(), Refusal>
+    ensures { first_broken (three_tests outside unmakeable undefined) ≡ told result }
+{
+    if outside {
+        return Err(Refusal::Outside);
+    }
+    if unmakeable {
+        return Err(Refusal::Unmakeable);
+    }
+    if undefined {
+        return Err(Refusal::Undefined);
+    }
+    Ok(())
+}
+
 // Two types among n nodes.
 pub fn pair(a: Type, b: Type, n: u32) -> Result<(), Refusal>
     ensures { FirstOf n (pair_tests (ty_of a.0) (ty_of b.0)) (told result) }
 {
-    if !refusals::type_inside(a, n) || !refusals::type_inside(b, n) {
-        return Err(Refusal::Outside);
-    }
-    Ok(())
+    let outside = !refusals::type_inside(a, n) || !refusals::type_inside(b, n);
+    first(outside, false, false)
 }
 
 // "over 255 listed types or parameters"
@@ -39,13 +53,9 @@ pub fn too_many(xs: &[u32]) -> bool
 pub fn lists(xs: &[u32], ys: &[u32], n: u32) -> Result<(), Refusal>
     ensures { FirstOf n (list_tests (types_in xs.now) (types_in ys.now)) (told result) }
 {
-    if !refusals::types_inside(xs, n) || !refusals::types_inside(ys, n) {
-        return Err(Refusal::Outside);
-    }
-    if too_many(xs) || too_many(ys) {
-        return Err(Refusal::Unmakeable);
-    }
-    Ok(())
+    let outside = !refusals::types_inside(xs, n) || !refusals::types_inside(ys, n);
+    let unmakeable = too_many(xs) || too_many(ys);
+    first(outside, unmakeable, false)
 }
 
 // Two signatures: their parameters, and a return each.
@@ -74,7 +84,7 @@ fn bad_entries(xs: &[u32], env: &Env<'_>) -> bool
         first: 0,
         count: width,
     };
-    !kind_sound::names_fit(object, xs, env.texts.rule, env.texts.chart)
+    !kind_sound::names_fit(object, xs, &env.texts)
 }
 
 // Two objects, by their entries.
@@ -82,13 +92,9 @@ pub fn objects(xs: &[u32], ys: &[u32], n: u32, env: &Env<'_>) -> Result<(), Refu
     ensures { FirstOf n
         (object_tests (texts_lent env.now) (entries_in xs.now) (entries_in ys.now)) (told result) }
 {
-    if !refusals::entries_inside(xs, n) || !refusals::entries_inside(ys, n) {
-        return Err(Refusal::Outside);
-    }
-    if bad_entries(xs, env) || bad_entries(ys, env) {
-        return Err(Refusal::Unmakeable);
-    }
-    Ok(())
+    let outside = !refusals::entries_inside(xs, n) || !refusals::entries_inside(ys, n);
+    let unmakeable = bad_entries(xs, env) || bad_entries(ys, env);
+    first(outside, unmakeable, false)
 }
 
 // One impl type. The list beside an error is not read. "a definition is absent or of another sort": a trait's record stands at its number.
@@ -96,18 +102,11 @@ pub fn one_impl(a: Impl, xs: &[u32], n: u32, env: &Env<'_>) -> Result<(), Refusa
     ensures { FirstOf n (one_impl_tests (chart_alone env.now.chart.now) (impl_means a xs.now)) (told result) }
 {
     match a {
-        Impl::Trait(i) => {
-            if !refusals::types_inside(xs, n) {
-                return Err(Refusal::Outside);
-            }
-            if too_many(xs) {
-                return Err(Refusal::Unmakeable);
-            }
-            if !chart::is_trait(env.chart, i) {
-                return Err(Refusal::Undefined);
-            }
-            Ok(())
-        }
+        Impl::Trait(i) => first(
+            !refusals::types_inside(xs, n),
+            too_many(xs),
+            !chart::is_trait(env.chart, i),
+        ),
         Impl::Error => Ok(()),
     }
 }
@@ -118,7 +117,7 @@ pub fn impls(a: Impl, xs: &[u32], b: Impl, ys: &[u32], n: u32, env: &Env<'_>) ->
         (impls_tests (chart_alone env.now.chart.now) (impl_means a xs.now) (impl_means b ys.now)) (told result) }
 {
     match (one_impl(a, xs, n, env), one_impl(b, ys, n, env)) {
-        (Err(r), Err(q)) => Err(if u32::from(q) < u32::from(r) { q } else { r }),
+        (Err(r), Err(q)) => Err(r.min(q)),
         (Err(r), _) => Err(r),
         (Ok(()), second) => second,
     }

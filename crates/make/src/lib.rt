@@ -150,6 +150,7 @@ pub fn remember(h: &mut [u32], error: Option<Type>, nil: Option<Type>)
 }
 
 // The error type: the one remembered, or that of one node more.
+// Kept (2): one function for this and `nil_once` is no plainer: it would be lent what is remembered, the code and a closure that writes the word, which is all that either says.
 pub fn error_once(h: &mut [u32], ws: &mut [u32]) -> Type
     requires { OnceReady h.old ws.old (header_in h.old) (header_in h.old).error }
     ensures { OnceMade h.old ws.old h.new ws.new (header_in h.old) (header_in h.old).error
@@ -180,6 +181,7 @@ pub fn nil_once(h: &mut [u32], ws: &mut [u32]) -> Type
 }
 
 // The error type.
+// Kept (2): as `error_once` and `nil_once`, whose promises these tell of a whole store.
 pub fn error(h: &mut [u32], ws: &mut [u32], ks: &[u32]) -> Type
     requires { Ready h.old ws.old ks.now (nodes_for (store_in h.old ws.old ks.now).error) 0 }
     ensures { MadeIs h.old ws.old ks.now h.new ws.new ks.now result

@@ -21,6 +21,7 @@ const MARKS: usize = 3;
 pub const HEAD: usize = MARKS + MAX_NODES / BITS;
 
 // What a byte beside a walk says of a node that has a mark.
+// Kept (1): the walk is `find_related`'s, whose bytes C lends and reads: "1 is written for each root added".
 const OLD: u8 = 2;
 
 // Past the end there is 0.

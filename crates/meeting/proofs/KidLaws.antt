@@ -53,12 +53,6 @@ seek_rest x ks m b count j = seek x (bytes x m) (names_from ks (b + j) (count - 
 pub record Seeking (x : Texts) (ks : List ℕ) (m : Name) (b count j : ℕ) : Type 0 where
   pub rest : seek_rest x ks m b count j ≡ sought_in x ks m b count
 
-pub seek_start : {x : Texts} {ks : List ℕ} {m : Name} {b count : ℕ} → Seeking x ks m b count 0
-seek_start {x} {ks} {m} {b} {count} =
-    let z : count - 0 ≡ count = omega arith in
-    let p : b + 0 ≡ b = omega arith in
-    record { rest = rw (z, p) refl }
-
 module _ {x : Texts} {ks : List ℕ} {m : Name} {b count j : ℕ} (w : Seeking x ks m b count j) where
   pub seek_over : count ≤ j → none ≡ sought_in x ks m b count
   unfolding seek
@@ -161,9 +155,6 @@ seek_none x ks n b (suc c) h =
 
 -- `seek_between`: names below low come before the name sought, names from high on behind it
 
-pub between_start : {x : Texts} {ks : List ℕ} {m : Name} {b count at : ℕ} → Middle 0 count at → Between x ks m b count 0 count at
-between_start l = record { top = omega arith; look = l; under = λ j h k. absurd (omega arith); over = λ j h k. absurd (omega arith) }
-
 module _ {x : Texts} {ks : List ℕ} {m : Name} {b count low high at : ℕ} (w : Between x ks m b count low high at) where
   pub between_over : high ≤ low → none ≡ sought_in x ks m b count
   between_over h = sym (seek_none x ks (bytes x m) b count apart)
@@ -228,6 +219,3 @@ last_kid ks a (suc zero) h = let e : a + (suc zero - 1) ≡ a = omega arith in r
 last_kid ks a (suc (suc n)) h =
     let e : suc a + (suc n - 1) ≡ a + (suc (suc n) - 1) = omega arith in
     rw (last_kid ks (suc a) (suc n) (omega arith), e) refl
-
-pub no_kid : (ks : List ℕ) (a n : ℕ) → n ≡ 0 → last (kids_from ks a n) ≡ []
-no_kid ks a n e = rw e refl

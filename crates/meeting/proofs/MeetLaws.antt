@@ -10,7 +10,7 @@ use Prim.Native.Nat.{ℕ, zero, suc, ◌+◌, ◌<◌, ◌≤◌}
 use native.Mathlib.Omega.{arith}
 use lib.Dec.{eqb}
 use lib.ListN.{length}
-use borrow.Author.Tests.{eq-eqb, ne_eqb, leb-true}
+use borrow.Author.Tests.{eq-eqb, ne_eqb, false-eqb, leb-true}
 use Rattle.std.specs.Bool.{then_some}
 use Rattle.scope.specs.Base.{pick, xor}
 use Rattle.scope.specs.Limits.{MAX_CHILDREN}
@@ -29,10 +29,9 @@ use Rattle.scope.proofs.PlanLaws.{plan_left, plan_right}
 use Rattle.scope.proofs.ImportKept.{sound_kids}
 use Rattle.scope.proofs.Walks.{sound_walkable}
 use Rattle.types.specs.Answers.{answer_of}
-use Rattle.types.specs.declared.«Type».{«Type»}
 use Rattle.types.specs.declared.Inverted.{Inverted}
 use Rattle.types.specs.declared.UnifyResult.{UnifyResult}
-use Rattle.types.specs.declared.UnifyResult.TheVariants.{Success, Failure}
+use Rattle.types.specs.declared.UnifyResult.TheVariants.{Failure}
 use Rattle.layout.specs.Words.{child_words, decode}
 use Rattle.layout.specs.Meaning.{read_at, kind_means, node_means, kind_fits, held_by, held_in}
 use Rattle.layout.specs.declared.Kind.{Kind}
@@ -52,7 +51,7 @@ use Rattle.plan.proofs.Laws.{object_names}
 use Rattle.walk.specs.Asks.{Walks}
 use Rattle.meeting.specs.Asks.{SoundWords, Pair, Tops}
 use Rattle.meeting.specs.Steps.{Ascends}
-use Rattle.meeting.specs.Meets.{does, walks, walked_by, Met, OneNode, Bare, WalkedTo, bare_states, bare_nodes, bare_roots}
+use Rattle.meeting.specs.Meets.{does, walks, walked_by, Met, OneNode, Bare, bare_states, bare_nodes, bare_roots}
 use Rattle.meeting.specs.Meets.{Walked}
 use Rattle.meeting.proofs.StepLaws.{plan_spans, plan_ready, object_ascends}
 
@@ -88,10 +87,6 @@ abbrev bind_if : List Node → Ty → Ty → Bool → Out
 bind_if ns a b t = pick t (out ns answers.Failure) (out (bound ns a b) answers.Success)
 
 module _ {ws ks : List ℕ} {n : ℕ} {a b : Ty} where
-  pub same_agrees : {i j v : Bool} → i ≡ a.inv → j ≡ b.inv → v ≡ xor i j → v ≡ false → OneNode ws ks n a b Success
-  same_agrees e f g h =
-      record { is = ap (λ (t : Bool). of_bool (not t || self_inverse_at false n (decode ws ks n) a.idx)) (crossed_by a b e f g ∙ h) }
-
   pub same_crossed : {i j v s : Bool} {r : UnifyResult} → is_root (at (decode ws ks n) a.idx) ≡ true → i ≡ a.inv → j ≡ b.inv → v ≡ xor i j → v ≡ true
       → s ≡ self_inverse_of (decode ws ks n) a false → answer_of r ≡ of_bool s → OneNode ws ks n a b r
   unfolding self_inverse_of find
@@ -137,14 +132,6 @@ module _ {ws ks : List ℕ} {n : ℕ} {a b : Ty} where
       let k : kids_of (nodes.state_of (at ns a.idx)) ≡ [] =
       subst (λ (j : ℕ). kids_of (nodes.state_of (at ns j)) ≡ []) e (held_kids_lem ws ks p.words.children n p.words.clean i u v) in
       bare_by false None (rw (o, occurs_back n ns a.idx b.idx (omega (arith, p.first)) o k) refl) refl
-
-  -- `walk_roots`
-
-  pub walked_same : {i j : ℕ} {q : UnifyResult} → i ≡ a.idx → j ≡ b.idx → i ≡ j → OneNode ws ks n a b q → WalkedTo ws ks n a b (Some q)
-  walked_same e f g s = record { same = rw (eq-eqb a.idx b.idx (sym e ∙ (g ∙ f))) (ap (out (decode ws ks n)) s.is) }
-
-  pub walked_bare : {i j : ℕ} {m : Walked} → i ≡ a.idx → j ≡ b.idx → (i ≡ j → ⊥) → Bare ws ks n a b m → WalkedTo ws ks n a b m
-  walked_bare e f g o = record { same = rw (ne_eqb a.idx b.idx (λ q. g (e ∙ (q ∙ sym f)))) o.same }
 
 -- `meet`
 
@@ -198,26 +185,29 @@ module _ {x : Texts} {ws ks : List ℕ} {n : ℕ} {a b : Ty} (pre : Tops x ws ks
         let l = subst (λ (ms : List (Option Name)). ascending (map (bytes_or r.env.texts) ms) ≡ true) (object_names ks k c) g in
         record { names = subst (λ (y : Texts). ascending (map (bytes_or y) (names_from ks k.first k.count)) ≡ true) r.lent l }
 
-  pub met_same : {i j : ℕ} → i ≡ a.idx → j ≡ b.idx → i ≡ j → Met x ws ks n a b None
+  pub met_same : {i j : ℕ} → i ≡ a.idx → j ≡ b.idx → true ≡ eqb i j → Met x ws ks n a b None
   unfolding meet
   met_same e f g = record {
-    same = λ u. rw (eq-eqb a.idx b.idx (sym e ∙ (g ∙ f))) refl;
+    same = λ u. rw (← e, ← f, ← g) refl;
     inside = λ p m. elim m [ ];
     left = λ p m. elim m [ ];
     ready = tt;
     kinds = tt;
   }
 
-  module _ {i j : ℕ} (e : i ≡ a.idx) (f : j ≡ b.idx) (g : i ≡ j → ⊥) where
+  module _ {i j : ℕ} (e : i ≡ a.idx) (f : j ≡ b.idx) (g : false ≡ eqb i j) where
+    two : false ≡ eqb a.idx b.idx
+    two = rw (← e, ← f) g
+
     abbrev meets : (List Node → Ty → Ty → Out) → Option (Bool × nodes.Kind) → Option (Bool × nodes.Kind) → Out
     meets u k m = meet_kinds u x n ns a b k m
 
     apart : (u : List Node → Ty → Ty → Out) → meet u x n ns a b ≡ meets u (kind_in ns a) (kind_in ns b)
     unfolding meet
-    apart u = rw (ne_eqb a.idx b.idx (λ q. g (e ∙ (q ∙ sym f)))) refl
+    apart u = rw (← two) refl
 
     walks_apart : walks n ns a b ≡ bind n ns a b
-    walks_apart = rw (ne_eqb a.idx b.idx (λ q. g (e ∙ (q ∙ sym f)))) refl
+    walks_apart = rw (← two) refl
 
     bare_met : ((u : List Node → Ty → Ty → Out) → meets u (kind_in ns a) (kind_in ns b) ≡ bind n ns a b) → Met x ws ks n a b None
     bare_met h = record {
@@ -260,7 +250,7 @@ module _ {x : Texts} {ws ks : List ℕ} {n : ℕ} {a b : Ty} (pre : Tops x ws ks
           plan_ready k m x ks p pl.over (kind_lies a e eh ek refl) (kind_lies b f eg em refl) (kind_ascends b f eg em refl),
         );
         kinds = record {
-          apart = λ q. g (e ∙ (q ∙ sym f));
+          apart = false-eqb a.idx b.idx two;
           seen = (xor c.0 a.inv, kind_means ks k);
           other = (xor d.0 b.inv, kind_means ks m);
           first = kind_read a e eh ek;
@@ -268,48 +258,6 @@ module _ {x : Texts} {ws ks : List ℕ} {n : ℕ} {a b : Ty} (pre : Tops x ws ks
           plan = planned;
         };
       }
-
--- `bare_roots`
-
-module _ (ws : List ℕ) (n : ℕ) (a b : ℕ) {i j : ℕ} (e : i ≡ a) (f : j ≡ b) where
-  pub bare_one : i ≡ j → false ≡ bare_roots ws n a b
-  bare_one g = rw (eq-eqb a b (sym e ∙ (g ∙ f))) refl
-
-  module _ (g : i ≡ j → ⊥) {u : TypeNode} (eu : u ≡ read_at ws n i) where
-    bare_is : {w : TypeNode} → u ≡ w → bare_nodes false w (read_at ws n b) ≡ bare_roots ws n a b
-    bare_is h =
-        let q : read_at ws n a ≡ _ = ap (read_at ws n) (sym e) ∙ (sym eu ∙ h) in
-        rw (ne_eqb a b (λ q. g (e ∙ (q ∙ sym f))), q) refl
-
-    pub bare_child : {t : «Type»} → u ≡ Child t → false ≡ bare_roots ws n a b
-    bare_child h = bare_is h
-
-    module _ {s : TypeState} {y : ℕ} (h : u ≡ Root s y) {v : TypeNode} (ev : v ≡ read_at ws n j) where
-      bare_both : {w : TypeNode} → v ≡ w → bare_nodes false (Root s y) w ≡ bare_roots ws n a b
-      bare_both k = ap (bare_nodes false (Root s y)) (sym k ∙ (ev ∙ ap (read_at ws n) f)) ∙ bare_is h
-
-      pub bare_other : {t : «Type»} → v ≡ Child t → false ≡ bare_roots ws n a b
-      bare_other k = bare_both k
-
-      pub bare_states_lem : {t s' t' : TypeState} {z : ℕ} → v ≡ Root t z → s ≡ s' → t ≡ t' → bare_states s' t' ≡ bare_roots ws n a b
-      bare_states_lem {z = z} k p q = rw (← p, ← q) (bare_both k)
-
--- two states: both are known, or one is not
-
-pub both_known : {s t : TypeState} {i j : Inverted} {k m : Kind} → s ≡ Known i k → t ≡ Known j m → bare_states s t ≡ false
-both_known e f = rw (e, f)
-
-pub first_bare : (s t : TypeState) → ((i : Inverted) (k : Kind) → s ≡ Known i k → ⊥) → bare_states s t ≡ true
-first_bare (Known i k) t h = absurd (h i k refl)
-first_bare (Unknown p) t h = refl
-first_bare InferenceFailed t h = refl
-
-pub second_bare : (s t : TypeState) → ((i : Inverted) (k : Kind) → t ≡ Known i k → ⊥) → bare_states s t ≡ true
-second_bare (Known i k) (Known j m) h = absurd (h j m refl)
-second_bare (Known i k) (Unknown p) h = refl
-second_bare (Known i k) InferenceFailed h = refl
-second_bare (Unknown p) t h = refl
-second_bare InferenceFailed t h = refl
 
 -- what it is that two roots are so
 
@@ -353,9 +301,6 @@ module _ {x : Texts} {ws ks : List ℕ} {n : ℕ} {a b : Ty} (p : Pair x ws ks n
   pub bare_meets : Met x ws ks n a b None
   bare_meets = go facts.none
     where
-      two : a.idx ≡ b.idx → ⊥
-      two q = false≢true (sym facts.apart ∙ eq-eqb a.idx b.idx q)
-
       go : (held_in (read_at ws n a.idx) ≡ None) ⊎ (held_in (read_at ws n b.idx) ≡ None) → Met x ws ks n a b None
-      go (inl h) = met_bare_first bare_tops refl refl two refl h
-      go (inr h) = met_bare_second bare_tops refl refl two refl h
+      go (inl h) = met_bare_first bare_tops refl refl (sym facts.apart) refl h
+      go (inr h) = met_bare_second bare_tops refl refl (sym facts.apart) refl h

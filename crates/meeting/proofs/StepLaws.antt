@@ -28,8 +28,7 @@ use Rattle.plan.specs.declared.Runs.{Runs}
 use Rattle.plan.specs.declared.Plan.{Plan}
 use Rattle.plan.specs.declared.Plan.TheVariants as plans
 use Rattle.meeting.specs.Steps.{Spans, RunsLie, Ascends, PlanSpans, PlanReady, Stepped, Returns}
-use Rattle.meeting.specs.declared.Steps.{Steps}
-use Rattle.meeting.specs.declared.Steps.TheVariants.{Answer, Run, Object}
+use Rattle.meeting.specs.declared.Steps.TheVariants.{Answer, Run}
 use Rattle.meeting.proofs.KidLaws.{kid_length, kid_ty, front_kids, last_kid}
 
 -- two runs of children
@@ -147,18 +146,6 @@ module _ {p : Plan} where
   pub stepped_answer : {r : UnifyResult} → p ≡ plans.Answer r → Stepped p (Answer r)
   unfolding plan_means
   stepped_answer e = record { same = λ ks x. rw e refl; ready = λ ks x d. tt }
-
-  pub stepped_run : {s : Runs} → p ≡ plans.Run s → Stepped p (Run code.Success s)
-  stepped_run e = record { same = λ ks x. ap (plan_means ks x) (sym e); ready = λ ks x d. subst (PlanReady x ks) e d }
-
-  pub stepped_object : {s : Runs} → p ≡ plans.Object s → Stepped p (Object s)
-  stepped_object e = record { same = λ ks x. ap (plan_means ks x) (sym e); ready = λ ks x d. subst (PlanReady x ks) e d }
-
-  pub stepped_signature : {s : Runs} {f : Steps} → p ≡ plans.Signature s → Stepped (plans.Signature s) f → Stepped p f
-  stepped_signature {f = f} e d = subst (λ (q : Plan). Stepped q f) (sym e) d
-
-  pub signature_spans : {s : Runs} → p ≡ plans.Signature s → PlanSpans p → Spans s
-  signature_spans e d = subst PlanSpans e d
 
 -- what a plan over two kinds' children has from the kinds
 

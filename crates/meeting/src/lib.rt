@@ -2,7 +2,7 @@
 // What two roots ask for, and what is read of their children on the way. Nothing here changes a word.
 ghost use Rattle.std.specs.Prelude.{◌≡◌, ◌+◌, ◌≤◌, length};
 ghost use Rattle.scope.specs.Types.{ty_of};
-ghost use Rattle.names.specs.Place.{texts, name_of};
+ghost use Rattle.names.specs.Place.{name_of, texts_by};
 ghost use Rattle.layout.specs.Words.{node_words, child_words, slot_at};
 ghost use Rattle.meeting.specs.Asks.{Tops, Roots};
 ghost use Rattle.meeting.specs.Meets.{OneNode, Bare, WalkedTo, bare_roots, Met};
@@ -11,7 +11,7 @@ ghost use Rattle.meeting.specs.Steps.{Ascends, Spans, PlanSpans, Stepped, Lasts,
 ghost use Rattle.meeting.specs.Kids.{slot_place, sought_means, sought_in, Middle, Between};
 
 use layout::{TypeNode, TypeState};
-use names::Name;
+use names::{Name, Texts};
 use plan::{Plan, Runs};
 use types::{Type, UnifyResult};
 
@@ -52,9 +52,7 @@ pub fn walk_roots(ws: &[u32], ks: &[u32], n: u32, a: Type, b: Type) -> Option<Un
     requires { Roots ws.now ks.now n (ty_of a.0) (ty_of b.0) }
     ensures { WalkedTo ws.now ks.now n (ty_of a.0) (ty_of b.0) result }
 {
-    let ia = a.idx();
-    let ib = b.idx();
-    if ia.0 == ib.0 {
+    if a.idx() == b.idx() {
         Some(same_node(ws, ks, n, a, b))
     } else {
         without_kind(ws, ks, n, a, b)
@@ -68,40 +66,32 @@ pub fn bare_roots(ws: &[u32], n: u32, a: Type, b: Type) -> bool
 {
     let ia = a.idx();
     let ib = b.idx();
-    if ia.0 == ib.0 {
+    if ia == ib {
         return false;
     }
-    let TypeNode::Root { state: s, size: _ } = layout::node_at(ws, n, ia) else {
-        return false;
-    };
-    let TypeNode::Root { state: t, size: _ } = layout::node_at(ws, n, ib) else {
-        return false;
-    };
-    !matches!((s, t), (TypeState::Known(_, _), TypeState::Known(_, _)))
+    match (layout::node_at(ws, n, ia), layout::node_at(ws, n, ib)) {
+        (TypeNode::Root { state: s, .. }, TypeNode::Root { state: t, .. }) => match (s, t) {
+            (TypeState::Known(_, _), TypeState::Known(_, _)) => false,
+            _ => true,
+        },
+        _ => false,
+    }
 }
 
 // Two roots, and nothing is changed.
-pub fn meet<'a>(
-    ws: &[u32],
-    ks: &[u32],
-    n: u32,
-    rule: &'a [u8],
-    text: &'a [u8],
-    a: Type,
-    b: Type,
-) -> Option<Plan>
-    requires { Tops (texts rule.now text.now) ws.now ks.now n (ty_of a.0) (ty_of b.0) }
-    ensures { Met (texts rule.now text.now) ws.now ks.now n (ty_of a.0) (ty_of b.0) result }
+pub fn meet(ws: &[u32], ks: &[u32], n: u32, texts: &Texts<'_>, a: Type, b: Type) -> Option<Plan>
+    requires { Tops (texts_by texts.now) ws.now ks.now n (ty_of a.0) (ty_of b.0) }
+    ensures { Met (texts_by texts.now) ws.now ks.now n (ty_of a.0) (ty_of b.0) result }
 {
     let ia = a.idx();
     let ib = b.idx();
-    if ia.0 == ib.0 {
+    if ia == ib {
         return None;
     }
     let (i, k) = layout::held_at(ws, n, ia)?;
     let (j, m) = layout::held_at(ws, n, ib)?;
     let inv = i ^ a.inv() ^ (j ^ b.inv());
-    Some(plan::plan_of(k, m, inv, rule, text))
+    Some(plan::plan_of(k, m, inv, texts))
 }
 
 // A child of a run that lies in the slice.
@@ -126,19 +116,12 @@ pub fn kid_name(ks: &[u32], a: u32, i: u32) -> Name
 }
 
 // The type beside a name among count children from b on.
-pub fn seek<'a>(
-    ks: &[u32],
-    name: Name,
-    b: u32,
-    count: u32,
-    rule: &'a [u8],
-    text: &'a [u8],
-) -> Option<Type>
+pub fn seek(ks: &[u32], name: Name, b: u32, count: u32, texts: &Texts<'_>) -> Option<Type>
     requires { child_words (b + count) ≤ length ks.now }
-    ensures { sought_means result ≡ sought_in (texts rule.now text.now) ks.now (name_of name) b count }
+    ensures { sought_means result ≡ sought_in (texts_by texts.now) ks.now (name_of name) b count }
 {
     for j in 0..count {
-        if names::same_name_by_pieces(name, kid_name(ks, b, j), rule, text) {
+        if names::same_name(name, kid_name(ks, b, j), texts) {
             return Some(kid(ks, b, j));
         }
     }
@@ -175,7 +158,8 @@ fn next_look(low: u32, high: u32, i: u32) -> u32
 
 // The type beside a name among count children from b on whose names ascend, where it stands between low and high, if anywhere: the child between them is looked at,
 // then the part before it or behind it. What calls itself is not inlined, and so a search stays out of the frames of whoever seeks.
-fn seek_between<'a>(
+// Kept (6): a search of the library goes over a slice and starts in its middle; children lie as words, four a child, and equal objects have the name in the i-th place.
+fn seek_between(
     ks: &[u32],
     name: Name,
     i: u32,
@@ -184,33 +168,21 @@ fn seek_between<'a>(
     low: u32,
     high: u32,
     at: u32,
-    rule: &'a [u8],
-    text: &'a [u8],
+    texts: &Texts<'_>,
 ) -> Option<Type>
-    requires { (child_words (b + count) ≤ length ks.now) × (Ascends (texts rule.now text.now) ks.now b count
-        × Between (texts rule.now text.now) ks.now (name_of name) b count low high at) }
-    ensures { sought_means result ≡ sought_in (texts rule.now text.now) ks.now (name_of name) b count }
+    requires { (child_words (b + count) ≤ length ks.now) × (Ascends (texts_by texts.now) ks.now b count
+        × Between (texts_by texts.now) ks.now (name_of name) b count low high at) }
+    ensures { sought_means result ≡ sought_in (texts_by texts.now) ks.now (name_of name) b count }
 {
     if low >= high {
         return None;
     }
     let other = kid_name(ks, b, at);
-    if names::same_name_by_pieces(name, other, rule, text) {
+    if names::same_name(name, other, texts) {
         return Some(kid(ks, b, at));
     }
-    if names::name_before(name, other, rule, text) {
-        return seek_between(
-            ks,
-            name,
-            i,
-            b,
-            count,
-            low,
-            at,
-            next_look(low, at, i),
-            rule,
-            text,
-        );
+    if names::name_before(name, other, texts) {
+        return seek_between(ks, name, i, b, count, low, at, next_look(low, at, i), texts);
     }
     seek_between(
         ks,
@@ -221,36 +193,23 @@ fn seek_between<'a>(
         at + 1,
         high,
         next_look(at + 1, high, i),
-        rule,
-        text,
+        texts,
     )
 }
 
 // The same where one may stand in the i-th place: that child is looked at first, then the one before it or behind it, then by halves.
-pub fn seek_near<'a>(
+pub fn seek_near(
     ks: &[u32],
     name: Name,
     i: u32,
     b: u32,
     count: u32,
-    rule: &'a [u8],
-    text: &'a [u8],
+    texts: &Texts<'_>,
 ) -> Option<Type>
-    requires { (child_words (b + count) ≤ length ks.now) × Ascends (texts rule.now text.now) ks.now b count }
-    ensures { sought_means result ≡ sought_in (texts rule.now text.now) ks.now (name_of name) b count }
+    requires { (child_words (b + count) ≤ length ks.now) × Ascends (texts_by texts.now) ks.now b count }
+    ensures { sought_means result ≡ sought_in (texts_by texts.now) ks.now (name_of name) b count }
 {
-    seek_between(
-        ks,
-        name,
-        i,
-        b,
-        count,
-        0,
-        count,
-        first_look(i, count),
-        rule,
-        text,
-    )
+    seek_between(ks, name, i, b, count, 0, count, first_look(i, count), texts)
 }
 
 // Two runs of a signature's returns alone, where both have one.

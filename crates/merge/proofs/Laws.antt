@@ -2,11 +2,10 @@
 -- what the callees ensure; each holds whatever the children's words are.
 -- Assumes nothing.
 use mathlib.Core.Path.{◌≡◌, refl, ap, ap₂, sym, ◌∙◌}
-use mathlib.Core.Bool.{Bool, true, false}
+use mathlib.Core.Bool.{Bool, true, false, false≢true}
 use mathlib.Core.List.{List}
 use mathlib.Core.Option.{none}
 use Prim.Native.Nat.{ℕ, ◌+◌, ◌<◌, ◌≤◌}
-use native.Mathlib.Omega.{arith}
 use lib.Dec.{ltb}
 use lib.ListN.{length, set}
 use borrow.Author.Tests.{lt-ltb, le-ltb}
@@ -16,16 +15,18 @@ use Rattle.scope.specs.Nodes as nodes
 use Rattle.scope.specs.Answers as answers
 use Rattle.scope.specs.Unify as scope
 use Rattle.scope.proofs.ViewLaws.{xor_twice, xor_comm}
-use Rattle.types.specs.Answers.{answer_of, is_success}
+use denote.Enum.Bare.{sameb}
+use Rattle.std.specs.Option.{is_some}
+use Rattle.types.specs.contracts.UnifyResult.{the_type}
 use Rattle.types.specs.declared.«Type».{«Type»}
 use Rattle.types.specs.declared.Inverted.{Inverted}
 use Rattle.types.specs.declared.UnifyResult.{UnifyResult}
 use Rattle.types.specs.declared.UnifyResult.TheVariants.{Success, Failure, Indeterminate}
 use Rattle.types.proofs.Laws.{inverted_eq}
 use Rattle.layout.specs.Words.{node_words, decode}
-use Rattle.layout.specs.Meaning.{read_at, put_at, held_by, held_in, state_means, state_fits, kind_means, node_means, node_fits, Clean}
+use Rattle.layout.specs.Meaning.{read_at, put_at, held_by, held_in, state_means, state_fits, kind_means, Clean}
 use Rattle.layout.specs.Meaning.{Held}
-use Rattle.std.specs.Prelude.{Some, None}
+use Rattle.std.specs.Prelude.{Some}
 use Rattle.layout.specs.declared.Kind.{Kind}
 use Rattle.layout.specs.declared.TypeState.{TypeState}
 use Rattle.layout.specs.declared.TypeState.TheVariants.{Known, Unknown, InferenceFailed}
@@ -151,14 +152,16 @@ xor_between true false r = refl
 xor_between true true false = refl
 xor_between true true true = refl
 
-keeps_own : (i : Bool) (st sb : TypeState) (j : Inverted) (k : Kind) → st ≡ Known j k → kept_of i (turned i st) sb (turned i st) ≡ st
-keeps_own i st sb j k e = rw e (turned_twice i (Known j k))
+keeps_own : (i : Bool) (st sb : TypeState) → true ≡ is_some (held_by st) → kept_of i (turned i st) sb (turned i st) ≡ st
+keeps_own i (Known j k) sb e = turned_twice i (Known j k)
+keeps_own i (Unknown s) sb e = cc
+keeps_own i InferenceFailed sb e = cc
 
 takes_known : (i : Bool) (w l : Ty) (j : Inverted) (k : Kind) → i ≡ l.inv → turned w.inv (turned i (Known j k)) ≡ Known (record { 0 = xor (flip l.inv w).inv j.0 }) k
 takes_known i w l j k e = rw e (ap (λ (b : Bool). Known (record { 0 = b }) k) (xor_between l.inv w.inv j.0))
 
-takes_first : (a b : Ty) (sa sb : TypeState) → held_by sa ≡ None → kept_of a.inv (turned a.inv sa) (turned b.inv sb) (turned a.inv sa) ≡ taken a b sa sb
-takes_first a b (Known h k) sb e = let z : ◌≡◌ {A = ℕ} 0 1 = cc in absurd (omega arith)
+takes_first : (a b : Ty) (sa sb : TypeState) → false ≡ is_some (held_by sa) → kept_of a.inv (turned a.inv sa) (turned b.inv sb) (turned a.inv sa) ≡ taken a b sa sb
+takes_first a b (Known h k) sb e = cc
 takes_first a b (Unknown s) (Known j k) e = takes_known b.inv a b j k refl
 takes_first a b (Unknown s) (Unknown t) e = refl
 takes_first a b (Unknown s) InferenceFailed e = refl
@@ -175,12 +178,7 @@ takes_second a b InferenceFailed (Known h k) = turned_twice b.inv (Known h k)
 takes_second a b InferenceFailed (Unknown t) = refl
 takes_second a b InferenceFailed InferenceFailed = refl
 
-taken_own : (w l : Ty) (own st : TypeState) → held_by st ≡ None → taken w l own st ≡ own
-taken_own w l own (Known j k) e = let z : ◌≡◌ {A = ℕ} 0 1 = cc in absurd (omega arith)
-taken_own w l own (Unknown s) e = refl
-taken_own w l own InferenceFailed e = refl
-
--- `take`: one put after the other, or its own state where the other has no kind
+-- `take`: one put after the other
 
 pub take_known : {ws ws₁ ws₂ : List ℕ} {n : ℕ} {w l : Ty} {z i j m : ℕ} {b x : Bool} (p : «Type») {r v : Inverted} {k : Kind} {h : Held} → node_words n ≤ length ws
     → z ≡ size_at ws n w.idx + size_at ws n l.idx → m ≡ l.idx → h ≡ held_in (read_at ws n m) → h ≡ Some (v, k) → b ≡ l.inv → ty_of p.0 ≡ flip b w
@@ -192,11 +190,6 @@ take_known {ws} {ws₁} {ws₂} {n} {w} {l} {z} {i} {j} {m} {b} {x} p {r} {v} {k
     let u : r.0 ≡ xor (flip l.inv w).inv v.0 = er ∙ ap (λ (d : Bool). xor d v.0) (ex ∙ ap (λ (a : Ty). a.inv) q) in
     let f : Known r k ≡ Known (record { 0 = xor (flip l.inv w).inv v.0 }) k = ap (λ (y : Inverted). Known y k) (inverted_eq r (record { 0 = xor (flip l.inv w).inv v.0 }) u) in
     rw (e₂, e₁, ei, ej, ez, t, ← f) (twice ws n w l (Known r k) room p q)
-
-pub take_none : {ws ws₂ : List ℕ} {n : ℕ} {w l : Ty} {m : ℕ} {h : Held} → m ≡ l.idx → h ≡ held_in (read_at ws n m) → h ≡ None
-    → Joined ws ws₂ n w l (state_at ws n w.idx) → Joined ws ws₂ n w l (taken w l (state_at ws n w.idx) (state_at ws n l.idx))
-take_none {ws} {ws₂} {n} {w} {l} em eh fh q =
-    rw (taken_own w l (state_at ws n w.idx) (state_at ws n l.idx) (ap (λ (a : ℕ). held_in (read_at ws n a)) (sym em) ∙ (sym eh ∙ fh))) q
 
 -- what a type sees at its root
 abbrev seen : List ℕ → ℕ → Ty → TypeState
@@ -233,42 +226,33 @@ module _ (ws ws' : List ℕ) (n : ℕ) (a b : Ty) where
   bind_second ey ez h j = bound (merge_second ws ws' n a b _ _ _ _ ey ez h (rw (takes_second a b (state_at ws n a.idx) (state_at ws n b.idx)) j))
 
   module _ {y z m : ℕ} {h : Held} (ey : y ≡ size_at ws n b.idx) (ez : z ≡ size_at ws n a.idx) (less : y < z) (em : m ≡ a.idx) (eh : h ≡ held_in (read_at ws n m)) where
-    seen_held : {q : Held} → h ≡ q → held_in (read_at ws n a.idx) ≡ q
-    seen_held f = ap (λ (i : ℕ). held_in (read_at ws n i)) (sym em) ∙ (sym eh ∙ f)
+    seen_held : {t : Bool} → t ≡ is_some h → t ≡ is_some (held_in (read_at ws n a.idx))
+    seen_held f = f ∙ ap is_some (eh ∙ ap (λ (i : ℕ). held_in (read_at ws n i)) em)
 
-    pub bind_known : {i : Inverted} {k : Kind} → h ≡ Some (i, k) → Joined ws ws' n a b (state_at ws n a.idx) → Bound ws ws' n a b
-    bind_known {i} {k} f j =
-        let e : state_at ws n a.idx ≡ Known i k = held_state (state_at ws n a.idx) i k (seen_held f) in
-        bound (merge_first ws ws' n a b _ _ _ _ ey ez less (rw (keeps_own a.inv (state_at ws n a.idx) (turned b.inv (state_at ws n b.idx)) i k e) j))
+    pub bind_known : true ≡ is_some h → Joined ws ws' n a b (state_at ws n a.idx) → Bound ws ws' n a b
+    bind_known f j =
+        bound (merge_first ws ws' n a b _ _ _ _ ey ez less (rw (keeps_own a.inv (state_at ws n a.idx) (turned b.inv (state_at ws n b.idx)) (seen_held f)) j))
 
-    pub bind_first : h ≡ None → Joined ws ws' n a b (taken a b (state_at ws n a.idx) (state_at ws n b.idx)) → Bound ws ws' n a b
+    pub bind_first : false ≡ is_some h → Joined ws ws' n a b (taken a b (state_at ws n a.idx) (state_at ws n b.idx)) → Bound ws ws' n a b
     bind_first f j =
         bound (merge_first ws ws' n a b _ _ _ _ ey ez less (rw (takes_first a b (state_at ws n a.idx) (state_at ws n b.idx) (seen_held f)) j))
 
   -- `settle`: "Only Success merges"
 
-  pub settle_merges : (r : UnifyResult) (sa sb : TypeState) → r ≡ Success → sa ≡ state_at ws n a.idx → sb ≡ state_at ws n b.idx
-      → Merged ws ws' n a b sa sb → Settled ws ws' n a b r Success
+  pub settle_merges : (r : UnifyResult) → true ≡ sameb the_type r Success → Merged ws ws' n a b (state_at ws n a.idx) (state_at ws n b.idx) → Settled ws ws' n a b r r
   unfolding scope.settle
-  settle_merges r sa sb e ea eb m =
-      let m' : Merged ws ws' n a b (state_at ws n a.idx) (state_at ws n b.idx) = rw (ea, eb) at m in
-      record {
-        tail = m.tail;
-        clean = λ ks c cl. m'.clean ks c cl (state_fits_lem ws ks c n cl a.idx) (state_fits_lem ws ks c n cl b.idx);
-        nodes = λ ks c cl.
-            rw (e, ← state_read ws ks c n cl a.idx, ← state_read ws ks c n cl b.idx)
-            (ap (λ (ns : List nodes.Node). scope.out ns answers.Success) (sym (m'.nodes ks c cl (state_fits_lem ws ks c n cl a.idx) (state_fits_lem ws ks c n cl b.idx))));
-      }
+  settle_merges Success e m = record {
+    tail = m.tail;
+    clean = λ ks c cl. m.clean ks c cl (state_fits_lem ws ks c n cl a.idx) (state_fits_lem ws ks c n cl b.idx);
+    nodes = λ ks c cl.
+        rw (← state_read ws ks c n cl a.idx, ← state_read ws ks c n cl b.idx)
+        (ap (λ (ns : List nodes.Node). scope.out ns answers.Success) (sym (m.nodes ks c cl (state_fits_lem ws ks c n cl a.idx) (state_fits_lem ws ks c n cl b.idx))));
+  }
+  settle_merges Failure e m = absurd (false≢true (sym e))
+  settle_merges Indeterminate e m = absurd (false≢true (sym e))
 
-settle_idle : (ns : List nodes.Node) (a b : Ty) (q : UnifyResult) → is_success (answer_of q) ≡ false → scope.settle ns a b (answer_of q) ≡ scope.out ns (answer_of q)
+pub settle_stays : {ws : List ℕ} {n : ℕ} {a b : Ty} (r : UnifyResult) → false ≡ sameb the_type r Success → Settled ws ws n a b r r
 unfolding scope.settle
-settle_idle ns a b Success h = cc
-settle_idle ns a b Failure h = refl
-settle_idle ns a b Indeterminate h = refl
-
-pub settle_stays : (ws : List ℕ) (n : ℕ) (a b : Ty) (r q : UnifyResult) → r ≡ q → is_success (answer_of q) ≡ false → Settled ws ws n a b r q
-settle_stays ws n a b r q e h = record {
-  tail = refl;
-  clean = λ ks c cl. cl;
-  nodes = λ ks c cl. rw e (settle_idle (decode ws ks n) a b q h);
-}
+settle_stays Success e = absurd (false≢true e)
+settle_stays Failure e = record { tail = refl; clean = λ ks c cl. cl; nodes = λ ks c cl. refl }
+settle_stays Indeterminate e = record { tail = refl; clean = λ ks c cl. cl; nodes = λ ks c cl. refl }

@@ -1,27 +1,24 @@
 -- Merging over words: in clean words another size word is another size, and two roots without kinds merge as scope's `bound` says. One law for each way out.
 -- Assumes nothing.
-use mathlib.Core.Path.{◌≡◌, refl, ap, ap₂, sym, subst, ◌∙◌}
-use mathlib.Core.Bool.{Bool, true, false, ◌||◌}
-use mathlib.Core.List.{List, ◌++◌}
-use mathlib.Core.Option.{Option, none}
+use mathlib.Core.Path.{◌≡◌, refl, ap, ap₂, sym, ◌∙◌}
+use mathlib.Core.Bool.{Bool, true, false, not, ◌||◌, false≢true}
+use mathlib.Core.List.{List}
+use mathlib.Core.Option.{none}
 use Prim.Native.Nat.{ℕ, zero, suc, ◌+◌, ◌*◌, ◌<◌, ◌≤◌}
 use native.Mathlib.Omega.{arith}
 use lib.Dec.{eqb, ltb}
 use lib.ListN.{length, get_or, drop, set, length-map, length-set, length-drop}
 use lib.Seq.{length-take-le}
-use borrow.Author.Tests.{eq-eqb, ne_eqb, lt-ltb, le-ltb}
+use borrow.Author.Tests.{eq-eqb, eqb-true, lt-ltb}
 use Rattle.scope.specs.Base.{pick}
 use Rattle.scope.specs.Limits.{NONE}
-use Rattle.scope.specs.Kinds.{TUPLE}
 use Rattle.scope.specs.Types.{Ty, ty_of, flip}
 use Rattle.scope.specs.Nodes as nodes
 use Rattle.scope.specs.Unify as scope
-use Rattle.types.specs.declared.Inverted.{Inverted}
 use Rattle.types.specs.declared.«Type».{«Type»}
 use Rattle.layout.specs.Words.{node_words, decode, slots}
-use Rattle.layout.specs.Meaning.{cell_in, words_of, cell_of, cell_words, paste_at, read_at, put_at, node_state, node_size, held_in, kind_means, node_means, state_means, Clean}
+use Rattle.layout.specs.Meaning.{cell_in, words_of, cell_of, cell_words, paste_at, read_at, put_at, node_state, held_in, kind_means, node_means, state_means, Clean}
 use Rattle.layout.specs.Meaning.{Held}
-use Rattle.std.specs.declared.option.Option.TheVariants as held
 use Rattle.layout.specs.declared.Kind.{Kind}
 use Rattle.layout.specs.declared.TypeState.{TypeState}
 use Rattle.layout.specs.declared.TypeState.TheVariants.{Known, Unknown, InferenceFailed}
@@ -34,8 +31,8 @@ use Rattle.layout.proofs.Laws.{tail_put, put_past, read_node}
 use Rattle.layout.proofs.HeldLaws.{state_read, state_fits_lem}
 use Rattle.merge.specs.Quick.{Bare}
 use Rattle.std.specs.Prelude.{Some, None}
-use Rattle.merge.specs.Meaning.{state_at, size_at, Adds, Joined, Merged, Bound}
-use Rattle.merge.specs.Quick.{bare_by, bare_in, bare_within, bare_node, rank_in, Ranked, lone_node, nil_held, nil_node, Resized, Sums, Sized, Quick, Tried, OneNil}
+use Rattle.merge.specs.Meaning.{state_at, size_at, Joined, Merged, Bound}
+use Rattle.merge.specs.Quick.{bare_in, bare_within, bare_node, rank_in, lone_node, nil_held, nil_node, Resized, Sums, Quick, Tried, OneNil}
 use Rattle.merge.proofs.Laws.{twice}
 
 -- a size alone
@@ -109,29 +106,9 @@ hang_law ws ws₁ ws₂ n w l z i j b p s k eb ep ei ej r e =
 
 -- roots without kinds
 
-module _ (ws : List ℕ) (n i : ℕ) where
-  pub bare_past : n ≤ i → None ≡ bare_within ws n i
-  bare_past h = rw (le-ltb i n h) refl
-
-  module _ (h : i < n) {v : TypeNode} (e : v ≡ read_at ws n i) where
-    bare_inside : bare_in v ≡ bare_within ws n i
-    bare_inside = rw (lt-ltb i n h) (ap bare_in e)
-
-    pub bare_root : {st st' : TypeState} {z : ℕ} → v ≡ Root st z → st ≡ st' → bare_by st' z ≡ bare_within ws n i
-    bare_root {z = z} f g = ap (λ (s : TypeState). bare_by s z) (sym g) ∙ (ap bare_in (sym f) ∙ bare_inside)
-
-    pub bare_child : {t : «Type»} → v ≡ Child t → None ≡ bare_within ws n i
-    bare_child f = ap bare_in (sym f) ∙ bare_inside
-
-bare_of : (t : Bool) (p : Bare) (y : ℕ) → pick t p None ≡ Some y → p ≡ Some y
-bare_of true p y e = e
+bare_of : (t : Bool) (p : Bare) (y : ℕ) → Some y ≡ pick t p None → p ≡ Some y
+bare_of true p y e = sym e
 bare_of false p y e = let f : ◌≡◌ {A = ℕ} 0 1 = cc in absurd (omega arith)
-
-bare_size : (v : TypeNode) (z : ℕ) → bare_in v ≡ Some z → z ≡ node_size v
-bare_size (Root (Known i k) y) z e = let f : ◌≡◌ {A = ℕ} 0 1 = cc in absurd (omega arith)
-bare_size (Root (Unknown s) y) z e = cc
-bare_size (Root InferenceFailed y) z e = cc
-bare_size (Child t) z e = let f : ◌≡◌ {A = ℕ} 0 1 = cc in absurd (omega arith)
 
 bare_means : (ks : List ℕ) (v : TypeNode) (z : ℕ) → bare_in v ≡ Some z → bare_node (node_means ks v) ≡ true
 bare_means ks (Root (Known i k) y) z e = let f : ◌≡◌ {A = ℕ} 0 1 = cc in absurd (omega arith)
@@ -155,13 +132,7 @@ kept_bare : (ns : List nodes.Node) (w a b : Ty) → bare_node (nodes.at ns a.idx
     → scope.kept ns w (scope.kind_in ns a) (scope.kind_in ns b) ≡ scope.state_in ns w
 kept_bare ns w a b f g = ap₂ (scope.kept ns w) (bare_none a (nodes.at ns a.idx) f) (bare_none b (nodes.at ns b.idx) g)
 
-pub tried_not : {ws : List ℕ} {n : ℕ} {a b : Ty} → Tried ws ws n a b false
-tried_not = record { merged = λ e. let f : ◌≡◌ {A = ℕ} 0 1 = cc in absurd (omega arith); stays = λ e. refl }
-
 module _ (ws : List ℕ) (n : ℕ) (a b : Ty) (y z : ℕ) (here : bare_in (read_at ws n a.idx) ≡ Some y) (there : bare_in (read_at ws n b.idx) ≡ Some z) where
-  bare_sizes : Adds ws n a b → Sized ws n a b y z
-  bare_sizes s = record { adds = s; first = bare_size (read_at ws n a.idx) y here; second = bare_size (read_at ws n b.idx) z there }
-
   module _ (ks : List ℕ) (c : ℕ) (cl : Clean ws ks c n) where
     bare_first : bare_node (nodes.at (decode ws ks n) a.idx) ≡ true
     bare_first = ap bare_node (sym (read_node ws ks c n cl a.idx)) ∙ bare_means ks (read_at ws n a.idx) y here
@@ -188,19 +159,14 @@ module _ (ws : List ℕ) (n : ℕ) (a b : Ty) (y z : ℕ) (here : bare_in (read_
   }
 
 -- what was read at the number i of a type's node
-read_bare : (ws : List ℕ) (n : ℕ) {i j y : ℕ} {p : Bare} → i ≡ j → p ≡ bare_within ws n i → p ≡ Some y → bare_in (read_at ws n j) ≡ Some y
-read_bare ws n {i} {j} {y} ei ep fp =
-    ap (λ (k : ℕ). bare_in (read_at ws n k)) (sym ei) ∙ bare_of (ltb i n) (bare_in (read_at ws n i)) y (sym ep ∙ fp)
+read_bare : (ws : List ℕ) (n : ℕ) {i j y : ℕ} → i ≡ j → Some y ≡ bare_within ws n i → bare_in (read_at ws n j) ≡ Some y
+read_bare ws n {i} {j} {y} ei e = ap (λ (k : ℕ). bare_in (read_at ws n k)) (sym ei) ∙ bare_of (ltb i n) (bare_in (read_at ws n i)) y e
 
-pub sized : {ws : List ℕ} {n : ℕ} {a b : Ty} {i j y z : ℕ} {p q : Bare} → i ≡ a.idx → j ≡ b.idx → p ≡ bare_within ws n i → p ≡ Some y
-    → q ≡ bare_within ws n j → q ≡ Some z → Adds ws n a b → Sized ws n a b y z
-sized {ws} {n} {a} {b} {i} {j} {y} {z} ei ej ep fp eq fq = bare_sizes ws n a b y z (read_bare ws n ei ep fp) (read_bare ws n ej eq fq)
-
-pub tried_merged : {ws ws' : List ℕ} {n : ℕ} {a b : Ty} {i j y z : ℕ} {p q : Bare} → i ≡ a.idx → j ≡ b.idx → p ≡ bare_within ws n i → p ≡ Some y
-    → q ≡ bare_within ws n j → q ≡ Some z → (i ≡ j → ⊥) → Merged ws ws' n a b (state_at ws n a.idx) (state_at ws n b.idx) → Tried ws ws' n a b true
-tried_merged {ws} {ws'} {n} {a} {b} {i} {j} {y} {z} ei ej ep fp eq fq h m = record {
-  merged = λ e. bare_quick ws n a b y z (read_bare ws n ei ep fp) (read_bare ws n ej eq fq) ws' (λ f. h (ei ∙ (f ∙ sym ej))) m;
-  stays = λ e. let f : ◌≡◌ {A = ℕ} 0 1 = cc in absurd (omega arith);
+pub tried_merged : {ws ws' : List ℕ} {n : ℕ} {a b : Ty} {i j y z : ℕ} → i ≡ a.idx → j ≡ b.idx → true ≡ not (eqb i j) → Some y ≡ bare_within ws n i
+    → Some z ≡ bare_within ws n j → Merged ws ws' n a b (state_at ws n a.idx) (state_at ws n b.idx) → Tried ws ws' n a b true
+tried_merged {ws} {ws'} {n} {a} {b} {i} {j} {y} {z} ei ej h e f m = record {
+  merged = λ t. bare_quick ws n a b y z (read_bare ws n ei e) (read_bare ws n ej f) ws' (λ q. false≢true (sym (rw (eq-eqb i j (ei ∙ (q ∙ sym ej))) at h))) m;
+  stays = λ t. let z : ◌≡◌ {A = ℕ} 0 1 = cc in absurd (omega arith);
 }
 
 -- `slight`: one root has a kind without children, and one has no kind
@@ -240,15 +206,6 @@ rank_either ks v w e = go (rank_in v) refl
     go zero f = rw (rank_bare ks v f) refl
     go (suc m) f = or-true (bare_node (node_means ks v)) (rank_bare ks w (omega arith))
 
-pub tried_done : {ws ws₁ : List ℕ} {n : ℕ} {a b : Ty} {r : Bool} → Tried ws ws₁ n a b r → r ≡ true → Tried ws ws₁ n a b true
-tried_done t e = record { merged = λ f. t.merged e; stays = λ f. let z : ◌≡◌ {A = ℕ} 0 1 = cc in absurd (omega arith) }
-
-pub adds_still : {ws ws₁ : List ℕ} {n : ℕ} {a b : Ty} {r : Bool} → Tried ws ws₁ n a b r → r ≡ false → Adds ws n a b → Adds ws₁ n a b
-adds_still t e w = rw (t.stays e) w
-
-pub tried_still : {ws ws₁ : List ℕ} {n : ℕ} {a b : Ty} {r : Bool} → Tried ws ws₁ n a b r → r ≡ false → Tried ws ws₁ n a b false
-tried_still t e = record { merged = λ f. let z : ◌≡◌ {A = ℕ} 0 1 = cc in absurd (omega arith); stays = λ f. t.stays e }
-
 pub tried_slight : {ws ws₁ ws' : List ℕ} {n : ℕ} {a b : Ty} {r : Bool} → Tried ws ws₁ n a b r → r ≡ false → {x y : ℕ} → x ≡ rank_in (read_at ws₁ n a.idx)
     → y ≡ rank_in (read_at ws₁ n b.idx) → x + y ≡ 1 → Bound ws₁ ws' n a b → Tried ws ws' n a b true
 tried_slight {ws} {ws₁} {ws'} {n} {a} {b} t f {x} {y} ex ey h m = record {
@@ -274,41 +231,7 @@ tried_slight {ws} {ws₁} {ws'} {n} {a} {b} t f {x} {y} ex ey h m = record {
       bound = m;
     }
 
--- `rank`
-
-rank_few : (v : TypeNode) → rank_in v ≤ 2
-rank_few (Root (Known i k) z) = by_count (eqb k.count 0)
-  where
-    by_count : (t : Bool) → pick t 1 2 ≤ 2
-    by_count true = omega arith
-    by_count false = omega arith
-rank_few (Root (Unknown s) z) = omega arith
-rank_few (Root InferenceFailed z) = omega arith
-rank_few (Child t) = omega arith
-
-module _ (ws : List ℕ) (n : ℕ) {i j : ℕ} {v : TypeNode} (ei : i ≡ j) (e : v ≡ read_at ws n i) where
-  pub rank_is : {r : ℕ} {w : TypeNode} → v ≡ w → r ≡ rank_in w → Ranked (read_at ws n j) r
-  rank_is {r} f g =
-      let h : r ≡ rank_in (read_at ws n j) = g ∙ (ap rank_in (sym f ∙ e) ∙ ap (λ (k : ℕ). rank_in (read_at ws n k)) ei) in
-      record { is = h; few = rw h (rank_few (read_at ws n j)) }
-
-  module _ {st : TypeState} {z : ℕ} (f : v ≡ Root st z) where
-    pub rank_bare_root : {st' : TypeState} → st ≡ st' → rank_in (Root st' z) ≡ 0 → Ranked (read_at ws n j) 0
-    rank_bare_root g h = rank_is (f ∙ ap (λ (s : TypeState). Root s z) g) (sym h)
-
-    pub rank_lone_root : {y : Inverted} {k : Kind} → st ≡ Known y k → k.count ≡ 0 → Ranked (read_at ws n j) 1
-    rank_lone_root {y} {k} g h = rank_is (f ∙ ap (λ (s : TypeState). Root s z) g) (rw (eq-eqb k.count 0 h) refl)
-
-    pub rank_full_root : {y : Inverted} {k : Kind} → st ≡ Known y k → (k.count ≡ 0 → ⊥) → Ranked (read_at ws n j) 2
-    rank_full_root {y} {k} g h = rank_is (f ∙ ap (λ (s : TypeState). Root s z) g) (rw (ne_eqb k.count 0 h) refl)
-
 -- `one_nil`
-
-pub one_not : {ws : List ℕ} {n : ℕ} {a b : Ty} → OneNil ws n a b false
-one_not = record {
-  one = λ e. let z : ◌≡◌ {A = ℕ} 0 1 = cc in absurd (omega arith);
-  nil = λ e. let z : ◌≡◌ {A = ℕ} 0 1 = cc in absurd (omega arith);
-}
 
 nil_means : (ks : List ℕ) (v : TypeNode) → nil_held (held_in v) ≡ true → nil_node (node_means ks v) ≡ true
 unfolding kind_means
@@ -318,14 +241,11 @@ nil_means ks (Root (Unknown s) z) e = e
 nil_means ks (Root InferenceFailed z) e = e
 nil_means ks (Child t) e = e
 
--- no kind, a Tuple with its count, or another kind
-module _ {ws : List ℕ} {n : ℕ} {a b : Ty} {i j : ℕ} {h : Held} {y : Inverted} {k : Kind} (ei : i ≡ a.idx) (ej : j ≡ b.idx) (same : i ≡ j)
-    (e : h ≡ held_in (read_at ws n i)) (f : h ≡ held.Some (y, k)) (g : k.code ≡ TUPLE) where
-  pub one_nil : OneNil ws n a b (eqb k.count 0)
-  one_nil = record {
-    one = λ q. sym ei ∙ (same ∙ ej);
-    nil = λ q ks c cl.
-        ap nil_node (sym (read_node ws ks c n cl a.idx))
-        ∙ nil_means ks (read_at ws n a.idx)
-        (ap (λ (m : ℕ). nil_held (held_in (read_at ws n m))) (sym ei) ∙ (ap nil_held (sym e ∙ f) ∙ rw (eq-eqb k.code TUPLE g) q));
-  }
+pub one_nil : {ws : List ℕ} {n : ℕ} {a b : Ty} {i j : ℕ} {h : Held} {r : Bool} → i ≡ a.idx → j ≡ b.idx → true ≡ eqb i j → h ≡ held_in (read_at ws n i)
+    → r ≡ nil_held h → OneNil ws n a b r
+one_nil {ws} {n} {a} {b} {i} {j} ei ej same e f = record {
+  one = λ q. sym ei ∙ (eqb-true i j (sym same) ∙ ej);
+  nil = λ q ks c cl.
+      ap nil_node (sym (read_node ws ks c n cl a.idx))
+      ∙ nil_means ks (read_at ws n a.idx) (ap (λ (m : ℕ). nil_held (held_in (read_at ws n m))) (sym ei) ∙ (ap nil_held (sym e) ∙ (sym f ∙ q)));
+}

@@ -55,11 +55,8 @@ fn take(ws: &mut [u32], n: u32, w: Type, l: Type, size: u32)
     ensures { Joined ws.old ws.new n (ty_of w.0) (ty_of l.0)
         (taken (ty_of w.0) (ty_of l.0) (state_at ws.old n (ty_of w.0).idx) (state_at ws.old n (ty_of l.0).idx)) }
 {
-    let held = layout::held_at(ws, n, l.idx());
-    match held {
-        None => {
-            hang(ws, n, w, l, size);
-        }
+    match layout::held_at(ws, n, l.idx()) {
+        None => hang(ws, n, w, l, size),
         Some((i, kind)) => {
             let inv = l.inv();
             let parent = w.invert_if(inv);
@@ -79,16 +76,10 @@ pub fn bind(ws: &mut [u32], n: u32, a: Type, b: Type)
     let sb = size_at(ws, n, b);
     if sa <= sb {
         take(ws, n, b, a, sb + sa);
-        return;
-    }
-    let held = layout::held_at(ws, n, a.idx());
-    match held {
-        Some((_, _)) => {
-            hang(ws, n, a, b, sa + sb);
-        }
-        None => {
-            take(ws, n, a, b, sa + sb);
-        }
+    } else if layout::held_at(ws, n, a.idx()).is_some() {
+        hang(ws, n, a, b, sa + sb);
+    } else {
+        take(ws, n, a, b, sa + sb);
     }
 }
 
@@ -104,7 +95,7 @@ fn unite(ws: &mut [u32], n: u32, a: Type, b: Type, sa: u32, sb: u32)
     }
 }
 
-// A node of the n, if it is such a root.
+// The size of a node of the n, if it is a root without a kind.
 fn bare_at(ws: &[u32], n: u32, i: TypeIdx) -> Option<u32>
     requires { node_words n ≤ length ws.now }
     ensures { result ≡ bare_within ws.now n i.0 }
@@ -112,14 +103,12 @@ fn bare_at(ws: &[u32], n: u32, i: TypeIdx) -> Option<u32>
     if n <= i.0 {
         return None;
     }
-    let node = layout::node_at(ws, n, i);
-    match node {
-        TypeNode::Root { state, size } => match state {
-            TypeState::Known(_, _) => None,
-            TypeState::Unknown(_) => Some(size),
-            TypeState::InferenceFailed => Some(size),
-        },
-        TypeNode::Child(_) => None,
+    match layout::node_at(ws, n, i) {
+        TypeNode::Root {
+            state: TypeState::Unknown(_) | TypeState::InferenceFailed,
+            size,
+        } => Some(size),
+        _ => None,
     }
 }
 
@@ -130,17 +119,14 @@ pub fn quick(ws: &mut [u32], n: u32, a: Type, b: Type) -> bool
 {
     let ia = a.idx();
     let ib = b.idx();
-    if ia.0 == ib.0 {
-        return false;
+    if ia != ib
+        && let Some(sa) = bare_at(ws, n, ia)
+        && let Some(sb) = bare_at(ws, n, ib)
+    {
+        unite(ws, n, a, b, sa, sb);
+        return true;
     }
-    let Some(sa) = bare_at(ws, n, ia) else {
-        return false;
-    };
-    let Some(sb) = bare_at(ws, n, ib) else {
-        return false;
-    };
-    unite(ws, n, a, b, sa, sb);
-    true
+    false
 }
 
 // How much there is of a node: 0 of a root without a kind, 1 of one without children, 2 of any other.
@@ -148,14 +134,16 @@ fn rank(ws: &[u32], n: u32, t: Type) -> u32
     requires { node_words n ≤ length ws.now }
     ensures { Ranked (read_at ws.now n (ty_of t.0).idx) result }
 {
-    let node = layout::node_at(ws, n, t.idx());
-    match node {
-        TypeNode::Root { state, size: _ } => match state {
-            TypeState::Known(_, kind) => if kind.count == 0 { 1 } else { 2 },
-            TypeState::Unknown(_) => 0,
-            TypeState::InferenceFailed => 0,
-        },
-        TypeNode::Child(_) => 2,
+    match layout::node_at(ws, n, t.idx()) {
+        TypeNode::Root {
+            state: TypeState::Unknown(_) | TypeState::InferenceFailed,
+            ..
+        } => 0,
+        TypeNode::Root {
+            state: TypeState::Known(_, kind),
+            ..
+        } if kind.count == 0 => 1,
+        _ => 2,
     }
 }
 
@@ -167,12 +155,7 @@ pub fn slight(ws: &mut [u32], n: u32, a: Type, b: Type) -> bool
     if quick(ws, n, a, b) {
         return true;
     }
-    let ia = a.idx();
-    let ib = b.idx();
-    if ia.0 == ib.0 {
-        return false;
-    }
-    if rank(ws, n, a) + rank(ws, n, b) != 1 {
+    if a.idx() == b.idx() || rank(ws, n, a) + rank(ws, n, b) != 1 {
         return false;
     }
     bind(ws, n, a, b);
@@ -184,18 +167,10 @@ pub fn one_nil(ws: &[u32], n: u32, a: Type, b: Type) -> bool
     requires { node_words n ≤ length ws.now }
     ensures { OneNil ws.now n (ty_of a.0) (ty_of b.0) result }
 {
-    let ia = a.idx();
-    let ib = b.idx();
-    if ia.0 != ib.0 {
-        return false;
-    }
-    let Some((_, kind)) = layout::held_at(ws, n, ia) else {
-        return false;
-    };
-    if kind.code == kinds::TUPLE {
-        return kind.count == 0;
-    }
-    false
+    let i = a.idx();
+    i == b.idx()
+        && layout::held_at(ws, n, i).is_some_and(|(_, kind)| kind.code == kinds::TUPLE
+            && kind.count == 0)
 }
 
 // "Only Success merges."
@@ -203,14 +178,10 @@ pub fn settle(ws: &mut [u32], n: u32, a: Type, b: Type, r: UnifyResult) -> Unify
     requires { Adds ws.old n (ty_of a.0) (ty_of b.0) }
     ensures { Settled ws.old ws.new n (ty_of a.0) (ty_of b.0) r result }
 {
-    match r {
-        UnifyResult::Success => {
-            let sa = size_at(ws, n, a);
-            let sb = size_at(ws, n, b);
-            unite(ws, n, a, b, sa, sb);
-            UnifyResult::Success
-        }
-        UnifyResult::Failure => UnifyResult::Failure,
-        UnifyResult::Indeterminate => UnifyResult::Indeterminate,
+    if r == UnifyResult::Success {
+        let sa = size_at(ws, n, a);
+        let sb = size_at(ws, n, b);
+        unite(ws, n, a, b, sa, sb);
     }
+    r
 }

@@ -1,8 +1,8 @@
 #![tactic(auto)]
 // "A name is a part of the rule text or of the chart text, compared as bytes." Its lookup returns a part of one of the two lent slices. No call here asks anything of its arguments.
-ghost use Rattle.std.specs.Prelude.{◌≡◌, length, take, drop};
+ghost use Rattle.std.specs.Prelude.{◌≡◌, take, drop};
 ghost use Rattle.scope.specs.Names.{text_of, bytes, in_text, name_ok, eq_bytes, lt_bytes};
-ghost use Rattle.names.specs.Place.{texts, name_of, PIECE};
+ghost use Rattle.names.specs.Place.{name_of, texts_by};
 
 use scope::MAX_NAME;
 
@@ -15,6 +15,7 @@ pub struct Name {
 }
 
 // What stands where there is no name.
+// Kept (1): a name is three words of a store or a chart, and none is three words too: an Option would say it twice.
 pub const NO_NAME: Name = Name {
     text: 0,
     start: 0,
@@ -28,15 +29,12 @@ pub struct Texts<'a> {
     pub chart: &'a [u8],
 }
 
-// So many bytes are compared at once.
-const PIECE: usize = 64;
-
-fn text_of<'a>(text: u32, rule: &'a [u8], chart: &'a [u8]) -> &'a [u8]
-    ensures { result.now ≡ text_of (texts rule.now chart.now) text }
+fn text_of<'a>(text: u32, texts: &Texts<'a>) -> &'a [u8]
+    ensures { result.now ≡ text_of (texts_by texts.now) text }
 {
     match text {
-        0 => rule,
-        _ => chart,
+        0 => texts.rule,
+        _ => texts.chart,
     }
 }
 
@@ -48,57 +46,22 @@ fn part(s: &[u8], start: usize, len: usize) -> &[u8]
     &rest[..len.min(rest.len())]
 }
 
-pub fn bytes_of<'a>(n: Name, rule: &'a [u8], chart: &'a [u8]) -> &'a [u8]
-    ensures { result.now ≡ bytes (texts rule.now chart.now) (name_of n) }
+pub fn bytes_of<'a>(n: Name, texts: &Texts<'a>) -> &'a [u8]
+    ensures { result.now ≡ bytes (texts_by texts.now) (name_of n) }
 {
-    part(
-        text_of(n.text, rule, chart),
-        n.start as usize,
-        n.len as usize,
-    )
+    part(text_of(n.text, texts), n.start as usize, n.len as usize)
 }
 
+// The library looks at the first four bytes, and then, behind a call, at 64 at a time, with no end at the first that differs: so a search among many names is fast, and
+// little of it stands in the frame of whoever compares.
 pub fn same_bytes(a: &[u8], b: &[u8]) -> bool
     ensures { result ≡ eq_bytes a.now b.now }
 {
-    check::same(a, b)
-}
-
-// Every byte is looked at, wherever one differs, so that many are compared at once.
-fn same_piece(a: &[u8], b: &[u8]) -> bool
-    requires { (length a.now ≡ PIECE) × (length b.now ≡ PIECE) }
-    ensures { result ≡ eq_bytes a.now b.now }
-{
-    let mut same = true;
-    for i in 0..PIECE {
-        same &= a[i] == b[i];
-    }
-    same
-}
-
-// As `same_bytes`, a piece at a time; the last one ends with the bytes, and looks again at some where they are no whole pieces. For a search among many names: one
-// comparison is not worth the room that this takes in the frame of whoever compares.
-pub fn same_by_pieces(a: &[u8], b: &[u8]) -> bool
-    ensures { result ≡ eq_bytes a.now b.now }
-{
-    let n = a.len();
-    if n < PIECE {
-        return same_bytes(a, b);
-    }
-    if b.len() != n {
-        return false;
-    }
-    let last = n - PIECE;
-    for i in (0..last).step_by(PIECE) {
-        let e = i + PIECE;
-        if !same_piece(&a[i..e], &b[i..e]) {
-            return false;
-        }
-    }
-    same_piece(&a[last..], &b[last..])
+    a == b
 }
 
 // Byte by byte, unsigned, up to the first that differs; a prefix comes first.
+// Kept (4): the slices' `<` and `cmp` were tried, and are slower where the first byte differs, as it mostly does in a search.
 pub fn before(a: &[u8], b: &[u8]) -> bool
     ensures { result ≡ lt_bytes a.now b.now }
 {
@@ -110,40 +73,33 @@ pub fn before(a: &[u8], b: &[u8]) -> bool
     a.len() < b.len()
 }
 
-pub fn same_name<'a>(a: Name, b: Name, rule: &'a [u8], chart: &'a [u8]) -> bool
-    ensures { result ≡ eq_bytes (bytes (texts rule.now chart.now) (name_of a)) (bytes (texts rule.now chart.now) (name_of b)) }
+pub fn same_name(a: Name, b: Name, texts: &Texts<'_>) -> bool
+    ensures { result ≡ eq_bytes (bytes (texts_by texts.now) (name_of a)) (bytes (texts_by texts.now) (name_of b)) }
 {
-    same_bytes(bytes_of(a, rule, chart), bytes_of(b, rule, chart))
+    same_bytes(bytes_of(a, texts), bytes_of(b, texts))
 }
 
-// As `same_name` says, for a search.
-pub fn same_name_by_pieces<'a>(a: Name, b: Name, rule: &'a [u8], chart: &'a [u8]) -> bool
-    ensures { result ≡ eq_bytes (bytes (texts rule.now chart.now) (name_of a)) (bytes (texts rule.now chart.now) (name_of b)) }
+pub fn name_before(a: Name, b: Name, texts: &Texts<'_>) -> bool
+    ensures { result ≡ lt_bytes (bytes (texts_by texts.now) (name_of a)) (bytes (texts_by texts.now) (name_of b)) }
 {
-    same_by_pieces(bytes_of(a, rule, chart), bytes_of(b, rule, chart))
-}
-
-pub fn name_before<'a>(a: Name, b: Name, rule: &'a [u8], chart: &'a [u8]) -> bool
-    ensures { result ≡ lt_bytes (bytes (texts rule.now chart.now) (name_of a)) (bytes (texts rule.now chart.now) (name_of b)) }
-{
-    before(bytes_of(a, rule, chart), bytes_of(b, rule, chart))
+    before(bytes_of(a, texts), bytes_of(b, texts))
 }
 
 // The sum is taken in 64 bits, where it does not wrap.
-pub fn in_text(n: Name, rule: &[u8], chart: &[u8]) -> bool
-    ensures { result ≡ in_text (texts rule.now chart.now) (name_of n) }
+pub fn in_text(n: Name, texts: &Texts<'_>) -> bool
+    ensures { result ≡ in_text (texts_by texts.now) (name_of n) }
 {
     let end = n.start as usize + n.len as usize;
     match n.text {
-        0 => end <= rule.len(),
-        1 => end <= chart.len(),
+        0 => end <= texts.rule.len(),
+        1 => end <= texts.chart.len(),
         _ => false,
     }
 }
 
 // "names and paths 1 to 255 bytes"
-pub fn name_ok(n: Name, rule: &[u8], chart: &[u8]) -> bool
-    ensures { result ≡ name_ok (texts rule.now chart.now) (name_of n) }
+pub fn name_ok(n: Name, texts: &Texts<'_>) -> bool
+    ensures { result ≡ name_ok (texts_by texts.now) (name_of n) }
 {
-    in_text(n, rule, chart) && n.len >= 1 && n.len as usize <= MAX_NAME
+    in_text(n, texts) && n.len >= 1 && n.len as usize <= MAX_NAME
 }

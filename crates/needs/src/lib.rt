@@ -1,7 +1,7 @@
 #![tactic(auto)]
 // What an import needs: "nodes made plus those needed" of 10, "the same for children" of 11, and 6's "Param with no entry". A walk over the source alone
 // goes where the copying goes, counts each root once and copies nothing, so that a call can turn back before a word is written.
-ghost use Rattle.std.specs.Prelude.{◌≡◌, not, ◌+◌, ◌≤◌, eqb, get_or, set, length};
+ghost use Rattle.std.specs.Prelude.{◌≡◌, not, ◌+◌, ◌≤◌, eqb, get_or, length};
 ghost use Rattle.scope.specs.Needs.{listed, exported};
 ghost use Rattle.layout.specs.Words.{node_words, slot_at, nodes_made, store_in};
 ghost use Rattle.layout.specs.Meaning.{held_in, read_at, slot_means, remembered_means, Linked};
@@ -18,6 +18,7 @@ use types::{Type, TypeIdx};
 #[derive(Clone, Copy)]
 pub struct Needs {
     // Is there a Param with no entry?
+    // Kept (1): it stands beside the counts, and not in place of them: 10 and 11 are tested before it.
     pub missing: bool,
     pub nodes: u32,
     pub children: u32,
@@ -66,15 +67,6 @@ fn is_counted(marks: &[u8], i: TypeIdx) -> bool
     marks.get(i.0 as usize).copied().unwrap_or(1) != 0
 }
 
-fn mark(marks: &mut [u8], i: TypeIdx)
-    ensures { marks.new ≡ set marks.old i.0 1 }
-{
-    let at = i.0 as usize;
-    if at < marks.len() {
-        marks[at] = 1;
-    }
-}
-
 // Child j of those that lie from `first` on.
 pub fn child(ks: &[u32], first: u32, j: u32) -> Slot
     ensures { slot_means result ≡ slot_at ks.now (first + j) }
@@ -120,7 +112,7 @@ fn count(
             ..sum
         },
         Asks::Node(first, kids) => {
-            mark(marks, root);
+            roots::set_mark(marks, root);
             let mut all = Needs {
                 nodes: sum.nodes + 1,
                 children: sum.children + kids,
@@ -190,6 +182,7 @@ fn nothing() -> Needs
 }
 
 // What an import of a list out of n nodes needs.
+// Kept (6): two tables, here and below, as in `copy` and `related`: each goes alone to what reads it, the cache to `roots::find_by`.
 pub fn of_import(ws: &[u32], ks: &[u32], n: u32, params: Option<u32>, ts: &[u32]) -> Needs
     requires { Importable ws.now ks.now n (types_in ts.now) }
     ensures { ImportNeeds ws.now ks.now n params ts.now result }

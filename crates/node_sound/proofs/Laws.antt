@@ -5,11 +5,10 @@ use mathlib.Core.Bool.{Bool, true, false, not, ◌&&◌, and_assoc, false≢true
 use mathlib.Core.List.{List, []}
 use Prim.Native.Nat.{ℕ, zero, suc, ◌+◌, ◌-◌, ◌≤◌, ◌<◌}
 use native.Mathlib.Omega.{arith}
-use lib.Dec.{eqb, ltb}
+use lib.Dec.{eqb}
 use lib.ListN.{length, get_or, set, length-set, replicate, length-replicate}
 use lib.Seq.{get_or-set_same, get_or-set_other}
 use native.Mathlib.Decide.{ℕ_discrete}
-use borrow.Author.Count.{below_more}
 use borrow.Author.Tests.{eqb-true, lt-ltb, le-leb}
 use Rattle.scope.specs.Base.{pick, all, from, or_else}
 use Rattle.scope.specs.Limits.{MAX_WIDTH, MAX_CHILDREN, KINDS}
@@ -30,7 +29,9 @@ use Rattle.kinds.specs.declared.SelfDual.TheVariants.{AsChart}
 use Rattle.kinds.specs.declared.SelfDual.TheVariants as dual
 use Rattle.kinds.specs.declared.Row.{Row}
 use Rattle.kinds.proofs.Laws.{defined_row}
-use Rattle.names.specs.Place.{texts, name_of}
+use Rattle.names.specs.Place.{texts_by, name_of}
+use Rattle.chart.specs.Env.{chart_lent}
+use Rattle.chart.specs.declared.Env as lent
 use Rattle.names.proofs.Tests.{both}
 use Rattle.names.proofs.Laws.{name_length_lem}
 use Rattle.layout.specs.Words.{KNOWN_TAG, slot_at, slots, node_at, node_clean}
@@ -121,48 +122,23 @@ seen_more {x} {ks} {seen} {i} b s l r = record { long = length-set seen i b ∙ 
     go j z (no d) = s.right j (sym (get_or-set_other seen i j b false d) ∙ z)
 
 -- child i, where the code has read it and the one before it
-
-module _ (ks : List ℕ) (i : ℕ) (child : Slot) (e : slot_means child ≡ slot_at ks i) where
-  pub inside_at_lem : (n m : ℕ) → m ≡ (ty_of child.ty.0).idx → m < n → inside_at ks n i ≡ true
-  inside_at_lem n m f l =
-      ap (λ (s : sound.Slot). ltb (ty_of s.type).idx n) (sym e) ∙ (ap (λ (j : ℕ). ltb j n) (sym f) ∙ lt-ltb m n l)
-
-  pub named_first : (x : Texts) → name_ok x (name_of child.name) ≡ true → name_ok x (name_at ks i) ≡ true
-  named_first x o = ap (λ (s : sound.Slot). name_ok x (name s.text s.start s.len)) (sym e) ∙ o
-
-  pub rises_at : (x : Texts) (last : Slot) → slot_means last ≡ slot_at ks (i - 1) → name_ok x (name_of child.name) ≡ true
-      → lt_bytes (bytes x (name_of last.name)) (bytes x (name_of child.name)) ≡ true → Rises x ks i
-  rises_at x last g o l = record {
-    named = named_first x o;
-    after = ap (λ (s : sound.Slot). lt_bytes (bytes x (name_at ks (i - 1))) (bytes x (name s.text s.start s.len))) (sym e)
-        ∙ (ap (λ (s : sound.Slot). lt_bytes (bytes x (name s.text s.start s.len)) (bytes x (name_of child.name))) (sym g) ∙ l);
-  }
-
-  pub first_at : (x : Texts) (n : ℕ) → (name_ok x (name_of child.name) && ltb (ty_of child.ty.0).idx n) ≡ true
-      → (name_ok x (name_at ks i) ≡ true) × (inside_at ks n i ≡ true)
-  first_at x n h =
-      let p = both (name_ok x (name_of child.name)) (ltb (ty_of child.ty.0).idx n) h in
-      (named_first x p.0, ap (λ (s : sound.Slot). ltb (ty_of s.type).idx n) (sym e) ∙ p.1)
+pub rises_at : (x : Texts) (ks : List ℕ) (i : ℕ) {last child : Slot} → slot_means last ≡ slot_at ks (i - 1) → slot_means child ≡ slot_at ks i
+    → name_ok x (name_of child.name) ≡ true → lt_bytes (bytes x (name_of last.name)) (bytes x (name_of child.name)) ≡ true → Rises x ks i
+rises_at x ks i {child = child} p q o l = record {
+  named = ap (λ (s : sound.Slot). name_ok x (name s.text s.start s.len)) (sym q) ∙ o;
+  after = ap (λ (s : sound.Slot). lt_bytes (bytes x (name_at ks (i - 1))) (bytes x (name s.text s.start s.len))) (sym q)
+      ∙ (ap (λ (s : sound.Slot). lt_bytes (bytes x (name s.text s.start s.len)) (bytes x (name_of child.name))) (sym p) ∙ l);
+}
 
 -- named_children: those after a and before i follow
 pub record Gone (x : Texts) (ks : List ℕ) (n a i : ℕ) (marks : List Bool) : Type 0 where
   pub known : TrueSeen x ks marks
   pub low : a < i
-  pub each : (j : ℕ) → a < j → j < i → Follows x ks n j
-
-pub gone_none : {x : Texts} {ks : List ℕ} {marks : List Bool} (n a : ℕ) → TrueSeen x ks marks → Gone x ks n a (a + 1) marks
-gone_none n a s = record { known = s; low = omega arith; each = λ j l m. absurd (omega arith) }
-
-pub gone_more : {x : Texts} {ks : List ℕ} {marks marks' : List Bool} {n a i : ℕ} → Gone x ks n a i marks → TrueSeen x ks marks' → Follows x ks n i → Gone x ks n a (i + 1) marks'
-gone_more {x} {ks} {n = n} {a} {i} w s f = record {
-  known = s;
-  low = omega (arith, w.low);
-  each = λ j l m. below_more (λ y. a < y → Follows x ks n y) i (λ y h g. w.each y g h) (λ _. f) j m l;
-}
+  pub each : (j : ℕ) → j < i → a < j → Follows x ks n j
 
 -- a kind by its children
 
-module _ (chart rule text ks : List ℕ) (n : ℕ) (k : Kind) (f : Framed chart k) where
+module _ (l : lent.Env) (ks : List ℕ) (n : ℕ) (k : Kind) (f : Framed l.chart.now k) where
   abbrev asked : ℕ
   asked = (row_of k.code).names
 
@@ -172,18 +148,18 @@ module _ (chart rule text ks : List ℕ) (n : ℕ) (k : Kind) (f : Framed chart 
   kids_inside : ((j : ℕ) → k.first ≤ j → j < k.first + k.count → inside_at ks n j ≡ true) → (ns : List nodes.Node) → length ns ≡ n
       → all (in_store ns) (kind_means ks k).kids ≡ true
   unfolding kind_means
-  kids_inside each ns l =
+  kids_inside each ns m =
       all_map (in_store ns) (λ s. ty_of s.type) (slots ks k.first k.count)
       ∙ (all_map (λ s. in_store ns (ty_of s.type)) (slot_at ks) (from k.first k.count)
-      ∙ from_all (λ j. in_store ns (ty_of (slot_at ks j).type)) k.first k.count (λ j a b. rw l (each j a b)))
+      ∙ from_all (λ j. in_store ns (ty_of (slot_at ks j).type)) k.first k.count (λ j a b. rw m (each j a b)))
 
-  kind_plain : names_clean (kind_cell ks k) ≡ true → names_test (texts rule text) ks k ≡ true
-      → ((j : ℕ) → k.first ≤ j → j < k.first + k.count → inside_at ks n j ≡ true) → PlainKind chart rule text ks n k
+  kind_plain : names_clean (kind_cell ks k) ≡ true → names_test (texts_by l.texts) ks k ≡ true
+      → ((j : ℕ) → k.first ≤ j → j < k.first + k.count → inside_at ks n j ≡ true) → PlainKind (chart_lent l) ks n k
   kind_plain clean names each = record {
     clean = clean;
-    sound = λ ns l.
+    sound = λ ns m.
         rw (
-          kind_tests,
+          kind_tests l,
           made_tests,
           lt-ltb k.code KINDS f.code,
           le-leb k.count MAX_WIDTH f.width,
@@ -193,7 +169,7 @@ module _ (chart rule text ks : List ℕ) (n : ℕ) (k : Kind) (f : Framed chart 
           f.number,
           f.told.is_defined,
           f.told.has_flag,
-        ) (kids_inside each ns l);
+        ) (kids_inside each ns m);
   }
 
   -- a kind without names
@@ -211,18 +187,18 @@ module _ (chart rule text ks : List ℕ) (n : ℕ) (k : Kind) (f : Framed chart 
         names_run ks k asked 0 refl (rw none refl)
         ∙ rw (none, f.own, z) (slots_run false ks (k.first + 0) (k.first + k.count) ∙ bare)
 
-    pub kind_bare : PlainKind chart rule text ks n k
+    pub kind_bare : PlainKind (chart_lent l) ks n k
     kind_bare =
         kind_plain plain_clean
-        (no_names (texts rule text) ks k asked refl (λ q. omega (arith, none, q)) (λ q. omega (arith, none, q)) (λ q. omega (arith, none, q)))
+        (no_names (texts_by l.texts) ks k asked refl (λ q. omega (arith, none, q)) (λ q. omega (arith, none, q)) (λ q. omega (arith, none, q)))
         (λ j a b. (each j a b).1)
 
   -- a kind with its children's names
-  module _ (some : asked ≡ CHILD_NAMES) (kids : Named (texts rule text) ks n k.first (k.first + k.count)) where
-    named_at : (j : ℕ) → k.first ≤ j → j < k.first + k.count → (name_ok (texts rule text) (name_at ks j) ≡ true) × (inside_at ks n j ≡ true)
+  module _ (some : asked ≡ CHILD_NAMES) (kids : Named (texts_by l.texts) ks n k.first (k.first + k.count)) where
+    named_at : (j : ℕ) → k.first ≤ j → j < k.first + k.count → (name_ok (texts_by l.texts) (name_at ks j) ≡ true) × (inside_at ks n j ≡ true)
     named_at j a b = go (ℕ_discrete j k.first)
       where
-        go : Dec (j ≡ k.first) → (name_ok (texts rule text) (name_at ks j) ≡ true) × (inside_at ks n j ≡ true)
+        go : Dec (j ≡ k.first) → (name_ok (texts_by l.texts) (name_at ks j) ≡ true) × (inside_at ks n j ≡ true)
         go (yes e) = rw e (kids.first (omega arith))
         go (no z) = let h = kids.others j (omega arith) b in (h.rises.named, h.inside)
 
@@ -231,34 +207,30 @@ module _ (chart rule text ks : List ℕ) (n : ℕ) (k : Kind) (f : Framed chart 
         let y : (k.first + k.count) - (k.first + k.count) ≡ 0 = omega arith in
         let clean : all (child_clean true ks) (from k.first ((k.first + k.count) - k.first)) ≡ true =
         from_all (child_clean true ks) k.first ((k.first + k.count) - k.first)
-        (λ j a b. name_clean_lem (texts rule text) (slot_at ks j).text (slot_at ks j).start (slot_at ks j).len (named_at j a (omega arith)).0) in
+        (λ j a b. name_clean_lem (texts_by l.texts) (slot_at ks j).text (slot_at ks j).start (slot_at ks j).len (named_at j a (omega arith)).0) in
         names_run ks k asked k.count refl (rw some refl)
         ∙ rw (some, f.own, slots_run true ks k.first (k.first + k.count), clean, y)
 
-    pub kind_named : PlainKind chart rule text ks n k
+    pub kind_named : PlainKind (chart_lent l) ks n k
     kind_named =
         kind_plain named_clean
-        (child_names_lem (texts rule text) ks k asked refl some
-        ∙ (sym (up_start (texts rule text) (child_names ks k.first k.count))
-        ∙ up_all (texts rule text) ks k.first k.count [] (λ j a b. (named_at j a b).0)
-        (λ l. name_first (texts rule text) (name_at ks k.first) (kids.first (omega arith)).0)
+        (child_names_lem (texts_by l.texts) ks k asked refl some
+        ∙ (sym (up_start (texts_by l.texts) (child_names ks k.first k.count))
+        ∙ up_all (texts_by l.texts) ks k.first k.count [] (λ j a b. (named_at j a b).0)
+        (λ h. name_first (texts_by l.texts) (name_at ks k.first) (kids.first (omega arith)).0)
         (λ j a b. (kids.others j a b).rises.after)))
         (λ j a b. (named_at j a b).1)
 
 -- a node of such a kind
 
-pub plain_node : (chart rule text ks : List ℕ) (n c : ℕ) (x : Cell) → x.tag ≡ KNOWN_TAG → x.link + x.count ≤ c → x.inv ≤ 1 → x.dual ≤ 1 → {k : Kind} → k ≡ cell_kind x
-    → PlainKind chart rule text ks n k → PlainNode chart rule text ks n c x
+pub plain_node : (e : Env) (ks : List ℕ) (n c : ℕ) (x : Cell) → x.tag ≡ KNOWN_TAG → x.link + x.count ≤ c → x.inv ≤ 1 → x.dual ≤ 1 → {k : Kind} → k ≡ cell_kind x
+    → PlainKind e ks n k → PlainNode e ks n c x
 unfolding node_of
-plain_node chart rule text ks n c x t r i d {k} q p = record {
+plain_node e ks n c x t r i d {k} q p = record {
   clean = cell_known ks c x t ∙ (known_parts ks c x t
       ∙ rw (le-leb (x.link + x.count) c r, le-leb x.inv 1 i, le-leb x.dual 1 d, known_names ks c x t k q) p.clean);
   sound = λ ns l. rw (t, ← q) (p.sound ns l);
 }
-
--- whose children lie among those that a store may have
-pub kind_few : (x : Cell) {k : Kind} {c m : ℕ} → k ≡ cell_kind x → x.link + x.count ≤ c → c ≤ m → k.first + k.count ≤ m
-kind_few x {m = m} e l h = subst (λ (k : Kind). k.first + k.count ≤ m) (sym e) (omega arith)
 
 -- node i, whose cell is x
 

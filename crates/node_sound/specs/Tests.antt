@@ -8,7 +8,7 @@ use Rattle.scope.specs.Chart.{Env}
 use Rattle.scope.specs.Kinds.{row_of, shape_fits, number_ok, defined, flag_is}
 use Rattle.scope.specs.Nodes.{Node}
 use Rattle.scope.specs.Sound.{Slot, slot_bare, names_clean, kind_sound, node_sound}
-use Rattle.chart.specs.Env.{chart_in, chart_alone}
+use Rattle.chart.specs.Env.{chart_alone}
 use Rattle.layout.specs.Words.{slot_at, node_at, node_clean, decode}
 use Rattle.layout.specs.Meaning.{kind_cell, kind_means, node_means, node_of}
 use Rattle.layout.specs.declared.Cell.{Cell}
@@ -60,11 +60,6 @@ pub record TrueSeen (x : Texts) (ks : List ℕ) (seen : List Bool) : Type 0 wher
   pub long : length seen ≡ MAX_CHILDREN
   pub right : (i : ℕ) → get_or seen i false ≡ true → Rises x ks i
 
-pub record Goes (x : Texts) (ks : List ℕ) (seen : List Bool) (i : ℕ) : Type 0 where
-  pub known : TrueSeen x ks seen
-  pub some : 0 < i
-  pub few : i < MAX_CHILDREN
-
 -- the child at i follows
 pub record Follows (x : Texts) (ks : List ℕ) (n i : ℕ) : Type 0 where
   pub inside : inside_at ks n i ≡ true
@@ -76,11 +71,11 @@ pub record Named (x : Texts) (ks : List ℕ) (n a e : ℕ) : Type 0 where
   pub others : (j : ℕ) → a < j → j < e → Follows x ks n j
 
 -- a kind whose words and whose children's are clean, and which is sound among any n nodes
-pub record PlainKind (chart rule text ks : List ℕ) (n : ℕ) (k : Kind) : Type 0 where
+pub record PlainKind (e : Env) (ks : List ℕ) (n : ℕ) (k : Kind) : Type 0 where
   pub clean : names_clean (kind_cell ks k) ≡ true
-  pub sound : (ns : List Node) → length ns ≡ n → kind_sound (chart_in chart rule text) ns (kind_means ks k) ≡ true
+  pub sound : (ns : List Node) → length ns ≡ n → kind_sound e ns (kind_means ks k) ≡ true
 
 -- the same of a node's words
-pub record PlainNode (chart rule text ks : List ℕ) (n c : ℕ) (x : Cell) : Type 0 where
+pub record PlainNode (e : Env) (ks : List ℕ) (n c : ℕ) (x : Cell) : Type 0 where
   pub clean : cell_clean ks c x ≡ true
-  pub sound : (ns : List Node) → length ns ≡ n → node_sound (chart_in chart rule text) ns (node_means ks (node_of x)) ≡ true
+  pub sound : (ns : List Node) → length ns ≡ n → node_sound e ns (node_means ks (node_of x)) ≡ true

@@ -12,14 +12,16 @@ ghost use Rattle.scope.specs.Names.{name_ok};
 ghost use Rattle.scope.specs.Kinds.{row_of};
 ghost use Rattle.scope.specs.Nodes.{Node};
 ghost use Rattle.kinds.specs.Rows.{as_row};
-ghost use Rattle.names.specs.Place.{texts, name_of};
-ghost use Rattle.chart.specs.Env.{chart_in};
+ghost use Rattle.names.specs.Place.{name_of, texts_by};
+ghost use Rattle.chart.specs.Env.{chart_lent};
 ghost use Rattle.layout.specs.Words.{node_words, slot_at};
 ghost use Rattle.layout.specs.Meaning.{slot_means};
-ghost use Rattle.node_sound.specs.Tests.{plain_slot, node_test, nodes_test, Told, Framed, TrueSeen, Goes, Follows, Named, PlainKind, PlainNode};
+ghost use Rattle.node_sound.specs.Tests.{plain_slot, node_test, nodes_test, Told, Framed, TrueSeen, Follows, Named, PlainKind, PlainNode};
 
+use chart::Env;
 use kinds::{ERROR, Names, Number, Row, SelfDual};
 use layout::{CHILD_WORDS, Cell, KNOWN_TAG, Kind, Slot};
+use names::Texts;
 use scope::{MAX_CHILDREN, MAX_WIDTH};
 use types::TypeIdx;
 
@@ -77,62 +79,56 @@ fn frame_ok(k: Kind, row: Row, chart: &[u32]) -> bool
 }
 
 // An object's first child: it has a name and is one of n nodes.
-fn named_child<'a>(child: Slot, n: u32, rule: &'a [u8], text: &'a [u8]) -> bool
-    ensures { result ≡ (name_ok (texts rule.now text.now) (name_of child.name) && ltb (ty_of child.ty.0).idx n) }
+fn named_child(child: Slot, n: u32, texts: &Texts<'_>) -> bool
+    ensures { result ≡ (name_ok (texts_by texts.now) (name_of child.name) && ltb (ty_of child.ty.0).idx n) }
 {
-    names::name_ok(child.name, rule, text) && child.ty.idx().0 < n
+    names::name_ok(child.name, texts) && child.ty.idx().0 < n
 }
 
 // A quick yes to whether an object's child i, which is not the first, follows. What was seen of its name is not looked at again.
-fn next_child<'a>(
-    ks: &[u32],
-    i: usize,
-    n: u32,
-    rule: &'a [u8],
-    text: &'a [u8],
-    seen: &mut Seen,
-) -> bool
-    requires { Goes (texts rule.now text.now) ks.now seen.old i }
-    ensures { (result ≡ true → Follows (texts rule.now text.now) ks.now n i)
-        × TrueSeen (texts rule.now text.now) ks.now seen.new }
+fn next_child(ks: &[u32], i: usize, n: u32, texts: &Texts<'_>, seen: &mut Seen) -> bool
+    requires some { 0 < i }
+    requires few { i < MAX_CHILDREN }
+    requires known { TrueSeen (texts_by texts.now) ks.now seen.old }
+    ensures follows { result ≡ true → Follows (texts_by texts.now) ks.now n i }
+    ensures seen { TrueSeen (texts_by texts.now) ks.now seen.new }
 {
-    if ks.len() / CHILD_WORDS <= i {
-        return false;
-    }
     let child = layout::child_at(ks, i);
     if child.ty.idx().0 >= n {
         return false;
     }
     if !seen[i] {
         let last = layout::child_at(ks, i - 1);
-        seen[i] = names::name_ok(child.name, rule, text)
-            && names::name_before(last.name, child.name, rule, text);
+        seen[i] = names::name_ok(child.name, texts)
+            && names::name_before(last.name, child.name, texts);
     }
     seen[i]
 }
 
-// An object's children a to e.
-fn named_children<'a>(
+// A quick yes to whether an object's children a to e are such. A run that is not all in ks has no quick yes, so a child is read without a test of its own.
+#[inline(never)]
+fn named_children(
     ks: &[u32],
     a: usize,
     e: usize,
     n: u32,
-    rule: &'a [u8],
-    text: &'a [u8],
+    texts: &Texts<'_>,
     seen: &mut Seen,
 ) -> bool
-    requires { TrueSeen (texts rule.now text.now) ks.now seen.old × (e ≤ MAX_CHILDREN) }
-    ensures { (result ≡ true → Named (texts rule.now text.now) ks.now n a e)
-        × TrueSeen (texts rule.now text.now) ks.now seen.new }
+    requires order { a ≤ e }
+    requires few { e ≤ MAX_CHILDREN }
+    requires known { TrueSeen (texts_by texts.now) ks.now seen.old }
+    ensures named { result ≡ true → Named (texts_by texts.now) ks.now n a e }
+    ensures seen { TrueSeen (texts_by texts.now) ks.now seen.new }
 {
-    if e <= a {
-        return true;
+    if ks.len() / CHILD_WORDS < e {
+        return false;
     }
-    if !named_child(layout::child_at(ks, a), n, rule, text) {
+    if a < e && !named_child(layout::child_at(ks, a), n, texts) {
         return false;
     }
     for i in a + 1..e {
-        if !next_child(ks, i, n, rule, text, seen) {
+        if !next_child(ks, i, n, texts, seen) {
             return false;
         }
     }
@@ -140,94 +136,72 @@ fn named_children<'a>(
 }
 
 // A quick yes for a kind without names, or with its children's alone.
-fn plain_kind<'a>(
-    k: Kind,
-    ks: &[u32],
-    n: u32,
-    chart: &[u32],
-    rule: &'a [u8],
-    text: &'a [u8],
-    seen: &mut Seen,
-) -> bool
-    requires { TrueSeen (texts rule.now text.now) ks.now seen.old × (k.first + k.count ≤ MAX_CHILDREN) }
-    ensures { (result ≡ true → PlainKind chart.now rule.now text.now ks.now n k)
-        × TrueSeen (texts rule.now text.now) ks.now seen.new }
+fn plain_kind(k: Kind, ks: &[u32], n: u32, env: &Env<'_>, seen: &mut Seen) -> bool
+    requires few { k.first + k.count ≤ MAX_CHILDREN }
+    requires known { TrueSeen (texts_by env.now.texts) ks.now seen.old }
+    ensures plain { result ≡ true → PlainKind (chart_lent env.now) ks.now n k }
+    ensures seen { TrueSeen (texts_by env.now.texts) ks.now seen.new }
 {
     let row = kinds::row_of(k.code);
-    if !frame_ok(k, row, chart) {
+    if !frame_ok(k, row, env.chart) {
         return false;
     }
     let first = k.first as usize;
     let end = first + k.count as usize;
     match row.names {
         Names::No => plain_children(ks, first, end, n),
-        Names::OfChildren => named_children(ks, first, end, n, rule, text, seen),
+        Names::OfChildren => named_children(ks, first, end, n, &env.texts, seen),
         Names::Own | Names::OfParameters => false,
     }
 }
 
 // The same for a node, with c children made.
-fn plain_node<'a>(
-    x: Cell,
-    ks: &[u32],
-    n: u32,
-    c: u32,
-    chart: &[u32],
-    rule: &'a [u8],
-    text: &'a [u8],
-    seen: &mut Seen,
-) -> bool
-    requires { TrueSeen (texts rule.now text.now) ks.now seen.old × (c ≤ MAX_CHILDREN) }
-    ensures { (result ≡ true → PlainNode chart.now rule.now text.now ks.now n c x)
-        × TrueSeen (texts rule.now text.now) ks.now seen.new }
+fn plain_node(x: Cell, ks: &[u32], n: u32, c: u32, env: &Env<'_>, seen: &mut Seen) -> bool
+    requires few { c ≤ MAX_CHILDREN }
+    requires known { TrueSeen (texts_by env.now.texts) ks.now seen.old }
+    ensures plain { result ≡ true → PlainNode (chart_lent env.now) ks.now n c x }
+    ensures seen { TrueSeen (texts_by env.now.texts) ks.now seen.new }
 {
     x.tag == KNOWN_TAG
         && u64::from(x.link) + u64::from(x.count) <= u64::from(c)
         && x.inv <= 1
         && x.dual <= 1
-        && plain_kind(layout::kind_in(x), ks, n, chart, rule, text, seen)
+        && plain_kind(layout::kind_in(x), ks, n, env, seen)
 }
 
 // Node i of n, with c children made.
-fn node_sound<'a>(
+fn node_sound(
     ws: &[u32],
     ks: &[u32],
     n: u32,
     c: u32,
-    chart: &[u32],
-    rule: &'a [u8],
-    text: &'a [u8],
+    env: &Env<'_>,
     i: TypeIdx,
     seen: &mut Seen,
 ) -> bool
-    requires { (node_words n ≤ length ws.now) × (i.0 < n) × (c ≤ MAX_CHILDREN) × TrueSeen (texts rule.now text.now) ks.now seen.old }
-    ensures { ((ns : List Node) → length ns ≡ n → result ≡ node_test (chart_in chart.now rule.now text.now)
-        ws.now ks.now c ns i.0)
-        × TrueSeen (texts rule.now text.now) ks.now seen.new }
+    requires words { node_words n ≤ length ws.now }
+    requires index { i.0 < n }
+    requires few { c ≤ MAX_CHILDREN }
+    requires known { TrueSeen (texts_by env.now.texts) ks.now seen.old }
+    ensures test { (ns : List Node) → length ns ≡ n → result ≡ node_test (chart_lent env.now) ws.now ks.now c ns i.0 }
+    ensures seen { TrueSeen (texts_by env.now.texts) ks.now seen.new }
 {
     let x = layout::cell_at(ws, i);
-    plain_node(x, ks, n, c, chart, rule, text, seen)
+    plain_node(x, ks, n, c, env, seen)
         || x.count as usize <= MAX_WIDTH
-            && clean::node_clean(ws, ks, c, i.0)
-            && kind_sound::node_sound(layout::node_at(ws, n, i), ks, n, chart, rule, text)
+            && clean::node_clean(ws, ks, c, i)
+            && kind_sound::node_sound(layout::node_at(ws, n, i), ks, n, env)
 }
 
 // All n nodes. An object's names that were seen to ascend are not compared again where runs of children overlap.
-pub fn nodes_sound<'a>(
-    ws: &[u32],
-    ks: &[u32],
-    n: u32,
-    c: u32,
-    chart: &[u32],
-    rule: &'a [u8],
-    text: &'a [u8],
-) -> bool
-    requires { (node_words n ≤ length ws.now) × (c ≤ MAX_CHILDREN) }
-    ensures { result ≡ nodes_test (chart_in chart.now rule.now text.now) ws.now ks.now c n }
+pub fn nodes_sound(ws: &[u32], ks: &[u32], n: u32, c: u32, env: &Env<'_>) -> bool
+    requires words { node_words n ≤ length ws.now }
+    requires few { c ≤ MAX_CHILDREN }
+    ensures { result ≡ nodes_test (chart_lent env.now) ws.now ks.now c n }
 {
     let mut seen: Seen = [false; MAX_CHILDREN];
     for i in 0..n {
-        if !node_sound(ws, ks, n, c, chart, rule, text, TypeIdx(i), &mut seen) {
+        if !node_sound(ws, ks, n, c, env, TypeIdx(i), &mut seen) {
             return false;
         }
     }

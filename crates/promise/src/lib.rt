@@ -1,6 +1,10 @@
 #![tactic(auto)]
 // What the public calls share: the test of 3 for one type. A call tests in document 01's order, 2 and 8 first, and what it promises is
 // the record `Promised`: its whole outcome, and every word afterwards. Each call on a store has a second form for words that 2 and 8 do not turn back (`Tested`).
+//
+// Kept (2): each public call stays a function of its own, though many are alike but for the core function that they call: the C interface has all their names.
+// Kept (5): header, nodes and children stay three lent slices in every call. Which of them a call may write its types say, and that differs from call to call. Tried as one
+// struct in `run_calls`, and the borrow checker does not cover a call that is lent several slices of it.
 ghost use Rattle.std.specs.Prelude.{[], ◌∷◌};
 ghost use Rattle.scope.specs.Types.{ty_of};
 ghost use Rattle.promise.specs.Promise.{TypesInside};

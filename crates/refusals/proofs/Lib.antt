@@ -3,3 +3,4 @@ pub mod Laws
 pub mod RoomLaws
 pub mod OpenLaws
 pub mod InsideLaws
+pub mod OrderLaws

@@ -70,14 +70,6 @@ kept_back r h = go (dec_lt (r.idx + 1) KEPT_INV)
     go (yes l) = rw (word_small r.inv r.idx l) (kept_small r.inv r.idx l)
     go (no l) = absurd (h (word_large r (omega arith)))
 
--- the number of a root, by the code's tests of its word's parts
-module _ (r : Ty) {i : ℕ} (e : i ≡ r.idx) where
-  pub word_none : KEPT_INV ≤ i + 1 → 0 ≡ kept_word r
-  word_none h = sym (word_large r (rw (← e) h))
-
-  pub word_some : (d : Bool) {b : Bool} → i + 1 < KEPT_INV → b ≡ r.inv → b ≡ d → pick d (i + 1 + KEPT_INV) (i + 1) ≡ kept_word r
-  word_some d h x y = rw (e, ← y, x) (sym (word_small r.inv r.idx (rw (← e) h)))
-
 -- a type's root is its node's, with the type's inversion
 find_flip : (ns : List Node) (t : Ty) → find ns t ≡ flip t.inv (find ns (ty false t.idx))
 find_flip ns t = find_root ns t ∙ ap (flip t.inv) (sym (find_root ns (ty false t.idx)))

@@ -152,9 +152,6 @@ pub record Points (ws : List ℕ) (n r : ℕ) (b₀ : Bool) (i₀ : ℕ) (ws' : 
   pub words : Relinked ws n ws'
   pub rest : (ks : List ℕ) → compress f (decode ws' ks n) (ty_of r) (ty b i) ≡ compress n (decode ws ks n) (ty_of r) (ty b₀ i₀)
 
-pub points_start : {ws : List ℕ} {n f r : ℕ} {b : Bool} {i : ℕ} → Linked ws n → f ≡ n → Points ws n r b i ws b i f
-points_start l h = record { words = relinked_refl l; rest = λ ks. rw h }
-
 pub points_up : {ws : List ℕ} {n r : ℕ} {b₀ : Bool} {i₀ : ℕ} {ws' : List ℕ} {b : Bool} {i f g : ℕ} {v : TypeNode} {u : «Type»} {ws'' : List ℕ}
     {p q : Bool} {j : ℕ} (t : «Type») → Points ws n r b₀ i₀ ws' b i f → f ≡ g + 1 → v ≡ read_at ws' n i → v ≡ code.Child u
     → ty_of t.0 ≡ flip b (ty_of r) → ws'' ≡ put_at ws' n i (code.Child t)

@@ -18,7 +18,7 @@ fn climb(ws: &[u32], n: u32, t: Type) -> Type
 {
     let mut inv = t.inv();
     let mut cur = t.idx();
-    for _step in 0..n {
+    for step in 0..n {
         let TypeNode::Child(parent) = layout::node_at(ws, n, cur) else {
             return Type::new(inv, cur);
         };
@@ -103,7 +103,7 @@ pub fn set_mark(marks: &mut [u8], i: TypeIdx)
 }
 
 // A cache has a number for each node: 0, or its root's number and 1, and KEPT_INV more where the root is to be inverted.
-// Kept (1): the table is fixed memory, and two bytes a node say a root or none; `kept` reads them as an Option.
+// Kept (1): the table is fixed memory, two bytes a node, and no Option of a nonzero number is promised to be as small; `kept` reads them as an Option.
 const KEPT_INV: u32 = 32768;
 
 // Node i's root by a cache, if it is there.

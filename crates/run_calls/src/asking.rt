@@ -29,21 +29,6 @@ pub(crate) enum Asking {
     Store,
 }
 
-fn related_to<W: Write>(
-    to: &mut W,
-    env: &Env<'_>,
-    h: &[u32],
-    ws: &[u32],
-    ks: &[u32],
-    marks: &mut [u8],
-    t: Type,
-) -> io::Result<()> {
-    match find_related(env, h, ws, ks, marks, t) {
-        Ok(()) => writing::marked(to, marks),
-        Err(r) => writing::refused(to, r),
-    }
-}
-
 fn related<W: Write>(
     to: &mut W,
     env: &Env<'_>,
@@ -54,7 +39,11 @@ fn related<W: Write>(
 ) -> io::Result<()> {
     let mut marks = [0u8; MAX_NODES];
     let n = to_bytes(after(a, 1), &mut marks);
-    related_to(to, env, h, ws, ks, &mut marks[..n], Type(word(a, 0)))
+    let marks = &mut marks[..n];
+    match find_related(env, h, ws, ks, marks, Type(word(a, 0))) {
+        Ok(()) => writing::marked(to, marks),
+        Err(r) => writing::refused(to, r),
+    }
 }
 
 // Every node, after the figures.

@@ -7,6 +7,7 @@ use crate::making::Making;
 use crate::naming::Naming;
 use crate::printing::Printing;
 
+// Kept (7): a call is decoded once, into these enums, and matched once, in the module that has it: its numbers are read there, which a closure would be handed.
 #[derive(Clone, Copy)]
 pub(crate) enum Call {
     Lend(Lending),
@@ -28,7 +29,7 @@ pub(crate) enum Call {
 
 // A number that is no call's.
 #[derive(Clone, Copy)]
-pub(crate) struct NoCall(pub(crate) u32);
+pub(crate) struct NoCall;
 
 impl TryFrom<u32> for Call {
     type Error = NoCall;
@@ -84,7 +85,7 @@ impl TryFrom<u32> for Call {
             71 => Call::Print(Printing::ShowImplType),
             72 => Call::Print(Printing::ShowPart),
             73 => Call::Print(Printing::ShowImplTypePart),
-            _ => return Err(NoCall(n)),
+            _ => return Err(NoCall),
         })
     }
 }

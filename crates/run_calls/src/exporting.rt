@@ -13,61 +13,7 @@ const ROOM: usize = MAX_LIST + 1;
 // What an export's words hold before it.
 const USED: u32 = 3_735_928_559;
 
-// The types, and every node of the fresh store.
-fn export_into<W: Write>(
-    to: &mut W,
-    env: &Env<'_>,
-    h: &[u32],
-    ws: &[u32],
-    ks: &[u32],
-    eh: &mut [u32],
-    ew: &mut [u32],
-    ek: &mut [u32],
-    a: &[u32],
-    out: &mut [u32],
-) -> io::Result<()> {
-    let ts = after(a, 6);
-    let nodes = word(a, 0);
-    let children = word(a, 1);
-    let r = call_copy::export(env, h, ws, ks, eh, ew, ek, nodes, children, ts, out);
-    writing::listed(to, r, out, ts.len())?;
-    match r {
-        Ok(()) => asking::store(to, env, eh, ew, ek),
-        Err(_) => Ok(()),
-    }
-}
-
-// Into as many of the words as the list says.
-fn export_lent<W: Write>(
-    to: &mut W,
-    env: &Env<'_>,
-    h: &[u32],
-    ws: &[u32],
-    ks: &[u32],
-    eh: &mut [u32],
-    ew: &mut [u32],
-    ek: &mut [u32],
-    a: &[u32],
-    out: &mut [u32],
-) -> io::Result<()> {
-    let room = upto(out, word(a, 2) as usize);
-    let x = upto(eh, word(a, 3) as usize);
-    let y = upto(ew, word(a, 4) as usize);
-    let z = upto(ek, word(a, 5) as usize);
-    export_into(
-        to,
-        env,
-        h,
-        ws,
-        ks,
-        &mut eh[..x],
-        &mut ew[..y],
-        &mut ek[..z],
-        a,
-        &mut out[..room],
-    )
-}
-
+// The types, and every node of the fresh store. It has as many words as the list says.
 pub(crate) fn export<W: Write>(
     to: &mut W,
     env: &Env<'_>,
@@ -80,5 +26,21 @@ pub(crate) fn export<W: Write>(
     let mut ew = [USED; NODES];
     let mut ek = [USED; KIDS];
     let mut out = [0u32; ROOM];
-    export_lent(to, env, h, ws, ks, &mut eh, &mut ew, &mut ek, a, &mut out)
+    let room = upto(&out, word(a, 2) as usize);
+    let x = upto(&eh, word(a, 3) as usize);
+    let y = upto(&ew, word(a, 4) as usize);
+    let z = upto(&ek, word(a, 5) as usize);
+    let eh = &mut eh[..x];
+    let ew = &mut ew[..y];
+    let ek = &mut ek[..z];
+    let out = &mut out[..room];
+    let ts = after(a, 6);
+    let nodes = word(a, 0);
+    let children = word(a, 1);
+    let r = call_copy::export(env, h, ws, ks, eh, ew, ek, nodes, children, ts, out);
+    writing::listed(to, r, out, ts.len())?;
+    match r {
+        Ok(()) => asking::store(to, env, eh, ew, ek),
+        Err(_) => Ok(()),
+    }
 }

@@ -9,29 +9,6 @@ use std::io::Write;
 // One more than a list may have.
 const ROOM: usize = MAX_LIST + 1;
 
-fn import_into<W: Write>(
-    to: &mut W,
-    env: &Env<'_>,
-    h: &mut [u32],
-    ws: &mut [u32],
-    ks: &mut [u32],
-    sh: &[u32],
-    sw: &[u32],
-    sk: &[u32],
-    a: &[u32],
-    out: &mut [u32],
-) -> io::Result<()> {
-    let given = after(a, 3);
-    let ts = first(given, word(a, 2) as usize);
-    let params = if word(a, 1) != 0 {
-        Some(after(given, ts.len()))
-    } else {
-        None
-    };
-    let r = call_copy::import(env, h, ws, ks, sh, sw, sk, ts, params, out);
-    writing::listed(to, r, out, ts.len())
-}
-
 // Out of the words sh, sw, sk.
 pub(crate) fn import<W: Write>(
     to: &mut W,
@@ -46,5 +23,10 @@ pub(crate) fn import<W: Write>(
 ) -> io::Result<()> {
     let mut out = [0u32; ROOM];
     let room = upto(&out, word(a, 0) as usize);
-    import_into(to, env, h, ws, ks, sh, sw, sk, a, &mut out[..room])
+    let out = &mut out[..room];
+    let given = after(a, 3);
+    let ts = first(given, word(a, 2) as usize);
+    let params = (word(a, 1) != 0).then_some(after(given, ts.len()));
+    let r = call_copy::import(env, h, ws, ks, sh, sw, sk, ts, params, out);
+    writing::listed(to, r, out, ts.len())
 }

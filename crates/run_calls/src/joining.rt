@@ -2,12 +2,11 @@
 use call_impl::{approx_eq, unify_impl_type};
 use call_unify_lists::{unify_fn_sig, unify_objects, unify_types};
 use chart::Env;
-use refusals::Refusal;
 use run_text::numbers::{after, first, word};
 use run_text::writing;
 use std::io;
 use std::io::Write;
-use types::{Impl, Inverted, Type, UnifyResult};
+use types::{Impl, Inverted, Type};
 
 #[derive(Clone, Copy)]
 pub(crate) enum Joining {
@@ -27,67 +26,40 @@ pub(crate) enum Joining {
     ApproxEq,
 }
 
-fn impl_of(error: u32, number: u32) -> Impl {
+// A trait by its number, or an error where the first number says so.
+pub(crate) fn impl_of(error: u32, number: u32) -> Impl {
     if error != 0 {
         return Impl::Error;
     }
     Impl::Trait(number)
 }
 
-fn lists(
-    of_objects: bool,
-    env: &Env<'_>,
-    h: &[u32],
-    ws: &mut [u32],
-    ks: &[u32],
-    a: &[u32],
-) -> Result<UnifyResult, Refusal> {
-    let inv = Inverted(word(a, 0) != 0);
+// Two lists, and whether the second's types are inverted.
+fn lists(a: &[u32]) -> (&[u32], &[u32], Inverted) {
     let n = word(a, 1) as usize;
     let both = after(a, 2);
-    let xs = first(both, n);
-    let ys = after(both, n);
-    if of_objects {
-        return unify_objects(env, h, ws, ks, xs, ys, inv);
-    }
-    unify_types(env, h, ws, ks, xs, ys, inv)
+    (first(both, n), after(both, n), Inverted(word(a, 0) != 0))
 }
 
-fn signatures(
-    env: &Env<'_>,
-    h: &[u32],
-    ws: &mut [u32],
-    ks: &[u32],
-    a: &[u32],
-) -> Result<UnifyResult, Refusal> {
+// Two signatures: their parameters and a return each.
+fn signatures(a: &[u32]) -> (&[u32], Type, &[u32], Type) {
     let n = word(a, 2) as usize;
     let both = after(a, 3);
-    let xs = first(both, n);
-    let ys = after(both, n);
-    let x = Type(word(a, 0));
-    let y = Type(word(a, 1));
-    unify_fn_sig(env, h, ws, ks, xs, x, ys, y)
+    (
+        first(both, n),
+        Type(word(a, 0)),
+        after(both, n),
+        Type(word(a, 1)),
+    )
 }
 
-fn impls<W: Write>(
-    to: &mut W,
-    approximate: bool,
-    env: &Env<'_>,
-    h: &[u32],
-    ws: &mut [u32],
-    ks: &[u32],
-    a: &[u32],
-) -> io::Result<()> {
-    let p = impl_of(word(a, 0), word(a, 1));
-    let q = impl_of(word(a, 2), word(a, 3));
+// Two impl types: a trait or an error, and their types each.
+fn impls(a: &[u32]) -> (Impl, &[u32], Impl, &[u32]) {
     let n = word(a, 4) as usize;
     let both = after(a, 5);
-    let xs = first(both, n);
-    let ys = after(both, n);
-    if approximate {
-        return writing::bool_answer(to, approx_eq(env, h, ws, ks, p, xs, q, ys));
-    }
-    writing::unify_answer(to, unify_impl_type(env, h, ws, ks, p, xs, q, ys))
+    let p = impl_of(word(a, 0), word(a, 1));
+    let q = impl_of(word(a, 2), word(a, 3));
+    (p, first(both, n), q, after(both, n))
 }
 
 pub(crate) fn call<W: Write>(
@@ -106,10 +78,25 @@ pub(crate) fn call<W: Write>(
             let r = call_unify::unify(env, h, ws, ks, t, Type(word(a, 1)));
             writing::unify_answer(to, r)
         }
-        Joining::UnifyTypes => writing::unify_answer(to, lists(false, env, h, ws, ks, a)),
-        Joining::UnifyObjects => writing::unify_answer(to, lists(true, env, h, ws, ks, a)),
-        Joining::UnifyFnSig => writing::unify_answer(to, signatures(env, h, ws, ks, a)),
-        Joining::UnifyImplType => impls(to, false, env, h, ws, ks, a),
-        Joining::ApproxEq => impls(to, true, env, h, ws, ks, a),
+        Joining::UnifyTypes => {
+            let (xs, ys, inv) = lists(a);
+            writing::unify_answer(to, unify_types(env, h, ws, ks, xs, ys, inv))
+        }
+        Joining::UnifyObjects => {
+            let (xs, ys, inv) = lists(a);
+            writing::unify_answer(to, unify_objects(env, h, ws, ks, xs, ys, inv))
+        }
+        Joining::UnifyFnSig => {
+            let (xs, x, ys, y) = signatures(a);
+            writing::unify_answer(to, unify_fn_sig(env, h, ws, ks, xs, x, ys, y))
+        }
+        Joining::UnifyImplType => {
+            let (p, xs, q, ys) = impls(a);
+            writing::unify_answer(to, unify_impl_type(env, h, ws, ks, p, xs, q, ys))
+        }
+        Joining::ApproxEq => {
+            let (p, xs, q, ys) = impls(a);
+            writing::bool_answer(to, approx_eq(env, h, ws, ks, p, xs, q, ys))
+        }
     }
 }

@@ -15,7 +15,7 @@ mod making; // open and the makers
 mod naming; // named states, and reset
 mod printing; // show and show_impl_type
 
-use crate::calls::Call;
+use crate::calls::{Call, NoCall};
 use crate::lending::{Lending, Lent, env_of, lend, nothing_lent, part};
 use chart::Env;
 use layout::{CHILD_WORDS, HEAD_WORDS, NODE_WORDS};
@@ -177,13 +177,11 @@ fn next(s: &[u32], at: usize) -> usize
 {
     let n = word(after(s, at), 1) as usize;
     let left = s.len() - at;
-    if left < 3 {
-        return s.len();
+    if left < 3 || left - 2 <= n {
+        s.len()
+    } else {
+        at + 2 + n
     }
-    if left - 2 <= n {
-        return s.len();
-    }
-    at + 2 + n
 }
 
 // Words for those that stand in o from there on.
@@ -220,7 +218,7 @@ fn turn<W: Write>(
             act(to, s, c, l, h, ws, ks, bs, o, a)?;
             Ok(l)
         }
-        Err(_) => Ok(l),
+        Err(NoCall) => Ok(l),
     }
 }
 

@@ -42,20 +42,6 @@ fn kind_args(a: &[u32]) -> KindArgs {
     }
 }
 
-fn new_vars_into<W: Write>(
-    to: &mut W,
-    env: &Env<'_>,
-    h: &mut [u32],
-    ws: &mut [u32],
-    ks: &[u32],
-    a: &[u32],
-    out: &mut [u32],
-) -> io::Result<()> {
-    let n = word(a, 1);
-    let r = call_make::new_vars(env, h, ws, ks, word(a, 0), n, out);
-    writing::listed(to, r, out, n as usize)
-}
-
 fn new_vars<W: Write>(
     to: &mut W,
     env: &Env<'_>,
@@ -66,7 +52,10 @@ fn new_vars<W: Write>(
 ) -> io::Result<()> {
     let mut out = [0u32; MAX_NODES];
     let room = upto(&out, word(a, 2) as usize);
-    new_vars_into(to, env, h, ws, ks, a, &mut out[..room])
+    let out = &mut out[..room];
+    let n = word(a, 1);
+    let r = call_make::new_vars(env, h, ws, ks, word(a, 0), n, out);
+    writing::listed(to, r, out, n as usize)
 }
 
 pub(crate) fn call<W: Write>(

@@ -1,12 +1,13 @@
 // The printers, into a buffer of dots: the answer, and then every byte of the buffer, or of the part that is handed back, between bars.
+use crate::joining::impl_of;
 use call_show::{show, show_impl_type, show_impl_type_part, show_part};
 use chart::Env;
 use refusals::Refusal;
-use run_text::numbers::{after, bytes_upto, word};
+use run_text::numbers::{after, upto, word};
 use run_text::writing;
 use std::io;
 use std::io::Write;
-use types::{Impl, Type};
+use types::Type;
 
 #[derive(Clone, Copy)]
 pub(crate) enum Printing {
@@ -42,18 +43,8 @@ fn count<W: Write>(to: &mut W, a: Result<usize, Refusal>) -> io::Result<()> {
 
 // What is told beside a part.
 fn code<W: Write>(to: &mut W, told: Option<Refusal>) -> io::Result<()> {
-    let n = match told {
-        Some(r) => u32::from(r),
-        None => 0,
-    };
+    let n = told.map_or(0, u32::from);
     write!(to, "code {n}")
-}
-
-fn impl_of(a: &[u32]) -> Impl {
-    if word(a, 1) != 0 {
-        return Impl::Error;
-    }
-    Impl::Trait(word(a, 2))
 }
 
 fn print<W: Write>(
@@ -67,7 +58,7 @@ fn print<W: Write>(
     a: &[u32],
 ) -> io::Result<()> {
     let t = Type(word(a, 1));
-    let i = impl_of(a);
+    let i = impl_of(word(a, 1), word(a, 2));
     let xs = after(a, 3);
     match c {
         Printing::Show => {
@@ -101,6 +92,6 @@ pub(crate) fn call<W: Write>(
     a: &[u32],
 ) -> io::Result<()> {
     let mut buf = [DOT; ROOM];
-    let n = bytes_upto(&buf, word(a, 0) as usize);
+    let n = upto(&buf, word(a, 0) as usize);
     print(to, c, env, h, ws, ks, &mut buf[..n], a)
 }

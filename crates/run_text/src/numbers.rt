@@ -7,13 +7,19 @@ const HASH: u8 = b'#';
 
 const ZERO: u8 = b'0';
 
-// What the bytes so far have said: numbers written, the one being read, whether one is, and whether a remark is.
+// What is being read: a number, of which this is read, a remark, or neither.
+#[derive(Clone, Copy)]
+enum Reading {
+    Between,
+    Number(u32),
+    Remark,
+}
+
+// How many numbers the bytes so far have said, and what is being read.
 #[derive(Clone, Copy)]
 struct Seen {
     count: usize,
-    value: u32,
-    digits: bool,
-    remark: bool,
+    reading: Reading,
 }
 
 fn digit(b: u8) -> u64
@@ -31,10 +37,6 @@ fn with_digit(value: u32, b: u8) -> u32 {
     (v % 4_294_967_296) as u32
 }
 
-fn is_digit(b: u8) -> bool {
-    b.is_ascii_digit()
-}
-
 fn put(out: &mut [u32], i: usize, v: u32) -> usize {
     let Some(w) = out.get_mut(i) else {
         return i;
@@ -43,47 +45,39 @@ fn put(out: &mut [u32], i: usize, v: u32) -> usize {
     i + 1
 }
 
-// No number is being read.
+// Behind a byte that is no digit.
 fn between(count: usize, b: u8) -> Seen {
-    Seen {
-        count,
-        value: 0,
-        digits: false,
-        remark: b == HASH,
-    }
+    let reading = if b == HASH {
+        Reading::Remark
+    } else {
+        Reading::Between
+    };
+    Seen { count, reading }
 }
 
 // What the bytes have said, with one byte more.
 fn step(out: &mut [u32], s: Seen, b: u8) -> Seen {
-    if s.remark {
-        return Seen {
-            count: s.count,
-            value: 0,
-            digits: false,
-            remark: b != NEWLINE,
-        };
+    match s.reading {
+        Reading::Remark if b != NEWLINE => s,
+        Reading::Remark => between(s.count, b),
+        Reading::Number(n) if b.is_ascii_digit() => Seen {
+            reading: Reading::Number(with_digit(n, b)),
+            ..s
+        },
+        Reading::Number(n) => between(put(out, s.count, n), b),
+        Reading::Between if b.is_ascii_digit() => Seen {
+            reading: Reading::Number(with_digit(0, b)),
+            ..s
+        },
+        Reading::Between => between(s.count, b),
     }
-    if is_digit(b) {
-        return Seen {
-            count: s.count,
-            value: with_digit(s.value, b),
-            digits: true,
-            remark: false,
-        };
-    }
-    if s.digits {
-        return between(put(out, s.count, s.value), b);
-    }
-    between(s.count, b)
 }
 
 // The numbers of the text, and how many they are. The text ends with a newline.
 pub fn numbers(text: &[u8], out: &mut [u32]) -> usize {
     let mut s = Seen {
         count: 0,
-        value: 0,
-        digits: false,
-        remark: false,
+        reading: Reading::Between,
     };
     for &b in text {
         s = step(out, s, b);
@@ -113,14 +107,8 @@ pub fn first(s: &[u32], n: usize) -> &[u32] {
     &s[..upto(s, n)]
 }
 
-// How many of n words there are; of n bytes below.
-pub fn upto(s: &[u32], n: usize) -> usize
-    ensures { result ≤ length s.now }
-{
-    n.min(s.len())
-}
-
-pub fn bytes_upto(s: &[u8], n: usize) -> usize
+// How many of n there are.
+pub fn upto<T>(s: &[T], n: usize) -> usize
     ensures { result ≤ length s.now }
 {
     n.min(s.len())
@@ -130,7 +118,7 @@ pub fn bytes_upto(s: &[u8], n: usize) -> usize
 pub fn to_bytes(s: &[u32], out: &mut [u8]) -> usize
     ensures { result ≤ length out.new }
 {
-    let n = bytes_upto(out, s.len());
+    let n = upto(out, s.len());
     for (b, &w) in out.iter_mut().zip(s) {
         *b = (w % 256) as u8;
     }

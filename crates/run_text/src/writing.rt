@@ -24,9 +24,7 @@ pub fn line<W: Write>(to: &mut W) -> io::Result<()> {
 
 // The beginning of a case.
 pub fn case<W: Write>(to: &mut W, n: u32) -> io::Result<()> {
-    say(to, b"case ")?;
-    number(to, n)?;
-    line(to)
+    writeln!(to, "case {n}")
 }
 
 fn inverse<W: Write>(to: &mut W, i: Inverted) -> io::Result<()> {
@@ -71,16 +69,26 @@ pub fn marked<W: Write>(to: &mut W, marks: &[u8]) -> io::Result<()> {
 }
 
 pub fn refused<W: Write>(to: &mut W, r: Refusal) -> io::Result<()> {
-    say(to, b"refused ")?;
-    number(to, u32::from(r))?;
-    line(to)
+    let n = u32::from(r);
+    writeln!(to, "refused {n}")
+}
+
+// What a call answered: its value, as it is told, or its refusal.
+fn answer<W: Write, T, F: FnOnce(&mut W, T) -> io::Result<()>>(
+    to: &mut W,
+    a: Result<T, Refusal>,
+    tell: F,
+) -> io::Result<()>
+    requires { F.IsAlwaysCallable tell }
+{
+    match a {
+        Ok(x) => tell(to, x),
+        Err(r) => refused(to, r),
+    }
 }
 
 pub fn done<W: Write>(to: &mut W, a: Result<(), Refusal>) -> io::Result<()> {
-    match a {
-        Ok(()) => say(to, b"done\n"),
-        Err(r) => refused(to, r),
-    }
+    answer(to, a, |to, ()| say(to, b"done\n"))
 }
 
 // The types that stand at the front of `out`, if the call was done.
@@ -90,76 +98,58 @@ pub fn listed<W: Write>(
     out: &[u32],
     count: usize,
 ) -> io::Result<()> {
-    match a {
-        Ok(()) => types(to, first(out, count)),
-        Err(r) => refused(to, r),
-    }
+    answer(to, a, |to, ()| types(to, first(out, count)))
 }
 
 pub fn type_answer<W: Write>(to: &mut W, a: Result<Type, Refusal>) -> io::Result<()> {
-    match a {
-        Ok(t) => {
-            say(to, b"=")?;
-            typ(to, t)?;
-            line(to)
-        }
-        Err(r) => refused(to, r),
-    }
+    answer(to, a, |to, t| {
+        say(to, b"=")?;
+        typ(to, t)?;
+        line(to)
+    })
 }
 
 pub fn bool_answer<W: Write>(to: &mut W, a: Result<bool, Refusal>) -> io::Result<()> {
-    match a {
-        Ok(b) => {
-            flag(to, b)?;
-            line(to)
-        }
-        Err(r) => refused(to, r),
-    }
+    answer(to, a, |to, b| {
+        flag(to, b)?;
+        line(to)
+    })
 }
 
 fn result<W: Write>(to: &mut W, r: UnifyResult) -> io::Result<()> {
-    match r {
-        UnifyResult::Success => say(to, b"Success\n"),
-        UnifyResult::Failure => say(to, b"Failure\n"),
-        UnifyResult::Indeterminate => say(to, b"Indeterminate\n"),
-    }
+    writeln!(to, "{r:?}")
 }
 
 pub fn unify_answer<W: Write>(to: &mut W, a: Result<UnifyResult, Refusal>) -> io::Result<()> {
-    match a {
-        Ok(r) => result(to, r),
-        Err(r) => refused(to, r),
-    }
+    answer(to, a, result)
 }
 
 pub fn mod_answer<W: Write>(to: &mut W, a: Result<Mod, Refusal>) -> io::Result<()> {
-    match a {
-        Ok(Mod::Nothing) => say(to, b"none\n"),
-        Ok(Mod::Error) => say(to, b"error\n"),
-        Ok(Mod::Def(d)) => {
-            say(to, b"def ")?;
-            number(to, d)?;
-            line(to)
-        }
-        Err(r) => refused(to, r),
+    answer(to, a, |to, m| match m {
+        Mod::Nothing => say(to, b"none\n"),
+        Mod::Error => say(to, b"error\n"),
+        Mod::Def(d) => writeln!(to, "def {d}"),
+    })
+}
+
+fn type_or_none<W: Write>(to: &mut W, t: Option<Type>) -> io::Result<()> {
+    match t {
+        Some(t) => typ(to, t),
+        None => say(to, b"none"),
     }
 }
 
 pub fn child_answer<W: Write>(to: &mut W, a: Result<Option<Type>, Refusal>) -> io::Result<()> {
-    match a {
-        Ok(Some(t)) => {
-            typ(to, t)?;
-            line(to)
-        }
-        Ok(None) => say(to, b"none\n"),
-        Err(r) => refused(to, r),
-    }
+    answer(to, a, |to, kid| {
+        type_or_none(to, kid)?;
+        line(to)
+    })
 }
 
 // A name's bytes between bars.
 fn name<W: Write>(to: &mut W, n: Name, env: &Env<'_>) -> io::Result<()> {
     say(to, b"|")?;
-    say(to, names::bytes_of(n, env.texts.rule, env.texts.chart))?;
+    say(to, names::bytes_of(n, &env.texts))?;
     say(to, b"|")
 }
 
@@ -168,14 +158,13 @@ pub fn name_answer<W: Write>(
     a: Result<Option<Name>, Refusal>,
     env: &Env<'_>,
 ) -> io::Result<()> {
-    match a {
-        Ok(Some(n)) => {
+    answer(to, a, |to, n| match n {
+        Some(n) => {
             name(to, n, env)?;
             line(to)
         }
-        Ok(None) => say(to, b"none\n"),
-        Err(r) => refused(to, r),
-    }
+        None => say(to, b"none\n"),
+    })
 }
 
 // A child's type, and its name if it has one.
@@ -183,9 +172,8 @@ fn child<W: Write>(to: &mut W, ks: &[u32], k: Kind, j: u32, env: &Env<'_>) -> io
     let s = layout::child_of(ks, k, j);
     say(to, b" ")?;
     typ(to, s.ty)?;
-    let n = s.name;
-    if n.len != 0 {
-        return name(to, n, env);
+    if s.name.len != 0 {
+        name(to, s.name, env)?;
     }
     Ok(())
 }
@@ -199,25 +187,23 @@ fn children<W: Write>(to: &mut W, ks: &[u32], k: Kind, env: &Env<'_>) -> io::Res
 
 // A kind: code, number, flag, `Flex`, its own name if it has one, its children.
 fn kind<W: Write>(to: &mut W, ks: &[u32], k: Kind, env: &Env<'_>) -> io::Result<()> {
-    number(to, k.code)?;
-    say(to, b" ")?;
-    number(to, k.number)?;
-    say(to, b" ")?;
-    flag(to, k.dual)?;
-    say(to, b" ")?;
-    number(to, k.flex)?;
-    let n = k.name;
-    if n.len != 0 {
+    let Kind {
+        code,
+        number,
+        flex,
+        ..
+    } = k;
+    let dual = u32::from(k.dual);
+    write!(to, "{code} {number} {dual} {flex}")?;
+    if k.name.len != 0 {
         say(to, b" ")?;
-        name(to, n, env)?;
+        name(to, k.name, env)?;
     }
     children(to, ks, k, env)
 }
 
 fn root<W: Write>(to: &mut W, size: u32) -> io::Result<()> {
-    say(to, b"root ")?;
-    number(to, size)?;
-    say(to, b" ")
+    write!(to, "root {size} ")
 }
 
 fn known<W: Write>(to: &mut W, ks: &[u32], i: Inverted, k: Kind, env: &Env<'_>) -> io::Result<()> {
@@ -229,10 +215,7 @@ fn known<W: Write>(to: &mut W, ks: &[u32], i: Inverted, k: Kind, env: &Env<'_>) 
 fn state<W: Write>(to: &mut W, ks: &[u32], s: TypeState, env: &Env<'_>) -> io::Result<()> {
     match s {
         TypeState::Known(i, k) => known(to, ks, i, k, env),
-        TypeState::Unknown(span) => {
-            say(to, b"unknown ")?;
-            number(to, span)
-        }
+        TypeState::Unknown(span) => write!(to, "unknown {span}"),
         TypeState::InferenceFailed => say(to, b"failed"),
     }
 }
@@ -243,19 +226,19 @@ pub fn node_answer<W: Write>(
     ks: &[u32],
     env: &Env<'_>,
 ) -> io::Result<()> {
-    match a {
-        Ok(TypeNode::Root { state: s, size }) => {
-            root(to, size)?;
-            state(to, ks, s, env)?;
-            line(to)
+    answer(to, a, |to, node| {
+        match node {
+            TypeNode::Root { state: s, size } => {
+                root(to, size)?;
+                state(to, ks, s, env)?;
+            }
+            TypeNode::Child(t) => {
+                say(to, b"child ")?;
+                typ(to, t)?;
+            }
         }
-        Ok(TypeNode::Child(t)) => {
-            say(to, b"child ")?;
-            typ(to, t)?;
-            line(to)
-        }
-        Err(r) => refused(to, r),
-    }
+        line(to)
+    })
 }
 
 // "Both give Error uninverted."
@@ -269,53 +252,39 @@ pub fn forced_answer<W: Write>(
     ks: &[u32],
     env: &Env<'_>,
 ) -> io::Result<()> {
-    match a {
-        Ok(Forced::Known(i, k)) => {
-            known(to, ks, i, k, env)?;
-            line(to)
+    answer(to, a, |to, found| {
+        match found {
+            Forced::Known(i, k) => known(to, ks, i, k, env)?,
+            Forced::Reported(span) => {
+                no_kind(to)?;
+                write!(to, " reported {span}")?;
+            }
+            Forced::Failed => no_kind(to)?,
         }
-        Ok(Forced::Reported(span)) => {
-            no_kind(to)?;
-            say(to, b" reported ")?;
-            number(to, span)?;
-            line(to)
-        }
-        Ok(Forced::Failed) => {
-            no_kind(to)?;
-            line(to)
-        }
-        Err(r) => refused(to, r),
-    }
-}
-
-fn remembered<W: Write>(to: &mut W, r: Option<Type>) -> io::Result<()> {
-    match r {
-        Some(t) => typ(to, t),
-        None => say(to, b"none"),
-    }
+        line(to)
+    })
 }
 
 // Counts, capacities, the remembered types, the report count.
 fn header<W: Write>(to: &mut W, x: Header) -> io::Result<()> {
-    say(to, b"nodes ")?;
-    number(to, x.nodes)?;
-    say(to, b" of ")?;
-    number(to, x.node_room)?;
-    say(to, b", children ")?;
-    number(to, x.children)?;
-    say(to, b" of ")?;
-    number(to, x.child_room)?;
-    say(to, b", error ")?;
-    remembered(to, x.error)?;
+    let Header {
+        nodes,
+        node_room,
+        children,
+        child_room,
+        reports,
+        ..
+    } = x;
+    write!(
+        to,
+        "nodes {nodes} of {node_room}, children {children} of {child_room}, error "
+    )?;
+    type_or_none(to, x.error)?;
     say(to, b", nil ")?;
-    remembered(to, x.nil)?;
-    let reports = x.reports;
+    type_or_none(to, x.nil)?;
     writeln!(to, ", reports {reports}")
 }
 
 pub fn figures_answer<W: Write>(to: &mut W, a: Result<Header, Refusal>) -> io::Result<()> {
-    match a {
-        Ok(x) => header(to, x),
-        Err(r) => refused(to, r),
-    }
+    answer(to, a, header)
 }

@@ -20,7 +20,7 @@ use Rattle.shape.specs.declared.Up.{Up}
 use Rattle.shape.specs.declared.Up.TheVariants.{Root, Parent}
 use Rattle.shape.specs.Walks.{ends, upward, Leads, here, more}
 use Rattle.shape.specs.Read.{ups, root_of, tallied}
-use Rattle.shape.specs.Asks.{ParentsInside, TrueRoots, Climbs, Climbed, ClimbedAll, Rooted, Tallies, Tallied}
+use Rattle.shape.specs.Asks.{ParentsInside, TrueRoots, Climbs, Climbed, ClimbedAll, Rooted, Tallies}
 use Rattle.shape.proofs.Tables.{zeros, blank_long, stored_by}
 use Rattle.shape.proofs.Lists.{count_most, count_last}
 use Rattle.shape.proofs.Walks.{ends_none, ends_up, leads_ends}
@@ -29,22 +29,19 @@ use Rattle.shape.proofs.Walks.{ends_none, ends_up, leads_ends}
 
 module _ (p : ℕ → Up) where
   pub right_none : TrueRoots p (replicate MAX_NODES 0)
-  right_none = record { long = blank_long; right = λ v l. absurd (omega (arith, zeros MAX_NODES v)) }
+  right_none = record { long = blank_long {A = ℕ} 0; right = λ v l. absurd (omega (arith, zeros MAX_NODES v)) }
 
   right_set : {roots : List ℕ} (v h : ℕ) → v < MAX_NODES → TrueRoots p roots → (0 < h → Leads p v (h - 1)) → TrueRoots p (set roots v h)
   right_set {roots} v h l r f = record {
     long = length-set roots v h ∙ r.long;
-    right = stored_by (λ u x. 0 < x → Leads p u (x - 1)) roots v h (omega (arith, r.long)) f (λ u z. r.right u);
+    right = stored_by 0 (λ u x. 0 < x → Leads p u (x - 1)) roots v h (omega (arith, r.long)) f (λ u z. r.right u);
   }
 
   -- roots that were known stay known where one that was not is stored
   stay_set : (roots₀ roots : List ℕ) (v h : ℕ) → v < MAX_NODES → TrueRoots p roots → get_or roots₀ v 0 ≡ 0 → ((u : ℕ) → 0 < get_or roots₀ u 0 → 0 < get_or roots u 0)
       → (u : ℕ) → 0 < get_or roots₀ u 0 → 0 < get_or (set roots v h) u 0
   stay_set roots₀ roots v h l r e f =
-      stored_by (λ u x. 0 < get_or roots₀ u 0 → 0 < x) roots v h (omega (arith, r.long)) (λ k. absurd (omega arith)) (λ u z. f u)
-
-  pub climb_known : {roots : List ℕ} {depth v m : ℕ} → TrueRoots p roots → m ≡ get_or roots v 0 → (m ≡ 0 → ⊥) → Climbed p depth v roots roots true
-  climb_known r e z = record { right = r; stay = λ u l. l; known = λ _. omega arith; lost = λ q. absurd (false≢true (sym q)) }
+      stored_by 0 (λ u x. 0 < get_or roots₀ u 0 → 0 < x) roots v h (omega (arith, r.long)) (λ k. absurd (omega arith)) (λ u z. f u)
 
   pub climb_deep : {roots : List ℕ} {depth v : ℕ} → TrueRoots p roots → depth ≡ 0 → Climbed p depth v roots roots false
   climb_deep {v = v} r z = record { right = r; stay = λ u l. l; known = λ q. absurd (false≢true q); lost = λ _. rw z (ends_none (upward p) v) }
@@ -55,7 +52,7 @@ module _ (p : ℕ → Up) where
       let k = get_or-set_same roots v (v + 1) 0 (omega (arith, r.long)) in
       rw s record {
         right = right_set v (v + 1) l r (λ _. rw q (here f));
-        stay = stored_by (λ u x. 0 < get_or roots u 0 → 0 < x) roots v (v + 1) (omega (arith, r.long)) (λ _. omega arith) (λ u z k. k);
+        stay = stored_by 0 (λ u x. 0 < get_or roots u 0 → 0 < x) roots v (v + 1) (omega (arith, r.long)) (λ _. omega arith) (λ u z k. k);
         known = λ _. omega arith;
         lost = λ z. absurd (false≢true (sym z));
       }
@@ -92,9 +89,6 @@ pub record Upto (p : ℕ → Up) (n v : ℕ) (roots : List ℕ) : Type 0 where
   pub right : TrueRoots p roots
   pub known : (u : ℕ) → u < v → 0 < get_or roots u 0
 
-pub upto_none : {p : ℕ → Up} {n : ℕ} {roots : List ℕ} → TrueRoots p roots → Upto p n 0 roots
-upto_none r = record { most = omega arith; right = r; known = λ u l. absurd (omega arith) }
-
 pub upto_more : {p : ℕ → Up} {n v : ℕ} {r : Bool} {roots roots' : List ℕ} → Upto p n v roots → v < n → Climbed p n v roots roots' r → r ≡ true → Upto p n (v + 1) roots'
 upto_more a l w z = record {
   most = omega arith;
@@ -125,10 +119,7 @@ pub record Counted (roots counts : List ℕ) (n v : ℕ) : Type 0 where
   pub each : (u : ℕ) → u < n → get_or counts u 0 ≡ tallied roots v u
 
 pub tallies_none : {roots : List ℕ} {n : ℕ} → Rooted roots n → Tallies roots (replicate MAX_NODES 0) n
-tallies_none a = record { rooted = a; long = blank_long; zeros = λ v l. zeros MAX_NODES v }
-
-pub counted_none : {roots counts : List ℕ} {n : ℕ} → Tallies roots counts n → Counted roots counts n 0
-counted_none a = record { most = omega arith; long = a.long; each = a.zeros }
+tallies_none a = record { rooted = a; long = blank_long {A = ℕ} 0; zeros = λ v l. zeros MAX_NODES v }
 
 counted_last : (roots : List ℕ) (v u : ℕ) (b : Bool) → eqb (root_of roots v) u ≡ b → tallied roots (v + 1) u ≡ tallied roots v u + pick b 1 0
 counted_last roots v u b e =
@@ -152,15 +143,7 @@ counted_more {roots} {counts} {n} {v} {r} a w l e = record {
         let c = counted_last roots v u false (ne_eqb (root_of roots v) u (λ z. q (sym z ∙ sym e))) in
         omega (arith, get_or-set_other counts r u (get_or counts r 0 + 1) 0 q, w.each u k, c)
 
-pub root_small : {roots : List ℕ} {n v r : ℕ} → Rooted roots n → v < n → r ≡ root_of roots v → r < MAX_NODES
-root_small {v = v} a l e = omega (arith, a.below v l, a.few)
-
 pub count_small : {roots counts : List ℕ} {n v r : ℕ} → Rooted roots n → Counted roots counts n v → v < n → r ≡ root_of roots v → get_or counts r 0 < MAX_NODES
 count_small {roots} {counts} {n} {v} {r} a w l e =
     let k : r < n = omega (arith, a.below v l) in
     omega (arith, w.each r k, count_most (λ i. eqb (root_of roots i) r) 0 v, a.few)
-
-pub counted_all : {roots counts : List ℕ} {n v : ℕ} → Counted roots counts n v → n ≤ v → Tallied roots n counts
-counted_all {roots} {counts} {n} {v} w l =
-    let e : v ≡ n = omega (arith, w.most) in
-    record { each = λ u k. w.each u k ∙ ap (λ (x : ℕ). tallied roots x u) e }

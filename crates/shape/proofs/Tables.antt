@@ -1,4 +1,4 @@
--- A table of a number for each node, just made and after a store: only the entry that was stored changes.
+-- A table of a number or a mark for each node, just made and after a store: only the entry that was stored changes.
 -- Assumes nothing.
 use mathlib.Core.Path.{◌≡◌, refl}
 use mathlib.Core.List.{List}
@@ -8,18 +8,21 @@ use lib.ListN.{length, get_or, set, replicate, length-replicate}
 use lib.Seq.{get_or-set_same, get_or-set_other}
 use Rattle.scope.specs.Limits.{MAX_NODES}
 
+pub blank : {A : Type 0} (x : A) (m v : ℕ) → get_or (replicate m x) v x ≡ x
+blank x zero v = refl
+blank x (suc m) zero = refl
+blank x (suc m) (suc v) = blank x m v
+
 pub zeros : (m v : ℕ) → ◌≡◌ {A = ℕ} (get_or (replicate m 0) v 0) 0
-zeros zero v = refl
-zeros (suc m) zero = refl
-zeros (suc m) (suc v) = zeros m v
+zeros m v = blank {A = ℕ} 0 m v
 
-pub blank_long : length {A = ℕ} (replicate MAX_NODES 0) ≡ MAX_NODES
-blank_long = length-replicate {A = ℕ} MAX_NODES 0
+pub blank_long : {A : Type 0} (x : A) → length (replicate MAX_NODES x) ≡ MAX_NODES
+blank_long x = length-replicate MAX_NODES x
 
-pub stored_by : (P : ℕ → ℕ → Type 0) (t : List ℕ) (v h : ℕ) → v < length t → P v h → ((u : ℕ) → (u ≡ v → ⊥) → P u (get_or t u 0))
-    → (u : ℕ) → P u (get_or (set t v h) u 0)
-stored_by P t v h l p f u = go (ℕ_discrete u v)
+pub stored_by : {A : Type 0} (d : A) (P : ℕ → A → Type 0) (t : List A) (v : ℕ) (h : A) → v < length t → P v h → ((u : ℕ) → (u ≡ v → ⊥) → P u (get_or t u d))
+    → (u : ℕ) → P u (get_or (set t v h) u d)
+stored_by d P t v h l p f u = go (ℕ_discrete u v)
   where
-    go : Dec (u ≡ v) → P u (get_or (set t v h) u 0)
-    go (yes e) = rw (e, get_or-set_same t v h 0 l) p
-    go (no z) = rw (get_or-set_other t v u h 0 z) (f u z)
+    go : Dec (u ≡ v) → P u (get_or (set t v h) u d)
+    go (yes e) = rw (e, get_or-set_same t v h d l) p
+    go (no z) = rw (get_or-set_other t v u h d z) (f u z)

@@ -1,5 +1,5 @@
 -- What each function asks and gives.
-use Rattle.std.specs.Prelude.{◌≡◌, List, Bool, true, false, ℕ, ◌≤◌, ◌<◌, eqb, length, get_or}
+use Rattle.std.specs.Prelude.{◌≡◌, List, Bool, true, false, ℕ, ◌≤◌, ◌<◌, length, get_or}
 use Rattle.scope.specs.Base.{all, count, from}
 use Rattle.scope.specs.Limits.{MAX_NODES}
 use Rattle.scope.specs.Nodes.{Node, Root, Child, at, kids_of}
@@ -8,6 +8,8 @@ use Rattle.layout.specs.Words.{node_words, decode}
 use Rattle.layout.specs.Meaning.{Clean}
 use Rattle.shape.specs.Walks.{Graph, ends, InRun, upward, to_by, Leads}
 use Rattle.shape.specs.declared.Up.{Up}
+use Rattle.shape.specs.declared.Mark.{Mark}
+use Rattle.shape.specs.declared.Mark.TheVariants as mark
 use Rattle.shape.specs.Read.{ups, kids, kid_at, root_of, tallied}
 
 -- a node's parent, or its kind's children, are nodes of the store
@@ -79,26 +81,28 @@ pub record Sizes (ws roots : List ℕ) (n : ℕ) : Type 0 where
   pub rooted : Rooted roots n
   pub room : node_words n ≤ length ws
 
--- a node's mark while children are followed: it lies on the way, or every walk from it ends
-abbrev pub OPEN : ℕ
-OPEN = 1
+-- a node that no visit came to, one that lies on the way, and one from which every walk ends
+abbrev pub is_fresh : Mark → Bool
+is_fresh mark.Fresh = true
+is_fresh mark.Open = false
+is_fresh mark.Done = false
 
-abbrev pub DONE : ℕ
-DONE = 2
+abbrev pub Open : List Mark → ℕ → Type 0
+Open marks v = get_or marks v mark.Fresh ≡ mark.Open
 
--- a node that lies on the way
-pub record Open (marks : List ℕ) (v : ℕ) : Type 0 where
-  pub begun : 0 < get_or marks v 0
-  pub unfinished : get_or marks v 0 ≡ DONE → ⊥
+abbrev pub is_done : Mark → Bool
+is_done mark.Fresh = false
+is_done mark.Open = false
+is_done mark.Done = true
 
 -- from a node that is done every walk ends
-pub record TrueMarks (g : Graph) (n : ℕ) (marks : List ℕ) : Type 0 where
+pub record TrueMarks (g : Graph) (n : ℕ) (marks : List Mark) : Type 0 where
   pub long : length marks ≡ MAX_NODES
-  pub done : (v : ℕ) → get_or marks v 0 ≡ DONE → ends g n v ≡ true
+  pub done : (v : ℕ) → get_or marks v mark.Fresh ≡ mark.Done → ends g n v ≡ true
 
 -- how many of the first n nodes no visit came to
-abbrev pub fresh : ℕ → List ℕ → ℕ
-fresh n marks = count (λ v. eqb (get_or marks v 0) 0) (from 0 n)
+abbrev pub fresh : ℕ → List Mark → ℕ
+fresh n marks = count (λ v. is_fresh (get_or marks v mark.Fresh)) (from 0 n)
 
 -- `visit` and `falls_ok`
 pub record Falls (ws ks : List ℕ) (n : ℕ) (roots : List ℕ) : Type 0 where
@@ -106,21 +110,21 @@ pub record Falls (ws ks : List ℕ) (n : ℕ) (roots : List ℕ) : Type 0 where
   pub room : node_words n ≤ length ws
   pub below : (v i : ℕ) → v < n → InRun (kids ws ks n roots) v i → kid_at ks i < n
 
-pub record Visits (ws ks : List ℕ) (n : ℕ) (roots marks : List ℕ) (v : ℕ) : Type 0 where
+pub record Visits (ws ks : List ℕ) (n : ℕ) (roots : List ℕ) (marks : List Mark) (v : ℕ) : Type 0 where
   pub falls : Falls ws ks n roots
   pub marked : TrueMarks (kids ws ks n roots) n marks
   pub node : v < n
 
 -- `kids_done`: the walks from the nodes before v end
-pub record Tries (ws ks : List ℕ) (n : ℕ) (roots marks : List ℕ) (v : ℕ) : Type 0 where
+pub record Tries (ws ks : List ℕ) (n : ℕ) (roots : List ℕ) (marks : List Mark) (v : ℕ) : Type 0 where
   pub visits : Visits ws ks n roots marks v
   pub ended : (u : ℕ) → u < v → ends (kids ws ks n roots) n u ≡ true
 
 -- Marks stay. Where the answer is yes, walks from v end and no node is left open that was not. Where it is no, some walk from v is longer than d nodes
 -- for each d for which this is so of the nodes that were open
-pub record Visited (g : Graph) (n v : ℕ) (marks₀ marks : List ℕ) (r : Bool) : Type 0 where
+pub record Visited (g : Graph) (n v : ℕ) (marks₀ marks : List Mark) (r : Bool) : Type 0 where
   pub marked : TrueMarks g n marks
-  pub stay : (u : ℕ) → 0 < get_or marks₀ u 0 → 0 < get_or marks u 0
+  pub stay : (u : ℕ) → is_fresh (get_or marks₀ u mark.Fresh) ≡ false → is_fresh (get_or marks u mark.Fresh) ≡ false
   pub shut : r ≡ true → (u : ℕ) → Open marks u → Open marks₀ u
   pub passed : r ≡ true → ends g n v ≡ true
   pub failed : r ≡ false → (d : ℕ) → ((u : ℕ) → Open marks₀ u → ends g d u ≡ false) → ends g d v ≡ false

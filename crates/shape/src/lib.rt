@@ -9,7 +9,8 @@ ghost use Rattle.layout.specs.Words.{node_words, decode};
 ghost use Rattle.layout.specs.Meaning.{read_at};
 ghost use Rattle.shape.specs.Walks.{ends};
 ghost use Rattle.shape.specs.Read.{up_in, kid_at, ups, root_of, kids, size_by, size_fits};
-ghost use Rattle.shape.specs.Asks.{Shaped, Climbs, Climbed, ClimbsAll, ClimbedAll, Tallies, Tallied, Sizes, Falls, Visits, Tries, Visited};
+ghost use Rattle.shape.specs.declared.Mark.TheVariants.{Fresh};
+ghost use Rattle.shape.specs.Asks.{is_done, Shaped, Climbs, Climbed, ClimbsAll, ClimbedAll, Tallies, Tallied, Sizes, Falls, Visits, Tries, Visited};
 
 use layout::{CHILD_WORDS, TypeNode};
 use scope::MAX_NODES;
@@ -18,10 +19,16 @@ use types::TypeIdx;
 // A number for each node.
 type Table = [u32; MAX_NODES];
 
-// A node's mark while children are followed: it lies on the way, or every walk from it ends. Other nodes have 0.
-const OPEN: u32 = 1;
+// A node's mark while children are followed: no walk came to it, or it lies on the way, or every walk from it ends.
+#[derive(Clone, Copy)]
+enum Mark {
+    Fresh,
+    Open,
+    Done,
+}
 
-const DONE: u32 = 2;
+// A mark for each node.
+type Marks = [Mark; MAX_NODES];
 
 // A node to one who climbs: a root with its size, or what has a parent.
 #[derive(Clone, Copy)]
@@ -62,6 +69,7 @@ fn put(t: &mut Table, v: TypeIdx, x: u32)
 }
 
 // The root of v, of which roots holds one more; 0 is a root that is not known.
+// Kept (1): the table is fixed memory on the stack; an Option of a node is twice as large, and none of a nonzero number is promised to be as small.
 fn root_of(roots: &Table, v: TypeIdx) -> TypeIdx
     requires { (v.0 < MAX_NODES) × (0 < get_or roots.now v.0 0) }
     ensures { result.0 ≡ root_of roots.now v.0 }
@@ -148,21 +156,26 @@ fn sizes_ok(ws: &[u32], n: u32, roots: &Table) -> bool
     (0..n).all(|i| size_ok(ws, n, &counts, TypeIdx(i)))
 }
 
+fn is_done(marks: &Marks, v: TypeIdx) -> bool
+    requires { v.0 < MAX_NODES }
+    ensures { result ≡ is_done (get_or marks.now v.0 Fresh) }
+{
+    matches!(marks[v.0 as usize], Mark::Done)
+}
+
 // Whether every walk from v to the roots of children ends. One that comes back to an open node does not, and one to a done node does.
-fn visit(ws: &[u32], ks: &[u32], n: u32, roots: &Table, marks: &mut Table, v: TypeIdx) -> bool
+fn visit(ws: &[u32], ks: &[u32], n: u32, roots: &Table, marks: &mut Marks, v: TypeIdx) -> bool
     requires { Visits ws.now ks.now n roots.now marks.old v.0 }
     ensures { Visited (kids ws.now ks.now n roots.now) n v.0 marks.old marks.new result }
 {
-    let mark = at(marks, v);
-    if mark == DONE {
-        return true;
+    match marks[v.0 as usize] {
+        Mark::Done => return true,
+        Mark::Open => return false,
+        Mark::Fresh => {}
     }
-    if mark != 0 {
-        return false;
-    }
-    put(marks, v, OPEN);
+    marks[v.0 as usize] = Mark::Open;
     let Some((_, kind)) = layout::held_at(ws, n, v) else {
-        put(marks, v, DONE);
+        marks[v.0 as usize] = Mark::Done;
         return true;
     };
     let first = kind.first as usize;
@@ -172,13 +185,13 @@ fn visit(ws: &[u32], ks: &[u32], n: u32, roots: &Table, marks: &mut Table, v: Ty
             return false;
         }
     }
-    put(marks, v, DONE);
+    marks[v.0 as usize] = Mark::Done;
     true
 }
 
 // A quick yes to whether every walk from v ends, where those from the nodes before v do: the roots of its children lie before v, or are done. Where nodes are
 // made after their children few marks are read. A run that is not all in ks has no quick yes, so a child is read without a test of its own.
-fn kids_done(ws: &[u32], ks: &[u32], n: u32, roots: &Table, marks: &Table, v: TypeIdx) -> bool
+fn kids_done(ws: &[u32], ks: &[u32], n: u32, roots: &Table, marks: &Marks, v: TypeIdx) -> bool
     requires { Tries ws.now ks.now n roots.now marks.now v.0 }
     ensures { result ≡ true → ends (kids ws.now ks.now n roots.now) n v.0 ≡ true }
 {
@@ -193,7 +206,7 @@ fn kids_done(ws: &[u32], ks: &[u32], n: u32, roots: &Table, marks: &Table, v: Ty
     let mut done = true;
     for i in first..end {
         let root_more = at(roots, kid_at(ks, i));
-        if v.0 < root_more && at(marks, TypeIdx(root_more - 1)) != DONE {
+        if v.0 < root_more && !is_done(marks, TypeIdx(root_more - 1)) {
             done = false;
         }
     }
@@ -205,14 +218,14 @@ fn falls_ok(ws: &[u32], ks: &[u32], n: u32, roots: &Table) -> bool
     requires { Falls ws.now ks.now n roots.now }
     ensures { result ≡ all (ends (kids ws.now ks.now n roots.now) n) (from 0 n) }
 {
-    let mut marks: Table = [0u32; MAX_NODES];
+    let mut marks = [Mark::Fresh; MAX_NODES];
     for i in 0..n {
         let v = TypeIdx(i);
-        if at(&marks, v) == DONE {
+        if is_done(&marks, v) {
             continue;
         }
         if kids_done(ws, ks, n, roots, &marks, v) {
-            put(&mut marks, v, DONE);
+            marks[v.0 as usize] = Mark::Done;
         } else if !visit(ws, ks, n, roots, &mut marks, v) {
             return false;
         }

@@ -19,6 +19,8 @@ pub enum Fed {
     Line(usize, usize),
 }
 
+// Kept (6): a line and how much of it was read go in beside each other. Tried as one `&mut` struct of both in `feed`: covered, and proved by renaming, but no plainer:
+// its clauses name a field more each, the new length is told by `Fed::More` as well, and the two functions that run a line only read it.
 // The line that was read is run, as far as it was kept: whole, or too long either way. What it prints, with its newline, stands at the front of `text`.
 fn end_line(
     h: &mut [u32],

@@ -1,27 +1,39 @@
 -- Laws of places, words and lines: a line's first word ends at its first space, and the words after it start one place later; so do the input's lines.
 -- Beside them what a word's digits say, what types read so far and those to come say together, and what a command with some types is.
 -- Assumes nothing.
-use mathlib.Core.Path.{◌≡◌, refl, sym, ap, ◌∙◌}
-use mathlib.Core.Bool.{Bool, true, false, ◌&&◌}
+use mathlib.Core.Path.{◌≡◌, refl, sym, ap, subst, ◌∙◌}
+use mathlib.Core.Bool.{Bool, true, false, cond, ◌&&◌}
 use mathlib.Core.List.{List, [], ◌∷◌, ◌++◌, map, map-append, append_assoc, append-nil}
 use mathlib.Core.Option.{Option, none, some}
 use Prim.Native.Nat.{ℕ, zero, suc, ◌+◌, ◌-◌, ◌*◌, ◌≤◌, ◌<◌, max}
 use native.Mathlib.Numerals.{add-one}
 use native.Mathlib.Decide.{dec_le}
 use native.Mathlib.Omega.{arith}
-use borrow.Author.Tests.{eq-eqb, ne_eqb, le-leb, lt-leb, leb-true}
+use borrow.Author.Tests.{eq-eqb, ne_eqb, le-leb, lt-leb}
+use denote.Ref.{Bor}
+use denote.Param.Members.{Mut}
 use lib.Dec.{eqb, leb, leb-suc-suc}
-use lib.ListN.{length, get_or, take, drop, set, length-take, length-drop, drop_of_length-le}
+use lib.ListN.{length, get_or, take, drop, set, length-drop, drop_of_length-le}
 use lib.Seq.{drop-cons, drop-drop, take_all, take-suc-set}
-use Rattle.scope.specs.Base.{pick, all}
+use Rattle.std.specs.List.{slice_split, onto_first, slice_range}
+use Rattle.std.specs.Option.{MatchOption, unwrap_or}
+use Rattle.std.specs.declared.option.Option as Option
+use Rattle.std.specs.declared.option.Option.TheVariants.{None, Some}
+use Rattle.std.specs.declared.slice.Split.{Split}
+use Rattle.std.specs.Fn.{CalledAt}
+use Rattle.std.specs.Iterator.{Yields}
+use Rattle.std.specs.Slice.Iter.{split_rest, split_done, split_callee, split_steps}
+use Rattle.std.proofs.lemmas.Iterator.{YieldsList}
+use Rattle.std.proofs.lemmas.Iterator.Consumers.{YieldsList-at, YieldsList-turn, YieldsList-end}
+use Rattle.std.proofs.lemmas.Iterator.Splits.{YieldsList-from_slice_split}
+use Rattle.scope.specs.Base.{all, pick}
 use Rattle.scope.specs.Text.{text}
 use Rattle.scope.specs.Names.{eq_bytes}
 use Rattle.scope.specs.Types.{Ty, ty, ty_of}
 use Rattle.scope.specs.Kinds.{TUPLE, REF, NEVER, DEFAULT, row_of}
 use Rattle.scope.specs.Sheet as sheet
-use Rattle.scope.specs.Sheet.{lines, words, is_digit, value_from, no_leading_zero, node_word, type_word, type_words, plain_line, one_type, two_types, with_types, words_line, parse, sheet_line}
+use Rattle.scope.specs.Sheet.{lines, words, before, is_digit, value_from, no_leading_zero, node_word, type_word, type_words, with_types, words_line, parse, sheet_line}
 use Rattle.scope.proofs.NameLaws.{eq_bytes_lem}
-use Rattle.names.proofs.Tests.{both}
 use Rattle.scope.specs.Limits.{MAX_LINE, MAX_DIGITS}
 use Rattle.sheet_lines.specs.Places.{index_of, next_place, words_from}
 use Rattle.types.specs.declared.«Type».{«Type»}
@@ -47,11 +59,11 @@ place_past b s i h =
     rw (drop_of_length-le s past) (omega arith)
 
 -- the byte at a place within is the one that is sought, or another
-pub place_here : (b : ℕ) (s : List ℕ) (i : ℕ) → i < length s → get_or s i 0 ≡ b → i ≡ next_place b s i
+place_here : (b : ℕ) (s : List ℕ) (i : ℕ) → i < length s → get_or s i 0 ≡ b → i ≡ next_place b s i
 unfolding index_of
 place_here b s i l e = rw (drop-cons s i 0 l, eq-eqb (get_or s i 0) b e) (omega arith)
 
-pub place_next : (b : ℕ) (s : List ℕ) (i : ℕ) → i < length s → (get_or s i 0 ≡ b → ⊥) → next_place b s (i + 1) ≡ next_place b s i
+place_next : (b : ℕ) (s : List ℕ) (i : ℕ) → i < length s → (get_or s i 0 ≡ b → ⊥) → next_place b s (i + 1) ≡ next_place b s i
 unfolding index_of
 place_next b s i l e = rw (add-one, drop-cons s i 0 l, ne_eqb (get_or s i 0) b e) (omega arith)
 
@@ -60,13 +72,31 @@ place_none : (b : ℕ) (s : List ℕ) (i : ℕ) → length s ≤ i → i ≡ nex
 unfolding index_of
 place_none b s i h = rw (drop_of_length-le s h) (omega arith)
 
--- a walk from i on, that has come to the end, has found none
-pub place_end : (b : ℕ) (s : List ℕ) {i j : ℕ} → (i ≤ length s → j ≤ length s) → length s ≤ j → next_place b s j ≡ next_place b s i → max i (length s) ≡ next_place b s i
-place_end b s {i} {j} w l e = go (dec_le i (length s))
+-- over places where it does not stand, the next one stays the same
+place_over : (b : ℕ) (s : List ℕ) (i d : ℕ) → i + d ≤ length s → ((k : ℕ) → i ≤ k → k < i + d → get_or s k 0 ≡ b → ⊥) → next_place b s (i + d) ≡ next_place b s i
+place_over b s i zero l h = ap (next_place b s) {x = i + 0} {y = i} (omega arith)
+place_over b s i (suc d) l h =
+    ap (next_place b s) {x = i + suc d} {y = i + d + 1} (omega arith)
+    ∙ place_next b s (i + d) (omega arith) (h (i + d) (omega arith) (omega arith))
+    ∙ place_over b s i d (omega arith) (λ k m n. h k m (omega arith))
+
+-- the first place from i on where it stands, if there is one
+pub place_found :
+    (b : ℕ) (s : List ℕ) (i : ℕ) (r : Option.Option ℕ) →
+    MatchOption r ((k : ℕ) → i ≤ k → k < length s → get_or s k 0 ≡ b → ⊥)
+    (λ j. (i ≤ j) × (j < length s) × (get_or s j 0 ≡ b) × ((k : ℕ) → i ≤ k → k < j → get_or s k 0 ≡ b → ⊥)) →
+    unwrap_or r (max i (length s)) ≡ next_place b s i
+place_found b s i None h = go (dec_le i (length s))
   where
     go : Dec (i ≤ length s) → max i (length s) ≡ next_place b s i
-    go (yes h) = let z = w h in let same : max i (length s) ≡ j = omega arith in same ∙ (place_none b s j l ∙ e)
-    go (no h) = let over : max i (length s) ≡ i = omega arith in over ∙ place_past b s i (omega arith)
+    go (yes l) =
+        let end : i + (length s - i) ≡ length s = omega arith in
+        let same : max i (length s) ≡ i + (length s - i) = omega arith in
+        same ∙ place_none b s (i + (length s - i)) (omega arith) ∙ place_over b s i (length s - i) (omega arith) (λ k m n. h k m (omega (arith, n)))
+    go (no l) = let over : max i (length s) ≡ i = omega arith in over ∙ place_past b s i (omega arith)
+place_found b s i (Some j) h =
+    let to : i + (j - i) ≡ j = omega (arith, h.0) in
+    place_here b s j h.1 h.2 ∙ ap (next_place b s) (sym to) ∙ place_over b s i (j - i) (omega (arith, h.1, to)) (λ k m n. h.3 k m (omega (arith, n, to)))
 
 run_within_by : (b x : ℕ) (xs : List ℕ) (t : Bool) → eqb x b ≡ t → index_of b xs ≤ length xs → index_of b (x ∷ xs) ≤ suc (length xs)
 unfolding index_of
@@ -116,7 +146,7 @@ words_past : (l : List ℕ) (i j : ℕ) → i ≤ length l → words_from (drop 
 unfolding words_from
 words_past l i j h = rw (length-drop i l, leb_past i j (length l) h, drop-drop j i l)
 
-words_inside : (l : List ℕ) (i : ℕ) → i ≤ length l → words_from l i ≡ words (drop i l)
+pub words_inside : (l : List ℕ) (i : ℕ) → i ≤ length l → words_from l i ≡ words (drop i l)
 unfolding words_from
 words_inside l i h = rw (le-leb i (length l) h)
 
@@ -194,34 +224,7 @@ tens_small (suc (suc (suc zero))) h = omega arith
 tens_small (suc (suc (suc (suc zero)))) h = omega arith
 tens_small (suc (suc (suc (suc (suc i))))) h = absurd (omega arith)
 
-pub tens_step : (n i d : ℕ) → n + 1 ≤ tens i → d ≤ 9 → n * 10 + d + 1 ≤ tens (i + 1)
-tens_step n i d h k = rw (add-one i) (omega arith)
-
-module _ (w : List ℕ) (i : ℕ) (h : i < length w) where
-  pub digit_low : get_or w i 0 < 48 → all is_digit (drop i w) ≡ false
-  digit_low l = rw (drop-cons w i 0 h, lt-leb 48 (get_or w i 0) l)
-
-  pub digit_high : 48 ≤ get_or w i 0 → 57 < get_or w i 0 → all is_digit (drop i w) ≡ false
-  digit_high k l = rw (drop-cons w i 0 h, le-leb 48 (get_or w i 0) k, lt-leb (get_or w i 0) 57 l)
-
-  pub digit_step : 48 ≤ get_or w i 0 → get_or w i 0 ≤ 57 → all is_digit (drop (i + 1) w) ≡ all is_digit (drop i w)
-  digit_step k l = rw (drop-cons w i 0 h, add-one i, le-leb 48 (get_or w i 0) k, le-leb (get_or w i 0) 57 l)
-
-  pub value_step : (n d : ℕ) → d ≡ get_or w i 0 - 48 → value_from (n * 10 + d) (drop (i + 1) w) ≡ value_from n (drop i w)
-  value_step n d e = rw (drop-cons w i 0 h, add-one i, e)
-
--- a word that is no node
-pub node_shapeless : (b : Bool) (w : List ℕ) → (leb (length w) MAX_DIGITS && no_leading_zero w) ≡ false → node_word b w ≡ none
-node_shapeless b w e = go (all is_digit w)
-  where
-    go : (t : Bool) → pick (t && (leb (length w) MAX_DIGITS && no_leading_zero w)) (some (ty b (value_from 0 w))) none ≡ none
-    go true = rw e
-    go false = refl
-
-pub node_other : (b : Bool) (w : List ℕ) → all is_digit w ≡ false → node_word b w ≡ none
-node_other b w e = rw e
-
--- a word that is one
+-- a word that is a node
 pub node_is :
     (b : Bool) (w : List ℕ) (n : ℕ) →
     (leb (length w) MAX_DIGITS && no_leading_zero w) ≡ true →
@@ -229,9 +232,6 @@ pub node_is :
     value_from 0 w ≡ n →
     node_word b w ≡ some (ty b n)
 node_is b w n s d v = rw (d, s, v)
-
-pub shape_short : (w : List ℕ) → (leb (length w) MAX_DIGITS && no_leading_zero w) ≡ true → length w ≤ MAX_DIGITS
-shape_short w e = leb-true (length w) MAX_DIGITS (both (leb (length w) MAX_DIGITS) (no_leading_zero w) e).0
 
 -- a word's first byte
 
@@ -255,10 +255,6 @@ type_plain (b ∷ w) h n = rw (ne_eqb b 126 n)
 abbrev pub onto : List Ty → Option (List Ty) → Option (List Ty)
 onto ts none = none
 onto ts (some us) = some (ts ++ us)
-
-pub onto_none : (o : Option (List Ty)) → onto [] o ≡ o
-onto_none none = refl
-onto_none (some us) = refl
 
 onto_cons : (ts : List Ty) (t : Ty) (o : Option (List Ty)) → onto (ts ++ (t ∷ [])) o ≡ onto ts (sheet.cons_types (some t) o)
 onto_cons ts t none = refl
@@ -289,34 +285,89 @@ unfolding type_word
 typed_longer t [] e = let z : ◌≡◌ {A = ℕ} 0 1 = cc in absurd (omega arith)
 typed_longer t (b ∷ w) e = omega arith
 
--- a turn: the word at place i ends at e
+-- the parts that a line is cut into at its spaces are its words
 
-module _ (line : List ℕ) (i e : ℕ) (h : i ≤ length line) (p : e ≡ next_place 32 line i) where
-  words_turn : words_from line i ≡ take (e - i) (drop i line) ∷ words_from line (e + 1)
-  words_turn = rw p (words_at line i h)
+parts_by : (b : ℕ) (ps ws : List (List ℕ)) (t : Bool) → ps ≡ ws → cond t ([] ∷ ps) (onto_first b ps) ≡ pick t ([] ∷ ws) (before b ws)
+parts_by b ps ws true e = ap (λ (vs : List (List ℕ)). [] ∷ vs) e
+parts_by b ps [] false e = rw e refl
+parts_by b ps (w ∷ ws) false e = rw e refl
 
-  pub turn_longer : {t : Ty} → some t ≡ type_word (take (e - i) (drop i line)) → i + 1 ≤ e
-  turn_longer {t} k = omega (arith, typed_longer t (take (e - i) (drop i line)) k, length-take (e - i) (drop i line))
+parts_words : (l : List ℕ) → slice_split (λ b. eqb b 32) l ≡ words l
+unfolding words
+parts_words [] = refl
+parts_words (b ∷ bs) = parts_by b (slice_split (λ c. eqb c 32) bs) (words bs) (eqb b 32) (parts_words bs)
+
+-- a `for` over the parts of what stands from place i on, which has yielded xs
+module _ {F : Type 0} {g : Mut F (Bor ℕ × Unit {0}) Bool} {f : F} {s s₀ : Split ℕ F} {bs : List ℕ} (l : List ℕ) (i : ℕ) (xs : List (Bor (List ℕ))) (t : Split ℕ F)
+    (y : Yields (split_steps g) s xs t) (from : bs ≡ slice_range l i (length l)) (same : s ≡ s₀) (rest : split_rest s₀ ≡ bs) (done : split_done s₀ ≡ false) (closure : split_callee s₀ ≡ f)
+    (cuts : (x : ℕ) (b : Bool) (q : F) → CalledAt g f x b q → (q ≡ f) × (b ≡ eqb x 32)) where
+  road : YieldsList (split_steps g) (λ x. x.now) s (words (drop i l))
+  road =
+      let whole : bs ≡ drop i l = from ∙ take_all (length l - i) (drop i l) (omega (arith, length-drop i l)) in
+      subst (YieldsList (split_steps g) (λ x. x.now) s) (parts_words bs ∙ ap words whole) (YieldsList-at same (YieldsList-from_slice_split g (λ b. eqb b 32) bs rest done closure cuts))
+
+  pub words_turn :
+      (r : Option.Option (Bor (List ℕ))) (u : Split ℕ F) (w : Bor (List ℕ)) →
+      r ≡ Some w →
+      split_steps g t r u →
+      (length xs < length (words (drop i l))) × (w.now ≡ get_or (words (drop i l)) (length xs) w.now)
+  words_turn r u w is p = YieldsList-turn road xs t y r u w is p
+
+  pub words_over : (r : Option.Option (Bor (List ℕ))) (u : Split ℕ F) → r ≡ None → split_steps g t r u → length xs ≡ length (words (drop i l))
+  words_over r u is p = (YieldsList-end road xs t y r u is p).1
+
+-- how many bytes some words take, each with a space or an end
+abbrev pub weight : List (List ℕ) → ℕ
+weight [] = 0
+weight (w ∷ ws) = length w + 1 + weight ws
+
+weight_by : (b : ℕ) (ws : List (List ℕ)) (t : Bool) (n : ℕ) → weight ws ≡ suc n → weight (pick t ([] ∷ ws) (before b ws)) ≡ suc (suc n)
+weight_by b ws true n e = omega (arith, e)
+weight_by b [] false n e = absurd (omega (arith, e))
+weight_by b (w ∷ ws) false n e = omega (arith, e)
+
+pub weight_words : (l : List ℕ) → weight (words l) ≡ suc (length l)
+unfolding words
+weight_words [] = refl
+weight_words (b ∷ bs) = weight_by b (words bs) (eqb b 32) (length bs) (weight_words bs)
+
+-- a turn: the word after the first n of some words
+
+module _ (ws : List (List ℕ)) (n : ℕ) (w : List ℕ) {m : ℕ} (q : n ≡ m) (h : (m < length ws) × (w ≡ get_or ws m w)) where
+  turn_word : drop n ws ≡ w ∷ drop (n + 1) ws
+  turn_word =
+      let here : w ≡ get_or ws n w = h.1 ∙ ap (λ (k : ℕ). get_or ws k w) (sym q) in
+      rw add-one (drop-cons ws n w (omega (arith, h.0)) ∙ ap (λ (v : List ℕ). v ∷ drop (suc n) ws) (sym here))
+
+  pub turn_weight : {t : Ty} {k : ℕ} → some t ≡ type_word w → 2 * n + weight (drop n ws) ≤ k → 2 * (n + 1) + weight (drop (n + 1) ws) ≤ k
+  turn_weight {t} e g = omega (arith, g, typed_longer t w e, ap weight turn_word)
 
   pub turn_type :
-      (out : List ℕ) (n v : ℕ) →
+      (out : List ℕ) (v : ℕ) →
       n < length out →
-      some (ty_of v) ≡ type_word (take (e - i) (drop i line)) →
-      onto (map ty_of (take (n + 1) (set out n v))) (type_words (words_from line (e + 1)))
-      ≡ onto (map ty_of (take n out)) (type_words (words_from line i))
-  turn_type out n v l k =
-      ap (λ (ts : List Ty). onto ts (type_words (words_from line (e + 1)))) (types_put out n v l)
-      ∙ (onto_step (map ty_of (take n out)) (ty_of v) (take (e - i) (drop i line)) (words_from line (e + 1)) k
-      ∙ ap (λ (ws : List (List ℕ)). onto (map ty_of (take n out)) (type_words ws)) (sym words_turn))
+      some (ty_of v) ≡ type_word w →
+      onto (map ty_of (take (n + 1) (set out n v))) (type_words (drop (n + 1) ws)) ≡ onto (map ty_of (take n out)) (type_words (drop n ws))
+  turn_type out v m k =
+      ap (λ (ts : List Ty). onto ts (type_words (drop (n + 1) ws))) (types_put out n v m)
+      ∙ (onto_step (map ty_of (take n out)) (ty_of v) w (drop (n + 1) ws) k
+      ∙ ap (λ (vs : List (List ℕ)). onto (map ty_of (take n out)) (type_words vs)) (sym turn_word))
 
-  pub turn_bad : (ts : List Ty) → none ≡ type_word (take (e - i) (drop i line)) → none ≡ onto ts (type_words (words_from line i))
-  turn_bad ts k =
-      onto_bad ts (take (e - i) (drop i line)) (words_from line (e + 1)) k
-      ∙ ap (λ (ws : List (List ℕ)). onto ts (type_words ws)) (sym words_turn)
+  pub turn_bad : (ts : List Ty) → none ≡ type_word w → none ≡ onto ts (type_words (drop n ws))
+  turn_bad ts k = onto_bad ts w (drop (n + 1) ws) k ∙ ap (λ (vs : List (List ℕ)). onto ts (type_words vs)) (sym turn_word)
 
 -- no word is left
-pub turns_end : (line : List ℕ) (i : ℕ) (ts : List Ty) → length line < i → some ts ≡ onto ts (type_words (words_from line i))
-turns_end line i ts h = sym (ap (λ (ws : List (List ℕ)). onto ts (type_words ws)) (words_end line i h) ∙ onto_end ts)
+pub turns_end : (ws : List (List ℕ)) (n : ℕ) (ts : List Ty) → length ws ≤ n → some ts ≡ onto ts (type_words (drop n ws))
+turns_end ws n ts h = sym (ap (λ (vs : List (List ℕ)). onto ts (type_words vs)) (drop_of_length-le ws h) ∙ onto_end ts)
+
+-- none is read yet
+pub turns_start : (o : Option (List Ty)) → onto [] o ≡ o
+turns_start none = refl
+turns_start (some us) = refl
+
+-- past the end there is no word
+pub no_words : (line : List ℕ) (i : ℕ) → length line < i → some [] ≡ type_words (words_from line i)
+unfolding type_words
+no_words line i h = ap type_words (sym (words_end line i h))
 
 -- a command with some types
 

@@ -53,12 +53,9 @@ fn digit_of(d: u8) -> u32
 fn next_place(s: &[u8], from: usize, byte: u8) -> usize
     ensures { result ≡ next_place byte s.now from }
 {
-    for i in from..s.len() {
-        if s[i] == byte {
-            return i;
-        }
-    }
-    from.max(s.len())
+    (from..s.len())
+        .find(|&i| s[i] == byte)
+        .unwrap_or(from.max(s.len()))
 }
 
 // How many bytes of a line a buffer holds that has `at` of it: all, or as many as there is room for.
@@ -120,20 +117,19 @@ fn types_from(line: &[u8], from: usize, out: &mut [u32]) -> Option<u32>
     requires { Room line.now out.old }
     ensures { Counted result out.new (type_words (words_from line.now from)) }
 {
+    let Some(rest) = line.get(from..) else {
+        return Some(0);
+    };
     let mut n: usize = 0;
-    let mut at = from;
-    // Kept (3): the new form is no plainer: a turn goes on by a word and its space, so no range has its places, and a split gives the words without them.
-    while at <= line.len() {
-        let e = next_place(line, at, b' ');
-        let t = type_of(&line[at..e])?;
-        out[n] = t.0;
+    for w in rest.split(|&b| b == b' ') {
+        out[n] = type_of(w)?.0;
         n += 1;
-        at = e + 1;
     }
     Some(n as u32)
 }
 
 // A command without types
+// Kept (4), here and below: tried as a match on byte strings, and the proof did not close: a match decides byte by byte, in dozens of ends that know lengths alone.
 fn plain_line(w: &[u8]) -> Plain
     ensures { Always result (plain_line w.now) }
 {

@@ -41,13 +41,6 @@ start_rest s e r q = go (dec_le (length s) e)
         ap (λ (n : ℕ). drop n s) (q ∙ start_past s e h) ∙ drop_of_length-le s h ∙ sym (drop_of_length-le s past)
     go (no h) = ap (λ (n : ℕ). drop n s) (q ∙ start_inside s e (omega (arith, h)))
 
-pub start_on : (s : List ℕ) (i e r : ℕ) → i < length s → i ≤ e → r ≡ next_start s e → i < r
-start_on s i e r l h q = go (dec_le (length s) e)
-  where
-    go : Dec (length s ≤ e) → i < r
-    go (yes k) = omega (arith, q ∙ start_past s e k)
-    go (no k) = omega (arith, q ∙ start_inside s e (omega (arith, k)))
-
 -- the arrays, and the memory that is lent, are as long as they were
 pub record Long (m₀ m h ws ks t : List ℕ) : Type 0 where
   pub memory : length m ≡ length m₀

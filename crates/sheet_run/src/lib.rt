@@ -30,7 +30,7 @@ pub fn run(input: &[u8], memory: &mut [u32], out: &mut [u8]) -> Result<usize, Re
     let mut text = [0u8; SHEET_TEXT];
     let mut at: usize = 0;
     let mut i: usize = 0;
-    // Kept (3): the new form is no plainer: each turn starts past the newline that it found, which a last line may lack.
+    // Kept (3): tried over `split_inclusive` with `strip_suffix`; the proof did not close in time: no law of the library lists the parts that `split_inclusive` gives, so it needs one of its own.
     while i < input.len() {
         let e = sheet_lines::line_end(input, i);
         let n = sheet_line::run_line(&mut h, &mut ws, &mut ks, memory, &input[i..e], &mut text);

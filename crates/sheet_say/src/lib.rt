@@ -36,6 +36,7 @@ pub fn put_type(out: &mut [u8], r: Result<Type, Refusal>) -> usize
 }
 
 // "unify's answer"
+// Kept (4): a Display writes by a formatter; this is lent memory, of which the promise says every byte.
 pub fn put_unify(out: &mut [u8], r: UnifyResult) -> usize
     requires { SHEET_TEXT ≤ length out.old }
     ensures { Front out.old out.new result (answer_text (answer_of r)) }

@@ -6,7 +6,7 @@ ghost use Rattle.scope.specs.Limits.{MAX_NODES};
 ghost use Rattle.scope.specs.Types.{ty_of};
 ghost use Rattle.scope.specs.Force.{is_nil};
 ghost use Rattle.scope.specs.Show.{show_f, show};
-ghost use Rattle.chart.specs.Env.{env_of};
+ghost use Rattle.chart.specs.Env.{env_by};
 ghost use Rattle.layout.specs.Words.{decode};
 ghost use Rattle.layout.specs.Meaning.{Linked};
 ghost use Rattle.roots.specs.Kept.{Cached};
@@ -14,7 +14,7 @@ ghost use Rattle.walk.specs.Asks.{Stands, Nil};
 ghost use Rattle.append.specs.Appended.{Appended};
 ghost use Rattle.show.specs.Level.{most_of, shown_of};
 
-use chart::Beside;
+use chart::Env;
 use kinds::{CLOSURE, ENUM, IF_CONST, OBJECT, OPAQUE, REF, STRUCT, TUPLE, UNION};
 use layout::Kind;
 use scope::MAX_NODES;
@@ -58,11 +58,8 @@ fn shown(ws: &[u32], ks: &[u32], n: u32, cache: &mut [u16], k: Kind) -> u32
 }
 
 // The text of a type, at most so many levels deep, with the roots that a cache keeps.
-fn show_by<'a>(
-    chart: &[u32],
-    beside: Beside,
-    rule: &'a [u8],
-    text: &'a [u8],
+fn show_by(
+    env: &Env<'_>,
     ws: &[u32],
     ks: &[u32],
     n: u32,
@@ -74,7 +71,7 @@ fn show_by<'a>(
 ) -> usize
     requires { Stands ws.now ks.now n × Cached ws.now n cache.old }
     ensures { Appended buf.old at buf.new result
-        (show_f (env_of chart.now beside rule.now text.now) depth
+        (show_f (env_by env.now) depth
         (decode ws.now ks.now n) (ty_of t.0))
         × Cached ws.now n cache.new }
 {
@@ -87,17 +84,14 @@ fn show_by<'a>(
     };
     let i = inv ^ root.inv();
     let dual = kinds::self_dual(kind.code, kind.dual);
-    let mut p = put_lead(chart, beside, rule, text, buf, at, i.0 & !dual, kind);
+    let mut p = put_lead(env, buf, at, i.0 & !dual, kind);
     let deep = Inverted(i.0 & dual);
     let count = shown(ws, ks, n, cache, kind);
     for j in 0..count {
-        let q = put_gap(rule, text, ks, buf, p, kind, j);
+        let q = put_gap(&env.texts, ks, buf, p, kind, j);
         let kid = layout::child_of(ks, kind, j).ty;
         p = show_by(
-            chart,
-            beside,
-            rule,
-            text,
+            env,
             ws,
             ks,
             n,
@@ -117,11 +111,8 @@ const FEW_NODES: u32 = 512;
 const FEW_BYTES: usize = 4096;
 
 // The same, with a cache that has room for so many roots.
-fn show_within<'a, const ROOM: usize>(
-    chart: &[u32],
-    beside: Beside,
-    rule: &'a [u8],
-    text: &'a [u8],
+fn show_within<const ROOM: usize>(
+    env: &Env<'_>,
     ws: &[u32],
     ks: &[u32],
     n: u32,
@@ -133,21 +124,16 @@ fn show_within<'a, const ROOM: usize>(
     requires stands { Stands ws.now ks.now n }
     requires room { ROOM ≤ MAX_NODES }
     ensures { Appended buf.old at buf.new result
-        (show_f (env_of chart.now beside rule.now text.now) depth
+        (show_f (env_by env.now) depth
         (decode ws.now ks.now n) (ty_of t.0)) }
 {
     let mut cache = [0u16; ROOM];
-    show_by(
-        chart, beside, rule, text, ws, ks, n, &mut cache, buf, at, t, depth,
-    )
+    show_by(env, ws, ks, n, &mut cache, buf, at, t, depth)
 }
 
 // The text of a type, at most so many levels deep.
-pub fn show_type<'a>(
-    chart: &[u32],
-    beside: Beside,
-    rule: &'a [u8],
-    text: &'a [u8],
+pub fn show_type(
+    env: &Env<'_>,
     ws: &[u32],
     ks: &[u32],
     n: u32,
@@ -158,22 +144,19 @@ pub fn show_type<'a>(
 ) -> usize
     requires { Stands ws.now ks.now n }
     ensures { Appended buf.old at buf.new result
-        (show_f (env_of chart.now beside rule.now text.now) depth
+        (show_f (env_by env.now) depth
         (decode ws.now ks.now n) (ty_of t.0)) }
 {
     if FEW_NODES < n && FEW_BYTES < buf.len() {
-        show_within::<MAX_NODES>(chart, beside, rule, text, ws, ks, n, buf, at, t, depth)
+        show_within::<MAX_NODES>(env, ws, ks, n, buf, at, t, depth)
     } else {
-        show_within::<0>(chart, beside, rule, text, ws, ks, n, buf, at, t, depth)
+        show_within::<0>(env, ws, ks, n, buf, at, t, depth)
     }
 }
 
 // The text of a type, as deep as there are nodes.
-pub fn show_all<'a>(
-    chart: &[u32],
-    beside: Beside,
-    rule: &'a [u8],
-    text: &'a [u8],
+pub fn show_all(
+    env: &Env<'_>,
     ws: &[u32],
     ks: &[u32],
     n: u32,
@@ -183,7 +166,7 @@ pub fn show_all<'a>(
 ) -> usize
     requires { Stands ws.now ks.now n }
     ensures { Appended buf.old at buf.new result
-        (show (env_of chart.now beside rule.now text.now) (decode ws.now ks.now n) (ty_of t.0)) }
+        (show (env_by env.now) (decode ws.now ks.now n) (ty_of t.0)) }
 {
-    show_type(chart, beside, rule, text, ws, ks, n, buf, at, t, n)
+    show_type(env, ws, ks, n, buf, at, t, n)
 }

@@ -8,11 +8,14 @@ use native.Mathlib.Omega.{arith}
 use borrow.Author.Tests.{eqb-true}
 use lib.Dec.{eqb}
 use lib.ListN.{length}
+use Rattle.scope.specs.Base.{pick}
 use Rattle.scope.specs.Text.{text}
 use Rattle.scope.specs.Names.{bytes}
 use Rattle.scope.specs.Chart.{Env, record_at}
 use Rattle.scope.specs.Types.{Ty, ty_of}
 use Rattle.scope.specs.Show.{fixed, sub, render, commas, trait_pieces, fn_pieces}
+use Rattle.append.specs.Appended.{Appended}
+use Rattle.append.proofs.Laws.{append_then}
 use Rattle.show.proofs.Runs.{render_append}
 
 module _ (g : Ty → List ℕ) where
@@ -28,13 +31,15 @@ module _ (g : Ty → List ℕ) where
   trait_listed e i [] h = cc
   trait_listed e i (x ∷ xs) h = rw (render_append g (commas false (map ty_of (x ∷ xs))) (fixed (text "]") ∷ []))
 
-  -- the fn form without a return, and with one
+  -- the fn form, with a return unless it is nil: after what it says of receiver and parameters
   module _ (nil : Ty → Bool) (receiver : Ty) (i : Bool) (ps : List Ty) (ret : Ty) where
-    pub fn_nil : nil ret ≡ true → render g (fn_pieces nil receiver i ps ret) ≡ text "fn " ++ (g receiver ++ (text "(" ++ (render g (commas i ps) ++ text ")")))
+    fn_by : (b : Bool) → nil ret ≡ b
+        → render g (fn_pieces nil receiver i ps ret) ≡ text "fn " ++ (g receiver ++ (text "(" ++ (render g (commas i ps) ++ (text ")" ++ pick b [] (text " -> " ++ g ret)))))
     unfolding render
-    fn_nil h = rw (h, render_append g (commas i ps) (fixed (text ")") ∷ []))
+    fn_by true h = rw (h, render_append g (commas i ps) (fixed (text ")") ∷ []))
+    fn_by false h = rw (h, render_append g (commas i ps) (fixed (text ")") ∷ fixed (text " -> ") ∷ sub ret ∷ []), append-nil (g ret))
 
-    pub fn_returns : nil ret ≡ false
-        → render g (fn_pieces nil receiver i ps ret) ≡ text "fn " ++ (g receiver ++ (text "(" ++ (render g (commas i ps) ++ (text ")" ++ (text " -> " ++ g ret)))))
-    unfolding render
-    fn_returns h = rw (h, render_append g (commas i ps) (fixed (text ")") ∷ fixed (text " -> ") ∷ sub ret ∷ []), append-nil (g ret))
+    pub fn_put : (b : Bool) → nil ret ≡ b → {b₀ b₁ b₂ b₃ b₄ b₅ : List ℕ} {p₀ p₁ p₂ p₃ p₄ p₅ : ℕ}
+        → Appended b₀ p₀ b₁ p₁ (text "fn ") → Appended b₁ p₁ b₂ p₂ (g receiver) → Appended b₂ p₂ b₃ p₃ (text "(") → Appended b₃ p₃ b₄ p₄ (render g (commas i ps))
+        → Appended b₄ p₄ b₅ p₅ (text ")" ++ pick b [] (text " -> " ++ g ret)) → Appended b₀ p₀ b₅ p₅ (render g (fn_pieces nil receiver i ps ret))
+    fn_put b h said of opened listed rest = rw (fn_by b h) (append_then said (append_then of (append_then opened (append_then listed rest))))

@@ -5,7 +5,7 @@ ghost use Rattle.scope.specs.Types.{ty_of};
 ghost use Rattle.scope.specs.Force.{is_nil};
 ghost use Rattle.scope.specs.Show.{render, show, trait_pieces, fn_pieces, show_impl_type};
 ghost use Rattle.types.specs.Impls.{impl_means};
-ghost use Rattle.chart.specs.Env.{env_of};
+ghost use Rattle.chart.specs.Env.{env_by};
 ghost use Rattle.layout.specs.Words.{decode};
 ghost use Rattle.layout.specs.Meaning.{kind_means, Linked};
 ghost use Rattle.store.specs.Entries.{types_in};
@@ -14,7 +14,7 @@ ghost use Rattle.append.specs.Appended.{Appended};
 ghost use Rattle.show_impl.specs.Forms.{TupleOf};
 
 use append::put;
-use chart::Beside;
+use chart::Env;
 use kinds::TUPLE;
 use layout::Kind;
 use show::show_all;
@@ -23,11 +23,8 @@ use show_names::put_name;
 use types::{Impl, Inverted, Type};
 
 // A trait's name, and its list where it has one.
-fn show_trait<'a>(
-    chart: &[u32],
-    beside: Beside,
-    rule: &'a [u8],
-    text: &'a [u8],
+fn show_trait(
+    env: &Env<'_>,
     ws: &[u32],
     ks: &[u32],
     n: u32,
@@ -38,24 +35,21 @@ fn show_trait<'a>(
 ) -> usize
     requires { Stands ws.now ks.now n }
     ensures { Appended buf.old at buf.new result
-        (render (show (env_of chart.now beside rule.now text.now) (decode ws.now ks.now n))
-        (trait_pieces (env_of chart.now beside rule.now text.now) i (types_in xs.now))) }
+        (render (show (env_by env.now) (decode ws.now ks.now n))
+        (trait_pieces (env_by env.now) i (types_in xs.now))) }
 {
-    let named = put_name(rule, text, buf, at, chart::name_at(chart, i));
+    let named = put_name(&env.texts, buf, at, chart::name_at(env.chart, i));
     if xs.is_empty() {
         return named;
     }
     let opened = put(buf, named, b"[");
-    let listed = show_list(chart, beside, rule, text, ws, ks, n, buf, opened, xs);
+    let listed = show_list(env, ws, ks, n, buf, opened, xs);
     put(buf, listed, b"]")
 }
 
 // The fn form: a receiver, the children of a Tuple as parameters, and a return unless it is nil.
-fn show_fn<'a>(
-    chart: &[u32],
-    beside: Beside,
-    rule: &'a [u8],
-    text: &'a [u8],
+fn show_fn(
+    env: &Env<'_>,
     ws: &[u32],
     ks: &[u32],
     n: u32,
@@ -68,22 +62,23 @@ fn show_fn<'a>(
 ) -> usize
     requires { Stands ws.now ks.now n }
     ensures { Appended buf.old at buf.new result
-        (render (show (env_of chart.now beside rule.now text.now) (decode ws.now ks.now n))
+        (render (show (env_by env.now) (decode ws.now ks.now n))
         (fn_pieces (is_nil (decode ws.now ks.now n)) (ty_of receiver.0) i.0 (kind_means ks.now k).kids (ty_of ret.0))) }
 {
     let said = put(buf, at, b"fn ");
-    let of = show_all(chart, beside, rule, text, ws, ks, n, buf, said, receiver);
+    let of = show_all(env, ws, ks, n, buf, said, receiver);
     let opened = put(buf, of, b"(");
-    let listed = show_params(chart, beside, rule, text, ws, ks, n, buf, opened, i, k);
+    let listed = show_params(env, ws, ks, n, buf, opened, i, k);
     let closed = put(buf, listed, b")");
     if walk::is_nil(ws, n, ret) {
         return closed;
     }
     let arrow = put(buf, closed, b" -> ");
-    show_all(chart, beside, rule, text, ws, ks, n, buf, arrow, ret)
+    show_all(env, ws, ks, n, buf, arrow, ret)
 }
 
 // A type's kind where it is a Tuple, with the type's own inversion.
+#[tactic(auto, using(crate::proofs::Laws::tuple_none))]
 fn tuple_of(ws: &[u32], n: u32, t: Type) -> Option<(Inverted, Kind)>
     requires { Linked ws.now n }
     ensures { TupleOf ws.now n t.0 result }
@@ -98,11 +93,8 @@ fn tuple_of(ws: &[u32], n: u32, t: Type) -> Option<(Inverted, Kind)>
 }
 
 // An impl type: the fn form, or a trait's name and its list; of an error two question marks.
-pub fn show_impl_type<'a>(
-    chart: &[u32],
-    beside: Beside,
-    rule: &'a [u8],
-    text: &'a [u8],
+pub fn show_impl_type(
+    env: &Env<'_>,
     ws: &[u32],
     ks: &[u32],
     n: u32,
@@ -113,21 +105,18 @@ pub fn show_impl_type<'a>(
 ) -> usize
     requires { Stands ws.now ks.now n }
     ensures { Appended buf.old at buf.new result
-        (show_impl_type (env_of chart.now beside rule.now text.now) (decode ws.now ks.now n)
+        (show_impl_type (env_by env.now) (decode ws.now ks.now n)
         (impl_means a xs.now)) }
 {
     let Impl::Trait(i) = a else {
         return put(buf, at, b"??");
     };
     if let [receiver, params, ret] = xs
-        && i == beside.fn_trait
+        && i == env.beside.fn_trait
         && let Some((inv, kind)) = tuple_of(ws, n, Type(*params))
     {
         return show_fn(
-            chart,
-            beside,
-            rule,
-            text,
+            env,
             ws,
             ks,
             n,
@@ -139,5 +128,5 @@ pub fn show_impl_type<'a>(
             Type(*ret),
         );
     }
-    show_trait(chart, beside, rule, text, ws, ks, n, buf, at, i, xs)
+    show_trait(env, ws, ks, n, buf, at, i, xs)
 }

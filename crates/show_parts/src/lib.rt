@@ -2,19 +2,19 @@
 // What stands before, between and after a kind's children in its text. Each function appends its part to a text in a lent buffer; the children
 // themselves are the caller's. Which fixed bytes a kind has is found first, and then they are put.
 ghost use Rattle.std.specs.Prelude.{◌≡◌, [], ◌++◌};
-ghost use Rattle.names.specs.Place.{texts, name_of};
-ghost use Rattle.chart.specs.Env.{env_of};
+ghost use Rattle.names.specs.Place.{name_of, texts_by};
+ghost use Rattle.chart.specs.Env.{env_of, env_by};
 ghost use Rattle.append.specs.Appended.{Appended};
 ghost use Rattle.show_parts.specs.Parts.{front_of, back_of, own_name, lead_of, gap_of, end_of, close_of, sign_of};
 
 use append::{put, put_decimal};
-use chart::Beside;
+use chart::{Beside, Env};
 use kinds::{
     CLOSURE, DEFAULT, ENUM, ERROR, FN, IF_CONST, KEY, NEVER, OBJECT, OPAQUE, PARAM, REF, STRUCT,
     TUPLE, UNION,
 };
 use layout::Kind;
-use names::{NO_NAME, Name};
+use names::{NO_NAME, Name, Texts};
 use show_names::{put_comma, put_entry, put_function, put_name, put_tilde};
 
 // What a kind says before its name, or at all where it has none.
@@ -67,28 +67,19 @@ fn back(code: u32, count: u32) -> &'static [u8]
 }
 
 // A kind up to its children, with a ~ or without.
-pub fn put_lead<'a>(
-    chart: &[u32],
-    beside: Beside,
-    rule: &'a [u8],
-    text: &'a [u8],
-    buf: &mut [u8],
-    at: usize,
-    tilde: bool,
-    k: Kind,
-) -> usize
+pub fn put_lead(env: &Env<'_>, buf: &mut [u8], at: usize, tilde: bool, k: Kind) -> usize
     ensures { Appended buf.old at buf.new result
-        (sign_of tilde ++ lead_of (env_of chart.now beside rule.now text.now) k) }
+        (sign_of tilde ++ lead_of (env_by env.now) k) }
 {
     let turned = put_tilde(buf, at, tilde);
     if k.code == FN {
-        return put_function(chart, rule, text, buf, turned, k.number);
+        return put_function(env, buf, turned, k.number);
     }
     let said = put(buf, turned, front(k.code, k.count));
     if k.code == TUPLE {
         return said;
     }
-    let named = put_name(rule, text, buf, said, own_name(chart, beside, k));
+    let named = put_name(&env.texts, buf, said, own_name(env.chart, env.beside, k));
     let p = put(buf, named, back(k.code, k.count));
     if k.code != CLOSURE {
         return p;
@@ -99,20 +90,12 @@ pub fn put_lead<'a>(
 
 // What stands before child j of a kind.
 #[tactic(auto, unfolding(crate::specs::Parts::gap_of))]
-pub fn put_gap<'a>(
-    rule: &'a [u8],
-    text: &'a [u8],
-    ks: &[u32],
-    buf: &mut [u8],
-    at: usize,
-    k: Kind,
-    j: u32,
-) -> usize
-    ensures { Appended buf.old at buf.new result (gap_of (texts rule.now text.now) ks.now k j) }
+pub fn put_gap(texts: &Texts<'_>, ks: &[u32], buf: &mut [u8], at: usize, k: Kind, j: u32) -> usize
+    ensures { Appended buf.old at buf.new result (gap_of (texts_by texts.now) ks.now k j) }
 {
     match k.code {
         CLOSURE if j as usize + 1 == k.count as usize => put(buf, at, b") -> "),
-        OBJECT | CLOSURE => put_entry(rule, text, ks, buf, at, k, j),
+        OBJECT | CLOSURE => put_entry(texts, ks, buf, at, k, j),
         IF_CONST if j == 0 => at,
         IF_CONST => put(buf, at, b" } else { "),
         _ => put_comma(buf, at, j),

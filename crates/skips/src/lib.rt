@@ -14,6 +14,7 @@ fn skip_at(skip: &[u8], s: usize) -> usize
     skip.get(s).map_or(0, |far| usize::from(*far))
 }
 
+// Kept (1): 0 is no slot to pass over, and a number of slots like any other; an Option would be taken apart to be added.
 // How many slots from s on are passed over: those that s tells of, and those that the next one does. Both become one where a byte holds them, so that
 // runs of children that overlap are gone through once.
 pub fn pass(skip: &mut [u8], s: usize) -> usize

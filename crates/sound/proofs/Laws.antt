@@ -5,11 +5,11 @@ use mathlib.Core.Path.{◌≡◌, refl, ap, sym, ◌∙◌, subst}
 use mathlib.Core.Bool.{Bool, true, false, ◌&&◌, and_assoc, and-true, and-false, false≢true}
 use mathlib.Core.List.{List, [], ◌∷◌}
 use mathlib.Core.Option.{none, some}
-use Prim.Native.Nat.{ℕ, ◌%◌, ◌≤◌, ◌<◌}
+use Prim.Native.Nat.{ℕ, ◌%◌, ◌≤◌}
 use native.Mathlib.Omega.{arith}
 use lib.Dec.{eqb, leb}
 use lib.ListN.{length, get_or}
-use borrow.Author.Tests.{eq-eqb, le-leb, lt-leb, leb-true}
+use borrow.Author.Tests.{le-leb, leb-true}
 use Rattle.scope.specs.Base.{all, from}
 use Rattle.scope.specs.Limits.{MAX_NODES, MAX_CHILDREN}
 use Rattle.scope.specs.Chart.{Env, record_ok, chart_ok}
@@ -19,7 +19,8 @@ use Rattle.scope.specs.Refusals.{BAD_CHART, UNSOUND, first_broken, lent_tests}
 use Rattle.names.proofs.Tests.{both, all_at}
 use Rattle.chart.specs.declared.Beside.{Beside}
 use Rattle.chart.specs.Words.{RECORD_WORDS}
-use Rattle.chart.specs.Env.{env_of, chart_in, chart_words_ok}
+use Rattle.chart.specs.declared.Env as lent
+use Rattle.chart.specs.Env.{env_of, chart_in, chart_lent, chart_words_ok}
 use Rattle.layout.specs.Words.{node_words, nodes_made, children_made, node_room, child_room, node_at, node_clean, decode, store_in, long_enough, unused_zero, nodes_clean, clean, lent_of}
 use Rattle.layout.specs.Meaning.{Lies, header_in, remembered_means}
 use Rattle.layout.specs.declared.Header.{Header}
@@ -30,7 +31,7 @@ use Rattle.layout.proofs.Lists.{all_map}
 use Rattle.kind_sound.proofs.Laws.{kind_inside, nodes_beside}
 use Rattle.node_sound.specs.Tests.{nodes_test}
 use Rattle.shape.specs.Asks.{node_inside, Shaped}
-use Rattle.sound.specs.Tests.{within, readable, no_chart, env_in}
+use Rattle.sound.specs.Tests.{within, readable, no_chart, env_in, env_lent}
 
 -- two tests of every element
 
@@ -46,29 +47,6 @@ all_both p q (x ∷ l) = ap (λ (b : Bool). (p x && q x) && b) (all_both p q l) 
 -- before a store is read
 
 module _ (h ws ks : List ℕ) where
-  module _ (x : Header) (e : x ≡ header_in h) where
-    head_node_room : x.node_room ≡ node_room h
-    head_node_room = ap (λ (y : Header). y.node_room) e
-
-    head_child_room : x.child_room ≡ child_room h
-    head_child_room = ap (λ (y : Header). y.child_room) e
-
-    pub many_nodes : MAX_NODES < x.node_room → readable h ws ks ≡ false
-    unfolding readable
-    many_nodes l = rw (lt-leb (node_room h) MAX_NODES (omega (arith, head_node_room)))
-
-    pub many_children : MAX_CHILDREN < x.child_room → readable h ws ks ≡ false
-    unfolding readable
-    many_children l = rw (lt-leb (child_room h) MAX_CHILDREN (omega (arith, head_child_room)), and-false (leb (node_room h) MAX_NODES))
-
-    pub readable_room : x.node_room ≤ MAX_NODES → x.child_room ≤ MAX_CHILDREN → readable h ws ks ≡ room_clean h ws ks
-    unfolding readable
-    readable_room a b =
-        rw (
-          le-leb (node_room h) MAX_NODES (omega (arith, head_node_room)),
-          le-leb (child_room h) MAX_CHILDREN (omega (arith, head_child_room)),
-        )
-
   -- a store is clean where its room is and its nodes are
 
   clean_room : clean h ws ks ≡ (room_clean h ws ks && nodes_clean h ws ks)
@@ -213,10 +191,6 @@ module _ (ws : List ℕ) (b : Beside) (rule text : List ℕ) where
   unfolding env_in
   whole_by q = rw q
 
-  -- whole records are the chart that `chart` reads
-  pub env_records : length ws % RECORD_WORDS ≡ 0 → env_in ws b rule text ≡ env_of ws b rule text
-  env_records q = whole_by (eq-eqb (length ws % RECORD_WORDS) 0 q)
-
   torn_by : eqb (length ws % RECORD_WORDS) 0 ≡ false → env_in ws b rule text ≡ no_chart
   unfolding env_in
   torn_by q = rw q
@@ -238,15 +212,19 @@ module _ (ws : List ℕ) (b : Beside) (rule text : List ℕ) where
   pub env_sound : chart_words_ok ws b rule text ≡ true → (l : Lent) → sound (env_in ws b rule text) l ≡ sound (chart_in ws rule text) l
   env_sound h l = ap (λ (e : Env). sound e l) (env_whole h) ∙ sound_beside l
 
-  -- the first of the two tests that breaks
+-- the first of the two tests that breaks
 
-  module _ (l : Lent) where
-    pub refuses_chart : chart_words_ok ws b rule text ≡ false → first_broken (lent_tests (env_in ws b rule text) l) ≡ some BAD_CHART
-    refuses_chart h = rw (env_ok, h)
+module _ (e : lent.Env) (l : Lent) where
+  -- the chart breaks no limit
+  abbrev ok : Bool
+  ok = chart_words_ok e.chart.now e.beside e.texts.rule.now e.texts.chart.now
 
-    module _ (h : chart_words_ok ws b rule text ≡ true) where
-      pub refuses_store : sound (chart_in ws rule text) l ≡ false → first_broken (lent_tests (env_in ws b rule text) l) ≡ some UNSOUND
-      refuses_store s = rw (env_ok, h, env_sound h l, s)
+  pub refuses_chart : ok ≡ false → first_broken (lent_tests (env_lent e) l) ≡ some BAD_CHART
+  refuses_chart h = rw (env_ok, h)
 
-      pub refuses_nothing : sound (chart_in ws rule text) l ≡ true → first_broken (lent_tests (env_in ws b rule text) l) ≡ none
-      refuses_nothing s = rw (env_ok, h, env_sound h l, s)
+  module _ (h : ok ≡ true) where
+    pub refuses_store : sound (chart_lent e) l ≡ false → first_broken (lent_tests (env_lent e) l) ≡ some UNSOUND
+    refuses_store s = rw (env_ok, h, env_sound _ _ _ _ h l, s)
+
+    pub refuses_nothing : sound (chart_lent e) l ≡ true → first_broken (lent_tests (env_lent e) l) ≡ none
+    refuses_nothing s = rw (env_ok, h, env_sound _ _ _ _ h l, s)

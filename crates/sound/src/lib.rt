@@ -28,22 +28,10 @@ fn readable(h: &[u32], ws: &[u32], ks: &[u32]) -> bool
 pub fn store_sound(env: &Env<'_>, h: &[u32], ws: &[u32], ks: &[u32]) -> bool
     ensures { result ≡ sound (chart_lent env.now) (lent_of h.now ws.now ks.now) }
 {
-    if !readable(h, ws, ks) {
-        return false;
-    }
     let x = layout::read_header(h);
-    if !node_sound::nodes_sound(
-        ws,
-        ks,
-        x.nodes,
-        x.children,
-        env.chart,
-        env.texts.rule,
-        env.texts.chart,
-    ) {
-        return false;
-    }
-    kind_sound::remembered_inside(x.error, x.nodes)
+    readable(h, ws, ks)
+        && node_sound::nodes_sound(ws, ks, x.nodes, x.children, env)
+        && kind_sound::remembered_inside(x.error, x.nodes)
         && kind_sound::remembered_inside(x.nil, x.nodes)
         && shape::shape_ok(ws, ks, x.nodes)
 }
@@ -52,7 +40,7 @@ pub fn store_sound(env: &Env<'_>, h: &[u32], ws: &[u32], ks: &[u32]) -> bool
 pub fn lent(env: &Env<'_>, h: &[u32], ws: &[u32], ks: &[u32]) -> Result<(), Refusal>
     ensures { first_broken (lent_tests (env_lent env.now) (lent_of h.now ws.now ks.now)) ≡ told result }
 {
-    if !chart::chart_ok(env.chart, env.beside, env.texts.rule, env.texts.chart) {
+    if !chart::chart_ok(env) {
         return Err(Refusal::BadChart);
     }
     if !store_sound(env, h, ws, ks) {

@@ -10,14 +10,14 @@ use native.Mathlib.Numerals.{add-one}
 use lib.Dec.{eqb}
 use lib.ListN.{length, get_or, set, drop, replicate, length-set, get_or-replicate}
 use lib.Seq.{get_or-set_same, get_or-set_other, drop-set-lt, ext_get_or}
-use borrow.Rule.Slice.PartMut.{mid_of, put_mid}
+use borrow.Rule.Slice.PartMut.{put_mid}
 use borrow.Author.Tests.{eqb-true, eqb-false}
 use Rattle.scope.specs.Limits.{MAX_STATES}
 use Rattle.scope.specs.States.{blank}
 use Rattle.book.specs.Words.{place_from, place_words, book_words, place_at, name_length_in, node_room_in, child_room_in, places_in, book_in, book_clean, BookBecame}
 use Rattle.book.specs.Places.{room_in, PlaceLies, put_place}
 use Rattle.book.specs.declared.Room.{Room}
-use Rattle.book.proofs.Geometry.{place_next, place_ends}
+use Rattle.book.proofs.Geometry.{place_ends}
 use Rattle.book.proofs.Places.{BookLies, book_lies, lies_book, places_length, places_at, place_length, put_length, place_here, place_there, beyond_put, node_room_put}
 use Rattle.book.proofs.Places.{child_room_put, became_put}
 use Rattle.book.proofs.Names.{place_in_free, clean_free, freed}
@@ -27,17 +27,8 @@ use Rattle.states.specs.Free.{freed_at, FreeTo, DropReady}
 -- a place as a part that is lent
 
 module _ {bs : List ℕ} {n c i : ℕ} (l : PlaceLies bs n c i) {a e : ℕ} (p : a ≡ place_from n c i) (q : e ≡ place_from n c (i + 1)) where
-  pub place_order : a ≤ e
-  place_order = let h = place_next n c i in let k = rw add-one at q in omega arith
-
   pub place_fits : e ≤ length bs
   place_fits = let h = place_ends n c i l.index in let k = rw add-one at q in omega (arith, l.words)
-
-  part_is : mid_of a (e - a) bs ≡ place_at bs n c i
-  part_is = rw (p, q, add-one i) refl
-
-  pub place_freed : {ps : List ℕ} → ps ≡ set (mid_of a (e - a) bs) 0 0 → ps ≡ set (place_at bs n c i) 0 0
-  place_freed r = r ∙ ap (λ (l : List ℕ). set l 0 0) part_is
 
   pub place_back : (ps : List ℕ) → put_mid a (e - a) bs ps ≡ put_place bs n c i ps
   place_back ps = rw (p, q, add-one i) refl
@@ -71,9 +62,6 @@ module _ {bs : List ℕ} {n c i : ℕ} (l : PlaceLies bs n c i) where
 
 pub free_next : {bs₀ bs : List ℕ} {n c i : ℕ} → FreeTo bs₀ bs n c i → book_words n c ≤ length bs₀ → i < MAX_STATES → PlaceLies bs n c i
 free_next f w l = record { words = rw f.words w; index = l }
-
-pub free_none : (bs : List ℕ) (n c : ℕ) → FreeTo bs bs n c 0
-free_none bs n c = record { words = refl; nodes = refl; children = refl; free = λ j h. absurd (omega arith); beyond = refl }
 
 -- a name dropped
 pub drop_lies : {bs : List ℕ} {i : ℕ} {r : Room} → DropReady bs i → r ≡ room_in bs → PlaceLies bs r.nodes r.children i

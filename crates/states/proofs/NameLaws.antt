@@ -18,7 +18,7 @@ use Rattle.book.specs.Places.{room_in, PlaceLies}
 use Rattle.book.specs.declared.Room.{Room}
 use Rattle.book.proofs.Places.{book_lies, place_length, became_put}
 use Rattle.states.specs.Ready.{holding, with_place, AtPlace, NameReady, HoldReady, HeldPlace}
-use Rattle.states.proofs.FreeLaws.{place_order, place_fits, place_back}
+use Rattle.states.proofs.FreeLaws.{place_fits, place_back}
 
 -- the same capacities
 
@@ -45,9 +45,6 @@ module _ {h ws ks bs : List ℕ} {i : ℕ} {name : List ℕ} (r : NameReady h ws
     (f : a ≡ place_from m.nodes m.children i) (g : e ≡ place_from m.nodes m.children (i + 1)) where
   lies : PlaceLies bs m.nodes m.children i
   lies = at_lies r.at q
-
-  pub name_order : a ≤ e
-  name_order = place_order lies f g
 
   pub name_fits_in : e ≤ length bs
   name_fits_in = place_fits lies f g

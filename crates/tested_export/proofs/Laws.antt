@@ -2,8 +2,8 @@
 -- Once all is passed the source is sound with its types inside, and the destination's slices can hold what is copied, whatever they hold.
 -- Assumes nothing.
 use mathlib.Core.Path.{◌≡◌, refl, ap, sym, ◌∙◌}
-use mathlib.Core.Bool.{Bool, not}
-use mathlib.Core.List.{List, [], ◌∷◌, ◌++◌}
+use mathlib.Core.Bool.{Bool, not, or-false}
+use mathlib.Core.List.{List, [], ◌∷◌, ◌++◌, append-nil}
 use mathlib.Core.Option.{Option, none, some}
 use Prim.Native.Nat.{ℕ, ◌+◌, ◌≤◌, ◌<◌}
 use native.Mathlib.Omega.{arith}
@@ -43,7 +43,14 @@ use Rattle.promise.specs.Promise.{Tested}
 use Rattle.promise.proofs.Laws.{lent_clean_words, lent_store, lent_facts}
 use Rattle.copy.specs.Whole.{ExportReady, ImportedIs}
 use Rattle.lent_tests.specs.Given.{FirstOf}
+use Rattle.lent_tests.specs.Given as two
 use Rattle.tested_export.specs.Tests.{list_tests, fresh_tests, export_tests, ExportTested}
+
+-- a list alone is one beside which there is none
+
+pub one_list : {n : ℕ} (ts : List Ty) {o : Option ℕ} → FirstOf n (two.list_tests ts []) o → FirstOf n (list_tests ts) o
+unfolding two.list_tests
+one_list ts t = record { code = λ s l. rw (append-nil, or-false) at t.code s l }
 
 -- room in a fresh store
 

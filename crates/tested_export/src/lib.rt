@@ -11,27 +11,14 @@ ghost use Rattle.sound.specs.Tests.{env_lent};
 ghost use Rattle.needs.specs.Sums.{sum_of};
 ghost use Rattle.promise.specs.Promise.{Tested};
 ghost use Rattle.promise.specs.Exports.{ExportPromised};
-ghost use Rattle.lent_tests.specs.Given.{FirstOf};
-ghost use Rattle.tested_export.specs.Tests.{list_tests, fresh_tests, ExportTested};
+ghost use Rattle.tested_export.specs.Tests.{fresh_tests, ExportTested};
 
 use chart::Env;
 use needs::Needs;
 use refusals::Refusal;
 
-// The first of refusals 3 and 4 that stands for a list of types of a store of n nodes.
-fn list(ts: &[u32], n: u32) -> Result<(), Refusal>
-    ensures { FirstOf n (list_tests (types_in ts.now)) (told result) }
-{
-    if !refusals::types_inside(ts, n) {
-        return Err(Refusal::Outside);
-    }
-    if lent_tests::too_many(ts) {
-        return Err(Refusal::Unmakeable);
-    }
-    Ok(())
-}
-
 // The first of refusals 10 and 11 that stands where these are the nodes and children that a fresh store has room for.
+// Kept (2): `refusals::room` reads what is made and the room in a header, and the fresh store has none before all tests are passed.
 fn room(nodes: u32, children: u32, wanted: Needs) -> Result<(), Refusal>
     ensures { first_broken (fresh_tests nodes children (sum_of wanted)) ≡ told result }
 {
@@ -63,7 +50,7 @@ fn tests(
 {
     refusals::opening(h, ws, ks, nodes, children)?;
     let x = layout::read_header(sh);
-    list(ts, x.nodes)?;
+    lent_tests::lists(ts, &[], x.nodes)?;
     room(nodes, children, needs::of_export(sh, sw, sk, ts))
 }
 

@@ -5,13 +5,12 @@ use mathlib.Core.Path.{◌≡◌, refl, ap, sym, ◌∙◌}
 use mathlib.Core.Bool.{Bool, true, false, not, ◌&&◌, ◌||◌}
 use mathlib.Core.List.{List, [], ◌∷◌}
 use mathlib.Core.Option.{Option, none, some}
-use Prim.Native.Nat.{ℕ, ◌≤◌}
-use lib.ListN.{length, length-map}
-use borrow.Author.Tests.{not-false, ltb-false}
+use Prim.Native.Nat.{ℕ}
+use lib.ListN.{length}
+use borrow.Author.Tests.{not-false}
 use Rattle.scope.specs.Base.{all}
-use Rattle.scope.specs.Limits.{MAX_LIST}
 use Rattle.scope.specs.Chart.{Env}
-use Rattle.scope.specs.Types.{Ty, ty_of}
+use Rattle.scope.specs.Types.{Ty}
 use Rattle.scope.specs.Nodes.{Node, Store}
 use Rattle.scope.specs.Needs as scope
 use Rattle.scope.specs.Sound.{sound, in_store}
@@ -24,7 +23,6 @@ use Rattle.store.specs.Entries.{types_in}
 use Rattle.refusals.proofs.Laws.{test_stands, test_falls, test_passed, tests_passed, passed_first, passed_next}
 use Rattle.needs.specs.declared.Needs.{Needs}
 use Rattle.needs.specs.Roots.{Params}
-use Rattle.std.specs.Prelude.{Some}
 use Rattle.needs.specs.Roots.{params_for}
 use Rattle.needs.specs.Sources.{ImportNeeds}
 use Rattle.promise.specs.Promise.{Tested}
@@ -94,15 +92,6 @@ module _ (o s : Store) (ts : List Ty) (ps : Option (List Ty)) (q : first_broken 
   entries_few =
       (or_no (too_many ts) (too_many (import_list ps))
       (test_passed many UNMAKEABLE [] (tests_passed (not (listed && entries)) OUTSIDE ((many, UNMAKEABLE) ∷ []) q))).1
-
--- a parameter list as the walk is told of it
-
-module _ (ps : List ℕ) where
-  pub params_few : too_many (types_in ps) ≡ false → length ps ≤ MAX_LIST
-  params_few q = rw (length-map ps ty_of) at (ltb-false MAX_LIST (length (types_in ps)) q)
-
-  pub params_listed : Some (length ps) ≡ params_for (some (types_in ps))
-  params_listed = rw (length-map ps ty_of) refl
 
 -- what is needed
 

@@ -24,23 +24,18 @@ use refusals::Refusal;
 fn entries_inside(params: Option<&[u32]>, n: u32) -> bool
     ensures { (ns : List Node) → length ns ≡ n → result ≡ all (in_store ns) (import_list (params_in params.entry)) }
 {
-    match params {
-        Some(ps) => refusals::types_inside(ps, n),
-        None => true,
-    }
+    params.is_none_or(|ps| refusals::types_inside(ps, n))
 }
 
 // "over 255 listed types or parameters"
 fn too_many_entries(params: Option<&[u32]>) -> bool
     ensures { result ≡ too_many (import_list (params_in params.entry)) }
 {
-    match params {
-        Some(ps) => lent_tests::too_many(ps),
-        None => false,
-    }
+    params.is_some_and(|ps| lent_tests::too_many(ps))
 }
 
 // The first of refusals 3 and 4 that stands: the types are of a source of a nodes, the entries of a destination of d.
+// Kept (2): `lent_tests::lists` has both lists among the nodes of one store.
 fn lists(ts: &[u32], a: u32, params: Option<&[u32]>, d: u32) -> Result<(), Refusal>
     ensures { ListsTested ts.now a (params_in params.entry) d (told result) }
 {
@@ -58,10 +53,7 @@ fn params_of(params: Option<&[u32]>) -> Option<u32>
     requires { too_many (import_list (params_in params)) ≡ false }
     ensures { result ≡ params_for (params_in params.entry) }
 {
-    match params {
-        Some(ps) => Some(ps.len() as u32),
-        None => None,
-    }
+    params.map(|ps| ps.len() as u32)
 }
 
 // The first of refusals 6, 10 and 11 that stands: what is needed is counted in the source alone, and of the destination only the header is read.

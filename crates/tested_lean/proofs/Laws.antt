@@ -1,18 +1,15 @@
 -- What header and nodes of a tested store say, and one law for each way out of the calls that are lent no more.
 -- Assumes nothing.
-use mathlib.Core.Path.{◌≡◌, refl, ap, sym, ◌∙◌}
-use mathlib.Core.Bool.{Bool, true, false}
+use mathlib.Core.Path.{◌≡◌, refl, ap}
 use mathlib.Core.List.{List, [], ◌∷◌}
 use mathlib.Core.Option.{Option, none, some}
 use Prim.Native.Nat.{ℕ, ◌+◌, ◌≤◌, ◌<◌}
 use native.Mathlib.Omega.{arith}
-use lib.ListN.{length}
 use borrow.Author.Tests.{lt-ltb, le-ltb}
 use Rattle.scope.specs.Chart.{Env}
-use Rattle.scope.specs.Types.{Ty, ty_of}
+use Rattle.scope.specs.Types.{ty_of}
 use Rattle.scope.specs.Nodes.{Node, find}
-use Rattle.scope.specs.Sound.{in_store}
-use Rattle.scope.specs.Refusals.{OUTSIDE, NODES_FULL}
+use Rattle.scope.specs.Refusals.{NODES_FULL}
 use Rattle.scope.specs.Make.{new_var, make_error, make_nil}
 use Rattle.scope.specs.Calls.{first_broken, room_tests, nodes_for, new_var_call, error_call, nil_call, find_call, find_mut_call}
 use Rattle.types.specs.declared.«Type».{«Type»}
@@ -24,14 +21,12 @@ use Rattle.layout.specs.declared.TypeState.TheVariants.{Unknown}
 use Rattle.layout.proofs.StoreLaws.{clean_lies}
 use Rattle.store.proofs.Laws.{error_is, nil_is}
 use Rattle.scope.specs.Kinds.{TUPLE, ERROR}
-use Rattle.roots.specs.Found.{Found, FoundMut, Near}
-use Rattle.roots.specs.Found.{Nearby}
-use Rattle.std.specs.declared.option.Option.TheVariants as near
+use Rattle.roots.specs.Found.{Found, FoundMut}
 use Rattle.make.specs.Header.{Pushed, BlankReady, OnceReady, OnceMade}
 use Rattle.make.proofs.MakeLaws.{blank_ready, blank_made, var_made, once_ready, error_made, nil_made}
 use Rattle.refusals.proofs.RoomLaws.{nodes_full, room_left}
 use Rattle.promise.specs.Promise.{value, refusal, Tested, TypesInside}
-use Rattle.promise.proofs.Laws.{tested_clean, inside_tested, one_outside, one_inside}
+use Rattle.promise.proofs.Laws.{tested_clean, inside_tested}
 use Rattle.promise.proofs.ReadLaws.{read_refused, read_linked, read_nodes}
 use Rattle.call_make.specs.Room.{RoomTested}
 use Rattle.call_make.proofs.tested.MakerLaws.{for_room, maker_back, maker_ready, maker_done, error_tested, nil_tested}
@@ -59,15 +54,6 @@ module _ {h : List ℕ} (w : Within h) (ws ks : List ℕ) where
   pub none_left : first_broken (room_tests (store_in h ws ks) 0 0) ≡ none
   none_left =
       room_left h ws ks (header_in h) refl 0 0 (le-ltb (node_room h) (nodes_made h + 0) (omega (arith, w.nodes))) (le-ltb (child_room h) (children_made h + 0) (omega (arith, w.children)))
-
--- one type, by the number of nodes
-
-module _ {h : List ℕ} {n : ℕ} (g : n ≡ nodes_made h) (t : Ty) {b : Bool} (i : (ns : List Node) → length ns ≡ n → b ≡ in_store ns t) where
-  pub type_outside : b ≡ false → TypesInside h (t ∷ []) (some OUTSIDE)
-  type_outside f = one_outside h {x = header_in h} refl t (λ ns l. i ns (l ∙ sym g)) f
-
-  pub type_inside : b ≡ true → TypesInside h (t ∷ []) none
-  type_inside f = one_inside h {x = header_in h} refl t (λ ns l. i ns (l ∙ sym g)) f
 
 -- new_var
 
@@ -161,11 +147,3 @@ module _ {h : List ℕ} (t : «Type») where
     pub mut_done : {ws' : List ℕ} {r : «Type»} → FoundMut ws m ws' t.0 r.0
         → EachPromised (λ e l. find_mut_call e l (ty_of t.0)) (value (ty_of r.0)) h ws h ws'
     mut_done f = record { each = λ q. mut_answer t (inside_tested q inside) {x = header_in h} refl (rw g at f) }
-
--- near its root
-pub near_mut : {ws : List ℕ} {n t : ℕ} {q : Nearby} {r : «Type»} → Linked ws n → Near ws n t q → q ≡ near.Some r → FoundMut ws n ws t r.0
-near_mut {r = r} l h e = record {
-  root = (h.found r e).root;
-  nodes = λ ks. sym (h.stays r e ks);
-  words = record { long = refl; tail = refl; others = λ p o. refl; linked = l; clean = λ ks c x. x };
-}

@@ -1,16 +1,16 @@
 #![tactic(auto)]
 // The calls on a tested store that look at its header and its nodes alone, with no more lent to them: `new_var`, `error`, `nil`, `find`, `find_mut`. Each tests what
 // its form with all of the store tests, and answers the same, with every chart, texts and children's words with which the words pass the tests.
-ghost use Rattle.std.specs.Prelude.{◌≡◌, List, [], ◌∷◌, ℕ, ◌≤◌, length};
+ghost use Rattle.std.specs.Prelude.{◌≡◌, List, ℕ};
 ghost use Rattle.scope.specs.Types.{ty_of};
 ghost use Rattle.scope.specs.Calls.{first_broken, room_tests, nodes_for, new_var_call, error_call, nil_call, find_call, find_mut_call};
-ghost use Rattle.layout.specs.Words.{HEAD_WORDS, store_in};
-ghost use Rattle.layout.specs.Meaning.{remembered_means, Linked};
-ghost use Rattle.roots.specs.Found.{Found};
+ghost use Rattle.layout.specs.Words.{store_in};
+ghost use Rattle.layout.specs.Meaning.{remembered_means};
 ghost use Rattle.refusals.specs.Codes.{told};
-ghost use Rattle.promise.specs.Promise.{type_reply, TypesInside};
+ghost use Rattle.promise.specs.Promise.{type_reply};
 ghost use Rattle.tested_lean.specs.Each.{Passed, EachPromised, EachAnswered, Within};
 
+use promise::inside;
 use refusals::Refusal;
 use types::Type;
 
@@ -36,26 +36,6 @@ fn once_room(h: &[u32], was: Option<Type>) -> Result<(), Refusal>
     }
 }
 
-// Refusal 3 where a type's node is not in the store.
-fn inside(h: &[u32], t: Type) -> Result<(), Refusal>
-    requires { HEAD_WORDS ≤ length h.now }
-    ensures { TypesInside h.now (ty_of t.0 ∷ []) (told result) }
-{
-    let n = heads::nodes_made(h);
-    if refusals::type_inside(t, n) {
-        return Ok(());
-    }
-    Err(Refusal::Outside)
-}
-
-// The root of a type among n nodes. Most are near it.
-fn root_of(ws: &[u32], n: u32, t: Type) -> Type
-    requires { Linked ws.now n }
-    ensures { Found ws.now n t.0 result.0 }
-{
-    roots::near(ws, n, t).unwrap_or_else(|| roots::find(ws, n, t))
-}
-
 // "`new_var`": a type without a kind, and its span.
 pub fn new_var(h: &mut [u32], ws: &mut [u32], span: u32) -> Result<Type, Refusal>
     requires { Passed h.old ws.old }
@@ -66,6 +46,7 @@ pub fn new_var(h: &mut [u32], ws: &mut [u32], span: u32) -> Result<Type, Refusal
 }
 
 // The error type.
+// Kept (2): `nil` beside it is two lines too; one function of both would take two functions of `heads` and `make`.
 pub fn error(h: &mut [u32], ws: &mut [u32]) -> Result<Type, Refusal>
     requires { Passed h.old ws.old }
     ensures { EachPromised error_call (type_reply result) h.old ws.old h.new ws.new }
@@ -90,18 +71,15 @@ pub fn find(h: &[u32], ws: &[u32], t: Type) -> Result<Type, Refusal>
 {
     inside(h, t)?;
     let n = heads::nodes_made(h);
-    Ok(root_of(ws, n, t))
+    Ok(roots::find(ws, n, t))
 }
 
-// "`find_mut` also points every node on the path straight at the root, keeping each node's meaning." Near its root a type's path has no other node.
+// "`find_mut` also points every node on the path straight at the root, keeping each node's meaning."
 pub fn find_mut(h: &[u32], ws: &mut [u32], t: Type) -> Result<Type, Refusal>
     requires { Passed h.now ws.old }
     ensures { EachPromised (λ e l. find_mut_call e l (ty_of t.0)) (type_reply result) h.now ws.old h.now ws.new }
 {
     inside(h, t)?;
     let n = heads::nodes_made(h);
-    match roots::near(ws, n, t) {
-        Some(root) => Ok(root),
-        None => Ok(roots::find_mut(ws, n, t)),
-    }
+    Ok(roots::find_mut(ws, n, t))
 }

@@ -15,7 +15,6 @@ use Rattle.scope.specs.Nodes.{Node}
 use Rattle.scope.specs.Base.{all}
 use Rattle.scope.specs.Sound.{in_store}
 use Rattle.scope.specs.Make.{new}
-use Rattle.scope.specs.Refusals.{UNMAKEABLE}
 use Rattle.scope.specs.Calls.{first_broken, room_tests, over}
 use Rattle.chart.specs.Env.{chart_in, chart_alone}
 use Rattle.types.specs.declared.«Type».{«Type»}
@@ -118,12 +117,6 @@ row_names r c e = sym (ap (λ (x : Row). x.names) e)
 
 -- what the test for no names says, b, of the row's names
 
-pub named : (d : Names) {b : Bool} → b ≡ not (sameb the_type d No) → b ≡ true → names_number d ≡ NO_NAMES → ⊥
-named No e t z = false≢true (sym e ∙ t)
-named Own e t z = omega (arith, z)
-named OfChildren e t z = omega (arith, z)
-named OfParameters e t z = omega (arith, z)
-
 pub unnamed : (d : Names) {b : Bool} → b ≡ not (sameb the_type d No) → b ≡ false → names_number d ≡ NO_NAMES
 unnamed No e f = refl
 unnamed Own e f = absurd (false≢true (sym f ∙ e))
@@ -131,13 +124,7 @@ unnamed OfChildren e f = absurd (false≢true (sym f ∙ e))
 unnamed OfParameters e f = absurd (false≢true (sym f ∙ e))
 
 module _ (cs h ws ks ts : List ℕ) (c m n : ℕ) (row : (row_of c).names ≡ n) where
-  pub over_named : (n ≡ NO_NAMES → ⊥) → OverPromised cs c m ts (refusal UNMAKEABLE) h ws ks h ws ks
-  over_named z = record {
-    each = λ e. absurd (z (sym row ∙ e));
-    named = λ _. (refl, record { head = refl; nodes = refl; kids = refl });
-  }
-
-  pub nameless : n ≡ NO_NAMES → (row_of c).names ≡ NO_NAMES
+  nameless : n ≡ NO_NAMES → (row_of c).names ≡ NO_NAMES
   nameless e = row ∙ e
 
   module _ (e : n ≡ NO_NAMES) {x : Header} (g : x ≡ header_in h) {i : Bool} (o : (ns : List Node) → length ns ≡ x.nodes → i ≡ all (in_store ns) (types_in ts)) where

@@ -27,6 +27,7 @@ use refusals::Refusal;
 use types::{Inverted, Type};
 
 // The listed types without names, behind the `first` children made.
+// Kept (2): `lent_kind::put_types` puts them at the front, and promises nothing of the slots around them.
 fn put_listed(ks: &mut [u32], first: u32, types: &[u32])
     requires { child_words (first + length types.now) ≤ length ks.old }
     ensures { Put (entries_of types.now) first (length types.now) ks.old ks.new }

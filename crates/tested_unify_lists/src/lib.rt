@@ -34,17 +34,7 @@ pub fn unify_types_recalling(
     let x = layout::read_header(h);
     lent_tests::lists(xs, ys, x.nodes)?;
     recall::begin(memory);
-    Ok(unify_lists::unify_lists(
-        ws,
-        ks,
-        x.nodes,
-        env.texts.rule,
-        env.texts.chart,
-        memory,
-        xs,
-        ys,
-        inv,
-    ))
+    Ok(unify_lists::unify_lists(ws, ks, x.nodes, &env.texts, memory, xs, ys, inv))
 }
 
 // The same without a memory.
@@ -87,17 +77,7 @@ pub fn unify_objects_recalling(
     let x = layout::read_header(h);
     lent_tests::objects(xs, ys, x.nodes, env)?;
     recall::begin(memory);
-    Ok(unify_lists::unify_entries(
-        ws,
-        ks,
-        x.nodes,
-        env.texts.rule,
-        env.texts.chart,
-        memory,
-        xs,
-        ys,
-        inv,
-    ))
+    Ok(unify_lists::unify_entries(ws, ks, x.nodes, &env.texts, memory, xs, ys, inv))
 }
 
 // The same without a memory.
@@ -141,18 +121,7 @@ pub fn unify_fn_sig_recalling(
     let x = layout::read_header(h);
     lent_tests::signatures(xs, r, ys, q, x.nodes)?;
     recall::begin(memory);
-    Ok(unify_lists::unify_fn_sig(
-        ws,
-        ks,
-        x.nodes,
-        env.texts.rule,
-        env.texts.chart,
-        memory,
-        xs,
-        r,
-        ys,
-        q,
-    ))
+    Ok(unify_lists::unify_fn_sig(ws, ks, x.nodes, &env.texts, memory, xs, r, ys, q))
 }
 
 // The same without a memory.

@@ -103,10 +103,3 @@ module _ {x : Texts} {ws ks m ws' m' : List ℕ} {n d : ℕ} {p q : Ty} {r : Boo
           → Unified x ws ks m ws' m' n (unify_f x n d (decode ws ks n) p q) Success
       go (inl k) = merges w h k.0 k.1
       go (inr o) = rw (o.1.0, o.1.1) (nothing_done w h o.0)
-
-  pub small_asked : {ps : List (Ty × Ty)} → Asked x ws ks m n d ps → SmallTold ws ws' n m m' p q r → r ≡ false → Asked x ws' ks m' n d ps
-  small_asked w t e = rw (t.words e, t.memory e) w
-
-  pub small_not : {ws₂ m₂ : List ℕ} {s : UnifyResult} → Asked x ws ks m n d ((p, q) ∷ []) → SmallTold ws ws' n m m' p q r → r ≡ false
-      → Unified x ws' ks m' ws₂ m₂ n (unify_f x n d (decode ws' ks n) p q) s → Unified x ws ks m ws₂ m₂ n (unify_f x n d (decode ws ks n) p q) s
-  small_not w t e u = rw (← t.words e, ← t.memory e) u

@@ -4,12 +4,13 @@
 pub mod walks;
 
 ghost use Rattle.scope.specs.Types.{ty_of};
-ghost use Rattle.names.specs.Place.{texts};
+ghost use Rattle.names.specs.Place.{texts_by};
 ghost use Rattle.std.specs.Prelude.{[], ◌∷◌};
 ghost use Rattle.unify_enter.specs.Asked.{Asked};
 ghost use Rattle.unify_enter.specs.Enters.{Enters};
 
 use meeting::Steps;
+use names::Texts;
 use types::{Type, UnifyResult};
 
 // What two types ask for: an answer, or children that are to be unified first, the memory's clock before them, and the two roots.
@@ -21,19 +22,18 @@ pub enum Entered {
 
 // What walks is the module `walks`: two roots of which one has no kind at once, others once both roots are found and have met. A pair of roots with children is looked up in
 // the memory here.
-pub fn enter<'a>(
+pub fn enter(
     ws: &mut [u32],
     ks: &[u32],
     n: u32,
-    rule: &'a [u8],
-    text: &'a [u8],
+    texts: &Texts<'_>,
     memory: &mut [u32],
     a: Type,
     b: Type,
     depth: u32,
 ) -> Entered
-    requires { Asked (texts rule.now text.now) ws.old ks.now memory.old n depth ((ty_of a.0, ty_of b.0) ∷ []) }
-    ensures { Enters (texts rule.now text.now) ws.old ks.now memory.old ws.new memory.new
+    requires { Asked (texts_by texts.now) ws.old ks.now memory.old n depth ((ty_of a.0, ty_of b.0) ∷ []) }
+    ensures { Enters (texts_by texts.now) ws.old ks.now memory.old ws.new memory.new
         n depth (ty_of a.0) (ty_of b.0) result }
 {
     if depth == 0 {
@@ -45,7 +45,7 @@ pub fn enter<'a>(
     recall::visited(memory, 1);
     let ra = heed::find(ws, n, memory, a);
     let rb = heed::find(ws, n, memory, b);
-    let Some(p) = meeting::meet(ws, ks, n, rule, text, ra, rb) else {
+    let Some(p) = meeting::meet(ws, ks, n, texts, ra, rb) else {
         return Entered::Done(walks::walk_pair(ws, ks, n, memory, ra, rb));
     };
     match recall::look(memory, n, ra, rb) {

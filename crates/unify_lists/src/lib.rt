@@ -6,51 +6,50 @@ ghost use Rattle.scope.specs.Limits.{«MAX_LIST»};
 ghost use Rattle.scope.specs.Types.{ty_of};
 ghost use Rattle.scope.specs.Unify.{unify_types, unify_objects, unify_fn_sig, unify_impl_type};
 ghost use Rattle.scope.specs.Unify as scope;
-ghost use Rattle.names.specs.Place.{texts};
+ghost use Rattle.names.specs.Place.{texts_by};
 ghost use Rattle.layout.specs.Words.{decode};
 ghost use Rattle.types.specs.Impls.{impl_means};
 ghost use Rattle.store.specs.Entries.{entry_count, entry_names, entry_types, types_in};
 ghost use Rattle.unify.specs.Asked.{Asked, Unified};
 ghost use Rattle.unify_lists.specs.Lent.{Lists, Objects, Signatures, Impls};
 
+use names::Texts;
 use types::{Impl, Inverted, Type, UnifyResult};
 
 // A call that is lent no memory has one of its own, of sixteen pairs: enough for one that is asked again and again.
 pub const OWN_MEMORY: usize = recall::HEAD + 16 * recall::ENTRY;
 
 // A pair of types, as deep as there are nodes.
-pub fn unify_all<'a>(
+pub fn unify_all(
     ws: &mut [u32],
     ks: &[u32],
     n: u32,
-    rule: &'a [u8],
-    text: &'a [u8],
+    texts: &Texts<'_>,
     memory: &mut [u32],
     a: Type,
     b: Type,
 ) -> UnifyResult
-    requires { Asked (texts rule.now text.now) ws.old ks.now memory.old n n ((ty_of a.0, ty_of b.0) ∷ []) }
-    ensures { Unified (texts rule.now text.now) ws.old ks.now memory.old ws.new memory.new n
-        (scope.unify (texts rule.now text.now) (decode ws.old ks.now n) (ty_of a.0) (ty_of b.0)) result }
+    requires { Asked (texts_by texts.now) ws.old ks.now memory.old n n ((ty_of a.0, ty_of b.0) ∷ []) }
+    ensures { Unified (texts_by texts.now) ws.old ks.now memory.old ws.new memory.new n
+        (scope.unify (texts_by texts.now) (decode ws.old ks.now n) (ty_of a.0) (ty_of b.0)) result }
 {
-    unify::unify(ws, ks, n, rule, text, memory, a, b, n)
+    unify::unify(ws, ks, n, texts, memory, a, b, n)
 }
 
 // Two lent lists of types, the second's inverted if inv says so.
-pub fn unify_lists<'a>(
+pub fn unify_lists(
     ws: &mut [u32],
     ks: &[u32],
     n: u32,
-    rule: &'a [u8],
-    text: &'a [u8],
+    texts: &Texts<'_>,
     memory: &mut [u32],
     xs: &[u32],
     ys: &[u32],
     inv: Inverted,
 ) -> UnifyResult
-    requires { Lists (texts rule.now text.now) ws.old ks.now memory.old n xs.now ys.now inv }
-    ensures { Unified (texts rule.now text.now) ws.old ks.now memory.old ws.new memory.new n
-        (unify_types (texts rule.now text.now) (decode ws.old ks.now n)
+    requires { Lists (texts_by texts.now) ws.old ks.now memory.old n xs.now ys.now inv }
+    ensures { Unified (texts_by texts.now) ws.old ks.now memory.old ws.new memory.new n
+        (unify_types (texts_by texts.now) (decode ws.old ks.now n)
         (types_in xs.now) (types_in ys.now) inv.0) result }
 {
     if xs.len() != ys.len() {
@@ -59,7 +58,7 @@ pub fn unify_lists<'a>(
     let mut r = UnifyResult::Success;
     for (x, y) in xs.iter().zip(ys) {
         let y = Type(*y).invert_if(inv);
-        r = r.and(unify::unify(ws, ks, n, rule, text, memory, Type(*x), y, n));
+        r = r.and(unify::unify(ws, ks, n, texts, memory, Type(*x), y, n));
     }
     r
 }
@@ -73,20 +72,19 @@ fn entries(xs: &[u32]) -> u32
 }
 
 // Two lent objects, four words an entry: "Objects of different length or names answer Failure and still unify their shared names, in a's order".
-pub fn unify_entries<'a>(
+pub fn unify_entries(
     ws: &mut [u32],
     ks: &[u32],
     n: u32,
-    rule: &'a [u8],
-    text: &'a [u8],
+    texts: &Texts<'_>,
     memory: &mut [u32],
     xs: &[u32],
     ys: &[u32],
     inv: Inverted,
 ) -> UnifyResult
-    requires { Objects (texts rule.now text.now) ws.old ks.now memory.old n xs.now ys.now inv }
-    ensures { Unified (texts rule.now text.now) ws.old ks.now memory.old ws.new memory.new n
-        (unify_objects (texts rule.now text.now) (decode ws.old ks.now n)
+    requires { Objects (texts_by texts.now) ws.old ks.now memory.old n xs.now ys.now inv }
+    ensures { Unified (texts_by texts.now) ws.old ks.now memory.old ws.new memory.new n
+        (unify_objects (texts_by texts.now) (decode ws.old ks.now n)
         (entry_names xs.now) (entry_types xs.now) (entry_names ys.now) (entry_types ys.now) inv.0) result }
 {
     let na = entries(xs);
@@ -94,9 +92,9 @@ pub fn unify_entries<'a>(
     let mut r = UnifyResult::from(na == nb);
     for j in 0..na {
         let x = meeting::kid(xs, 0, j);
-        let f = meeting::seek(ys, meeting::kid_name(xs, 0, j), 0, nb, rule, text);
+        let f = meeting::seek(ys, meeting::kid_name(xs, 0, j), 0, nb, texts);
         let q = match f {
-            Some(t) => unify::unify(ws, ks, n, rule, text, memory, x, t.invert_if(inv), n),
+            Some(t) => unify::unify(ws, ks, n, texts, memory, x, t.invert_if(inv), n),
             None => UnifyResult::Failure,
         };
         r = r.and(q);
@@ -105,44 +103,42 @@ pub fn unify_entries<'a>(
 }
 
 // Two signatures: their parameters, then their returns, whatever the parameters answered.
-pub fn unify_fn_sig<'a>(
+pub fn unify_fn_sig(
     ws: &mut [u32],
     ks: &[u32],
     n: u32,
-    rule: &'a [u8],
-    text: &'a [u8],
+    texts: &Texts<'_>,
     memory: &mut [u32],
     xs: &[u32],
     a: Type,
     ys: &[u32],
     b: Type,
 ) -> UnifyResult
-    requires { Signatures (texts rule.now text.now) ws.old ks.now memory.old n xs.now (ty_of a.0) ys.now (ty_of b.0) }
-    ensures { Unified (texts rule.now text.now) ws.old ks.now memory.old ws.new memory.new n
-        (unify_fn_sig (texts rule.now text.now) (decode ws.old ks.now n)
+    requires { Signatures (texts_by texts.now) ws.old ks.now memory.old n xs.now (ty_of a.0) ys.now (ty_of b.0) }
+    ensures { Unified (texts_by texts.now) ws.old ks.now memory.old ws.new memory.new n
+        (unify_fn_sig (texts_by texts.now) (decode ws.old ks.now n)
         (types_in xs.now) (ty_of a.0) (types_in ys.now) (ty_of b.0)) result }
 {
-    let q = unify_lists(ws, ks, n, rule, text, memory, xs, ys, Inverted(false));
-    let r = unify::unify(ws, ks, n, rule, text, memory, a, b, n);
+    let q = unify_lists(ws, ks, n, texts, memory, xs, ys, Inverted(false));
+    let r = unify::unify(ws, ks, n, texts, memory, a, b, n);
     q.and(r)
 }
 
 // Two traits over lent types, or errors.
-pub fn unify_impl_type<'a>(
+pub fn unify_impl_type(
     ws: &mut [u32],
     ks: &[u32],
     n: u32,
-    rule: &'a [u8],
-    text: &'a [u8],
+    texts: &Texts<'_>,
     memory: &mut [u32],
     a: Impl,
     xs: &[u32],
     b: Impl,
     ys: &[u32],
 ) -> UnifyResult
-    requires { Impls (texts rule.now text.now) ws.old ks.now memory.old n a xs.now b ys.now }
-    ensures { Unified (texts rule.now text.now) ws.old ks.now memory.old ws.new memory.new n
-        (unify_impl_type (texts rule.now text.now) (decode ws.old ks.now n)
+    requires { Impls (texts_by texts.now) ws.old ks.now memory.old n a xs.now b ys.now }
+    ensures { Unified (texts_by texts.now) ws.old ks.now memory.old ws.new memory.new n
+        (unify_impl_type (texts_by texts.now) (decode ws.old ks.now n)
         (impl_means a xs.now) (impl_means b ys.now)) result }
 {
     let (Impl::Trait(i), Impl::Trait(j)) = (a, b) else {
@@ -151,5 +147,5 @@ pub fn unify_impl_type<'a>(
     if i != j {
         return UnifyResult::Failure;
     }
-    unify_lists(ws, ks, n, rule, text, memory, xs, ys, Inverted(false))
+    unify_lists(ws, ks, n, texts, memory, xs, ys, Inverted(false))
 }

@@ -53,23 +53,23 @@ clear {ws} {ks} {n} w = clear_zeros (decode ws ks n) MAX_NODES (omega (arith, le
 
 -- `occurs`
 
-pub occurs_same : (n : ℕ) (ns : List Node) (x y : ℕ) → 0 < n → y ≡ x → true ≡ occurs n ns x y
+pub occurs_same : (n : ℕ) (ns : List Node) (x y : ℕ) → 0 < n → true ≡ eqb y x → true ≡ occurs n ns x y
 unfolding occurs
 occurs_same zero ns x y h e = absurd (omega arith)
-occurs_same (suc f) ns x y h e = rw (eq-eqb y x e)
+occurs_same (suc f) ns x y h e = rw (← e)
 
-pub occurs_leaf : (n : ℕ) (ns : List Node) (x y : ℕ) → 0 < n → (y ≡ x → ⊥) → kids_of (state_of (at ns y)) ≡ [] → false ≡ occurs n ns x y
+pub occurs_leaf : (n : ℕ) (ns : List Node) (x y : ℕ) → 0 < n → false ≡ eqb y x → kids_of (state_of (at ns y)) ≡ [] → false ≡ occurs n ns x y
 unfolding occurs
 occurs_leaf zero ns x y h e z = absurd (omega arith)
-occurs_leaf (suc f) ns x y h e z = rw (ne_eqb y x e, z)
+occurs_leaf (suc f) ns x y h e z = rw (← e, z)
 
 module _ {ws ks : List ℕ} {n x y : ℕ} (o : Occurs ws ks n x y) {i : ℕ} (r : i ≡ (ty_of y).idx) where
-  pub occurs_is : i ≡ x → true ≡ occurs n (decode ws ks n) x (ty_of y).idx
-  occurs_is e = occurs_same n (decode ws ks n) x (ty_of y).idx (omega (arith, o.node)) (sym r ∙ e)
+  pub occurs_is : true ≡ eqb i x → true ≡ occurs n (decode ws ks n) x (ty_of y).idx
+  occurs_is e = occurs_same n (decode ws ks n) x (ty_of y).idx (omega (arith, o.node)) (rw (← r) e)
 
-  pub occurs_none : {v q : Held} → (i ≡ x → ⊥) → v ≡ held_in (read_at ws n i) → v ≡ q → held_kids ks q ≡ [] → false ≡ occurs n (decode ws ks n) x (ty_of y).idx
+  pub occurs_none : {v q : Held} → false ≡ eqb i x → v ≡ held_in (read_at ws n i) → v ≡ q → held_kids ks q ≡ [] → false ≡ occurs n (decode ws ks n) x (ty_of y).idx
   occurs_none h e s z =
-      occurs_leaf n (decode ws ks n) x (ty_of y).idx (omega (arith, o.node)) (λ w. h (r ∙ w))
+      occurs_leaf n (decode ws ks n) x (ty_of y).idx (omega (arith, o.node)) (rw (← r) h)
       (rw (← r) (held_kids_lem ws ks o.walks.stands.made n o.walks.stands.clean i e s ∙ z))
 
 pub occurs_walk : {ws ks : List ℕ} {n x y : ℕ} {ms : List ℕ} {b : Bool} → Occurs ws ks n x y
@@ -122,9 +122,6 @@ mod_ref x g ks j k h = rw (eq-eqb k.code REF h, mod_of_state) refl
 -- f Refs from u on lead where n Refs from t on do
 pub record Looks (ws ks : List ℕ) (n t u f : ℕ) : Type 0 where
   pub rest : (x : Env) → get_mod_f x f (decode ws ks n) (ty_of u) ≡ get_mod_f x n (decode ws ks n) (ty_of t)
-
-pub looks_start : (ws ks : List ℕ) (n t : ℕ) → Looks ws ks n t t n
-looks_start ws ks n t = record { rest = λ x. refl }
 
 module _ {ws ks : List ℕ} {n t u f : ℕ} (c : Looks ws ks n t u f) where
   looks_whole : (x : Env) → get_mod_f x f (decode ws ks n) (ty_of u) ≡ get_mod x (decode ws ks n) (ty_of t)

@@ -7,8 +7,8 @@ use mathlib.Core.List.{List, []}
 use Prim.Native.Nat.{ℕ, zero, suc, ◌+◌, ◌-◌, ◌≤◌, ◌<◌}
 use native.Mathlib.Omega.{arith}
 use lib.ListN.{drop}
-use native.Mathlib.Decide.{dec_lt}
-use borrow.Author.Tests.{eqb-true, ne_eqb}
+use lib.Dec.{eqb}
+use borrow.Author.Tests.{eqb-true}
 use Rattle.scope.specs.Base.{any}
 use Rattle.scope.specs.Types.{Ty, ty_of}
 use Rattle.scope.specs.Nodes.{Node, at, state_of, find, kids_of}
@@ -22,7 +22,7 @@ use Rattle.layout.specs.Meaning.{Held}
 use Rattle.std.specs.Prelude.{Some, None}
 use Rattle.layout.proofs.HeldLaws.{held_kids_lem}
 use Rattle.inverse.specs.declared.Glance.{Glance}
-use Rattle.inverse.specs.declared.Glance.TheVariants.{Met, Clear, Deep}
+use Rattle.inverse.specs.declared.Glance.TheVariants.{Met, Clear}
 use Rattle.walk.specs.Read.{leaf_by}
 use Rattle.walk.specs.Asks.{Stands, Looked, Occurs}
 use Rattle.walk.proofs.Laws.{kid_next, kid_none}
@@ -37,18 +37,9 @@ module _ {ns : List Node} {n x : ℕ} {ts : List Ty} where
   pub looked_clear : any (λ t. occurs (n - 1) ns x (find ns t).idx) ts ≡ false → Looked ns n x ts Clear
   looked_clear e = record { met = λ q. let z : ◌≡◌ {A = ℕ} 0 1 = cc in absurd (omega arith); clear = λ q. e }
 
-  pub looked_deep : Looked ns n x ts Deep
-  looked_deep = record {
-    met = λ q. let z : ◌≡◌ {A = ℕ} 0 1 = cc in absurd (omega arith);
-    clear = λ q. let z : ◌≡◌ {A = ℕ} 0 1 = cc in absurd (omega arith);
-  }
-
 -- children from j on tell what all of them tell
 pub record Left (p : Ty → Bool) (ks : List ℕ) (k : Kind) (j : ℕ) : Type 0 where
   pub whole : any p (drop j (kind_means ks k).kids) ≡ any p (kind_means ks k).kids
-
-pub left_start : (p : Ty → Bool) (ks : List ℕ) (k : Kind) → Left p ks k 0
-left_start p ks k = record { whole = refl }
 
 module _ {p : Ty → Bool} {ks : List ℕ} {k : Kind} {j : ℕ} (c : Left p ks k j) where
   pub left_end : k.count ≤ j → any p (kind_means ks k).kids ≡ false
@@ -70,40 +61,33 @@ kids_leaf : (ks : List ℕ) (v : Held) → leaf_by v ≡ true → held_kids ks v
 kids_leaf ks (Some (i, k)) h = let z : k.count ≡ 0 = eqb-true k.count 0 h in kid_none ks k 0 (omega arith)
 kids_leaf ks None h = refl
 
-module _ (ns : List Node) {n x i : ℕ} (t : Ty) (l : 1 < n) (r : i ≡ (find ns t).idx) where
-  pub kid_met : i ≡ x → occurs (n - 1) ns x (find ns t).idx ≡ true
-  kid_met e = sym (occurs_same (n - 1) ns x (find ns t).idx (omega arith) (sym r ∙ e))
+module _ (ns : List Node) {n : ℕ} (x : ℕ) {i : ℕ} (t : Ty) (l : 1 < n) (r : i ≡ (find ns t).idx) where
+  pub kid_met : true ≡ eqb i x → occurs (n - 1) ns x (find ns t).idx ≡ true
+  kid_met e = sym (occurs_same (n - 1) ns x (find ns t).idx (omega arith) (rw (← r) e))
 
-  kid_bare : (i ≡ x → ⊥) → kids_of (state_of (at ns i)) ≡ [] → occurs (n - 1) ns x (find ns t).idx ≡ false
-  kid_bare h z = sym (occurs_leaf (n - 1) ns x (find ns t).idx (omega arith) (λ e. h (r ∙ e)) (rw (← r) z))
+  kid_bare : false ≡ eqb i x → kids_of (state_of (at ns i)) ≡ [] → occurs (n - 1) ns x (find ns t).idx ≡ false
+  kid_bare h z = sym (occurs_leaf (n - 1) ns x (find ns t).idx (omega arith) (rw (← r) h) (rw (← r) z))
 
-pub kid_leaf : {ws ks : List ℕ} {n x i : ℕ} {b : Bool} (t : Ty) → Stands ws ks n → 1 < n → i ≡ (find (decode ws ks n) t).idx → (i ≡ x → ⊥)
+pub kid_leaf : {ws ks : List ℕ} {n : ℕ} (x : ℕ) {i : ℕ} {b : Bool} (t : Ty) → Stands ws ks n → 1 < n → i ≡ (find (decode ws ks n) t).idx → false ≡ eqb i x
     → b ≡ leaf_by (held_in (read_at ws n i)) → b ≡ true → occurs (n - 1) (decode ws ks n) x (find (decode ws ks n) t).idx ≡ false
-kid_leaf {ws} {ks} {n} {i = i} t s l r h e q =
-    kid_bare (decode ws ks n) t l r h (held_kids_lem ws ks s.made n s.clean i refl refl ∙ kids_leaf ks (held_in (read_at ws n i)) (sym e ∙ q))
+kid_leaf {ws} {ks} {n} x {i} t s l r h e q =
+    kid_bare (decode ws ks n) x t l r h (held_kids_lem ws ks s.made n s.clean i refl refl ∙ kids_leaf ks (held_in (read_at ws n i)) (sym e ∙ q))
 
 -- `occurs` of a root with a kind
 
-occurs_step : (n : ℕ) (ns : List Node) (x y : ℕ) → 0 < n → (y ≡ x → ⊥)
+occurs_step : (n : ℕ) (ns : List Node) (x y : ℕ) → 0 < n → false ≡ eqb y x
     → occurs n ns x y ≡ any (λ t. occurs (n - 1) ns x (find ns t).idx) (kids_of (state_of (at ns y)))
 unfolding occurs
 occurs_step zero ns x y h e = absurd (omega arith)
-occurs_step (suc f) ns x y h e = let k : suc f - 1 ≡ f = omega arith in rw (ne_eqb y x e, k) refl
+occurs_step (suc f) ns x y h e = let k : suc f - 1 ≡ f = omega arith in rw (← e, k) refl
 
-module _ {ws ks : List ℕ} {n x y : ℕ} (o : Occurs ws ks n x y) {i : ℕ} (r : i ≡ (ty_of y).idx) (h : i ≡ x → ⊥) where
-  pub two_nodes : 1 < n
-  two_nodes = go (dec_lt 1 n)
-    where
-      go : Dec (1 < n) → 1 < n
-      go (yes l) = l
-      go (no l) = absurd (h (omega (arith, o.node, o.inside, r)))
-
+module _ {ws ks : List ℕ} {n x y : ℕ} (o : Occurs ws ks n x y) {i : ℕ} (r : i ≡ (ty_of y).idx) (h : false ≡ eqb i x) where
   module _ {v : Held} {j : Inverted} {k : Kind} (e : v ≡ held_in (read_at ws n i)) (s : v ≡ Some (j, k)) where
     occurs_kids : occurs n (decode ws ks n) x (ty_of y).idx ≡ any (λ t. occurs (n - 1) (decode ws ks n) x (find (decode ws ks n) t).idx) (kind_means ks k).kids
     occurs_kids =
         let same : kids_of (state_of (at (decode ws ks n) (ty_of y).idx)) ≡ (kind_means ks k).kids =
         rw (← r) (held_kids_lem ws ks o.walks.stands.made n o.walks.stands.clean i e s) in
-        occurs_step n (decode ws ks n) x (ty_of y).idx (omega (arith, o.node)) (λ w. h (r ∙ w))
+        occurs_step n (decode ws ks n) x (ty_of y).idx (omega (arith, o.node)) (rw (← r) h)
         ∙ ap (any (λ t. occurs (n - 1) (decode ws ks n) x (find (decode ws ks n) t).idx)) same
 
     module _ {g : Glance} (w : Looked (decode ws ks n) n x (kind_means ks k).kids g) where

@@ -29,10 +29,7 @@ fn is_leaf(ws: &[u32], n: u32, i: TypeIdx) -> bool
     requires { node_words n ≤ length ws.now }
     ensures { result ≡ leaf_by (held_in (read_at ws.now n i.0)) }
 {
-    match layout::held_at(ws, n, i) {
-        Some((_, kind)) => kind.count == 0,
-        None => true,
-    }
+    layout::held_at(ws, n, i).is_none_or(|(_, kind)| kind.count == 0)
 }
 
 // A look at a kind's children, which ends where one is far from its root or has children itself.
@@ -46,7 +43,7 @@ fn look(ws: &[u32], ks: &[u32], n: u32, x: TypeIdx, kind: Kind) -> Glance
             return Glance::Deep;
         };
         let i = root.idx();
-        if i.0 == x.0 {
+        if i == x {
             return Glance::Met;
         }
         if !is_leaf(ws, n, i) {
@@ -71,15 +68,13 @@ pub fn occurs(ws: &[u32], ks: &[u32], n: u32, x: TypeIdx, y: Type) -> bool
     ensures { result ≡ occurs n (decode ws.now ks.now n) x.0 (ty_of y.0).idx }
 {
     let root = y.idx();
-    if root.0 == x.0 {
+    if root == x {
         return true;
     }
-    let Some((_, kind)) = layout::held_at(ws, n, root) else {
-        return false;
+    let kind = match layout::held_at(ws, n, root) {
+        Some((_, kind)) if kind.count > 0 => kind,
+        _ => return false,
     };
-    if kind.count == 0 {
-        return false;
-    }
     match look(ws, ks, n, x, kind) {
         Glance::Met => true,
         Glance::Clear => false,

@@ -12,12 +12,6 @@ use Rattle.append.proofs.put.Goals as goal
 pub returns-then-is_full : goal.returns-then-is_full
 returns-then-is_full c = laws.append_full _ _ _ (laws.is_over c.is_full.ensures c.if-is_full.true)
 
-pub overflow_sub-room : goal.overflow_sub-room
-overflow_sub-room c = laws.has_room c.is_full.ensures c.if-is_full.false
-
-pub shape_of-buf-then-room-piece : goal.shape_of-buf-then-room-piece
-shape_of-buf-then-room-piece c = search rules
-
 pub returns-then-room-piece : goal.returns-then-room-piece
 returns-then-room-piece c = let a = c.args in
     let room : a.at ≤ length a.buf.now = laws.has_room c.is_full.ensures c.if-is_full.false in
@@ -25,7 +19,7 @@ returns-then-room-piece c = let a = c.args in
     let copy = c.copy_from_slice in
     laws.append_cut a.buf.now a.at a.piece.now n _ _ (omega (arith, room)) (omega arith)
     (laws.part_copied a.buf.now a.at a.piece.now n _ copy.new.self refl copy.ensures.after)
-    (omega (arith, shape_of-buf-then-room-piece c))
+    (search rules)
 
 pub returns : goal.returns
 returns c = let a = c.args in

@@ -7,16 +7,16 @@ use Rattle.book_sound.proofs.Laws.{names_back, names_unsound, names_pass}
 use Rattle.book_sound.proofs.lent.Goals as goal
 
 pub returns-in_err-lent : goal.returns-in_err-lent
-returns-in_err-lent c = let a = c.args in let l = a.env.now in
+returns-in_err-lent c = let a = c.args in
     rw (err_told c.from_residual.result c.from_residual.ensures.1)
-    (names_back l.chart.now l.beside l.texts.rule.now l.texts.chart.now a.h.now a.ws.now a.ks.now (lent_book_of a.bs.now) c.in_err-lent.ensures)
+    (names_back a.env.now a.h.now a.ws.now a.ks.now (lent_book_of a.bs.now) c.in_err-lent.ensures)
 
 pub returns-then-not-book_sound : goal.returns-then-not-book_sound
-returns-then-not-book_sound c = let a = c.args in let l = a.env.now in
-    names_unsound l.chart.now l.beside l.texts.rule.now l.texts.chart.now a.h.now a.ws.now a.ks.now (lent_book_of a.bs.now) c.in_ok-lent.ensures
+returns-then-not-book_sound c = let a = c.args in
+    names_unsound a.env.now a.h.now a.ws.now a.ks.now (lent_book_of a.bs.now) c.in_ok-lent.ensures
     (sym c.book_sound.ensures ∙ c.if-not-book_sound.true)
 
 pub returns : goal.returns
-returns c = let a = c.args in let l = a.env.now in
-    names_pass l.chart.now l.beside l.texts.rule.now l.texts.chart.now a.h.now a.ws.now a.ks.now (lent_book_of a.bs.now) c.in_ok-lent.ensures
+returns c = let a = c.args in
+    names_pass a.env.now a.h.now a.ws.now a.ks.now (lent_book_of a.bs.now) c.in_ok-lent.ensures
     (sym c.book_sound.ensures ∙ c.if-not-book_sound.false)

@@ -10,15 +10,20 @@ use lib.ListN.{length, get_or, get_elem?, length-map, get_or-map}
 use borrow.Author.Tests.{ne_eqb}
 use Rattle.scope.specs.Base.{front}
 use Rattle.scope.specs.Names as scope
-use Rattle.scope.specs.Types.{ty_of}
+use Rattle.scope.specs.Types.{Ty, ty_of}
 use Rattle.scope.specs.Kinds.{row_of, OWN_NAME, CHILD_NAMES, PARAMETER_NAMES}
 use Rattle.scope.specs.Sound.{name_in, slot_name}
 use Rattle.scope.specs.Sound as sound
-use Rattle.scope.specs.Calls.{flat}
+use Rattle.scope.specs.Calls.{flat, child_at, child_name_at}
 use Rattle.names.specs.declared.Name.{Name}
 use Rattle.layout.specs.Words.{slot_at, slots}
-use Rattle.layout.specs.Meaning.{slot_means, kind_means}
+use Rattle.layout.specs.Meaning.{Held, held_in, slot_means, kind_means, node_means}
 use Rattle.layout.specs.declared.Kind.{Kind}
+use Rattle.layout.specs.declared.TypeNode.{TypeNode}
+use Rattle.layout.specs.declared.TypeNode.TheVariants.{Root, Child}
+use Rattle.layout.specs.declared.TypeState.TheVariants.{Known, Unknown, InferenceFailed}
+use Rattle.types.specs.declared.Inverted.{Inverted}
+use Rattle.std.specs.declared.option.Option.TheVariants as held
 use Rattle.layout.specs.declared.Slot.{Slot}
 use Rattle.layout.proofs.ChildLaws.{length_slots, slots_get, length_kids, kid_at, front_slots}
 use Rattle.layout.proofs.KindLaws.{names_own, names_child, names_parameters}
@@ -99,3 +104,20 @@ module _ (ks : List ℕ) (k : Kind) (j : ℕ) where
     pub nameless : (d ≡ OWN_NAME → ⊥) → (d ≡ CHILD_NAMES → ⊥) → (d ≡ PARAMETER_NAMES → ⊥) → name_of (kind_means ks k).head.names ≡ none
     unfolding kind_means
     nameless a b p = rw (← e, ne_eqb d OWN_NAME a, ne_eqb d CHILD_NAMES b, ne_eqb d PARAMETER_NAMES p)
+
+-- what a node's kind says of j; a node without a kind says nothing
+
+module _ (ks : List ℕ) (j : ℕ) where
+  pub held_child : (v : TypeNode) {u : Held} {o : Option Ty} → u ≡ held_in v → (u ≡ held.None → none ≡ o)
+      → ((i : Inverted) (k : Kind) → u ≡ held.Some (i, k) → get_elem? (kind_means ks k).kids j ≡ o) → child_at (node_means ks v) j ≡ o
+  held_child (Root (Known i k) z) e n s = s i k e
+  held_child (Root (Unknown p) z) e n s = n e
+  held_child (Root InferenceFailed z) e n s = n e
+  held_child (Child t) e n s = n e
+
+  pub held_name : (v : TypeNode) {u : Held} {o : Option scope.Name} → u ≡ held_in v → (u ≡ held.None → none ≡ o)
+      → ((i : Inverted) (k : Kind) → u ≡ held.Some (i, k) → flat (get_elem? (kind_means ks k).head.names j) ≡ o) → child_name_at (node_means ks v) j ≡ o
+  held_name (Root (Known i k) z) e n s = s i k e
+  held_name (Root (Unknown p) z) e n s = n e
+  held_name (Root InferenceFailed z) e n s = n e
+  held_name (Child t) e n s = n e

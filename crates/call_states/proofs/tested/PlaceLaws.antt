@@ -12,18 +12,11 @@ use lib.ListN.{length, get_or}
 use borrow.Author.Tests.{lt-ltb, le-ltb, ltb-true, lt-leb, le-leb}
 use Rattle.std.specs.Prelude.{Some, None, Option}
 use Rattle.scope.specs.Base.{pick, any}
-use Rattle.scope.specs.Limits.{MAX_STATES, MAX_STATE_NAME}
-use Rattle.scope.specs.States.{Place, is_free, under, is_held, place_where, place_for, name_length, no_place}
+use Rattle.scope.specs.Limits.{MAX_STATES}
+use Rattle.scope.specs.States.{Place, is_free, under, is_held, place_where, place_for, no_place}
 use Rattle.book.specs.Places.{if_place}
 use Rattle.scope.proofs.TestLaws.{or_no}
 use Rattle.scope.proofs.PlaceLaws.{found}
-
--- a name's length, as the code tests it
-pub no_name : (name : List ℕ) → length name ≡ 0 → false ≡ name_length name
-no_name name z = rw (lt-leb 1 (length name) (omega arith))
-
-pub some_name : (name : List ℕ) → (length name ≡ 0 → ⊥) → leb (length name) MAX_STATE_NAME ≡ name_length name
-some_name name z = rw (le-leb 1 (length name) (omega arith))
 
 -- where no place passes, the search ends behind the last
 nowhere : (p : Place → Bool) (ps : List Place) → any p ps ≡ false → place_where p ps ≡ length ps

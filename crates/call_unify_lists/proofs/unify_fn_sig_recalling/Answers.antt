@@ -5,6 +5,6 @@ use Rattle.refusals.proofs.Laws.{err_told}
 use Rattle.promise.proofs.BackLaws.{did_back}
 use Rattle.call_unify_lists.proofs.unify_fn_sig_recalling.Goals as goal
 
-pub returns-in_err-tested : goal.returns-in_err-tested
+pub returns-in_err-lent : goal.returns-in_err-lent
 unfolding unify_fn_sig_call
-returns-in_err-tested c = rw (err_told c.from_residual.result c.from_residual.ensures.1) (did_back _ _ _ _ _ c.in_err-tested.ensures _ _)
+returns-in_err-lent c = rw (err_told c.from_residual.result c.from_residual.ensures.1) (did_back _ _ _ _ _ c.in_err-lent.ensures _ _)

@@ -10,13 +10,13 @@ use Rattle.clean.proofs.node_clean.Goals as goal
 pub returns-then-x-eq-KNOWN_TAG : goal.returns-then-x-eq-KNOWN_TAG
 returns-then-x-eq-KNOWN_TAG c = let a = c.args in
     c.known_clean.ensures
-    ∙ sym (node_known a.ws.now a.ks.now a.c a.i c.cell_at-x.result c.cell_at-x.ensures c.if-x-eq-KNOWN_TAG.true)
+    ∙ sym (node_known a.ws.now a.ks.now a.c a.i.0 c.cell_at-x.result c.cell_at-x.ensures c.if-x-eq-KNOWN_TAG.true)
 
 pub returns-then-plain_clean : goal.returns-then-plain_clean
 returns-then-plain_clean c = let a = c.args in
-    rw (node_plain a.ws.now a.ks.now a.c a.i c.cell_at-x.result c.cell_at-x.ensures c.requires c.if-x-eq-KNOWN_TAG.false)
+    rw (node_plain a.ws.now a.ks.now a.c a.i.0 c.cell_at-x.result c.cell_at-x.ensures c.requires c.if-x-eq-KNOWN_TAG.false)
     (grind (arith, add-sub_cancel_left))
 
 pub returns-else-plain_clean : goal.returns-else-plain_clean
 returns-else-plain_clean c = let a = c.args in
-    rw (node_plain a.ws.now a.ks.now a.c a.i c.cell_at-x.result c.cell_at-x.ensures c.requires c.if-x-eq-KNOWN_TAG.false) (grind arith)
+    rw (node_plain a.ws.now a.ks.now a.c a.i.0 c.cell_at-x.result c.cell_at-x.ensures c.requires c.if-x-eq-KNOWN_TAG.false) (grind arith)

@@ -11,5 +11,6 @@ use Rattle.copy_lists.proofs.copy_all.Given as goal
 
 abbrev pub invariant-loop-i : goal.invariant-loop-i
 invariant-loop-i l =
-    Listing l.sw l.sk l.n (params_in l.params) (types_in l.ts) l.initial.table l.initial.h l.initial.ws l.initial.ks l.initial.out l.table l.h l.ws l.ks l.out l.i
-    × Cached l.sw l.n l.cache × (length l.cache ≡ length l.initial.cache)
+    Listing l.source.nodes.now l.source.children.now l.source.count (params_in l.source.params) (types_in l.ts) l.initial.table l.initial.h l.initial.ws l.initial.ks l.initial.out
+    l.table l.h l.ws l.ks l.out l.i
+    × Cached l.source.nodes.now l.source.count l.cache × (length l.cache ≡ length l.initial.cache)

@@ -14,4 +14,4 @@ overflow_add-new c =
 
 pub returns : goal.returns
 returns c =
-    begin_is (blank_made c.requires c.push_unknown-new.ensures) c.note.ensures
+    begin_is (blank_made c.requires c.push_unknown-new.ensures) c.put.ensures

@@ -36,16 +36,12 @@ loop-j-init t c = (
   refl,
 )
 
-pub overflow_sub-depth : goal.overflow_sub-depth
-overflow_sub-depth t c =
-    omega (arith, c.if-depth-eq0.false)
-
 pub copy-next-requires : goal.copy-next-requires
 copy-next-requires t c = (
   omega (arith, c.if-depth-eq0.false),
   (
     kid_copyable c.loop-j.invariant.0 c.loop-j-test.true _
-        (kid_next c.args.sk.now _ _ _ c.child.result c.loop-j-test.true c.child.ensures) c.requires.0.source,
+        (kid_next c.args.source.now.children.now _ _ _ c.child.result c.loop-j-test.true c.child.ensures) c.requires.0.source,
     c.loop-j.invariant.1,
   ),
 )
@@ -53,11 +49,11 @@ copy-next-requires t c = (
 pub move_child-requires : goal.move_child-requires
 move_child-requires t c =
     kid_room c.loop-j.invariant.0 c.loop-j-test.true _
-    (kid_next c.args.sk.now _ _ _ c.child.result c.loop-j-test.true c.child.ensures) c.copy-next.ensures.0
+    (kid_next c.args.source.now.children.now _ _ _ c.child.result c.loop-j-test.true c.child.ensures) c.copy-next.ensures.0
 
 pub loop-j-preserved : goal.loop-j-preserved
 loop-j-preserved t c = (
-  filling_next c.loop-j.invariant.0 c.loop-j-test.true _ (kid_next c.args.sk.now _ _ _ c.child.result c.loop-j-test.true c.child.ensures)
+  filling_next c.loop-j.invariant.0 c.loop-j-test.true _ (kid_next c.args.source.now.children.now _ _ _ c.child.result c.loop-j-test.true c.child.ensures)
       c.copy-next.ensures.0 c.move_child.ensures
       (record {
         tables = c.copy-next.auto.table;
@@ -79,25 +75,6 @@ returns-in-Is t c = (
       c.root_place.ensures c.in-Is.is,
   c.find_by-root.ensures.1,
 )
-
-pub shape_of-cache-after-loop-j : goal.shape_of-cache-after-loop-j
-shape_of-cache-after-loop-j t c =
-    c.loop-j.invariant.2 ∙ c.find_by-root.auto.cache
-
-pub shape_of-table-after-loop-j : goal.shape_of-table-after-loop-j
-shape_of-table-after-loop-j t c =
-    c.loop-j.invariant.0.long.tables ∙ c.begin-new.auto.table
-
-pub shape_of-h : goal.shape_of-h
-shape_of-h t c =
-    c.loop-j.invariant.0.long.heads ∙ c.begin-new.auto.h
-
-pub shape_of-ws : goal.shape_of-ws
-shape_of-ws t c =
-    c.end.auto.ws ∙ (c.loop-j.invariant.0.long.nodes ∙ c.begin-new.auto.ws)
-
-pub shape_of-ks : goal.shape_of-ks
-shape_of-ks t c = c.loop-j.invariant.0.long.kids
 
 pub returns-after-loop-j : goal.returns-after-loop-j
 returns-after-loop-j t c = (

@@ -14,5 +14,6 @@ decreases-copy l = l.depth
 
 abbrev pub invariant-loop-j : goal.invariant-loop-j
 invariant-loop-j l =
-    Filling l.sw l.sk l.n (params_in l.params) (l.depth - 1) l.first l.count l.from l.initial.table l.initial.h l.initial.ws l.initial.ks l.table l.h l.ws l.ks l.j
-    × Cached l.sw l.n l.cache × (length l.cache ≡ length l.initial.cache)
+    Filling l.source.nodes.now l.source.children.now l.source.count (params_in l.source.params) (l.depth - 1)
+    l.first l.count l.from l.initial.table l.initial.h l.initial.ws l.initial.ks l.table l.h l.ws l.ks l.j
+    × Cached l.source.nodes.now l.source.count l.cache × (length l.cache ≡ length l.initial.cache)

@@ -2,7 +2,6 @@
 -- scope's force_kind does there.
 -- Assumes nothing.
 use Rattle.force.proofs.ForceLaws.{force_head, force_linked, force_known, force_reported, force_failed}
-use borrow.Author.Rules.{rules}
 use Rattle.force.proofs.force_kind.Goals as goal
 
 pub find_mut-root-requires : goal.find_mut-root-requires
@@ -12,9 +11,6 @@ find_mut-root-requires c =
 pub write_header-requires : goal.write_header-requires
 write_header-requires c =
     force_head c.args.h.now c.args.ws.now c.args.ks.now c.requires
-
-pub enum_told-1 : goal.enum_told-1
-enum_told-1 c = search rules
 
 pub returns-in-Known : goal.returns-in-Known
 returns-in-Known c =

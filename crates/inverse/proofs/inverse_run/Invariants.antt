@@ -8,7 +8,7 @@ use Rattle.inverse.proofs.RunLaws.{Going}
 use Rattle.inverse.proofs.inverse_run.Given as goal
 
 abbrev pub invariant-loop-left : goal.invariant-loop-left
-invariant-loop-left l = Going (self_below l.param (decode l.ws l.ks l.n)) l.ks (kids_in l.ks l.first l.count) l.most l.nexts l.ends l.level l.next l.end l.left
+invariant-loop-left l = Going (self_below l.param (decode l.ws l.ks l.n)) l.ks (kids_in l.ks l.first l.count) l.most l.above l.level l.run l.left
 
 abbrev pub decreases-loop-left : goal.decreases-loop-left
 decreases-loop-left l = 2 * l.left + l.level

@@ -5,10 +5,10 @@ use mathlib.Core.Path.{◌≡◌}
 use lib.ListN.{drop}
 use Rattle.scope.specs.Names.{bytes}
 use Rattle.scope.specs.Kinds.{object_names_ok}
-use Rattle.names.specs.Place.{texts, name_of}
+use Rattle.names.specs.Place.{texts_by, name_of}
 use Rattle.kind_sound.proofs.NameLaws.{child_names, up_from}
 use Rattle.kind_sound.proofs.child_names_fit.Given as goal
 
 abbrev pub invariant-loop-j : goal.invariant-loop-j
-invariant-loop-j l = up_from (texts l.rule l.text) (bytes (texts l.rule l.text) (name_of l.last)) (drop l.j (child_names l.ks l.k.first l.k.count))
-    ≡ object_names_ok (texts l.rule l.text) (child_names l.ks l.k.first l.k.count)
+invariant-loop-j l = up_from (texts_by l.texts) (bytes (texts_by l.texts) (name_of l.last)) (drop l.j (child_names l.ks l.k.first l.k.count))
+    ≡ object_names_ok (texts_by l.texts) (child_names l.ks l.k.first l.k.count)

@@ -1,35 +1,34 @@
 -- `lent_kind::test_kind` meets its contract: entries that are not whole and names that the kind does not have are a name too many; else the kind is the
 -- one that the entries' words mean, which `makeable` tests.
 -- Assumes nothing.
-use borrow.Author.Tests.{not-true, not-false}
 use Rattle.lent_kind.proofs.Laws.{torn_refused, unclean_refused, unmade_refused, undefined_refused, kind_passed}
 use Rattle.lent_kind.proofs.test_kind.Goals.{then-not-names_clean-via-then-not-names_clean, then-not-names_clean-via-else-not-names_clean+then-not-can_be_made}
 use Rattle.lent_kind.proofs.test_kind.Goals as goal
 
 pub returns-then-entries-ne0 : goal.returns-then-entries-ne0
 returns-then-entries-ne0 c = let a = c.args in
-    torn_refused a.env.now.chart.now a.env.now.texts.rule.now a.env.now.texts.chart.now a.k a.entries.now c.if-entries-ne0.true
+    torn_refused a.env.now a.k a.entries.now c.if-entries-ne0.true
 
 pub returns-then-not-names_clean : goal.returns-then-not-names_clean
 returns-then-not-names_clean c = let a = c.args in
     elim c.then-not-names_clean.branch [
       | then-not-names_clean-via-then-not-names_clean w ↦
-          unclean_refused a.env.now.chart.now a.env.now.texts.rule.now a.env.now.texts.chart.now a.k a.entries.now c.flagged.ensures c.kind_of-kind.ensures c.if-entries-ne0.false
-          c.names_clean.ensures (not-true c.names_clean.result w.if-not-names_clean.true-raw)
+          unclean_refused a.env.now a.k a.entries.now c.flagged.ensures c.kind_of-kind.ensures c.if-entries-ne0.false
+          c.names_clean.ensures w.if-not-names_clean.true
       | then-not-names_clean-via-else-not-names_clean+then-not-can_be_made w ↦
-          unmade_refused a.env.now.chart.now a.env.now.texts.rule.now a.env.now.texts.chart.now a.k a.entries.now c.flagged.ensures c.kind_of-kind.ensures c.if-entries-ne0.false
-          c.names_clean.ensures (not-false c.names_clean.result w.if-not-names_clean.false-raw) w.can_be_made.ensures
-          (not-true w.can_be_made.result w.if-not-can_be_made.true-raw)
+          unmade_refused a.env.now a.k a.entries.now c.flagged.ensures c.kind_of-kind.ensures c.if-entries-ne0.false
+          c.names_clean.ensures w.if-not-names_clean.false w.can_be_made.ensures
+          w.if-not-can_be_made.true
     ]
 
 pub returns-then-not-is_defined : goal.returns-then-not-is_defined
 returns-then-not-is_defined c = let a = c.args in
-    undefined_refused a.env.now.chart.now a.env.now.texts.rule.now a.env.now.texts.chart.now a.k a.entries.now c.flagged.ensures c.kind_of-kind.ensures c.if-entries-ne0.false
-    c.names_clean.ensures (not-false c.names_clean.result c.if-not-names_clean.false-raw) c.can_be_made.ensures c.is_defined.ensures
-    (not-false c.can_be_made.result c.if-not-can_be_made.false-raw) (not-true c.is_defined.result c.if-not-is_defined.true-raw)
+    undefined_refused a.env.now a.k a.entries.now c.flagged.ensures c.kind_of-kind.ensures c.if-entries-ne0.false
+    c.names_clean.ensures c.if-not-names_clean.false c.can_be_made.ensures c.is_defined.ensures
+    c.if-not-can_be_made.false c.if-not-is_defined.true
 
 pub returns : goal.returns
 returns c = let a = c.args in
-    kind_passed a.env.now.chart.now a.env.now.texts.rule.now a.env.now.texts.chart.now a.k a.entries.now c.flagged.ensures c.kind_of-kind.ensures c.if-entries-ne0.false
-    c.names_clean.ensures (not-false c.names_clean.result c.if-not-names_clean.false-raw) c.can_be_made.ensures c.is_defined.ensures
-    (not-false c.can_be_made.result c.if-not-can_be_made.false-raw) (not-false c.is_defined.result c.if-not-is_defined.false-raw)
+    kind_passed a.env.now a.k a.entries.now c.flagged.ensures c.kind_of-kind.ensures c.if-entries-ne0.false
+    c.names_clean.ensures c.if-not-names_clean.false c.can_be_made.ensures c.is_defined.ensures
+    c.if-not-can_be_made.false c.if-not-is_defined.false

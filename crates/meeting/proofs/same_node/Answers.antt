@@ -1,6 +1,6 @@
 -- `meeting::same_node` meets its contract: Success where the inversions agree, else as `self_inverse` says of the root.
 -- Assumes nothing.
-use Rattle.meeting.proofs.MeetLaws.{words_walk, same_agrees, same_crossed}
+use Rattle.meeting.proofs.MeetLaws.{words_walk, same_crossed}
 use Rattle.meeting.proofs.same_node.Goals as goal
 
 pub self_inverse-requires : goal.self_inverse-requires
@@ -10,6 +10,3 @@ pub returns-then-inv : goal.returns-then-inv
 returns-then-inv c =
     same_crossed c.requires.tops.first c.inv.ensures c.inv-2.ensures c.bitxor-inv.ensures
     c.if-inv.true c.self_inverse.ensures c.from.ensures
-
-pub returns-else-inv : goal.returns-else-inv
-returns-else-inv c = same_agrees c.inv.ensures c.inv-2.ensures c.bitxor-inv.ensures c.if-inv.false

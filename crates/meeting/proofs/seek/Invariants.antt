@@ -5,4 +5,4 @@ use Rattle.meeting.proofs.KidLaws.{Seeking}
 use Rattle.meeting.proofs.seek.Given as goal
 
 abbrev pub invariant-loop-j : goal.invariant-loop-j
-invariant-loop-j l = Seeking (texts l.rule l.text) l.ks (name_of l.name) l.b l.count l.j
+invariant-loop-j l = Seeking (texts l.texts.rule.now l.texts.chart.now) l.ks (name_of l.name) l.b l.count l.j

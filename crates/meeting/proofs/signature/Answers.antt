@@ -13,8 +13,5 @@ returns-then-s-eq0-2 c = elim c.if-s-eq0-2.either [
   | inr b ↦ signature_lacked c.if-s.false b.0 b.1
 ]
 
-pub returns-requires : goal.returns-requires
-returns-requires c = record { spans = c.requires; first = c.if-s-eq0-2.false.0; second = c.if-s-eq0-2.false.1 }
-
 pub returns-else-s-eq0-2 : goal.returns-else-s-eq0-2
 returns-else-s-eq0-2 c = signature_returns c.if-s.false c.if-s-eq0-2.false.0 c.if-s-eq0-2.false.1 c.returns.ensures

@@ -24,9 +24,6 @@ occurs-requires c = let t = c.requires.tops in
       root = t.second;
     }
 
-pub held_at-requires : goal.held_at-requires
-held_at-requires c = c.requires.tops.pair.words.clean.room
-
 pub occurs-requires-then-is_some : goal.occurs-requires-then-is_some
 occurs-requires-then-is_some c = let t = c.requires.tops in
     let n = c.args.n in

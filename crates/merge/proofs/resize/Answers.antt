@@ -1,22 +1,11 @@
 -- `merge::resize` meets its contract: past the nodes nothing changes, a root has another size word, and a child becomes a root without a kind.
 -- Assumes nothing.
-use lib.ListN.{length-set}
-use native.Mathlib.Omega.{arith}
 use native.Mathlib.Nat.{add-sub_cancel_left}
 use Rattle.merge.proofs.QuickLaws.{resized_past, resized_root, resized_child}
 use Rattle.merge.proofs.resize.Goals as goal
 
 pub returns-then-n-i : goal.returns-then-n-i
 returns-then-n-i c = resized_past _ _ _ _ c.requires c.if-n-i.true
-
-pub bounds-s-0 : goal.bounds-s-0
-bounds-s-0 c = simp length-set (omega arith)
-
-pub bounds-s-0-then-s-eq-CHILD_TAG : goal.bounds-s-0-then-s-eq-CHILD_TAG
-bounds-s-0-then-s-eq-CHILD_TAG c = simp length-set (omega arith)
-
-pub bounds-s-1 : goal.bounds-s-1
-bounds-s-1 c = simp length-set (omega arith)
 
 pub returns-then-s-eq-CHILD_TAG : goal.returns-then-s-eq-CHILD_TAG
 returns-then-s-eq-CHILD_TAG c =

@@ -1,7 +1,8 @@
--- `names::same_bytes` meets its contract: the kit's comparison says whether the two lists are equal, which is what `eq_bytes` says.
+-- `names::same_bytes` meets its contract: the library's comparison of two slices, byte for byte, is what `eq_bytes` says.
 -- Assumes nothing.
-use Rattle.names.proofs.Laws.{same_by}
+use mathlib.Core.Path.{◌∙◌}
+use Rattle.names.proofs.Laws.{pointwise_same}
 use Rattle.names.proofs.same_bytes.Goals as goal
 
 pub returns : goal.returns
-returns c = same_by c.same.result _ _ c.same.ensures
+returns c = c.eq.ensures ∙ pointwise_same c.args.a.now c.args.b.now

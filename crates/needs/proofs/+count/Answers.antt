@@ -20,16 +20,6 @@ pub returns-then-is_counted : goal.returns-then-is_counted
 returns-then-is_counted t c =
     (count_met _ _ _ _ _ _ _ _ _ (root_is c.find_by.ensures.0 c.idx-root.ensures _) c.is_counted.ensures c.if-is_counted.true, c.find_by.ensures.1)
 
-pub root_asks-requires : goal.root_asks-requires
-root_asks-requires t c =
-    c.requires.0.source.clean.room
-
-pub overflow_add-all : goal.overflow_add-all
-overflow_add-all t c =
-    let z = node_fits _ _ _ _ _ _ _ 0 _ (root_is c.find_by.ensures.0 c.idx-root.ensures _) c.is_counted.ensures
-    c.requires.0.source c.if-is_counted.false c.root_asks.ensures c.in-Node.is c.requires.0.long c.requires.0.small in
-    omega (arith, z.0)
-
 pub overflow_add-all-in-Node : goal.overflow_add-all-in-Node
 overflow_add-all-in-Node t c =
     let z = node_fits _ _ _ _ _ _ _ 0 _ (root_is c.find_by.ensures.0 c.idx-root.ensures _) c.is_counted.ensures
@@ -39,7 +29,7 @@ overflow_add-all-in-Node t c =
 pub loop-j-init : goal.loop-j-init
 loop-j-init t c = (
   node_turn _ _ _ _ _ _ _ _ _ (root_is c.find_by.ensures.0 c.idx-root.ensures _) c.is_counted.ensures
-      c.requires.0.source c.if-is_counted.false c.root_asks.ensures c.in-Node.is c.mark.ensures c.requires.0.small,
+      c.requires.0.source c.if-is_counted.false c.root_asks.ensures c.in-Node.is c.set_mark.ensures c.requires.0.small,
   c.find_by.ensures.1,
   refl,
 )
@@ -47,19 +37,6 @@ loop-j-init t c = (
 pub is_met-requires : goal.is_met-requires
 is_met-requires t c =
     (clean_linked _ _ _ _ c.requires.0.source.clean, c.loop-j.invariant.1)
-
-pub overflow_sub-depth : goal.overflow_sub-depth
-overflow_sub-depth t c =
-    omega (arith, c.if-depth-eq0.false)
-
-pub count-all-requires : goal.count-all-requires
-count-all-requires t c = (
-  omega (arith, c.if-depth-eq0.false),
-  (
-    record { source = c.requires.0.source; long = omega (arith, c.requires.0.long, c.mark.auto.marks, c.loop-j.invariant.0.long); small = c.loop-j.invariant.0.small },
-    c.is_met.ensures.1,
-  ),
-)
 
 pub loop-j-preserved : goal.loop-j-preserved
 loop-j-preserved t c =
@@ -91,18 +68,10 @@ returns-in-Missing t c = (
   c.find_by.ensures.1,
 )
 
-pub shape_of-cache-after-loop-j : goal.shape_of-cache-after-loop-j
-shape_of-cache-after-loop-j t c =
-    c.loop-j.invariant.2 ∙ c.find_by.auto.cache
-
-pub shape_of-marks-after-loop-j : goal.shape_of-marks-after-loop-j
-shape_of-marks-after-loop-j t c =
-    c.loop-j.invariant.0.long ∙ c.mark.auto.marks
-
 pub returns-after-loop-j : goal.returns-after-loop-j
 returns-after-loop-j t c = (
   count_node _ _ _ _ _ _ _ _ _ (root_is c.find_by.ensures.0 c.idx-root.ensures _) c.is_counted.ensures
-      c.requires.0.source c.if-is_counted.false c.root_asks.ensures c.in-Node.is c.mark.ensures
+      c.requires.0.source c.if-is_counted.false c.root_asks.ensures c.in-Node.is c.set_mark.ensures
       c.if-depth-eq0.false c.loop-j.invariant.0 c.loop-j-test.false,
   c.loop-j.invariant.1,
 )

@@ -2,42 +2,37 @@
 -- Assumes nothing.
 use mathlib.Core.Path.{sym, ◌∙◌}
 use Rattle.std.proofs.Common.{arith}
-use Rattle.chart.specs.Env.{chart_in}
+use Rattle.chart.specs.Env.{chart_lent}
 use Rattle.node_sound.proofs.Laws.{test_plain, test_wide, test_unclean, test_node}
 use Rattle.node_sound.proofs.node_sound.Goals as goal
 use Rattle.node_sound.proofs.node_sound.Goals.{then-x-le-MAX_WIDTH, else-x-le-MAX_WIDTH}
 
-pub returns-then-plain_node : goal.returns-then-plain_node
-returns-then-plain_node c = let a = c.args in
-    let e = chart_in a.chart.now a.rule.now a.text.now in
-    let quick = c.plain_node.ensures in
-    let plain = quick.0 c.if-plain_node.true in
-    (λ ns l. c.if-plain_node.true ∙ sym (test_plain e a.ws.now a.ks.now a.c a.i.0 ns c.cell_at-x.result c.cell_at-x.ensures plain.clean (plain.sound ns l)), quick.1)
+pub returns-then-plain_node-clause-test : goal.returns-then-plain_node-clause-test
+returns-then-plain_node-clause-test c = let a = c.args in
+    let e = chart_lent a.env.now in
+    let plain = c.plain_node.ensures.plain c.if-plain_node.true in
+    λ ns l. c.if-plain_node.true ∙ sym (test_plain e a.ws.now a.ks.now a.c a.i.0 ns c.cell_at-x.result c.cell_at-x.ensures plain.clean (plain.sound ns l))
 
-pub returns-then-node_clean : goal.returns-then-node_clean
-returns-then-node_clean c = let a = c.args in
-    let e = chart_in a.chart.now a.rule.now a.text.now in
-    let node = c.node_at.ensures in (
-      λ ns l.
-          elim c.if-x-le-MAX_WIDTH.branch [
-            | then-x-le-MAX_WIDTH w ↦
-                let clean = sym w.node_clean.ensures ∙ (sym w.value-is ∙ c.if-node_clean.true) in
-                test_node e a.ws.now a.ks.now a.c a.i.0 ns c.cell_at-x.result c.cell_at-x.ensures a.n c.requires.1 clean node (c.node_sound.ensures ns l)
-            | else-x-le-MAX_WIDTH w ↦ absurd (grind (arith, w.value-is, w.if-x-le-MAX_WIDTH.false, c.if-node_clean.true))
-          ],
-      c.plain_node.ensures.1,
-    )
+pub returns-then-node_clean-clause-test : goal.returns-then-node_clean-clause-test
+returns-then-node_clean-clause-test c = let a = c.args in
+    let e = chart_lent a.env.now in
+    let node = c.node_at.ensures in
+    λ ns l.
+    elim c.if-x-le-MAX_WIDTH.branch [
+      | then-x-le-MAX_WIDTH w ↦
+          let clean = sym w.node_clean.ensures ∙ (sym w.value-is ∙ c.if-node_clean.true) in
+          test_node e a.ws.now a.ks.now a.c a.i.0 ns c.cell_at-x.result c.cell_at-x.ensures a.n c.requires.index clean node (c.node_sound.ensures ns l)
+      | else-x-le-MAX_WIDTH w ↦ absurd (grind (arith, w.value-is, w.if-x-le-MAX_WIDTH.false, c.if-node_clean.true))
+    ]
 
-pub returns-else-node_clean : goal.returns-else-node_clean
-returns-else-node_clean c = let a = c.args in
-    let e = chart_in a.chart.now a.rule.now a.text.now in (
-      λ ns l.
-          c.if-node_clean.false ∙
-          elim c.if-x-le-MAX_WIDTH.branch [
-            | then-x-le-MAX_WIDTH w ↦
-                let unclean = sym w.node_clean.ensures ∙ (sym w.value-is ∙ c.if-node_clean.false) in
-                sym (test_unclean e a.ws.now a.ks.now a.c a.i.0 ns c.cell_at-x.result c.cell_at-x.ensures unclean)
-            | else-x-le-MAX_WIDTH w ↦ sym (test_wide e a.ws.now a.ks.now a.c a.i.0 ns c.cell_at-x.result c.cell_at-x.ensures w.if-x-le-MAX_WIDTH.false)
-          ],
-      c.plain_node.ensures.1,
-    )
+pub returns-else-node_clean-clause-test : goal.returns-else-node_clean-clause-test
+returns-else-node_clean-clause-test c = let a = c.args in
+    let e = chart_lent a.env.now in
+    λ ns l.
+    c.if-node_clean.false ∙
+    elim c.if-x-le-MAX_WIDTH.branch [
+      | then-x-le-MAX_WIDTH w ↦
+          let unclean = sym w.node_clean.ensures ∙ (sym w.value-is ∙ c.if-node_clean.false) in
+          sym (test_unclean e a.ws.now a.ks.now a.c a.i.0 ns c.cell_at-x.result c.cell_at-x.ensures unclean)
+      | else-x-le-MAX_WIDTH w ↦ sym (test_wide e a.ws.now a.ks.now a.c a.i.0 ns c.cell_at-x.result c.cell_at-x.ensures w.if-x-le-MAX_WIDTH.false)
+    ]

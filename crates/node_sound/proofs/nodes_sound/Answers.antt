@@ -1,9 +1,9 @@
 -- `node_sound::nodes_sound` meets its contract. The loop's invariant: the nodes below i pass, and what was seen is so. The measure is what is left of them.
 -- Assumes nothing.
+use mathlib.Core.Path.{sym, ◌∙◌}
 use native.Mathlib.Omega.{arith}
 use borrow.Author.Count.{below_more}
-use Rattle.names.proofs.Tests.{passes, fails}
-use Rattle.chart.specs.Env.{chart_in}
+use Rattle.chart.specs.Env.{chart_lent}
 use Rattle.layout.specs.Words.{decode}
 use Rattle.layout.proofs.Lists.{all_stop, all_done}
 use Rattle.layout.proofs.Laws.{length_decode}
@@ -14,26 +14,22 @@ use Rattle.node_sound.proofs.nodes_sound.Goals as goal
 pub loop-i-init : goal.loop-i-init
 loop-i-init c = (omega arith, (λ u h. absurd (omega arith)), seen_none _ _)
 
-pub node_sound-requires : goal.node_sound-requires
-node_sound-requires c =
-    (c.requires.0, c.loop-i-test.true, c.requires.1, c.loop-i.invariant.2)
-
 pub returns-then-not-node_sound : goal.returns-then-not-node_sound
 returns-then-not-node_sound c = let a = c.args in
     let ns = decode a.ws.now a.ks.now a.n in
     let l = length_decode a.ws.now a.ks.now a.n in
-    let test = node_test (chart_in a.chart.now a.rule.now a.text.now) a.ws.now a.ks.now a.c ns in
-    all_stop test a.n c.loop-i.i c.loop-i-test.true (fails (c.node_sound.ensures.0 ns l) c.if-not-node_sound.true-raw)
+    let test = node_test (chart_lent a.env.now) a.ws.now a.ks.now a.c ns in
+    all_stop test a.n c.loop-i.i c.loop-i-test.true (sym (c.node_sound.ensures.test ns l) ∙ c.if-not-node_sound.true)
 
 pub loop-i-preserved : goal.loop-i-preserved
 loop-i-preserved c = let a = c.args in
     let ns = decode a.ws.now a.ks.now a.n in
     let l = length_decode a.ws.now a.ks.now a.n in
     let node = c.node_sound.ensures in
-    (omega (arith, c.loop-i-test.true), below_more _ _ c.loop-i.invariant.1 (passes (node.0 ns l) c.if-not-node_sound.false-raw), node.1)
+    (omega (arith, c.loop-i-test.true), below_more _ _ c.loop-i.invariant.1 (sym (node.test ns l) ∙ c.if-not-node_sound.false), node.seen)
 
 pub returns : goal.returns
 returns c = let a = c.args in
     let ns = decode a.ws.now a.ks.now a.n in
-    let test = node_test (chart_in a.chart.now a.rule.now a.text.now) a.ws.now a.ks.now a.c ns in
+    let test = node_test (chart_lent a.env.now) a.ws.now a.ks.now a.c ns in
     all_done test a.n c.loop-i.i c.loop-i-test.false c.loop-i.invariant.1

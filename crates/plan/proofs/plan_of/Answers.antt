@@ -1,13 +1,13 @@
 -- `plan::plan_of` meets its contract. Each way out is a law on two kinds; where the children are to be unified, the kinds met either because their
 -- inversions agree or because they cross, which is read off the two ways past that test. Assumes nothing.
 use native.Mathlib.Omega.{arith}
-use Rattle.names.specs.Place.{texts}
+use Rattle.names.specs.Place.{texts_by}
 use Rattle.plan.specs.Meaning.{crosses_kind}
 use Rattle.plan.proofs.Laws.{Meets, free_plain, free_crossed, meets, plan_error, plan_unequal, plan_crossed, plan_object, plan_closure, plan_run}
 use Rattle.plan.proofs.plan_of.Goals as goal
 use Rattle.plan.proofs.plan_of.Goals.{Joined-else-inv, else-inv-via-then-inv+else-not-crosses, else-inv-via-else-inv}
 
-met : (c : Joined-else-inv) → Meets (texts c.args.rule.now c.args.text.now) c.args.k c.args.m c.args.inv.0
+met : (c : Joined-else-inv) → Meets (texts_by c.args.texts.now) c.args.k c.args.m c.args.inv.0
 met c =
     meets _ _ _ _ c.if-k-eq-ERROR.false c.if-m-eq-ERROR.false c.same_kinds.result c.same_kinds.ensures c.if-not-same_kinds.false
     (elim c.else-inv.branch [

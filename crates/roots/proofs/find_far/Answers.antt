@@ -2,11 +2,8 @@
 -- has changed.
 -- Assumes nothing.
 use native.Mathlib.Omega.{arith}
-use Rattle.roots.proofs.Laws.{points_start, points_up, points_root, points_out}
+use Rattle.roots.proofs.Laws.{points_up, points_root, points_out}
 use Rattle.roots.proofs.find_far.Goals as goal
-
-pub loop-init : goal.loop-init
-loop-init c = points_start c.requires (omega arith)
 
 pub returns-in_default : goal.returns-in_default
 returns-in_default c =

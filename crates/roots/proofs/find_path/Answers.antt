@@ -8,10 +8,6 @@ pub top_by-requires : goal.top_by-requires
 top_by-requires c =
     (c.requires.0, (c.requires.1, rw c.idx-i.ensures (idx_below c.args.t.0)))
 
-pub keep_path-requires : goal.keep_path-requires
-keep_path-requires c =
-    (c.requires.0, (c.requires.1, c.top_by.ensures.told _ c.in-Some.is))
-
 pub returns : goal.returns
 returns c =
     (found_flip c.args.t c.idx-i.ensures c.inv.ensures (c.top_by.ensures.told _ c.in-Some.is) c.invert_if.ensures, c.keep_path.ensures)

@@ -7,19 +7,6 @@ use Rattle.shape.proofs.Laws as laws
 use Rattle.shape.proofs.find_roots.Goals as goal
 use Rattle.shape.proofs.find_roots.Goals.{in-Root, in-Parent+else-not-climb}
 
-pub loop-i-init : goal.loop-i-init
-loop-i-init c = laws.upto_none c.requires.right
-
-pub up_of-requires : goal.up_of-requires
-up_of-requires c = c.requires.parents.room
-
-pub put-requires : goal.put-requires
-put-requires c = omega (arith, c.requires.parents.few, c.loop-i-test.true)
-
-pub climb-requires : goal.climb-requires
-climb-requires c =
-    record { parents = c.requires.parents; right = c.loop-i.invariant.right; node = c.loop-i-test.true }
-
 pub returns-then-not-climb : goal.returns-then-not-climb
 returns-then-not-climb c = laws.lost_all c.loop-i-test.true c.climb.ensures c.if-not-climb.true
 

@@ -11,11 +11,7 @@ use Rattle.layout.specs.Words.{store_in}
 use Rattle.store.specs.Entries.{types_in}
 use Rattle.sheet_calls.proofs.StoreLaws.{sheet_env_lem, sheet_tested, sheet_passed, sheet_by, as_sheet}
 use Rattle.sheet_calls.proofs.Laws.{made, kind_leaves}
-use borrow.Author.Rules.{rules}
 use Rattle.sheet_calls.proofs.made.Goals as goal
-
-pub enum_told-1 : goal.enum_told-1
-enum_told-1 c = search rules
 
 pub new_var-requires : goal.new_var-requires
 new_var-requires c = sheet_passed c.requires.sheet_store

@@ -10,15 +10,11 @@ use Rattle.promise.proofs.CallLaws.{call_done}
 use Rattle.sheet_say.proofs.Laws.{front}
 use Rattle.sheet_calls.proofs.StoreLaws.{sheet_clean, tests_pass, as_sheet}
 use Rattle.sheet_calls.proofs.Laws.{ran, same_store, ran_made, ran_done, finishing}
-use borrow.Author.Rules.{rules}
 use Rattle.sheet_calls.proofs.plain_line.Goals as goal
 
 pub made-requires : goal.made-requires
 made-requires c =
     record { sheet_store = c.requires.sheet_store; maker_fits = rw c.in-Make.is at c.requires.plain_fits; in_bounds = c.requires.in_bounds }
-
-pub enum_told-1 : goal.enum_told-1
-enum_told-1 c = search rules
 
 pub finish_inference-requires : goal.finish_inference-requires
 finish_inference-requires c = sheet_clean c.requires.sheet_store

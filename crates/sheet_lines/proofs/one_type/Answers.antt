@@ -6,13 +6,3 @@ use Rattle.sheet_lines.proofs.one_type.Goals as goal
 pub returns-then-same_bytes : goal.returns-then-same_bytes
 returns-then-same_bytes c = let e1 = laws.said c.same_bytes.ensures c.if-same_bytes.true in
     record { beside = λ nt out q. record { means = rw (nt, e1) (laws.ref_means out q); fits = laws.ref_fits out q } }
-
-pub returns-then-same_bytes-2 : goal.returns-then-same_bytes-2
-returns-then-same_bytes-2 c = let e1 = laws.said c.same_bytes.ensures c.if-same_bytes.false in
-    let e2 = laws.said c.same_bytes-else-same_bytes.ensures c.if-same_bytes-2.true in
-    record { beside = λ nt out q. record { means = rw (nt, e1, e2); fits = tt } }
-
-pub returns-else-same_bytes-2 : goal.returns-else-same_bytes-2
-returns-else-same_bytes-2 c = let e1 = laws.said c.same_bytes.ensures c.if-same_bytes.false in
-    let e2 = laws.said c.same_bytes-else-same_bytes.ensures c.if-same_bytes-2.false in
-    record { beside = λ nt out q. record { means = rw (nt, e1, e2); fits = tt } }

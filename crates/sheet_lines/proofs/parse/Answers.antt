@@ -3,7 +3,6 @@
 use mathlib.Core.Path.{sym, ap, ◌∙◌}
 use mathlib.Core.List.{map}
 use mathlib.Core.Option.{none, some}
-use borrow.Author.Rules.{rules}
 use native.Mathlib.Omega.{arith}
 use lib.ListN.{take}
 use lib.Seq.{length-take-le}
@@ -20,9 +19,6 @@ pub overflow_add-e : goal.overflow_add-e
 overflow_add-e c = let line = c.args.line.now in
     omega (arith, laws.place_within 32 line 0 c.next_place-e.result (omega arith) c.next_place-e.ensures)
 
-pub enum_told-1 : goal.enum_told-1
-enum_told-1 c = search rules
-
 pub returns-in_default : goal.returns-in_default
 returns-in_default c = let line = c.args.line.now in
     let e = c.next_place-e.result in
@@ -38,12 +34,6 @@ slice_bounds-line_of-end c = let line = c.args.line.now in
     let e = c.next_place-e.result in
     let p = c.next_place-e.ensures in
     sym (length-take-le e line (laws.place_within 32 line 0 e (omega arith) p).1)
-
-pub line_of-requires : goal.line_of-requires
-line_of-requires c = let f = c.types_from.ensures.fits in
-    let l = c.types_from.auto.out in
-    let room = c.requires in
-    (rw c.in-Some.is at f, omega (arith, l, room))
 
 pub returns : goal.returns
 returns c = let line = c.args.line.now in

@@ -1,97 +1,74 @@
--- `sheet_lines::types_from` meets its contract. The types written so far and those of the words to come are those of all the words; each took two places or more.
+-- `sheet_lines::types_from` meets its contract. The types written so far and those of the words to come are those of all the words; each took two bytes or more.
 -- Assumes nothing.
 use mathlib.Core.Path.{refl, sym, ap, ◌∙◌}
-use mathlib.Core.List.{map}
+use mathlib.Core.List.{[], ◌∷◌, map}
 use native.Mathlib.Omega.{arith}
-use lib.ListN.{take, length-set}
+use borrow.Author.Rules.{rules}
+use borrow.Author.Tests.{tests}
+use lib.ListN.{take, drop, length-set, length-append, length-drop}
 use Rattle.scope.specs.Types.{ty_of}
-use Rattle.scope.specs.Sheet.{type_words}
-use Rattle.sheet_lines.specs.Places.{words_from}
+use Rattle.scope.specs.Sheet.{words, type_words}
 use Rattle.sheet_lines.specs.Meaning.{word_means}
 use Rattle.sheet_lines.proofs.Laws as laws
 use Rattle.sheet_lines.proofs.types_from.Goals as goal
 
-pub loop-at-init : goal.loop-at-init
-loop-at-init c = let a = c.args in
-    (refl, omega arith, omega arith, laws.onto_none (type_words (words_from a.line.now a.from)))
+pub loop-w-init : goal.loop-w-init
+loop-w-init c =
+    let rest = drop c.args.from c.args.line.now in
+    (refl, refl, omega (arith, laws.weight_words rest, length-drop c.args.from c.args.line.now), laws.turns_start (type_words (words rest)))
 
-pub slice_bounds-type_of-count : goal.slice_bounds-type_of-count
-slice_bounds-type_of-count c = let line = c.args.line.now in
-    let i = c.loop-at.at in
-    let e = c.next_place-e.result in
-    let h = c.loop-at-test.true in
-    let p = c.next_place-e.ensures in
-    (laws.place_within 32 line i e h p).0
-
-pub slice_bounds-type_of-start : goal.slice_bounds-type_of-start
-slice_bounds-type_of-start c = let line = c.args.line.now in
-    let i = c.loop-at.at in
-    let e = c.next_place-e.result in
-    let h = c.loop-at-test.true in
-    let p = c.next_place-e.ensures in
-    (laws.place_within 32 line i e h p).0
-
-pub slice_bounds-type_of-end : goal.slice_bounds-type_of-end
-slice_bounds-type_of-end c = let line = c.args.line.now in
-    let i = c.loop-at.at in
-    let e = c.next_place-e.result in
-    let h = c.loop-at-test.true in
-    let p = c.next_place-e.ensures in
-    (laws.place_within 32 line i e h p).1
-
-pub returns-in_err-t : goal.returns-in_err-t
-returns-in_err-t c = let line = c.args.line.now in
-    let i = c.loop-at.at in
-    let e = c.next_place-e.result in
-    let h = c.loop-at-test.true in
-    let p = c.next_place-e.ensures in
-    let k = ap word_means (sym c.in_err-t.was) ∙ c.type_of.ensures in
-    let ts = map ty_of (take c.loop-at.n c.loop-at.out) in
-    rw c.from_residual.ensures (record { means = laws.turn_bad line i e h p ts k ∙ c.loop-at.invariant.3; fits = omega arith })
-
-pub offset_bounds-out-n : goal.offset_bounds-out-n
-offset_bounds-out-n c = omega arith
+pub returns-in_err-out : goal.returns-in_err-out
+returns-in_err-out c = let line = c.args.line.now in
+    let i = c.args.from in
+    let l = c.loop-w in
+    let at = c.in-Some.ensures.lookup.0 in
+    let of = c.split-w-items.ensures in
+    let same = c.into_iter-w-iterator.ensures.into_iter_gives in
+    let turn = laws.words_turn line i l.yielded _ l.yielded_by at.2 same of.rest of.done of.closure (λ x r q k. search (rules, tests)) _ _ c.in-Some-w.w c.in-Some-w.is c.next.ensures.steps in
+    let k = ap word_means (sym c.in_err-out.was) ∙ c.type_of.ensures in
+    let bad = laws.turn_bad (words (drop i line)) l.n c.in-Some-w.w.now l.invariant.1 turn (map ty_of (take l.n l.out)) k in
+    rw c.from_residual.ensures (record { means = bad ∙ (l.invariant.3 ∙ ap type_words (sym (laws.words_inside line i at.0))); fits = omega arith })
 
 pub bounds-out-n : goal.bounds-out-n
-bounds-out-n c = let pre = c.requires in
-    omega (arith, pre.short, pre.room)
+bounds-out-n c = let line = c.args.line.now in
+    let i = c.args.from in
+    let l = c.loop-w in
+    let at = c.in-Some.ensures.lookup.0 in
+    let of = c.split-w-items.ensures in
+    let same = c.into_iter-w-iterator.ensures.into_iter_gives in
+    let turn = laws.words_turn line i l.yielded _ l.yielded_by at.2 same of.rest of.done of.closure (λ x r q k. search (rules, tests)) _ _ c.in-Some-w.w c.in-Some-w.is c.next.ensures.steps in
+    let k = ap word_means (sym c.in_ok-out.was) ∙ c.type_of.ensures in
+    omega (arith, c.requires.short, c.requires.room, l.invariant.0, laws.turn_weight (words (drop i line)) l.n c.in-Some-w.w.now l.invariant.1 turn k l.invariant.2)
 
-pub overflow_add-n : goal.overflow_add-n
-overflow_add-n c = omega arith
-
-pub overflow_add-at : goal.overflow_add-at
-overflow_add-at c = let line = c.args.line.now in
-    let i = c.loop-at.at in
-    let e = c.next_place-e.result in
-    let h = c.loop-at-test.true in
-    let p = c.next_place-e.ensures in
-    let pre = c.requires in
-    omega (arith, laws.place_within 32 line i e h p, pre.short)
-
-pub loop-at-smaller : goal.loop-at-smaller
-loop-at-smaller c = let line = c.args.line.now in
-    let i = c.loop-at.at in
-    let e = c.next_place-e.result in
-    let h = c.loop-at-test.true in
-    let p = c.next_place-e.ensures in
-    omega (arith, laws.place_within 32 line i e h p)
-
-pub loop-at-preserved : goal.loop-at-preserved
-loop-at-preserved c = let line = c.args.line.now in
-    let pre = c.requires in
-    let e = c.next_place-e.result in
-    let h = c.loop-at-test.true in
-    let p = c.next_place-e.ensures in
-    let k = ap word_means (sym c.in_ok-t.was) ∙ c.type_of.ensures in (
-      length-set c.loop-at.out c.loop-at.n _ ∙ c.loop-at.invariant.0,
-      omega (arith, laws.turn_longer line c.loop-at.at e h p k),
-      omega (arith, pre.short),
-      laws.turn_type line c.loop-at.at e h p c.loop-at.out c.loop-at.n _ (omega (arith, pre.short, pre.room)) k ∙ c.loop-at.invariant.3,
+pub loop-w-preserved : goal.loop-w-preserved
+loop-w-preserved c = let line = c.args.line.now in
+    let i = c.args.from in
+    let l = c.loop-w in
+    let at = c.in-Some.ensures.lookup.0 in
+    let of = c.split-w-items.ensures in
+    let same = c.into_iter-w-iterator.ensures.into_iter_gives in
+    let turn = laws.words_turn line i l.yielded _ l.yielded_by at.2 same of.rest of.done of.closure (λ x r q k. search (rules, tests)) _ _ c.in-Some-w.w c.in-Some-w.is c.next.ensures.steps in
+    let k = ap word_means (sym c.in_ok-out.was) ∙ c.type_of.ensures in
+    let ws = words (drop i line) in
+    let less = laws.turn_weight ws l.n c.in-Some-w.w.now l.invariant.1 turn k l.invariant.2 in (
+      length-set l.out l.n _ ∙ l.invariant.0,
+      omega (arith, l.invariant.1, length-append l.yielded (c.in-Some-w.w ∷ [])),
+      less,
+      laws.turn_type ws l.n c.in-Some-w.w.now l.invariant.1 turn l.out _ (omega (arith, c.requires.short, c.requires.room, l.invariant.0, less)) k ∙ l.invariant.3,
     )
 
-pub shape_of-out : goal.shape_of-out
-shape_of-out c = c.loop-at.invariant.0
+pub returns-in_default : goal.returns-in_default
+returns-in_default c = record { means = laws.no_words c.args.line.now c.args.from (let z = c.in_default.ensures.lookup in omega arith); fits = omega arith }
 
 pub returns : goal.returns
 returns c = let line = c.args.line.now in
-    record { means = laws.turns_end line c.loop-at.at (map ty_of (take c.loop-at.n c.loop-at.out)) c.loop-at-test.false ∙ c.loop-at.invariant.3; fits = c.loop-at.invariant.2 }
+    let i = c.args.from in
+    let l = c.loop-w in
+    let at = c.in-Some.ensures.lookup.0 in
+    let of = c.split-w-items.ensures in
+    let same = c.into_iter-w-iterator.ensures.into_iter_gives in
+    let end = laws.words_over line i l.yielded _ l.yielded_by at.2 same of.rest of.done of.closure (λ x r q k. search (rules, tests)) _ _ c.in-None.is c.next.ensures.steps in
+    record {
+      means = laws.turns_end (words (drop i line)) l.n (map ty_of (take l.n l.out)) (omega (arith, l.invariant.1, end)) ∙ (l.invariant.3 ∙ ap type_words (sym (laws.words_inside line i at.0)));
+      fits = omega (arith, c.requires.short, l.invariant.2);
+    }

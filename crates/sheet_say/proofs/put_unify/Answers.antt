@@ -3,11 +3,7 @@
 use native.Mathlib.Omega.{arith}
 use Rattle.scope.specs.Text.{text}
 use Rattle.sheet_say.proofs.Laws.{front}
-use borrow.Author.Rules.{rules}
 use Rattle.sheet_say.proofs.put_unify.Goals as goal
-
-pub enum_told-1 : goal.enum_told-1
-enum_told-1 c = search rules
 
 pub returns-in-Success : goal.returns-in-Success
 returns-in-Success c =

@@ -6,7 +6,7 @@ use mathlib.Core.Bool.{◌&&◌}
 use Prim.Native.Nat.{◌-◌}
 use Rattle.scope.specs.Base.{xor}
 use Rattle.scope.specs.Show.{show_f}
-use Rattle.chart.specs.Env.{env_of}
+use Rattle.chart.specs.Env.{env_by}
 use Rattle.layout.specs.Words.{decode}
 use Rattle.layout.proofs.LinkLaws.{clean_linked}
 use Rattle.append.proofs.Laws.{append_full, is_over}
@@ -28,7 +28,7 @@ find_by-root-requires t c =
 pub returns-in_default : goal.returns-in_default
 returns-in_default t c =
     let a = c.args in
-    let e = env_of a.chart.now a.beside a.rule.now a.text.now in
+    let e = env_by a.env.now in
     let st = c.requires.0 in
     let unknown =
     show_unknown st e a.depth a.t.0 c.if-depth-eq0.false c.find_by-root.result.0 c.idx.result.0 c.find_by-root.ensures.0 c.idx.ensures c.held_at.result c.held_at.ensures
@@ -38,7 +38,7 @@ returns-in_default t c =
 pub loop-j-preserved : goal.loop-j-preserved
 loop-j-preserved t c =
     let a = c.args in
-    let e = env_of a.chart.now a.beside a.rule.now a.text.now in
+    let e = env_by a.env.now in
     let k = c.in-Some.kind in
     let deep = c.bitxor-i.result.0 && c.self_dual-dual.result in (
       turn_next _ _ _ _ c.loop-j.invariant.0 c.loop-j-test.true c.put_gap-q.ensures
@@ -50,7 +50,7 @@ loop-j-preserved t c =
 pub returns : goal.returns
 returns t c =
     let a = c.args in
-    let e = env_of a.chart.now a.beside a.rule.now a.text.now in
+    let e = env_by a.env.now in
     let st = c.requires.0 in
     let known =
     show_known st e a.depth a.t.0 c.if-depth-eq0.false c.find_by-root.result.0 c.idx.result.0 c.find_by-root.ensures.0 c.idx.ensures c.held_at.result c.held_at.ensures

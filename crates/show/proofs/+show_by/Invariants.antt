@@ -3,8 +3,8 @@
 -- Assumes nothing.
 use Prim.Native.Nat.{◌-◌}
 use Rattle.scope.specs.Show.{show_f}
-use Rattle.names.specs.Place.{texts}
-use Rattle.chart.specs.Env.{env_of}
+use Rattle.names.specs.Place.{texts_by}
+use Rattle.chart.specs.Env.{env_by}
 use Rattle.layout.specs.Words.{decode}
 use Rattle.roots.specs.Kept.{Cached}
 use Rattle.show_parts.specs.Parts.{gap_of, close_of}
@@ -16,5 +16,6 @@ abbrev pub decreases-show_by : goal.decreases-show_by
 decreases-show_by l = l.depth
 
 abbrev pub invariant-loop-j : goal.invariant-loop-j
-invariant-loop-j l = Turn (gap_of (texts l.rule l.text) l.ks l.kind) (λ m. show_f (env_of l.chart l.beside l.rule l.text) (l.depth - 1) (decode l.ws l.ks l.n) (kid_of l.ks l.kind l.deep.0 m))
+invariant-loop-j l =
+    Turn (gap_of (texts_by l.env.texts) l.ks l.kind) (λ m. show_f (env_by l.env) (l.depth - 1) (decode l.ws l.ks l.n) (kid_of l.ks l.kind l.deep.0 m))
     (close_of l.kind l.count) l.count l.initial.buf l.initial.p l.buf l.p l.j × Cached l.ws l.n l.cache

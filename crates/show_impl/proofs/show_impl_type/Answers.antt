@@ -6,13 +6,13 @@ use borrow.Author.Tests.{ltb-true, ltb-false}
 use borrow.Author.Rules.{rules}
 use Rattle.std.specs.Prelude.{None}
 use Rattle.scope.specs.Show.{render, show_impl_type}
-use Rattle.chart.specs.Env.{env_of}
+use Rattle.chart.specs.Env.{env_by}
 use Rattle.layout.specs.Words.{decode}
 use Rattle.layout.proofs.LinkLaws.{clean_linked}
 use Rattle.show_impl.proofs.Laws.{other_trait, other_count, by_tuple}
 use Rattle.show_impl.proofs.show_impl_type.Goals as goal
 use Rattle.show_impl.proofs.show_impl_type.Goals.{else-xs-lt3-via-then-xs-lt3, else-xs-lt3-via-else-xs-lt3+else-xs-lt4}
-use Rattle.show_impl.proofs.show_impl_type.Goals.{else-xs-lt3-via-in-len3+else-i-beside, else-xs-lt3-via-in-len3+then-i-beside+in-None-1}
+use Rattle.show_impl.proofs.show_impl_type.Goals.{else-xs-lt3-via-in-len3+else-i-env, else-xs-lt3-via-in-len3+then-i-env+in-None-1}
 
 pub returns-in_default : goal.returns-in_default
 unfolding show_impl_type render
@@ -24,20 +24,20 @@ tuple_of-requires c = clean_linked _ _ _ _ c.requires.clean
 pub returns : goal.returns
 unfolding show_impl_type
 returns c = let a = c.args in
-    let e = env_of a.chart.now a.beside a.rule.now a.text.now in
-    rw (c.in-Trait.is, by_tuple e c.in-Trait.i a.xs.now c.requires c.if-i-beside.true (omega arith) c.tuple_of.ensures c.in-Some.is) c.show_fn.ensures
+    let e = env_by a.env.now in
+    rw (c.in-Trait.is, by_tuple e c.in-Trait.i a.xs.now c.requires c.if-i-env.true (omega arith) c.tuple_of.ensures c.in-Some.is) c.show_fn.ensures
 
 pub returns-2 : goal.returns-2
 unfolding show_impl_type
 returns-2 c =
     let a = c.args in
-    let e = env_of a.chart.now a.beside a.rule.now a.text.now in
+    let e = env_by a.env.now in
     let ns = decode a.ws.now a.ks.now a.n in
     elim c.else-xs-lt3.branch [
       | else-xs-lt3-via-then-xs-lt3 w ↦ rw (c.in-Trait.is, other_count e c.in-Trait.i a.xs.now ns (λ z. omega (arith, ltb-true))) c.show_trait.ensures
       | else-xs-lt3-via-else-xs-lt3+else-xs-lt4 w ↦ rw (c.in-Trait.is, other_count e c.in-Trait.i a.xs.now ns (λ z. omega (arith, ltb-false))) c.show_trait.ensures
-      | else-xs-lt3-via-in-len3+else-i-beside w ↦ rw (c.in-Trait.is, other_trait e c.in-Trait.i a.xs.now ns w.if-i-beside.false) c.show_trait.ensures
-      | else-xs-lt3-via-in-len3+then-i-beside+in-None-1 w ↦
+      | else-xs-lt3-via-in-len3+else-i-env w ↦ rw (c.in-Trait.is, other_trait e c.in-Trait.i a.xs.now ns w.if-i-env.false) c.show_trait.ensures
+      | else-xs-lt3-via-in-len3+then-i-env+in-None-1 w ↦
           let none : w.tuple_of.result ≡ None = search rules in
-          rw (c.in-Trait.is, by_tuple e c.in-Trait.i a.xs.now c.requires w.if-i-beside.true (omega arith) w.tuple_of.ensures none) c.show_trait.ensures
+          rw (c.in-Trait.is, by_tuple e c.in-Trait.i a.xs.now c.requires w.if-i-env.true (omega arith) w.tuple_of.ensures none) c.show_trait.ensures
     ]

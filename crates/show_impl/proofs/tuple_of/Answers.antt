@@ -1,10 +1,7 @@
 -- `show_impl::tuple_of` meets its contract: the root that was found has what the definition reads.
 -- Assumes nothing.
-use Rattle.show_impl.proofs.Laws.{tuple_none, tuple_other, tuple_found}
+use Rattle.show_impl.proofs.Laws.{tuple_other, tuple_found}
 use Rattle.show_impl.proofs.tuple_of.Goals as goal
-
-pub returns-in_err-inv : goal.returns-in_err-inv
-returns-in_err-inv c = rw c.from_residual.ensures (tuple_none c.find-root.ensures c.idx.ensures c.held_at.ensures c.in_err-inv.was)
 
 pub returns-then-kind-eq-TUPLE : goal.returns-then-kind-eq-TUPLE
 returns-then-kind-eq-TUPLE c = tuple_found c.find-root.ensures c.idx.ensures c.held_at.ensures c.in_ok-inv.was c.if-kind-eq-TUPLE.true c.inv.ensures c.bitxor.ensures

@@ -1,7 +1,7 @@
 -- `show_parts::put_lead` meets its contract: a ~ or none, and the pieces one after the other.
 -- Assumes nothing.
 use mathlib.Core.Path.{◌∙◌}
-use Rattle.chart.specs.Env.{env_of}
+use Rattle.chart.specs.Env.{env_by}
 use Rattle.append.proofs.Laws.{append_then}
 use Rattle.show_parts.specs.Parts.{lead_of, own_name}
 use Rattle.show_parts.proofs.Laws.{lead_tuple, lead_plain, lead_closure}
@@ -16,7 +16,7 @@ returns-then-k-eq-FN c =
 pub returns-then-k-eq-TUPLE : goal.returns-then-k-eq-TUPLE
 returns-then-k-eq-TUPLE c =
     let a = c.args in
-    let e = env_of a.chart.now a.beside a.rule.now a.text.now in
+    let e = env_by a.env.now in
     append_then c.put_tilde-turned.ensures (rw (lead_tuple e a.k c.if-k-eq-TUPLE.true, ← c.front.ensures) c.put-said.ensures)
 
 pub shape_of-buf-then-k-ne-CLOSURE : goal.shape_of-buf-then-k-ne-CLOSURE
@@ -27,7 +27,7 @@ pub returns-then-k-ne-CLOSURE : goal.returns-then-k-ne-CLOSURE
 unfolding own_name
 returns-then-k-ne-CLOSURE c =
     let a = c.args in
-    let e = env_of a.chart.now a.beside a.rule.now a.text.now in
+    let e = env_by a.env.now in
     let pieces = append_then c.put-said.ensures (append_then c.put_name-named.ensures c.put-p.ensures) in
     append_then c.put_tilde-turned.ensures
     (rw (lead_plain e a.k c.if-k-eq-FN.false c.if-k-ne-CLOSURE.true, ← c.front.ensures, ← c.own_name.ensures, ← c.back.ensures) pieces)
@@ -40,7 +40,7 @@ pub returns : goal.returns
 unfolding own_name
 returns c =
     let a = c.args in
-    let e = env_of a.chart.now a.beside a.rule.now a.text.now in
+    let e = env_by a.env.now in
     let numbered = append_then c.put_decimal-numbered.ensures c.put.ensures in
     let pieces = append_then c.put-said.ensures (append_then c.put_name-named.ensures (append_then c.put-p.ensures numbered)) in
     append_then c.put_tilde-turned.ensures

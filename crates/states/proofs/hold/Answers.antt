@@ -1,12 +1,8 @@
 -- `states::hold` meets its contract: each part of the place is written in turn, and proofs/HoldLaws says what the whole then holds.
 -- Assumes nothing.
 use native.Mathlib.Omega.{arith}
-use Rattle.states.proofs.HoldLaws.{hold_name, code_nodes, code_kids, code_held}
+use Rattle.states.proofs.HoldLaws.{code_nodes, code_kids, code_held}
 use Rattle.states.proofs.hold.Goals as goal
-
-pub put_name-requires : goal.put_name-requires
-put_name-requires c =
-    hold_name c.requires
 
 pub copy_words-requires : goal.copy_words-requires
 copy_words-requires c =

@@ -1,14 +1,7 @@
 -- `states::name_state` meets its contract: the words of place i are lent to `hold`, and once they hold the state the book does.
 -- Assumes nothing.
-use native.Mathlib.Omega.{arith}
-use Rattle.states.proofs.NameLaws.{name_order, name_fits_in, name_hold, name_became}
+use Rattle.states.proofs.NameLaws.{name_fits_in, name_hold, name_became}
 use Rattle.states.proofs.name_state.Goals as goal
-
-pub offset_bounds-bs-a : goal.offset_bounds-bs-a
-offset_bounds-bs-a c =
-    let h = name_fits_in c.requires c.room_of-room.ensures c.place_from-a.ensures c.place_from-e.ensures in
-    let k = name_order c.requires c.room_of-room.ensures c.place_from-a.ensures c.place_from-e.ensures in
-    omega arith
 
 pub slice_bounds-hold-end : goal.slice_bounds-hold-end
 slice_bounds-hold-end c =

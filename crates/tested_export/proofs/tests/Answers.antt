@@ -3,7 +3,7 @@
 use mathlib.Core.Path.{refl}
 use Rattle.refusals.proofs.Laws.{err_told}
 use Rattle.sound.specs.Tests.{env_lent}
-use Rattle.tested_export.proofs.Laws.{refused_opening, refused_list, needs_asks, told_room}
+use Rattle.tested_export.proofs.Laws.{one_list, refused_opening, refused_list, needs_asks, told_room}
 use Rattle.tested_export.proofs.tests.Goals as goal
 
 pub returns-in_err-opening : goal.returns-in_err-opening
@@ -11,19 +11,19 @@ returns-in_err-opening c = let a = c.args in
     rw (err_told c.from_residual.result c.from_residual.ensures.1) (refused_opening (env_lent a.env.now) a.sh.now a.sw.now a.sk.now a.h.now a.ws.now a.ks.now a.nodes a.children a.ts.now
     c.in_err-opening.ensures)
 
-pub returns-in_err-list : goal.returns-in_err-list
-returns-in_err-list c = let a = c.args in
-    rw (err_told c.from_residual-in_err-list.result c.from_residual-in_err-list.ensures.1)
+pub returns-in_err-lists : goal.returns-in_err-lists
+returns-in_err-lists c = let a = c.args in
+    rw (err_told c.from_residual-in_err-lists.result c.from_residual-in_err-lists.ensures.1)
     (refused_list (env_lent a.env.now) a.sh.now a.sw.now a.sk.now a.h.now a.ws.now a.ks.now a.nodes a.children a.ts.now
-    c.in_ok-opening.ensures c.requires c.read_header-x.ensures c.in_err-list.ensures refl)
+    c.in_ok-opening.ensures c.requires c.read_header-x.ensures (one_list _ c.in_err-lists.ensures) refl)
 
 pub of_export-requires : goal.of_export-requires
 of_export-requires c = let a = c.args in
     needs_asks (env_lent a.env.now) a.sh.now a.sw.now a.sk.now a.h.now a.ws.now a.ks.now a.nodes a.children a.ts.now
-    c.in_ok-opening.ensures c.requires c.read_header-x.ensures c.in_ok-list.ensures refl
+    c.in_ok-opening.ensures c.requires c.read_header-x.ensures (one_list _ c.in_ok-lists.ensures) refl
 
 pub returns : goal.returns
 returns c = let a = c.args in
     told_room (env_lent a.env.now) a.sh.now a.sw.now a.sk.now a.h.now a.ws.now a.ks.now a.nodes a.children a.ts.now
-    c.in_ok-opening.ensures c.requires c.read_header-x.ensures c.in_ok-list.ensures refl
+    c.in_ok-opening.ensures c.requires c.read_header-x.ensures (one_list _ c.in_ok-lists.ensures) refl
     c.of_export.ensures c.room.ensures

@@ -3,9 +3,6 @@
 use Rattle.tested_import.proofs.TestLaws.{needs_missing, needs_room}
 use Rattle.tested_import.proofs.needed.Goals as goal
 
-pub params_of-requires : goal.params_of-requires
-params_of-requires c = c.requires.1
-
 pub returns-then-wanted : goal.returns-then-wanted
 returns-then-wanted c = needs_missing c.params_of.ensures c.of_import-wanted.ensures c.if-wanted.true
 

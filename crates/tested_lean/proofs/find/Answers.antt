@@ -4,17 +4,14 @@ use Rattle.refusals.proofs.Laws.{err_told}
 use Rattle.tested_lean.proofs.Laws.{passed_within, find_back, find_linked, find_done}
 use Rattle.tested_lean.proofs.find.Goals as goal
 
-pub inside-requires : goal.inside-requires
-inside-requires c = (passed_within c.requires).head
-
 pub returns-in_err-inside : goal.returns-in_err-inside
 returns-in_err-inside c = rw (err_told c.from_residual.result c.from_residual.ensures.1) (find_back c.args.t c.in_err-inside.ensures)
 
 pub nodes_made-n-requires : goal.nodes_made-n-requires
 nodes_made-n-requires c = (passed_within c.requires).head
 
-pub root_of-requires : goal.root_of-requires
-root_of-requires c = find_linked c.args.t c.in_ok-inside.ensures c.nodes_made-n.ensures c.requires
+pub find-requires : goal.find-requires
+find-requires c = find_linked c.args.t c.in_ok-inside.ensures c.nodes_made-n.ensures c.requires
 
 pub returns : goal.returns
-returns c = find_done c.args.t c.in_ok-inside.ensures c.nodes_made-n.ensures c.root_of.ensures
+returns c = find_done c.args.t c.in_ok-inside.ensures c.nodes_made-n.ensures c.find.ensures

@@ -5,6 +5,3 @@ use Rattle.tested_lean.proofs.once_room.Goals as goal
 
 pub returns-in-Some : goal.returns-in-Some
 returns-in-Some c = λ ws ks. rw c.in-Some.is (none_left c.requires ws ks)
-
-pub returns-in-None : goal.returns-in-None
-returns-in-None c = λ ws ks. rw c.in-None.is (c.node_room.ensures ws ks)

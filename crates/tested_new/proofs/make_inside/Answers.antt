@@ -1,13 +1,8 @@
 -- `tested_new::make_inside` meets its contract: a refusal writes nothing, and a kind that passes is the one that the core is given.
 -- Assumes nothing.
 use Rattle.refusals.proofs.Laws.{err_told}
-use Rattle.tested_new.proofs.Laws.{inside_refused, inside_full, inside_ready, inside_made}
+use Rattle.tested_new.proofs.Laws.{inside_full, inside_ready, inside_made}
 use Rattle.tested_new.proofs.make_inside.Goals as goal
-
-pub returns-in_err-test_kind : goal.returns-in_err-test_kind
-returns-in_err-test_kind c = let a = c.args in let l = a.env.now in
-    rw (err_told c.from_residual.result c.from_residual.ensures.1)
-    (inside_refused l.chart.now l.texts.rule.now l.texts.chart.now a.h.now a.ws.now a.ks.now a.k a.entries.now c.in_err-test_kind.ensures)
 
 pub returns-in_err-room : goal.returns-in_err-room
 returns-in_err-room c = let a = c.args in let l = a.env.now in

@@ -4,8 +4,8 @@ use Rattle.scope.specs.Calls.{new_struct_call}
 use Rattle.lent_kind.proofs.ListLaws.{struct_row}
 use Rattle.tested_new.proofs.new_struct.Goals as goal
 
-pub new_over-requires : goal.new_over-requires
-new_over-requires c = record { tested = c.requires; code_value = struct_row }
+pub new_over-requires-clause-code_value : goal.new_over-requires-clause-code_value
+new_over-requires-clause-code_value c = struct_row
 
 pub returns : goal.returns
 unfolding new_struct_call

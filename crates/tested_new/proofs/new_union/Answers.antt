@@ -4,8 +4,8 @@ use Rattle.scope.specs.Calls.{new_union_call}
 use Rattle.lent_kind.proofs.ListLaws.{union_row}
 use Rattle.tested_new.proofs.new_union.Goals as goal
 
-pub new_over-requires : goal.new_over-requires
-new_over-requires c = record { tested = c.requires; code_value = union_row }
+pub new_over-requires-clause-code_value : goal.new_over-requires-clause-code_value
+new_over-requires-clause-code_value c = union_row
 
 pub returns : goal.returns
 unfolding new_union_call

@@ -1,17 +1,9 @@
 -- `tested_over::new_over` meets its contract: 3 over all types comes first, then the width; the kind over the list is then made.
 -- Assumes nothing.
-use lib.ListN.{length}
 use Rattle.kinds.specs.Rows.{names_number}
 use Rattle.refusals.proofs.Laws.{err_told}
-use Rattle.tested_new.proofs.Laws.{listed_narrow}
-use Rattle.tested_over.proofs.Laws.{row_names, named, unnamed, nameless, over_named, over_listed, over_done, over_within}
+use Rattle.tested_over.proofs.Laws.{row_names, unnamed, over_listed, over_done, over_within}
 use Rattle.tested_over.proofs.new_over.Goals as goal
-
-pub returns-then-ne : goal.returns-then-ne
-returns-then-ne c =
-    let d = c.row_of.result.names in
-    let row = row_names c.row_of.result c.args.code c.row_of.ensures in
-    over_named c.args.chart.now c.args.h.now c.args.ws.now c.args.ks.now c.args.types.now c.args.code c.args.number (names_number d) row (named d c.ne.ensures c.if-ne.true)
 
 pub returns-in_err-test_list : goal.returns-in_err-test_list
 returns-in_err-test_list c =
@@ -21,16 +13,8 @@ returns-in_err-test_list c =
     (over_listed c.args.chart.now c.args.h.now c.args.ws.now c.args.ks.now c.args.types.now c.args.code c.args.number (names_number d) row
     (unnamed d c.ne.ensures c.if-ne.false) c.read_header-x.ensures c.types_inside-inside.ensures c.in_err-test_list.ensures)
 
-pub make_over-requires : goal.make_over-requires
-make_over-requires c =
-    let d = c.row_of.result.names in
-    let row = row_names c.row_of.result c.args.code c.row_of.ensures in
-    record {
-      ready = over_within c.requires;
-      code_value = nameless c.args.chart.now c.args.h.now c.args.ws.now c.args.ks.now c.args.types.now c.args.code c.args.number (names_number d) row
-          (unnamed d c.ne.ensures c.if-ne.false);
-      types_len_bound = listed_narrow c.types_inside-inside.result (length c.args.types.now) c.in_ok-test_list.ensures;
-    }
+pub make_over-requires-clause-ready : goal.make_over-requires-clause-ready
+make_over-requires-clause-ready c = over_within c.requires
 
 pub returns : goal.returns
 returns c =

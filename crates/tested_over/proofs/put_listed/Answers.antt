@@ -3,18 +3,12 @@
 -- Assumes nothing.
 use mathlib.Core.Path.{sym}
 use native.Mathlib.Omega.{arith}
-use Rattle.make.proofs.NewLaws.{put_none, put_more, put_end}
+use Rattle.make.proofs.NewLaws.{put_more}
 use Rattle.tested_over.specs.Over.{entries_of}
 use Rattle.tested_over.proofs.EntryLaws.{entry_is}
 use Rattle.tested_over.proofs.put_listed.Goals as goal
-
-pub loop-i-init : goal.loop-i-init
-loop-i-init c = put_none
 
 pub loop-i-preserved : goal.loop-i-preserved
 loop-i-preserved c =
     let ts = c.args.types.now in
     put_more (entries_of ts) c.args.first c.loop-i.i c.loop-i.invariant (omega arith) (sym (entry_is ts c.loop-i.i (omega arith))) c.put_child.ensures
-
-pub returns : goal.returns
-returns c = put_end c.loop-i.invariant (omega arith)

@@ -1,8 +1,7 @@
 -- `tested_over::test_plain` meets its contract: the tests are those of scope's definitions, in their order, and a kind without names has none to test.
 -- Assumes nothing.
+use mathlib.Core.Path.{sym, ◌∙◌}
 use native.Mathlib.Omega.{arith}
-use Rattle.names.proofs.Tests.{passes, fails}
-use borrow.Author.Tests.{not-true, not-false}
 use Rattle.tested_over.proofs.PlainLaws.{code_unmade, shape_unmade, number_unmade, undefined_over, over_passed}
 use Rattle.tested_over.proofs.test_plain.Goals.{
   then-code-gt-ERROR-via-then-code-gt-ERROR,
@@ -18,22 +17,22 @@ returns-then-code-gt-ERROR c =
       | then-code-gt-ERROR-via-then-code-gt-ERROR w ↦ code_unmade c.args.chart.now c.args.code c.args.number c.args.n c.requires.code_value c.requires.n_bound rule text ts many (omega arith)
       | then-code-gt-ERROR-via-else-code-gt-ERROR+then-not-shape_fits w ↦
           shape_unmade c.args.chart.now c.args.code c.args.number c.args.n c.requires.code_value c.requires.n_bound rule text ts many (omega arith)
-          (fails w.shape_fits.ensures w.if-not-shape_fits.true-raw)
+          (sym w.shape_fits.ensures ∙ w.if-not-shape_fits.true)
       | then-code-gt-ERROR-via-else-code-gt-ERROR+else-not-shape_fits+then-not-number_ok w ↦
           number_unmade c.args.chart.now c.args.code c.args.number c.args.n c.requires.code_value c.requires.n_bound rule text ts many (omega arith)
-          (passes w.shape_fits.ensures w.if-not-shape_fits.false-raw) (fails w.number_ok.ensures w.if-not-number_ok.true-raw)
+          (sym w.shape_fits.ensures ∙ w.if-not-shape_fits.false) (sym w.number_ok.ensures ∙ w.if-not-number_ok.true)
     ]
 
 pub returns-then-not-is_defined : goal.returns-then-not-is_defined
 returns-then-not-is_defined c =
     λ rule text ts many.
     undefined_over c.args.chart.now c.args.code c.args.number c.args.n c.requires.code_value c.requires.n_bound rule text ts many (omega arith)
-    (passes c.shape_fits.ensures c.if-not-shape_fits.false-raw) (passes c.number_ok.ensures c.if-not-number_ok.false-raw)
-    c.plain_args.ensures c.flagged.ensures c.kind_of-kind.ensures c.is_defined.ensures (not-true c.is_defined.result c.if-not-is_defined.true-raw)
+    (sym c.shape_fits.ensures ∙ c.if-not-shape_fits.false) (sym c.number_ok.ensures ∙ c.if-not-number_ok.false)
+    c.plain_args.ensures c.flagged.ensures c.kind_of-kind.ensures c.is_defined.ensures c.if-not-is_defined.true
 
 pub returns : goal.returns
 returns c =
     λ rule text ts many.
     over_passed c.args.chart.now c.args.code c.args.number c.args.n c.requires.code_value c.requires.n_bound rule text ts many (omega arith)
-    (passes c.shape_fits.ensures c.if-not-shape_fits.false-raw) (passes c.number_ok.ensures c.if-not-number_ok.false-raw)
-    c.plain_args.ensures c.flagged.ensures c.kind_of-kind.ensures c.is_defined.ensures (not-false c.is_defined.result c.if-not-is_defined.false-raw)
+    (sym c.shape_fits.ensures ∙ c.if-not-shape_fits.false) (sym c.number_ok.ensures ∙ c.if-not-number_ok.false)
+    c.plain_args.ensures c.flagged.ensures c.kind_of-kind.ensures c.is_defined.ensures c.if-not-is_defined.false

@@ -5,7 +5,7 @@ use mathlib.Core.Path.{refl, ◌∙◌}
 use native.Mathlib.Omega.{arith}
 use native.Mathlib.Nat.{pos_of_ne-zero}
 use Rattle.scope.specs.Types.{ty_of}
-use Rattle.unify_enter.proofs.Laws.{entered_done, entered_kids}
+use Rattle.unify_enter.proofs.Laws.{entered_kids}
 use Rattle.unify.proofs.QuickLaws.{quick_adds, quick_merged, quick_asked, quick_not}
 use Rattle.unify.proofs.RunLaws.{both_success, run_fails, run_start, run_pair, run_asks, run_next, run_ends}
 use Rattle.unify.proofs.RunLaws.{stored_start, object_none, object_pair, object_asks, object_next, stored_ends}
@@ -17,15 +17,6 @@ use Rattle.unify.proofs.+unify_objects_unify_pair_unify_types.Goals.{unify_objec
 
 pub unify_objects-loop-j-init : goal.unify_objects-loop-j-init
 unify_objects-loop-j-init t c = (refl, refl, stored_start c.requires.0 c.from-r.ensures)
-
-pub unify_objects-kid-x-requires : goal.unify_objects-kid-x-requires
-unify_objects-kid-x-requires t c = omega (arith, c.requires.1.0.first, c.loop-j-test.true)
-
-pub unify_objects-kid_name-requires : goal.unify_objects-kid_name-requires
-unify_objects-kid_name-requires t c = omega (arith, c.requires.1.0.first, c.loop-j-test.true)
-
-pub unify_objects-seek_near-f-requires : goal.unify_objects-seek_near-f-requires
-unify_objects-seek_near-f-requires t c = (c.requires.1.0.second, c.requires.1.1)
 
 pub unify_objects-quick-requires : goal.unify_objects-quick-requires
 unify_objects-quick-requires t c =
@@ -69,16 +60,9 @@ unify_objects-returns t c = stored_ends c.loop-j.invariant.2 c.loop-j-test.false
 
 -- a pair
 
-pub unify_pair-enter-requires : goal.unify_pair-enter-requires
-unify_pair-enter-requires t c = c.requires
-
 pub unify_pair-settle-requires : goal.unify_pair-settle-requires
 unify_pair-settle-requires t c =
     answer_settles (entered_kids c.args.depth (ty_of c.args.a.0) (ty_of c.args.b.0) c.enter.ensures c.in-Kids.is) c.in-Answer.is
-
-pub unify_pair-overflow_sub-depth : goal.unify_pair-overflow_sub-depth
-unify_pair-overflow_sub-depth t c =
-    pos_of_ne-zero (entered_kids c.args.depth (ty_of c.args.a.0) (ty_of c.args.b.0) c.enter.ensures c.in-Kids.is).roots.up.deep
 
 pub unify_pair-unify_objects-r-requires : goal.unify_pair-unify_objects-r-requires
 unify_pair-unify_objects-r-requires t c =
@@ -89,10 +73,6 @@ pub unify_pair-settle-requires-in-Object : goal.unify_pair-settle-requires-in-Ob
 unify_pair-settle-requires-in-Object t c =
     object_settles (entered_kids c.args.depth (ty_of c.args.a.0) (ty_of c.args.b.0) c.enter.ensures c.in-Kids.is) c.in-Object.is c.unify_objects-r.ensures
 
-pub unify_pair-overflow_sub-depth-in-Run : goal.unify_pair-overflow_sub-depth-in-Run
-unify_pair-overflow_sub-depth-in-Run t c =
-    pos_of_ne-zero (entered_kids c.args.depth (ty_of c.args.a.0) (ty_of c.args.b.0) c.enter.ensures c.in-Kids.is).roots.up.deep
-
 pub unify_pair-unify_types-requires : goal.unify_pair-unify_types-requires
 unify_pair-unify_types-requires t c =
     let l = entered_kids c.args.depth (ty_of c.args.a.0) (ty_of c.args.b.0) c.enter.ensures c.in-Kids.is in
@@ -102,9 +82,6 @@ pub unify_pair-settle-requires-in-Run : goal.unify_pair-settle-requires-in-Run
 unify_pair-settle-requires-in-Run t c =
     run_settles (entered_kids c.args.depth (ty_of c.args.a.0) (ty_of c.args.b.0) c.enter.ensures c.in-Kids.is) c.in-Run.is
     c.unify_types.ensures c.and-r.result c.and-r.ensures
-
-pub unify_pair-returns-in-Done : goal.unify_pair-returns-in-Done
-unify_pair-returns-in-Done t c = entered_done c.args.depth (ty_of c.args.a.0) (ty_of c.args.b.0) c.enter.ensures c.in-Done.is
 
 pub unify_pair-returns-in-Answer : goal.unify_pair-returns-in-Answer
 unify_pair-returns-in-Answer t c =
@@ -127,12 +104,6 @@ unify_types-returns-then-s t c = run_fails _ c.requires.0 c.if-s.true
 
 pub unify_types-loop-i-init : goal.unify_types-loop-i-init
 unify_types-loop-i-init t c = (refl, refl, run_start c.requires.0 c.if-s.false)
-
-pub unify_types-kid-x-requires : goal.unify_types-kid-x-requires
-unify_types-kid-x-requires t c = omega (arith, c.requires.1.first, c.loop-i-test.true)
-
-pub unify_types-kid-requires : goal.unify_types-kid-requires
-unify_types-kid-requires t c = omega (arith, c.requires.1.second, c.if-s.false, c.loop-i-test.true)
 
 pub unify_types-quick-requires : goal.unify_types-quick-requires
 unify_types-quick-requires t c =

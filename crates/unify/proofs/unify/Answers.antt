@@ -1,7 +1,7 @@
 -- `unify::unify` meets its contract: what needs no walk is done at once, and anything else is `unify_pair`'s.
 -- Assumes nothing.
 use Rattle.unify_enter.proofs.Laws.{no_depth}
-use Rattle.unify.proofs.QuickLaws.{quick_adds, small_merged, small_asked, small_not}
+use Rattle.unify.proofs.QuickLaws.{quick_adds, small_merged}
 use Rattle.unify.proofs.unify.Goals as goal
 
 pub returns-then-depth-eq0 : goal.returns-then-depth-eq0
@@ -13,11 +13,3 @@ small-requires c = quick_adds c.requires
 pub returns-then-small : goal.returns-then-small
 returns-then-small c =
     small_merged c.requires c.if-depth-eq0.false c.small.ensures c.if-small.true
-
-pub unify_pair-requires : goal.unify_pair-requires
-unify_pair-requires c =
-    small_asked c.requires c.small.ensures c.if-small.false
-
-pub returns : goal.returns
-returns c =
-    small_not c.requires c.small.ensures c.if-small.false c.unify_pair.ensures

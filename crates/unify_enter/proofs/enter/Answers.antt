@@ -2,7 +2,7 @@
 -- Assumes nothing.
 use mathlib.Core.Path.{refl, sym, ◌∙◌}
 use Rattle.std.specs.Prelude.{None}
-use Rattle.names.specs.Place.{texts}
+use Rattle.names.specs.Place.{texts_by}
 use Rattle.meeting.proofs.MeetLaws.{bare_tops, bare_meets}
 use Rattle.scope.specs.Types.{ty_of}
 use Rattle.unify_enter.specs.Enters.{AtRoots}
@@ -15,7 +15,7 @@ returns-then-depth-eq0 c = no_depth c.requires c.if-depth-eq0.true
 
 -- both are roots, one of them without a kind
 
-bare : (c : Then-bare_roots) → AtRoots (texts c.args.rule.now c.args.text.now) c.args.ws.now c.args.ks.now c.args.memory.now c.args.ws.now c.args.memory.now
+bare : (c : Then-bare_roots) → AtRoots (texts_by c.args.texts.now) c.args.ws.now c.args.ks.now c.args.memory.now c.args.ws.now c.args.memory.now
     c.args.n c.args.depth (ty_of c.args.a.0) (ty_of c.args.b.0) c.args.a.0 c.args.b.0 None
 bare c =
     let w = asked_pair c.requires in
@@ -38,7 +38,7 @@ meet-requires c = (climbed c.requires c.if-depth-eq0.false c.visited.ensures c.f
 
 -- the roots have met
 
-met : (c : After-meet) → AtRoots (texts c.args.rule.now c.args.text.now) c.args.ws.now c.args.ks.now c.args.memory.now c.find-rb.new.ws c.find-rb.new.memory
+met : (c : After-meet) → AtRoots (texts_by c.args.texts.now) c.args.ws.now c.args.ks.now c.args.memory.now c.find-rb.new.ws c.find-rb.new.memory
     c.args.n c.args.depth (ty_of c.args.a.0) (ty_of c.args.b.0) c.find-ra.result.0 c.find-rb.result.0 c.meet.result
 met c = at_roots (climbed c.requires c.if-depth-eq0.false c.visited.ensures c.find-ra.ensures c.find-rb.ensures) c.meet.ensures
 

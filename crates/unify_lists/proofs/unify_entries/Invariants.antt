@@ -3,11 +3,11 @@
 -- Assumes nothing.
 use mathlib.Core.Path.{◌≡◌}
 use lib.ListN.{length}
-use Rattle.names.specs.Place.{texts}
+use Rattle.names.specs.Place.{texts_by}
 use Rattle.unify_lists.specs.Lent.{from_first}
 use Rattle.unify.proofs.RunLaws.{ObjectLeft}
 use Rattle.unify_lists.proofs.unify_entries.Given as goal
 
 abbrev pub invariant-loop-j : goal.invariant-loop-j
 invariant-loop-j l = (length l.ws ≡ length l.initial.ws) × (length l.memory ≡ length l.initial.memory)
-    × ObjectLeft (texts l.rule l.text) l.xs l.ys l.initial.ws l.ks l.initial.memory l.n l.n (from_first l.na l.nb l.inv) l.ws l.memory l.r l.j
+    × ObjectLeft (texts_by l.texts) l.xs l.ys l.initial.ws l.ks l.initial.memory l.n l.n (from_first l.na l.nb l.inv) l.ws l.memory l.r l.j

@@ -2,10 +2,10 @@
 -- Assumes nothing.
 use mathlib.Core.Path.{◌≡◌}
 use lib.ListN.{length}
-use Rattle.names.specs.Place.{texts}
+use Rattle.names.specs.Place.{texts_by}
 use Rattle.unify_lists.proofs.Laws.{ListLeft}
 use Rattle.unify_lists.proofs.unify_lists.Given as goal
 
 abbrev pub invariant-loop-x : goal.invariant-loop-x
 invariant-loop-x l = (length l.ws ≡ length l.initial.ws) × (length l.memory ≡ length l.initial.memory)
-    × ListLeft (texts l.rule l.text) l.initial.ws l.ks l.initial.memory l.n l.xs l.ys l.inv.0 l.ws l.memory l.r (length l.yielded)
+    × ListLeft (texts_by l.texts) l.initial.ws l.ks l.initial.memory l.n l.xs l.ys l.inv.0 l.ws l.memory l.r (length l.yielded)

@@ -5,6 +5,3 @@ use Rattle.walk.proofs.inverse_deep.Goals as goal
 
 pub by_marks-requires : goal.by_marks-requires
 by_marks-requires c = inverse_asks c.requires c.args.param
-
-pub returns : goal.returns
-returns c = c.by_marks.ensures.same

@@ -4,28 +4,24 @@ use mathlib.Core.Path.{refl}
 use native.Mathlib.Omega.{arith}
 use Rattle.walk.proofs.Laws.{kid_none}
 use Rattle.walk.proofs.Answers.{occurs_is, occurs_none}
-use Rattle.walk.proofs.LookLaws.{two_nodes, occurs_met, occurs_clear}
+use Rattle.walk.proofs.LookLaws.{occurs_met, occurs_clear}
 use Rattle.walk.proofs.occurs.Goals as goal
 
-pub returns-then-root-x : goal.returns-then-root-x
-returns-then-root-x c = occurs_is c.requires c.idx-root.ensures c.if-root-x.true
+pub returns-then-eq : goal.returns-then-eq
+returns-then-eq c = occurs_is c.requires c.idx-root.ensures c.if-eq.ensures
 
 pub returns-in_default : goal.returns-in_default
 returns-in_default c =
-    occurs_none c.requires c.idx-root.ensures c.if-root-x.false c.held_at.ensures c.in_default.is refl
+    occurs_none c.requires c.idx-root.ensures c.if-eq.ensures c.held_at.ensures c.in-Some.is (kid_none c.args.ks.now _ 0 (omega (arith, c.if-kind-gt0.false)))
 
-pub returns-then-kind-eq0 : goal.returns-then-kind-eq0
-returns-then-kind-eq0 c =
-    occurs_none c.requires c.idx-root.ensures c.if-root-x.false c.held_at.ensures c.in-Some.is (kid_none c.args.ks.now _ 0 (omega (arith, c.if-kind-eq0.true)))
-
-pub look-requires : goal.look-requires
-look-requires c =
-    (c.requires.walks.stands, two_nodes c.requires c.idx-root.ensures c.if-root-x.false)
+pub returns-in_default-2 : goal.returns-in_default-2
+returns-in_default-2 c =
+    occurs_none c.requires c.idx-root.ensures c.if-eq.ensures c.held_at.ensures c.in_default.is refl
 
 pub returns-in-Met : goal.returns-in-Met
 returns-in-Met c =
-    occurs_met c.requires c.idx-root.ensures c.if-root-x.false c.held_at.ensures c.in-Some.is c.look.ensures c.in-Met.is
+    occurs_met c.requires c.idx-root.ensures c.if-eq.ensures c.held_at.ensures c.in-Some.is c.look.ensures c.in-Met.is
 
 pub returns-in-Clear : goal.returns-in-Clear
 returns-in-Clear c =
-    occurs_clear c.requires c.idx-root.ensures c.if-root-x.false c.held_at.ensures c.in-Some.is c.look.ensures c.in-Clear.is
+    occurs_clear c.requires c.idx-root.ensures c.if-eq.ensures c.held_at.ensures c.in-Some.is c.look.ensures c.in-Clear.is

@@ -1,11 +1,7 @@
 -- `bench::asks::faroalder_direct_get_mod` meets its contract: each case's number is the law's. Assumes nothing.
 use mathlib.Core.Path.{refl}
-use borrow.Author.Rules.{rules}
 use Rattle.bench.proofs.Laws.{mod_number}
 use Rattle.bench.proofs.asks.faroalder_direct_get_mod.Goals as goal
-
-pub enum_told-1 : goal.enum_told-1
-enum_told-1 c = search rules
 
 pub returns-in-Def : goal.returns-in-Def
 returns-in-Def c = mod_number c.get_mod.ensures c.in-Def.is refl
