@@ -1,19 +1,20 @@
--- Laws of a text in a lent buffer. A printer's contract is `Appended`: pieces are put together by `append_then`, work may stop by `append_full` where the
+-- Laws of a text in a lent buffer. A printer's contract is `Puts`: pieces are put together by `puts_then`, work may stop by `puts_full` where the
 -- buffer is full, and `so_far_fits` and `so_far_full` say what the buffer holds when the text is whole. Assumes nothing.
-use mathlib.Core.Path.{◌≡◌, sym, ap, ◌∙◌}
+use mathlib.Core.Path.{◌≡◌, refl, sym, ap, ◌∙◌}
 use mathlib.Core.List.{List, [], ◌∷◌, ◌++◌, append_assoc, append-nil}
 use mathlib.Core.Bool.{Bool, true, false}
 use Prim.Native.Nat.{ℕ, zero, suc, ◌+◌, ◌-◌, ◌*◌, ◌^◌, ◌≤◌, ◌<◌, ◌/◌, ◌%◌}
 use native.Mathlib.Nat.{pow-succ'}
 use native.Mathlib.Numerals.{add-one}
 use native.Mathlib.Omega.{arith}
-use borrow.Author.Tests.{lt-ltb, le-ltb, ltb-true, ltb-false}
-use lib.Dec.{ltb}
+use borrow.Author.Tests.{lt-ltb, le-ltb, ltb-true, ltb-false, eqb-true}
+use lib.Dec.{eqb, ltb}
 use lib.ListN.{length, set, take, drop, length-append, length-take, length-drop, length-set, drop_of_length-le}
 use borrow.Rule.Slice.PartMut.{put_mid}
 use lib.Seq.{take_all, take-append-le, take-append-add, take_at, drop_at, drop-drop, drop-cons, drop-set-lt, paste, get_or-set_same}
 use Rattle.scope.specs.Show.{decimal_f, decimal}
-use Rattle.append.specs.Appended.{filled, SoFar, Appended}
+use Rattle.append.specs.Appended.{filled, SoFar, Appended, Puts}
+use Rattle.append.specs.declared.Out.{Out}
 
 pub filled_length : (buf bs : List ℕ) → length (filled buf bs) ≡ length buf
 unfolding filled
@@ -79,6 +80,20 @@ append_full buf at p full = record { keeps = keeps }
           holds = e.0 ∙ sym (take-append-le (length buf₀) bs p m) ∙ sym (filled_over buf₀ (bs ++ p) (omega arith));
           place = omega (arith, h.place, e.1, l);
         }
+
+-- the same through what is lent
+pub puts_then : {out out' out'' : Out} {p q : List ℕ} → Puts out out' p → Puts out' out'' q → Puts out out'' (p ++ q)
+puts_then a b = record { text = append_then a.text b.text; same = b.same ∙ a.same }
+
+pub puts_none : (out : Out) → Puts out out []
+puts_none out = record { text = append_none out.buf.now out.at; same = refl }
+
+pub puts_nothing : (out : Out) (p : List ℕ) → eqb (length p) 0 ≡ true → Puts out out p
+puts_nothing out [] h = puts_none out
+puts_nothing out (b ∷ p) h = absurd (omega (arith, eqb-true))
+
+pub puts_full : (out : Out) (p : List ℕ) → length out.buf.now < out.at → Puts out out p
+puts_full out p full = record { text = append_full out.buf.now out.at p full; same = refl }
 
 -- n bytes of a piece copied over the k bytes from `at` on, which are as many and then are last
 pub part_copied : (buf : List ℕ) (at : ℕ) (piece : List ℕ) (n k : ℕ) (last : List ℕ) → k ≡ n → last ≡ take n piece → put_mid at k buf last ≡ paste buf at piece n

@@ -1,6 +1,7 @@
 -- A text that is written from the front of a lent buffer, piece by piece. A text longer than the buffer is kept as far as there is room: "7 from a
 -- printer fills the buffer with the text's first bytes".
 use Rattle.std.specs.Prelude.{◌≡◌, List, ◌++◌, ℕ, ◌+◌, min, length, take, drop}
+use Rattle.append.specs.declared.Out.{Out}
 
 -- what a buffer holds once bytes are written at its front: as many as there is room for, the rest as found
 unfoldable pub filled : List ℕ → List ℕ → List ℕ
@@ -14,3 +15,8 @@ pub record SoFar (buf₀ buf : List ℕ) (at : ℕ) (bs : List ℕ) : Type 0 whe
 -- a piece is appended to whatever the text was; the buffer and the place become buf' and r
 pub record Appended (buf : List ℕ) (at : ℕ) (buf' : List ℕ) (r : ℕ) (piece : List ℕ) : Type 0 where
   pub keeps : (buf₀ bs : List ℕ) → SoFar buf₀ buf at bs → SoFar buf₀ buf' r (bs ++ piece)
+
+-- a piece is appended through what is lent, whose buffer stays the one that it was
+pub record Puts (out out' : Out) (piece : List ℕ) : Type 0 where
+  pub text : Appended out.buf.now out.at out'.buf.now out'.at piece
+  pub same : out'.buf.ghost_name ≡ out.buf.ghost_name

@@ -3,43 +3,48 @@
 // pieces may follow one another without a test between them.
 ghost use Rattle.std.specs.Prelude.{◌≡◌, [], ◌∷◌, ◌+◌, ◌<◌, ltb, length};
 ghost use Rattle.scope.specs.Show.{decimal};
-ghost use Rattle.append.specs.Appended.{Appended};
+ghost use Rattle.append.specs.Appended.{Appended, Puts};
+
+// A lent buffer and the place that a text in it has come to.
+#[derive(Drop)]
+pub struct Out<'a> {
+    pub buf: &'a mut [u8],
+    pub at: usize,
+}
 
 // The text did not fit.
-pub fn is_full(buf: &[u8], at: usize) -> bool
-    ensures { result ≡ ltb (length buf.now) at }
+pub fn is_full(out: &Out<'_>) -> bool
+    ensures { result ≡ ltb (length out.now.buf.now) out.now.at }
 {
-    buf.len() < at
+    out.buf.len() < out.at
 }
 
 // As many of the piece's bytes as there is room for. An empty piece, which many are, is told at once.
-pub fn put(buf: &mut [u8], at: usize, piece: &[u8]) -> usize
-    ensures { Appended buf.old at buf.new result piece.now }
+pub fn put(out: &mut Out<'_>, piece: &[u8])
+    ensures { Puts out.old out.new piece.now }
 {
-    if is_full(buf, at) {
-        return at;
+    if is_full(out) || piece.is_empty() {
+        return;
     }
-    if piece.is_empty() {
-        return at;
-    }
-    let room = buf.len() - at;
+    let room = out.buf.len() - out.at;
     if room < piece.len() {
-        buf[at..].copy_from_slice(&piece[..room]);
-        return buf.len() + 1;
+        out.buf[out.at..].copy_from_slice(&piece[..room]);
+        out.at = out.buf.len() + 1;
+        return;
     }
-    buf[at..at + piece.len()].copy_from_slice(piece);
-    at + piece.len()
+    out.buf[out.at..out.at + piece.len()].copy_from_slice(piece);
+    out.at += piece.len();
 }
 
-pub fn put_byte(buf: &mut [u8], at: usize, b: u8) -> usize
-    ensures { Appended buf.old at buf.new result (b ∷ []) }
+pub fn put_byte(out: &mut Out<'_>, b: u8)
+    ensures { Puts out.old out.new (b ∷ []) }
 {
-    put(buf, at, &[b])
+    put(out, &[b]);
 }
 
 // "Node numbers are decimal": the digits are found from the last to the first, ten at most.
-pub fn put_decimal(buf: &mut [u8], at: usize, n: u32) -> usize
-    ensures { Appended buf.old at buf.new result (decimal n) }
+pub fn put_decimal(out: &mut Out<'_>, n: u32)
+    ensures { Puts out.old out.new (decimal n) }
 {
     let mut digits = [0u8; 10];
     let mut i: usize = 9;
@@ -51,7 +56,16 @@ pub fn put_decimal(buf: &mut [u8], at: usize, n: u32) -> usize
         i -= 1;
     }
     digits[i] = digit(m);
-    put(buf, at, &digits[i..])
+    put(out, &digits[i..]);
+}
+
+// One piece at the front of a buffer: where it ends.
+pub fn written(buf: &mut [u8], piece: &[u8]) -> usize
+    ensures { Appended buf.old 0 buf.new result piece.now }
+{
+    let mut out = Out { buf, at: 0 };
+    put(&mut out, piece);
+    out.at
 }
 
 // The byte of a digit.

@@ -9,6 +9,7 @@ ghost use Rattle.roots.specs.Found.{Found, FoundMut};
 ghost use Rattle.walk.specs.Asks.{Stands, Inverses};
 ghost use Rattle.bench.specs.Numbers.{flag_of, NilNumber, ModNumber};
 
+use layout::Nodes;
 use types::Type;
 use walk::Mod;
 
@@ -51,7 +52,12 @@ pub extern "C" fn faroalder_direct_self_inverse(ws: &[u32], ks: &[u32], n: u32, 
     requires { Inverses ws.now ks.now n t }
     ensures { result ≡ flag_of (self_inverse_of (decode ws.now ks.now n) (ty_of t) false) }
 {
-    flag(walk::self_inverse(ws, ks, n, Type(t), false))
+    let nodes = Nodes {
+        words: ws,
+        kids: ks,
+        made: n,
+    };
+    flag(walk::self_inverse(&nodes, Type(t), false))
 }
 
 // A definition's number, and 0 for anything else.
@@ -66,7 +72,12 @@ pub extern "C" fn faroalder_direct_get_mod(
     requires { Stands ws.now ks.now n }
     ensures { ModNumber ws.now ks.now n chart.now t result }
 {
-    match walk::get_mod(ws, ks, n, chart, Type(t)) {
+    let nodes = Nodes {
+        words: ws,
+        kids: ks,
+        made: n,
+    };
+    match walk::get_mod(&nodes, chart, Type(t)) {
         Mod::Def(d) => d,
         Mod::Error => 0,
         Mod::Nothing => 0,
@@ -84,5 +95,10 @@ pub extern "C" fn faroalder_direct_find_related(
     requires { Stands ws.now ks.now n }
     ensures { marks.new ≡ find_related (decode ws.now ks.now n) (ty_of t) marks.old }
 {
-    related::find_related(ws, ks, n, marks, Type(t));
+    let nodes = Nodes {
+        words: ws,
+        kids: ks,
+        made: n,
+    };
+    related::find_related(&nodes, marks, Type(t));
 }

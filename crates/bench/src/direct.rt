@@ -24,7 +24,9 @@ ghost use Rattle.walk.specs.Asks.{Stands};
 ghost use Rattle.append.specs.Appended.{Appended};
 ghost use Rattle.bench.specs.Numbers.{type_word, RESULTS, result_in, bare};
 
-use chart::Env;
+use append::Out;
+use chart::{Env, NO_BESIDE};
+use layout::Nodes;
 use make::Head;
 use names::{NO_NAME, Texts};
 use types::Type;
@@ -197,8 +199,15 @@ pub extern "C" fn faroalder_direct_show<'a>(
 {
     let env = Env {
         chart,
-        beside: crate::bare(),
+        beside: NO_BESIDE,
         texts: Texts { rule, chart: text },
     };
-    show::show_all(&env, ws, ks, n, buf, 0, Type(t))
+    let nodes = Nodes {
+        words: ws,
+        kids: ks,
+        made: n,
+    };
+    let mut out = Out { buf, at: 0 };
+    show::show_all(&env, &nodes, &mut out, Type(t));
+    out.at
 }

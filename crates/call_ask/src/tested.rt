@@ -9,6 +9,7 @@ ghost use Rattle.promise.specs.Promise.{bool_reply, outcome_by, Tested};
 ghost use Rattle.call_ask.specs.Replies.{mod_reply, MarksPromised};
 
 use chart::Env;
+use layout::Nodes;
 use promise::inside;
 use refusals::Refusal;
 use types::Type;
@@ -42,7 +43,12 @@ pub fn self_inverse_param(
 {
     inside(h, t)?;
     let x = layout::read_header(h);
-    Ok(walk::self_inverse(ws, ks, x.nodes, t, param))
+    let nodes = Nodes {
+        words: ws,
+        kids: ks,
+        made: x.nodes,
+    };
+    Ok(walk::self_inverse(&nodes, t, param))
 }
 
 // "`self_inverse` holds where the root has a self-dual kind and it holds of every child; never where there is no kind."
@@ -70,7 +76,12 @@ pub fn get_mod(env: &Env<'_>, h: &[u32], ws: &[u32], ks: &[u32], t: Type) -> Res
 {
     inside(h, t)?;
     let x = layout::read_header(h);
-    Ok(walk::get_mod(ws, ks, x.nodes, env.chart, t))
+    let nodes = Nodes {
+        words: ws,
+        kids: ks,
+        made: x.nodes,
+    };
+    Ok(walk::get_mod(&nodes, env.chart, t))
 }
 
 // "`find_related` (lent marks, a byte for each node: nonzero means already in the set, and 1 is written for each root added; too few marks: 7)"
@@ -93,6 +104,11 @@ pub fn find_related(
     if marks.len() < x.nodes as usize {
         return Err(Refusal::Short);
     }
-    related::find_related(ws, ks, x.nodes, marks, t);
+    let nodes = Nodes {
+        words: ws,
+        kids: ks,
+        made: x.nodes,
+    };
+    related::find_related(&nodes, marks, t);
     Ok(())
 }

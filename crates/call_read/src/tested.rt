@@ -24,7 +24,7 @@ fn child_of_kind(ks: &[u32], kind: Kind, j: u32) -> Option<Type>
     ensures { get_elem? (kind_means ks.now kind).kids j ≡ child_means result }
 {
     if j < kind.count {
-        Some(layout::child_of(ks, kind, j).ty)
+        Some(layout::child_of(ks, kind.first, j).ty)
     } else {
         None
     }
@@ -44,7 +44,7 @@ fn child_named(ks: &[u32], kind: Kind, n: u32, j: u32) -> Option<Name>
     if n <= j {
         return None;
     }
-    told_name(layout::child_of(ks, kind, j).name)
+    told_name(layout::child_of(ks, kind.first, j).name)
 }
 
 // Name j of a kind: its own is name 0; a child's has the child's number, and a Closure's return has none.

@@ -46,8 +46,7 @@ pub fn show_impl_type(
     buf: &mut [u8],
 ) -> Result<usize, Refusal>
     ensures { PrintPromised
-        (show_impl_type_call (env_lent env.now) (lent_of h.now ws.now ks.now)
-        (impl_means a xs.now) buf.old)
+        (show_impl_type_call (env_lent env.now) (lent_of h.now ws.now ks.now) (impl_means a xs.now) buf.old)
         (count_reply result) (store_in h.now ws.now ks.now) buf.new }
 {
     sound::lent(env, h, ws, ks)?;
@@ -86,8 +85,7 @@ pub fn show_part<'b>(
     buf: &'b mut [u8],
 ) -> (&'b mut [u8], Option<Refusal>)
     ensures { PartPromised
-        (show_call (env_lent env.now) (lent_of h.now ws.now ks.now)
-        (ty_of t.0) buf.old)
+        (show_call (env_lent env.now) (lent_of h.now ws.now ks.now) (ty_of t.0) buf.old)
         result.1 result.0.now (store_in h.now ws.now ks.now)
         × (result.0.ref_ptr ≡ buf.entry.ref_ptr) }
 {
@@ -107,8 +105,7 @@ pub fn show_impl_type_part<'b>(
     buf: &'b mut [u8],
 ) -> (&'b mut [u8], Option<Refusal>)
     ensures { PartPromised
-        (show_impl_type_call (env_lent env.now) (lent_of h.now ws.now ks.now)
-        (impl_means a xs.now) buf.old)
+        (show_impl_type_call (env_lent env.now) (lent_of h.now ws.now ks.now) (impl_means a xs.now) buf.old)
         result.1 result.0.now (store_in h.now ws.now ks.now)
         × (result.0.ref_ptr ≡ buf.entry.ref_ptr) }
 {

@@ -10,19 +10,21 @@ ghost use Rattle.promise.specs.Promise.{Tested};
 ghost use Rattle.promise.specs.Prints.{PrintPromised, count_reply};
 ghost use Rattle.call_show.specs.Ends.{end_reply};
 
+use append::Out;
 use chart::Env;
+use layout::Nodes;
 use promise::inside;
 use refusals::Refusal;
 use types::{Impl, Type};
 
 // A text that ends at its length, or past the buffer.
-fn printed(buf: &[u8], end: usize) -> Result<usize, Refusal>
-    ensures { count_reply result ≡ end_reply (length buf.now) end }
+fn printed(out: &Out<'_>) -> Result<usize, Refusal>
+    ensures { count_reply result ≡ end_reply (length out.now.buf.now) out.now.at }
 {
-    if append::is_full(buf, end) {
+    if append::is_full(out) {
         return Err(Refusal::Short);
     }
-    Ok(end)
+    Ok(out.at)
 }
 
 // A type's text.
@@ -36,15 +38,18 @@ pub fn show(
 ) -> Result<usize, Refusal>
     requires { Tested (env_lent env.now) h.now ws.now ks.now }
     ensures { PrintPromised
-        (show_call (env_lent env.now) (lent_of h.now ws.now ks.now)
-        (ty_of t.0) buf.old)
+        (show_call (env_lent env.now) (lent_of h.now ws.now ks.now) (ty_of t.0) buf.old)
         (count_reply result) (store_in h.now ws.now ks.now) buf.new }
 {
     inside(h, t)?;
-    let x = layout::read_header(h);
-    let n = x.nodes;
-    let end = show::show_all(env, ws, ks, n, buf, 0, t);
-    printed(buf, end)
+    let nodes = Nodes {
+        words: ws,
+        kids: ks,
+        made: layout::read_header(h).nodes,
+    };
+    let mut out = Out { buf, at: 0 };
+    show::show_all(env, &nodes, &mut out, t);
+    printed(&out)
 }
 
 // An impl type's text, its types lent beside it.
@@ -59,13 +64,16 @@ pub fn show_impl_type(
 ) -> Result<usize, Refusal>
     requires { Tested (env_lent env.now) h.now ws.now ks.now }
     ensures { PrintPromised
-        (show_impl_type_call (env_lent env.now) (lent_of h.now ws.now ks.now)
-        (impl_means a xs.now) buf.old)
+        (show_impl_type_call (env_lent env.now) (lent_of h.now ws.now ks.now) (impl_means a xs.now) buf.old)
         (count_reply result) (store_in h.now ws.now ks.now) buf.new }
 {
-    let x = layout::read_header(h);
-    let n = x.nodes;
-    lent_tests::one_impl(a, xs, n, env)?;
-    let end = show_impl::show_impl_type(env, ws, ks, n, buf, 0, a, xs);
-    printed(buf, end)
+    let nodes = Nodes {
+        words: ws,
+        kids: ks,
+        made: layout::read_header(h).nodes,
+    };
+    lent_tests::one_impl(a, xs, nodes.made, env)?;
+    let mut out = Out { buf, at: 0 };
+    show_impl::show_impl_type(env, &nodes, &mut out, a, xs);
+    printed(&out)
 }

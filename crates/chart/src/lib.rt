@@ -36,6 +36,11 @@ pub struct Beside {
     pub sigils: [u32; 12],
 }
 
+pub const NO_BESIDE: Beside = Beside {
+    fn_trait: NONE,
+    sigils: [0; 12],
+};
+
 // What every call reads: the chart's words, what stands beside them, and the two texts.
 #[derive(Clone, Copy)]
 pub struct Env<'a> {

@@ -18,11 +18,15 @@ use Rattle.scope.specs.Types.{ty_of}
 use Rattle.scope.specs.Nodes as nodes
 use Rattle.scope.specs.Kinds.{row_of, OWN_NAME, CHILD_NAMES, PARAMETER_NAMES}
 use Rattle.scope.specs.Sound.{Slot, zeros, name_clean, slot_clean, slot_bare, front, last, names_clean, kind_bare, node_in}
-use Rattle.layout.specs.Words.{HEAD_WORDS, NODE_WORDS, KNOWN_TAG, node_words, child_words, between, slot_at, slots, long_enough, node_clean}
-use Rattle.layout.specs.Meaning.{header_in, cell_in, cell_words, cell_kind, cell_means, kind_cell, named_of}
+use Rattle.layout.specs.Words.{NODE_WORDS, KNOWN_TAG, between, slot_at, slots, node_clean}
+use Rattle.layout.specs.Meaning.{cell_in, cell_words, cell_kind, cell_means, kind_cell, named_of}
+use denote.Enum.Bare.{sameb}
+use Rattle.kinds.specs.contracts.Names.{the_type}
+use Rattle.kinds.specs.declared.Names.{Names}
+use Rattle.kinds.specs.declared.Names.TheVariants.{No, Own, OfChildren, OfParameters}
+use Rattle.kinds.specs.Rows.{names_number}
 use Rattle.names.specs.declared.Name.{Name}
 use Rattle.layout.specs.declared.Cell.{Cell}
-use Rattle.layout.specs.declared.Header.{Header}
 use Rattle.layout.specs.declared.Kind.{Kind}
 use Rattle.layout.proofs.Lists.{length_from, all_map}
 use Rattle.layout.proofs.Cells.{cell_first, cell_clean, clean_words}
@@ -35,22 +39,10 @@ module _ (p : ℕ → Bool) (a e : ℕ) where
   pub run_next : a < e → all p (from a (e - a)) ≡ (p a && all p (from (a + 1) (e - (a + 1))))
   run_next h = let z : e - a ≡ suc (e - (a + 1)) = omega arith in rw (z, add-one)
 
-  pub run_step : a < e → p a ≡ true → all p (from a (e - a)) ≡ all p (from (a + 1) (e - (a + 1)))
-  run_step h q = rw (run_next h, q)
-
-  pub run_stop : a < e → p a ≡ false → all p (from a (e - a)) ≡ false
-  run_stop h q = rw (run_next h, q)
-
   pub run_end : e ≤ a → all p (from a (e - a)) ≡ true
   run_end h = let z : e - a ≡ 0 = omega arith in rw z
 
   -- the same beside a flag that says of what was tested before
-  pub flag_step : (ok : Bool) → a < e → p a ≡ true → (ok && all p (from a (e - a))) ≡ (ok && all p (from (a + 1) (e - (a + 1))))
-  flag_step ok h q = rw (run_step h q)
-
-  pub flag_stop : (ok : Bool) → a < e → p a ≡ false → (ok && all p (from a (e - a))) ≡ false
-  flag_stop ok h q = rw (run_stop h q, and-false)
-
   pub flag_end : (ok : Bool) → e ≤ a → (ok && all p (from a (e - a))) ≡ ok
   flag_end ok h = rw (run_end h, and-true)
 
@@ -78,27 +70,6 @@ child_clean may ks i = slot_clean_if may (slot_at ks i)
 
 pub slots_run : (may : Bool) (ks : List ℕ) (a e : ℕ) → slots_clean_if may ks a e ≡ all (child_clean may ks) (from a (e - a))
 slots_run may ks a e = all_map (slot_clean_if may) (slot_at ks) (from a (e - a))
-
--- which children may have a name
-
-pick_most : (b c : Bool) (n : ℕ) → pick b n (pick c (n - 1) 0) ≤ n
-pick_most true c n = omega arith
-pick_most false true n = omega arith
-pick_most false false n = omega arith
-
-pub named_most : (d n : ℕ) → named_of d n ≤ n
-named_most d n = pick_most (eqb d 2) (eqb d 3) n
-
--- the header's part
-
-module _ (h ws ks : List ℕ) (x : Header) (e : x ≡ header_in h) where
-  pub long_by : long_enough h ws ks
-      ≡ (leb HEAD_WORDS (length h)
-      && (leb x.nodes x.node_room
-      && (leb x.children x.child_room
-      && (leb (node_words x.node_room) (length ws) && leb (child_words x.child_room) (length ks)))))
-  unfolding long_enough
-  long_by = rw e
 
 -- a kind's names: its own, those of the children that may have one, and the others
 
@@ -146,6 +117,17 @@ module _ (ks : List ℕ) where
       (names_by d k.name (slots ks k.first k.count) (eqb d OWN_NAME) refl
       ∙ ap (λ (b : Bool). name_clean_if (eqb d OWN_NAME) k.name && b)
       (kids_clean_lem (eqb d CHILD_NAMES) (eqb d PARAMETER_NAMES) k.first k.count))
+
+  own : (r : Names) → sameb the_type r Own ≡ eqb (names_number r) OWN_NAME
+  own No = refl
+  own Own = refl
+  own OfChildren = refl
+  own OfParameters = refl
+
+  -- the same as the code has it: r is what the row that was read says, and b whether it is the kind's own name
+  pub names_said : (k : Kind) (r : Names) {m : ℕ} {b : Bool} → names_number r ≡ (row_of k.code).names → m ≡ named_of (names_number r) k.count
+      → b ≡ sameb the_type r Own → names_clean (kind_cell ks k) ≡ (name_clean_if b k.name && kids_run k.first k.count m)
+  names_said k r {m} e f g = rw (names_run k (names_number r) m e f, g, own r)
 
 -- a cell by its tag
 

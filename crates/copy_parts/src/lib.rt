@@ -108,7 +108,7 @@ pub fn move_child(source: &Source<'_>, from: u32, ks: &mut [u32], first: u32, j:
     requires { (first + j) * CHILD_WORDS + CHILD_WORDS ≤ length ks.old }
     ensures { ChildMoved source.now.children.now from ks.old first j t.0 ks.new }
 {
-    let name = needs::child(source.children, from, j).name;
+    let name = layout::child_of(source.children, from, j).name;
     layout::put_child(ks, first as usize + j as usize, Slot { ty: t, name });
 }
 

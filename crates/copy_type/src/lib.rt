@@ -42,7 +42,7 @@ pub fn copy(
             let from = layout::read_header(h).children;
             let new = copy_parts::begin(table, h, ws, ks, at, span, count);
             for j in 0..count {
-                let kid = needs::child(source.children, first, j).ty;
+                let kid = layout::child_of(source.children, first, j).ty;
                 let next = copy(source, cache, table, h, ws, ks, kid, depth - 1);
                 copy_parts::move_child(source, first, ks, from, j, next);
             }

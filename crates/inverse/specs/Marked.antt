@@ -7,6 +7,7 @@ use Rattle.scope.proofs.MarkLaws.{GoodBelow, Told}
 use Rattle.layout.specs.Words.{decode}
 use Rattle.layout.specs.Meaning.{read_at, held_in}
 use Rattle.layout.specs.Meaning.{Held}
+use Rattle.layout.specs.declared.Nodes.{Nodes}
 use Rattle.std.specs.declared.option.Option.TheVariants as held
 use Rattle.related.specs.Stands.{Stands}
 use Rattle.inverse.specs.Judged.{good_kind}
@@ -27,7 +28,15 @@ pub record Beside (ws ks : List ℕ) (n : ℕ) (ms : List ℕ) (t : ℕ) (param 
   pub told : Told param (decode ws ks n) ms
   pub inside : (ty_of t).idx < n
 
+-- the same of the nodes that are lent
+abbrev pub BesideIn : Nodes → List ℕ → ℕ → Bool → Type 0
+BesideIn s ms t param = Beside s.words.now s.kids.now s.made ms t param
+
 -- the answer; where it is true every marked node is now known
 pub record MarkedAll (ws ks : List ℕ) (n : ℕ) (ms' : List ℕ) (t : ℕ) (param : Bool) (r : Bool) : Type 0 where
   pub same : r ≡ self_inverse_of (decode ws ks n) (ty_of t) param
   pub good : r ≡ true → (i : ℕ) → (get_or ms' i 0 ≡ 0 → ⊥) → GoodBelow param (decode ws ks n) i
+
+-- the same of the nodes that are lent
+abbrev pub MarkedAllIn : Nodes → List ℕ → ℕ → Bool → Bool → Type 0
+MarkedAllIn s ms' t param r = MarkedAll s.words.now s.kids.now s.made ms' t param r

@@ -1,16 +1,17 @@
 #![tactic(auto)]
-// Whether a type is its own inverse: scope's `self_inverse_of` of the n nodes in ws, whose children lie in ks. Its root and a walk of some visits tell it, or nothing; a walk
+// Whether a type is its own inverse: scope's `self_inverse_of` of the nodes that are lent. Its root and a walk of some visits tell it, or nothing; a walk
 // with marks tells it always.
 ghost use Rattle.std.specs.Prelude.{◌≡◌, ◌≤◌, ◌<◌, eqb, length, get_or};
 ghost use Rattle.scope.specs.Base.{all, from};
 ghost use Rattle.scope.specs.Types.{ty_of};
-ghost use Rattle.layout.specs.Words.{node_words, decode};
+ghost use Rattle.layout.specs.Words.{node_words};
+ghost use Rattle.layout.specs.Lent.{nodes_by};
 ghost use Rattle.layout.specs.Meaning.{read_at, held_in};
-ghost use Rattle.related.specs.Stands.{Stands};
+ghost use Rattle.related.specs.Stands.{StandsIn};
 ghost use Rattle.inverse.specs.Judged.{kids_in, whole, good_kind, Judges, Tries, Glanced};
-ghost use Rattle.inverse.specs.Marked.{good_by, good_at, Beside, MarkedAll};
+ghost use Rattle.inverse.specs.Marked.{good_by, good_at, BesideIn, MarkedAllIn};
 
-use layout::Kind;
+use layout::{Kind, Nodes};
 use types::{Type, TypeIdx};
 
 // What a look at children tells of what is asked, whether a node is below or whether one is not good: there is one, or there is none, or only a walk with marks can tell.
@@ -85,17 +86,9 @@ fn whole(first: u32, count: u32) -> Rest
 
 // A walk of so many visits at most over a run of children, depth first and without marks, which ends at the first root that is not good. What is left of the runs
 // above stands in a list, so that it calls nothing that calls itself.
-fn inverse_run(
-    ws: &[u32],
-    ks: &[u32],
-    n: u32,
-    first: u32,
-    count: u32,
-    param: bool,
-    most: u32,
-) -> Glance
-    requires { Stands ws.now ks.now n }
-    ensures { Tries (decode ws.now ks.now n) param (kids_in ks.now first count) most result }
+fn inverse_run(nodes: &Nodes<'_>, first: u32, count: u32, param: bool, most: u32) -> Glance
+    requires { StandsIn nodes.now }
+    ensures { Tries (nodes_by nodes.now) param (kids_in nodes.now.kids.now first count) most result }
 {
     let mut above = [whole(0, 0); LEVELS];
     let mut level = 0;
@@ -107,11 +100,11 @@ fn inverse_run(
             return Glance::Deep;
         }
         if run.next < run.end {
-            let kid = layout::child_at(ks, run.next).ty;
-            let root = roots::find(ws, n, kid).idx();
+            let kid = layout::child_at(nodes.kids, run.next).ty;
+            let root = roots::find(nodes.words, nodes.made, kid).idx();
             run.next += 1;
             left -= 1;
-            match judge(ws, n, root, param) {
+            match judge(nodes.words, nodes.made, root, param) {
                 Judgement::Bad => return Glance::Met,
                 Judgement::Good => {}
                 Judgement::Run { first, count } => {
@@ -140,16 +133,16 @@ fn visits(n: u32) -> u32
 }
 
 // What the root tells, or some visits.
-pub fn quickly(ws: &[u32], ks: &[u32], n: u32, t: Type, param: bool) -> Glance
-    requires { Stands ws.now ks.now n × ((ty_of t.0).idx < n) }
-    ensures { Glanced (decode ws.now ks.now n) param t.0 result }
+pub fn quickly(nodes: &Nodes<'_>, t: Type, param: bool) -> Glance
+    requires { StandsIn nodes.now × ((ty_of t.0).idx < nodes.now.made) }
+    ensures { Glanced (nodes_by nodes.now) param t.0 result }
 {
-    let root = roots::find(ws, n, t).idx();
-    match judge(ws, n, root, param) {
+    let root = roots::find(nodes.words, nodes.made, t).idx();
+    match judge(nodes.words, nodes.made, root, param) {
         Judgement::Bad => Glance::Met,
         Judgement::Good => Glance::Clear,
         Judgement::Run { first, count } => {
-            inverse_run(ws, ks, n, first, count, param, visits(n))
+            inverse_run(nodes, first, count, param, visits(nodes.made))
         }
     }
 }
@@ -179,10 +172,10 @@ fn all_good(ws: &[u32], n: u32, marks: &[u8], param: bool) -> bool
 
 // A walk that marks each root it meets, and goes not below a node that is marked: such a one is known to be good, and so is all below it. Where the answer is true, that is
 // now known of every marked node.
-pub fn by_marks(ws: &[u32], ks: &[u32], n: u32, marks: &mut [u8], t: Type, param: bool) -> bool
-    requires { Beside ws.now ks.now n marks.old t.0 param }
-    ensures { MarkedAll ws.now ks.now n marks.new t.0 param result }
+pub fn by_marks(nodes: &Nodes<'_>, marks: &mut [u8], t: Type, param: bool) -> bool
+    requires { BesideIn nodes.now marks.old t.0 param }
+    ensures { MarkedAllIn nodes.now marks.new t.0 param result }
 {
-    related::find_related(ws, ks, n, marks, t);
-    all_good(ws, n, marks, param)
+    related::find_related(nodes, marks, t);
+    all_good(nodes.words, nodes.made, marks, param)
 }

@@ -34,7 +34,7 @@ fn child_names_fit(k: Kind, ks: &[u32], texts: &Texts<'_>) -> bool
 {
     let mut last = NO_NAME;
     for j in 0..k.count {
-        let next = layout::child_of(ks, k, j).name;
+        let next = layout::child_of(ks, k.first, j).name;
         if !names::name_ok(next, texts) || !names::name_before(last, next, texts) {
             return false;
         }
@@ -47,7 +47,7 @@ fn child_names_fit(k: Kind, ks: &[u32], texts: &Texts<'_>) -> bool
 fn parameter_names_fit(k: Kind, n: u32, ks: &[u32], texts: &Texts<'_>) -> bool
     ensures { result ≡ all (named_or_none (texts_by texts.now)) (map slot_name (slots ks.now k.first n)) }
 {
-    (0..n).all(|j| name_or_none(layout::child_of(ks, k, j).name, texts))
+    (0..n).all(|j| name_or_none(layout::child_of(ks, k.first, j).name, texts))
 }
 
 // The names that the kind's row asks for. Each child is read, so a caller tests the width first, as can_be_made does; kids_inside likewise.
@@ -103,7 +103,7 @@ pub fn has_chart_flag(k: Kind, chart: &[u32]) -> bool
 pub fn kids_inside(k: Kind, ks: &[u32], n: u32) -> bool
     ensures { (ns : List Node) → length ns ≡ n → result ≡ all (in_store ns) (kind_means ks.now k).kids }
 {
-    (0..k.count).all(|j| refusals::type_inside(layout::child_of(ks, k, j).ty, n))
+    (0..k.count).all(|j| refusals::type_inside(layout::child_of(ks, k.first, j).ty, n))
 }
 
 pub fn remembered_inside(t: Option<Type>, n: u32) -> bool

@@ -4,7 +4,7 @@ use mathlib.Core.Path.{◌≡◌, refl}
 use Prim.Native.Nat.{ℕ, ◌≤◌}
 use lib.ListN.{get_or-eq_default}
 use Rattle.scope.specs.Chart.{Env, sort_at}
-use Rattle.scope.specs.Kinds.{Head, rows, no_row, row_of, self_dual, dual_by, defined}
+use Rattle.scope.specs.Kinds.{Head, rows, no_row, row_of, defined}
 use Rattle.kinds.specs.Rows.{sort_fits}
 
 -- past the table there is none
@@ -13,9 +13,6 @@ unfolding row_of rows
 row_past i h = get_or-eq_default rows no_row h
 
 -- a kind's head, read by its row
-pub dual_row : (h : Head) → self_dual h ≡ dual_by (row_of h.code).dual h.dual
-unfolding self_dual
-dual_row h = refl
 
 pub defined_row : (e : Env) (h : Head) → defined e h ≡ sort_fits (row_of h.code) (sort_at e h.number)
 unfolding defined

@@ -3,28 +3,28 @@
 -- Assumes nothing.
 use mathlib.Core.Path.{◌≡◌, refl, ap, sym, ◌∙◌, subst⁻¹}
 use mathlib.Core.Bool.{Bool, true, false, ◌&&◌}
-use mathlib.Core.Option.{Option, none, some}
-use mathlib.Core.List.{List, [], map, map-map}
+use mathlib.Core.Option.{none, some}
+use mathlib.Core.List.{List, []}
 use Prim.Native.Nat.{ℕ, ◌+◌, ◌*◌, ◌<◌, ◌≤◌}
 use native.Mathlib.Omega.{arith}
 use lib.Dec.{eqb, ltb, leb}
-use lib.ListN.{length, get_or, drop, set, length-drop, get_or-map}
+use lib.ListN.{length, get_or, drop, set, length-drop}
 use lib.Seq.{length-take-le}
 use borrow.Author.Tests.{eqb-true, eqb-false, ltb-true, ltb-false, lt-ltb, le-leb}
-use Rattle.scope.specs.Base.{pick, from, is_some, or_else}
-use Rattle.scope.specs.Types.{Ty, ty_of}
+use Rattle.scope.specs.Base.{pick, is_some, or_else}
+use Rattle.scope.specs.Types.{ty_of}
 use Rattle.scope.specs.Nodes as nodes
 use Rattle.scope.specs.Sound.{node_in, kind_bare, names_clean, kind_in}
 use Rattle.types.specs.declared.«Type».{«Type»}
 use borrow.Rule.Slice.PartMut.{set_mid_at}
-use Rattle.layout.specs.Words.{NODE_WORDS, node_words, node_field, slot_at, first_at, count_at, cell_at, node_at, node_clean, decode}
-use Rattle.layout.specs.Meaning.{CHILD_TAG, cell_in, words_of, cell_of, paste_at, node_of, cell_words, cell_means, read_at, put_at, node_means, parent_of, Clean, Linked}
+use Rattle.layout.specs.Words.{NODE_WORDS, node_words, node_field, slot_at, first_at, count_at, cell_at, node_clean, decode}
+use Rattle.layout.specs.Meaning.{CHILD_TAG, cell_in, words_of, cell_of, paste_at, node_of, cell_words, cell_means, read_at, put_at, node_means, Clean, Linked}
 use Rattle.layout.specs.declared.Cell.{Cell}
 use Rattle.layout.specs.declared.TypeState.{TypeState}
 use Rattle.layout.specs.declared.TypeState.TheVariants.{Known, Unknown, InferenceFailed}
 use Rattle.layout.specs.declared.TypeNode.{TypeNode}
 use Rattle.layout.specs.declared.TypeNode.TheVariants.{Root, Child}
-use Rattle.layout.proofs.Lists.{and_both, and_right, length_from, same_from}
+use Rattle.layout.proofs.Lists.{and_both, and_right, length_from}
 use Rattle.layout.proofs.Cells.{retag, cell_node, cell_first, Says, field_word, words_back, node_words_lem, cell_words_lem, says}
 use Rattle.layout.proofs.Laws.{past, decode_get, decode_past, words_here, words_there, length_put}
 
@@ -182,31 +182,3 @@ module _ (ws : List ℕ) (n : ℕ) (l : Linked ws n) (i : ℕ) (v : TypeNode) wh
 
   pub linked_put : Linked (put_at ws n i v) n
   linked_put = record { room = rw (length_put ws n l.room i v) l.room; bare = λ j. bare_by (eqb j i) j refl }
-
--- the parents' part of a store does not depend on the children's words
-
-parent_root : (v : nodes.Node) → nodes.is_root v ≡ true → parent_of v ≡ none
-parent_root (nodes.Root st z) e = refl
-parent_root (nodes.Child t) e = cc
-
-parent_by : (b : Bool) (ks ks' : List ℕ) (x : Cell) → eqb x.tag 0 ≡ b → parent_of (cell_node ks x) ≡ parent_of (cell_node ks' x)
-parent_by true ks ks' x q = ap (λ o. parent_of (or_else o past)) (bare_kids ks ks' x (eqb-true x.tag 0 q))
-parent_by false ks ks' x q =
-    parent_root (cell_node ks x) (root_cell ks x q) ∙ sym (parent_root (cell_node ks' x) (root_cell ks' x q))
-
-parent_at : (ws ks ks' : List ℕ) (i : ℕ) → parent_of (node_at ws ks i) ≡ parent_of (node_at ws ks' i)
-parent_at ws ks ks' i =
-    let x = cell_in (cell_words ws i) in
-    ap parent_of (node_words_lem ws ks i) ∙ (parent_by (eqb x.tag 0) ks ks' x refl ∙ ap parent_of (sym (node_words_lem ws ks' i)))
-
-pub decode_parents : (ws ks ks' : List ℕ) (n : ℕ) → map parent_of (decode ws ks n) ≡ map parent_of (decode ws ks' n)
-unfolding decode
-decode_parents ws ks ks' n =
-    map-map parent_of (node_at ws ks) (from 0 n)
-    ∙ (same_from (λ i. parent_of (node_at ws ks i)) (λ i. parent_of (node_at ws ks' i)) 0 n (λ i a b. parent_at ws ks ks' i)
-    ∙ sym (map-map parent_of (node_at ws ks') (from 0 n)))
-
-pub parent_same : (ws ks ks' : List ℕ) (n i : ℕ) → parent_of (nodes.at (decode ws ks n) i) ≡ parent_of (nodes.at (decode ws ks' n) i)
-parent_same ws ks ks' n i =
-    sym (get_or-map parent_of (decode ws ks n) i past)
-    ∙ (ap (λ (l : List (Option Ty)). get_or l i none) (decode_parents ws ks ks' n) ∙ get_or-map parent_of (decode ws ks' n) i past)

@@ -60,6 +60,14 @@ pub enum TypeNode {
     Child(Type),
 }
 
+// The nodes' words, their children's, and how many nodes there are.
+#[derive(Clone, Copy)]
+pub struct Nodes<'a> {
+    pub words: &'a [u32],
+    pub kids: &'a [u32],
+    pub made: u32,
+}
+
 // A node's twelve words.
 #[derive(Clone, Copy)]
 pub struct Cell {
@@ -283,11 +291,11 @@ pub fn child_at(ks: &[u32], i: usize) -> Slot
     }
 }
 
-// Child j of a kind.
-pub fn child_of(ks: &[u32], k: Kind, j: u32) -> Slot
-    ensures { slot_means result ≡ slot_at ks.now (k.first + j) }
+// Child j of those that lie from `first` on.
+pub fn child_of(ks: &[u32], first: u32, j: u32) -> Slot
+    ensures { slot_means result ≡ slot_at ks.now (first + j) }
 {
-    child_at(ks, k.first as usize + j as usize)
+    child_at(ks, first as usize + j as usize)
 }
 
 pub fn put_child(ks: &mut [u32], i: usize, c: Slot)

@@ -10,7 +10,6 @@ use lib.Seq.{length-take-le}
 use borrow.Author.Count.{below_more}
 use borrow.Author.Tests.{eq-eqb}
 use Rattle.scope.specs.Base.{all, from}
-use Rattle.scope.specs.Limits.{MAX_WIDTH}
 use Rattle.scope.specs.Types.{ty_of}
 use Rattle.scope.specs.Kinds.{NO_NAMES, STRUCT, UNION, rows, row_of}
 use Rattle.scope.specs.Sound.{slot_bare}
@@ -56,9 +55,6 @@ module _ (ts es : List ℕ) (o : TypesPut ts (length ts) es) (room : child_words
 
   part_count : entry_count part ≡ length ts
   part_count = omega (arith, part_long)
-
-  pub part_narrow : length ts ≤ MAX_WIDTH → entry_count part ≤ MAX_WIDTH
-  part_narrow l = omega (arith, part_count)
 
   part_slots : slots part 0 (entry_count part) ≡ map bare_slot ts
   part_slots =

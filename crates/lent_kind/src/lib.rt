@@ -20,6 +20,7 @@ use scope::MAX_WIDTH;
 use types::Type;
 
 // What a kind is made of, its children and their names apart. Its flag is the chart's.
+// Kept (2): no twin of `make::Head`, which has the flag: who lends a kind doesn't say it.
 #[derive(Clone, Copy)]
 pub struct KindArgs {
     pub code: u32,

@@ -9,6 +9,7 @@ ghost use Rattle.c_words.specs.Given.{impl_in, lent_env};
 use types::Type;
 
 // A type's text.
+#[tactic(auto, using(crate::proofs::Laws::show_low))]
 #[unsafe(no_mangle)]
 pub extern "C" fn faroalder_show<'a>(
     chart: &[u32],
@@ -33,6 +34,7 @@ pub extern "C" fn faroalder_show<'a>(
 }
 
 // An impl type's text, its types lent beside it.
+#[tactic(auto, using(crate::proofs::Laws::impl_low))]
 #[unsafe(no_mangle)]
 pub extern "C" fn faroalder_show_impl_type<'a>(
     chart: &[u32],

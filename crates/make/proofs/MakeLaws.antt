@@ -7,7 +7,6 @@ use mathlib.Core.Option.{Option, some}
 use mathlib.Core.List.{List}
 use Prim.Native.Nat.{ℕ, ◌+◌, ◌≤◌, ◌<◌}
 use native.Mathlib.Omega.{arith}
-use native.Mathlib.Nat.{add-zero}
 use lib.ListN.{length, get_or, drop}
 use borrow.Author.Tests.{ne_eqb}
 use Rattle.scope.specs.Limits.{MAX_NODES, MAX_CHILDREN, NONE}
@@ -23,7 +22,6 @@ use Rattle.layout.specs.Words.{HEAD_WORDS, child_words, nodes_made, children_mad
 use Rattle.layout.specs.Meaning.{HALF, type_of, header_in, put_header, put_at, state_means, state_fits, remembered_means, remembered_fits, Kept, Lies}
 use Rattle.heads.specs.Heads.{put_counts}
 use Rattle.layout.specs.declared.Header.{Header}
-use Rattle.layout.specs.declared.Kind.{Kind}
 use Rattle.layout.specs.Meaning.{Remembered}
 use Rattle.std.specs.Prelude.{Some, None}
 use Rattle.layout.specs.declared.TypeState.{TypeState}
@@ -67,18 +65,6 @@ blank_ready {h} {ws} {ks} {c} r =
     let o : RoomIn h 1 c = ready_room r in
     record { pushable = pushable_in r; slot = next_unused h ws ks r.clean o.nodes }
 
--- one node more, m children, and the remembered types e and z
-abbrev counted_by : Header → ℕ → Remembered → Remembered → Header
-counted_by x m e z = record {
-  nodes = x.nodes + 1;
-  children = m;
-  node_room = x.node_room;
-  child_room = x.child_room;
-  error = e;
-  nil = z;
-  reports = x.reports;
-}
-
 -- a push that writes the counts alone
 pub counted_push : {h ws h' ws' : List ℕ} {n k c : ℕ} {st : TypeState} {t : «Type»} → HEAD_WORDS ≤ length h → get_or h 6 0 < HALF → n ≡ nodes_made h → k ≡ children_made h
     → t.0 ≡ n → ws' ≡ put_at ws (n + 1) n (Root st 1) → h' ≡ put_counts h (n + 1) (k + c)
@@ -87,16 +73,6 @@ counted_push {h} {n = n} {k = k} {c = c} l s p q e w g = record {
   type = e ∙ p;
   nodes = rw p at w;
   head = rw (p, q) at (g ∙ put_counts_lem h (n + 1) (k + c) l s);
-}
-
--- a push of a kind without children, by a whole header
-pub bare_push : {h ws h' ws' : List ℕ} {x : Header} {e z : Remembered} {k : Kind} {c : ℕ} {t : «Type»} → t.0 ≡ x.nodes → k ≡ bare_kind c
-    → ws' ≡ put_at ws (x.nodes + 1) x.nodes (Root (Known (record { 0 = false }) k) 1) → h' ≡ put_header h (counted_by x x.children e z)
-    → Pushed h ws h' ws' x 0 e z (Known (record { 0 = false }) (bare_kind c)) t
-bare_push {h} {x = x} {e = e} {z = z} p b w g = record {
-  type = p;
-  nodes = rw b at w;
-  head = g ∙ ap (λ (m : ℕ). put_header h (counted_by x m e z)) (sym (add-zero x.children));
 }
 
 -- a push
@@ -203,18 +179,6 @@ module _ {h ws ks : List ℕ} {c : ℕ} (r : Ready h ws ks 1 c) where
   next_means =
       let o : RoomIn h 1 c = ready_room r in
       ap some (ty_plain (nodes_made h) (omega arith) ∙ ap (ty false) (sym (store_count h ws ks)))
-
--- `remembered_or_new`: its two ways out
-
-clash : {A : Type 0} {was : Remembered} {u : «Type»} → was ≡ Some u → was ≡ None → A
-clash p q = let v : ◌≡◌ {A = ℕ} 0 1 = cc in absurd (omega arith)
-
-pub once_same : {h ws : List ℕ} {x : Header} {was e z : Remembered} {c : ℕ} {t : «Type»} → was ≡ Some t → OnceMade h ws h ws x was e z c t
-once_same {t = t} q = record { same = λ u p. let v : t ≡ u = cc in (v, (refl, refl)); new = λ p. clash q p }
-
-pub once_new : {h ws h' ws' : List ℕ} {x : Header} {was e z : Remembered} {c : ℕ} {k : Kind} {t : «Type»} → was ≡ None → k ≡ bare_kind c
-    → Pushed h ws h' ws' x 0 e z (Known (record { 0 = false }) k) t → OnceMade h ws h' ws' x was e z c t
-once_new q b o = record { same = λ u p. clash p q; new = λ p. rw b at o }
 
 -- what it makes, where remembering e and z is what `remember` does
 

@@ -1,6 +1,6 @@
 -- The kind that `new_kind` pushes means the kind that it was given, and it fits: its children are the entries, at another place.
 -- Assumes nothing.
-use mathlib.Core.Path.{◌≡◌, refl, ap, sym, ◌∙◌}
+use mathlib.Core.Path.{◌≡◌, ap, sym, ◌∙◌}
 use mathlib.Core.Bool.{true, false}
 use mathlib.Core.List.{List}
 use Prim.Native.Nat.{ℕ, ◌+◌, ◌*◌, ◌<◌, ◌≤◌}
@@ -16,7 +16,7 @@ use Rattle.layout.specs.declared.Kind.{Kind}
 use Rattle.layout.specs.declared.Slot.{Slot}
 use Rattle.layout.specs.declared.TypeState.TheVariants.{Known}
 use Rattle.layout.proofs.Lists.{drop_later}
-use Rattle.layout.proofs.ChildLaws.{slot_here, slot_there, tail_put_child, kept_put, kept_refl, kept_trans, length_kids}
+use Rattle.layout.proofs.ChildLaws.{slot_here, slot_there, tail_put_child, kept_put, kept_trans, length_kids}
 use Rattle.layout.proofs.KindLaws.{kind_fits_lem, moved_means, moved_fits}
 use Rattle.layout.proofs.StoreLaws.{clean_lies}
 use Rattle.store.specs.Holds.{Ready}
@@ -28,9 +28,6 @@ use Rattle.make.specs.declared.Head.{Head}
 use Rattle.make.proofs.MakeLaws.{RoomIn, ready_room, pushed_made}
 
 -- a run of children
-
-pub put_none : {es ks : List ℕ} {first : ℕ} → Put es first 0 ks ks
-put_none {ks = ks} {first = first} = record { put = λ i h. absurd (omega arith); before = kept_refl first ks; after = refl }
 
 module _ (es : List ℕ) (first i : ℕ) {ks₀ ks ks' : List ℕ} {s : Slot} (o : Put es first i ks₀ ks) (room : (first + i) * 4 + 4 ≤ length ks)
     (is : slot_means s ≡ slot_at es i) (q : ks' ≡ put_slot ks (first + i) s) where
@@ -47,9 +44,6 @@ module _ (es : List ℕ) (first i : ℕ) {ks₀ ks ks' : List ℕ} {s : Slot} (o
     after = tail_put_child ks (first + i) s room (first + (i + 1)) (omega arith)
         ∙ drop_later (child_words (first + i)) (child_words (first + (i + 1))) ks ks₀ (omega arith) o.after;
   })
-
-pub put_end : {es ks₀ ks : List ℕ} {first i n : ℕ} → Put es first i ks₀ ks → i ≡ n → Put es first n ks₀ ks
-put_end o e = rw e at o
 
 -- the kind over the entries, with its children at `first`
 

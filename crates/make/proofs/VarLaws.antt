@@ -80,9 +80,6 @@ module _ {h₀ ws₀ ks h ws out₀ out : List ℕ} (p i : ℕ) (o : MadeAllIs h
   abbrev made : MadeAll
   made = new_vars was p i
 
-  pub vars_length : i ≤ length out₀ → length out ≡ length out₀
-  vars_length l = ap length o.types ∙ written_length made.types out₀ (rw (vars_types was p i) l)
-
   pub vars_ready : {n : ℕ} → Ready h₀ ws₀ ks n 0 → i < n → Ready h ws ks 1 0
   vars_ready r l =
       let v : Left was made.store i = vars_left was p i in
@@ -113,7 +110,3 @@ module _ {h₀ ws₀ ks h ws out₀ out : List ℕ} (p i : ℕ) (o : MadeAllIs h
 pub vars_none : {h ws ks out : List ℕ} {n : ℕ} (p : ℕ) → Ready h ws ks n 0 → MadeAllIs h ws ks h ws ks out out (new_vars (store_in h ws ks) p 0)
 unfolding new_vars
 vars_none p r = record { types = refl; store = record { holds = record { clean = r.clean; is = refl }; beyond = beyond_refl } }
-
-pub vars_end : {h₀ ws₀ ks h ws out₀ out : List ℕ} (p : ℕ) {i n : ℕ} → MadeAllIs h₀ ws₀ ks h ws ks out₀ out (new_vars (store_in h₀ ws₀ ks) p i) → i ≡ n
-    → MadeAllIs h₀ ws₀ ks h ws ks out₀ out (new_vars (store_in h₀ ws₀ ks) p n)
-vars_end p o e = rw e at o

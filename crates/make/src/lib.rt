@@ -23,6 +23,7 @@ use names::Name;
 use types::{Inverted, Type, TypeIdx};
 
 // What of a kind is neither a child nor a child's name.
+// Kept (2): no twin of `layout::Kind`, which says where its children lie besides: a kind that is made has none yet.
 #[derive(Clone, Copy)]
 pub struct Head {
     pub code: u32,

@@ -10,6 +10,7 @@ use Rattle.scope.specs.Nodes.{at, is_root}
 use Rattle.scope.proofs.SoundLaws.{SoundNodes}
 use Rattle.layout.specs.Words.{child_words, decode}
 use Rattle.layout.specs.Meaning.{Clean}
+use Rattle.layout.specs.declared.Nodes.{Nodes}
 
 pub record SoundWords (x : Texts) (ws ks : List ℕ) (n : ℕ) : Type 0 where
   pub env : Env
@@ -33,10 +34,18 @@ pub record Tops (x : Texts) (ws ks : List ℕ) (n : ℕ) (a b : Ty) : Type 0 whe
   pub first : is_root (at (decode ws ks n) a.idx) ≡ true
   pub second : is_root (at (decode ws ks n) b.idx) ≡ true
 
+-- the same of the nodes that are lent
+abbrev pub TopsIn : Texts → Nodes → Ty → Ty → Type 0
+TopsIn x s a b = Tops x s.words.now s.kids.now s.made a b
+
 -- the same, whatever the texts are
 pub record Roots (ws ks : List ℕ) (n : ℕ) (a b : Ty) : Type 0 where
   pub lent : Texts
   pub tops : Tops lent ws ks n a b
+
+-- the same of the nodes that are lent
+abbrev pub RootsIn : Nodes → Ty → Ty → Type 0
+RootsIn s a b = Roots s.words.now s.kids.now s.made a b
 
 -- pairs of types inside
 abbrev pub Inside : ℕ → List (Ty × Ty) → Type 0

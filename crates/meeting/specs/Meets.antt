@@ -17,6 +17,7 @@ use Rattle.layout.specs.declared.TypeState.{TypeState}
 use Rattle.layout.specs.declared.TypeState.TheVariants.{Known, Unknown, InferenceFailed}
 use Rattle.layout.specs.declared.TypeNode.{TypeNode}
 use Rattle.layout.specs.declared.TypeNode.TheVariants.{Root, Child}
+use Rattle.layout.specs.declared.Nodes.{Nodes}
 use Rattle.plan.specs.Meaning.{plan_means}
 use Rattle.plan.specs.declared.Plan.{Plan}
 use Rattle.meeting.specs.Asks.{Inside}
@@ -78,16 +79,32 @@ pub record Met (x : Texts) (ws ks : List ℕ) (n : ℕ) (a b : Ty) (m : Meeting)
   pub ready : MeetReady x ks m
   pub kinds : MetKinds x ks (decode ws ks n) a b m
 
+-- the same of the nodes that are lent
+abbrev pub MetIn : Texts → Nodes → Ty → Ty → Meeting → Type 0
+MetIn x s a b m = Met x s.words.now s.kids.now s.made a b m
+
 -- one node
 pub record OneNode (ws ks : List ℕ) (n : ℕ) (a b : Ty) (r : UnifyResult) : Type 0 where
   pub is : same_node n (decode ws ks n) a b ≡ answer_of r
+
+-- the same of the nodes that are lent
+abbrev pub OneNodeIn : Nodes → Ty → Ty → UnifyResult → Type 0
+OneNodeIn s a b r = OneNode s.words.now s.kids.now s.made a b r
 
 -- two roots, one without a kind
 pub record Bare (ws ks : List ℕ) (n : ℕ) (a b : Ty) (m : Walked) : Type 0 where
   pub same : bind n (decode ws ks n) a b ≡ walked_by (decode ws ks n) a b m
 
+-- the same of the nodes that are lent
+abbrev pub BareIn : Nodes → Ty → Ty → Walked → Type 0
+BareIn s a b m = Bare s.words.now s.kids.now s.made a b m
+
 pub record WalkedTo (ws ks : List ℕ) (n : ℕ) (a b : Ty) (m : Walked) : Type 0 where
   pub same : walks n (decode ws ks n) a b ≡ walked_by (decode ws ks n) a b m
+
+-- the same of the nodes that are lent
+abbrev pub WalkedToIn : Nodes → Ty → Ty → Walked → Type 0
+WalkedToIn s a b m = WalkedTo s.words.now s.kids.now s.made a b m
 
 -- of two nodes: both are roots, and one has no kind
 

@@ -4,13 +4,13 @@ ghost use Rattle.std.specs.Prelude.{◌≡◌, ◌+◌, ◌≤◌, length};
 ghost use Rattle.scope.specs.Types.{ty_of};
 ghost use Rattle.names.specs.Place.{name_of, texts_by};
 ghost use Rattle.layout.specs.Words.{node_words, child_words, slot_at};
-ghost use Rattle.meeting.specs.Asks.{Tops, Roots};
-ghost use Rattle.meeting.specs.Meets.{OneNode, Bare, WalkedTo, bare_roots, Met};
+ghost use Rattle.meeting.specs.Asks.{TopsIn, RootsIn};
+ghost use Rattle.meeting.specs.Meets.{OneNodeIn, BareIn, WalkedToIn, bare_roots, MetIn};
 ghost use Rattle.plan.specs.declared.Plan.TheVariants as plans;
 ghost use Rattle.meeting.specs.Steps.{Ascends, Spans, PlanSpans, Stepped, Lasts, Returns};
 ghost use Rattle.meeting.specs.Kids.{slot_place, sought_means, sought_in, Middle, Between};
 
-use layout::{TypeNode, TypeState};
+use layout::{Nodes, TypeNode, TypeState};
 use names::{Name, Texts};
 use plan::{Plan, Runs};
 use types::{Type, UnifyResult};
@@ -24,38 +24,39 @@ pub enum Steps {
 }
 
 // "Same node: Success if the inversions agree or `self_inverse` holds, else Failure."
-fn same_node(ws: &[u32], ks: &[u32], n: u32, a: Type, b: Type) -> UnifyResult
-    requires { Roots ws.now ks.now n (ty_of a.0) (ty_of b.0) }
-    ensures { OneNode ws.now ks.now n (ty_of a.0) (ty_of b.0) result }
+fn same_node(nodes: &Nodes<'_>, a: Type, b: Type) -> UnifyResult
+    requires { RootsIn nodes.now (ty_of a.0) (ty_of b.0) }
+    ensures { OneNodeIn nodes.now (ty_of a.0) (ty_of b.0) result }
 {
     let inv = a.inv() ^ b.inv();
     if inv.0 {
-        UnifyResult::from(walk::self_inverse(ws, ks, n, a, false))
+        UnifyResult::from(walk::self_inverse(nodes, a, false))
     } else {
         UnifyResult::Success
     }
 }
 
 // "If either has no kind: Failure if one occurs in the other, else they merge." In a root without a kind nothing else occurs.
-fn without_kind(ws: &[u32], ks: &[u32], n: u32, a: Type, b: Type) -> Option<UnifyResult>
-    requires { Roots ws.now ks.now n (ty_of a.0) (ty_of b.0) }
-    ensures { Bare ws.now ks.now n (ty_of a.0) (ty_of b.0) result }
+fn without_kind(nodes: &Nodes<'_>, a: Type, b: Type) -> Option<UnifyResult>
+    requires { RootsIn nodes.now (ty_of a.0) (ty_of b.0) }
+    ensures { BareIn nodes.now (ty_of a.0) (ty_of b.0) result }
 {
     let ia = a.idx();
-    let occurs = walk::occurs(ws, ks, n, ia, b)
-        || layout::held_at(ws, n, ia).is_some() && walk::occurs(ws, ks, n, b.idx(), a);
+    let occurs = walk::occurs(nodes, ia, b)
+        || layout::held_at(nodes.words, nodes.made, ia).is_some()
+            && walk::occurs(nodes, b.idx(), a);
     occurs.then_some(UnifyResult::Failure)
 }
 
 // One node, or two of which one has no kind: what walks, apart from `meet`, so that the marks of a walk stay out of the cycle's frames.
-pub fn walk_roots(ws: &[u32], ks: &[u32], n: u32, a: Type, b: Type) -> Option<UnifyResult>
-    requires { Roots ws.now ks.now n (ty_of a.0) (ty_of b.0) }
-    ensures { WalkedTo ws.now ks.now n (ty_of a.0) (ty_of b.0) result }
+pub fn walk_roots(nodes: &Nodes<'_>, a: Type, b: Type) -> Option<UnifyResult>
+    requires { RootsIn nodes.now (ty_of a.0) (ty_of b.0) }
+    ensures { WalkedToIn nodes.now (ty_of a.0) (ty_of b.0) result }
 {
     if a.idx() == b.idx() {
-        Some(same_node(ws, ks, n, a, b))
+        Some(same_node(nodes, a, b))
     } else {
-        without_kind(ws, ks, n, a, b)
+        without_kind(nodes, a, b)
     }
 }
 
@@ -79,22 +80,23 @@ pub fn bare_roots(ws: &[u32], n: u32, a: Type, b: Type) -> bool
 }
 
 // Two roots, and nothing is changed.
-pub fn meet(ws: &[u32], ks: &[u32], n: u32, texts: &Texts<'_>, a: Type, b: Type) -> Option<Plan>
-    requires { Tops (texts_by texts.now) ws.now ks.now n (ty_of a.0) (ty_of b.0) }
-    ensures { Met (texts_by texts.now) ws.now ks.now n (ty_of a.0) (ty_of b.0) result }
+pub fn meet(nodes: &Nodes<'_>, texts: &Texts<'_>, a: Type, b: Type) -> Option<Plan>
+    requires { TopsIn (texts_by texts.now) nodes.now (ty_of a.0) (ty_of b.0) }
+    ensures { MetIn (texts_by texts.now) nodes.now (ty_of a.0) (ty_of b.0) result }
 {
     let ia = a.idx();
     let ib = b.idx();
     if ia == ib {
         return None;
     }
-    let (i, k) = layout::held_at(ws, n, ia)?;
-    let (j, m) = layout::held_at(ws, n, ib)?;
+    let (i, k) = layout::held_at(nodes.words, nodes.made, ia)?;
+    let (j, m) = layout::held_at(nodes.words, nodes.made, ib)?;
     let inv = i ^ a.inv() ^ (j ^ b.inv());
     Some(plan::plan_of(k, m, inv, texts))
 }
 
 // A child of a run that lies in the slice.
+// Kept (2): no twin of `layout::child_of`, which is lent any place, past the end too, and tests it; this run's place is known.
 fn place(a: u32, i: u32) -> usize
     ensures { result ≡ a + i }
 {

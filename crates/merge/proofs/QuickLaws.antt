@@ -13,12 +13,12 @@ use borrow.Author.Tests.{eq-eqb, eqb-true, lt-ltb}
 use Rattle.scope.specs.Base.{pick}
 use Rattle.scope.specs.Limits.{NONE}
 use Rattle.scope.specs.Types.{Ty, ty_of, flip}
+use Rattle.scope.specs.Kinds.{TUPLE}
 use Rattle.scope.specs.Nodes as nodes
 use Rattle.scope.specs.Unify as scope
 use Rattle.types.specs.declared.«Type».{«Type»}
 use Rattle.layout.specs.Words.{node_words, decode, slots}
 use Rattle.layout.specs.Meaning.{cell_in, words_of, cell_of, cell_words, paste_at, read_at, put_at, node_state, held_in, kind_means, node_means, state_means, Clean}
-use Rattle.layout.specs.Meaning.{Held}
 use Rattle.layout.specs.declared.Kind.{Kind}
 use Rattle.layout.specs.declared.TypeState.{TypeState}
 use Rattle.layout.specs.declared.TypeState.TheVariants.{Known, Unknown, InferenceFailed}
@@ -30,9 +30,10 @@ use Rattle.layout.proofs.Cells.{words_back, clean_words, says}
 use Rattle.layout.proofs.Laws.{tail_put, put_past, read_node}
 use Rattle.layout.proofs.HeldLaws.{state_read, state_fits_lem}
 use Rattle.merge.specs.Quick.{Bare}
-use Rattle.std.specs.Prelude.{Some, None}
+use Rattle.std.specs.Prelude.{Some, None, ◌&&◌}
 use Rattle.merge.specs.Meaning.{state_at, size_at, Joined, Merged, Bound}
-use Rattle.merge.specs.Quick.{bare_in, bare_within, bare_node, rank_in, lone_node, nil_held, nil_node, Resized, Sums, Quick, Tried, OneNil}
+use Rattle.roots.specs.Nil.{nil_by}
+use Rattle.merge.specs.Quick.{bare_in, bare_within, bare_node, rank_in, lone_node, nil_node, Resized, Sums, Quick, Tried, OneNil}
 use Rattle.merge.proofs.Laws.{twice}
 
 -- a size alone
@@ -233,19 +234,23 @@ tried_slight {ws} {ws₁} {ws'} {n} {a} {b} t f {x} {y} ex ey h m = record {
 
 -- `one_nil`
 
-nil_means : (ks : List ℕ) (v : TypeNode) → nil_held (held_in v) ≡ true → nil_node (node_means ks v) ≡ true
+both_picked : (b c : Bool) → b && c ≡ true → pick b c false ≡ true
+both_picked true c e = e
+both_picked false c e = e
+
+nil_means : (ks : List ℕ) (v : TypeNode) → nil_by (held_in v) ≡ true → nil_node (node_means ks v) ≡ true
 unfolding kind_means
 nil_means ks (Root (Known i k) z) e =
-    rw (length-map (slots ks k.first k.count) (λ s. ty_of s.type), length_slots ks k.first k.count) e
+    rw (length-map (slots ks k.first k.count) (λ s. ty_of s.type), length_slots ks k.first k.count) (both_picked (eqb k.code TUPLE) (eqb k.count 0) e)
 nil_means ks (Root (Unknown s) z) e = e
 nil_means ks (Root InferenceFailed z) e = e
 nil_means ks (Child t) e = e
 
-pub one_nil : {ws : List ℕ} {n : ℕ} {a b : Ty} {i j : ℕ} {h : Held} {r : Bool} → i ≡ a.idx → j ≡ b.idx → true ≡ eqb i j → h ≡ held_in (read_at ws n i)
-    → r ≡ nil_held h → OneNil ws n a b r
-one_nil {ws} {n} {a} {b} {i} {j} ei ej same e f = record {
+pub one_nil : {ws : List ℕ} {n : ℕ} {a b : Ty} {i j : ℕ} {r : Bool} → i ≡ a.idx → j ≡ b.idx → true ≡ eqb i j
+    → r ≡ nil_by (held_in (read_at ws n i)) → OneNil ws n a b r
+one_nil {ws} {n} {a} {b} {i} {j} ei ej same f = record {
   one = λ q. sym ei ∙ (eqb-true i j (sym same) ∙ ej);
   nil = λ q ks c cl.
       ap nil_node (sym (read_node ws ks c n cl a.idx))
-      ∙ nil_means ks (read_at ws n a.idx) (ap (λ (m : ℕ). nil_held (held_in (read_at ws n m))) (sym ei) ∙ (ap nil_held (sym e) ∙ (sym f ∙ q)));
+      ∙ nil_means ks (read_at ws n a.idx) (ap (λ (m : ℕ). nil_by (held_in (read_at ws n m))) (sym ei) ∙ (sym f ∙ q));
 }

@@ -8,8 +8,6 @@ use Rattle.layout.specs.Words.{node_words, decode}
 use Rattle.layout.specs.Meaning.{read_at, put_at, Clean}
 use Rattle.layout.specs.declared.TypeState.{TypeState}
 use Rattle.layout.specs.declared.TypeState.TheVariants.{Known, Unknown, InferenceFailed}
-use Rattle.layout.specs.Meaning.{Held}
-use Rattle.std.specs.declared.option.Option.TheVariants as held
 use Rattle.layout.specs.declared.TypeNode.{TypeNode}
 use Rattle.layout.specs.declared.TypeNode.TheVariants.{Root, Child}
 use Rattle.merge.specs.Meaning.{state_at, size_at, Adds, Bound}
@@ -61,11 +59,6 @@ lone_node (nodes.Root nodes.InferenceFailed z) = true
 lone_node (nodes.Child t) = false
 
 -- a Tuple of nothing
-
-abbrev pub nil_held : Held → Bool
-nil_held (held.Some (i, k)) = pick (eqb k.code TUPLE) (eqb k.count 0) false
-nil_held held.None = false
-
 abbrev pub nil_node : nodes.Node → Bool
 nil_node (nodes.Root (nodes.Known i k) z) = pick (eqb k.head.code TUPLE) (eqb (length k.kids) 0) false
 nil_node (nodes.Root (nodes.Unknown s) z) = false

@@ -168,9 +168,7 @@ pub fn one_nil(ws: &[u32], n: u32, a: Type, b: Type) -> bool
     ensures { OneNil ws.now n (ty_of a.0) (ty_of b.0) result }
 {
     let i = a.idx();
-    i == b.idx()
-        && layout::held_at(ws, n, i).is_some_and(|(_, kind)| kind.code == kinds::TUPLE
-            && kind.count == 0)
+    i == b.idx() && roots::nil_at(ws, n, i)
 }
 
 // "Only Success merges."

@@ -54,6 +54,7 @@ pub fn bytes_of<'a>(n: Name, texts: &Texts<'a>) -> &'a [u8]
 
 // The library looks at the first four bytes, and then, behind a call, at 64 at a time, with no end at the first that differs: so a search among many names is fast, and
 // little of it stands in the frame of whoever compares.
+#[tactic(auto, using(crate::proofs::Laws::pointwise_same))]
 pub fn same_bytes(a: &[u8], b: &[u8]) -> bool
     ensures { result ≡ eq_bytes a.now b.now }
 {

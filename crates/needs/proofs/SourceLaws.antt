@@ -7,7 +7,7 @@ use mathlib.Core.List.{List, ◌∷◌, ◌++◌, Memᴰ}
 use Prim.Native.Nat.{ℕ, ◌+◌, ◌≤◌, ◌<◌}
 use native.Mathlib.Omega.{arith}
 use native.Mathlib.Numerals.{add-one}
-use lib.ListN.{length, get_or, drop, replicate, length-map, length-replicate}
+use lib.ListN.{length, get_or, drop, replicate, length-replicate}
 use lib.Seq.{drop-cons}
 use borrow.Author.Tests.{ltb-true}
 use Rattle.scope.specs.Base.{all}
@@ -22,12 +22,10 @@ use Rattle.scope.proofs.NeedsTests.{exported_inside}
 use Rattle.scope.proofs.TestLaws.{of-all}
 use Rattle.scope.proofs.SoundLaws.{SoundFacts}
 use Rattle.scope.proofs.ImportKept.{sound_source}
-use Rattle.types.specs.declared.«Type».{«Type»}
 use Rattle.layout.specs.Words.{decode, nodes_made, children_made, store_in, clean}
 use Rattle.layout.specs.Meaning.{header_in, remembered_means}
 use Rattle.layout.specs.declared.Header.{Header}
-use Rattle.layout.specs.Meaning.{Remembered}
-use Rattle.std.specs.Prelude.{Some, None}
+use Rattle.std.specs.Prelude.{None}
 use Rattle.layout.proofs.Laws.{length_decode}
 use Rattle.layout.proofs.StoreLaws.{clean_nodes}
 use Rattle.store.specs.Entries.{types_in}
@@ -36,28 +34,13 @@ use Rattle.store.proofs.Laws.{store_count, store_nodes, store_children, error_is
 use Rattle.needs.specs.declared.Needs.{Needs}
 use Rattle.needs.specs.Roots.{Params}
 use Rattle.std.specs.Prelude.{None}
-use Rattle.needs.specs.Sums.{no_needs, walk_at, Readable, Countable, CountedIs, AllCounted}
+use Rattle.needs.specs.Sums.{no_needs, walk_at, Readable, Countable, AllCounted}
 use Rattle.needs.specs.Sources.{Importable, ImportNeeds, ExportNeeds}
-use Rattle.needs.proofs.CountLaws.{Turn, turn_end, all_small}
+use Rattle.needs.proofs.CountLaws.{all_small}
 
 -- type i of a lent list, and those after it
 pub listed_next : (ts : List ℕ) (i : ℕ) → i < length ts → drop i (types_in ts) ≡ ty_of (get_or ts i 0) ∷ drop (i + 1) (types_in ts)
 listed_next ts i h = drop-cons (types_in ts) i (ty_of 0) (listed_below ts i h) ∙ rw (listed_at ts i, add-one i) refl
-
--- a whole list
-pub all_counted : {ws ks ms₀ ms : List ℕ} {n i : ℕ} {p : Params} {sum₀ sum : Needs} (ts : List ℕ) → Turn ws ks n p n (types_in ts) ms₀ sum₀ ms sum i
-    → length ts ≤ i → AllCounted ws ks n p ms₀ sum₀ (types_in ts) ms sum
-all_counted ts o h = record { is = turn_end o (rw (length-map ts ty_of) h) }
-
--- a remembered type
-
-pub remembered_none : {ws ks ms : List ℕ} {n : ℕ} {p : Params} {sum : Needs} {was : Remembered} → was ≡ None
-    → AllCounted ws ks n p ms sum (listed (remembered_means was)) ms sum
-remembered_none e = rw e (record { is = λ ps o. refl })
-
-pub remembered_one : {ws ks ms ms' : List ℕ} {n : ℕ} {p : Params} {sum r : Needs} {t : «Type»} {was : Remembered} → was ≡ Some t
-    → CountedIs ws ks n p ms sum t n ms' r → AllCounted ws ks n p ms sum (listed (remembered_means was)) ms' r
-remembered_one e o = rw e (record { is = o.is })
 
 -- from the start
 

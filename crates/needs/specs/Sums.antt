@@ -10,6 +10,7 @@ use Rattle.scope.proofs.NeedsWalk.{Small}
 use Rattle.types.specs.declared.«Type».{«Type»}
 use Rattle.layout.specs.Words.{decode}
 use Rattle.layout.specs.Meaning.{Clean}
+use Rattle.layout.specs.declared.Nodes.{Nodes}
 use Rattle.needs.specs.declared.Needs.{Needs}
 use Rattle.needs.specs.Roots.{Params}
 use Rattle.needs.specs.Roots.{params_for}
@@ -35,8 +36,16 @@ pub record Countable (ws ks : List ℕ) (n : ℕ) (ms : List ℕ) (sum : Needs) 
   pub long : length ms ≤ MAX_NODES
   pub small : Small MAX_CHILDREN (walk_at ms sum)
 
+-- the same of the nodes that are lent
+abbrev pub CountableIn : Nodes → List ℕ → Needs → Type 0
+CountableIn s ms sum = Countable s.words.now s.kids.now s.made ms sum
+
 pub record CountedIs (ws ks : List ℕ) (n : ℕ) (p : Params) (ms : List ℕ) (sum : Needs) (t : «Type») (depth : ℕ) (ms' : List ℕ) (r : Needs) : Type 0 where
   pub is : (ps : Option (List Ty)) → p ≡ params_for ps → walk_at ms' r ≡ count_f depth (decode ws ks n) ps (walk_at ms sum) (ty_of t.0)
+
+-- the same of the nodes that are lent
+abbrev pub CountedIn : Nodes → Params → List ℕ → Needs → «Type» → ℕ → List ℕ → Needs → Type 0
+CountedIn s p ms sum t depth ms' r = CountedIs s.words.now s.kids.now s.made p ms sum t depth ms' r
 
 -- whether the root of t is counted; if so, the walk from t changes nothing
 pub record Met (ws : List ℕ) (n : ℕ) (ms : List ℕ) (t : «Type») (b : Bool) : Type 0 where
@@ -45,3 +54,7 @@ pub record Met (ws : List ℕ) (n : ℕ) (ms : List ℕ) (t : «Type») (b : Boo
 -- from each type of the list us
 pub record AllCounted (ws ks : List ℕ) (n : ℕ) (p : Params) (ms : List ℕ) (sum : Needs) (us : List Ty) (ms' : List ℕ) (r : Needs) : Type 0 where
   pub is : (ps : Option (List Ty)) → p ≡ params_for ps → walk_at ms' r ≡ count_all (count_f n (decode ws ks n) ps) (walk_at ms sum) us
+
+-- the same of the nodes that are lent
+abbrev pub AllCountedIn : Nodes → Params → List ℕ → Needs → List Ty → List ℕ → Needs → Type 0
+AllCountedIn s p ms sum us ms' r = AllCounted s.words.now s.kids.now s.made p ms sum us ms' r

@@ -6,12 +6,12 @@ ghost use Rattle.scope.specs.Needs.{listed, exported};
 ghost use Rattle.layout.specs.Words.{node_words, slot_at, nodes_made, store_in};
 ghost use Rattle.layout.specs.Meaning.{held_in, read_at, slot_means, remembered_means, Linked};
 ghost use Rattle.store.specs.Entries.{types_in};
-ghost use Rattle.roots.specs.Kept.{Cached};
+ghost use Rattle.roots.specs.Kept.{Cached, CachedIn};
 ghost use Rattle.needs.specs.Roots.{kind_asks, asks_of};
-ghost use Rattle.needs.specs.Sums.{no_needs, Countable, CountedIs, Met, AllCounted};
-ghost use Rattle.needs.specs.Sources.{Importable, ImportNeeds, ExportNeeds};
+ghost use Rattle.needs.specs.Sums.{no_needs, CountableIn, CountedIn, Met, AllCountedIn};
+ghost use Rattle.needs.specs.Sources.{Importable, ImportableIn, ImportNeedsIn, ExportNeeds};
 
-use layout::{Kind, Slot};
+use layout::{Kind, Nodes, Slot};
 use scope::MAX_NODES;
 use types::{Type, TypeIdx};
 
@@ -67,13 +67,6 @@ fn is_counted(marks: &[u8], i: TypeIdx) -> bool
     marks.get(i.0 as usize).copied().unwrap_or(1) != 0
 }
 
-// Child j of those that lie from `first` on.
-pub fn child(ks: &[u32], first: u32, j: u32) -> Slot
-    ensures { slot_means result ≡ slot_at ks.now (first + j) }
-{
-    layout::child_at(ks, first as usize + j as usize)
-}
-
 // Whether a type's root is counted: the walk from it then does nothing, however deep it may go.
 fn is_met(ws: &[u32], n: u32, cache: &mut [u16], marks: &[u8], t: Type) -> bool
     requires { Linked ws.now n × Cached ws.now n cache.old }
@@ -84,9 +77,7 @@ fn is_met(ws: &[u32], n: u32, cache: &mut [u16], marks: &[u8], t: Type) -> bool
 
 // The walk from t: a root that is not counted is counted, then its children are walked from, one level less deep.
 fn count(
-    ws: &[u32],
-    ks: &[u32],
-    n: u32,
+    nodes: &Nodes<'_>,
     params: Option<u32>,
     cache: &mut [u16],
     marks: &mut [u8],
@@ -94,18 +85,18 @@ fn count(
     t: Type,
     depth: u32,
 ) -> Needs
-    requires { Countable ws.now ks.now n marks.old sum × Cached ws.now n cache.old }
-    ensures { CountedIs ws.now ks.now n params marks.old sum t depth marks.new result
-        × Cached ws.now n cache.new }
+    requires { CountableIn nodes.now marks.old sum × CachedIn nodes.now cache.old }
+    ensures { CountedIn nodes.now params marks.old sum t depth marks.new result
+        × CachedIn nodes.now cache.new }
 {
     if depth == 0 {
         return sum;
     }
-    let root = roots::find_by(ws, n, cache, t).idx();
+    let root = roots::find_by(nodes.words, nodes.made, cache, t).idx();
     if is_counted(marks, root) {
         return sum;
     }
-    match root_asks(ws, n, params, root) {
+    match root_asks(nodes.words, nodes.made, params, root) {
         Asks::Replaced => sum,
         Asks::Missing => Needs {
             missing: true,
@@ -119,9 +110,9 @@ fn count(
                 ..sum
             };
             for j in 0..kids {
-                let kid = child(ks, first, j).ty;
-                if !is_met(ws, n, cache, marks, kid) {
-                    all = count(ws, ks, n, params, cache, marks, all, kid, depth - 1);
+                let kid = layout::child_of(nodes.kids, first, j).ty;
+                if !is_met(nodes.words, nodes.made, cache, marks, kid) {
+                    all = count(nodes, params, cache, marks, all, kid, depth - 1);
                 }
             }
             all
@@ -131,42 +122,38 @@ fn count(
 
 // From each type of a list.
 fn count_all(
-    ws: &[u32],
-    ks: &[u32],
-    n: u32,
+    nodes: &Nodes<'_>,
     params: Option<u32>,
     cache: &mut [u16],
     marks: &mut [u8],
     sum: Needs,
     ts: &[u32],
 ) -> Needs
-    requires { Countable ws.now ks.now n marks.old sum × Cached ws.now n cache.old }
-    ensures { AllCounted ws.now ks.now n params marks.old sum (types_in ts.now) marks.new result
-        × Cached ws.now n cache.new }
+    requires { CountableIn nodes.now marks.old sum × CachedIn nodes.now cache.old }
+    ensures { AllCountedIn nodes.now params marks.old sum (types_in ts.now) marks.new result
+        × CachedIn nodes.now cache.new }
 {
     let mut all = sum;
     for t in ts {
-        all = count(ws, ks, n, params, cache, marks, all, Type(*t), n);
+        all = count(nodes, params, cache, marks, all, Type(*t), nodes.made);
     }
     all
 }
 
 // From a type that the source remembers, if any; an export has no parameter list.
 fn count_remembered(
-    ws: &[u32],
-    ks: &[u32],
-    n: u32,
+    nodes: &Nodes<'_>,
     cache: &mut [u16],
     marks: &mut [u8],
     sum: Needs,
     was: Option<Type>,
 ) -> Needs
-    requires { Countable ws.now ks.now n marks.old sum × Cached ws.now n cache.old }
-    ensures { AllCounted ws.now ks.now n None marks.old sum (listed (remembered_means was))
-        marks.new result × Cached ws.now n cache.new }
+    requires { CountableIn nodes.now marks.old sum × CachedIn nodes.now cache.old }
+    ensures { AllCountedIn nodes.now None marks.old sum (listed (remembered_means was))
+        marks.new result × CachedIn nodes.now cache.new }
 {
     match was {
-        Some(t) => count(ws, ks, n, None, cache, marks, sum, t, n),
+        Some(t) => count(nodes, None, cache, marks, sum, t, nodes.made),
         None => sum,
     }
 }
@@ -183,13 +170,13 @@ fn nothing() -> Needs
 
 // What an import of a list out of n nodes needs.
 // Kept (6): two tables, here and below, as in `copy` and `related`: each goes alone to what reads it, the cache to `roots::find_by`.
-pub fn of_import(ws: &[u32], ks: &[u32], n: u32, params: Option<u32>, ts: &[u32]) -> Needs
-    requires { Importable ws.now ks.now n (types_in ts.now) }
-    ensures { ImportNeeds ws.now ks.now n params ts.now result }
+pub fn of_import(nodes: &Nodes<'_>, params: Option<u32>, ts: &[u32]) -> Needs
+    requires { ImportableIn nodes.now (types_in ts.now) }
+    ensures { ImportNeedsIn nodes.now params ts.now result }
 {
     let mut cache = [0u16; MAX_NODES];
     let mut marks = [0u8; MAX_NODES];
-    count_all(ws, ks, n, params, &mut cache, &mut marks, nothing(), ts)
+    count_all(nodes, params, &mut cache, &mut marks, nothing(), ts)
 }
 
 // What an export of a list needs: "error type first, nil next".
@@ -198,10 +185,14 @@ pub fn of_export(h: &[u32], ws: &[u32], ks: &[u32], ts: &[u32]) -> Needs
     ensures { ExportNeeds h.now ws.now ks.now ts.now result }
 {
     let x = layout::read_header(h);
-    let n = x.nodes;
+    let nodes = Nodes {
+        words: ws,
+        kids: ks,
+        made: x.nodes,
+    };
     let mut cache = [0u16; MAX_NODES];
     let mut marks = [0u8; MAX_NODES];
-    let first = count_remembered(ws, ks, n, &mut cache, &mut marks, nothing(), x.error);
-    let next = count_remembered(ws, ks, n, &mut cache, &mut marks, first, x.nil);
-    count_all(ws, ks, n, None, &mut cache, &mut marks, next, ts)
+    let first = count_remembered(&nodes, &mut cache, &mut marks, nothing(), x.error);
+    let next = count_remembered(&nodes, &mut cache, &mut marks, first, x.nil);
+    count_all(&nodes, None, &mut cache, &mut marks, next, ts)
 }

@@ -20,7 +20,7 @@ ghost use Rattle.node_sound.specs.Tests.{plain_slot, node_test, nodes_test, Told
 
 use chart::Env;
 use kinds::{ERROR, Names, Number, Row, SelfDual};
-use layout::{CHILD_WORDS, Cell, KNOWN_TAG, Kind, Slot};
+use layout::{CHILD_WORDS, Cell, KNOWN_TAG, Kind, Nodes, Slot};
 use names::Texts;
 use scope::{MAX_CHILDREN, MAX_WIDTH};
 use types::TypeIdx;
@@ -170,38 +170,35 @@ fn plain_node(x: Cell, ks: &[u32], n: u32, c: u32, env: &Env<'_>, seen: &mut See
 }
 
 // Node i of n, with c children made.
-fn node_sound(
-    ws: &[u32],
-    ks: &[u32],
-    n: u32,
-    c: u32,
-    env: &Env<'_>,
-    i: TypeIdx,
-    seen: &mut Seen,
-) -> bool
-    requires words { node_words n ≤ length ws.now }
-    requires index { i.0 < n }
+fn node_sound(nodes: &Nodes<'_>, c: u32, env: &Env<'_>, i: TypeIdx, seen: &mut Seen) -> bool
+    requires words { node_words nodes.now.made ≤ length nodes.now.words.now }
+    requires index { i.0 < nodes.now.made }
     requires few { c ≤ MAX_CHILDREN }
-    requires known { TrueSeen (texts_by env.now.texts) ks.now seen.old }
-    ensures test { (ns : List Node) → length ns ≡ n → result ≡ node_test (chart_lent env.now) ws.now ks.now c ns i.0 }
-    ensures seen { TrueSeen (texts_by env.now.texts) ks.now seen.new }
+    requires known { TrueSeen (texts_by env.now.texts) nodes.now.kids.now seen.old }
+    ensures test { (ns : List Node) → length ns ≡ nodes.now.made → result ≡ node_test (chart_lent env.now) nodes.now.words.now nodes.now.kids.now c ns i.0 }
+    ensures seen { TrueSeen (texts_by env.now.texts) nodes.now.kids.now seen.new }
 {
-    let x = layout::cell_at(ws, i);
-    plain_node(x, ks, n, c, env, seen)
+    let x = layout::cell_at(nodes.words, i);
+    plain_node(x, nodes.kids, nodes.made, c, env, seen)
         || x.count as usize <= MAX_WIDTH
-            && clean::node_clean(ws, ks, c, i)
-            && kind_sound::node_sound(layout::node_at(ws, n, i), ks, n, env)
+            && clean::node_clean(nodes.words, nodes.kids, c, i)
+            && kind_sound::node_sound(
+                layout::node_at(nodes.words, nodes.made, i),
+                nodes.kids,
+                nodes.made,
+                env,
+            )
 }
 
 // All n nodes. An object's names that were seen to ascend are not compared again where runs of children overlap.
-pub fn nodes_sound(ws: &[u32], ks: &[u32], n: u32, c: u32, env: &Env<'_>) -> bool
-    requires words { node_words n ≤ length ws.now }
+pub fn nodes_sound(nodes: &Nodes<'_>, c: u32, env: &Env<'_>) -> bool
+    requires words { node_words nodes.now.made ≤ length nodes.now.words.now }
     requires few { c ≤ MAX_CHILDREN }
-    ensures { result ≡ nodes_test (chart_lent env.now) ws.now ks.now c n }
+    ensures { result ≡ nodes_test (chart_lent env.now) nodes.now.words.now nodes.now.kids.now c nodes.now.made }
 {
     let mut seen: Seen = [false; MAX_CHILDREN];
-    for i in 0..n {
-        if !node_sound(ws, ks, n, c, env, TypeIdx(i), &mut seen) {
+    for i in 0..nodes.made {
+        if !node_sound(nodes, c, env, TypeIdx(i), &mut seen) {
             return false;
         }
     }

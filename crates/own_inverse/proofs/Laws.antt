@@ -5,7 +5,7 @@ use mathlib.Core.Path.{◌≡◌, refl, ap₂, sym, subst, ◌∙◌}
 use mathlib.Core.Bool.{Bool, true, false}
 use mathlib.Core.List.{List}
 use mathlib.Core.Logic.{◌⊎◌, inl, inr}
-use Prim.Native.Nat.{ℕ, ◌<◌}
+use Prim.Native.Nat.{ℕ}
 use native.Mathlib.Omega.{arith}
 use lib.ListN.{length, get_or, replicate}
 use Rattle.scope.specs.Limits.{MAX_NODES}
@@ -62,9 +62,6 @@ module _ {ws ks m : List ℕ} {n a : ℕ} (o : OwnAsks ws ks m n a) where
 
         self : SelfAt ns i
         self = subst (SelfAt ns) (sym ei) (subst (Self (view ns)) (sym top) here)
-
-  pub ask_inside : {i : ℕ} → i ≡ (ty_of a).idx → i < MAX_NODES
-  ask_inside e = omega (arith, e, o.inside, o.few)
 
   -- `by_memory`
 

@@ -6,6 +6,7 @@ use Rattle.scope.specs.Nodes.{at, is_root}
 use Rattle.scope.specs.Unify.{self_inverse_at}
 use Rattle.scope.proofs.Marks.{Walkable}
 use Rattle.layout.specs.Words.{decode}
+use Rattle.layout.specs.declared.Nodes.{Nodes}
 use Rattle.marks.specs.Marks.{Beside}
 use Rattle.heed.specs.Recalls.{Marks}
 use Rattle.related.specs.Stands.{Stands}
@@ -19,8 +20,16 @@ pub record OwnAsks (ws ks m : List ℕ) (n a : ℕ) : Type 0 where
   pub root : is_root (at (decode ws ks n) (ty_of a).idx) ≡ true
   pub marks : Marks (decode ws ks n) m
 
+-- the same of the nodes that are lent
+abbrev pub OwnAsksIn : Nodes → List ℕ → ℕ → Type 0
+OwnAsksIn s m a = OwnAsks s.words.now s.kids.now m s.made a
+
 -- the answer; m' after m has other marks at most, each of such a root
 pub record OwnTold (ws ks m m' : List ℕ) (n a : ℕ) (r : Bool) : Type 0 where
   pub same : r ≡ self_inverse_at false n (decode ws ks n) (ty_of a).idx
   pub beside : Beside m m'
   pub marks : Marks (decode ws ks n) m'
+
+-- the same of the nodes that are lent
+abbrev pub OwnToldIn : Nodes → List ℕ → List ℕ → ℕ → Bool → Type 0
+OwnToldIn s m m' a r = OwnTold s.words.now s.kids.now m m' s.made a r

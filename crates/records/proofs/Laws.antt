@@ -1,10 +1,10 @@
 -- Laws of the records' words: record by record they are what is stored, and what is loaded reads back as the records. Assumes nothing.
 use mathlib.Core.Path.{◌≡◌, refl, sym, ap, ◌∙◌}
 use mathlib.Core.List.{List, [], ◌∷◌, ◌++◌, append_assoc}
-use Prim.Native.Nat.{ℕ, zero, suc, ◌+◌, ◌-◌, ◌*◌, ◌/◌, ◌≤◌}
+use Prim.Native.Nat.{ℕ, zero, suc, ◌+◌, ◌-◌, ◌*◌, ◌≤◌}
 use native.Mathlib.Numerals.{add-one}
 use native.Mathlib.Omega.{arith}
-use native.Mathlib.Nat.{add-sub_cancel_left, div-mul-le_self}
+use native.Mathlib.Nat.{add-sub_cancel_left}
 use lib.ListN.{length, get_or, take, drop, length-append}
 use lib.Seq.{sets, length-sets, sets-eq, take-suc, take_at, drop-drop, drop_at, length-take-le, take-length}
 use Rattle.chart.specs.Words.{RECORD_WORDS}
@@ -80,7 +80,3 @@ module _ (ws : List ℕ) (rs : List Record) where
 
   pub stored_all : length rs * 10 ≤ length ws → stored ws rs (length rs) ≡ loaded ws rs
   stored_all m = stored_is (length rs) (omega arith) m ∙ ap (λ (xs : List Record). chart_words xs ++ drop (length rs * RECORD_WORDS) ws) (take-length rs)
-
--- where n have room in so many words, their words are no more
-pub fitting_room : (n room : ℕ) → n ≤ room / 10 → n * 10 ≤ room
-fitting_room n room l = omega (arith, l, div-mul-le_self room 10)

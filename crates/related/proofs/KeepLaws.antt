@@ -7,7 +7,7 @@ use Prim.Native.Nat.{ℕ, ◌+◌, ◌≤◌, ◌<◌}
 use native.Mathlib.Omega.{arith}
 use native.Mathlib.Decide.{ℕ_discrete, dec_lt}
 use lib.Dec.{eqb}
-use lib.ListN.{length, get_or, set, replicate}
+use lib.ListN.{length, get_or, set}
 use lib.Seq.{get_or-set_same, get_or-set_other, set_out}
 use Rattle.scope.specs.Types.{Ty, ty_of}
 use Rattle.scope.specs.Nodes.{Node, find}
@@ -20,14 +20,10 @@ use Rattle.roots.specs.Kept.{Cached}
 use Rattle.related.specs.Tables.{Meeting}
 use Rattle.std.specs.Prelude.{Some, None}
 use Rattle.skips.specs.Table.{marked, slot_seen, Passed, Stretched}
-use Rattle.skips.proofs.Laws.{zeros_at}
 use Rattle.related.specs.Tables.{slot_marked, Sees, Meets, Keeps}
 use Rattle.related.proofs.Laws.{root_is}
 
 -- one table of bytes
-
-unmarked : not (eqb 0 0) ≡ true → ⊥
-unmarked e = let z : ◌≡◌ {A = ℕ} 0 1 = cc in omega arith
 
 -- types of one node have one root
 same_root : (ns : List Node) (t u : Ty) → t.idx ≡ u.idx → (find ns t).idx ≡ (find ns u).idx
@@ -44,9 +40,6 @@ marked_set ms i r h = go (ℕ_discrete r i) (dec_lt i (length ms))
     go (no e) d = rw (get_or-set_other ms i r 1 0 e) h
 
 -- nodes that have been told
-
-sees_zeros : (ws : List ℕ) (n : ℕ) (ms : List ℕ) (m : ℕ) → Sees ws n ms (replicate m 0)
-sees_zeros ws n ms m = record { each = λ t h ks. absurd (unmarked (rw (zeros_at m t.idx) at h)) }
 
 module _ {ws : List ℕ} {n : ℕ} {ms seen : List ℕ} (c : Sees ws n ms seen) where
   sees_mark : {ms' : List ℕ} (i : ℕ) → ms' ≡ set ms i 1 → Sees ws n ms' seen

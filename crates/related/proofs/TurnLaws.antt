@@ -81,9 +81,6 @@ pub record Turn (g : List ℕ → Ty → List ℕ) (ks : List ℕ) (s₀ e : ℕ
   pub left : related_kids g ms (kids_in ks s e) ≡ related_kids g ms₀ (kids_in ks s₀ e)
   pub long : length ms ≡ length ms₀
 
-pub turn_start : (g : List ℕ → Ty → List ℕ) (ks : List ℕ) (s e : ℕ) (ms : List ℕ) → Turn g ks s e ms ms s
-turn_start g ks s e ms = record { left = refl; long = refl }
-
 module _ {g : List ℕ → Ty → List ℕ} {ks : List ℕ} {s₀ e : ℕ} {ms₀ ms : List ℕ} {s : ℕ} (c : Turn g ks s₀ e ms₀ ms s) where
   turn_on : {ms' : List ℕ} → s < e → ms' ≡ g ms (ty_of (slot_at ks s).type) → length ms' ≡ length ms → Turn g ks s₀ e ms₀ ms' (s + 1)
   turn_on h w l = record {

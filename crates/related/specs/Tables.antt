@@ -6,6 +6,7 @@ use Rattle.scope.specs.Nodes.{Node, at, state_of, find, kids_of}
 use Rattle.scope.specs.Force.{related_kids, related_f}
 use Rattle.types.specs.declared.TypeIdx.{TypeIdx}
 use Rattle.layout.specs.Words.{slot_at, decode}
+use Rattle.layout.specs.declared.Nodes.{Nodes}
 use Rattle.roots.specs.Kept.{Cached}
 use Rattle.skips.specs.Table.{marked, Skips}
 use Rattle.std.specs.Prelude.{Some, None}
@@ -46,3 +47,7 @@ pub record Keeps (ws ks : List ℕ) (n : ℕ) (cache ms seen skip : List ℕ) : 
   pub cached : Cached ws n cache
   pub sees : Sees ws n ms seen
   pub skips : Skips (slot_marked (decode ws ks n) ks ms) skip
+
+-- the same of the nodes that are lent
+abbrev pub KeepsIn : Nodes → List ℕ → List ℕ → List ℕ → List ℕ → Type 0
+KeepsIn s cache ms seen skip = Keeps s.words.now s.kids.now s.made cache ms seen skip

@@ -1,15 +1,16 @@
 #![tactic(auto)]
-// One walk that marks each root it meets: `find_related`, as scope's definition says it of the n nodes in ws, whose children lie in ks. It looks at a child's root
+// One walk that marks each root it meets: `find_related`, as scope's definition says it of the nodes that are lent. It looks at a child's root
 // once, and at a child slot about once, however the runs of children overlap.
 ghost use Rattle.std.specs.Prelude.{◌≡◌, ◌≤◌};
 ghost use Rattle.scope.specs.Types.{ty_of};
 ghost use Rattle.scope.specs.Force.{find_related};
-ghost use Rattle.layout.specs.Words.{decode};
 ghost use Rattle.layout.specs.Meaning.{Linked};
+ghost use Rattle.layout.specs.Lent.{nodes_by};
 ghost use Rattle.roots.specs.Kept.{Cached};
-ghost use Rattle.related.specs.Stands.{Stands};
-ghost use Rattle.related.specs.Tables.{Sees, Meets, Keeps, related_below};
+ghost use Rattle.related.specs.Stands.{StandsIn};
+ghost use Rattle.related.specs.Tables.{Sees, Meets, KeepsIn, related_below};
 
+use layout::Nodes;
 use scope::{MAX_CHILDREN, MAX_NODES};
 use types::{Type, TypeIdx};
 
@@ -46,9 +47,7 @@ fn meet(
 // The walk on from a marked root: each unmarked root of a child is marked and walked on from, one level less deep. Of a child whose root is marked
 // there is nothing to do.
 fn mark_below(
-    ws: &[u32],
-    ks: &[u32],
-    n: u32,
+    nodes: &Nodes<'_>,
     cache: &mut [u16],
     marks: &mut [u8],
     seen: &mut [u8],
@@ -56,14 +55,14 @@ fn mark_below(
     root: TypeIdx,
     depth: u32,
 )
-    requires { Stands ws.now ks.now n × Keeps ws.now ks.now n cache.old marks.old seen.old skip.old }
-    ensures { (marks.new ≡ related_below depth (decode ws.now ks.now n) marks.old root.0)
-        × Keeps ws.now ks.now n cache.new marks.new seen.new skip.new }
+    requires { StandsIn nodes.now × KeepsIn nodes.now cache.old marks.old seen.old skip.old }
+    ensures { (marks.new ≡ related_below depth (nodes_by nodes.now) marks.old root.0)
+        × KeepsIn nodes.now cache.new marks.new seen.new skip.new }
 {
     if depth == 0 {
         return;
     }
-    let Some((_, kind)) = layout::held_at(ws, n, root) else {
+    let Some((_, kind)) = layout::held_at(nodes.words, nodes.made, root) else {
         return;
     };
     let mut s = kind.first as usize;
@@ -74,52 +73,48 @@ fn mark_below(
         if 0 < far {
             s += far;
         } else {
-            let kid = layout::child_at(ks, s).ty;
-            if let Some(next) = meet(ws, n, cache, marks, seen, kid) {
-                mark_below(ws, ks, n, cache, marks, seen, skip, next, depth - 1);
+            let kid = layout::child_at(nodes.kids, s).ty;
+            if let Some(next) = meet(nodes.words, nodes.made, cache, marks, seen, kid) {
+                mark_below(nodes, cache, marks, seen, skip, next, depth - 1);
             }
-            s = skips::stretch(ks, seen, skip, s, end);
+            s = skips::stretch(nodes.kids, seen, skip, s, end);
         }
     }
 }
 
 // The walk with tables for so many nodes, and for so many child slots.
 fn mark_with<const NODES: usize, const SLOTS: usize>(
-    ws: &[u32],
-    ks: &[u32],
-    n: u32,
+    nodes: &Nodes<'_>,
     marks: &mut [u8],
     root: TypeIdx,
     depth: u32,
 )
-    requires stands { Stands ws.now ks.now n }
+    requires stands { StandsIn nodes.now }
     requires small { (NODES ≤ MAX_NODES) × (SLOTS ≤ MAX_CHILDREN) }
-    ensures { marks.new ≡ related_below depth (decode ws.now ks.now n) marks.old root.0 }
+    ensures { marks.new ≡ related_below depth (nodes_by nodes.now) marks.old root.0 }
 {
     let mut cache = [0u16; NODES];
     let mut seen = [0u8; NODES];
     let mut skip = [0u8; SLOTS];
-    mark_below(
-        ws, ks, n, &mut cache, marks, &mut seen, &mut skip, root, depth,
-    );
+    mark_below(nodes, &mut cache, marks, &mut seen, &mut skip, root, depth);
 }
 
 // `find_related`: "nonzero means already in the set, and 1 is written for each root added".
-pub fn find_related(ws: &[u32], ks: &[u32], n: u32, marks: &mut [u8], t: Type)
-    requires { Stands ws.now ks.now n }
-    ensures { marks.new ≡ find_related (decode ws.now ks.now n) (ty_of t.0) marks.old }
+pub fn find_related(nodes: &Nodes<'_>, marks: &mut [u8], t: Type)
+    requires { StandsIn nodes.now }
+    ensures { marks.new ≡ find_related (nodes_by nodes.now) (ty_of t.0) marks.old }
 {
-    if n == 0 {
+    if nodes.made == 0 {
         return;
     }
-    let root = roots::find(ws, n, t).idx();
+    let root = roots::find(nodes.words, nodes.made, t).idx();
     if roots::is_marked(marks, root) {
         return;
     }
     roots::set_mark(marks, root);
-    if n <= FEW as u32 {
-        mark_with::<FEW, 1>(ws, ks, n, marks, root, n - 1);
+    if nodes.made <= FEW as u32 {
+        mark_with::<FEW, 1>(nodes, marks, root, nodes.made - 1);
     } else {
-        mark_with::<MAX_NODES, MAX_CHILDREN>(ws, ks, n, marks, root, n - 1);
+        mark_with::<MAX_NODES, MAX_CHILDREN>(nodes, marks, root, nodes.made - 1);
     }
 }

@@ -16,12 +16,12 @@ use Rattle.scope.proofs.Paths.{child_inside, near_root, near_child}
 use Rattle.types.specs.declared.«Type».{«Type»}
 use Rattle.types.proofs.Laws.{idx_below, ty_new}
 use Rattle.layout.specs.Words.{NODE_WORDS, node_field, decode}
-use Rattle.layout.specs.Meaning.{CHILD_TAG, parent_of, read_at, put_at, Linked}
+use Rattle.layout.specs.Meaning.{CHILD_TAG, read_at, put_at, Linked}
 use Rattle.layout.specs.declared.TypeNode.{TypeNode}
 use Rattle.layout.specs.declared.TypeNode.TheVariants as code
 use Rattle.layout.specs.declared.TypeState.{TypeState}
 use Rattle.layout.proofs.Laws.{length_decode, length_put, tail_put, decode_put, clean_put}
-use Rattle.layout.proofs.LinkLaws.{parent_same, read_child, read_root, child_below, child_field, link_put, linked_put}
+use Rattle.layout.proofs.LinkLaws.{read_child, read_root, child_below, child_field, link_put, linked_put}
 use Rattle.roots.specs.Found.{Nearby}
 use Rattle.std.specs.declared.option.Option.TheVariants as near
 use Rattle.roots.specs.Found.{Found, Relinked, FoundMut, Near}
@@ -44,28 +44,6 @@ pub climb_out : (f : ℕ) (ns : List Node) (t : Ty) → f ≤ 0 → climb f ns t
 unfolding climb
 climb_out zero ns t h = refl
 climb_out (suc f) ns t h = absurd (omega arith)
-
--- climbing looks at parents alone, and these do not depend on the children's words
-
-climb_same : (f : ℕ) (ns ms : List Node) (t : Ty) (v w : Node) → at ns t.idx ≡ v → at ms t.idx ≡ w → parent_of v ≡ parent_of w
-    → ((u : Ty) → climb f ns u ≡ climb f ms u) → climb (suc f) ns t ≡ climb (suc f) ms t
-climb_same f ns ms t (Root st z) (Root st' z') p q e g = rw (scope.climb_root (suc f) ns t p, scope.climb_root (suc f) ms t q)
-climb_same f ns ms t (Root st z) (Child u) p q e g = let y : ◌≡◌ {A = ℕ} 0 1 = cc in absurd (omega arith)
-climb_same f ns ms t (Child u) (Root st z) p q e g = let y : ◌≡◌ {A = ℕ} 0 1 = cc in absurd (omega arith)
-climb_same f ns ms t (Child u) (Child u') p q e g =
-    let y : u ≡ u' = cc in
-    rw (scope.climb_child f ns t u p, scope.climb_child f ms t u' q) (g (flip t.inv u) ∙ ap (λ (x : Ty). climb f ms (flip t.inv x)) y)
-
-pub climb_parents : (f : ℕ) (ns ms : List Node) (t : Ty) → ((i : ℕ) → parent_of (at ns i) ≡ parent_of (at ms i)) → climb f ns t ≡ climb f ms t
-unfolding climb
-climb_parents zero ns ms t e = refl
-climb_parents (suc f) ns ms t e =
-    climb_same f ns ms t (at ns t.idx) (at ms t.idx) refl refl (e t.idx) (λ u. climb_parents f ns ms u e)
-
-pub find_kids : (ws ks ks' : List ℕ) (n : ℕ) (t : Ty) → find (decode ws ks n) t ≡ find (decode ws ks' n) t
-unfolding find
-find_kids ws ks ks' n t =
-    rw (length_decode ws ks n, length_decode ws ks' n) (climb_parents n (decode ws ks n) (decode ws ks' n) t (parent_same ws ks ks' n))
 
 -- f steps from node i with the inversion b lead where n steps from i₀ with b₀ do
 pub record Climbs (ws : List ℕ) (n : ℕ) (b₀ : Bool) (i₀ : ℕ) (b : Bool) (i f : ℕ) : Type 0 where

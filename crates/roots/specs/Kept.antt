@@ -5,6 +5,7 @@ use Rattle.scope.specs.Types.{Ty, ty, ty_of}
 use Rattle.scope.specs.Nodes.{at, is_root, find}
 use Rattle.types.specs.declared.«Type».{«Type»}
 use Rattle.layout.specs.Words.{decode}
+use Rattle.layout.specs.declared.Nodes.{Nodes}
 use Rattle.roots.specs.Found.{Nearby}
 use Rattle.std.specs.Prelude.{Some}
 
@@ -36,3 +37,7 @@ pub record Topped (ws : List ℕ) (n i : ℕ) (q : Nearby) : Type 0 where
 -- what is kept of a node is its root
 pub record Cached (ws : List ℕ) (n : ℕ) (cache : List ℕ) : Type 0 where
   pub each : (i : ℕ) → (get_or cache i 0 ≡ 0 → ⊥) → Rooted ws n i (kept_type (get_or cache i 0))
+
+-- the same of the nodes that are lent
+abbrev pub CachedIn : Nodes → List ℕ → Type 0
+CachedIn s cache = Cached s.words.now s.made cache

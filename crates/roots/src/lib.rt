@@ -2,11 +2,13 @@
 // "`find` follows parents, combining inversions by exclusive or. `find_mut` also points every node on the path straight at the root, keeping each
 // node's meaning." Both look at node words alone, and take as many steps at most as there are nodes. Beside them what a walk over roots keeps for each
 // node: a mark, and its root once that is found.
-ghost use Rattle.std.specs.Prelude.{◌≡◌, not, ◌<◌, eqb, get_or, set};
+ghost use Rattle.std.specs.Prelude.{◌≡◌, not, ◌<◌, ◌≤◌, length, eqb, get_or, set};
 ghost use Rattle.scope.specs.Types.{INV_BIT, ty_of};
-ghost use Rattle.layout.specs.Meaning.{Linked};
+ghost use Rattle.layout.specs.Words.{node_words};
+ghost use Rattle.layout.specs.Meaning.{Linked, held_in, read_at};
 ghost use Rattle.roots.specs.Found.{Found, FoundMut, Near};
 ghost use Rattle.roots.specs.Kept.{kept_word, Kept, Rooted, Topped, Cached};
+ghost use Rattle.roots.specs.Nil.{nil_by};
 
 use layout::TypeNode;
 use types::{Inverted, Type, TypeIdx};
@@ -78,6 +80,14 @@ pub fn find_mut(ws: &mut [u32], n: u32, t: Type) -> Type
         Some(r) => r,
         None => find_far(ws, n, t),
     }
+}
+
+// A Tuple of nothing.
+pub fn nil_at(ws: &[u32], n: u32, i: TypeIdx) -> bool
+    requires { node_words n ≤ length ws.now }
+    ensures { result ≡ nil_by (held_in (read_at ws.now n i.0)) }
+{
+    layout::held_at(ws, n, i).is_some_and(|(_, kind)| kind.code == kinds::TUPLE && kind.count == 0)
 }
 
 // Past the end of a table nothing is put.

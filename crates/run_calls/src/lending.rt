@@ -1,5 +1,5 @@
 // What is lent to the calls: a chart and texts, by where they stand among the list's numbers, and how many words of two stores and of the names buffer.
-use chart::{Beside, Env};
+use chart::{Beside, Env, NO_BESIDE};
 use names::Texts;
 use run_text::numbers::{after, first, word};
 
@@ -56,13 +56,9 @@ fn no_words() -> Sizes {
 }
 
 pub(crate) fn nothing_lent() -> Lent {
-    let sigils = [0u32; 12];
     Lent {
         chart: nothing(),
-        beside: Beside {
-            fn_trait: scope::NONE,
-            sigils,
-        },
+        beside: NO_BESIDE,
         rule: nothing(),
         text: nothing(),
         here: no_words(),

@@ -169,7 +169,7 @@ pub fn name_answer<W: Write>(
 
 // A child's type, and its name if it has one.
 fn child<W: Write>(to: &mut W, ks: &[u32], k: Kind, j: u32, env: &Env<'_>) -> io::Result<()> {
-    let s = layout::child_of(ks, k, j);
+    let s = layout::child_of(ks, k.first, j);
     say(to, b" ")?;
     typ(to, s.ty)?;
     if s.name.len != 0 {

@@ -79,9 +79,6 @@ module _ (p : ℕ → Up) where
 pub climbs_small : {ws roots : List ℕ} {n v : ℕ} → Climbs ws roots n v → v < MAX_NODES
 climbs_small a = omega (arith, a.node, a.parents.few)
 
-pub climbs_up : {ws roots : List ℕ} {n v : ℕ} {u : TypeIdx} → Climbs ws roots n v → ups ws n v ≡ Parent u → Climbs ws roots n u.0
-climbs_up {v = v} a e = record { parents = a.parents; right = a.right; node = rw e at (a.parents.inside v a.node) }
-
 -- find_roots: the first v nodes have their roots
 
 pub record Upto (p : ℕ → Up) (n v : ℕ) (roots : List ℕ) : Type 0 where

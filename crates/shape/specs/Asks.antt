@@ -6,6 +6,7 @@ use Rattle.scope.specs.Nodes.{Node, Root, Child, at, kids_of}
 use Rattle.scope.specs.Sound.{in_store}
 use Rattle.layout.specs.Words.{node_words, decode}
 use Rattle.layout.specs.Meaning.{Clean}
+use Rattle.layout.specs.declared.Nodes.{Nodes}
 use Rattle.shape.specs.Walks.{Graph, ends, InRun, upward, to_by, Leads}
 use Rattle.shape.specs.declared.Up.{Up}
 use Rattle.shape.specs.declared.Mark.{Mark}
@@ -23,6 +24,10 @@ pub record Shaped (ws ks : List ℕ) (n : ℕ) : Type 0 where
   pub few : n ≤ MAX_NODES
   pub clean : Clean ws ks made n
   pub inside : (i : ℕ) → i < n → node_inside (decode ws ks n) (at (decode ws ks n) i) ≡ true
+
+-- the same of the nodes that are lent
+abbrev pub ShapedIn : Nodes → Type 0
+ShapedIn s = Shaped s.words.now s.kids.now s.made
 
 -- n nodes whose parents are nodes
 pub record ParentsInside (ws : List ℕ) (n : ℕ) : Type 0 where
@@ -110,15 +115,27 @@ pub record Falls (ws ks : List ℕ) (n : ℕ) (roots : List ℕ) : Type 0 where
   pub room : node_words n ≤ length ws
   pub below : (v i : ℕ) → v < n → InRun (kids ws ks n roots) v i → kid_at ks i < n
 
+-- the same of the nodes that are lent
+abbrev pub FallsIn : Nodes → List ℕ → Type 0
+FallsIn s roots = Falls s.words.now s.kids.now s.made roots
+
 pub record Visits (ws ks : List ℕ) (n : ℕ) (roots : List ℕ) (marks : List Mark) (v : ℕ) : Type 0 where
   pub falls : Falls ws ks n roots
   pub marked : TrueMarks (kids ws ks n roots) n marks
   pub node : v < n
 
+-- the same of the nodes that are lent
+abbrev pub VisitsIn : Nodes → List ℕ → List Mark → ℕ → Type 0
+VisitsIn s roots marks v = Visits s.words.now s.kids.now s.made roots marks v
+
 -- `kids_done`: the walks from the nodes before v end
 pub record Tries (ws ks : List ℕ) (n : ℕ) (roots : List ℕ) (marks : List Mark) (v : ℕ) : Type 0 where
   pub visits : Visits ws ks n roots marks v
   pub ended : (u : ℕ) → u < v → ends (kids ws ks n roots) n u ≡ true
+
+-- the same of the nodes that are lent
+abbrev pub TriesIn : Nodes → List ℕ → List Mark → ℕ → Type 0
+TriesIn s roots marks v = Tries s.words.now s.kids.now s.made roots marks v
 
 -- Marks stay. Where the answer is yes, walks from v end and no node is left open that was not. Where it is no, some walk from v is longer than d nodes
 -- for each d for which this is so of the nodes that were open

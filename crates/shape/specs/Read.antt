@@ -9,6 +9,7 @@ use Rattle.layout.specs.Meaning.{Held}
 use Rattle.std.specs.Prelude.{Some, None}
 use Rattle.layout.specs.declared.TypeNode.{TypeNode}
 use Rattle.layout.specs.declared.TypeNode.TheVariants.{Root, Child}
+use Rattle.layout.specs.declared.Nodes.{Nodes}
 use Rattle.shape.specs.declared.Up.{Up}
 use Rattle.shape.specs.declared.Up.TheVariants as up
 use Rattle.shape.specs.Walks.{Graph}
@@ -49,6 +50,10 @@ kids ws ks n roots = record {
   deg = λ v. count_of (held_in (read_at ws n v));
   to = λ i. root_of roots (kid_at ks i);
 }
+
+-- the same of the nodes that are lent
+abbrev pub kids_by : Nodes → List ℕ → Graph
+kids_by s roots = kids s.words.now s.kids.now s.made roots
 
 -- how many of the first m nodes have the root r
 abbrev pub tallied : List ℕ → ℕ → ℕ → ℕ

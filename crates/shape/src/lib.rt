@@ -5,14 +5,15 @@ ghost use Rattle.std.specs.Prelude.{◌≡◌, true, ◌≤◌, ◌<◌, length,
 ghost use Rattle.scope.specs.Base.{all, from};
 ghost use Rattle.scope.specs.Limits.{MAX_NODES};
 ghost use Rattle.scope.specs.Sound.{shape_sound};
-ghost use Rattle.layout.specs.Words.{node_words, decode};
+ghost use Rattle.layout.specs.Words.{node_words};
+ghost use Rattle.layout.specs.Lent.{nodes_by};
 ghost use Rattle.layout.specs.Meaning.{read_at};
 ghost use Rattle.shape.specs.Walks.{ends};
-ghost use Rattle.shape.specs.Read.{up_in, kid_at, ups, root_of, kids, size_by, size_fits};
+ghost use Rattle.shape.specs.Read.{up_in, kid_at, ups, root_of, kids_by, size_by, size_fits};
 ghost use Rattle.shape.specs.declared.Mark.TheVariants.{Fresh};
-ghost use Rattle.shape.specs.Asks.{is_done, Shaped, Climbs, Climbed, ClimbsAll, ClimbedAll, Tallies, Tallied, Sizes, Falls, Visits, Tries, Visited};
+ghost use Rattle.shape.specs.Asks.{is_done, ShapedIn, Climbs, Climbed, ClimbsAll, ClimbedAll, Tallies, Tallied, Sizes, FallsIn, VisitsIn, TriesIn, Visited};
 
-use layout::{CHILD_WORDS, TypeNode};
+use layout::{CHILD_WORDS, Nodes, TypeNode};
 use scope::MAX_NODES;
 use types::TypeIdx;
 
@@ -164,9 +165,9 @@ fn is_done(marks: &Marks, v: TypeIdx) -> bool
 }
 
 // Whether every walk from v to the roots of children ends. One that comes back to an open node does not, and one to a done node does.
-fn visit(ws: &[u32], ks: &[u32], n: u32, roots: &Table, marks: &mut Marks, v: TypeIdx) -> bool
-    requires { Visits ws.now ks.now n roots.now marks.old v.0 }
-    ensures { Visited (kids ws.now ks.now n roots.now) n v.0 marks.old marks.new result }
+fn visit(nodes: &Nodes<'_>, roots: &Table, marks: &mut Marks, v: TypeIdx) -> bool
+    requires { VisitsIn nodes.now roots.now marks.old v.0 }
+    ensures { Visited (kids_by nodes.now roots.now) nodes.now.made v.0 marks.old marks.new result }
 {
     match marks[v.0 as usize] {
         Mark::Done => return true,
@@ -174,14 +175,14 @@ fn visit(ws: &[u32], ks: &[u32], n: u32, roots: &Table, marks: &mut Marks, v: Ty
         Mark::Fresh => {}
     }
     marks[v.0 as usize] = Mark::Open;
-    let Some((_, kind)) = layout::held_at(ws, n, v) else {
+    let Some((_, kind)) = layout::held_at(nodes.words, nodes.made, v) else {
         marks[v.0 as usize] = Mark::Done;
         return true;
     };
     let first = kind.first as usize;
     for i in first..first + kind.count as usize {
-        let r = root_of(roots, kid_at(ks, i));
-        if !visit(ws, ks, n, roots, marks, r) {
+        let r = root_of(roots, kid_at(nodes.kids, i));
+        if !visit(nodes, roots, marks, r) {
             return false;
         }
     }
@@ -190,22 +191,22 @@ fn visit(ws: &[u32], ks: &[u32], n: u32, roots: &Table, marks: &mut Marks, v: Ty
 }
 
 // A quick yes to whether every walk from v ends, where those from the nodes before v do: the roots of its children lie before v, or are done. Where nodes are
-// made after their children few marks are read. A run that is not all in ks has no quick yes, so a child is read without a test of its own.
-fn kids_done(ws: &[u32], ks: &[u32], n: u32, roots: &Table, marks: &Marks, v: TypeIdx) -> bool
-    requires { Tries ws.now ks.now n roots.now marks.now v.0 }
-    ensures { result ≡ true → ends (kids ws.now ks.now n roots.now) n v.0 ≡ true }
+// made after their children few marks are read. A run that is not all lent has no quick yes, so a child is read without a test of its own.
+fn kids_done(nodes: &Nodes<'_>, roots: &Table, marks: &Marks, v: TypeIdx) -> bool
+    requires { TriesIn nodes.now roots.now marks.now v.0 }
+    ensures { result ≡ true → ends (kids_by nodes.now roots.now) nodes.now.made v.0 ≡ true }
 {
-    let Some((_, kind)) = layout::held_at(ws, n, v) else {
+    let Some((_, kind)) = layout::held_at(nodes.words, nodes.made, v) else {
         return true;
     };
     let first = kind.first as usize;
     let end = first + kind.count as usize;
-    if ks.len() / CHILD_WORDS < end {
+    if nodes.kids.len() / CHILD_WORDS < end {
         return false;
     }
     let mut done = true;
     for i in first..end {
-        let root_more = at(roots, kid_at(ks, i));
+        let root_more = at(roots, kid_at(nodes.kids, i));
         if v.0 < root_more && !is_done(marks, TypeIdx(root_more - 1)) {
             done = false;
         }
@@ -214,19 +215,19 @@ fn kids_done(ws: &[u32], ks: &[u32], n: u32, roots: &Table, marks: &Marks, v: Ty
 }
 
 // Whether no walk to the roots of children comes back.
-fn falls_ok(ws: &[u32], ks: &[u32], n: u32, roots: &Table) -> bool
-    requires { Falls ws.now ks.now n roots.now }
-    ensures { result ≡ all (ends (kids ws.now ks.now n roots.now) n) (from 0 n) }
+fn falls_ok(nodes: &Nodes<'_>, roots: &Table) -> bool
+    requires { FallsIn nodes.now roots.now }
+    ensures { result ≡ all (ends (kids_by nodes.now roots.now) nodes.now.made) (from 0 nodes.now.made) }
 {
     let mut marks = [Mark::Fresh; MAX_NODES];
-    for i in 0..n {
+    for i in 0..nodes.made {
         let v = TypeIdx(i);
         if is_done(&marks, v) {
             continue;
         }
-        if kids_done(ws, ks, n, roots, &marks, v) {
+        if kids_done(nodes, roots, &marks, v) {
             marks[v.0 as usize] = Mark::Done;
-        } else if !visit(ws, ks, n, roots, &mut marks, v) {
+        } else if !visit(nodes, roots, &mut marks, v) {
             return false;
         }
     }
@@ -234,10 +235,12 @@ fn falls_ok(ws: &[u32], ks: &[u32], n: u32, roots: &Table) -> bool
 }
 
 // No "parent or child cycle", no "root size that isn't its tree's node count".
-pub fn shape_ok(ws: &[u32], ks: &[u32], n: u32) -> bool
-    requires { Shaped ws.now ks.now n }
-    ensures { result ≡ shape_sound (decode ws.now ks.now n) }
+pub fn shape_ok(nodes: &Nodes<'_>) -> bool
+    requires { ShapedIn nodes.now }
+    ensures { result ≡ shape_sound (nodes_by nodes.now) }
 {
     let mut roots: Table = [0u32; MAX_NODES];
-    find_roots(ws, n, &mut roots) && sizes_ok(ws, n, &roots) && falls_ok(ws, ks, n, &roots)
+    find_roots(nodes.words, nodes.made, &mut roots)
+        && sizes_ok(nodes.words, nodes.made, &roots)
+        && falls_ok(nodes, &roots)
 }

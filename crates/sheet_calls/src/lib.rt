@@ -70,8 +70,8 @@ pub fn plain_line(
         Plain::Make(m) => sheet_say::put_type(out, made(h, ws, ks, m, types)),
         Plain::Finish => {
             force::finish_inference(h, ws, ks);
-            append::put(out, 0, b"done")
+            append::written(out, b"done")
         }
-        Plain::Bad => append::put(out, 0, b"bad line"),
+        Plain::Bad => append::written(out, b"bad line"),
     }
 }

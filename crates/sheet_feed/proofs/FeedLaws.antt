@@ -58,27 +58,27 @@ line_ran {h} {ws} {ks} {h'} {ws'} {ks'} {line} {text} {text''} {at} {e} {n} k m 
           store = v.store;
         }
 
--- the piece ended first
-pub goes_on : {h ws ks line line' : List ℕ} {at q : ℕ} (piece : List ℕ) (e : ℕ) → e ≡ next_place 10 piece 0 → length piece ≤ e
-    → Appended line at line' q (take e piece) → GoesOn h ws ks h ws ks line at line' piece q
-goes_on piece e p l a =
+-- the piece ended first; the line is what was lent to it
+pub goes_on : {h ws ks line lent line' : List ℕ} {at q : ℕ} (piece : List ℕ) (e : ℕ) → e ≡ next_place 10 piece 0 → length piece ≤ e
+    → Appended line at lent q (take e piece) → lent ≡ line' → GoesOn h ws ks h ws ks line at line' piece q
+goes_on piece e p l a back =
     let w = place_within 10 piece 0 e (omega arith) p in
     record {
       none = omega (arith, p, w.1);
-      so_far = λ line₀ bs f. rw (take_all e piece l) at (a.keeps line₀ bs f);
+      so_far = λ line₀ bs f. rw (take_all e piece l, back) at (a.keeps line₀ bs f);
       head = refl;
       nodes = refl;
       kids = refl;
     }
 
 -- the line ended first
-pub line_ended : {h ws ks h' ws' ks' line line' text' : List ℕ} {at q n : ℕ} (piece : List ℕ) (e : ℕ) → e ≡ next_place 10 piece 0 → e < length piece
-    → Appended line at line' q (take e piece) → LineRan h ws ks h' ws' ks' line' q text' n → Ended h ws ks h' ws' ks' line at piece text' n (e + 1)
-line_ended piece e p l a r = record {
+pub line_ended : {h ws ks h' ws' ks' line lent line' text' : List ℕ} {at q n : ℕ} (piece : List ℕ) (e : ℕ) → e ≡ next_place 10 piece 0 → e < length piece
+    → Appended line at lent q (take e piece) → lent ≡ line' → LineRan h ws ks h' ws' ks' line' q text' n → Ended h ws ks h' ws' ks' line at piece text' n (e + 1)
+line_ended piece e p l a back r = record {
   took = omega (arith, p);
   inside = omega arith;
   fits = r.fits;
-  answered = λ line₀ bs f. rw p at (r.ran line₀ (bs ++ take e piece) (a.keeps line₀ bs f));
+  answered = λ line₀ bs f. rw p at (r.ran line₀ (bs ++ take e piece) (rw back at (a.keeps line₀ bs f)));
   sound = r.sound;
 }
 

@@ -6,6 +6,7 @@ ghost use Rattle.scope.specs.Limits.{SHEET_TEXT};
 ghost use Rattle.sheet_calls.specs.Store.{SheetStore};
 ghost use Rattle.sheet_feed.specs.Fed.{LINE_KEPT, LineRan, Feeds, LastRan};
 
+use append::Out;
 use scope::MAX_LINE;
 
 // "one over 255 bytes is a bad line": one byte more is enough to tell.
@@ -61,7 +62,9 @@ pub fn feed(
         line.old at line.new piece.now text.new result }
 {
     let e = sheet_lines::line_end(piece, 0);
-    let q = append::put(line, at, &piece[..e]);
+    let mut read = Out { buf: line, at };
+    append::put(&mut read, &piece[..e]);
+    let q = read.at;
     if piece.len() <= e {
         return Fed::More(q);
     }

@@ -11,11 +11,11 @@ ghost use Rattle.sheet_calls.specs.Store.{SheetStore};
 ghost use Rattle.sheet_calls.specs.Ran.{Ran, Shown};
 
 use call_unify::tested::unify_recalling;
-use chart::{Beside, Env};
+use chart::{Env, NO_BESIDE};
 use layout::{CHILD_WORDS, NODE_WORDS};
 use names::Texts;
 use recall::{ENTRY, HEAD};
-use scope::{NONE, SHEET_CHILDREN, SHEET_NODES, SHEET_TEXT};
+use scope::{SHEET_CHILDREN, SHEET_NODES, SHEET_TEXT};
 use sheet_lines::{LINE_TYPES, Line};
 use types::Type;
 
@@ -31,17 +31,13 @@ pub const SHEET_MEMORY_WORDS: usize = HEAD + ENTRY * (2 * SHEET_NODES) * (2 * SH
 fn empty_env<'a>() -> Env<'a>
     ensures { env_lent result ≡ sheet_env }
 {
-    let beside = Beside {
-        fn_trait: NONE,
-        sigils: [0; 12],
-    };
     let texts = Texts {
         rule: b"",
         chart: b"",
     };
     Env {
         chart: &[],
-        beside,
+        beside: NO_BESIDE,
         texts,
     }
 }

@@ -297,6 +297,10 @@ unfolding words
 parts_words [] = refl
 parts_words (b ∷ bs) = parts_by b (slice_split (λ c. eqb c 32) bs) (words bs) (eqb b 32) (parts_words bs)
 
+-- word n of some words
+abbrev pub WordAt : List (List ℕ) → ℕ → List ℕ → Type 0
+WordAt ws n w = (n < length ws) × (w ≡ get_or ws n w)
+
 -- a `for` over the parts of what stands from place i on, which has yielded xs
 module _ {F : Type 0} {g : Mut F (Bor ℕ × Unit {0}) Bool} {f : F} {s s₀ : Split ℕ F} {bs : List ℕ} (l : List ℕ) (i : ℕ) (xs : List (Bor (List ℕ))) (t : Split ℕ F)
     (y : Yields (split_steps g) s xs t) (from : bs ≡ slice_range l i (length l)) (same : s ≡ s₀) (rest : split_rest s₀ ≡ bs) (done : split_done s₀ ≡ false) (closure : split_callee s₀ ≡ f)
@@ -310,7 +314,7 @@ module _ {F : Type 0} {g : Mut F (Bor ℕ × Unit {0}) Bool} {f : F} {s s₀ : S
       (r : Option.Option (Bor (List ℕ))) (u : Split ℕ F) (w : Bor (List ℕ)) →
       r ≡ Some w →
       split_steps g t r u →
-      (length xs < length (words (drop i l))) × (w.now ≡ get_or (words (drop i l)) (length xs) w.now)
+      WordAt (words (drop i l)) (length xs) w.now
   words_turn r u w is p = YieldsList-turn road xs t y r u w is p
 
   pub words_over : (r : Option.Option (Bor (List ℕ))) (u : Split ℕ F) → r ≡ None → split_steps g t r u → length xs ≡ length (words (drop i l))
@@ -333,7 +337,7 @@ weight_words (b ∷ bs) = weight_by b (words bs) (eqb b 32) (length bs) (weight_
 
 -- a turn: the word after the first n of some words
 
-module _ (ws : List (List ℕ)) (n : ℕ) (w : List ℕ) {m : ℕ} (q : n ≡ m) (h : (m < length ws) × (w ≡ get_or ws m w)) where
+module _ (ws : List (List ℕ)) (n : ℕ) (w : List ℕ) {m : ℕ} (q : n ≡ m) (h : WordAt ws m w) where
   turn_word : drop n ws ≡ w ∷ drop (n + 1) ws
   turn_word =
       let here : w ≡ get_or ws n w = h.1 ∙ ap (λ (k : ℕ). get_or ws k w) (sym q) in

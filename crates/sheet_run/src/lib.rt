@@ -6,6 +6,7 @@ ghost use Rattle.scope.specs.Sheet.{sheet_store, sheet};
 ghost use Rattle.promise.specs.Prints.{count_reply, PrintPromised};
 ghost use Rattle.sheet_run.specs.Starts.{next_start};
 
+use append::Out;
 use layout::HEAD_WORDS;
 use refusals::Refusal;
 use scope::SHEET_TEXT;
@@ -18,28 +19,28 @@ fn next_start(input: &[u8], e: usize) -> usize
     if e < input.len() { e + 1 } else { e }
 }
 
-// A whole input, from bytes to bytes, with a memory for its unify, whatever it holds. Where the output does not fit, `out` is filled with its first bytes, as a
+// A whole input, from bytes to bytes, with a memory for its unify, whatever it holds. Where the output does not fit, `buf` is filled with its first bytes, as a
 // printer's buffer is.
-pub fn run(input: &[u8], memory: &mut [u32], out: &mut [u8]) -> Result<usize, Refusal>
-    ensures { PrintPromised (printed_text sheet_store (sheet input.now) out.old) (count_reply result) sheet_store out.new }
+pub fn run(input: &[u8], memory: &mut [u32], buf: &mut [u8]) -> Result<usize, Refusal>
+    ensures { PrintPromised (printed_text sheet_store (sheet input.now) buf.old) (count_reply result) sheet_store buf.new }
 {
     let mut h = [0u32; HEAD_WORDS];
     let mut ws = [0u32; SHEET_NODE_WORDS];
     let mut ks = [0u32; SHEET_CHILD_WORDS];
     sheet_calls::start(&mut h, &mut ws, &mut ks);
     let mut text = [0u8; SHEET_TEXT];
-    let mut at: usize = 0;
+    let mut out = Out { buf, at: 0 };
     let mut i: usize = 0;
     // Kept (3): tried over `split_inclusive` with `strip_suffix`; the proof did not close in time: no law of the library lists the parts that `split_inclusive` gives, so it needs one of its own.
     while i < input.len() {
         let e = sheet_lines::line_end(input, i);
         let n = sheet_line::run_line(&mut h, &mut ws, &mut ks, memory, &input[i..e], &mut text);
-        let p = append::put(out, at, &text[..n]);
-        at = append::put_byte(out, p, b'\n');
+        append::put(&mut out, &text[..n]);
+        append::put_byte(&mut out, b'\n');
         i = next_start(input, e);
     }
-    if append::is_full(out, at) {
+    if append::is_full(&out) {
         return Err(Refusal::Short);
     }
-    Ok(at)
+    Ok(out.at)
 }

@@ -9,41 +9,46 @@ ghost use Rattle.refusals.specs.Codes.{number};
 ghost use Rattle.sheet_say.specs.Front.{Front};
 ghost use Rattle.sheet_say.specs.Texts.{refused_text, type_text};
 
+use append::Out;
 use refusals::Refusal;
 use types::{Type, UnifyResult};
 
 // "A refusal prints as `refused 3`."
-pub fn put_refused(out: &mut [u8], r: Refusal) -> usize
-    requires { SHEET_TEXT ≤ length out.old }
-    ensures { Front out.old out.new result (refused_text (number r)) }
+pub fn put_refused(buf: &mut [u8], r: Refusal) -> usize
+    requires { SHEET_TEXT ≤ length buf.old }
+    ensures { Front buf.old buf.new result (refused_text (number r)) }
 {
-    let at = append::put(out, 0, b"refused ");
-    append::put_decimal(out, at, u32::from(r))
+    let mut out = Out { buf, at: 0 };
+    append::put(&mut out, b"refused ");
+    append::put_decimal(&mut out, u32::from(r));
+    out.at
 }
 
 // "`=` and the node"
-pub fn put_type(out: &mut [u8], r: Result<Type, Refusal>) -> usize
-    requires { SHEET_TEXT ≤ length out.old }
-    ensures { Front out.old out.new result (type_text r) }
+pub fn put_type(buf: &mut [u8], r: Result<Type, Refusal>) -> usize
+    requires { SHEET_TEXT ≤ length buf.old }
+    ensures { Front buf.old buf.new result (type_text r) }
 {
     match r {
         Ok(t) => {
-            let at = append::put(out, 0, b"=");
-            append::put_decimal(out, at, t.idx().0)
+            let mut out = Out { buf, at: 0 };
+            append::put(&mut out, b"=");
+            append::put_decimal(&mut out, t.idx().0);
+            out.at
         }
-        Err(e) => put_refused(out, e),
+        Err(e) => put_refused(buf, e),
     }
 }
 
 // "unify's answer"
 // Kept (4): a Display writes by a formatter; this is lent memory, of which the promise says every byte.
-pub fn put_unify(out: &mut [u8], r: UnifyResult) -> usize
-    requires { SHEET_TEXT ≤ length out.old }
-    ensures { Front out.old out.new result (answer_text (answer_of r)) }
+pub fn put_unify(buf: &mut [u8], r: UnifyResult) -> usize
+    requires { SHEET_TEXT ≤ length buf.old }
+    ensures { Front buf.old buf.new result (answer_text (answer_of r)) }
 {
     match r {
-        UnifyResult::Success => append::put(out, 0, b"Success"),
-        UnifyResult::Failure => append::put(out, 0, b"Failure"),
-        UnifyResult::Indeterminate => append::put(out, 0, b"Indeterminate"),
+        UnifyResult::Success => append::written(buf, b"Success"),
+        UnifyResult::Failure => append::written(buf, b"Failure"),
+        UnifyResult::Indeterminate => append::written(buf, b"Indeterminate"),
     }
 }

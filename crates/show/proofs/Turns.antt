@@ -25,8 +25,9 @@ use Rattle.layout.proofs.HeldLaws.{state_node, held_state}
 use Rattle.types.specs.declared.Inverted.{Inverted}
 use Rattle.roots.specs.Found.{Found}
 use Rattle.walk.specs.Asks.{Stands}
-use Rattle.append.specs.Appended.{Appended}
-use Rattle.append.proofs.Laws.{append_none, append_then}
+use Rattle.append.specs.declared.Out.{Out}
+use Rattle.append.specs.Appended.{Puts}
+use Rattle.append.proofs.Laws.{puts_none, puts_then}
 use Rattle.layout.specs.Meaning.{Held}
 use Rattle.std.specs.Prelude.{Some, None}
 use Rattle.show_names.specs.Names.{unknown_text}
@@ -37,22 +38,20 @@ use Rattle.show.proofs.Level.{level_is}
 use Rattle.show.proofs.Runs.{children_next, children_end}
 
 -- before child j of m: what is left gives the whole
-pub record Turn (gap item : ℕ → List ℕ) (close : List ℕ) (m : ℕ) (buf₀ : List ℕ) (p₀ : ℕ) (buf : List ℕ) (p j : ℕ) : Type 0 where
+pub record Turn (gap item : ℕ → List ℕ) (close : List ℕ) (m : ℕ) (out₀ out : Out) (j : ℕ) : Type 0 where
   pub within : j ≤ m
-  pub goes : (buf' : List ℕ) (r : ℕ) → Appended buf p buf' r (children gap item close (m - j) j) → Appended buf₀ p₀ buf' r (children gap item close m 0)
+  pub goes : (out' : Out) → Puts out out' (children gap item close (m - j) j) → Puts out₀ out' (children gap item close m 0)
 
 module _ (gap item : ℕ → List ℕ) (close : List ℕ) (m : ℕ) where
-  pub turn_next : {buf₀ buf buf₁ buf₂ : List ℕ} {p₀ p q r j : ℕ}
-      → Turn gap item close m buf₀ p₀ buf p j → j < m → Appended buf p buf₁ q (gap j) → Appended buf₁ q buf₂ r (item j)
-      → Turn gap item close m buf₀ p₀ buf₂ r (j + 1)
+  pub turn_next : {out₀ out out₁ out₂ : Out} {j : ℕ}
+      → Turn gap item close m out₀ out j → j < m → Puts out out₁ (gap j) → Puts out₁ out₂ (item j) → Turn gap item close m out₀ out₂ (j + 1)
   turn_next {j = j} t h a b = record {
     within = omega arith;
-    goes = λ buf' s d. t.goes buf' s (rw (children_next gap item close m j h) (append_then a (append_then b d)));
+    goes = λ out' d. t.goes out' (rw (children_next gap item close m j h) (puts_then a (puts_then b d)));
   }
 
-  pub turn_end : {buf₀ buf buf' : List ℕ} {p₀ p r j : ℕ}
-      → Turn gap item close m buf₀ p₀ buf p j → m ≤ j → Appended buf p buf' r close → Appended buf₀ p₀ buf' r (children gap item close m 0)
-  turn_end {buf' = buf'} {r = r} {j = j} t h a = t.goes buf' r (rw (children_end gap item close m j h) a)
+  pub turn_end : {out₀ out out' : Out} {j : ℕ} → Turn gap item close m out₀ out j → m ≤ j → Puts out out' close → Puts out₀ out' (children gap item close m 0)
+  turn_end {out' = out'} {j = j} t h a = t.goes out' (rw (children_end gap item close m j h) a)
 
 -- a node by what the code reads of it
 state_known : (ks : List ℕ) (v : TypeNode) (i : Inverted) (k : Kind) → held_in v ≡ Some (i, k) → state_of (node_means ks v) ≡ nodes.Known i.0 (kind_means ks k)
@@ -66,9 +65,9 @@ state_unknown g e nil r ks (Root (Unknown s) z) h = rw append-nil
 state_unknown g e nil r ks (Root InferenceFailed z) h = rw append-nil
 state_unknown g e nil r ks (Child t) h = rw append-nil
 
-pub show_shallow : (e : Env) (depth : ℕ) (ns : List Node) (t : Ty) (buf : List ℕ) (p : ℕ) → depth ≡ 0 → Appended buf p buf p (show_f e depth ns t)
+pub show_shallow : (e : Env) (depth : ℕ) (ns : List Node) (t : Ty) (out : Out) → depth ≡ 0 → Puts out out (show_f e depth ns t)
 unfolding show_f
-show_shallow e depth ns t buf p h = rw h (append_none buf p)
+show_shallow e depth ns t out h = rw h (puts_none out)
 
 one_level : (e : Env) (depth : ℕ) (ns : List Node) (t : Ty) → (depth ≡ 0 → ⊥) → show_f e depth ns t ≡ render (show_f e (depth - 1) ns) (pieces e ns t)
 unfolding show_f
@@ -117,16 +116,16 @@ module _ {ws ks : List ℕ} {n : ℕ} (st : Stands ws ks n) (e : Env) (depth : �
         ∙ ap (λ (c : ℕ). written k b d c) (sym em)
 
 -- a ~ or none and what stands before the children, then the rest
-pub level_put : {buf buf₁ buf₂ : List ℕ} {at p r : ℕ} (lead rest : List ℕ) (k : Kind) (b d : Bool) → d ≡ dual_of k
-    → Appended buf at buf₁ p (sign_of (b && not d) ++ lead) → Appended buf₁ p buf₂ r rest → Appended buf at buf₂ r (tilde_of b k ++ (lead ++ rest))
-level_put {buf} {buf₁} {buf₂} {at} {p} {r} lead rest k b d e x z =
-    subst (λ (c : Bool). Appended buf at buf₂ r (sign_of (b && not c) ++ (lead ++ rest))) e (rw (← append_assoc (sign_of (b && not d)) lead rest) (append_then x z))
+pub level_put : {out out₁ out₂ : Out} (lead rest : List ℕ) (k : Kind) (b d : Bool) → d ≡ dual_of k
+    → Puts out out₁ (sign_of (b && not d) ++ lead) → Puts out₁ out₂ rest → Puts out out₂ (tilde_of b k ++ (lead ++ rest))
+level_put {out} {out₁} {out₂} lead rest k b d e x z =
+    subst (λ (c : Bool). Puts out out₂ (sign_of (b && not c) ++ (lead ++ rest))) e (rw (← append_assoc (sign_of (b && not d)) lead rest) (puts_then x z))
 
 -- child j, as it was read and inverted
-pub kid_shown : {buf buf' : List ℕ} {p r : ℕ} (g : Ty → List ℕ) (ks : List ℕ) (k : Kind) (d : Bool) (j : ℕ) (s : Slot) (u : ℕ)
-    → ty_of u ≡ flip d (ty_of s.ty.0) → slot_means s ≡ slot_at ks (k.first + j) → Appended buf p buf' r (g (ty_of u)) → Appended buf p buf' r (g (kid_of ks k d j))
-kid_shown {buf} {buf'} {p} {r} g ks k d j s u a b h =
-    subst (λ (t : Ty). Appended buf p buf' r (g t)) (a ∙ ap (λ w. flip d (ty_of w.type)) b) h
+pub kid_shown : {out out' : Out} (g : Ty → List ℕ) (ks : List ℕ) (k : Kind) (d : Bool) (j : ℕ) (s : Slot) (u : ℕ)
+    → ty_of u ≡ flip d (ty_of s.ty.0) → slot_means s ≡ slot_at ks (k.first + j) → Puts out out' (g (ty_of u)) → Puts out out' (g (kid_of ks k d j))
+kid_shown {out} {out'} g ks k d j s u a b h =
+    subst (λ (t : Ty). Puts out out' (g t)) (a ∙ ap (λ w. flip d (ty_of w.type)) b) h
 
 -- as deep as there are nodes
 pub show_whole : (e : Env) (ws ks : List ℕ) (n : ℕ) (t : Ty) → show_f e n (decode ws ks n) t ≡ show e (decode ws ks n) t

@@ -14,8 +14,9 @@ use Rattle.scope.specs.Names.{bytes}
 use Rattle.scope.specs.Chart.{Env, record_at}
 use Rattle.scope.specs.Types.{Ty, ty_of}
 use Rattle.scope.specs.Show.{fixed, sub, render, commas, trait_pieces, fn_pieces}
-use Rattle.append.specs.Appended.{Appended}
-use Rattle.append.proofs.Laws.{append_then}
+use Rattle.append.specs.declared.Out.{Out}
+use Rattle.append.specs.Appended.{Puts}
+use Rattle.append.proofs.Laws.{puts_then}
 use Rattle.show.proofs.Runs.{render_append}
 
 module _ (g : Ty → List ℕ) where
@@ -39,7 +40,7 @@ module _ (g : Ty → List ℕ) where
     fn_by true h = rw (h, render_append g (commas i ps) (fixed (text ")") ∷ []))
     fn_by false h = rw (h, render_append g (commas i ps) (fixed (text ")") ∷ fixed (text " -> ") ∷ sub ret ∷ []), append-nil (g ret))
 
-    pub fn_put : (b : Bool) → nil ret ≡ b → {b₀ b₁ b₂ b₃ b₄ b₅ : List ℕ} {p₀ p₁ p₂ p₃ p₄ p₅ : ℕ}
-        → Appended b₀ p₀ b₁ p₁ (text "fn ") → Appended b₁ p₁ b₂ p₂ (g receiver) → Appended b₂ p₂ b₃ p₃ (text "(") → Appended b₃ p₃ b₄ p₄ (render g (commas i ps))
-        → Appended b₄ p₄ b₅ p₅ (text ")" ++ pick b [] (text " -> " ++ g ret)) → Appended b₀ p₀ b₅ p₅ (render g (fn_pieces nil receiver i ps ret))
-    fn_put b h said of opened listed rest = rw (fn_by b h) (append_then said (append_then of (append_then opened (append_then listed rest))))
+    pub fn_put : (b : Bool) → nil ret ≡ b → {o₀ o₁ o₂ o₃ o₄ o₅ : Out}
+        → Puts o₀ o₁ (text "fn ") → Puts o₁ o₂ (g receiver) → Puts o₂ o₃ (text "(") → Puts o₃ o₄ (render g (commas i ps))
+        → Puts o₄ o₅ (text ")" ++ pick b [] (text " -> " ++ g ret)) → Puts o₀ o₅ (render g (fn_pieces nil receiver i ps ret))
+    fn_put b h said of opened listed rest = rw (fn_by b h) (puts_then said (puts_then of (puts_then opened (puts_then listed rest))))

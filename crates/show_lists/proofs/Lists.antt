@@ -16,8 +16,9 @@ use Rattle.scope.specs.Types.{Ty, flip, ty_of}
 use Rattle.scope.specs.Show.{Piece, sub, render, commas}
 use Rattle.layout.specs.Meaning.{kind_means}
 use Rattle.layout.specs.declared.Kind.{Kind}
-use Rattle.append.specs.Appended.{Appended}
-use Rattle.append.proofs.Laws.{append_none}
+use Rattle.append.specs.declared.Out.{Out}
+use Rattle.append.specs.Appended.{Puts}
+use Rattle.append.proofs.Laws.{puts_none}
 use Rattle.show.specs.Level.{children, kid_of}
 use Rattle.show.proofs.Runs.{map-map, comma_suc, joined_run, commas_run}
 use Rattle.show.proofs.Turns.{Turn, turn_end}
@@ -51,18 +52,18 @@ module _ (g : Ty → List ℕ) where
       map-map (λ t. sub (flip false t) ∷ []) ty_of xs ∙ list_from (λ x. sub (ty_of x) ∷ []) xs in
       rw e (joined_run g F comma (item xs) close 0 (length xs) (λ m h. rw (append-nil, zero-add (suc m), comma_suc m)) (length xs) (omega arith) (λ h. rw (append-nil, zero-add 0)))
 
-  pub list_end : (xs : List ℕ) {buf₀ buf : List ℕ} {p₀ p j : ℕ} → Turn comma (item xs) [] (length xs) buf₀ p₀ buf p j → length xs ≤ j
-      → Appended buf₀ p₀ buf p (render g (commas false (map ty_of xs)))
-  list_end xs {buf₀} {buf} {p₀} {p} {j} t h =
-      rw (sym (append-nil (render g (commas false (map ty_of xs)))) ∙ list_run xs []) (turn_end comma (item xs) [] (length xs) t h (append_none buf p))
+  pub list_end : (xs : List ℕ) {out₀ out : Out} {j : ℕ} → Turn comma (item xs) [] (length xs) out₀ out j → length xs ≤ j
+      → Puts out₀ out (render g (commas false (map ty_of xs)))
+  list_end xs {out₀} {out} {j} t h =
+      rw (sym (append-nil (render g (commas false (map ty_of xs)))) ∙ list_run xs []) (turn_end comma (item xs) [] (length xs) t h (puts_none out))
 
   -- child j of a kind
   abbrev pub child : List ℕ → Kind → Bool → ℕ → List ℕ
   child ks k i j = g (kid_of ks k i j)
 
-  pub params_end : (x : Texts) (ks : List ℕ) (k : Kind) (i : Bool) {buf₀ buf : List ℕ} {p₀ p j : ℕ} → Turn comma (child ks k i) [] k.count buf₀ p₀ buf p j → k.count ≤ j
-      → Appended buf₀ p₀ buf p (render g (commas i (kind_means ks k).kids))
+  pub params_end : (x : Texts) (ks : List ℕ) (k : Kind) (i : Bool) {out₀ out : Out} {j : ℕ} → Turn comma (child ks k i) [] k.count out₀ out j → k.count ≤ j
+      → Puts out₀ out (render g (commas i (kind_means ks k).kids))
   unfolding kind_means
-  params_end x ks k i {buf₀} {buf} {p₀} {p} {j} t h =
+  params_end x ks k i {out₀} {out} {j} t h =
       rw (sym (append-nil (render g (commas i (kind_means ks k).kids))) ∙ commas_run g x i ks k.first comma (λ m. refl) [] k.count)
-      (turn_end comma (child ks k i) [] k.count t h (append_none buf p))
+      (turn_end comma (child ks k i) [] k.count t h (puts_none out))

@@ -9,10 +9,10 @@ ghost use Rattle.scope.specs.Names.{bytes};
 ghost use Rattle.scope.specs.Types.{ty_of};
 ghost use Rattle.names.specs.Place.{texts, name_of, texts_by};
 ghost use Rattle.chart.specs.Env.{chart_lent};
-ghost use Rattle.append.specs.Appended.{Appended};
+ghost use Rattle.append.specs.Appended.{Puts};
 ghost use Rattle.show_names.specs.Names.{comma, entry_text, function_text, unknown_text};
 
-use append::{put, put_decimal};
+use append::{Out, put, put_decimal};
 use chart::Env;
 use kinds::TRAIT_FN_SORT;
 use layout::Kind;
@@ -20,60 +20,64 @@ use names::{Name, Texts};
 use types::Type;
 
 // A ~ where a type is inverted.
-pub fn put_tilde(buf: &mut [u8], at: usize, inverted: bool) -> usize
-    ensures { Appended buf.old at buf.new result (pick inverted (text "~") []) }
+pub fn put_tilde(out: &mut Out<'_>, inverted: bool)
+    ensures { Puts out.old out.new (pick inverted (text "~") []) }
 {
-    if inverted { put(buf, at, b"~") } else { at }
+    if inverted {
+        put(out, b"~");
+    }
 }
 
 // A name's bytes, from its text.
-pub fn put_name(texts: &Texts<'_>, buf: &mut [u8], at: usize, n: Name) -> usize
-    ensures { Appended buf.old at buf.new result (bytes (texts_by texts.now) (name_of n)) }
+pub fn put_name(texts: &Texts<'_>, out: &mut Out<'_>, n: Name)
+    ensures { Puts out.old out.new (bytes (texts_by texts.now) (name_of n)) }
 {
-    put(buf, at, names::bytes_of(n, texts))
+    put(out, names::bytes_of(n, texts));
 }
 
 // Between the items of a list.
-pub fn put_comma(buf: &mut [u8], at: usize, j: u32) -> usize
-    ensures { Appended buf.old at buf.new result (comma j) }
+pub fn put_comma(out: &mut Out<'_>, j: u32)
+    ensures { Puts out.old out.new (comma j) }
 {
-    if j == 0 { at } else { put(buf, at, b", ") }
+    if j != 0 {
+        put(out, b", ");
+    }
 }
 
 // The name of child j of a kind, or dots, and a colon, among others.
-pub fn put_entry(texts: &Texts<'_>, ks: &[u32], buf: &mut [u8], at: usize, k: Kind, j: u32) -> usize
-    ensures { Appended buf.old at buf.new result (entry_text (texts_by texts.now) ks.now k j) }
+pub fn put_entry(texts: &Texts<'_>, ks: &[u32], out: &mut Out<'_>, k: Kind, j: u32)
+    ensures { Puts out.old out.new (entry_text (texts_by texts.now) ks.now k j) }
 {
-    let p = put_comma(buf, at, j);
-    let n = layout::child_of(ks, k, j).name;
+    put_comma(out, j);
+    let n = layout::child_of(ks, k.first, j).name;
     if n.len == 0 {
-        return put(buf, p, b"...: ");
+        put(out, b"...: ");
+    } else {
+        put_name(texts, out, n);
+        put(out, b": ");
     }
-    let named = put_name(texts, buf, p, n);
-    put(buf, named, b": ")
 }
 
 // A concrete fn's path; of a trait fn its trait's path and its own name.
-pub fn put_function(env: &Env<'_>, buf: &mut [u8], at: usize, number: u32) -> usize
-    ensures { Appended buf.old at buf.new result
-        (function_text (chart_lent env.now)
-        (record_at (chart_lent env.now) number)) }
+pub fn put_function(env: &Env<'_>, out: &mut Out<'_>, number: u32)
+    ensures { Puts out.old out.new (function_text (chart_lent env.now) (record_at (chart_lent env.now) number)) }
 {
-    let said = put(buf, at, b"fn ");
-    if chart::sort_at(env.chart, number) != TRAIT_FN_SORT {
-        return put_name(&env.texts, buf, said, chart::path_at(env.chart, number));
+    put(out, b"fn ");
+    if chart::sort_at(env.chart, number) == TRAIT_FN_SORT {
+        let owner = chart::trait_at(env.chart, number);
+        put_name(&env.texts, out, chart::path_at(env.chart, owner));
+        put(out, b"::");
+        put_name(&env.texts, out, chart::name_at(env.chart, number));
+    } else {
+        put_name(&env.texts, out, chart::path_at(env.chart, number));
     }
-    let owner = chart::trait_at(env.chart, number);
-    let within = put_name(&env.texts, buf, said, chart::path_at(env.chart, owner));
-    let joined = put(buf, within, b"::");
-    put_name(&env.texts, buf, joined, chart::name_at(env.chart, number))
 }
 
 // A root without a kind: its number.
-pub fn put_unknown(buf: &mut [u8], at: usize, r: Type) -> usize
-    ensures { Appended buf.old at buf.new result (unknown_text (ty_of r.0)) }
+pub fn put_unknown(out: &mut Out<'_>, r: Type)
+    ensures { Puts out.old out.new (unknown_text (ty_of r.0)) }
 {
-    let turned = put_tilde(buf, at, r.inv().0);
-    let asked = put(buf, turned, b"?");
-    put_decimal(buf, asked, r.idx().0)
+    put_tilde(out, r.inv().0);
+    put(out, b"?");
+    put_decimal(out, r.idx().0);
 }

@@ -4,10 +4,10 @@
 ghost use Rattle.std.specs.Prelude.{◌≡◌, [], ◌++◌};
 ghost use Rattle.names.specs.Place.{name_of, texts_by};
 ghost use Rattle.chart.specs.Env.{env_of, env_by};
-ghost use Rattle.append.specs.Appended.{Appended};
+ghost use Rattle.append.specs.Appended.{Puts};
 ghost use Rattle.show_parts.specs.Parts.{front_of, back_of, own_name, lead_of, gap_of, end_of, close_of, sign_of};
 
-use append::{put, put_decimal};
+use append::{Out, put, put_decimal};
 use chart::{Beside, Env};
 use kinds::{
     CLOSURE, DEFAULT, ENUM, ERROR, FN, IF_CONST, KEY, NEVER, OBJECT, OPAQUE, PARAM, REF, STRUCT,
@@ -67,38 +67,38 @@ fn back(code: u32, count: u32) -> &'static [u8]
 }
 
 // A kind up to its children, with a ~ or without.
-pub fn put_lead(env: &Env<'_>, buf: &mut [u8], at: usize, tilde: bool, k: Kind) -> usize
-    ensures { Appended buf.old at buf.new result
-        (sign_of tilde ++ lead_of (env_by env.now) k) }
+pub fn put_lead(env: &Env<'_>, out: &mut Out<'_>, tilde: bool, k: Kind)
+    ensures { Puts out.old out.new (sign_of tilde ++ lead_of (env_by env.now) k) }
 {
-    let turned = put_tilde(buf, at, tilde);
+    put_tilde(out, tilde);
     if k.code == FN {
-        return put_function(env, buf, turned, k.number);
+        put_function(env, out, k.number);
+        return;
     }
-    let said = put(buf, turned, front(k.code, k.count));
+    put(out, front(k.code, k.count));
     if k.code == TUPLE {
-        return said;
+        return;
     }
-    let named = put_name(&env.texts, buf, said, own_name(env.chart, env.beside, k));
-    let p = put(buf, named, back(k.code, k.count));
+    put_name(&env.texts, out, own_name(env.chart, env.beside, k));
+    put(out, back(k.code, k.count));
     if k.code != CLOSURE {
-        return p;
+        return;
     }
-    let numbered = put_decimal(buf, p, k.number);
-    put(buf, numbered, b">(")
+    put_decimal(out, k.number);
+    put(out, b">(");
 }
 
 // What stands before child j of a kind.
 #[tactic(auto, unfolding(crate::specs::Parts::gap_of))]
-pub fn put_gap(texts: &Texts<'_>, ks: &[u32], buf: &mut [u8], at: usize, k: Kind, j: u32) -> usize
-    ensures { Appended buf.old at buf.new result (gap_of (texts_by texts.now) ks.now k j) }
+pub fn put_gap(texts: &Texts<'_>, ks: &[u32], out: &mut Out<'_>, k: Kind, j: u32)
+    ensures { Puts out.old out.new (gap_of (texts_by texts.now) ks.now k j) }
 {
     match k.code {
-        CLOSURE if j as usize + 1 == k.count as usize => put(buf, at, b") -> "),
-        OBJECT | CLOSURE => put_entry(texts, ks, buf, at, k, j),
-        IF_CONST if j == 0 => at,
-        IF_CONST => put(buf, at, b" } else { "),
-        _ => put_comma(buf, at, j),
+        CLOSURE if j as usize + 1 == k.count as usize => put(out, b") -> "),
+        OBJECT | CLOSURE => put_entry(texts, ks, out, k, j),
+        IF_CONST if j == 0 => {}
+        IF_CONST => put(out, b" } else { "),
+        _ => put_comma(out, j),
     }
 }
 
@@ -118,8 +118,8 @@ fn end(code: u32, count: u32, m: u32) -> &'static [u8]
     }
 }
 
-pub fn put_close(buf: &mut [u8], at: usize, k: Kind, m: u32) -> usize
-    ensures { Appended buf.old at buf.new result (close_of k m) }
+pub fn put_close(out: &mut Out<'_>, k: Kind, m: u32)
+    ensures { Puts out.old out.new (close_of k m) }
 {
-    put(buf, at, end(k.code, k.count, m))
+    put(out, end(k.code, k.count, m));
 }

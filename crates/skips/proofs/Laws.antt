@@ -7,7 +7,7 @@ use mathlib.Core.List.{List}
 use Prim.Native.Nat.{ℕ, ◌+◌, ◌≤◌, ◌<◌}
 use native.Mathlib.Omega.{arith}
 use native.Mathlib.Decide.{ℕ_discrete, dec_lt}
-use lib.ListN.{length, get_or, set, replicate, get_or-replicate, length-replicate, get_or-eq_default}
+use lib.ListN.{length, get_or, set}
 use lib.Seq.{get_or-set_same, get_or-set_other, set_out}
 use Rattle.scope.specs.Types.{ty_of}
 use Rattle.layout.specs.Words.{slot_at}
@@ -19,18 +19,6 @@ use Rattle.skips.specs.Table.{BYTES, marked, slot_seen, Skips, Passed, Scanned, 
 slot_seen_lem : (ks seen : List ℕ) (s : ℕ) {j : ℕ} {b : Bool} (d : Slot) → slot_means d ≡ slot_at ks s → j ≡ (ty_of d.ty.0).idx
     → b ≡ marked seen j → b ≡ true → slot_seen ks seen s ≡ true
 slot_seen_lem ks seen s d q o m z = ap (marked seen) (sym (o ∙ ap (λ x. (ty_of x.type).idx) q)) ∙ (sym m ∙ z)
-
--- a table of nothing
-
-pub zeros_at : (m i : ℕ) → get_or {A = ℕ} (replicate m 0) i 0 ≡ 0
-zeros_at m i = go (dec_lt i m)
-  where
-    go : Dec (i < m) → get_or {A = ℕ} (replicate m 0) i 0 ≡ 0
-    go (yes h) = get_or-replicate m i 0 0 h
-    go (no h) = get_or-eq_default (replicate m 0) 0 (rw length-replicate (omega arith))
-
-pub skips_zeros : (p : ℕ → Bool) (m : ℕ) → Skips p (replicate m 0)
-skips_zeros p m = record { each = λ s x l u. absurd (omega (arith, l, rw (zeros_at m s) at u)) }
 
 -- one byte set
 skips_set : {p : ℕ → Bool} {skip : List ℕ} (s v : ℕ) → Skips p skip → ((x : ℕ) → s ≤ x → x < s + v → p x ≡ true) → Skips p (set skip s v)
@@ -44,9 +32,6 @@ skips_set {p} {skip} s v c h = record { each = λ a x l u. go a x l u (ℕ_discr
     go a x l u (no e) d = c.each a x l (rw (get_or-set_other skip s a v 0 e) at u)
 
 -- passing over
-
-pub passed_none : (skip : List ℕ) (s : ℕ) → Passed skip skip s 0
-passed_none skip s = record { over = λ p c x l u. absurd (omega arith); skips = λ p c. c; below = omega arith }
 
 module _ {skip : List ℕ} {s a b : ℕ} (ea : a ≡ get_or skip s 0) (eb : b ≡ get_or skip (s + a) 0) where
   over_both : (p : ℕ → Bool) → Skips p skip → (x : ℕ) → s ≤ x → x < s + (a + b) → p x ≡ true

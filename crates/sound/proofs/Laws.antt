@@ -159,21 +159,32 @@ node_inside_lem e ns (nodes.Root (nodes.Unknown s) z) h = refl
 node_inside_lem e ns (nodes.Root nodes.InferenceFailed z) h = refl
 node_inside_lem e ns (nodes.Child t) h = h
 
-pub shaped : (h ws ks : List ℕ) (e : Env) (x : Header) → x ≡ header_in h → readable h ws ks ≡ true → nodes_test e ws ks x.children x.nodes ≡ true
-    → Shaped ws ks x.nodes
-shaped h ws ks e x g r t =
-    let m : nodes_made h ≡ x.nodes = sym (ap (λ (y : Header). y.nodes) g) in
-    let p = tested h ws ks e x g r t in
-    let ns : List nodes.Node = decode ws ks (nodes_made h) in
-    let l : Lies h ws ks = clean_lies h ws ks p.0 in
-    let w = (both (leb (node_room h) MAX_NODES) (leb (child_room h) MAX_CHILDREN) (readable_parts h ws ks r).0).0 in
-    let k : node_room h ≤ MAX_NODES = leb-true (node_room h) MAX_NODES w in
-    subst (Shaped ws ks) m record {
-      made = children_made h;
-      few = omega (arith, l.nodes, k);
-      clean = clean_nodes h ws ks p.0;
-      inside = λ i q. node_inside_lem e ns (nodes.at ns i) (all_at (node_sound e ns) ns past i p.1 (rw (length_decode ws ks (nodes_made h)) q));
-    }
+-- the tests before that of the shape pass
+pub record Passed (h ws ks : List ℕ) (e : Env) (x : Header) : Type 0 where
+  pub head : x ≡ header_in h
+  pub readable : readable h ws ks ≡ true
+  pub nodes : nodes_test e ws ks x.children x.nodes ≡ true
+  pub error : remembered (decode ws ks x.nodes) (remembered_means x.error) ≡ true
+  pub nil : remembered (decode ws ks x.nodes) (remembered_means x.nil) ≡ true
+
+module _ {h ws ks : List ℕ} {e : Env} {x : Header} (p : Passed h ws ks e x) where
+  pub shaped : Shaped ws ks x.nodes
+  shaped =
+      let m : nodes_made h ≡ x.nodes = sym (ap (λ (y : Header). y.nodes) p.head) in
+      let t = tested h ws ks e x p.head p.readable p.nodes in
+      let ns : List nodes.Node = decode ws ks (nodes_made h) in
+      let l : Lies h ws ks = clean_lies h ws ks t.0 in
+      let w = (both (leb (node_room h) MAX_NODES) (leb (child_room h) MAX_CHILDREN) (readable_parts h ws ks p.readable).0).0 in
+      let k : node_room h ≤ MAX_NODES = leb-true (node_room h) MAX_NODES w in
+      subst (Shaped ws ks) m record {
+        made = children_made h;
+        few = omega (arith, l.nodes, k);
+        clean = clean_nodes h ws ks t.0;
+        inside = λ i q. node_inside_lem e ns (nodes.at ns i) (all_at (node_sound e ns) ns past i t.1 (rw (length_decode ws ks (nodes_made h)) q));
+      }
+
+  pub sound_passed : sound e (lent_of h ws ks) ≡ shape_sound (decode ws ks x.nodes)
+  sound_passed = rw (readable_sound h ws ks e x p.head p.readable, p.nodes, p.error, p.nil)
 
 -- what stands beside the chart
 

@@ -11,6 +11,7 @@ ghost use Rattle.refusals.specs.Codes.{told};
 ghost use Rattle.sound.specs.Tests.{readable, env_lent};
 
 use chart::Env;
+use layout::Nodes;
 use refusals::Refusal;
 use scope::{MAX_CHILDREN, MAX_NODES};
 
@@ -29,11 +30,16 @@ pub fn store_sound(env: &Env<'_>, h: &[u32], ws: &[u32], ks: &[u32]) -> bool
     ensures { result ≡ sound (chart_lent env.now) (lent_of h.now ws.now ks.now) }
 {
     let x = layout::read_header(h);
+    let nodes = Nodes {
+        words: ws,
+        kids: ks,
+        made: x.nodes,
+    };
     readable(h, ws, ks)
-        && node_sound::nodes_sound(ws, ks, x.nodes, x.children, env)
+        && node_sound::nodes_sound(&nodes, x.children, env)
         && kind_sound::remembered_inside(x.error, x.nodes)
         && kind_sound::remembered_inside(x.nil, x.nodes)
-        && shape::shape_ok(ws, ks, x.nodes)
+        && shape::shape_ok(&nodes)
 }
 
 // The first of refusals 2 and 8 that stands.

@@ -1,14 +1,13 @@
--- Lent lists by their places: the i-th type of a list is the i-th word's, and the i-th entry's is the type of the child that lies there.
+-- Lent lists by their places: the i-th type of a list is the i-th word's, and each entry has a type.
 -- Assumes nothing.
-use mathlib.Core.Path.{◌≡◌, ap, ◌∙◌}
+use mathlib.Core.Path.{◌≡◌, ◌∙◌}
 use mathlib.Core.List.{List}
-use Prim.Native.Nat.{ℕ, ◌+◌, ◌≤◌, ◌<◌}
-use native.Mathlib.Omega.{arith}
+use Prim.Native.Nat.{ℕ, ◌≤◌, ◌<◌}
 use lib.ListN.{length, length-map, get_or, get_or-map}
 use Rattle.scope.specs.Types.{Ty, ty_of}
 use Rattle.scope.specs.Sound.{Slot}
-use Rattle.layout.specs.Words.{slot_at, slots}
-use Rattle.layout.proofs.ChildLaws.{length_slots, slots_get}
+use Rattle.layout.specs.Words.{slots}
+use Rattle.layout.proofs.ChildLaws.{length_slots}
 use Rattle.store.specs.Entries.{entry_count, entry_types, types_in}
 
 module _ (ts : List ℕ) (i : ℕ) where
@@ -24,22 +23,6 @@ module _ (ts : List ℕ) (i : ℕ) where
 abbrev slot_type : Slot → Ty
 slot_type s = ty_of s.type
 
-abbrev no_slot : Slot
-no_slot = record { type = 0; text = 0; start = 0; len = 0 }
-
 module _ (es : List ℕ) where
   pub entries_long : length (entry_types es) ≡ entry_count es
   entries_long = length-map (slots es 0 (entry_count es)) slot_type ∙ length_slots es 0 (entry_count es)
-
-  module _ (i : ℕ) where
-    pub entry_below : i < entry_count es → i < length (entry_types es)
-    entry_below h = rw entries_long h
-
-    pub entry_past : entry_count es ≤ i → length (entry_types es) ≤ i
-    entry_past h = rw entries_long h
-
-    pub entry_at : i < entry_count es → get_or (entry_types es) i (ty_of 0) ≡ ty_of (slot_at es i).type
-    entry_at h =
-        let z : 0 + i ≡ i = omega arith in
-        get_or-map slot_type (slots es 0 (entry_count es)) i no_slot
-        ∙ (ap slot_type (slots_get es 0 (entry_count es) i no_slot h) ∙ ap (λ (j : ℕ). ty_of (slot_at es j).type) z)

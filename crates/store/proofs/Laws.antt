@@ -14,12 +14,11 @@ use Rattle.scope.specs.Kinds.{row_of, NO_NAMES}
 use Rattle.scope.specs.Nodes as nodes
 use Rattle.scope.specs.Make.{bare}
 use Rattle.layout.specs.Words.{node_words, nodes_made, children_made, node_room, child_room, decode, store_in}
-use Rattle.layout.specs.Meaning.{read_at, put_at, header_in, kind_means, node_means, kind_fits, node_fits, remembered_of, remembered_means, remembered_fits, Clean, Linked, Lies, Grown}
+use Rattle.layout.specs.Meaning.{read_at, put_at, header_in, kind_means, node_means, kind_fits, node_fits, remembered_of, remembered_means, remembered_fits, Clean, Lies, Grown}
 use Rattle.layout.specs.declared.TypeNode.{TypeNode}
 use Rattle.layout.proofs.Lists.{drop_later}
 use Rattle.layout.proofs.Laws.{length_decode, length_put, tail_put, decode_put, clean_put, read_is, read_is_fit}
 use Rattle.layout.proofs.KindLaws.{names_none, fits_none}
-use Rattle.layout.proofs.LinkLaws.{clean_linked}
 use Rattle.layout.proofs.StoreLaws.{remembered_means_lem, clean_lies, clean_unused, clean_nodes, clean_of, unused_grown}
 use Rattle.store.specs.Holds.{Holds, Beyond}
 use Rattle.store.specs.Bare.{bare_kind}
@@ -47,17 +46,8 @@ module _ {h ws ks : List ℕ} {s : nodes.Store} (o : Holds h ws ks s) where
   pub holds_clean : Clean ws ks (children_made h) (nodes_made h)
   holds_clean = clean_nodes h ws ks o.clean
 
-  pub holds_linked : Linked ws (nodes_made h)
-  holds_linked = clean_linked ws ks (children_made h) (nodes_made h) holds_clean
-
   pub holds_nodes : decode ws ks (nodes_made h) ≡ s.nodes
   holds_nodes = sym (store_nodes h ws ks) ∙ ap (λ (x : nodes.Store). x.nodes) o.is
-
-  pub holds_count : nodes_made h ≡ length s.nodes
-  holds_count = sym (store_count h ws ks) ∙ ap (λ (x : nodes.Store). length x.nodes) o.is
-
-  pub holds_children : children_made h ≡ s.children
-  holds_children = sym (store_children h ws ks) ∙ ap (λ (x : nodes.Store). x.children) o.is
 
   -- a node that was read is the store's, and may be put back
   pub holds_read : {v : TypeNode} (i : ℕ) → v ≡ read_at ws (nodes_made h) i → nodes.at s.nodes i ≡ node_means ks v

@@ -18,6 +18,7 @@ ghost use Rattle.tested_import.specs.Tests.{ListsTested, NeedsTested, ImportTest
 ghost use Rattle.refusals.specs.Codes.{told};
 
 use chart::Env;
+use layout::Nodes;
 use refusals::Refusal;
 
 // The entries of a parameter list are among n nodes.
@@ -68,7 +69,12 @@ fn needed(
     requires { (Importable sw.now sk.now n (types_in ts.now)) × (too_many (import_list (params_in params)) ≡ false) }
     ensures { NeedsTested h.now sw.now sk.now n (params_in params.entry) ts.now (told result) }
 {
-    let wanted = needs::of_import(sw, sk, n, params_of(params), ts);
+    let nodes = Nodes {
+        words: sw,
+        kids: sk,
+        made: n,
+    };
+    let wanted = needs::of_import(&nodes, params_of(params), ts);
     if wanted.missing {
         return Err(Refusal::NoEntry);
     }

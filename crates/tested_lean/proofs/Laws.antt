@@ -29,7 +29,7 @@ use Rattle.promise.specs.Promise.{value, refusal, Tested, TypesInside}
 use Rattle.promise.proofs.Laws.{tested_clean, inside_tested}
 use Rattle.promise.proofs.ReadLaws.{read_refused, read_linked, read_nodes}
 use Rattle.call_make.specs.Room.{RoomTested}
-use Rattle.call_make.proofs.tested.MakerLaws.{for_room, maker_back, maker_ready, maker_done, error_tested, nil_tested}
+use Rattle.call_make.proofs.tested.MakerLaws.{RoomFor, for_room, maker_back, maker_ready, maker_done, error_tested, nil_tested}
 use Rattle.call_find.proofs.tested.Laws.{mut_refused, mut_answer}
 use Rattle.tested_lean.specs.Each.{Passed, EachPromised, EachAnswered, Within}
 
@@ -57,25 +57,19 @@ module _ {h : List ℕ} (w : Within h) (ws ks : List ℕ) where
 
 -- new_var
 
-abbrev pub RoomFor : List ℕ → ℕ → Option ℕ → Type 0
-RoomFor h a o = (ws ks : List ℕ) → first_broken (room_tests (store_in h ws ks) a 0) ≡ o
-
-for_var : {e : Env} {h ws ks : List ℕ} {o : Option ℕ} → RoomFor h 1 o → Tested e h ws ks → RoomTested e h ws ks (λ _. 1) o
-for_var {ws = ws} {ks = ks} room q = for_room 1 q (room ws ks)
-
 module _ {h ws : List ℕ} (span : ℕ) where
   pub var_back : {n : ℕ} → RoomFor h 1 (some n) → EachPromised (λ e l. new_var_call e l span) (refusal n) h ws h ws
   unfolding new_var_call
-  var_back room = record { each = λ q. maker_back (for_var room q) (λ s. new_var s span) }
+  var_back room = record { each = λ q. maker_back (for_room 1 q room) (λ s. new_var s span) }
 
   pub var_ready : RoomFor h 1 none → Passed h ws → BlankReady h ws 0
-  var_ready room p = blank_ready (maker_ready (for_var room p.tested))
+  var_ready room p = blank_ready (maker_ready (for_room 1 p.tested room))
 
   pub var_done : {h' ws' : List ℕ} {t : «Type»} → RoomFor h 1 none → Pushed h ws h' ws' (header_in h) 0 (header_in h).error (header_in h).nil (Unknown span) t
       → EachPromised (λ e l. new_var_call e l span) (value (ty_of t.0)) h ws h' ws'
   unfolding new_var_call
   var_done room o = record {
-    each = λ q. maker_done (for_var room q) (λ s. new_var s span) (var_made (blank_made (maker_ready (for_var room q)) o));
+    each = λ q. maker_done (for_room 1 q room) (λ s. new_var s span) (var_made (blank_made (maker_ready (for_room 1 q room)) o));
   }
 
 -- error and nil
@@ -84,8 +78,8 @@ module _ {h : List ℕ} {was : Remembered} where
   module _ (e : was ≡ (header_in h).error) where
     for_error : {v : Env} {ws ks : List ℕ} {o : Option ℕ} → RoomFor h (nodes_for (remembered_means was)) o → Tested v h ws ks
         → RoomTested v h ws ks (λ s. nodes_for s.error) o
-    for_error {ws = ws} {ks = ks} room q =
-        error_tested {x = header_in h} refl (ap (λ (r : Remembered). nodes_for (remembered_means r)) e) (for_room (nodes_for (remembered_means was)) q (room ws ks))
+    for_error room q =
+        error_tested {x = header_in h} refl (ap (λ (r : Remembered). nodes_for (remembered_means r)) e) q room
 
     pub error_back : {ws : List ℕ} {n : ℕ} → RoomFor h (nodes_for (remembered_means was)) (some n) → EachPromised error_call (refusal n) h ws h ws
     unfolding error_call
@@ -105,8 +99,8 @@ module _ {h : List ℕ} {was : Remembered} where
   module _ (e : was ≡ (header_in h).nil) where
     for_nil : {v : Env} {ws ks : List ℕ} {o : Option ℕ} → RoomFor h (nodes_for (remembered_means was)) o → Tested v h ws ks
         → RoomTested v h ws ks (λ s. nodes_for s.nil) o
-    for_nil {ws = ws} {ks = ks} room q =
-        nil_tested {x = header_in h} refl (ap (λ (r : Remembered). nodes_for (remembered_means r)) e) (for_room (nodes_for (remembered_means was)) q (room ws ks))
+    for_nil room q =
+        nil_tested {x = header_in h} refl (ap (λ (r : Remembered). nodes_for (remembered_means r)) e) q room
 
     pub nil_back : {ws : List ℕ} {n : ℕ} → RoomFor h (nodes_for (remembered_means was)) (some n) → EachPromised nil_call (refusal n) h ws h ws
     unfolding nil_call

@@ -39,8 +39,8 @@ use Rattle.heed.proofs.Laws.{since_same, since_then, recalls_moved, marks_kept, 
 use Rattle.merge.specs.Meaning.{Adds}
 use Rattle.plan.specs.declared.Plan.{Plan}
 use Rattle.meeting.specs.Asks.{SoundWords, Pair, Tops}
-use Rattle.meeting.specs.Steps.{PlanSpans, Stepped}
-use Rattle.meeting.specs.Meets.{met_by, Met, MeetReady}
+use Rattle.meeting.specs.Steps.{Stepped}
+use Rattle.meeting.specs.Meets.{met_by, Met}
 use Rattle.meeting.specs.declared.Steps.{Steps}
 use Rattle.meeting.specs.Meets.{Meeting}
 use Rattle.std.specs.declared.option.Option.TheVariants as meetings
@@ -48,7 +48,7 @@ use Rattle.std.specs.Prelude.{None}
 use Rattle.unify_enter.specs.Asked.{Asked, Unified}
 use Rattle.unify_enter.specs.Enters.{Climbed, AtRoots, Left, Enters}
 use Rattle.unify_enter.specs.declared.Entered.{Entered}
-use Rattle.unify_enter.specs.declared.Entered.TheVariants.{Done, Kids}
+use Rattle.unify_enter.specs.declared.Entered.TheVariants.{Kids}
 use Rattle.unify_enter.specs.Walk.{Childless, WalkAsks, WalkTold}
 use Rattle.unify_enter.proofs.walks.Laws.{by_words, unify_deep, unify_roots}
 
@@ -237,17 +237,11 @@ module _ {x : Texts} {ws ks m ws₂ m₂ : List ℕ} {n d : ℕ} {p q : Ty} {a b
 
   -- the children are left to do
   module _ {l : Plan} (e : k ≡ meetings.Some l) where
-    pub kids_spans : PlanSpans l
-    kids_spans = (subst (MeetReady x ks) e c.met.ready).0
-
     pub way_on : {s : Steps} {t : ℕ} → Stepped l s → t ≡ clock_of m₂ → Left x ws ks m ws₂ m₂ n d p q s t a b
     way_on st f = record { plan = l; roots = subst (AtRoots x ws ks m ws₂ m₂ n d p q a b) e c; stepped = st; began = f }
 
 -- what was entered, by its answer
 
 module _ {x : Texts} {ws ks m ws₂ m₂ : List ℕ} {n : ℕ} (d : ℕ) (p q : Ty) {r : Entered} (h : Enters x ws ks m ws₂ m₂ n d p q r) where
-  pub entered_done : {s : UnifyResult} → r ≡ Done s → Unified x ws ks m ws₂ m₂ n (unify_f x n d (decode ws ks n) p q) s
-  entered_done e = subst (Enters x ws ks m ws₂ m₂ n d p q) e h
-
   pub entered_kids : {l : Steps} {t : ℕ} {a b : «Type»} → r ≡ Kids l t a b → Left x ws ks m ws₂ m₂ n d p q l t a.0 b.0
   entered_kids e = subst (Enters x ws ks m ws₂ m₂ n d p q) e h

@@ -9,6 +9,7 @@ ghost use Rattle.std.specs.Prelude.{[], ◌∷◌};
 ghost use Rattle.unify_enter.specs.Asked.{Asked};
 ghost use Rattle.unify_enter.specs.Enters.{Enters};
 
+use layout::Nodes;
 use meeting::Steps;
 use names::Texts;
 use types::{Type, UnifyResult};
@@ -45,7 +46,12 @@ pub fn enter(
     recall::visited(memory, 1);
     let ra = heed::find(ws, n, memory, a);
     let rb = heed::find(ws, n, memory, b);
-    let Some(p) = meeting::meet(ws, ks, n, texts, ra, rb) else {
+    let nodes = Nodes {
+        words: ws,
+        kids: ks,
+        made: n,
+    };
+    let Some(p) = meeting::meet(&nodes, texts, ra, rb) else {
         return Entered::Done(walks::walk_pair(ws, ks, n, memory, ra, rb));
     };
     match recall::look(memory, n, ra, rb) {

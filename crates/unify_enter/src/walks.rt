@@ -4,6 +4,7 @@
 ghost use Rattle.scope.specs.Types.{ty_of};
 ghost use Rattle.unify_enter.specs.Walk.{WalkAsks, WalkTold};
 
+use layout::Nodes;
 use types::{Type, UnifyResult};
 
 // Two roots, whatever they are: what the memory knows, or a walk says an answer or a merge.
@@ -14,7 +15,12 @@ fn walk_on(ws: &mut [u32], ks: &[u32], n: u32, memory: &mut [u32], a: Type, b: T
     if let Some(r) = recall::look(memory, n, a, b) {
         return r;
     }
-    match meeting::walk_roots(ws, ks, n, a, b) {
+    let nodes = Nodes {
+        words: ws,
+        kids: ks,
+        made: n,
+    };
+    match meeting::walk_roots(&nodes, a, b) {
         Some(r) => {
             recall::walked(memory, n, a, b, r);
             r
@@ -54,7 +60,12 @@ pub fn walk_pair(
     if let Some(r) = recall::look(memory, n, a, b) {
         return r;
     }
-    let r = UnifyResult::from(own_inverse::ask(ws, ks, n, memory, a));
+    let nodes = Nodes {
+        words: ws,
+        kids: ks,
+        made: n,
+    };
+    let r = UnifyResult::from(own_inverse::ask(&nodes, memory, a));
     recall::walked(memory, n, a, b, r);
     r
 }

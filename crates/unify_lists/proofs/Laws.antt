@@ -221,9 +221,6 @@ module _ {x : Texts} {ws ks m : List ℕ} {n : ℕ} {a b : Impl} {xs ys : List �
         impl_plan_lem : impl_plan (impl_means a xs) (impl_means b ys) ≡ run_plan false (types_in xs) (types_in ys)
         impl_plan_lem = rw (ea, eb, eq-eqb i j h) refl
 
-        pub impl_pairs : Lists x ws ks m n xs ys (record { 0 = false })
-        impl_pairs = record { asked = subst (λ (l : Plan). Asked x ws ks m n n l.pairs) impl_plan_lem p.asked }
-
         pub impl_lists : {ws' m' : List ℕ} {r : UnifyResult} → Unified x ws ks m ws' m' n (unify_types x (decode ws ks n) (types_in xs) (types_in ys) false) r
             → Unified x ws ks m ws' m' n (unify_impl_type x (decode ws ks n) (impl_means a xs) (impl_means b ys)) r
         unfolding unify_impl_type unify_types

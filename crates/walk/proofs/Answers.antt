@@ -35,7 +35,8 @@ use Rattle.related.proofs.Laws.{root_is}
 use Rattle.inverse.specs.Marked.{Beside}
 use Rattle.walk.specs.declared.Mod.{Mod}
 use Rattle.walk.specs.declared.Mod.TheVariants as mods
-use Rattle.walk.specs.Read.{nil_by, mod_means, mod_by}
+use Rattle.roots.specs.Nil.{nil_by}
+use Rattle.walk.specs.Read.{mod_means, mod_by}
 use Rattle.walk.specs.Asks.{Stands, Walks, Occurs, Inverses, Nil, Modded}
 use Rattle.walk.proofs.Laws.{mod_in, nil_read, mod_read, kid_next, kid_none}
 

@@ -26,7 +26,7 @@ use Rattle.layout.specs.Meaning.{Held}
 use Rattle.std.specs.Prelude.{Some, None}
 use Rattle.layout.proofs.ChildLaws.{length_kids, kid_at}
 use Rattle.layout.proofs.HeldLaws.{held_by_lem}
-use Rattle.walk.specs.Read.{nil_by}
+use Rattle.roots.specs.Nil.{nil_by}
 
 -- one node
 

@@ -11,8 +11,9 @@ use Rattle.scope.specs.Force.{is_nil, get_mod}
 use Rattle.scope.proofs.Marks.{Walkable}
 use Rattle.layout.specs.Words.{decode}
 use Rattle.layout.specs.Meaning.{Clean}
+use Rattle.layout.specs.declared.Nodes.{Nodes}
 use Rattle.chart.specs.Words.{records_of}
-pub use Rattle.related.specs.Stands.{Stands}
+pub use Rattle.related.specs.Stands.{Stands, StandsIn}
 use Rattle.inverse.specs.declared.Glance.{Glance}
 use Rattle.inverse.specs.declared.Glance.TheVariants.{Met, Clear}
 use Rattle.walk.specs.declared.Mod.{Mod}
@@ -36,10 +37,18 @@ pub record Occurs (ws ks : List ℕ) (n x y : ℕ) : Type 0 where
   pub inside : (ty_of y).idx < n
   pub root : is_root (at (decode ws ks n) (ty_of y).idx) ≡ true
 
+-- the same of the nodes that are lent
+abbrev pub OccursIn : Nodes → ℕ → ℕ → Type 0
+OccursIn s x y = Occurs s.words.now s.kids.now s.made x y
+
 -- `self_inverse`: of a type
 pub record Inverses (ws ks : List ℕ) (n t : ℕ) : Type 0 where
   pub walks : Walks ws ks n
   pub inside : (ty_of t).idx < n
+
+-- the same of the nodes that are lent
+abbrev pub InversesIn : Nodes → ℕ → Type 0
+InversesIn s t = Inverses s.words.now s.kids.now s.made t
 
 -- `is_nil`, whatever the children's words are
 pub record Nil (ws : List ℕ) (n t : ℕ) (r : Bool) : Type 0 where
@@ -48,3 +57,7 @@ pub record Nil (ws : List ℕ) (n t : ℕ) (r : Bool) : Type 0 where
 -- `get_mod`, whatever stands beside the chart
 pub record Modded (ws ks : List ℕ) (n : ℕ) (chart : List ℕ) (t : ℕ) (r : Mod) : Type 0 where
   pub answer : (e : Env) → e.records ≡ records_of chart → mod_means r ≡ get_mod e (decode ws ks n) (ty_of t)
+
+-- the same of the nodes that are lent
+abbrev pub ModdedIn : Nodes → List ℕ → ℕ → Mod → Type 0
+ModdedIn s chart t r = Modded s.words.now s.kids.now s.made chart t r

@@ -1,8 +1,8 @@
 -- What a kind tells without its children: whether it has any, and the answer of `get_mod`.
-use Rattle.std.specs.Prelude.{List, Bool, true, false, ◌&&◌, ℕ, eqb, get_or}
+use Rattle.std.specs.Prelude.{List, Bool, true, ℕ, eqb, get_or}
 use Rattle.scope.specs.Base.{pick}
 use Rattle.scope.specs.Chart.{Record, no_record}
-use Rattle.scope.specs.Kinds.{TUPLE, ERROR}
+use Rattle.scope.specs.Kinds.{ERROR}
 use Rattle.scope.specs.Force.{none_mod, mod_of, error_mod, has_def}
 use Rattle.scope.specs.Force as force
 use Rattle.layout.specs.Meaning.{Held}
@@ -14,11 +14,6 @@ use Rattle.walk.specs.declared.Mod.TheVariants.{Nothing, Def, Error}
 abbrev pub leaf_by : Held → Bool
 leaf_by (held.Some (i, k)) = eqb k.count 0
 leaf_by held.None = true
-
--- a Tuple of nothing
-abbrev pub nil_by : Held → Bool
-nil_by (held.Some (i, k)) = eqb k.code TUPLE && eqb k.count 0
-nil_by held.None = false
 
 -- what the code's answers mean
 abbrev pub mod_means : Mod → force.Mod

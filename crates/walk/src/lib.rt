@@ -1,18 +1,19 @@
 #![tactic(auto)]
 // What a type leads to: `occurs` and `self_inverse`, by a look at a root's children where that tells, and else by a walk that marks each root it meets. Beside them
-// what one root tells: `is_nil`, and `get_mod`, which looks through Refs. Each gives what scope's definition gives of the n nodes in ws, whose children lie in ks.
+// what one root tells: `is_nil`, and `get_mod`, which looks through Refs. Each gives what scope's definition gives of the nodes that are lent.
 ghost use Rattle.std.specs.Prelude.{◌≡◌, ◌≤◌, ◌<◌, length};
 ghost use Rattle.scope.specs.Types.{ty_of};
 ghost use Rattle.scope.specs.Unify.{occurs, self_inverse_of};
-ghost use Rattle.layout.specs.Words.{node_words, decode};
+ghost use Rattle.layout.specs.Words.{node_words};
+ghost use Rattle.layout.specs.Lent.{nodes_by};
 ghost use Rattle.layout.specs.Meaning.{read_at, held_in, kind_means, Linked};
 ghost use Rattle.chart.specs.Words.{records_of};
-ghost use Rattle.walk.specs.Read.{leaf_by, nil_by, mod_means, mod_by};
-ghost use Rattle.related.specs.Stands.{Stands};
-ghost use Rattle.walk.specs.Asks.{Looked, Occurs, Inverses, Nil, Modded};
+ghost use Rattle.walk.specs.Read.{leaf_by, mod_means, mod_by};
+ghost use Rattle.related.specs.Stands.{StandsIn};
+ghost use Rattle.walk.specs.Asks.{Looked, OccursIn, InversesIn, Nil, ModdedIn};
 
 use inverse::Glance;
-use layout::{Kind, TypeNode};
+use layout::{Kind, Nodes, TypeNode};
 use scope::MAX_NODES;
 use types::{Type, TypeIdx};
 
@@ -33,94 +34,86 @@ fn is_leaf(ws: &[u32], n: u32, i: TypeIdx) -> bool
 }
 
 // A look at a kind's children, which ends where one is far from its root or has children itself.
-fn look(ws: &[u32], ks: &[u32], n: u32, x: TypeIdx, kind: Kind) -> Glance
-    requires { Stands ws.now ks.now n × (1 < n) }
-    ensures { Looked (decode ws.now ks.now n) n x.0 (kind_means ks.now kind).kids result }
+fn look(nodes: &Nodes<'_>, x: TypeIdx, kind: Kind) -> Glance
+    requires { StandsIn nodes.now × (1 < nodes.now.made) }
+    ensures { Looked (nodes_by nodes.now) nodes.now.made x.0 (kind_means nodes.now.kids.now kind).kids result }
 {
     for j in 0..kind.count {
-        let kid = layout::child_of(ks, kind, j).ty;
-        let Some(root) = roots::near(ws, n, kid) else {
+        let kid = layout::child_of(nodes.kids, kind.first, j).ty;
+        let Some(root) = roots::near(nodes.words, nodes.made, kid) else {
             return Glance::Deep;
         };
         let i = root.idx();
         if i == x {
             return Glance::Met;
         }
-        if !is_leaf(ws, n, i) {
+        if !is_leaf(nodes.words, nodes.made, i) {
             return Glance::Deep;
         }
     }
     Glance::Clear
 }
 
-fn occurs_deep(ws: &[u32], ks: &[u32], n: u32, x: TypeIdx, y: Type) -> bool
-    requires { Occurs ws.now ks.now n x.0 y.0 }
-    ensures { result ≡ occurs n (decode ws.now ks.now n) x.0 (ty_of y.0).idx }
+fn occurs_deep(nodes: &Nodes<'_>, x: TypeIdx, y: Type) -> bool
+    requires { OccursIn nodes.now x.0 y.0 }
+    ensures { result ≡ occurs nodes.now.made (nodes_by nodes.now) x.0 (ty_of y.0).idx }
 {
     let mut marks = [0u8; MAX_NODES];
-    related::find_related(ws, ks, n, &mut marks, y);
+    related::find_related(nodes, &mut marks, y);
     roots::is_marked(&marks, x)
 }
 
 // Is x the root y, or in what its kind holds? Where that has no children of its own no walk is needed.
-pub fn occurs(ws: &[u32], ks: &[u32], n: u32, x: TypeIdx, y: Type) -> bool
-    requires { Occurs ws.now ks.now n x.0 y.0 }
-    ensures { result ≡ occurs n (decode ws.now ks.now n) x.0 (ty_of y.0).idx }
+pub fn occurs(nodes: &Nodes<'_>, x: TypeIdx, y: Type) -> bool
+    requires { OccursIn nodes.now x.0 y.0 }
+    ensures { result ≡ occurs nodes.now.made (nodes_by nodes.now) x.0 (ty_of y.0).idx }
 {
     let root = y.idx();
     if root == x {
         return true;
     }
-    let kind = match layout::held_at(ws, n, root) {
+    let kind = match layout::held_at(nodes.words, nodes.made, root) {
         Some((_, kind)) if kind.count > 0 => kind,
         _ => return false,
     };
-    match look(ws, ks, n, x, kind) {
+    match look(nodes, x, kind) {
         Glance::Met => true,
         Glance::Clear => false,
-        Glance::Deep => occurs_deep(ws, ks, n, x, y),
+        Glance::Deep => occurs_deep(nodes, x, y),
     }
 }
 
 // Every root that the type leads to is good.
-fn inverse_deep(ws: &[u32], ks: &[u32], n: u32, t: Type, param: bool) -> bool
-    requires { Inverses ws.now ks.now n t.0 }
-    ensures { result ≡ self_inverse_of (decode ws.now ks.now n) (ty_of t.0) param }
+fn inverse_deep(nodes: &Nodes<'_>, t: Type, param: bool) -> bool
+    requires { InversesIn nodes.now t.0 }
+    ensures { result ≡ self_inverse_of (nodes_by nodes.now) (ty_of t.0) param }
 {
     let mut marks = [0u8; MAX_NODES];
-    inverse::by_marks(ws, ks, n, &mut marks, t, param)
+    inverse::by_marks(nodes, &mut marks, t, param)
 }
 
 // What some visits do not decide is walked with marks, so that each root is visited once.
-pub fn self_inverse(ws: &[u32], ks: &[u32], n: u32, t: Type, param: bool) -> bool
-    requires { Inverses ws.now ks.now n t.0 }
-    ensures { result ≡ self_inverse_of (decode ws.now ks.now n) (ty_of t.0) param }
+pub fn self_inverse(nodes: &Nodes<'_>, t: Type, param: bool) -> bool
+    requires { InversesIn nodes.now t.0 }
+    ensures { result ≡ self_inverse_of (nodes_by nodes.now) (ty_of t.0) param }
 {
-    match inverse::quickly(ws, ks, n, t, param) {
+    match inverse::quickly(nodes, t, param) {
         Glance::Met => false,
         Glance::Clear => true,
-        Glance::Deep => inverse_deep(ws, ks, n, t, param),
+        Glance::Deep => inverse_deep(nodes, t, param),
     }
 }
 
-// A Tuple of nothing.
-pub fn nil_at(ws: &[u32], n: u32, i: TypeIdx) -> bool
-    requires { node_words n ≤ length ws.now }
-    ensures { result ≡ nil_by (held_in (read_at ws.now n i.0)) }
-{
-    layout::held_at(ws, n, i).is_some_and(|(_, kind)| kind.code == kinds::TUPLE && kind.count == 0)
-}
-
-// A root is told at once.
+// A Tuple of nothing; a root is told at once.
 pub fn is_nil(ws: &[u32], n: u32, t: Type) -> bool
     requires { Linked ws.now n }
     ensures { Nil ws.now n t.0 result }
 {
     let i = t.idx();
     let TypeNode::Child(_) = layout::node_at(ws, n, i) else {
-        return nil_at(ws, n, i);
+        return roots::nil_at(ws, n, i);
     };
-    nil_at(ws, n, roots::find(ws, n, t).idx())
+    roots::nil_at(ws, n, roots::find(ws, n, t).idx())
 }
 
 // get_mod's answer for a kind that is no Ref: one that is a definition has a number in the chart.
@@ -137,16 +130,18 @@ fn mod_of(chart: &[u32], kind: Kind) -> Mod
 }
 
 // A definition's def number, through Refs.
-pub fn get_mod(ws: &[u32], ks: &[u32], n: u32, chart: &[u32], t: Type) -> Mod
-    requires { Stands ws.now ks.now n }
-    ensures { Modded ws.now ks.now n chart.now t.0 result }
+pub fn get_mod(nodes: &Nodes<'_>, chart: &[u32], t: Type) -> Mod
+    requires { StandsIn nodes.now }
+    ensures { ModdedIn nodes.now chart.now t.0 result }
 {
     let mut cur = t;
-    for _ in 0..n {
-        let root = roots::find(ws, n, cur).idx();
-        match layout::held_at(ws, n, root) {
+    for _ in 0..nodes.made {
+        let root = roots::find(nodes.words, nodes.made, cur).idx();
+        match layout::held_at(nodes.words, nodes.made, root) {
             Some((_, kind)) if kind.code != kinds::REF => return mod_of(chart, kind),
-            Some((_, kind)) if kind.count > 0 => cur = layout::child_of(ks, kind, 0).ty,
+            Some((_, kind)) if kind.count > 0 => cur = layout::child_of(
+                nodes.kids, kind.first, 0,
+            ).ty,
             _ => return Mod::Nothing,
         }
     }

@@ -36,10 +36,13 @@ later_by : (o : Option ℕ) (ts us vs : List (Bool × ℕ)) → first_broken ts 
 later_by none ts us vs q f = broken_next ts us q ∙ (ap first_broken (f q) ∙ sym (broken_next ts vs q))
 later_by (some n) ts us vs q f = broken_first ts us n q ∙ sym (broken_first ts vs n q)
 
+-- what `room` says for a nodes, by the header alone
+abbrev pub RoomFor : List ℕ → ℕ → Option ℕ → Type 0
+RoomFor h a o = (ws ks : List ℕ) → first_broken (room_tests (store_in h ws ks) a 0) ≡ o
+
 -- room is asked of a tested store
-pub for_room : {e : Env} {h ws ks : List ℕ} {o : Option ℕ} (a : ℕ) → Tested e h ws ks → first_broken (room_tests (store_in h ws ks) a 0) ≡ o
-    → RoomTested e h ws ks (λ _. a) o
-for_room a q p = record { first = tested_next q (λ s. room_tests s a 0) ∙ p }
+pub for_room : {e : Env} {h ws ks : List ℕ} {o : Option ℕ} (a : ℕ) → Tested e h ws ks → RoomFor h a o → RoomTested e h ws ks (λ _. a) o
+for_room {ws = ws} {ks = ks} a q room = record { first = tested_next q (λ s. room_tests s a 0) ∙ room ws ks }
 
 -- the makers
 
@@ -80,10 +83,8 @@ module _ {e : Env} {h ws ks : List ℕ} {x : Header} {m : ℕ} {o : Option ℕ} 
             ∙ q.first;
       }
 
-  pub error_tested : m ≡ nodes_for (remembered_means x.error) → RoomTested e h ws ks (λ _. m) o
-      → RoomTested e h ws ks (λ s. nodes_for s.error) o
-  error_tested = once_tested (λ s. s.error) (λ y. y.error) (error_is h ws ks)
+  pub error_tested : m ≡ nodes_for (remembered_means x.error) → Tested e h ws ks → RoomFor h m o → RoomTested e h ws ks (λ s. nodes_for s.error) o
+  error_tested p q room = once_tested (λ s. s.error) (λ y. y.error) (error_is h ws ks) p (for_room m q room)
 
-  pub nil_tested : m ≡ nodes_for (remembered_means x.nil) → RoomTested e h ws ks (λ _. m) o
-      → RoomTested e h ws ks (λ s. nodes_for s.nil) o
-  nil_tested = once_tested (λ s. s.nil) (λ y. y.nil) (nil_is h ws ks)
+  pub nil_tested : m ≡ nodes_for (remembered_means x.nil) → Tested e h ws ks → RoomFor h m o → RoomTested e h ws ks (λ s. nodes_for s.nil) o
+  nil_tested p q room = once_tested (λ s. s.nil) (λ y. y.nil) (nil_is h ws ks) p (for_room m q room)

@@ -1,13 +1,10 @@
 -- `clean::zero_between` meets its contract. The invariant: `zero` says of the words before i whether they are zero, and it says so with those from i to e
 -- just where all words from a to e are.
 -- Assumes nothing.
-use mathlib.Core.Path.{refl, sym, ◌∙◌}
+use mathlib.Core.Path.{sym, ◌∙◌}
 use mathlib.Core.Bool.{and_assoc}
 use Rattle.clean.proofs.Laws.{zero_at, run_next, flag_end, zeros_run}
 use Rattle.clean.proofs.zero_between.Goals as goal
-
-pub loop-i-init : goal.loop-i-init
-loop-i-init c = refl
 
 pub loop-i-preserved : goal.loop-i-preserved
 loop-i-preserved c = let a = c.args in

@@ -41,7 +41,7 @@ copy-next-requires t c = (
   omega (arith, c.if-depth-eq0.false),
   (
     kid_copyable c.loop-j.invariant.0 c.loop-j-test.true _
-        (kid_next c.args.source.now.children.now _ _ _ c.child.result c.loop-j-test.true c.child.ensures) c.requires.0.source,
+        (kid_next c.args.source.now.children.now _ _ _ c.child_of.result c.loop-j-test.true c.child_of.ensures) c.requires.0.source,
     c.loop-j.invariant.1,
   ),
 )
@@ -49,11 +49,11 @@ copy-next-requires t c = (
 pub move_child-requires : goal.move_child-requires
 move_child-requires t c =
     kid_room c.loop-j.invariant.0 c.loop-j-test.true _
-    (kid_next c.args.source.now.children.now _ _ _ c.child.result c.loop-j-test.true c.child.ensures) c.copy-next.ensures.0
+    (kid_next c.args.source.now.children.now _ _ _ c.child_of.result c.loop-j-test.true c.child_of.ensures) c.copy-next.ensures.0
 
 pub loop-j-preserved : goal.loop-j-preserved
 loop-j-preserved t c = (
-  filling_next c.loop-j.invariant.0 c.loop-j-test.true _ (kid_next c.args.source.now.children.now _ _ _ c.child.result c.loop-j-test.true c.child.ensures)
+  filling_next c.loop-j.invariant.0 c.loop-j-test.true _ (kid_next c.args.source.now.children.now _ _ _ c.child_of.result c.loop-j-test.true c.child_of.ensures)
       c.copy-next.ensures.0 c.move_child.ensures
       (record {
         tables = c.copy-next.auto.table;

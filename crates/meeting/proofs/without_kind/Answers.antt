@@ -16,7 +16,7 @@ absent None e = refl
 
 pub occurs-requires : goal.occurs-requires
 occurs-requires c = let t = c.requires.tops in
-    let n = c.args.n in
+    let n = c.args.nodes.now.made in
     record {
       walks = words_walk t.pair.words;
       node = subst (λ (i : ℕ). i < n) (sym c.idx-ia.ensures) t.pair.first;
@@ -26,7 +26,7 @@ occurs-requires c = let t = c.requires.tops in
 
 pub occurs-requires-then-is_some : goal.occurs-requires-then-is_some
 occurs-requires-then-is_some c = let t = c.requires.tops in
-    let n = c.args.n in
+    let n = c.args.nodes.now.made in
     record {
       walks = words_walk t.pair.words;
       node = subst (λ (i : ℕ). i < n) (sym c.idx.ensures) t.pair.second;

@@ -40,7 +40,7 @@ is_met-requires t c =
 
 pub loop-j-preserved : goal.loop-j-preserved
 loop-j-preserved t c =
-    let e = kid_next c.args.ks.now _ _ _ c.child.result c.loop-j-test.true c.child.ensures in
+    let e = kid_next c.args.nodes.now.kids.now _ _ _ c.child_of.result c.loop-j-test.true c.child_of.ensures in
     elim c.if-not-is_met.branch [
       | then-not-is_met w ↦ rw (w.cache-is, w.marks-is, w.all-is) (
         turn_next c.loop-j.invariant.0 c.requires.0.source e w.count-all.ensures.0 w.count-all.auto.marks,
@@ -48,7 +48,7 @@ loop-j-preserved t c =
         w.count-all.auto.cache ∙ (c.is_met.auto.cache ∙ c.loop-j.invariant.2),
       )
       | else-not-is_met w ↦ rw (w.cache-is, w.marks-is, w.all-is) (
-        turn_next c.loop-j.invariant.0 c.requires.0.source e (c.is_met.ensures.0.is w.if-not-is_met.false c.args.ks.now _ _ _) refl,
+        turn_next c.loop-j.invariant.0 c.requires.0.source e (c.is_met.ensures.0.is w.if-not-is_met.false c.args.nodes.now.kids.now _ _ _) refl,
         c.is_met.ensures.1,
         c.is_met.auto.cache ∙ c.loop-j.invariant.2,
       )

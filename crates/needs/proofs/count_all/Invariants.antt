@@ -3,9 +3,11 @@
 use mathlib.Core.Path.{◌≡◌}
 use lib.ListN.{length}
 use Rattle.store.specs.Entries.{types_in}
-use Rattle.roots.specs.Kept.{Cached}
+use Rattle.roots.specs.Kept.{CachedIn}
 use Rattle.needs.proofs.CountLaws.{Turn}
 use Rattle.needs.proofs.count_all.Given as goal
 
 abbrev pub invariant-loop-t : goal.invariant-loop-t
-invariant-loop-t l = Turn l.ws l.ks l.n l.params l.n (types_in l.ts) l.initial.marks l.initial.all l.marks l.all l.t-index × Cached l.ws l.n l.cache × (length l.cache ≡ length l.initial.cache)
+invariant-loop-t l =
+    Turn l.nodes.words.now l.nodes.kids.now l.nodes.made l.params l.nodes.made (types_in l.ts) l.initial.marks l.initial.all l.marks l.all l.t-index
+    × CachedIn l.nodes l.cache × (length l.cache ≡ length l.initial.cache)

@@ -11,7 +11,7 @@ pub returns-then-plain_node-clause-test : goal.returns-then-plain_node-clause-te
 returns-then-plain_node-clause-test c = let a = c.args in
     let e = chart_lent a.env.now in
     let plain = c.plain_node.ensures.plain c.if-plain_node.true in
-    λ ns l. c.if-plain_node.true ∙ sym (test_plain e a.ws.now a.ks.now a.c a.i.0 ns c.cell_at-x.result c.cell_at-x.ensures plain.clean (plain.sound ns l))
+    λ ns l. c.if-plain_node.true ∙ sym (test_plain e a.nodes.now.words.now a.nodes.now.kids.now a.c a.i.0 ns c.cell_at-x.result c.cell_at-x.ensures plain.clean (plain.sound ns l))
 
 pub returns-then-node_clean-clause-test : goal.returns-then-node_clean-clause-test
 returns-then-node_clean-clause-test c = let a = c.args in
@@ -21,7 +21,7 @@ returns-then-node_clean-clause-test c = let a = c.args in
     elim c.if-x-le-MAX_WIDTH.branch [
       | then-x-le-MAX_WIDTH w ↦
           let clean = sym w.node_clean.ensures ∙ (sym w.value-is ∙ c.if-node_clean.true) in
-          test_node e a.ws.now a.ks.now a.c a.i.0 ns c.cell_at-x.result c.cell_at-x.ensures a.n c.requires.index clean node (c.node_sound.ensures ns l)
+          test_node e a.nodes.now.words.now a.nodes.now.kids.now a.c a.i.0 ns c.cell_at-x.result c.cell_at-x.ensures a.nodes.now.made c.requires.index clean node (c.node_sound.ensures ns l)
       | else-x-le-MAX_WIDTH w ↦ absurd (grind (arith, w.value-is, w.if-x-le-MAX_WIDTH.false, c.if-node_clean.true))
     ]
 
@@ -33,6 +33,6 @@ returns-else-node_clean-clause-test c = let a = c.args in
     elim c.if-x-le-MAX_WIDTH.branch [
       | then-x-le-MAX_WIDTH w ↦
           let unclean = sym w.node_clean.ensures ∙ (sym w.value-is ∙ c.if-node_clean.false) in
-          sym (test_unclean e a.ws.now a.ks.now a.c a.i.0 ns c.cell_at-x.result c.cell_at-x.ensures unclean)
-      | else-x-le-MAX_WIDTH w ↦ sym (test_wide e a.ws.now a.ks.now a.c a.i.0 ns c.cell_at-x.result c.cell_at-x.ensures w.if-x-le-MAX_WIDTH.false)
+          sym (test_unclean e a.nodes.now.words.now a.nodes.now.kids.now a.c a.i.0 ns c.cell_at-x.result c.cell_at-x.ensures unclean)
+      | else-x-le-MAX_WIDTH w ↦ sym (test_wide e a.nodes.now.words.now a.nodes.now.kids.now a.c a.i.0 ns c.cell_at-x.result c.cell_at-x.ensures w.if-x-le-MAX_WIDTH.false)
     ]

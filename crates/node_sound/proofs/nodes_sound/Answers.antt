@@ -4,7 +4,7 @@ use mathlib.Core.Path.{sym, ◌∙◌}
 use native.Mathlib.Omega.{arith}
 use borrow.Author.Count.{below_more}
 use Rattle.chart.specs.Env.{chart_lent}
-use Rattle.layout.specs.Words.{decode}
+use Rattle.layout.specs.Lent.{nodes_by}
 use Rattle.layout.proofs.Lists.{all_stop, all_done}
 use Rattle.layout.proofs.Laws.{length_decode}
 use Rattle.node_sound.specs.Tests.{node_test}
@@ -16,20 +16,20 @@ loop-i-init c = (omega arith, (λ u h. absurd (omega arith)), seen_none _ _)
 
 pub returns-then-not-node_sound : goal.returns-then-not-node_sound
 returns-then-not-node_sound c = let a = c.args in
-    let ns = decode a.ws.now a.ks.now a.n in
-    let l = length_decode a.ws.now a.ks.now a.n in
-    let test = node_test (chart_lent a.env.now) a.ws.now a.ks.now a.c ns in
-    all_stop test a.n c.loop-i.i c.loop-i-test.true (sym (c.node_sound.ensures.test ns l) ∙ c.if-not-node_sound.true)
+    let ns = nodes_by a.nodes.now in
+    let l = length_decode a.nodes.now.words.now a.nodes.now.kids.now a.nodes.now.made in
+    let test = node_test (chart_lent a.env.now) a.nodes.now.words.now a.nodes.now.kids.now a.c ns in
+    all_stop test a.nodes.now.made c.loop-i.i c.loop-i-test.true (sym (c.node_sound.ensures.test ns l) ∙ c.if-not-node_sound.true)
 
 pub loop-i-preserved : goal.loop-i-preserved
 loop-i-preserved c = let a = c.args in
-    let ns = decode a.ws.now a.ks.now a.n in
-    let l = length_decode a.ws.now a.ks.now a.n in
+    let ns = nodes_by a.nodes.now in
+    let l = length_decode a.nodes.now.words.now a.nodes.now.kids.now a.nodes.now.made in
     let node = c.node_sound.ensures in
     (omega (arith, c.loop-i-test.true), below_more _ _ c.loop-i.invariant.1 (sym (node.test ns l) ∙ c.if-not-node_sound.false), node.seen)
 
 pub returns : goal.returns
 returns c = let a = c.args in
-    let ns = decode a.ws.now a.ks.now a.n in
-    let test = node_test (chart_lent a.env.now) a.ws.now a.ks.now a.c ns in
-    all_done test a.n c.loop-i.i c.loop-i-test.false c.loop-i.invariant.1
+    let ns = nodes_by a.nodes.now in
+    let test = node_test (chart_lent a.env.now) a.nodes.now.words.now a.nodes.now.kids.now a.c ns in
+    all_done test a.nodes.now.made c.loop-i.i c.loop-i-test.false c.loop-i.invariant.1

@@ -4,7 +4,7 @@
 use mathlib.Core.Path.{◌∙◌}
 use Prim.Native.Nat.{◌+◌}
 use native.Mathlib.Omega.{arith}
-use Rattle.layout.specs.Words.{decode}
+use Rattle.layout.specs.Lent.{nodes_by}
 use Rattle.layout.proofs.LinkLaws.{clean_linked}
 use Rattle.related.proofs.KeepLaws.{keeps_over, keeps_pass, keeps_met, keeps_new, keeps_stretch}
 use Rattle.related.proofs.TurnLaws.{Onward, below_shallow, below_none, below_kind, turn_pass, turn_end, turn_stretch, turn_met, turn_new}
@@ -13,7 +13,7 @@ use Rattle.related.proofs.+mark_below.Goals.{in-Some-meet, in_default-meet}
 
 pub returns-then-depth-eq0 : goal.returns-then-depth-eq0
 returns-then-depth-eq0 t c =
-    (below_shallow c.args.depth (decode c.args.ws.now c.args.ks.now c.args.n) _ c.args.root.0 c.if-depth-eq0.true, c.requires.1)
+    (below_shallow c.args.depth (nodes_by c.args.nodes.now) _ c.args.root.0 c.if-depth-eq0.true, c.requires.1)
 
 pub returns-in_default : goal.returns-in_default
 returns-in_default t c =
@@ -21,7 +21,7 @@ returns-in_default t c =
 
 pub loop-s-preserved-then-far-gt0 : goal.loop-s-preserved-then-far-gt0
 loop-s-preserved-then-far-gt0 t c = (
-  turn_pass c.args.depth (decode c.args.ws.now c.args.ks.now c.args.n) _ c.loop-s.invariant.0 (keeps_over c.loop-s.invariant.1 c.pass-far.ensures),
+  turn_pass c.args.depth (nodes_by c.args.nodes.now) _ c.loop-s.invariant.0 (keeps_over c.loop-s.invariant.1 c.pass-far.ensures),
   keeps_pass c.loop-s.invariant.1 c.pass-far.ensures,
   c.loop-s.invariant.2,
   c.loop-s.invariant.3,
@@ -43,7 +43,7 @@ loop-s-preserved t c =
     let m = c.match-meet in
     let p = keeps_pass c.loop-s.invariant.1 c.pass-far.ensures in
     let o :
-    Onward a.depth a.ws.now a.ks.now a.n c.in-Some.kind.first (c.in-Some.kind.first + c.in-Some.kind.count) a.marks.now m.cache m.marks m.seen m.skip
+    Onward a.depth a.nodes.now.words.now a.nodes.now.kids.now a.nodes.now.made c.in-Some.kind.first (c.in-Some.kind.first + c.in-Some.kind.count) a.marks.now m.cache m.marks m.seen m.skip
     (c.loop-s.s + 1) =
     elim m.branch [
       | in-Some-meet w ↦

@@ -5,9 +5,9 @@ use mathlib.Core.Path.{◌≡◌}
 use Prim.Native.Nat.{◌-◌}
 use lib.ListN.{length}
 use Rattle.scope.specs.Force.{related_f}
-use Rattle.layout.specs.Words.{decode}
+use Rattle.layout.specs.Lent.{nodes_by}
 use Rattle.skips.specs.Table.{SLOTS}
-use Rattle.related.specs.Tables.{Keeps}
+use Rattle.related.specs.Tables.{KeepsIn}
 use Rattle.related.proofs.TurnLaws.{Turn}
 use Prim.Native.Nat.{◌<◌}
 use Rattle.related.proofs.+mark_below.Given as goal
@@ -17,8 +17,8 @@ decreases-mark_below l = l.depth
 
 abbrev pub invariant-loop-s : goal.invariant-loop-s
 invariant-loop-s l =
-    Turn (related_f l.depth (decode l.ws l.ks l.n)) l.ks l.initial.s l.end l.initial.marks l.marks l.s
-    × Keeps l.ws l.ks l.n l.cache l.marks l.seen l.skip × (length l.cache ≡ length l.initial.cache)
+    Turn (related_f l.depth (nodes_by l.nodes)) l.nodes.kids.now l.initial.s l.end l.initial.marks l.marks l.s
+    × KeepsIn l.nodes l.cache l.marks l.seen l.skip × (length l.cache ≡ length l.initial.cache)
     × (length l.seen ≡ length l.initial.seen) × (length l.skip ≡ length l.initial.skip) × (l.end < SLOTS)
 
 abbrev pub decreases-loop-s : goal.decreases-loop-s

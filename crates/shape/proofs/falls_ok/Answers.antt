@@ -11,9 +11,9 @@ loop-i-init c = laws.visits_none _ _
 pub returns-then-not-visit : goal.returns-then-not-visit
 returns-then-not-visit c =
     let long = laws.visits_not _ _ c.loop-i.invariant c.if-not-visit.true c.visit.ensures in
-    let n = c.args.n in
+    let n = c.args.nodes.now.made in
     all_stop _ n c.loop-i.i c.loop-i-test.true long
 
 pub returns : goal.returns
 returns c =
-    all_done _ c.args.n c.loop-i.i c.loop-i-test.false c.loop-i.invariant.ended
+    all_done _ c.args.nodes.now.made c.loop-i.i c.loop-i-test.false c.loop-i.invariant.ended

@@ -30,9 +30,9 @@ returns-in-Finish c =
     let kept =
     as_sheet c.requires.sheet_store refl finish_inference_call
     (call_done sheet_env a.h.now a.ws.now a.ks.now (λ s. []) finishing (tests_pass c.requires.sheet_store) refl c.finish_inference.ensures) in
-    rw c.in-Finish.is (ran_done c.requires.sheet_store Line.finish refl _ refl kept (front c.requires.in_bounds_2 (text "done") (omega arith) c.put.ensures))
+    rw c.in-Finish.is (ran_done c.requires.sheet_store Line.finish refl _ refl kept (front c.requires.in_bounds_2 (text "done") (omega arith) c.written.ensures))
 
 pub returns-in-Bad : goal.returns-in-Bad
 unfolding sheet_line
 returns-in-Bad c =
-    rw c.in-Bad.is (ran c.requires.sheet_store Line.bad (front c.requires.in_bounds_2 (text "bad line") (omega arith) c.put-in-Bad.ensures) (same_store c.requires.sheet_store))
+    rw c.in-Bad.is (ran c.requires.sheet_store Line.bad (front c.requires.in_bounds_2 (text "bad line") (omega arith) c.written-in-Bad.ensures) (same_store c.requires.sheet_store))

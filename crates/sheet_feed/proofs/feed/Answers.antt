@@ -1,6 +1,7 @@
 -- `sheet_feed::feed` meets its contract: the piece up to its newline goes on with the line, and is all of the piece or ends the line.
 -- Assumes nothing.
 use mathlib.Core.Path.{sym}
+use borrow.Author.Rules.{rules}
 use native.Mathlib.Omega.{arith}
 use lib.Seq.{length-take-le}
 use Rattle.sheet_lines.proofs.Laws.{place_within}
@@ -13,12 +14,12 @@ slice_bounds-put-end c = let piece = c.args.piece.now in
 
 pub returns-then-piece-e : goal.returns-then-piece-e
 returns-then-piece-e c =
-    goes_on c.args.piece.now c.line_end-e.result c.line_end-e.ensures c.if-piece-e.true c.put-q.ensures
+    goes_on c.args.piece.now c.line_end-e.result c.line_end-e.ensures c.if-piece-e.true c.put.ensures.text (search rules)
 
 pub end_line-n-requires : goal.end_line-n-requires
 end_line-n-requires c =
-    record { sheet_store = c.requires.sheet_store; in_bounds = c.requires.in_bounds; line_len = omega (arith, c.put-q.auto.buf, c.requires.line_len) }
+    record { sheet_store = c.requires.sheet_store; in_bounds = c.requires.in_bounds; line_len = omega (arith, c.put.auto.out, c.requires.line_len) }
 
 pub returns : goal.returns
 returns c =
-    line_ended c.args.piece.now c.line_end-e.result c.line_end-e.ensures c.if-piece-e.false c.put-q.ensures c.end_line-n.ensures
+    line_ended c.args.piece.now c.line_end-e.result c.line_end-e.ensures c.if-piece-e.false c.put.ensures.text (search rules) c.end_line-n.ensures

@@ -2,7 +2,6 @@
 -- they were. The measure is what is left of the input.
 -- Assumes nothing.
 use mathlib.Core.Path.{refl}
-use Prim.Native.Nat.{◌-◌}
 use native.Mathlib.Omega.{arith}
 use borrow.Author.Rules.{rules}
 use Rattle.sheet_lines.proofs.Laws.{place_within}
@@ -21,6 +20,7 @@ loop-i-init c =
         kids = omega (arith, kept.ks);
         text = search rules;
       },
+      refl,
     )
 
 pub slice_bounds-run_line-end-in-loop-i-3 : goal.slice_bounds-run_line-end-in-loop-i-3
@@ -33,8 +33,8 @@ loop-i-preserved c =
     let more = c.loop-i-test.true in
     let turn = c.loop-i.invariant in
     let long = turn.1 in
-    let printed = c.put-p.ensures in
-    let next = turn_next turn.0 c.line_end-e.result more c.line_end-e.ensures c.run_line-n.ensures c.next_start-i.ensures printed c.put_byte-at.ensures in (
+    let printed = c.put.ensures.text in
+    let next = turn_next turn.0 c.line_end-e.result more c.line_end-e.ensures c.run_line-n.ensures c.next_start-i.ensures printed c.put_byte.ensures.text in (
       next,
       record {
         memory = omega (arith, kept.memory, long.memory);
@@ -43,10 +43,15 @@ loop-i-preserved c =
         kids = omega (arith, kept.ks, long.kids);
         text = omega (arith, kept.out, long.text);
       },
+      search rules,
     )
 
 pub returns-then-is_full : goal.returns-then-is_full
-returns-then-is_full c = run_full c.loop-i.invariant.0 (omega arith) (is_over c.is_full.ensures c.if-is_full.true)
+returns-then-is_full c =
+    let said = run_full c.loop-i.invariant.0 (omega arith) (is_over c.is_full.ensures c.if-is_full.true) in
+    search (rules, said)
 
 pub returns : goal.returns
-returns c = run_fits c.loop-i.invariant.0 (omega arith) (has_room c.is_full.ensures c.if-is_full.false)
+returns c =
+    let said = run_fits c.loop-i.invariant.0 (omega arith) (has_room c.is_full.ensures c.if-is_full.false) in
+    search (rules, said)

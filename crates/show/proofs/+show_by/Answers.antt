@@ -7,9 +7,9 @@ use Prim.Native.Nat.{◌-◌}
 use Rattle.scope.specs.Base.{xor}
 use Rattle.scope.specs.Show.{show_f}
 use Rattle.chart.specs.Env.{env_by}
-use Rattle.layout.specs.Words.{decode}
+use Rattle.layout.specs.Lent.{nodes_by}
 use Rattle.layout.proofs.LinkLaws.{clean_linked}
-use Rattle.append.proofs.Laws.{append_full, is_over}
+use Rattle.append.proofs.Laws.{puts_full, is_over}
 use Rattle.show.proofs.Turns.{turn_next, turn_end, show_shallow, show_unknown, show_known, level_put, kid_shown}
 use Rattle.show.proofs.+show_by.Goals as goal
 use Rattle.show.proofs.+show_by.Goals.{then-depth-eq0-via-then-depth-eq0, then-depth-eq0-via-else-depth-eq0+then-is_full}
@@ -17,8 +17,8 @@ use Rattle.show.proofs.+show_by.Goals.{then-depth-eq0-via-then-depth-eq0, then-d
 pub returns-then-depth-eq0 : goal.returns-then-depth-eq0
 returns-then-depth-eq0 t c =
     elim c.then-depth-eq0.branch [
-      | then-depth-eq0-via-then-depth-eq0 w ↦ (show_shallow _ _ _ _ _ _ w.if-depth-eq0.true, c.requires.1)
-      | then-depth-eq0-via-else-depth-eq0+then-is_full w ↦ (append_full _ _ _ (is_over w.is_full.ensures w.if-is_full.true), c.requires.1)
+      | then-depth-eq0-via-then-depth-eq0 w ↦ (show_shallow _ _ _ _ _ w.if-depth-eq0.true, c.requires.1)
+      | then-depth-eq0-via-else-depth-eq0+then-is_full w ↦ (puts_full _ _ (is_over w.is_full.ensures w.if-is_full.true), c.requires.1)
     ]
 
 pub find_by-root-requires : goal.find_by-root-requires
@@ -41,10 +41,10 @@ loop-j-preserved t c =
     let e = env_by a.env.now in
     let k = c.in-Some.kind in
     let deep = c.bitxor-i.result.0 && c.self_dual-dual.result in (
-      turn_next _ _ _ _ c.loop-j.invariant.0 c.loop-j-test.true c.put_gap-q.ensures
-          (kid_shown (show_f e (a.depth - 1) (decode a.ws.now a.ks.now a.n)) a.ks.now k deep c.loop-j.j c.child_of.result
-          c.invert_if.result.0 c.invert_if.ensures c.child_of.ensures c.show_by-p.ensures.0),
-      c.show_by-p.ensures.1,
+      turn_next _ _ _ _ c.loop-j.invariant.0 c.loop-j-test.true c.put_gap.ensures
+          (kid_shown (show_f e (a.depth - 1) (nodes_by a.nodes.now)) a.nodes.now.kids.now k deep c.loop-j.j c.child_of.result
+          c.invert_if.result.0 c.invert_if.ensures c.child_of.ensures c.show_by.ensures.0),
+      c.show_by.ensures.1,
     )
 
 pub returns : goal.returns
@@ -57,4 +57,4 @@ returns t c =
     c.in-Some.inv c.in-Some.kind c.in-Some.is c.bitxor-i.result.0 (c.bitxor-i.result.0 && c.self_dual-dual.result) c.shown-count.result
     (c.bitxor-i.ensures ∙ ap (xor c.in-Some.inv.0) c.inv.ensures) (ap (λ d. c.bitxor-i.result.0 && d) c.self_dual-dual.ensures) c.shown-count.ensures.0 in
     let rest = turn_end _ _ _ _ c.loop-j.invariant.0 c.loop-j-test.false c.put_close.ensures in
-    (rw known (level_put _ _ c.in-Some.kind c.bitxor-i.result.0 c.self_dual-dual.result c.self_dual-dual.ensures c.put_lead-p.ensures rest), c.loop-j.invariant.1)
+    (rw known (level_put _ _ c.in-Some.kind c.bitxor-i.result.0 c.self_dual-dual.result c.self_dual-dual.ensures c.put_lead.ensures rest), c.loop-j.invariant.1)

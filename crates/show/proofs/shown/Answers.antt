@@ -1,7 +1,7 @@
 -- `show::shown` meets its contract: all that may be shown, or all but the last.
 -- Assumes nothing.
 use Rattle.scope.specs.Force.{is_nil}
-use Rattle.layout.specs.Words.{decode}
+use Rattle.layout.specs.Lent.{nodes_by}
 use Rattle.layout.proofs.LinkLaws.{clean_linked}
 use Rattle.show.proofs.Laws.{nil_at, last_shown}
 use Rattle.show.proofs.shown.Goals as goal
@@ -13,10 +13,10 @@ pub returns-in-8 : goal.returns-in-8
 returns-in-8 c =
     let a = c.args in
     let last = nil_at c.child_of.result _ c.is_nil.ensures.0 c.requires.0 c.child_of.ensures c.if-is_nil.true in
-    (last_shown (is_nil (decode a.ws.now a.ks.now a.n)) a.ks.now a.k c.most-all.ensures c.in-8.is c.if-all-gt0.true last, c.is_nil.ensures.1)
+    (last_shown (is_nil (nodes_by a.nodes.now)) a.nodes.now.kids.now a.k c.most-all.ensures c.in-8.is c.if-all-gt0.true last, c.is_nil.ensures.1)
 
 pub returns-in_default : goal.returns-in_default
 returns-in_default c =
     let a = c.args in
     let last = nil_at c.child_of.result _ c.is_nil.ensures.0 c.requires.0 c.child_of.ensures c.if-is_nil.false in
-    (last_shown (is_nil (decode a.ws.now a.ks.now a.n)) a.ks.now a.k c.most-all.ensures c.in-8.is c.if-all-gt0.true last, c.is_nil.ensures.1)
+    (last_shown (is_nil (nodes_by a.nodes.now)) a.nodes.now.kids.now a.k c.most-all.ensures c.in-8.is c.if-all-gt0.true last, c.is_nil.ensures.1)

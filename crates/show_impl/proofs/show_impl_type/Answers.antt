@@ -7,7 +7,7 @@ use borrow.Author.Rules.{rules}
 use Rattle.std.specs.Prelude.{None}
 use Rattle.scope.specs.Show.{render, show_impl_type}
 use Rattle.chart.specs.Env.{env_by}
-use Rattle.layout.specs.Words.{decode}
+use Rattle.layout.specs.Lent.{nodes_by}
 use Rattle.layout.proofs.LinkLaws.{clean_linked}
 use Rattle.show_impl.proofs.Laws.{other_trait, other_count, by_tuple}
 use Rattle.show_impl.proofs.show_impl_type.Goals as goal
@@ -21,18 +21,18 @@ returns-in_default c = rw c.in_default.is c.put.ensures
 pub tuple_of-requires : goal.tuple_of-requires
 tuple_of-requires c = clean_linked _ _ _ _ c.requires.clean
 
-pub returns : goal.returns
+pub returns-in-Some : goal.returns-in-Some
 unfolding show_impl_type
-returns c = let a = c.args in
+returns-in-Some c = let a = c.args in
     let e = env_by a.env.now in
     rw (c.in-Trait.is, by_tuple e c.in-Trait.i a.xs.now c.requires c.if-i-env.true (omega arith) c.tuple_of.ensures c.in-Some.is) c.show_fn.ensures
 
-pub returns-2 : goal.returns-2
+pub returns-else-xs-lt3 : goal.returns-else-xs-lt3
 unfolding show_impl_type
-returns-2 c =
+returns-else-xs-lt3 c =
     let a = c.args in
     let e = env_by a.env.now in
-    let ns = decode a.ws.now a.ks.now a.n in
+    let ns = nodes_by a.nodes.now in
     elim c.else-xs-lt3.branch [
       | else-xs-lt3-via-then-xs-lt3 w ↦ rw (c.in-Trait.is, other_count e c.in-Trait.i a.xs.now ns (λ z. omega (arith, ltb-true))) c.show_trait.ensures
       | else-xs-lt3-via-else-xs-lt3+else-xs-lt4 w ↦ rw (c.in-Trait.is, other_count e c.in-Trait.i a.xs.now ns (λ z. omega (arith, ltb-false))) c.show_trait.ensures

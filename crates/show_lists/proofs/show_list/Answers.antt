@@ -5,7 +5,7 @@ use Rattle.show_lists.proofs.Lists.{comma_any, list_end}
 use Rattle.show_lists.proofs.show_list.Goals as goal
 
 pub loop-j-preserved : goal.loop-j-preserved
-loop-j-preserved c = turn_next _ _ _ _ c.loop-j.invariant c.loop-j-test.true (rw (c.from.ensures, comma_any _) at c.put_comma-q.ensures) c.show_all-p.ensures
+loop-j-preserved c = turn_next _ _ _ _ c.loop-j.invariant c.loop-j-test.true (rw (c.from.ensures, comma_any _) at c.put_comma.ensures) c.show_all.ensures
 
 pub returns : goal.returns
 returns c = list_end _ c.args.xs.now c.loop-j.invariant c.loop-j-test.false

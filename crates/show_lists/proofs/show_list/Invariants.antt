@@ -4,11 +4,11 @@ use mathlib.Core.List.{[]}
 use lib.ListN.{length}
 use Rattle.scope.specs.Show.{show}
 use Rattle.chart.specs.Env.{env_by}
-use Rattle.layout.specs.Words.{decode}
+use Rattle.layout.specs.Lent.{nodes_by}
 use Rattle.show.proofs.Turns.{Turn}
 use Rattle.show_names.specs.Names.{comma}
 use Rattle.show_lists.proofs.Lists.{item}
 use Rattle.show_lists.proofs.show_list.Given as goal
 
 abbrev pub invariant-loop-j : goal.invariant-loop-j
-invariant-loop-j l = Turn comma (item (show (env_by l.env) (decode l.ws l.ks l.n)) l.xs) [] (length l.xs) l.initial.buf l.initial.p l.buf l.p l.j
+invariant-loop-j l = Turn comma (item (show (env_by l.env) (nodes_by l.nodes)) l.xs) [] (length l.xs) l.initial.out l.out l.j

@@ -3,13 +3,8 @@
 use mathlib.Core.Path.{refl}
 use Rattle.refusals.proofs.Laws.{err_told}
 use Rattle.sound.specs.Tests.{env_lent}
-use Rattle.tested_export.proofs.Laws.{one_list, refused_opening, refused_list, needs_asks, told_room}
+use Rattle.tested_export.proofs.Laws.{one_list, refused_list, needs_asks, told_room}
 use Rattle.tested_export.proofs.tests.Goals as goal
-
-pub returns-in_err-opening : goal.returns-in_err-opening
-returns-in_err-opening c = let a = c.args in
-    rw (err_told c.from_residual.result c.from_residual.ensures.1) (refused_opening (env_lent a.env.now) a.sh.now a.sw.now a.sk.now a.h.now a.ws.now a.ks.now a.nodes a.children a.ts.now
-    c.in_err-opening.ensures)
 
 pub returns-in_err-lists : goal.returns-in_err-lists
 returns-in_err-lists c = let a = c.args in

@@ -5,13 +5,12 @@ use mathlib.Core.Path.{◌≡◌, refl, ap, sym, subst, ◌∙◌}
 use mathlib.Core.Bool.{Bool, true, false, not, beq, ◌||◌, or-true}
 use mathlib.Core.List.{List, []}
 use mathlib.Core.Logic.{inl, inr}
-use Prim.Native.Nat.{ℕ, zero, suc, ◌-◌, ◌<◌, ◌≤◌}
+use Prim.Native.Nat.{ℕ, zero, suc, ◌-◌, ◌<◌}
 use native.Mathlib.Omega.{arith}
 use lib.ListN.{length}
 use lib.Dec.{eqb}
 use borrow.Author.Tests.{eq-eqb, eqb-true, not-false}
 use Rattle.scope.specs.Base.{xor}
-use Rattle.scope.specs.Limits.{MAX_NODES}
 use Rattle.scope.specs.Names.{Texts}
 use Rattle.scope.specs.Types.{Ty, ty, ty_of}
 use Rattle.scope.specs.Nodes.{Node, Root, Child, at, is_root, find, find_mut}
@@ -32,9 +31,9 @@ use Rattle.types.specs.declared.UnifyResult.TheVariants.{Success}
 use Rattle.layout.specs.Words.{decode}
 use Rattle.layout.proofs.Laws.{length_decode}
 use Rattle.marks.specs.Marks.{Said}
-use Rattle.recall.specs.Memory.{Tidy, Forgot, WalkNoted}
+use Rattle.recall.specs.Memory.{Forgot, WalkNoted}
 use Rattle.recall.specs.Places.{Told}
-use Rattle.recall.proofs.Laws.{marked_clock, marked_tidy}
+use Rattle.recall.proofs.Laws.{marked_clock}
 use Rattle.recall.specs.Places.{Recalled}
 use Rattle.std.specs.Prelude.{Some}
 use Rattle.heed.specs.Recalls.{SelfAt, Recalls}
@@ -214,9 +213,6 @@ own_asks {ws} {ks} {n = n} asks =
     }
 
 -- the memory with other marks
-pub own_tidy : {ws ks m m₁ : List ℕ} {n a : ℕ} {b c : Ty} {t : Bool} → WalkAsks ws ks m n b c → OwnTold ws ks m m₁ n a t → (n ≤ MAX_NODES) × Tidy m₁
-own_tidy asks o = (asks.roots.tops.pair.words.small, marked_tidy o.beside asks.recalls.tidy)
-
 own_after : {ws ks m m₁ : List ℕ} {n a : ℕ} {t : Bool} → OwnTold ws ks m m₁ n a t → (y : Texts) → Recalls y n (decode ws ks n) m → Recalls y n (decode ws ks n) m₁
 own_after o y g = recalls_moved g (moved_marked g.tidy o.beside) o.marks
 

@@ -30,7 +30,7 @@ returns-in_default-2 c =
 pub loop-preserved : goal.loop-preserved
 loop-preserved c =
     let h = c.loop-test.true in
-    let left : c.args.n - (c.loop.counter + 1) ≡ c.args.n - c.loop.counter - 1 = omega arith in
+    let left : c.args.nodes.now.made - (c.loop.counter + 1) ≡ c.args.nodes.now.made - c.loop.counter - 1 = omega arith in
     rw left
     (looks_on c.loop.invariant c.requires (omega (arith, h)) (root_is c.find.ensures c.idx-root.ensures _) c.held_at.ensures c.in-Some.is c.child_of.result c.if-kind-ne-REF.false
     c.if-kind-gt0.true c.child_of.ensures)

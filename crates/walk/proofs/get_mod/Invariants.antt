@@ -5,4 +5,4 @@ use Rattle.walk.proofs.Answers.{Looks}
 use Rattle.walk.proofs.get_mod.Given as goal
 
 abbrev pub invariant-loop : goal.invariant-loop
-invariant-loop l = Looks l.ws l.ks l.n l.initial.cur.0 l.cur.0 (l.n - l.counter)
+invariant-loop l = Looks l.nodes.words.now l.nodes.kids.now l.nodes.made l.initial.cur.0 l.cur.0 (l.nodes.made - l.counter)

@@ -12,7 +12,7 @@ returns-then-eq c = occurs_is c.requires c.idx-root.ensures c.if-eq.ensures
 
 pub returns-in_default : goal.returns-in_default
 returns-in_default c =
-    occurs_none c.requires c.idx-root.ensures c.if-eq.ensures c.held_at.ensures c.in-Some.is (kid_none c.args.ks.now _ 0 (omega (arith, c.if-kind-gt0.false)))
+    occurs_none c.requires c.idx-root.ensures c.if-eq.ensures c.held_at.ensures c.in-Some.is (kid_none c.args.nodes.now.kids.now _ 0 (omega (arith, c.if-kind-gt0.false)))
 
 pub returns-in_default-2 : goal.returns-in_default-2
 returns-in_default-2 c =

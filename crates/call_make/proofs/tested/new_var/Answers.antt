@@ -8,15 +8,12 @@ use Rattle.call_make.proofs.tested.new_var.Goals as goal
 
 pub returns-in_err-room : goal.returns-in_err-room
 unfolding new_var_call
-returns-in_err-room c = let a = c.args in
-    let test = for_room 1 c.requires (c.in_err-room.ensures a.ws.now a.ks.now) in
-    rw (err_told c.from_residual.result c.from_residual.ensures.1) (maker_back test (λ s. new_var s a.span))
+returns-in_err-room c =
+    rw (err_told c.from_residual.result c.from_residual.ensures.1) (maker_back (for_room 1 c.requires c.in_err-room.ensures) (λ s. new_var s c.args.span))
 
 pub new_var-requires : goal.new_var-requires
-new_var-requires c = let a = c.args in
-    maker_ready (for_room 1 c.requires (c.in_ok-room.ensures a.ws.now a.ks.now))
+new_var-requires c = maker_ready (for_room 1 c.requires c.in_ok-room.ensures)
 
 pub returns : goal.returns
 unfolding new_var_call
-returns c = let a = c.args in
-    maker_done (for_room 1 c.requires (c.in_ok-room.ensures a.ws.now a.ks.now)) (λ s. new_var s a.span) c.new_var.ensures
+returns c = maker_done (for_room 1 c.requires c.in_ok-room.ensures) (λ s. new_var s c.args.span) c.new_var.ensures

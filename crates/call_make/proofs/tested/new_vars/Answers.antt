@@ -7,20 +7,16 @@ use Rattle.call_make.proofs.tested.new_vars.Goals as goal
 
 pub returns-in_err-room : goal.returns-in_err-room
 returns-in_err-room c = let a = c.args in
-    let test = for_room a.count c.requires (c.in_err-room.ensures a.ws.now a.ks.now) in
-    rw (err_told c.from_residual.result c.from_residual.ensures.1) (vars_back a.span a.count a.out.now _ test)
+    rw (err_told c.from_residual.result c.from_residual.ensures.1) (vars_back a.span a.count a.out.now _ (for_room a.count c.requires c.in_err-room.ensures))
 
 pub returns-then-out-count : goal.returns-then-out-count
 returns-then-out-count c = let a = c.args in
-    let test = for_room a.count c.requires (c.in_ok-room.ensures a.ws.now a.ks.now) in
-    vars_short a.span a.count a.out.now test c.if-out-count.true
+    vars_short a.span a.count a.out.now (for_room a.count c.requires c.in_ok-room.ensures) c.if-out-count.true
 
-pub new_vars-requires : goal.new_vars-requires
-new_vars-requires c = let a = c.args in
-    let test = for_room a.count c.requires (c.in_ok-room.ensures a.ws.now a.ks.now) in
-    record { ready = vars_ready a.span a.count a.out.now test; count_in_bounds = c.if-out-count.false }
+pub new_vars-requires-clause-ready : goal.new_vars-requires-clause-ready
+new_vars-requires-clause-ready c = let a = c.args in
+    vars_ready a.span a.count a.out.now (for_room a.count c.requires c.in_ok-room.ensures)
 
 pub returns : goal.returns
 returns c = let a = c.args in
-    let test = for_room a.count c.requires (c.in_ok-room.ensures a.ws.now a.ks.now) in
-    vars_done a.span a.count a.out.now test c.if-out-count.false c.new_vars.ensures
+    vars_done a.span a.count a.out.now (for_room a.count c.requires c.in_ok-room.ensures) c.if-out-count.false c.new_vars.ensures
