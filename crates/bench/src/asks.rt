@@ -33,10 +33,7 @@ pub extern "C" fn faroalder_direct_find_mut(ws: &mut [u32], n: u32, t: u32) -> u
 fn flag(b: bool) -> u32
     ensures { result ≡ flag_of b }
 {
-    if b {
-        return 1;
-    }
-    0
+    u32::from(b)
 }
 
 #[unsafe(no_mangle)]

@@ -8,11 +8,12 @@ use Prim.Native.Nat.{ℕ, zero, suc, ◌+◌, ◌-◌, ◌<◌, ◌≤◌}
 use native.Mathlib.Omega.{arith}
 use native.Mathlib.Numerals.{add-one}
 use lib.Dec.{eqb, leb}
-use lib.ListN.{length, get_or, set, take, drop, length-drop}
-use lib.Seq.{length-take-le, get_or-take, get_or-drop}
+use lib.ListN.{length, set, take, drop, length-drop}
+use lib.Seq.{length-take-le}
 use borrow.Author.Tests.{eq-eqb, ne_eqb, eqb-true, eqb-false, leb-true}
 use lib.Pointwise.{pointwise}
-use Rattle.scope.specs.Base.{pick, all, from}
+use Rattle.std.specs.List.{list_all, zip}
+use Rattle.scope.specs.Base.{pick}
 use Rattle.scope.specs.Limits.{MAX_STATE_NAME, MAX_STATES}
 use Rattle.scope.specs.Names.{eq_bytes}
 use Rattle.scope.specs.States.{under, is_free}
@@ -82,23 +83,13 @@ apart_length a b z = go (eq_bytes a b) refl
     go true e = absurd (z (ap length (eq_bytes_lem a b e)))
     go false e = refl
 
--- tests that say the same of each number
-all_same : (p q : ℕ → Bool) (i n : ℕ) → ((j : ℕ) → i ≤ j → j < i + n → p j ≡ q j) → all p (from i n) ≡ all q (from i n)
-all_same p q i zero e = refl
-all_same p q i (suc n) e = rw (e i (omega arith) (omega arith), all_same p q (suc i) n (λ j a b. e j (omega arith) (omega arith)))
-
 -- lists of one length, word by word
-shift : (p : ℕ → Bool) (i n : ℕ) → all p (from (suc i) n) ≡ all (λ j. p (suc j)) (from i n)
-shift p i zero = refl
-shift p i (suc n) = ap (λ (b : Bool). p (suc i) && b) (shift p (suc i) n)
-
-pub same_each : (a b : List ℕ) → length a ≡ length b → all (λ i. eqb (get_or a i 0) (get_or b i 0)) (from 0 (length a)) ≡ eq_bytes a b
+pub same_zip : (a b : List ℕ) → length a ≡ length b → list_all (λ (p : ℕ × ℕ). eqb p.0 p.1) (zip a b) ≡ eq_bytes a b
 unfolding eq_bytes
-same_each [] [] e = refl
-same_each [] (y ∷ b) e = absurd (omega arith)
-same_each (x ∷ a) [] e = absurd (omega arith)
-same_each (x ∷ a) (y ∷ b) e =
-    ap (λ (t : Bool). eqb x y && t) (shift (λ i. eqb (get_or (x ∷ a) i 0) (get_or (y ∷ b) i 0)) 0 (length a) ∙ same_each a b (omega arith))
+same_zip [] [] e = refl
+same_zip [] (y ∷ b) e = absurd (omega arith)
+same_zip (x ∷ a) [] e = absurd (omega arith)
+same_zip (x ∷ a) (y ∷ b) e = ap (λ (t : Bool). eqb x y && t) (same_zip a b (omega arith))
 
 pub same_pointwise : (a b : List ℕ) → pointwise eqb a b ≡ eq_bytes a b
 unfolding eq_bytes
@@ -113,11 +104,6 @@ name_is ps = let z : suc (name_length_in ps) - 1 ≡ name_length_in ps = omega a
 
 pub name_length_lem : (ps : List ℕ) → NameLies ps → length (name_bytes_in ps) ≡ name_length_in ps
 name_length_lem ps l = rw (name_is ps) (length-take-le (name_length_in ps) (drop 1 ps) (simp length-drop (omega arith)))
-
-pub name_word : (ps : List ℕ) (i : ℕ) → i < name_length_in ps → get_or (name_bytes_in ps) i 0 ≡ get_or ps (i + 1) 0
-name_word ps i h =
-    let z : 1 + i ≡ i + 1 = omega arith in
-    rw (name_is ps) (get_or-take (name_length_in ps) (drop 1 ps) i 0 h ∙ (get_or-drop 1 ps i 0 ∙ ap (λ (j : ℕ). get_or ps j 0) z))
 
 -- the ways out of a comparison of a place's name, which has n bytes, with other bytes
 module _ (ps name : List ℕ) (lies : NameLies ps) {n : ℕ} (e : n ≡ name_length_in ps) where
@@ -135,12 +121,10 @@ module _ (ps name : List ℕ) (lies : NameLies ps) {n : ℕ} (e : n ≡ name_len
         ne_eqb n (length name) z ∙ (apart_length (name_bytes_in ps) name (λ q. z (e ∙ (sym (name_length_lem ps lies) ∙ q))) ∙ told_held)
 
     -- word by word
-    pub told_each : n ≡ length name → (t : ℕ → Bool) → ((i : ℕ) → t i ≡ eqb (get_or ps (i + 1) 0) (get_or name i 0)) → all t (from 0 n) ≡ held_under name ps
-    told_each q t h =
-        let z : length (name_bytes_in ps) ≡ n = name_length_lem ps lies ∙ sym e in
-        rw (← z) (all_same t (λ i. eqb (get_or (name_bytes_in ps) i 0) (get_or name i 0)) 0 (length (name_bytes_in ps))
-        (λ i a b. h i ∙ ap (λ m. eqb m (get_or name i 0)) (sym (name_word ps i (omega arith)))))
-        ∙ (same_each (name_bytes_in ps) name (z ∙ q) ∙ told_held)
+    pub told_words : n ≡ length name → list_all (λ (p : ℕ × ℕ). eqb p.0 p.1) (zip (between ps 1 (n + 1)) name) ≡ held_under name ps
+    told_words q =
+        let x : between ps 1 (n + 1) ≡ name_bytes_in ps = rw (e, add-one (name_length_in ps)) refl in
+        rw x (same_zip (name_bytes_in ps) name (name_length_lem ps lies ∙ (sym e ∙ q))) ∙ told_held
 
 -- the name of another place, as a slice
 module _ (ps other : List ℕ) (lies : NameLies ps) (there : NameLies other) {n m : ℕ} (e : n ≡ name_length_in ps) (q : m ≡ name_length_in other) where

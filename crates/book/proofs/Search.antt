@@ -3,14 +3,16 @@
 use mathlib.Core.Path.{◌≡◌, refl, ap, sym, ◌∙◌}
 use mathlib.Core.Bool.{Bool, true, false}
 use mathlib.Core.List.{List, [], ◌∷◌, ◌++◌, map, append_assoc}
-use Prim.Native.Nat.{ℕ, zero, suc, ◌+◌, ◌<◌, ◌≤◌}
+use Prim.Native.Nat.{ℕ, zero, suc, ◌+◌, ◌-◌, ◌<◌, ◌≤◌}
 use native.Mathlib.Omega.{arith}
 use native.Mathlib.Numerals.{add-one}
 use lib.Dec.{ltb}
-use lib.ListN.{length, get_or, set, take, drop, length-append}
-use lib.Seq.{drop-cons, set_at, length-take-le, take-suc-set, drop-set-lt}
+use lib.ListN.{length, get_or, set, take, drop, replicate, length-append}
+use lib.Seq.{drop-cons, set_at, length-take-le, take-suc-set, drop-drop, drop-append-le, drop-set-lt}
+use borrow.Rule.Slice.PartMut.{put_mid}
 use borrow.Author.Tests.{ltb-true, ltb-false, lt-ltb, le-ltb}
 use Rattle.std.specs.Prelude.{Some, None, Option}
+use Rattle.std.proofs.lemmas.List.{get_or_past, drop-replicate, length-replicate}
 use Rattle.std.specs.List.{find, range_with_len}
 use Rattle.scope.specs.Base.{pick, from}
 use Rattle.scope.specs.Limits.{MAX_STATES, MAX_STATE_NAME}
@@ -99,12 +101,35 @@ module _ (ps name : List ℕ) (i : ℕ) where
       ap (λ (l : List ℕ). set l (i + 1) b) s
       ∙ (set_at a (get_or ps (suc i) 0) r b (i + 1) (front (omega arith)) ∙ (sym t ∙ ap (bytes_put ps name) (sym (add-one i))))
 
--- once all are written
-pub put_bytes_end : (ps name : List ℕ) (i : ℕ) → NAME_WORDS ≤ length ps → i ≤ MAX_STATE_NAME → MAX_STATE_NAME ≤ i
-    → bytes_put (set ps 0 (length name)) name i ≡ put_name ps name
+-- bytes past a name's end are 0
+bytes_cut : (name : List ℕ) (s i k : ℕ) → map (λ j. get_or name j 0) (from s (i + k)) ≡ map (λ j. get_or name j 0) (from s i) ++ map (λ j. get_or name j 0) (from (s + i) k)
+bytes_cut name s zero k =
+    let z : 0 + k ≡ k = omega arith in
+    let y : s + 0 ≡ s = omega arith in
+    rw (z, y) refl
+bytes_cut name s (suc i) k =
+    let z : suc i + k ≡ suc (i + k) = omega arith in
+    let y : s + suc i ≡ suc s + i = omega arith in
+    rw (z, y) (ap (λ (l : List ℕ). get_or name s 0 ∷ l) (bytes_cut name (suc s) i k))
+
+bytes_past : (name : List ℕ) (i k : ℕ) → length name ≤ i → map (λ j. get_or name j 0) (from i k) ≡ replicate k 0
+bytes_past name i zero h = refl
+bytes_past name i (suc k) h = rw (get_or_past name i 0 h, bytes_past name (suc i) k (omega arith)) refl
+
+-- once all are written, over zeros
+pub put_bytes_end : (ps name : List ℕ) {zs : List ℕ} → NAME_WORDS ≤ length ps → length name ≤ MAX_STATE_NAME → zs ≡ replicate MAX_STATE_NAME 0
+    → bytes_put (put_mid 1 MAX_STATE_NAME (set ps 0 (length name)) zs) name (length name) ≡ put_name ps name
 unfolding put_name
-put_bytes_end ps name i h k l =
-    let z : i ≡ MAX_STATE_NAME = omega arith in
-    let f : take 1 (set ps 0 (length name)) ≡ length name ∷ [] = take-suc-set ps 0 (length name) (omega arith) in
-    let d : drop NAME_WORDS (set ps 0 (length name)) ≡ drop NAME_WORDS ps = drop-set-lt NAME_WORDS ps 0 (length name) (omega arith) in
-    rw (z, f, d) refl
+put_bytes_end ps name {zs} h k q =
+    let n : ℕ = length name in
+    let f : take 1 (set ps 0 n) ≡ n ∷ [] = take-suc-set ps 0 n (omega arith) in
+    let d : drop MAX_STATE_NAME (drop 1 (set ps 0 n)) ≡ drop NAME_WORDS ps = drop-drop MAX_STATE_NAME 1 (set ps 0 n) ∙ drop-set-lt NAME_WORDS ps 0 n (omega arith) in
+    let l : length {A = ℕ} (replicate MAX_STATE_NAME 0) ≡ MAX_STATE_NAME = length-replicate {A = ℕ} MAX_STATE_NAME 0 in
+    let r : List ℕ = replicate (MAX_STATE_NAME - n) 0 in
+    let z : drop n (replicate MAX_STATE_NAME 0 ++ drop NAME_WORDS ps) ≡ r ++ drop NAME_WORDS ps =
+    drop-append-le n (replicate MAX_STATE_NAME 0) (drop NAME_WORDS ps) (omega (arith, k, l)) ∙ ap (λ (v : List ℕ). v ++ drop NAME_WORDS ps) (drop-replicate n MAX_STATE_NAME 0) in
+    let s : n + (MAX_STATE_NAME - n) ≡ MAX_STATE_NAME = omega (arith, k) in
+    let b : bytes_to name MAX_STATE_NAME ≡ bytes_to name n ++ r =
+    ap (bytes_to name) (sym s) ∙ (bytes_cut name 0 n (MAX_STATE_NAME - n) ∙ ap (λ (v : List ℕ). bytes_to name n ++ v) (bytes_past name (0 + n) (MAX_STATE_NAME - n) (omega arith))) in
+    let x : bytes_put (put_mid 1 MAX_STATE_NAME (set ps 0 n) zs) name n ≡ n ∷ (bytes_to name n ++ (r ++ drop NAME_WORDS ps)) = rw (q, f, d, z) refl in
+    x ∙ ap (λ (v : List ℕ). n ∷ v) (sym (append_assoc (bytes_to name n) r (drop NAME_WORDS ps)) ∙ ap (λ (v : List ℕ). v ++ drop NAME_WORDS ps) (sym b))

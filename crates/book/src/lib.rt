@@ -1,7 +1,7 @@
 #![tactic(auto)]
 // A names buffer in one lent slice: where its places lie, how a place's parts and its name are read, and how a name is written and taken away. A place is
 // read and written as a slice of its own, `ps`, its words and no others. Nothing here looks at a held store: that is what is above.
-ghost use Rattle.std.specs.Prelude.{◌≡◌, true, ◌≤◌, ◌<◌, length, get_or, set};
+ghost use Rattle.std.specs.Prelude.{◌≡◌, true, ◌≤◌, ◌<◌, length, set};
 ghost use Rattle.scope.specs.Limits.{MAX_STATES};
 ghost use Rattle.scope.specs.States.{under, is_free, place_where};
 ghost use Rattle.book.specs.Words.{nodes_from, kids_from, place_words, book_words, place_from, place_at};
@@ -27,39 +27,34 @@ pub struct Room {
     pub children: u32,
 }
 
-// Where a place's children begin.
-pub fn kids_from(nodes: u32) -> usize
-    ensures { result ≡ kids_from nodes }
-{
-    NODES_FROM + node_words(nodes)
-}
+impl Room {
+    // Where a place's children begin.
+    pub fn kids_from(self) -> usize
+        ensures { result ≡ kids_from self.nodes }
+    {
+        NODES_FROM + node_words(self.nodes)
+    }
 
-pub fn place_words(nodes: u32, children: u32) -> usize
-    ensures { result ≡ place_words nodes children }
-{
-    kids_from(nodes) + child_words(children)
-}
+    pub fn place_words(self) -> usize
+        ensures { result ≡ place_words self.nodes self.children }
+    {
+        self.kids_from() + child_words(self.children)
+    }
 
-// How long a names buffer must be.
-pub fn book_words(nodes: u32, children: u32) -> usize
-    ensures { result ≡ book_words nodes children }
-{
-    BOOK_HEAD + MAX_STATES * place_words(nodes, children)
-}
+    // How long a names buffer must be.
+    pub fn book_words(self) -> usize
+        ensures { result ≡ book_words self.nodes self.children }
+    {
+        BOOK_HEAD + MAX_STATES * self.place_words()
+    }
 
-// Where place i begins, and place i - 1 ends.
-pub fn place_from(nodes: u32, children: u32, i: usize) -> usize
-    requires { i ≤ MAX_STATES }
-    ensures { result ≡ place_from nodes children i }
-{
-    BOOK_HEAD + i * place_words(nodes, children)
-}
-
-// The i-th byte, and 0 past the end.
-fn byte(s: &[u8], i: usize) -> u32
-    ensures { result ≡ get_or s.now i 0 }
-{
-    s.get(i).map_or(0, |&b| u32::from(b))
+    // Where place i begins, and place i - 1 ends.
+    pub fn place_from(self, i: usize) -> usize
+        requires { i ≤ MAX_STATES }
+        ensures { result ≡ place_from self.nodes self.children i }
+    {
+        BOOK_HEAD + i * self.place_words()
+    }
 }
 
 pub fn room_of(bs: &[u32]) -> Room
@@ -72,12 +67,12 @@ pub fn room_of(bs: &[u32]) -> Room
 }
 
 // The words of place i.
-pub fn place(bs: &[u32], nodes: u32, children: u32, i: usize) -> &[u32]
-    requires { PlaceLies bs.now nodes children i }
-    ensures { result.now ≡ place_at bs.now nodes children i }
+pub fn place(bs: &[u32], room: Room, i: usize) -> &[u32]
+    requires { PlaceLies bs.now room.nodes room.children i }
+    ensures { result.now ≡ place_at bs.now room.nodes room.children i }
 {
-    let a = place_from(nodes, children, i);
-    let e = place_from(nodes, children, i + 1);
+    let a = room.place_from(i);
+    let e = room.place_from(i + 1);
     &bs[a..e]
 }
 
@@ -89,20 +84,20 @@ pub fn head_of(ps: &[u32]) -> &[u32]
     &ps[NAME_WORDS..NODES_FROM]
 }
 
-pub fn nodes_of(ps: &[u32], nodes: u32) -> &[u32]
-    requires { kids_from nodes ≤ length ps.now }
-    ensures { result.now ≡ nodes_in nodes ps.now }
+pub fn nodes_of(ps: &[u32], room: Room) -> &[u32]
+    requires { kids_from room.nodes ≤ length ps.now }
+    ensures { result.now ≡ nodes_in room.nodes ps.now }
 {
-    let e = kids_from(nodes);
+    let e = room.kids_from();
     &ps[NODES_FROM..e]
 }
 
-pub fn kids_of(ps: &[u32], nodes: u32, children: u32) -> &[u32]
-    requires { place_words nodes children ≤ length ps.now }
-    ensures { result.now ≡ kids_in nodes children ps.now }
+pub fn kids_of(ps: &[u32], room: Room) -> &[u32]
+    requires { place_words room.nodes room.children ≤ length ps.now }
+    ensures { result.now ≡ kids_in room.nodes room.children ps.now }
 {
-    let a = kids_from(nodes);
-    let e = place_words(nodes, children);
+    let a = room.kids_from();
+    let e = room.place_words();
     &ps[a..e]
 }
 
@@ -118,8 +113,13 @@ pub fn same_name(ps: &[u32], name: &[u8]) -> bool
     requires { NameLies ps.now }
     ensures { result ≡ held_under name.now ps.now }
 {
-    let n = name_length(ps) as usize;
-    n != 0 && n == name.len() && (0..n).all(|i| word(ps, i + 1) == byte(name, i))
+    let length = name_length(ps) as usize;
+    length != 0
+        && length == name.len()
+        && ps[1..length + 1]
+            .iter()
+            .zip(name)
+            .all(|(&word, &b)| word == u32::from(b))
 }
 
 // Whether a place is held under the name of another; a free one has none.
@@ -138,8 +138,9 @@ pub fn put_name(ps: &mut [u32], name: &[u8])
     ensures { ps.new ≡ put_name ps.old name.now }
 {
     ps[0] = name.len() as u32;
-    for i in 0..MAX_STATE_NAME {
-        ps[i + 1] = byte(name, i);
+    ps[1..NAME_WORDS].fill(0);
+    for (i, &b) in name.iter().enumerate() {
+        ps[i + 1] = u32::from(b);
     }
 }
 
@@ -157,7 +158,7 @@ pub fn find_name(bs: &[u32], name: &[u8]) -> Option<usize>
     ensures { result ≡ if_place (place_where (under name.now) (places_in bs.now)) }
 {
     let room = room_of(bs);
-    (0..MAX_STATES).find(|&i| same_name(place(bs, room.nodes, room.children, i), name))
+    (0..MAX_STATES).find(|&i| same_name(place(bs, room, i), name))
 }
 
 // The first free place.
@@ -166,5 +167,5 @@ pub fn find_free(bs: &[u32]) -> Option<usize>
     ensures { result ≡ if_place (place_where is_free (places_in bs.now)) }
 {
     let room = room_of(bs);
-    (0..MAX_STATES).find(|&i| name_length(place(bs, room.nodes, room.children, i)) == 0)
+    (0..MAX_STATES).find(|&i| name_length(place(bs, room, i)) == 0)
 }

@@ -13,11 +13,6 @@ use Rattle.book.specs.Places.{place_of, held_under}
 abbrev pub room_alone : List ℕ → Store
 room_alone h = opened (node_room h) (child_room h)
 
--- words a to e lie in the list
-pub record Run (s : List ℕ) (a e : ℕ) : Type 0 where
-  pub order : a ≤ e
-  pub inside : e ≤ length s
-
 abbrev pub is_below : ℕ → ℕ → Bool
 is_below limit w = ltb w limit
 

@@ -7,13 +7,13 @@ ghost use Rattle.scope.specs.Limits.{MAX_STATES};
 ghost use Rattle.scope.specs.Refusals.{first_broken};
 ghost use Rattle.scope.specs.States.{names_differ, lent_book_sound, book_tests};
 ghost use Rattle.chart.specs.Env.{chart_lent};
-ghost use Rattle.layout.specs.Words.{between, lent_of};
+ghost use Rattle.layout.specs.Words.{lent_of};
 ghost use Rattle.refusals.specs.Codes.{told};
 ghost use Rattle.sound.specs.Tests.{env_lent};
 ghost use Rattle.book.specs.Words.{NAME_WORDS, place_words, book_words, places_in, name_words_clean, book_clean, lent_book_of};
-ghost use Rattle.book_sound.specs.Tests.{room_alone, Run, is_below, place_ok, places_ok, Listed, other_name, name_once};
+ghost use Rattle.book_sound.specs.Tests.{room_alone, is_below, place_ok, places_ok, Listed, other_name, name_once};
 
-use book::{NAME_WORDS, name_length, place};
+use book::{NAME_WORDS, Room, name_length, place};
 use chart::Env;
 use refusals::Refusal;
 use scope::{MAX_CHILDREN, MAX_NODES, MAX_STATE_NAME, MAX_STATES};
@@ -21,12 +21,11 @@ use scope::{MAX_CHILDREN, MAX_NODES, MAX_STATE_NAME, MAX_STATES};
 // One more than the largest byte.
 const BYTES: u32 = 256;
 
-// The words from a to e are below a limit.
-fn below(s: &[u32], a: usize, e: usize, limit: u32) -> bool
-    requires { Run s.now a e }
-    ensures { result ≡ all (is_below limit) (between s.now a e) }
+// All words are below a limit.
+fn below(s: &[u32], limit: u32) -> bool
+    ensures { result ≡ all (is_below limit) s.now }
 {
-    s[a..e].iter().all(|&word| word < limit)
+    s.iter().all(|&word| word < limit)
 }
 
 // A name's length is one that a name can have, its words are bytes, and unused ones are zero.
@@ -35,36 +34,36 @@ fn name_clean(ps: &[u32]) -> bool
     ensures { result ≡ name_words_clean ps.now }
 {
     let n = name_length(ps) as usize;
-    n <= MAX_STATE_NAME && below(ps, 1, n + 1, BYTES) && below(ps, n + 1, NAME_WORDS, 1)
+    n <= MAX_STATE_NAME && below(&ps[1..n + 1], BYTES) && below(&ps[n + 1..NAME_WORDS], 1)
 }
 
 // A free place passes. A held head says its counts as its capacities, so the slots behind what is used are not looked at.
-fn place_sound(env: &Env<'_>, ps: &[u32], nodes: u32, children: u32) -> bool
-    requires { length ps.now ≡ place_words nodes children }
-    ensures { result ≡ place_ok (chart_lent env.now) nodes children ps.now }
+fn place_sound(env: &Env<'_>, ps: &[u32], room: Room) -> bool
+    requires { length ps.now ≡ place_words room.nodes room.children }
+    ensures { result ≡ place_ok (chart_lent env.now) room.nodes room.children ps.now }
 {
     if name_length(ps) == 0 {
         return true;
     }
     let x = layout::read_header(book::head_of(ps));
     name_clean(ps)
-        && nodes as usize <= MAX_NODES
-        && children as usize <= MAX_CHILDREN
+        && room.nodes as usize <= MAX_NODES
+        && room.children as usize <= MAX_CHILDREN
         && x.node_room == x.nodes
         && x.child_room == x.children
         && sound::store_sound(
             env,
             book::head_of(ps),
-            book::nodes_of(ps, nodes),
-            book::kids_of(ps, nodes, children),
+            book::nodes_of(ps, room),
+            book::kids_of(ps, room),
         )
 }
 
-fn places_sound(env: &Env<'_>, bs: &[u32], nodes: u32, children: u32) -> bool
-    requires { book_words nodes children ≤ length bs.now }
-    ensures { result ≡ places_ok (chart_lent env.now) nodes children bs.now }
+fn places_sound(env: &Env<'_>, bs: &[u32], room: Room) -> bool
+    requires { book_words room.nodes room.children ≤ length bs.now }
+    ensures { result ≡ places_ok (chart_lent env.now) room.nodes room.children bs.now }
 {
-    (0..MAX_STATES).all(|i| place_sound(env, place(bs, nodes, children, i), nodes, children))
+    (0..MAX_STATES).all(|i| place_sound(env, place(bs, room, i), room))
 }
 
 // Place j is not held under place i's name.
@@ -73,10 +72,7 @@ fn other_name(bs: &[u32], i: usize, j: usize) -> bool
     ensures { result ≡ other_name bs.now i j }
 {
     let room = book::room_of(bs);
-    !book::same_names(
-        place(bs, room.nodes, room.children, j),
-        place(bs, room.nodes, room.children, i),
-    )
+    !book::same_names(place(bs, room, j), place(bs, room, i))
 }
 
 // No place behind place i is held under its name.
@@ -100,10 +96,10 @@ pub fn book_sound(env: &Env<'_>, h: &[u32], bs: &[u32]) -> bool
 {
     let x = layout::read_header(h);
     let room = book::room_of(bs);
-    book::book_words(room.nodes, room.children) <= bs.len()
+    room.book_words() <= bs.len()
         && room.nodes == x.node_room
         && room.children == x.child_room
-        && places_sound(env, bs, room.nodes, room.children)
+        && places_sound(env, bs, room)
         && names_differ(bs)
 }
 

@@ -32,9 +32,9 @@ list_if n l = pick (set_in n) (Some l) None
 abbrev pub inverted_in : ℕ → Inverted
 inverted_in n = record { 0 = set_in n }
 
--- a trait's number; 4,294,967,295 is the error
-abbrev pub impl_in : ℕ → Impl
-impl_in n = pick (eqb n NONE) Error (Trait n)
+-- a trait's number and its list; 4,294,967,295 is the error, whatever is lent with it
+abbrev pub impl_in : ℕ → Bor (List ℕ) → Impl
+impl_in n l = pick (eqb n NONE) Error (Trait n l)
 
 -- a kind's code, number, `Flex` and own name
 abbrev pub kind_args_in : ℕ → ℕ → ℕ → ℕ → ℕ → ℕ → KindArgs

@@ -62,14 +62,14 @@ pub fn list_if(listed: u32, list: &[u32]) -> Option<&[u32]>
     is_set(listed).then_some(list)
 }
 
-// No chart has so many records that a trait has this number.
-pub fn impl_of(n: u32) -> Impl
-    ensures { result ≡ impl_in n }
+// A trait over the list, or an error, beside which the list says nothing: no chart has so many records that a trait has its number.
+pub fn impl_of(n: u32, list: &[u32]) -> Impl<'_>
+    ensures { result ≡ impl_in n list.entry }
 {
     if n == NONE {
         return Impl::Error;
     }
-    Impl::Trait(n)
+    Impl::Trait(n, list)
 }
 
 pub fn kind_args(
@@ -139,23 +139,17 @@ pub fn unify_number(a: Result<UnifyResult, Refusal>) -> u64
     answer_number(a.map(u32::from))
 }
 
-// Kept (2): a length may be no u32; that this one is below 4,294,967,296 its callers say.
+// A length as a number; that it is below 4,294,967,296 callers say.
 pub fn count_number(a: Result<usize, Refusal>) -> u64
     requires { count_low a ≡ true }
     ensures { count_in result ≡ count_reply a }
 {
-    match a {
-        Ok(n) => n as u64,
-        Err(r) => refused(r),
-    }
+    answer_number(a.map(|n| n as u32))
 }
 
 // How much of a buffer a printer uses: all that a length can tell.
 pub fn counted(room: usize) -> usize
     ensures { result ≡ counted room }
 {
-    if room <= LONGEST {
-        return room;
-    }
-    LONGEST
+    room.min(LONGEST)
 }

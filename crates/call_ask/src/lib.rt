@@ -1,6 +1,8 @@
 #![tactic(auto)]
 // The public calls that ask a question of a type through its root, on any numbers at all: `is_nil`, `self_inverse`, `get_mod` and `find_related`. Each tests
 // chart and store and refuses with 2 or 8, or is its form for a tested store.
+//
+// Kept (2), (5): as `promise` says.
 pub mod tested;
 
 ghost use Rattle.std.specs.Prelude.{◌≡◌, false};

@@ -1,6 +1,11 @@
 #![tactic(auto)]
 // `import` and `export` on any numbers at all. `import` tests chart and both stores and refuses with 2, 8 or 9; `export` tests the opening, which comes first in
 // 01's order, then chart and source, and refuses with 1, 2 or 8. Otherwise each is its form for tested stores.
+//
+// Kept (2): as `promise` says.
+// Kept (5): a source's header, nodes and children stay three slices, though all are shared. Every call that reads a store has it so, as C has and as `sound::lent` and
+// `Tested` say it. A struct would be made in `library` and taken apart again in `stores` and in each crate below, and an import's contract would say its two stores in two
+// ways: the destination's slices are `&mut` (`promise` says why these stay three).
 ghost use Rattle.std.specs.Prelude.{length};
 ghost use Rattle.scope.specs.Calls.{import_call, export_call};
 ghost use Rattle.layout.specs.Words.{lent_of, store_in};

@@ -1,5 +1,7 @@
 #![tactic(auto)]
 // The calls `find` and `find_mut` on any numbers at all: each tests chart and store and refuses with 2 or 8, or is its form for a tested store.
+//
+// Kept (2), (5): as `promise` says.
 pub mod tested;
 
 ghost use Rattle.std.specs.Prelude.{◌≡◌};

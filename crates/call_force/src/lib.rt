@@ -1,6 +1,8 @@
 #![tactic(auto)]
 // The calls `force_kind`, `finish_inference` and `finish_inference_where` on any numbers at all: each tests chart and store and refuses with 2 or 8, or is its
 // form for a tested store.
+//
+// Kept (2), (5): as `promise` says.
 pub mod tested;
 
 ghost use Rattle.scope.specs.Types.{ty_of};

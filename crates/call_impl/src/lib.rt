@@ -1,6 +1,8 @@
 #![tactic(auto)]
 // The calls on impl types, each a trait over a lent list of types or an error, on any numbers at all: `unify_impl_type` and `approx_eq`. Each tests chart and store
 // and refuses with 2 or 8, or is its form for a tested store. The first has a form with a lent memory, any slice whatever it holds, and the same answer and nodes.
+//
+// Kept (2), (5): as `promise` says.
 pub mod tested;
 
 ghost use Rattle.scope.specs.Calls.{unify_impl_type_call, approx_eq_call};
@@ -21,16 +23,14 @@ pub fn unify_impl_type_recalling(
     ws: &mut [u32],
     ks: &[u32],
     memory: &mut [u32],
-    a: Impl,
-    xs: &[u32],
-    b: Impl,
-    ys: &[u32],
+    a: Impl<'_>,
+    b: Impl<'_>,
 ) -> Result<UnifyResult, Refusal>
     ensures { Promised
-        (unify_impl_type_call (env_lent env.now) (lent_of h.now ws.old ks.now) (impl_means a xs.now) (impl_means b ys.now)) (unify_reply result) h.now ws.old ks.now h.now ws.new ks.now }
+        (unify_impl_type_call (env_lent env.now) (lent_of h.now ws.old ks.now) (impl_means a.entry) (impl_means b.entry)) (unify_reply result) h.now ws.old ks.now h.now ws.new ks.now }
 {
     sound::lent(env, h, ws, ks)?;
-    tested::unify_impl_type_recalling(env, h, ws, ks, memory, a, xs, b, ys)
+    tested::unify_impl_type_recalling(env, h, ws, ks, memory, a, b)
 }
 
 // The same without a memory.
@@ -39,18 +39,16 @@ pub fn unify_impl_type(
     h: &[u32],
     ws: &mut [u32],
     ks: &[u32],
-    a: Impl,
-    xs: &[u32],
-    b: Impl,
-    ys: &[u32],
+    a: Impl<'_>,
+    b: Impl<'_>,
 ) -> Result<UnifyResult, Refusal>
     ensures { Promised
         (unify_impl_type_call (env_lent env.now) (lent_of h.now ws.old ks.now)
-        (impl_means a xs.now) (impl_means b ys.now))
+        (impl_means a.entry) (impl_means b.entry))
         (unify_reply result) h.now ws.old ks.now h.now ws.new ks.now }
 {
     let mut memory = [0u32; unify_lists::OWN_MEMORY];
-    unify_impl_type_recalling(env, h, ws, ks, &mut memory, a, xs, b, ys)
+    unify_impl_type_recalling(env, h, ws, ks, &mut memory, a, b)
 }
 
 // `approx_eq`: two impl types, by their traits alone.
@@ -59,16 +57,14 @@ pub fn approx_eq(
     h: &[u32],
     ws: &[u32],
     ks: &[u32],
-    a: Impl,
-    xs: &[u32],
-    b: Impl,
-    ys: &[u32],
+    a: Impl<'_>,
+    b: Impl<'_>,
 ) -> Result<bool, Refusal>
     ensures { Promised
         (approx_eq_call (env_lent env.now) (lent_of h.now ws.now ks.now)
-        (impl_means a xs.now) (impl_means b ys.now))
+        (impl_means a.entry) (impl_means b.entry))
         (bool_reply result) h.now ws.now ks.now h.now ws.now ks.now }
 {
     sound::lent(env, h, ws, ks)?;
-    tested::approx_eq(env, h, ws, ks, a, xs, b, ys)
+    tested::approx_eq(env, h, ws, ks, a, b)
 }

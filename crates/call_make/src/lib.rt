@@ -1,6 +1,8 @@
 #![tactic(auto)]
 // The calls that fill a store with variables, the error type and nil, on any numbers at all: each tests chart and store and refuses with 2 or 8, or is its
 // form for a tested store.
+//
+// Kept (2), (5): as `promise` says.
 pub mod tested;
 
 ghost use Rattle.std.specs.Prelude.{length};

@@ -58,10 +58,7 @@ pub fn new_vars(
 pub fn nodes_for(was: Option<Type>) -> u32
     ensures { result ≡ nodes_for (remembered_means was) }
 {
-    match was {
-        Some(_) => 0,
-        None => 1,
-    }
+    u32::from(was.is_none())
 }
 
 // The error type.

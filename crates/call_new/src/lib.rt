@@ -1,5 +1,7 @@
 #![tactic(auto)]
 // The calls `new`, `new_struct` and `new_union` on any numbers at all: each tests chart and store and refuses with 2 or 8, or is its form for a tested store.
+//
+// Kept (2), (5): as `promise` says.
 ghost use Rattle.scope.specs.Calls.{new_call, new_struct_call, new_union_call};
 ghost use Rattle.layout.specs.Words.{lent_of};
 ghost use Rattle.store.specs.Entries.{types_in};

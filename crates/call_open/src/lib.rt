@@ -1,5 +1,7 @@
 #![tactic(auto)]
 // The call that opens a store, on any numbers at all: it is refused with 1 alone.
+//
+// Kept (5): as `promise` says.
 ghost use Rattle.scope.specs.Calls.{open_call};
 ghost use Rattle.refusals.specs.Opening.{enough};
 ghost use Rattle.promise.specs.Promise.{done_reply, Promised};

@@ -1,6 +1,8 @@
 #![tactic(auto)]
 // The public calls that read a store, on any numbers at all: a node as it stands, its children and names by their index, and the figures. Each tests chart and
 // store and refuses with 2 or 8, or is its form for a tested store.
+//
+// Kept (2), (5): as `promise` says.
 pub mod tested;
 
 ghost use Rattle.std.specs.Prelude.{◌≡◌};

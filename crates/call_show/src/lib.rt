@@ -4,6 +4,8 @@
 // of that buffer: on 7 the whole buffer, on any other refusal an empty part." The refusal, if one stands, is told beside the part. The part begins where the
 // buffer does. A slice that goes into the answer has no value of its own at the end, so a contract cannot say what lies past the part; the first forms, which
 // these call, say it.
+//
+// Kept (2), (5): as `promise` says.
 pub mod tested;
 
 ghost use Rattle.scope.specs.Types.{ty_of};
@@ -35,22 +37,21 @@ pub fn show(
     tested::show(env, h, ws, ks, t, buf)
 }
 
-// An impl type's text, its types lent beside it.
+// An impl type's text.
 pub fn show_impl_type(
     env: &Env<'_>,
     h: &[u32],
     ws: &[u32],
     ks: &[u32],
-    a: Impl,
-    xs: &[u32],
+    a: Impl<'_>,
     buf: &mut [u8],
 ) -> Result<usize, Refusal>
     ensures { PrintPromised
-        (show_impl_type_call (env_lent env.now) (lent_of h.now ws.now ks.now) (impl_means a xs.now) buf.old)
+        (show_impl_type_call (env_lent env.now) (lent_of h.now ws.now ks.now) (impl_means a.entry) buf.old)
         (count_reply result) (store_in h.now ws.now ks.now) buf.new }
 {
     sound::lent(env, h, ws, ks)?;
-    tested::show_impl_type(env, h, ws, ks, a, xs, buf)
+    tested::show_impl_type(env, h, ws, ks, a, buf)
 }
 
 // How long the part is in a buffer with so much room.
@@ -65,7 +66,7 @@ fn part_in(r: Result<usize, Refusal>, room: usize) -> usize
 }
 
 // The part, and the refusal beside it.
-// Kept (1): C hands back the part that is filled with a refusal too, so that a Result would lose one of the two.
+// Kept (1): both are told at once: "on 7 the whole buffer, on any other refusal an empty part". A Result would lose the part on 7.
 fn hand_back<'b>(buf: &'b mut [u8], r: Result<usize, Refusal>) -> (&'b mut [u8], Option<Refusal>)
     requires { part_in r (length buf.old) ≤ length buf.old }
     ensures { Back r buf.old result.1 result.0.now × (result.0.ref_ptr ≡ buf.entry.ref_ptr) }
@@ -93,22 +94,21 @@ pub fn show_part<'b>(
     hand_back(buf, r)
 }
 
-// An impl type's text, its types lent beside it.
+// An impl type's text.
 #[tactic(auto, using(crate::proofs::Laws::impl_room))]
 pub fn show_impl_type_part<'b>(
     env: &Env<'_>,
     h: &[u32],
     ws: &[u32],
     ks: &[u32],
-    a: Impl,
-    xs: &[u32],
+    a: Impl<'_>,
     buf: &'b mut [u8],
 ) -> (&'b mut [u8], Option<Refusal>)
     ensures { PartPromised
-        (show_impl_type_call (env_lent env.now) (lent_of h.now ws.now ks.now) (impl_means a xs.now) buf.old)
+        (show_impl_type_call (env_lent env.now) (lent_of h.now ws.now ks.now) (impl_means a.entry) buf.old)
         result.1 result.0.now (store_in h.now ws.now ks.now)
         × (result.0.ref_ptr ≡ buf.entry.ref_ptr) }
 {
-    let r = show_impl_type(env, h, ws, ks, a, xs, buf);
+    let r = show_impl_type(env, h, ws, ks, a, buf);
     hand_back(buf, r)
 }

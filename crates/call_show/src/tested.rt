@@ -52,19 +52,18 @@ pub fn show(
     printed(&out)
 }
 
-// An impl type's text, its types lent beside it.
+// An impl type's text.
 pub fn show_impl_type(
     env: &Env<'_>,
     h: &[u32],
     ws: &[u32],
     ks: &[u32],
-    a: Impl,
-    xs: &[u32],
+    a: Impl<'_>,
     buf: &mut [u8],
 ) -> Result<usize, Refusal>
     requires { Tested (env_lent env.now) h.now ws.now ks.now }
     ensures { PrintPromised
-        (show_impl_type_call (env_lent env.now) (lent_of h.now ws.now ks.now) (impl_means a xs.now) buf.old)
+        (show_impl_type_call (env_lent env.now) (lent_of h.now ws.now ks.now) (impl_means a.entry) buf.old)
         (count_reply result) (store_in h.now ws.now ks.now) buf.new }
 {
     let nodes = Nodes {
@@ -72,8 +71,8 @@ pub fn show_impl_type(
         kids: ks,
         made: layout::read_header(h).nodes,
     };
-    lent_tests::one_impl(a, xs, nodes.made, env)?;
+    lent_tests::one_impl(a, nodes.made, env)?;
     let mut out = Out { buf, at: 0 };
-    show_impl::show_impl_type(env, &nodes, &mut out, a, xs);
+    show_impl::show_impl_type(env, &nodes, &mut out, a);
     printed(&out)
 }

@@ -1,6 +1,8 @@
 #![tactic(auto)]
 // The calls on a store and its names buffer, on any numbers at all: opening a names buffer is refused with 1 alone; the others test chart, store and names
 // buffer and refuse with 2 or 8, or are their forms for tested ones.
+//
+// Kept (2), (5): as `promise` says.
 pub mod tested;
 
 ghost use Rattle.std.specs.Prelude.{leb, length, ◌≡◌, [], ◌∷◌};
@@ -13,21 +15,16 @@ ghost use Rattle.promise.specs.Promise.{done_reply};
 ghost use Rattle.book.specs.Words.{book_words, lent_book_of};
 ghost use Rattle.call_states.specs.Promise.{NamesPromised, NamesOpened};
 
+use book::Room;
 use chart::Env;
 use refusals::Refusal;
-use scope::{MAX_CHILDREN, MAX_NODES};
 
 // Refusal 1 where it stands.
 fn opening(bs: &[u32], nodes: u32, children: u32) -> Result<(), Refusal>
     ensures { first_broken (open_test nodes children (leb (book_words nodes children) (length bs.now)) ∷ []) ≡ told result }
 {
-    if MAX_NODES < nodes as usize
-        || MAX_CHILDREN < children as usize
-        || bs.len() < book::book_words(nodes, children)
-    {
-        return Err(Refusal::Unopenable);
-    }
-    Ok(())
+    let room = Room { nodes, children };
+    refusals::opening_by(nodes, children, room.book_words() <= bs.len())
 }
 
 // A names buffer without a name, for a store of these capacities, whatever the slice held.

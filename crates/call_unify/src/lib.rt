@@ -1,6 +1,8 @@
 #![tactic(auto)]
 // The call `unify`, on any numbers at all: it tests chart and store and refuses with 2 or 8, or is its form for a tested store. With a lent memory a type that is
 // shared and fails deep down is not visited again and again; the answer and every node are the same.
+//
+// Kept (2), (5): as `promise` says.
 pub mod tested;
 
 ghost use Rattle.std.specs.Prelude.{◌≡◌, leb};

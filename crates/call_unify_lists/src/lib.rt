@@ -1,6 +1,8 @@
 #![tactic(auto)]
 // The calls that unify lent lists of types, entries and signatures, on any numbers at all: each tests chart and store and refuses with 2 or 8, or is its form for a
 // tested store. Each has a form with a lent memory, any slice whatever it holds, and the same answer and nodes.
+//
+// Kept (2), (5): as `promise` says.
 ghost use Rattle.scope.specs.Types.{ty_of};
 ghost use Rattle.scope.specs.Calls.{unify_types_call, unify_objects_call, unify_fn_sig_call};
 ghost use Rattle.layout.specs.Words.{lent_of};

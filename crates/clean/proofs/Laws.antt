@@ -10,7 +10,7 @@ use native.Mathlib.Omega.{arith}
 use native.Mathlib.Numerals.{add-one}
 use native.Mathlib.Decide.{dec_le}
 use lib.Dec.{eqb, leb, leb-zero}
-use lib.ListN.{length, get_or, take, drop, length-drop}
+use lib.ListN.{length, get_or, take, drop, length-drop, drop_of_length-le}
 use lib.Seq.{drop-cons, length-take-le}
 use borrow.Author.Tests.{eqb-true, eq-eqb, ne_eqb}
 use Rattle.scope.specs.Base.{pick, all, from, is_some}
@@ -39,13 +39,6 @@ module _ (p : ℕ → Bool) (a e : ℕ) where
   pub run_next : a < e → all p (from a (e - a)) ≡ (p a && all p (from (a + 1) (e - (a + 1))))
   run_next h = let z : e - a ≡ suc (e - (a + 1)) = omega arith in rw (z, add-one)
 
-  pub run_end : e ≤ a → all p (from a (e - a)) ≡ true
-  run_end h = let z : e - a ≡ 0 = omega arith in rw z
-
-  -- the same beside a flag that says of what was tested before
-  pub flag_end : (ok : Bool) → e ≤ a → (ok && all p (from a (e - a))) ≡ ok
-  flag_end ok h = rw (run_end h, and-true)
-
 -- the same of what stands there
 
 -- the word at i is zero
@@ -63,6 +56,13 @@ zeros_run s a e h = by_order (dec_le a e)
     by_order : Dec (a ≤ e) → zeros (between s a e) ≡ all (zero_at s) (from a (e - a))
     by_order (yes l) = zeros_from s a (e - a) (omega arith)
     by_order (no n) = let z : e - a ≡ 0 = omega arith in rw z
+
+-- a flag that says of the words before i whether they are zero, beside those that are left
+pub zero_next : (s : List ℕ) (i : ℕ) (b : Bool) → i < length s → (b && zeros (drop i s)) ≡ ((b && zero_at s i) && zeros (drop (i + 1) s))
+zero_next s i b h = rw (drop-cons s i 0 h, add-one i, and_assoc)
+
+pub zero_end : (s : List ℕ) (i : ℕ) (b : Bool) → length s ≤ i → (b && zeros (drop i s)) ≡ b
+zero_end s i b h = rw (drop_of_length-le s h, and-true)
 
 -- child i's name is clean
 abbrev pub child_clean : Bool → List ℕ → ℕ → Bool

@@ -7,7 +7,7 @@
 ghost use Rattle.std.specs.Prelude.{◌≡◌, ◌+◌, ◌*◌, ◌≤◌, length};
 ghost use Rattle.scope.specs.Sound.{zeros, names_clean};
 ghost use Rattle.kinds.specs.Rows.{names_number};
-ghost use Rattle.layout.specs.Words.{NODE_WORDS, KNOWN_TAG, between, long_enough, unused_zero, node_clean};
+ghost use Rattle.layout.specs.Words.{NODE_WORDS, KNOWN_TAG, long_enough, unused_zero, node_clean};
 ghost use Rattle.layout.specs.Meaning.{kind_cell, named_of, Lies};
 ghost use Rattle.clean.specs.Parts.{room_clean, name_clean_if, slots_clean_if, plain_clean, known_clean};
 
@@ -34,14 +34,14 @@ fn long_enough(h: &[u32], ws: &[u32], ks: &[u32]) -> bool
         && child_words(x.child_room) <= ks.len()
 }
 
-// The words from a to e are zero. Each is looked at, whatever the others are, so that several can be at once.
-fn zero_between(s: &[u32], a: usize, e: usize) -> bool
-    requires { e ≤ length s.now }
-    ensures { result ≡ zeros (between s.now a e) }
+// All words are zero.
+// Kept (3): each is looked at, whatever the others are, so that several can be at once; `all` ends at the first that is not.
+fn all_zero(s: &[u32]) -> bool
+    ensures { result ≡ zeros s.now }
 {
     let mut zero = true;
-    for i in a..e {
-        zero &= s[i] == 0;
+    for word in s {
+        zero &= *word == 0;
     }
     zero
 }
@@ -52,8 +52,8 @@ fn unused_zero(h: &[u32], ws: &[u32], ks: &[u32]) -> bool
     ensures { result ≡ unused_zero h.now ws.now ks.now }
 {
     let x = read_header(h);
-    zero_between(ws, node_words(x.nodes), node_words(x.node_room))
-        && zero_between(ks, child_words(x.children), child_words(x.child_room))
+    all_zero(&ws[node_words(x.nodes)..node_words(x.node_room)])
+        && all_zero(&ks[child_words(x.children)..child_words(x.child_room)])
 }
 
 // No slice is too short, and no unused slot is not zero.
@@ -135,6 +135,6 @@ pub fn node_clean(ws: &[u32], ks: &[u32], c: u32, i: TypeIdx) -> bool
     if x.tag == KNOWN_TAG {
         known_clean(ks, c, x)
     } else {
-        plain_clean(x) && zero_between(s, KIND_WORDS, NODE_WORDS)
+        plain_clean(x) && all_zero(&s[KIND_WORDS..NODE_WORDS])
     }
 }

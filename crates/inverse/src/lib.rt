@@ -1,10 +1,9 @@
 #![tactic(auto)]
 // Whether a type is its own inverse: scope's `self_inverse_of` of the nodes that are lent. Its root and a walk of some visits tell it, or nothing; a walk
 // with marks tells it always.
-ghost use Rattle.std.specs.Prelude.{◌≡◌, ◌≤◌, ◌<◌, eqb, length, get_or};
+ghost use Rattle.std.specs.Prelude.{◌≡◌, ◌<◌, eqb, get_or};
 ghost use Rattle.scope.specs.Base.{all, from};
 ghost use Rattle.scope.specs.Types.{ty_of};
-ghost use Rattle.layout.specs.Words.{node_words};
 ghost use Rattle.layout.specs.Lent.{nodes_by};
 ghost use Rattle.layout.specs.Meaning.{read_at, held_in};
 ghost use Rattle.related.specs.Stands.{StandsIn};
@@ -15,6 +14,7 @@ use layout::{Kind, Nodes};
 use types::{Type, TypeIdx};
 
 // What a look at children tells of what is asked, whether a node is below or whether one is not good: there is one, or there is none, or only a walk with marks can tell.
+// Kept (1): an Option of a bool would not say which answer is which: two questions have this answer, and `occurs` is true where the other is false.
 #[derive(Clone, Copy)]
 pub enum Glance {
     Met,
@@ -31,7 +31,8 @@ enum Judgement {
 }
 
 // What is left of a run of children: those from `next` up to `end`.
-// Kept (6): a Range is no Copy, and an array of such could not be filled.
+// Kept (6): a pair of numbers is copied, to the list of the runs above and back. A Range is no Copy: `from_fn` would fill the list, and each run be cloned out of it.
+// The list and `level` beside it are a stack of a fixed size, as there is no heap for a Vec.
 #[derive(Clone, Copy)]
 struct Rest {
     next: usize,
@@ -55,11 +56,10 @@ pub fn good_kind(kind: Kind, param: bool) -> bool
 }
 
 // It "holds where the root has a self-dual kind and it holds of every child"; a Param has none.
-fn judge(ws: &[u32], n: u32, i: TypeIdx, param: bool) -> Judgement
-    requires { node_words n ≤ length ws.now }
-    ensures { Judges ws.now n param i.0 result }
+fn judge(nodes: &Nodes<'_>, i: TypeIdx, param: bool) -> Judgement
+    ensures { Judges nodes.now.words.now nodes.now.made param i.0 result }
 {
-    let Some((_, kind)) = layout::held_at(ws, n, i) else {
+    let Some((_, kind)) = nodes.held(i) else {
         return Judgement::Bad;
     };
     if !good_kind(kind, param) {
@@ -101,10 +101,10 @@ fn inverse_run(nodes: &Nodes<'_>, first: u32, count: u32, param: bool, most: u32
         }
         if run.next < run.end {
             let kid = layout::child_at(nodes.kids, run.next).ty;
-            let root = roots::find(nodes.words, nodes.made, kid).idx();
+            let root = roots::find_in(nodes, kid).idx();
             run.next += 1;
             left -= 1;
-            match judge(nodes.words, nodes.made, root, param) {
+            match judge(nodes, root, param) {
                 Judgement::Bad => return Glance::Met,
                 Judgement::Good => {}
                 Judgement::Run { first, count } => {
@@ -137,8 +137,8 @@ pub fn quickly(nodes: &Nodes<'_>, t: Type, param: bool) -> Glance
     requires { StandsIn nodes.now × ((ty_of t.0).idx < nodes.now.made) }
     ensures { Glanced (nodes_by nodes.now) param t.0 result }
 {
-    let root = roots::find(nodes.words, nodes.made, t).idx();
-    match judge(nodes.words, nodes.made, root, param) {
+    let root = roots::find_in(nodes, t).idx();
+    match judge(nodes, root, param) {
         Judgement::Bad => Glance::Met,
         Judgement::Good => Glance::Clear,
         Judgement::Run { first, count } => {
@@ -148,11 +148,12 @@ pub fn quickly(nodes: &Nodes<'_>, t: Type, param: bool) -> Glance
 }
 
 // "never where there is no kind"
-fn good_at(ws: &[u32], n: u32, i: TypeIdx, param: bool) -> bool
-    requires { node_words n ≤ length ws.now }
-    ensures { result ≡ good_by param (held_in (read_at ws.now n i.0)) }
+fn good_at(nodes: &Nodes<'_>, i: TypeIdx, param: bool) -> bool
+    ensures { result ≡ good_by param (held_in (read_at nodes.now.words.now nodes.now.made i.0)) }
 {
-    layout::held_at(ws, n, i).is_some_and(|(_, kind)| good_kind(kind, param))
+    nodes
+        .held(i)
+        .is_some_and(|(_, kind)| good_kind(kind, param))
 }
 
 // A walk writes 1: other marks are older.
@@ -163,11 +164,10 @@ fn is_new(marks: &[u8], i: TypeIdx) -> bool
 }
 
 // Every root that a walk met is good.
-fn all_good(ws: &[u32], n: u32, marks: &[u8], param: bool) -> bool
-    requires { node_words n ≤ length ws.now }
-    ensures { result ≡ all (good_at ws.now n marks.now param) (from 0 n) }
+fn all_good(nodes: &Nodes<'_>, marks: &[u8], param: bool) -> bool
+    ensures { result ≡ all (good_at nodes.now.words.now nodes.now.made marks.now param) (from 0 nodes.now.made) }
 {
-    (0..n).all(|i| !is_new(marks, TypeIdx(i)) || good_at(ws, n, TypeIdx(i), param))
+    (0..nodes.made).all(|i| !is_new(marks, TypeIdx(i)) || good_at(nodes, TypeIdx(i), param))
 }
 
 // A walk that marks each root it meets, and goes not below a node that is marked: such a one is known to be good, and so is all below it. Where the answer is true, that is
@@ -177,5 +177,5 @@ pub fn by_marks(nodes: &Nodes<'_>, marks: &mut [u8], t: Type, param: bool) -> bo
     ensures { MarkedAllIn nodes.now marks.new t.0 param result }
 {
     related::find_related(nodes, marks, t);
-    all_good(nodes.words, nodes.made, marks, param)
+    all_good(nodes, marks, param)
 }

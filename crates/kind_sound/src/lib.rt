@@ -29,6 +29,7 @@ fn name_or_none(n: Name, texts: &Texts<'_>) -> bool
 }
 
 // One name for each child, "strictly ascending". The first is held against the empty name, which comes before any other.
+// Kept (3): a turn takes the name before along, which `all` would change from within its closure; `is_sorted_by` goes over a slice, and children lie as words.
 fn child_names_fit(k: Kind, ks: &[u32], texts: &Texts<'_>) -> bool
     ensures { result ≡ object_names_ok (texts_by texts.now) (map slot_name (slots ks.now k.first k.count)) }
 {

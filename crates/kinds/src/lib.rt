@@ -6,7 +6,8 @@ ghost use Rattle.scope.specs.Kinds.{row_of, dual_by, shape_fits, flex_ok, number
 ghost use Rattle.kinds.specs.Rows.{shape_number, number_number, as_row, sort_fits};
 
 // "Codes are 0 to 14 in `TypeKind`'s order in 000."
-// Kept (1): a code is a lent word, which may be any number, and the table is indexed by it: the codes are numbers.
+// Kept (1): a kind that is lent has any code until test 4 is passed, and a store's until 8, and those tests read the table by it. Once they are passed it lies as a word
+// still: an enum would be made of it at each visit of a node, with a case for the numbers that no store has, and be made a number again to index the table.
 pub const PARAM: u32 = 0;
 
 pub const TUPLE: u32 = 1;
@@ -74,7 +75,8 @@ pub enum Names {
 }
 
 // The chart's sorts: "opaque, struct, enum, union, concrete fn, const, trait, trait fn: 0 to 7"; NO_SORT is what a number that the chart lacks has.
-// Kept (1): a sort is a word of the lent chart, which may be any number.
+// Kept (1): a sort is a word of the lent chart, which may be any number until test 2, and is compared with a row's two and with no others. NO_SORT is one more that fits
+// no row: a test takes it as it takes any number above 7, so an Option would say twice that there is none.
 pub const OPAQUE_SORT: u32 = 0;
 
 pub const STRUCT_SORT: u32 = 1;

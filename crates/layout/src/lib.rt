@@ -60,12 +60,38 @@ pub enum TypeNode {
     Child(Type),
 }
 
-// The nodes' words, their children's, and how many nodes there are.
+// The nodes' words, their children's, and how many nodes there are; all their words are there.
+// Kept (2): no constructor: a literal names its two slices, which are of one type, and its fields need no equation.
+// Kept (5): that parents can be followed (`Linked`) is no part of it: the tests of `sound` read nodes before that is known.
 #[derive(Clone, Copy)]
 pub struct Nodes<'a> {
     pub words: &'a [u32],
     pub kids: &'a [u32],
     pub made: u32,
+    pub ghost room: { node_words made ≤ length words.now },
+}
+
+impl Nodes<'_> {
+    // The node i; past them a root of no size.
+    pub fn node(&self, i: TypeIdx) -> TypeNode
+        ensures { result ≡ read_at self.now.words.now self.now.made i.0 }
+    {
+        node_at(self.words, self.made, i)
+    }
+
+    // The kind of node i.
+    pub fn held(&self, i: TypeIdx) -> Option<(Inverted, Kind)>
+        ensures { result ≡ held_in (read_at self.now.words.now self.now.made i.0) }
+    {
+        held_at(self.words, self.made, i)
+    }
+
+    // Child j of those that lie from `first` on.
+    pub fn child(&self, first: u32, j: u32) -> Slot
+        ensures { slot_means result ≡ slot_at self.now.kids.now (first + j) }
+    {
+        child_of(self.kids, first, j)
+    }
 }
 
 // A node's twelve words.
@@ -164,6 +190,7 @@ pub fn cell_at(ws: &[u32], i: TypeIdx) -> Cell
 }
 
 // The node i of n; past them a root of no size.
+// Kept (5): `Nodes` keeps that the words are there; here and in the other functions over words and a number the caller writes nodes, or has no children's words.
 pub fn node_at(ws: &[u32], n: u32, i: TypeIdx) -> TypeNode
     requires { node_words n ≤ length ws.now }
     ensures { result ≡ read_at ws.now n i.0 }

@@ -1,4 +1,4 @@
--- TypesPut types stand as entries without names: a kind whose row has no names, over these, is the kind over the list.
+-- Listed types stand as entries without names: a kind whose row has no names, over these, is the kind over the list.
 -- Assumes nothing.
 use mathlib.Core.Path.{◌≡◌, refl, ap, ◌∙◌}
 use mathlib.Core.Bool.{true, false}
@@ -7,7 +7,6 @@ use Prim.Native.Nat.{ℕ, suc, ◌+◌, ◌*◌, ◌%◌, ◌≤◌, ◌<◌}
 use native.Mathlib.Omega.{arith}
 use lib.ListN.{length, get_or, take}
 use lib.Seq.{length-take-le}
-use borrow.Author.Count.{below_more}
 use borrow.Author.Tests.{eq-eqb}
 use Rattle.scope.specs.Base.{all, from}
 use Rattle.scope.specs.Types.{ty_of}
@@ -15,24 +14,12 @@ use Rattle.scope.specs.Kinds.{NO_NAMES, STRUCT, UNION, rows, row_of}
 use Rattle.scope.specs.Sound.{slot_bare}
 use Rattle.scope.specs.Calls.{over}
 use Rattle.layout.specs.Words.{CHILD_WORDS, child_words, slot_at, slots}
-use Rattle.layout.specs.Meaning.{slot_means, put_slot}
-use Rattle.layout.specs.declared.Slot as code
 use Rattle.layout.proofs.Lists.{same_from, same_shift}
-use Rattle.layout.proofs.ChildLaws.{slot_here, slot_there, slots_front}
+use Rattle.layout.proofs.ChildLaws.{slots_front}
 use Rattle.layout.proofs.KindLaws.{names_none, fits_none, fits_clean}
 use Rattle.store.specs.Entries.{entry_count, entry_types, types_in}
 use Rattle.lent_kind.specs.declared.KindArgs.{KindArgs}
-use Rattle.lent_kind.specs.Lent.{kind_lent, tidy, given, plain_args, bare_slot, TypesPut}
-
--- put_types
-
-module _ (ts : List ℕ) (i : ℕ) {es es' : List ℕ} {s : code.Slot} (o : TypesPut ts i es) (room : i * CHILD_WORDS + CHILD_WORDS ≤ length es)
-    (is : slot_means s ≡ bare_slot (get_or ts i 0)) (q : es' ≡ put_slot es i s) where
-  pub listed_more : TypesPut ts (i + 1) es'
-  listed_more = rw q (record {
-    each = below_more (λ j. slot_at (put_slot es i s) j ≡ bare_slot (get_or ts j 0)) i
-        (λ j h. slot_there es i s room j (λ z. omega arith) ∙ o.each j h) (slot_here es i s room ∙ is);
-  })
+use Rattle.lent_kind.specs.Lent.{kind_lent, tidy, given, plain_args, bare_slot}
 
 -- a list by its places
 map_get : {A : Type 0} (f : ℕ → A) (l : List ℕ) → map (λ i. f (get_or l i 0)) (from 0 (length l)) ≡ map f l
@@ -46,7 +33,11 @@ all_bare : (l : List ℕ) → all slot_bare (map bare_slot l) ≡ true
 all_bare [] = refl
 all_bare (w ∷ l) = all_bare l
 
-module _ (ts es : List ℕ) (o : TypesPut ts (length ts) es) (room : child_words (length ts) ≤ length es) where
+-- the listed types stand as entries
+pub record TypesPut (ts es : List ℕ) : Type 0 where
+  pub each : (i : ℕ) → i < length ts → slot_at es i ≡ bare_slot (get_or ts i 0)
+
+module _ (ts es : List ℕ) (o : TypesPut ts es) (room : child_words (length ts) ≤ length es) where
   abbrev part : List ℕ
   part = take (child_words (length ts)) es
 

@@ -1,6 +1,6 @@
 -- A kind as it is lent, and what of scope's `new_call` it is: its numbers and its children's entries, each as the store has it. Numbers that belong to no
 -- name of the kind, or to no whole entry, are one name too many, and 4 turns the kind back.
-use Rattle.std.specs.Prelude.{◌≡◌, List, [], ◌∷◌, ◌++◌, Bool, false, not, ◌&&◌, ℕ, ◌%◌, ◌<◌, eqb, ltb, length, get_or}
+use Rattle.std.specs.Prelude.{◌≡◌, List, [], ◌∷◌, ◌++◌, Bool, false, not, ◌&&◌, ℕ, ◌%◌, eqb, ltb, length}
 use Rattle.std.proofs.Math.Option.{Option, none}
 use Rattle.scope.specs.Base.{pick}
 use Rattle.scope.specs.Limits.{MAX_WIDTH}
@@ -11,7 +11,7 @@ use Rattle.scope.specs.Sound.{Slot, names_clean}
 use Rattle.scope.specs.Refusals.{OUTSIDE, UNMAKEABLE, UNDEFINED}
 use Rattle.scope.specs.Calls.{NewKind, kind_made}
 use Rattle.names.specs.Place.{no_name}
-use Rattle.layout.specs.Words.{CHILD_WORDS, slot_at}
+use Rattle.layout.specs.Words.{CHILD_WORDS}
 use Rattle.layout.specs.Meaning.{kind_cell, kind_means}
 use Rattle.layout.specs.declared.Kind.{Kind}
 use Rattle.make.specs.declared.Head as make
@@ -56,10 +56,6 @@ plain_args c n = record { code = c; number = n; flex = 0; name = no_name }
 -- a child without a name
 abbrev pub bare_slot : ℕ → Slot
 bare_slot w = record { type = w; text = 0; start = 0; len = 0 }
-
--- the first n of the listed types stand as entries
-pub record TypesPut (ts : List ℕ) (n : ℕ) (es : List ℕ) : Type 0 where
-  pub each : (i : ℕ) → i < n → slot_at es i ≡ bare_slot (get_or ts i 0)
 
 -- 3, of a list of n types that are inside or not, and of 4 what the list alone decides
 abbrev pub list_tests : Bool → ℕ → List (Bool × ℕ)

@@ -1,26 +1,25 @@
 #![tactic(auto)]
 // A kind that is lent to a maker, and what is tested of it: 4 and 5, and of a list of types 3 and its width. Its numbers and its children's entries may be
 // any at all; its flag is the chart's.
-ghost use Rattle.std.specs.Prelude.{◌≡◌, ◌≤◌, length};
+ghost use Rattle.std.specs.Prelude.{◌≡◌, ◌≤◌};
 ghost use Rattle.scope.specs.Limits.{MAX_WIDTH};
 ghost use Rattle.scope.specs.Kinds.{flag_of};
 ghost use Rattle.scope.specs.Calls.{first_broken};
 ghost use Rattle.chart.specs.Env.{chart_lent, chart_alone};
-ghost use Rattle.layout.specs.Words.{child_words};
 ghost use Rattle.store.specs.Entries.{entry_count};
 ghost use Rattle.refusals.specs.Codes.{told};
-ghost use Rattle.lent_kind.specs.Lent.{with_flag, given, plain_args, TypesPut, list_tests, kind_tests};
+ghost use Rattle.lent_kind.specs.Lent.{with_flag, given, plain_args, list_tests, kind_tests};
 
 use chart::Env;
-use layout::{CHILD_WORDS, Slot};
+use layout::CHILD_WORDS;
 use make::Head;
 use names::{NO_NAME, Name};
 use refusals::Refusal;
 use scope::MAX_WIDTH;
-use types::Type;
 
 // What a kind is made of, its children and their names apart. Its flag is the chart's.
-// Kept (2): no twin of `make::Head`, which has the flag: who lends a kind doesn't say it.
+// Kept (2): no twin of `make::Head`, which has the flag: who lends a kind doesn't say it. A Head that held a KindArgs would spare `flagged` three lines, and `kind_of` and
+// its clause would read `k.args.code` and so on in eight places; and KindArgs would stand below, in `make`, to which nobody lends anything.
 #[derive(Clone, Copy)]
 pub struct KindArgs {
     pub code: u32,
@@ -74,20 +73,6 @@ pub fn test_list(inside: bool, n: usize) -> Result<(), Refusal>
         return Err(Refusal::Unmakeable);
     }
     Ok(())
-}
-
-// The listed types as entries without names.
-pub fn put_types(es: &mut [u32], types: &[u32])
-    requires { child_words (length types.now) ≤ length es.old }
-    ensures { TypesPut types.now (length types.now) es.new }
-{
-    for (i, w) in types.iter().enumerate() {
-        let slot = Slot {
-            ty: Type(*w),
-            name: NO_NAME,
-        };
-        layout::put_child(es, i, slot);
-    }
 }
 
 // A kind without `Flex` or names.

@@ -13,7 +13,6 @@ ghost use Rattle.refusals.specs.Codes.{told};
 use chart::Env;
 use kinds::OBJECT;
 use layout::{CHILD_WORDS, Kind};
-use names::NO_NAME;
 use refusals::Refusal;
 use scope::MAX_LIST;
 use types::{Impl, Type};
@@ -74,15 +73,9 @@ fn bad_entries(xs: &[u32], env: &Env<'_>) -> bool
     if count > MAX_LIST || xs.len() % CHILD_WORDS != 0 {
         return true;
     }
-    let width = count as u32;
     let object = Kind {
-        code: OBJECT,
-        number: 0,
-        dual: false,
-        flex: 0,
-        name: NO_NAME,
-        first: 0,
-        count: width,
+        count: count as u32,
+        ..store::bare_kind(OBJECT)
     };
     !kind_sound::names_fit(object, xs, &env.texts)
 }
@@ -97,12 +90,12 @@ pub fn objects(xs: &[u32], ys: &[u32], n: u32, env: &Env<'_>) -> Result<(), Refu
     first(outside, unmakeable, false)
 }
 
-// One impl type. The list beside an error is not read. "a definition is absent or of another sort": a trait's record stands at its number.
-pub fn one_impl(a: Impl, xs: &[u32], n: u32, env: &Env<'_>) -> Result<(), Refusal>
-    ensures { FirstOf n (one_impl_tests (chart_alone env.now.chart.now) (impl_means a xs.now)) (told result) }
+// One impl type. "a definition is absent or of another sort": a trait's record stands at its number.
+pub fn one_impl(a: Impl<'_>, n: u32, env: &Env<'_>) -> Result<(), Refusal>
+    ensures { FirstOf n (one_impl_tests (chart_alone env.now.chart.now) (impl_means a.entry)) (told result) }
 {
     match a {
-        Impl::Trait(i) => first(
+        Impl::Trait(i, xs) => first(
             !refusals::types_inside(xs, n),
             too_many(xs),
             !chart::is_trait(env.chart, i),
@@ -112,11 +105,11 @@ pub fn one_impl(a: Impl, xs: &[u32], n: u32, env: &Env<'_>) -> Result<(), Refusa
 }
 
 // Two impl types: what is tested first has the smaller number.
-pub fn impls(a: Impl, xs: &[u32], b: Impl, ys: &[u32], n: u32, env: &Env<'_>) -> Result<(), Refusal>
+pub fn impls(a: Impl<'_>, b: Impl<'_>, n: u32, env: &Env<'_>) -> Result<(), Refusal>
     ensures { FirstOf n
-        (impls_tests (chart_alone env.now.chart.now) (impl_means a xs.now) (impl_means b ys.now)) (told result) }
+        (impls_tests (chart_alone env.now.chart.now) (impl_means a.entry) (impl_means b.entry)) (told result) }
 {
-    match (one_impl(a, xs, n, env), one_impl(b, ys, n, env)) {
+    match (one_impl(a, n, env), one_impl(b, n, env)) {
         (Err(r), Err(q)) => Err(r.min(q)),
         (Err(r), _) => Err(r),
         (Ok(()), second) => second,

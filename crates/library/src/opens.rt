@@ -15,6 +15,7 @@ ghost use Rattle.records.specs.Loaded.{LoadPromised};
 ghost use Rattle.c_words.specs.Numbers.{done_in, refusal_in};
 ghost use Rattle.c_words.specs.Given.{lent_env};
 
+use book::Room;
 use chart::RECORD_WORDS;
 use layout::HEAD_WORDS;
 use records::Record;
@@ -62,7 +63,7 @@ pub extern "C" fn faroalder_memory_words(nodes: u32) -> usize
 pub extern "C" fn faroalder_names_words(nodes: u32, children: u32) -> usize
     ensures { result ≡ book_words nodes children }
 {
-    book::book_words(nodes, children)
+    Room { nodes, children }.book_words()
 }
 
 // The chart's words from records: 0, or 7 where there is too little room for them.

@@ -147,7 +147,7 @@ pub extern "C" fn faroalder_unify_impl_type_recalling<'a>(
 ) -> u64
     ensures { Promised
         (unify_impl_type_call (lent_env chart.now fn_trait sigils.now rule.now text.now) (lent_of h.now ws.old ks.now)
-        (impl_means (impl_in a) xs.now) (impl_means (impl_in b) ys.now))
+        (impl_means (impl_in a xs.entry)) (impl_means (impl_in b ys.entry)))
         (unify_in result) h.now ws.old ks.now h.now ws.new ks.now }
 {
     let env = c_words::env_of(chart, fn_trait, sigils, rule, text);
@@ -157,9 +157,7 @@ pub extern "C" fn faroalder_unify_impl_type_recalling<'a>(
         ws,
         ks,
         memory,
-        c_words::impl_of(a),
-        xs,
-        c_words::impl_of(b),
-        ys,
+        c_words::impl_of(a, xs),
+        c_words::impl_of(b, ys),
     ))
 }

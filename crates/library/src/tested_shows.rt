@@ -54,7 +54,7 @@ pub extern "C" fn faroalder_tested_show_impl_type<'a>(
     requires { Tested (lent_env chart.now fn_trait sigils.now rule.now text.now) h.now ws.now ks.now }
     ensures { CutPromised
         (show_impl_type_call (lent_env chart.now fn_trait sigils.now rule.now text.now) (lent_of h.now ws.now ks.now)
-        (impl_means (impl_in a) xs.now))
+        (impl_means (impl_in a xs.entry)))
         (count_in result) (store_in h.now ws.now ks.now) buf.old buf.new }
 {
     let env = c_words::env_of(chart, fn_trait, sigils, rule, text);
@@ -64,8 +64,7 @@ pub extern "C" fn faroalder_tested_show_impl_type<'a>(
         h,
         ws,
         ks,
-        c_words::impl_of(a),
-        xs,
+        c_words::impl_of(a, xs),
         &mut buf[..n],
     ))
 }

@@ -141,7 +141,7 @@ pub extern "C" fn faroalder_tested_unify_impl_type<'a>(
     requires { Tested (lent_env chart.now fn_trait sigils.now rule.now text.now) h.now ws.old ks.now }
     ensures { Promised
         (unify_impl_type_call (lent_env chart.now fn_trait sigils.now rule.now text.now) (lent_of h.now ws.old ks.now)
-        (impl_means (impl_in a) xs.now) (impl_means (impl_in b) ys.now))
+        (impl_means (impl_in a xs.entry)) (impl_means (impl_in b ys.entry)))
         (unify_in result) h.now ws.old ks.now h.now ws.new ks.now }
 {
     let env = c_words::env_of(chart, fn_trait, sigils, rule, text);
@@ -150,10 +150,8 @@ pub extern "C" fn faroalder_tested_unify_impl_type<'a>(
         h,
         ws,
         ks,
-        c_words::impl_of(a),
-        xs,
-        c_words::impl_of(b),
-        ys,
+        c_words::impl_of(a, xs),
+        c_words::impl_of(b, ys),
     ))
 }
 
@@ -176,7 +174,7 @@ pub extern "C" fn faroalder_tested_approx_eq<'a>(
     requires { Tested (lent_env chart.now fn_trait sigils.now rule.now text.now) h.now ws.now ks.now }
     ensures { Promised
         (approx_eq_call (lent_env chart.now fn_trait sigils.now rule.now text.now) (lent_of h.now ws.now ks.now)
-        (impl_means (impl_in a) xs.now) (impl_means (impl_in b) ys.now))
+        (impl_means (impl_in a xs.entry)) (impl_means (impl_in b ys.entry)))
         (bool_in result) h.now ws.now ks.now h.now ws.now ks.now }
 {
     let env = c_words::env_of(chart, fn_trait, sigils, rule, text);
@@ -185,9 +183,7 @@ pub extern "C" fn faroalder_tested_approx_eq<'a>(
         h,
         ws,
         ks,
-        c_words::impl_of(a),
-        xs,
-        c_words::impl_of(b),
-        ys,
+        c_words::impl_of(a, xs),
+        c_words::impl_of(b, ys),
     ))
 }

@@ -127,7 +127,7 @@ pub extern "C" fn faroalder_unify_impl_type<'a>(
 ) -> u64
     ensures { Promised
         (unify_impl_type_call (lent_env chart.now fn_trait sigils.now rule.now text.now) (lent_of h.now ws.old ks.now)
-        (impl_means (impl_in a) xs.now) (impl_means (impl_in b) ys.now))
+        (impl_means (impl_in a xs.entry)) (impl_means (impl_in b ys.entry)))
         (unify_in result) h.now ws.old ks.now h.now ws.new ks.now }
 {
     let env = c_words::env_of(chart, fn_trait, sigils, rule, text);
@@ -136,10 +136,8 @@ pub extern "C" fn faroalder_unify_impl_type<'a>(
         h,
         ws,
         ks,
-        c_words::impl_of(a),
-        xs,
-        c_words::impl_of(b),
-        ys,
+        c_words::impl_of(a, xs),
+        c_words::impl_of(b, ys),
     ))
 }
 
@@ -161,7 +159,7 @@ pub extern "C" fn faroalder_approx_eq<'a>(
 ) -> u64
     ensures { Promised
         (approx_eq_call (lent_env chart.now fn_trait sigils.now rule.now text.now) (lent_of h.now ws.now ks.now)
-        (impl_means (impl_in a) xs.now) (impl_means (impl_in b) ys.now))
+        (impl_means (impl_in a xs.entry)) (impl_means (impl_in b ys.entry)))
         (bool_in result) h.now ws.now ks.now h.now ws.now ks.now }
 {
     let env = c_words::env_of(chart, fn_trait, sigils, rule, text);
@@ -170,9 +168,7 @@ pub extern "C" fn faroalder_approx_eq<'a>(
         h,
         ws,
         ks,
-        c_words::impl_of(a),
-        xs,
-        c_words::impl_of(b),
-        ys,
+        c_words::impl_of(a, xs),
+        c_words::impl_of(b, ys),
     ))
 }

@@ -5,7 +5,7 @@ use mathlib.Core.Bool.{true, false}
 use mathlib.Core.List.{List}
 use Prim.Native.Nat.{ℕ, ◌+◌, ◌*◌, ◌<◌, ◌≤◌}
 use native.Mathlib.Omega.{arith}
-use lib.ListN.{length}
+use lib.ListN.{length, get_or, take, drop}
 use borrow.Author.Count.{below_more}
 use Rattle.scope.specs.Sound.{names_clean}
 use Rattle.scope.specs.Make.{new}
@@ -15,7 +15,7 @@ use Rattle.layout.specs.Meaning.{slot_means, put_slot, header_in, kind_cell, kin
 use Rattle.layout.specs.declared.Kind.{Kind}
 use Rattle.layout.specs.declared.Slot.{Slot}
 use Rattle.layout.specs.declared.TypeState.TheVariants.{Known}
-use Rattle.layout.proofs.Lists.{drop_later}
+use Rattle.layout.proofs.Lists.{drop_later, part_here}
 use Rattle.layout.proofs.ChildLaws.{slot_here, slot_there, tail_put_child, kept_put, kept_trans, length_kids}
 use Rattle.layout.proofs.KindLaws.{kind_fits_lem, moved_means, moved_fits}
 use Rattle.layout.proofs.StoreLaws.{clean_lies}
@@ -26,8 +26,53 @@ use Rattle.store.specs.Entries.{entry_count}
 use Rattle.make.specs.Given.{kind_at, kind_over, kind_given, KindReady, Put}
 use Rattle.make.specs.declared.Head.{Head}
 use Rattle.make.proofs.MakeLaws.{RoomIn, ready_room, pushed_made}
+use borrow.Rule.Slice.PartMut.{put_mid}
+use lib.Seq.{get_or-take, get_or-drop, length-take-le}
+use Rattle.std.proofs.lemmas.Slice.{take-put_mid_below, drop-put_mid}
+use Rattle.scope.specs.Sound as sound
 
--- a run of children
+-- a run of children, whose words are copied at once
+
+abbrev four : ℕ → ℕ → ℕ → ℕ → sound.Slot
+four t x s l = record { type = t; text = x; start = s; len = l }
+
+slot_by : (ks ls : List ℕ) (i j : ℕ) → ((f : ℕ) → f < 4 → get_or ks (i * 4 + f) 0 ≡ get_or ls (j * 4 + f) 0) → slot_at ks i ≡ slot_at ls j
+slot_by ks ls i j e =
+    ap (λ (v : ℕ). four v (get_or ks (i * 4 + 1) 0) (get_or ks (i * 4 + 2) 0) (get_or ks (i * 4 + 3) 0)) (e 0 (omega arith))
+    ∙ (ap (λ (v : ℕ). four (get_or ls (j * 4 + 0) 0) v (get_or ks (i * 4 + 2) 0) (get_or ks (i * 4 + 3) 0)) (e 1 (omega arith))
+    ∙ (ap (λ (v : ℕ). four (get_or ls (j * 4 + 0) 0) (get_or ls (j * 4 + 1) 0) v (get_or ks (i * 4 + 3) 0)) (e 2 (omega arith))
+    ∙ ap (λ (v : ℕ). four (get_or ls (j * 4 + 0) 0) (get_or ls (j * 4 + 1) 0) (get_or ls (j * 4 + 2) 0) v) (e 3 (omega arith))))
+
+module _ (es ks : List ℕ) (first n : ℕ) {a k : ℕ} {ys : List ℕ} (at : a ≡ first * 4) (of : k ≡ n * 4) (is : ys ≡ take (n * 4) es) (room : (first + n) * 4 ≤ length ks)
+    (lent : n * 4 ≤ length es) where
+  abbrev copied : List ℕ
+  copied = put_mid a k ks ys
+
+  long : length ys ≡ k
+  long = ap length is ∙ (length-take-le (n * 4) es lent ∙ sym of)
+
+  behind : (j : ℕ) → j < k → get_or copied (a + j) 0 ≡ get_or es j 0
+  behind j h =
+      sym (get_or-drop a copied j 0)
+      ∙ (sym (get_or-take k (drop a copied) j 0 h)
+      ∙ (ap (λ (l : List ℕ). get_or l j 0) (part_here a k ks ys long (omega (arith, at, of)) ∙ is)
+      ∙ get_or-take (n * 4) es j 0 (omega (arith, h, of))))
+
+  ahead : (j : ℕ) → j < a → get_or copied j 0 ≡ get_or ks j 0
+  ahead j h =
+      sym (get_or-take a copied j 0 h)
+      ∙ (ap (λ (l : List ℕ). get_or l j 0) (take-put_mid_below a k ks ys a (omega arith) (omega (arith, at)))
+      ∙ get_or-take a ks j 0 h)
+
+  pub put_copied : Put es first n ks copied
+  put_copied = record {
+    put = λ i h. slot_by copied es (first + i) i (λ f l. let to : (first + i) * 4 + f ≡ a + (i * 4 + f) = omega (arith, at) in
+        ap (λ (p : ℕ). get_or copied p 0) to ∙ behind (i * 4 + f) (omega (arith, of)));
+    before = record { same = λ i h. slot_by copied ks i i (λ f l. ahead (i * 4 + f) (omega (arith, at))) };
+    after = drop-put_mid a k ks ys (child_words (first + n)) (omega (arith, at, of)) (omega (arith, at)) long;
+  }
+
+-- a run of children that are put one after the other
 
 module _ (es : List ℕ) (first i : ℕ) {ks₀ ks ks' : List ℕ} {s : Slot} (o : Put es first i ks₀ ks) (room : (first + i) * 4 + 4 ≤ length ks)
     (is : slot_means s ≡ slot_at es i) (q : ks' ≡ put_slot ks (first + i) s) where

@@ -18,12 +18,13 @@ ghost use Rattle.make.specs.Header.{Pushable, Pushed, BlankReady, OnceReady, Onc
 ghost use Rattle.make.specs.Given.{KindReady, Put, kind_at, kind_given};
 
 use kinds::{ERROR, TUPLE};
-use layout::{Header, Kind, TypeNode, TypeState};
+use layout::{CHILD_WORDS, Header, Kind, TypeNode, TypeState};
 use names::Name;
 use types::{Inverted, Type, TypeIdx};
 
 // What of a kind is neither a child nor a child's name.
-// Kept (2): no twin of `layout::Kind`, which says where its children lie besides: a kind that is made has none yet.
+// Kept (2): no twin of `layout::Kind`, which says where its children lie besides: a kind that is made has none yet. A Kind that held a Head would spare `kind_of` four
+// lines, and be read as `kind.head.code` in 80 places where now `kind.code` stands.
 #[derive(Clone, Copy)]
 pub struct Head {
     pub code: u32,
@@ -227,15 +228,14 @@ pub fn kind_of(k: Head, first: u32, count: u32) -> Kind
     }
 }
 
-// The first n entries, behind the `first` children made.
+// The first n entries, behind the `first` children made. Each lies as a child does.
 fn put_children(ks: &mut [u32], first: u32, entries: &[u32], n: usize)
-    requires { child_words (first + n) ≤ length ks.old }
+    requires { (child_words (first + n) ≤ length ks.old) × (child_words n ≤ length entries.now) }
     ensures { Put entries.now first n ks.old ks.new }
 {
-    let from = first as usize;
-    for i in 0..n {
-        layout::put_child(ks, from + i, layout::child_at(entries, i));
-    }
+    let from = layout::child_words(first);
+    let len = n * CHILD_WORDS;
+    ks[from..from + len].copy_from_slice(&entries[..len]);
 }
 
 // `new`, for each of the fifteen kinds. A child is lent as it lies in a store: its type, and its name's text, start and length.

@@ -83,11 +83,21 @@ beside_set {m₀} {m} {m'} p x b l h e = record { before = λ j g. other j (λ q
     other : (j : ℕ) → (j ≡ p → ⊥) → get_or m' j 0 ≡ get_or m j 0
     other j q = ap (λ (v : List ℕ). get_or v j 0) e ∙ get_or-set_other m p j x 0 q
 
--- the words of the marks below i are 0
-pub record Opening (m₀ m : List ℕ) (i : ℕ) : Type 0 where
-  pub from : MARKS ≤ i
-  pub zero : (j : ℕ) → MARKS ≤ j → j < i → get_or m j 0 ≡ 0
+-- the words of the marks are 0
+pub record Opening (m₀ m : List ℕ) : Type 0 where
+  pub zero : (j : ℕ) → MARKS ≤ j → j < HEAD → get_or m j 0 ≡ 0
   pub beside : Beside m₀ m
+
+pub opened : {m w m' : List ℕ} → Opening m w → m' ≡ set w MARKED 1 → Opened m m'
+opened {m} {w} {m'} o e = record { beside = beside_set MARKED 1 o.beside (omega arith) (omega arith) e; marks = λ i k. absurd (none i k.inside k.mark) }
+  where
+    word : (j : ℕ) → MARKS ≤ j → j < HEAD → get_or m' j 0 ≡ 0
+    word j h g = ap (λ (v : List ℕ). get_or v j 0) e ∙ (get_or-set_other w MARKED j 1 0 (λ q. omega arith) ∙ o.zero j h g)
+
+    none : (i : ℕ) → i < MAX_NODES → bit_of (get_or m' (MARKS + i / BITS) 0) i ≡ 1 → ⊥
+    none i h k =
+        let b : bit_of 0 i ≡ 1 = ap (λ (v : ℕ). bit_of v i) (sym (word (MARKS + i / BITS) (omega arith) (omega (arith, h)))) ∙ k in
+        grind (arith, b)
 
 -- `know`
 

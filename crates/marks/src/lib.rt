@@ -25,6 +25,7 @@ pub const HEAD: usize = MARKS + MAX_NODES / BITS;
 const OLD: u8 = 2;
 
 // Past the end there is 0.
+// Kept (2): `layout::word`, and `roots::put` beside it, say the same of a store's words. A lent memory is no store: marks and recall rest on neither crate.
 pub fn at(m: &[u32], i: usize) -> u32
     ensures { result ≡ get_or m.now i 0 }
 {
@@ -55,9 +56,8 @@ fn open_marks(m: &mut [u32])
     if at(m, MARKED) == 1 {
         return;
     }
-    for i in MARKS..HEAD {
-        put(m, i, 0);
-    }
+    let n = m.len();
+    m[MARKS.min(n)..HEAD.min(n)].fill(0);
     put(m, MARKED, 1);
 }
 
@@ -73,6 +73,7 @@ pub fn know(m: &mut [u32], i: TypeIdx)
 }
 
 // The marks of the nodes of one word, from the first of them on.
+// Kept (2): over `found`'s own bytes, by `zip` or `enumerate`, both ends of the part have to be cut to its length first; here one test does that.
 fn tell_word(m: &[u32], p: usize, found: &mut [u8])
     requires { (get_or m.now MARKED 0 ≡ 1) × (p < «MAX_NODES» / BITS) }
     ensures { Tells m.now found.old found.new }
@@ -105,8 +106,9 @@ pub fn tell(m: &[u32], found: &mut [u8])
 pub fn know_new(m: &mut [u32], found: &[u8])
     ensures { MarkedNew m.old m.new found.now }
 {
-    for k in 0..found.len().min(MAX_NODES) {
-        if found[k] == 1 {
+    let n = found.len().min(MAX_NODES);
+    for (k, byte) in found[..n].iter().enumerate() {
+        if *byte == 1 {
             know(m, TypeIdx(k as u32));
         }
     }

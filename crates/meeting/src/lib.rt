@@ -43,8 +43,7 @@ fn without_kind(nodes: &Nodes<'_>, a: Type, b: Type) -> Option<UnifyResult>
 {
     let ia = a.idx();
     let occurs = walk::occurs(nodes, ia, b)
-        || layout::held_at(nodes.words, nodes.made, ia).is_some()
-            && walk::occurs(nodes, b.idx(), a);
+        || nodes.held(ia).is_some() && walk::occurs(nodes, b.idx(), a);
     occurs.then_some(UnifyResult::Failure)
 }
 
@@ -89,8 +88,8 @@ pub fn meet(nodes: &Nodes<'_>, texts: &Texts<'_>, a: Type, b: Type) -> Option<Pl
     if ia == ib {
         return None;
     }
-    let (i, k) = layout::held_at(nodes.words, nodes.made, ia)?;
-    let (j, m) = layout::held_at(nodes.words, nodes.made, ib)?;
+    let (i, k) = nodes.held(ia)?;
+    let (j, m) = nodes.held(ib)?;
     let inv = i ^ a.inv() ^ (j ^ b.inv());
     Some(plan::plan_of(k, m, inv, texts))
 }

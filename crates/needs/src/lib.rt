@@ -1,17 +1,18 @@
 #![tactic(auto)]
 // What an import needs: "nodes made plus those needed" of 10, "the same for children" of 11, and 6's "Param with no entry". A walk over the source alone
 // goes where the copying goes, counts each root once and copies nothing, so that a call can turn back before a word is written.
-ghost use Rattle.std.specs.Prelude.{◌≡◌, not, ◌+◌, ◌≤◌, eqb, get_or, length};
+ghost use Rattle.std.specs.Prelude.{◌≡◌, not, ◌+◌, eqb, get_or};
 ghost use Rattle.scope.specs.Needs.{listed, exported};
-ghost use Rattle.layout.specs.Words.{node_words, slot_at, nodes_made, store_in};
-ghost use Rattle.layout.specs.Meaning.{held_in, read_at, slot_means, remembered_means, Linked};
+ghost use Rattle.layout.specs.Words.{nodes_made, store_in};
+ghost use Rattle.layout.specs.Lent.{LinkedIn};
+ghost use Rattle.layout.specs.Meaning.{held_in, read_at, remembered_means};
 ghost use Rattle.store.specs.Entries.{types_in};
-ghost use Rattle.roots.specs.Kept.{Cached, CachedIn};
 ghost use Rattle.needs.specs.Roots.{kind_asks, asks_of};
 ghost use Rattle.needs.specs.Sums.{no_needs, CountableIn, CountedIn, Met, AllCountedIn};
 ghost use Rattle.needs.specs.Sources.{Importable, ImportableIn, ImportNeedsIn, ExportNeeds};
 
-use layout::{Kind, Nodes, Slot};
+use layout::{Kind, Nodes};
+use roots::Finder;
 use scope::MAX_NODES;
 use types::{Type, TypeIdx};
 
@@ -50,11 +51,10 @@ fn kind_asks(params: Option<u32>, kind: Kind) -> Asks
     }
 }
 
-fn root_asks(ws: &[u32], n: u32, params: Option<u32>, root: TypeIdx) -> Asks
-    requires { node_words n ≤ length ws.now }
-    ensures { result ≡ asks_of params (held_in (read_at ws.now n root.0)) }
+fn root_asks(nodes: &Nodes<'_>, params: Option<u32>, root: TypeIdx) -> Asks
+    ensures { result ≡ asks_of params (held_in (read_at nodes.now.words.now nodes.now.made root.0)) }
 {
-    match layout::held_at(ws, n, root) {
+    match nodes.held(root) {
         Some((_, kind)) => kind_asks(params, kind),
         None => Asks::Node(0, 0),
     }
@@ -68,35 +68,35 @@ fn is_counted(marks: &[u8], i: TypeIdx) -> bool
 }
 
 // Whether a type's root is counted: the walk from it then does nothing, however deep it may go.
-fn is_met(ws: &[u32], n: u32, cache: &mut [u16], marks: &[u8], t: Type) -> bool
-    requires { Linked ws.now n × Cached ws.now n cache.old }
-    ensures { Met ws.now n marks.now t result × Cached ws.now n cache.new }
+fn is_met(finder: &mut Finder<'_>, marks: &[u8], t: Type) -> bool
+    requires { LinkedIn finder.old.nodes.now }
+    ensures { Met finder.old.nodes.now.words.now finder.old.nodes.now.made marks.now t result × (finder.new.nodes ≡ finder.old.nodes) }
 {
-    is_counted(marks, roots::find_by(ws, n, cache, t).idx())
+    is_counted(marks, finder.find(t).idx())
 }
 
 // The walk from t: a root that is not counted is counted, then its children are walked from, one level less deep.
 fn count(
-    nodes: &Nodes<'_>,
+    finder: &mut Finder<'_>,
     params: Option<u32>,
-    cache: &mut [u16],
     marks: &mut [u8],
     sum: Needs,
     t: Type,
     depth: u32,
 ) -> Needs
-    requires { CountableIn nodes.now marks.old sum × CachedIn nodes.now cache.old }
-    ensures { CountedIn nodes.now params marks.old sum t depth marks.new result
-        × CachedIn nodes.now cache.new }
+    requires { CountableIn finder.old.nodes.now marks.old sum }
+    ensures { CountedIn finder.old.nodes.now params marks.old sum t depth marks.new result
+        × (finder.new.nodes ≡ finder.old.nodes) }
 {
     if depth == 0 {
         return sum;
     }
-    let root = roots::find_by(nodes.words, nodes.made, cache, t).idx();
+    let nodes = finder.nodes;
+    let root = finder.find(t).idx();
     if is_counted(marks, root) {
         return sum;
     }
-    match root_asks(nodes.words, nodes.made, params, root) {
+    match root_asks(nodes, params, root) {
         Asks::Replaced => sum,
         Asks::Missing => Needs {
             missing: true,
@@ -110,9 +110,9 @@ fn count(
                 ..sum
             };
             for j in 0..kids {
-                let kid = layout::child_of(nodes.kids, first, j).ty;
-                if !is_met(nodes.words, nodes.made, cache, marks, kid) {
-                    all = count(nodes, params, cache, marks, all, kid, depth - 1);
+                let kid = nodes.child(first, j).ty;
+                if !is_met(finder, marks, kid) {
+                    all = count(finder, params, marks, all, kid, depth - 1);
                 }
             }
             all
@@ -122,38 +122,36 @@ fn count(
 
 // From each type of a list.
 fn count_all(
-    nodes: &Nodes<'_>,
+    finder: &mut Finder<'_>,
     params: Option<u32>,
-    cache: &mut [u16],
     marks: &mut [u8],
     sum: Needs,
     ts: &[u32],
 ) -> Needs
-    requires { CountableIn nodes.now marks.old sum × CachedIn nodes.now cache.old }
-    ensures { AllCountedIn nodes.now params marks.old sum (types_in ts.now) marks.new result
-        × CachedIn nodes.now cache.new }
+    requires { CountableIn finder.old.nodes.now marks.old sum }
+    ensures { AllCountedIn finder.old.nodes.now params marks.old sum (types_in ts.now) marks.new result
+        × (finder.new.nodes ≡ finder.old.nodes) }
 {
     let mut all = sum;
     for t in ts {
-        all = count(nodes, params, cache, marks, all, Type(*t), nodes.made);
+        all = count(finder, params, marks, all, Type(*t), finder.nodes.made);
     }
     all
 }
 
 // From a type that the source remembers, if any; an export has no parameter list.
 fn count_remembered(
-    nodes: &Nodes<'_>,
-    cache: &mut [u16],
+    finder: &mut Finder<'_>,
     marks: &mut [u8],
     sum: Needs,
     was: Option<Type>,
 ) -> Needs
-    requires { CountableIn nodes.now marks.old sum × CachedIn nodes.now cache.old }
-    ensures { AllCountedIn nodes.now None marks.old sum (listed (remembered_means was))
-        marks.new result × CachedIn nodes.now cache.new }
+    requires { CountableIn finder.old.nodes.now marks.old sum }
+    ensures { AllCountedIn finder.old.nodes.now None marks.old sum (listed (remembered_means was))
+        marks.new result × (finder.new.nodes ≡ finder.old.nodes) }
 {
     match was {
-        Some(t) => count(nodes, None, cache, marks, sum, t, nodes.made),
+        Some(t) => count(finder, None, marks, sum, t, finder.nodes.made),
         None => sum,
     }
 }
@@ -169,14 +167,18 @@ fn nothing() -> Needs
 }
 
 // What an import of a list out of n nodes needs.
-// Kept (6): two tables, here and below, as in `copy` and `related`: each goes alone to what reads it, the cache to `roots::find_by`.
+// Kept (6): two tables, here and below, as in `copy` and `related`: each goes alone to what reads it, the cache to the finder.
 pub fn of_import(nodes: &Nodes<'_>, params: Option<u32>, ts: &[u32]) -> Needs
     requires { ImportableIn nodes.now (types_in ts.now) }
     ensures { ImportNeedsIn nodes.now params ts.now result }
 {
     let mut cache = [0u16; MAX_NODES];
     let mut marks = [0u8; MAX_NODES];
-    count_all(nodes, params, &mut cache, &mut marks, nothing(), ts)
+    let mut finder = Finder {
+        nodes,
+        cache: &mut cache,
+    };
+    count_all(&mut finder, params, &mut marks, nothing(), ts)
 }
 
 // What an export of a list needs: "error type first, nil next".
@@ -192,7 +194,11 @@ pub fn of_export(h: &[u32], ws: &[u32], ks: &[u32], ts: &[u32]) -> Needs
     };
     let mut cache = [0u16; MAX_NODES];
     let mut marks = [0u8; MAX_NODES];
-    let first = count_remembered(&nodes, &mut cache, &mut marks, nothing(), x.error);
-    let next = count_remembered(&nodes, &mut cache, &mut marks, first, x.nil);
-    count_all(&nodes, None, &mut cache, &mut marks, next, ts)
+    let mut finder = Finder {
+        nodes: &nodes,
+        cache: &mut cache,
+    };
+    let first = count_remembered(&mut finder, &mut marks, nothing(), x.error);
+    let next = count_remembered(&mut finder, &mut marks, first, x.nil);
+    count_all(&mut finder, None, &mut marks, next, ts)
 }

@@ -14,7 +14,7 @@ ghost use Rattle.scope.specs.Nodes.{Node};
 ghost use Rattle.kinds.specs.Rows.{as_row};
 ghost use Rattle.names.specs.Place.{name_of, texts_by};
 ghost use Rattle.chart.specs.Env.{chart_lent};
-ghost use Rattle.layout.specs.Words.{node_words, slot_at};
+ghost use Rattle.layout.specs.Words.{slot_at};
 ghost use Rattle.layout.specs.Meaning.{slot_means};
 ghost use Rattle.node_sound.specs.Tests.{plain_slot, node_test, nodes_test, Told, Framed, TrueSeen, Follows, Named, PlainKind, PlainNode};
 
@@ -35,8 +35,8 @@ fn plain_child(x: Slot, n: u32) -> bool
     clean::name_clean(false, x.name) && x.ty.idx().0 < n
 }
 
-// A quick yes to whether the children a to e are such. Each is looked at, whatever the others are. A run that is not all in ks has no quick yes, so a child
-// is read without a test of its own.
+// A quick yes to whether the children a to e are such. A run that is not all in ks has no quick yes, so a child is read without a test of its own.
+// Kept (3): each is looked at, whatever the others are, as in `clean::all_zero`; `all` ends at the first that is not such.
 fn plain_children(ks: &[u32], a: usize, e: usize, n: u32) -> bool
     ensures { result ≡ true → all (λ j. plain_slot n (slot_at ks.now j)) (from a (e - a)) ≡ true }
 {
@@ -171,7 +171,6 @@ fn plain_node(x: Cell, ks: &[u32], n: u32, c: u32, env: &Env<'_>, seen: &mut See
 
 // Node i of n, with c children made.
 fn node_sound(nodes: &Nodes<'_>, c: u32, env: &Env<'_>, i: TypeIdx, seen: &mut Seen) -> bool
-    requires words { node_words nodes.now.made ≤ length nodes.now.words.now }
     requires index { i.0 < nodes.now.made }
     requires few { c ≤ MAX_CHILDREN }
     requires known { TrueSeen (texts_by env.now.texts) nodes.now.kids.now seen.old }
@@ -182,17 +181,11 @@ fn node_sound(nodes: &Nodes<'_>, c: u32, env: &Env<'_>, i: TypeIdx, seen: &mut S
     plain_node(x, nodes.kids, nodes.made, c, env, seen)
         || x.count as usize <= MAX_WIDTH
             && clean::node_clean(nodes.words, nodes.kids, c, i)
-            && kind_sound::node_sound(
-                layout::node_at(nodes.words, nodes.made, i),
-                nodes.kids,
-                nodes.made,
-                env,
-            )
+            && kind_sound::node_sound(nodes.node(i), nodes.kids, nodes.made, env)
 }
 
 // All n nodes. An object's names that were seen to ascend are not compared again where runs of children overlap.
 pub fn nodes_sound(nodes: &Nodes<'_>, c: u32, env: &Env<'_>) -> bool
-    requires words { node_words nodes.now.made ≤ length nodes.now.words.now }
     requires few { c ≤ MAX_CHILDREN }
     ensures { result ≡ nodes_test (chart_lent env.now) nodes.now.words.now nodes.now.kids.now c nodes.now.made }
 {

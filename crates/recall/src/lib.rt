@@ -105,6 +105,7 @@ fn spot_of(m: &[u32], n: u32, a: Type, b: Type) -> Option<usize>
 }
 
 // The answer in a word.
+// Kept (1): an entry lies in lent memory, whose words may be any numbers at first: here they become an answer or none, as `u32::from` in `note` wrote it.
 fn answer_in(x: u32) -> Option<UnifyResult>
     ensures { Answered x result }
 {

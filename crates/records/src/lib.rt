@@ -11,6 +11,7 @@ use chart::RECORD_WORDS;
 use refusals::Refusal;
 
 // "A name is a part of the rule text or of the chart text": 0 or 1, where it begins, and its length.
+// Kept (2): no twin of `names::Name`: C lends it, so its fields lie as C's do; a Name's lie as the compiler likes.
 #[repr(C)]
 #[derive(Clone, Copy)]
 pub struct Part {

@@ -107,15 +107,19 @@ fn enough(h: &[u32], ws: &[u32], ks: &[u32], nodes: u32, children: u32) -> bool
         && layout::child_words(children) <= ks.len()
 }
 
-// Refusal 1.
-pub fn opening(h: &[u32], ws: &[u32], ks: &[u32], nodes: u32, children: u32) -> Result<(), Refusal>
-    ensures { first_broken (open_test nodes children (enough nodes children h.now ws.now ks.now) ∷ []) ≡ told result }
+// Refusal 1, where the slices are long enough or are not.
+pub fn opening_by(nodes: u32, children: u32, long: bool) -> Result<(), Refusal>
+    ensures { first_broken (open_test nodes children long ∷ []) ≡ told result }
 {
-    if MAX_NODES < nodes as usize
-        || MAX_CHILDREN < children as usize
-        || !enough(h, ws, ks, nodes, children)
-    {
+    if MAX_NODES < nodes as usize || MAX_CHILDREN < children as usize || !long {
         return Err(Refusal::Unopenable);
     }
     Ok(())
+}
+
+// Refusal 1 of a store's slices.
+pub fn opening(h: &[u32], ws: &[u32], ks: &[u32], nodes: u32, children: u32) -> Result<(), Refusal>
+    ensures { first_broken (open_test nodes children (enough nodes children h.now ws.now ks.now) ∷ []) ≡ told result }
+{
+    opening_by(nodes, children, enough(h, ws, ks, nodes, children))
 }

@@ -16,7 +16,6 @@ use Rattle.scope.proofs.View.{view}
 use Rattle.types.specs.declared.TypeIdx.{TypeIdx}
 use Rattle.layout.specs.Words.{slot_at, decode}
 use Rattle.roots.specs.Found.{Found}
-use Rattle.roots.specs.Kept.{Cached}
 use Rattle.related.specs.Tables.{Meeting}
 use Rattle.std.specs.Prelude.{Some, None}
 use Rattle.skips.specs.Table.{marked, slot_seen, Passed, Stretched}
@@ -62,10 +61,9 @@ met_not_new e = let z : ◌≡◌ {A = ℕ} 0 1 = cc in absurd (omega arith)
 new_not_met : {i : TypeIdx} {B : Type 0} → Some i ≡ None → B
 new_not_met e = let z : ◌≡◌ {A = ℕ} 0 1 = cc in absurd (omega arith)
 
-module _ {ws : List ℕ} {n t : ℕ} {cache ms : List ℕ} (k : Cached ws n cache) where
-  meets_met : {seen : List ℕ} → Sees ws n ms seen → ((ks : List ℕ) → marked ms (find (decode ws ks n) (ty_of t)).idx ≡ true) → Meets ws n t cache ms ms seen None
+module _ {ws : List ℕ} {n t : ℕ} {ms : List ℕ} where
+  meets_met : {seen : List ℕ} → Sees ws n ms seen → ((ks : List ℕ) → marked ms (find (decode ws ks n) (ty_of t)).idx ≡ true) → Meets ws n t ms ms seen None
   meets_met c h = record {
-    cached = k;
     sees = c;
     same = λ e. refl;
     met = λ e. h;
@@ -75,15 +73,14 @@ module _ {ws : List ℕ} {n t : ℕ} {cache ms : List ℕ} (k : Cached ws n cach
   }
 
   module _ {r : ℕ} {i : TypeIdx} {seen : List ℕ} {j : ℕ} (c : Sees ws n ms seen) (f : Found ws n t r) (o : i.0 ≡ (ty_of r).idx) (q : j ≡ (ty_of t).idx) where
-    pub meets_old : {seen' : List ℕ} {b : Bool} → b ≡ marked ms i.0 → b ≡ true → seen' ≡ set seen j 1 → Meets ws n t cache ms ms seen' None
+    pub meets_old : {seen' : List ℕ} {b : Bool} → b ≡ marked ms i.0 → b ≡ true → seen' ≡ set seen j 1 → Meets ws n t ms ms seen' None
     meets_old m h e =
         let w : (ks : List ℕ) → marked ms (find (decode ws ks n) (ty_of t)).idx ≡ true = λ ks. ap (marked ms) (sym (root_is f o ks)) ∙ (sym m ∙ h) in
         meets_met (sees_told c t w q e) w
 
     module _ {ms' : List ℕ} {b : Bool} (m : b ≡ marked ms i.0) (h : b ≡ false) (e : ms' ≡ set ms i.0 1) where
-      meets_new : {seen' : List ℕ} → Sees ws n ms' seen' → Meets ws n t cache ms ms' seen' (Some i)
+      meets_new : {seen' : List ℕ} → Sees ws n ms' seen' → Meets ws n t ms ms' seen' (Some i)
       meets_new d = record {
-        cached = k;
         sees = d;
         same = λ z. new_not_met z;
         met = λ z. new_not_met z;
@@ -92,24 +89,23 @@ module _ {ws : List ℕ} {n t : ℕ} {cache ms : List ℕ} (k : Cached ws n cach
         mark = λ x z. let y : i ≡ x = cc in rw (← y) e;
       }
 
-      pub meets_in : {seen' : List ℕ} {d : Bool} → d ≡ marked ms' i.0 → d ≡ true → seen' ≡ set seen j 1 → Meets ws n t cache ms ms' seen' (Some i)
+      pub meets_in : {seen' : List ℕ} {d : Bool} → d ≡ marked ms' i.0 → d ≡ true → seen' ≡ set seen j 1 → Meets ws n t ms ms' seen' (Some i)
       meets_in w z v = meets_new (sees_told (sees_mark c i.0 e) t (λ ks. ap (marked ms') (sym (root_is f o ks)) ∙ (sym w ∙ z)) q v)
 
 -- what a walk keeps: slots passed over, a child met, and what follows it
 
-module _ {ws ks : List ℕ} {n : ℕ} {cache ms seen skip : List ℕ} (c : Keeps ws ks n cache ms seen skip) where
+module _ {ws ks : List ℕ} {n : ℕ} {ms seen skip : List ℕ} (c : Keeps ws ks n ms seen skip) where
   pub keeps_over : {skip' : List ℕ} {s r : ℕ} → Passed skip skip' s r → (x : ℕ) → s ≤ x → x < s + r → slot_marked (decode ws ks n) ks ms x ≡ true
   keeps_over w = w.over (slot_marked (decode ws ks n) ks ms) c.skips
 
-  pub keeps_pass : {skip' : List ℕ} {s r : ℕ} → Passed skip skip' s r → Keeps ws ks n cache ms seen skip'
-  keeps_pass w = record { cached = c.cached; sees = c.sees; skips = w.skips (slot_marked (decode ws ks n) ks ms) c.skips }
+  pub keeps_pass : {skip' : List ℕ} {s r : ℕ} → Passed skip skip' s r → Keeps ws ks n ms seen skip'
+  keeps_pass w = record { sees = c.sees; skips = w.skips (slot_marked (decode ws ks n) ks ms) c.skips }
 
-  pub keeps_met : {cache' ms' seen' : List ℕ} {t : ℕ} {r : Meeting} → Meets ws n t cache' ms ms' seen' r → r ≡ None → Keeps ws ks n cache' ms' seen' skip
-  keeps_met w e = record { cached = w.cached; sees = w.sees; skips = rw (w.same e) c.skips }
+  pub keeps_met : {ms' seen' : List ℕ} {t : ℕ} {r : Meeting} → Meets ws n t ms ms' seen' r → r ≡ None → Keeps ws ks n ms' seen' skip
+  keeps_met w e = record { sees = w.sees; skips = rw (w.same e) c.skips }
 
-  pub keeps_new : {cache' ms' seen' : List ℕ} {t : ℕ} {r : Meeting} {i : TypeIdx} → Meets ws n t cache' ms ms' seen' r → r ≡ Some i → Keeps ws ks n cache' ms' seen' skip
+  pub keeps_new : {ms' seen' : List ℕ} {t : ℕ} {r : Meeting} {i : TypeIdx} → Meets ws n t ms ms' seen' r → r ≡ Some i → Keeps ws ks n ms' seen' skip
   keeps_new {i = i} w e = record {
-    cached = w.cached;
     sees = w.sees;
     skips = record {
       each = λ s x l u. rw (w.mark i e) (marked_set ms i.0 (find (decode ws ks n) (ty_of (slot_at ks x).type)).idx (c.skips.each s x l u));
@@ -120,9 +116,8 @@ module _ {ws ks : List ℕ} {n : ℕ} {cache ms seen skip : List ℕ} (c : Keeps
   pub keeps_seen : (x : ℕ) → slot_seen ks seen x ≡ true → slot_marked (decode ws ks n) ks ms x ≡ true
   keeps_seen x h = c.sees.each (ty_of (slot_at ks x).type) h ks
 
-  pub keeps_stretch : {skip' : List ℕ} {s end r : ℕ} → Stretched ks seen skip skip' s end r → Keeps ws ks n cache ms seen skip'
+  pub keeps_stretch : {skip' : List ℕ} {s end r : ℕ} → Stretched ks seen skip skip' s end r → Keeps ws ks n ms seen skip'
   keeps_stretch w = record {
-    cached = c.cached;
     sees = c.sees;
     skips = w.skips (slot_marked (decode ws ks n) ks ms) c.skips keeps_seen;
   }

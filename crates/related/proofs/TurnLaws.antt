@@ -118,20 +118,20 @@ module _ (d : ℕ) (ns : List Node) {ks : List ℕ} {s₀ e : ℕ} {ms₀ ms : L
       rw z (turn_pass {s = s + 1} r (pass_one c (h s (omega arith) (omega arith))) (λ x l u. h x (omega arith) (omega arith)))
 
 -- where a walk is in a run of children: what is left gives what the whole run gives, and what it keeps stands
-pub record Onward (d : ℕ) (ws ks : List ℕ) (n s₀ e : ℕ) (ms₀ cache ms seen skip : List ℕ) (s : ℕ) : Type 0 where
+pub record Onward (d : ℕ) (ws ks : List ℕ) (n s₀ e : ℕ) (ms₀ ms seen skip : List ℕ) (s : ℕ) : Type 0 where
   pub turn : Turn (related_f d (decode ws ks n)) ks s₀ e ms₀ ms s
-  pub keeps : Keeps ws ks n cache ms seen skip
+  pub keeps : Keeps ws ks n ms seen skip
 
 -- a slot, and those after it whose children's nodes have been told
-pub turn_stretch : (d : ℕ) {ws ks : List ℕ} {n s₀ e r : ℕ} {ms₀ cache ms seen skip : List ℕ} (s : ℕ) → Turn (related_f d (decode ws ks n)) ks s₀ e ms₀ ms (s + 1)
-    → Keeps ws ks n cache ms seen skip → Scanned ks seen (s + 1) e r → Turn (related_f d (decode ws ks n)) ks s₀ e ms₀ ms r
+pub turn_stretch : (d : ℕ) {ws ks : List ℕ} {n s₀ e r : ℕ} {ms₀ ms seen skip : List ℕ} (s : ℕ) → Turn (related_f d (decode ws ks n)) ks s₀ e ms₀ ms (s + 1)
+    → Keeps ws ks n ms seen skip → Scanned ks seen (s + 1) e r → Turn (related_f d (decode ws ks n)) ks s₀ e ms₀ ms r
 turn_stretch d {ws} {ks} {n} {r = r} s c k w =
     let z : s + 1 + (r - (s + 1)) ≡ r = omega (arith, w.from) in
     rw z at (turn_pass d (decode ws ks n) (r - (s + 1)) c (λ x l u. keeps_seen k x (w.over x l (omega (arith, w.from)))))
 
 -- a child whose root was marked, and one whose root is marked now and walked on from
-module _ (f : ℕ) {ws ks : List ℕ} {n s₀ e : ℕ} {ms₀ cache ms ms' seen : List ℕ} {r : Meeting} {s : ℕ} (c : Turn (related_f f (decode ws ks n)) ks s₀ e ms₀ ms s) (d : Slot)
-    (h : s < e) (q : slot_means d ≡ slot_at ks s) (w : Meets ws n d.ty.0 cache ms ms' seen r) where
+module _ (f : ℕ) {ws ks : List ℕ} {n s₀ e : ℕ} {ms₀ ms ms' seen : List ℕ} {r : Meeting} {s : ℕ} (c : Turn (related_f f (decode ws ks n)) ks s₀ e ms₀ ms s) (d : Slot)
+    (h : s < e) (q : slot_means d ≡ slot_at ks s) (w : Meets ws n d.ty.0 ms ms' seen r) where
   pub turn_met : r ≡ None → Turn (related_f f (decode ws ks n)) ks s₀ e ms₀ ms' (s + 1)
   turn_met z =
       turn_next c d h q (w.same z ∙ mark_met f (decode ws ks n) ms (ty_of d.ty.0) refl refl (w.met z ks)) (ap (λ (m : List ℕ). length m) (w.same z))

@@ -7,7 +7,6 @@ use Rattle.scope.specs.Force.{related_kids, related_f}
 use Rattle.types.specs.declared.TypeIdx.{TypeIdx}
 use Rattle.layout.specs.Words.{slot_at, decode}
 use Rattle.layout.specs.declared.Nodes.{Nodes}
-use Rattle.roots.specs.Kept.{Cached}
 use Rattle.skips.specs.Table.{marked, Skips}
 use Rattle.std.specs.Prelude.{Some, None}
 use Rattle.std.specs.declared.option.Option as option
@@ -32,9 +31,12 @@ slot_marked ns ks ms x = marked ms (find ns (ty_of (slot_at ks x).type)).idx
 pub record Sees (ws : List ℕ) (n : ℕ) (ms seen : List ℕ) : Type 0 where
   pub each : (t : Ty) → marked seen t.idx ≡ true → (ks : List ℕ) → marked ms (find (decode ws ks n) t).idx ≡ true
 
+-- the same of the nodes that are lent
+abbrev pub SeesIn : Nodes → List ℕ → List ℕ → Type 0
+SeesIn s ms seen = Sees s.words.now s.made ms seen
+
 -- a child's root was marked, and no mark changed; or it is marked now, where marks have room
-pub record Meets (ws : List ℕ) (n t : ℕ) (cache' ms ms' seen' : List ℕ) (r : Meeting) : Type 0 where
-  pub cached : Cached ws n cache'
+pub record Meets (ws : List ℕ) (n t : ℕ) (ms ms' seen' : List ℕ) (r : Meeting) : Type 0 where
   pub sees : Sees ws n ms' seen'
   pub same : r ≡ None → ms' ≡ ms
   pub met : r ≡ None → (ks : List ℕ) → marked ms (find (decode ws ks n) (ty_of t)).idx ≡ true
@@ -42,12 +44,15 @@ pub record Meets (ws : List ℕ) (n t : ℕ) (cache' ms ms' seen' : List ℕ) (r
   pub fresh : (i : TypeIdx) → r ≡ Some i → marked ms i.0 ≡ false
   pub mark : (i : TypeIdx) → r ≡ Some i → ms' ≡ set ms i.0 1
 
--- roots, nodes and slots of marked ones
-pub record Keeps (ws ks : List ℕ) (n : ℕ) (cache ms seen skip : List ℕ) : Type 0 where
-  pub cached : Cached ws n cache
+-- the same of the nodes that are lent
+abbrev pub MeetsIn : Nodes → ℕ → List ℕ → List ℕ → List ℕ → Meeting → Type 0
+MeetsIn s t ms ms' seen' r = Meets s.words.now s.made t ms ms' seen' r
+
+-- nodes and slots of marked roots
+pub record Keeps (ws ks : List ℕ) (n : ℕ) (ms seen skip : List ℕ) : Type 0 where
   pub sees : Sees ws n ms seen
   pub skips : Skips (slot_marked (decode ws ks n) ks ms) skip
 
 -- the same of the nodes that are lent
-abbrev pub KeepsIn : Nodes → List ℕ → List ℕ → List ℕ → List ℕ → Type 0
-KeepsIn s cache ms seen skip = Keeps s.words.now s.kids.now s.made cache ms seen skip
+abbrev pub KeepsIn : Nodes → List ℕ → List ℕ → List ℕ → Type 0
+KeepsIn s ms seen skip = Keeps s.words.now s.kids.now s.made ms seen skip

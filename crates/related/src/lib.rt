@@ -4,13 +4,12 @@
 ghost use Rattle.std.specs.Prelude.{◌≡◌, ◌≤◌};
 ghost use Rattle.scope.specs.Types.{ty_of};
 ghost use Rattle.scope.specs.Force.{find_related};
-ghost use Rattle.layout.specs.Meaning.{Linked};
-ghost use Rattle.layout.specs.Lent.{nodes_by};
-ghost use Rattle.roots.specs.Kept.{Cached};
+ghost use Rattle.layout.specs.Lent.{nodes_by, LinkedIn};
 ghost use Rattle.related.specs.Stands.{StandsIn};
-ghost use Rattle.related.specs.Tables.{Sees, Meets, KeepsIn, related_below};
+ghost use Rattle.related.specs.Tables.{SeesIn, MeetsIn, KeepsIn, related_below};
 
 use layout::Nodes;
+use roots::Finder;
 use scope::{MAX_CHILDREN, MAX_NODES};
 use types::{Type, TypeIdx};
 
@@ -18,21 +17,14 @@ use types::{Type, TypeIdx};
 const FEW: usize = 256;
 
 // A child's root is marked, if it is not, and its node told.
-fn meet(
-    ws: &[u32],
-    n: u32,
-    cache: &mut [u16],
-    marks: &mut [u8],
-    seen: &mut [u8],
-    kid: Type,
-) -> Option<TypeIdx>
-    requires { Linked ws.now n × Cached ws.now n cache.old × Sees ws.now n marks.old seen.old }
-    ensures { Meets ws.now n kid.0 cache.new marks.old marks.new seen.new result }
+fn meet(finder: &mut Finder<'_>, marks: &mut [u8], seen: &mut [u8], kid: Type) -> Option<TypeIdx>
+    requires { LinkedIn finder.old.nodes.now × SeesIn finder.old.nodes.now marks.old seen.old }
+    ensures { MeetsIn finder.old.nodes.now kid.0 marks.old marks.new seen.new result × (finder.new.nodes ≡ finder.old.nodes) }
 {
     if roots::is_marked(seen, kid.idx()) {
         return None;
     }
-    let root = roots::find_by(ws, n, cache, kid).idx();
+    let root = finder.find(kid).idx();
     if roots::is_marked(marks, root) {
         roots::set_mark(seen, kid.idx());
         return None;
@@ -47,22 +39,22 @@ fn meet(
 // The walk on from a marked root: each unmarked root of a child is marked and walked on from, one level less deep. Of a child whose root is marked
 // there is nothing to do.
 fn mark_below(
-    nodes: &Nodes<'_>,
-    cache: &mut [u16],
+    finder: &mut Finder<'_>,
     marks: &mut [u8],
     seen: &mut [u8],
     skip: &mut [u8],
     root: TypeIdx,
     depth: u32,
 )
-    requires { StandsIn nodes.now × KeepsIn nodes.now cache.old marks.old seen.old skip.old }
-    ensures { (marks.new ≡ related_below depth (nodes_by nodes.now) marks.old root.0)
-        × KeepsIn nodes.now cache.new marks.new seen.new skip.new }
+    requires { StandsIn finder.old.nodes.now × KeepsIn finder.old.nodes.now marks.old seen.old skip.old }
+    ensures { (marks.new ≡ related_below depth (nodes_by finder.old.nodes.now) marks.old root.0)
+        × KeepsIn finder.old.nodes.now marks.new seen.new skip.new × (finder.new.nodes ≡ finder.old.nodes) }
 {
     if depth == 0 {
         return;
     }
-    let Some((_, kind)) = layout::held_at(nodes.words, nodes.made, root) else {
+    let nodes = finder.nodes;
+    let Some((_, kind)) = nodes.held(root) else {
         return;
     };
     let mut s = kind.first as usize;
@@ -74,8 +66,8 @@ fn mark_below(
             s += far;
         } else {
             let kid = layout::child_at(nodes.kids, s).ty;
-            if let Some(next) = meet(nodes.words, nodes.made, cache, marks, seen, kid) {
-                mark_below(nodes, cache, marks, seen, skip, next, depth - 1);
+            if let Some(next) = meet(finder, marks, seen, kid) {
+                mark_below(finder, marks, seen, skip, next, depth - 1);
             }
             s = skips::stretch(nodes.kids, seen, skip, s, end);
         }
@@ -96,7 +88,11 @@ fn mark_with<const NODES: usize, const SLOTS: usize>(
     let mut cache = [0u16; NODES];
     let mut seen = [0u8; NODES];
     let mut skip = [0u8; SLOTS];
-    mark_below(nodes, &mut cache, marks, &mut seen, &mut skip, root, depth);
+    let mut finder = Finder {
+        nodes,
+        cache: &mut cache,
+    };
+    mark_below(&mut finder, marks, &mut seen, &mut skip, root, depth);
 }
 
 // `find_related`: "nonzero means already in the set, and 1 is written for each root added".
@@ -107,7 +103,7 @@ pub fn find_related(nodes: &Nodes<'_>, marks: &mut [u8], t: Type)
     if nodes.made == 0 {
         return;
     }
-    let root = roots::find(nodes.words, nodes.made, t).idx();
+    let root = roots::find_in(nodes, t).idx();
     if roots::is_marked(marks, root) {
         return;
     }

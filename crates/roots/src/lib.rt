@@ -6,11 +6,12 @@ ghost use Rattle.std.specs.Prelude.{◌≡◌, not, ◌<◌, ◌≤◌, length, 
 ghost use Rattle.scope.specs.Types.{INV_BIT, ty_of};
 ghost use Rattle.layout.specs.Words.{node_words};
 ghost use Rattle.layout.specs.Meaning.{Linked, held_in, read_at};
+ghost use Rattle.layout.specs.Lent.{LinkedIn};
 ghost use Rattle.roots.specs.Found.{Found, FoundMut, Near};
-ghost use Rattle.roots.specs.Kept.{kept_word, Kept, Rooted, Topped, Cached};
+ghost use Rattle.roots.specs.Kept.{kept_word, Kept, Rooted, Topped, Cached, CachedIn};
 ghost use Rattle.roots.specs.Nil.{nil_by};
 
-use layout::TypeNode;
+use layout::{Nodes, TypeNode};
 use types::{Inverted, Type, TypeIdx};
 
 // The root of a type among n nodes, with the inversions on the way.
@@ -69,6 +70,14 @@ pub fn find(ws: &[u32], n: u32, t: Type) -> Type
     ensures { Found ws.now n t.0 result.0 }
 {
     near(ws, n, t).unwrap_or_else(|| climb(ws, n, t))
+}
+
+// The same among nodes that are lent as one.
+pub fn find_in(nodes: &Nodes<'_>, t: Type) -> Type
+    requires { LinkedIn nodes.now }
+    ensures { Found nodes.now.words.now nodes.now.made t.0 result.0 }
+{
+    find(nodes.words, nodes.made, t)
 }
 
 // "`find_mut` also points every node on the path straight at the root": a type that is near has no such path.
@@ -239,5 +248,23 @@ pub fn find_by(ws: &[u32], n: u32, cache: &mut [u16], t: Type) -> Type
     match layout::node_at(ws, n, t.idx()) {
         TypeNode::Root { .. } => t,
         TypeNode::Child(_) => find_kept(ws, n, cache, t),
+    }
+}
+
+// Nodes that stay as they are, and a cache of their roots: for whoever asks for many.
+#[derive(Drop)]
+pub struct Finder<'a> {
+    pub nodes: &'a Nodes<'a>,
+    pub cache: &'a mut [u16],
+    pub ghost cached: { CachedIn nodes.now cache.now },
+}
+
+impl Finder<'_> {
+    // The root of a type, by `find_by`.
+    pub fn find(&mut self, t: Type) -> Type
+        requires { LinkedIn self.old.nodes.now }
+        ensures { Found self.old.nodes.now.words.now self.old.nodes.now.made t.0 result.0 × (self.new.nodes ≡ self.old.nodes) }
+    {
+        find_by(self.nodes.words, self.nodes.made, self.cache, t)
     }
 }

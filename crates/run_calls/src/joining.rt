@@ -26,12 +26,12 @@ pub(crate) enum Joining {
     ApproxEq,
 }
 
-// A trait by its number, or an error where the first number says so.
-pub(crate) fn impl_of(error: u32, number: u32) -> Impl {
+// A trait, by its number, over these types, or an error where the first number says so.
+pub(crate) fn impl_of(error: u32, number: u32, types: &[u32]) -> Impl<'_> {
     if error != 0 {
         return Impl::Error;
     }
-    Impl::Trait(number)
+    Impl::Trait(number, types)
 }
 
 // Two lists, and whether the second's types are inverted.
@@ -53,13 +53,14 @@ fn signatures(a: &[u32]) -> (&[u32], Type, &[u32], Type) {
     )
 }
 
-// Two impl types: a trait or an error, and their types each.
-fn impls(a: &[u32]) -> (Impl, &[u32], Impl, &[u32]) {
+// Two impl types.
+fn impls(a: &[u32]) -> (Impl<'_>, Impl<'_>) {
     let n = word(a, 4) as usize;
     let both = after(a, 5);
-    let p = impl_of(word(a, 0), word(a, 1));
-    let q = impl_of(word(a, 2), word(a, 3));
-    (p, first(both, n), q, after(both, n))
+    (
+        impl_of(word(a, 0), word(a, 1), first(both, n)),
+        impl_of(word(a, 2), word(a, 3), after(both, n)),
+    )
 }
 
 pub(crate) fn call<W: Write>(
@@ -91,12 +92,12 @@ pub(crate) fn call<W: Write>(
             writing::unify_answer(to, unify_fn_sig(env, h, ws, ks, xs, x, ys, y))
         }
         Joining::UnifyImplType => {
-            let (p, xs, q, ys) = impls(a);
-            writing::unify_answer(to, unify_impl_type(env, h, ws, ks, p, xs, q, ys))
+            let (p, q) = impls(a);
+            writing::unify_answer(to, unify_impl_type(env, h, ws, ks, p, q))
         }
         Joining::ApproxEq => {
-            let (p, xs, q, ys) = impls(a);
-            writing::bool_answer(to, approx_eq(env, h, ws, ks, p, xs, q, ys))
+            let (p, q) = impls(a);
+            writing::bool_answer(to, approx_eq(env, h, ws, ks, p, q))
         }
     }
 }

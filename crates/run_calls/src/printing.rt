@@ -58,15 +58,14 @@ fn print<W: Write>(
     a: &[u32],
 ) -> io::Result<()> {
     let t = Type(word(a, 1));
-    let i = impl_of(word(a, 1), word(a, 2));
-    let xs = after(a, 3);
+    let i = impl_of(word(a, 1), word(a, 2), after(a, 3));
     match c {
         Printing::Show => {
             count(to, show(env, h, ws, ks, t, buf))?;
             bytes(to, buf)
         }
         Printing::ShowImplType => {
-            count(to, show_impl_type(env, h, ws, ks, i, xs, buf))?;
+            count(to, show_impl_type(env, h, ws, ks, i, buf))?;
             bytes(to, buf)
         }
         Printing::ShowPart => {
@@ -75,7 +74,7 @@ fn print<W: Write>(
             bytes(to, p)
         }
         Printing::ShowImplTypePart => {
-            let (p, told) = show_impl_type_part(env, h, ws, ks, i, xs, buf);
+            let (p, told) = show_impl_type_part(env, h, ws, ks, i, buf);
             code(to, told)?;
             bytes(to, p)
         }

@@ -30,7 +30,7 @@ use Rattle.shape.specs.declared.Up.{Up}
 use Rattle.shape.specs.declared.Up.TheVariants.{Root, Parent}
 use Rattle.shape.specs.Walks.{ends, InRun, upward, to_by, Leads, here, more}
 use Rattle.shape.specs.Read.{idx_of, up_in, first_of, count_of, kid_at, ups, root_of, kids, tallied, size_by, size_fits}
-use Rattle.shape.specs.Asks.{node_inside, Shaped, Complete, ClimbsAll, ClimbedAll, Rooted, Sizes, Falls}
+use Rattle.shape.specs.Asks.{node_inside, Shaped, Complete, ClimbsAll, ClimbedAll, Rooted, Falls}
 use Rattle.shape.proofs.Lists.{same_test, all_same, count_same}
 use Rattle.shape.proofs.Walks.{ends_none, ends_more, ends_root, ends_up, up_within, leads_ends, leads_below}
 use Rattle.shape.proofs.Laws.{right_none}
@@ -187,7 +187,7 @@ module _ {ws ks : List ℕ} {n : ℕ} (s : Shaped ws ks n) where
 
   pub climbs_all : ClimbsAll ws (replicate MAX_NODES 0) n
   climbs_all = record {
-    parents = record { few = s.few; room = s.clean.room; inside = ups_inside ws ks n (decode ws ks n) (length_decode ws ks n) step held s.inside };
+    parents = record { few = s.few; inside = ups_inside ws ks n (decode ws ks n) (length_decode ws ks n) step held s.inside };
     right = right_none (ups ws n);
   }
 
@@ -195,20 +195,16 @@ module _ {ws ks : List ℕ} {n : ℕ} (s : Shaped ws ks n) where
   not_rooted f e = sym (shape_lost ws ks n (decode ws ks n) (length_decode ws ks n) step held s.inside (sym f.answer ∙ e))
 
   module _ {roots : List ℕ} {r : Bool} (f : ClimbedAll (ups ws n) n roots r) (e : r ≡ true) where
-    rooted_roots : Rooted roots n
+    pub rooted_roots : Rooted roots n
     rooted_roots = record {
       few = s.few;
       known = (f.complete e).known;
       below = roots_below ws ks n (decode ws ks n) (length_decode ws ks n) step held s.inside roots (f.complete e);
     }
 
-    pub sizes : Sizes ws roots n
-    sizes = record { rooted = rooted_roots; room = s.clean.room }
-
     pub falling : Falls ws ks n roots
     falling = record {
       rooted = rooted_roots;
-      room = s.clean.room;
       below = kids_inside ws ks n (decode ws ks n) (length_decode ws ks n) step held s.inside roots;
     }
 

@@ -4,7 +4,7 @@ use Rattle.scope.specs.Base.{all, count, from}
 use Rattle.scope.specs.Limits.{MAX_NODES}
 use Rattle.scope.specs.Nodes.{Node, Root, Child, at, kids_of}
 use Rattle.scope.specs.Sound.{in_store}
-use Rattle.layout.specs.Words.{node_words, decode}
+use Rattle.layout.specs.Words.{decode}
 use Rattle.layout.specs.Meaning.{Clean}
 use Rattle.layout.specs.declared.Nodes.{Nodes}
 use Rattle.shape.specs.Walks.{Graph, ends, InRun, upward, to_by, Leads}
@@ -32,7 +32,6 @@ ShapedIn s = Shaped s.words.now s.kids.now s.made
 -- n nodes whose parents are nodes
 pub record ParentsInside (ws : List ℕ) (n : ℕ) : Type 0 where
   pub few : n ≤ MAX_NODES
-  pub room : node_words n ≤ length ws
   pub inside : (v : ℕ) → v < n → to_by (ups ws n v) < n
 
 -- a root that is known is right
@@ -45,6 +44,10 @@ pub record Climbs (ws roots : List ℕ) (n v : ℕ) : Type 0 where
   pub parents : ParentsInside ws n
   pub right : TrueRoots (ups ws n) roots
   pub node : v < n
+
+-- the same of the nodes that are lent
+abbrev pub ClimbsIn : Nodes → List ℕ → ℕ → Type 0
+ClimbsIn s roots v = Climbs s.words.now roots s.made v
 
 -- roots that were known stay known. Where the answer is yes, v's is; where it is no, the walk up from v has more than depth nodes
 pub record Climbed (p : ℕ → Up) (depth v : ℕ) (roots₀ roots : List ℕ) (r : Bool) : Type 0 where
@@ -62,6 +65,10 @@ pub record Complete (p : ℕ → Up) (n : ℕ) (roots : List ℕ) : Type 0 where
 pub record ClimbsAll (ws roots : List ℕ) (n : ℕ) : Type 0 where
   pub parents : ParentsInside ws n
   pub right : TrueRoots (ups ws n) roots
+
+-- the same of the nodes that are lent
+abbrev pub ClimbsAllIn : Nodes → List ℕ → Type 0
+ClimbsAllIn s roots = ClimbsAll s.words.now roots s.made
 
 pub record ClimbedAll (p : ℕ → Up) (n : ℕ) (roots : List ℕ) (r : Bool) : Type 0 where
   pub answer : r ≡ all (ends (upward p) n) (from 0 n)
@@ -81,10 +88,6 @@ pub record Tallies (roots counts : List ℕ) (n : ℕ) : Type 0 where
 
 pub record Tallied (roots : List ℕ) (n : ℕ) (counts : List ℕ) : Type 0 where
   pub each : (v : ℕ) → v < n → get_or counts v 0 ≡ tallied roots n v
-
-pub record Sizes (ws roots : List ℕ) (n : ℕ) : Type 0 where
-  pub rooted : Rooted roots n
-  pub room : node_words n ≤ length ws
 
 -- a node that no visit came to, one that lies on the way, and one from which every walk ends
 abbrev pub is_fresh : Mark → Bool
@@ -112,7 +115,6 @@ fresh n marks = count (λ v. is_fresh (get_or marks v mark.Fresh)) (from 0 n)
 -- `visit` and `falls_ok`
 pub record Falls (ws ks : List ℕ) (n : ℕ) (roots : List ℕ) : Type 0 where
   pub rooted : Rooted roots n
-  pub room : node_words n ≤ length ws
   pub below : (v i : ℕ) → v < n → InRun (kids ws ks n roots) v i → kid_at ks i < n
 
 -- the same of the nodes that are lent

@@ -39,6 +39,10 @@ kid_at ks i = (ty_of (slot_at ks i).type).idx
 abbrev pub ups : List ℕ → ℕ → ℕ → Up
 ups ws n v = up_in (read_at ws n v)
 
+-- the same of the nodes that are lent
+abbrev pub ups_by : Nodes → ℕ → Up
+ups_by s = ups s.words.now s.made
+
 -- roots holds one more than the root of each node whose root is known, and 0 elsewhere
 abbrev pub root_of : List ℕ → ℕ → ℕ
 root_of roots v = get_or roots v 0 - 1

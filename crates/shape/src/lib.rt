@@ -1,17 +1,15 @@
 #![tactic(auto)]
 // Whether a store's nodes have the shape of sound ones: no parent cycle, each root's size its tree's node count, no child cycle.
 // Each node is climbed from once and visited once, so the time is linear in the nodes and their children.
-ghost use Rattle.std.specs.Prelude.{◌≡◌, true, ◌≤◌, ◌<◌, length, get_or, set};
+ghost use Rattle.std.specs.Prelude.{◌≡◌, true, ◌<◌, get_or, set};
 ghost use Rattle.scope.specs.Base.{all, from};
 ghost use Rattle.scope.specs.Limits.{MAX_NODES};
 ghost use Rattle.scope.specs.Sound.{shape_sound};
-ghost use Rattle.layout.specs.Words.{node_words};
 ghost use Rattle.layout.specs.Lent.{nodes_by};
-ghost use Rattle.layout.specs.Meaning.{read_at};
 ghost use Rattle.shape.specs.Walks.{ends};
-ghost use Rattle.shape.specs.Read.{up_in, kid_at, ups, root_of, kids_by, size_by, size_fits};
+ghost use Rattle.shape.specs.Read.{kid_at, ups_by, root_of, kids_by, size_by, size_fits};
 ghost use Rattle.shape.specs.declared.Mark.TheVariants.{Fresh};
-ghost use Rattle.shape.specs.Asks.{is_done, ShapedIn, Climbs, Climbed, ClimbsAll, ClimbedAll, Tallies, Tallied, Sizes, FallsIn, VisitsIn, TriesIn, Visited};
+ghost use Rattle.shape.specs.Asks.{is_done, ShapedIn, ClimbsIn, Climbed, ClimbsAllIn, ClimbedAll, Rooted, Tallies, Tallied, FallsIn, VisitsIn, TriesIn, Visited};
 
 use layout::{CHILD_WORDS, Nodes, TypeNode};
 use scope::MAX_NODES;
@@ -38,11 +36,10 @@ enum Up {
     Parent(TypeIdx),
 }
 
-fn up_of(ws: &[u32], n: u32, v: TypeIdx) -> Up
-    requires { node_words n ≤ length ws.now }
-    ensures { result ≡ up_in (read_at ws.now n v.0) }
+fn up_of(nodes: &Nodes<'_>, v: TypeIdx) -> Up
+    ensures { result ≡ ups_by nodes.now v.0 }
 {
-    match layout::node_at(ws, n, v) {
+    match nodes.node(v) {
         TypeNode::Root { state: _, size } => Up::Root(size),
         TypeNode::Child(t) => Up::Parent(t.idx()),
     }
@@ -70,7 +67,7 @@ fn put(t: &mut Table, v: TypeIdx, x: u32)
 }
 
 // The root of v, of which roots holds one more; 0 is a root that is not known.
-// Kept (1): the table is fixed memory on the stack; an Option of a node is twice as large, and none of a nonzero number is promised to be as small.
+// Kept (1): no Option: `tally` and `visit` come once `find_roots` has put a root for every node, and a None is nothing that they could answer.
 fn root_of(roots: &Table, v: TypeIdx) -> TypeIdx
     requires { (v.0 < MAX_NODES) × (0 < get_or roots.now v.0 0) }
     ensures { result.0 ≡ root_of roots.now v.0 }
@@ -79,9 +76,9 @@ fn root_of(roots: &Table, v: TypeIdx) -> TypeIdx
 }
 
 // Whether v's root is known or fewer than depth parent steps lead there. roots then holds it, and that of each node on the way.
-fn climb(ws: &[u32], n: u32, roots: &mut Table, v: TypeIdx, depth: u32) -> bool
-    requires { Climbs ws.now roots.old n v.0 }
-    ensures { Climbed (ups ws.now n) depth v.0 roots.old roots.new result }
+fn climb(nodes: &Nodes<'_>, roots: &mut Table, v: TypeIdx, depth: u32) -> bool
+    requires { ClimbsIn nodes.now roots.old v.0 }
+    ensures { Climbed (ups_by nodes.now) depth v.0 roots.old roots.new result }
 {
     if at(roots, v) != 0 {
         return true;
@@ -89,13 +86,13 @@ fn climb(ws: &[u32], n: u32, roots: &mut Table, v: TypeIdx, depth: u32) -> bool
     if depth == 0 {
         return false;
     }
-    match up_of(ws, n, v) {
+    match up_of(nodes, v) {
         Up::Root(_) => {
             put(roots, v, v.0 + 1);
             true
         }
         Up::Parent(p) => {
-            if !climb(ws, n, roots, p, depth - 1) {
+            if !climb(nodes, roots, p, depth - 1) {
                 return false;
             }
             let root = at(roots, p);
@@ -106,16 +103,16 @@ fn climb(ws: &[u32], n: u32, roots: &mut Table, v: TypeIdx, depth: u32) -> bool
 }
 
 // Whether every node has a root; then roots holds it for each.
-fn find_roots(ws: &[u32], n: u32, roots: &mut Table) -> bool
-    requires { ClimbsAll ws.now roots.old n }
-    ensures { ClimbedAll (ups ws.now n) n roots.new result }
+fn find_roots(nodes: &Nodes<'_>, roots: &mut Table) -> bool
+    requires { ClimbsAllIn nodes.now roots.old }
+    ensures { ClimbedAll (ups_by nodes.now) nodes.now.made roots.new result }
 {
-    for i in 0..n {
+    for i in 0..nodes.made {
         let v = TypeIdx(i);
-        match up_of(ws, n, v) {
+        match up_of(nodes, v) {
             Up::Root(_) => put(roots, v, i + 1),
             Up::Parent(_) => {
-                if !climb(ws, n, roots, v, n) {
+                if !climb(nodes, roots, v, nodes.made) {
                     return false;
                 }
             }
@@ -137,24 +134,24 @@ fn tally(roots: &Table, n: u32, counts: &mut Table)
 }
 
 // Whether v's size, if it is a root, is the one counted.
-fn size_ok(ws: &[u32], n: u32, counts: &Table, v: TypeIdx) -> bool
-    requires { (node_words n ≤ length ws.now) × (v.0 < MAX_NODES) }
-    ensures { result ≡ size_by (get_or counts.now v.0 0) (ups ws.now n v.0) }
+fn size_ok(nodes: &Nodes<'_>, counts: &Table, v: TypeIdx) -> bool
+    requires { v.0 < MAX_NODES }
+    ensures { result ≡ size_by (get_or counts.now v.0 0) (ups_by nodes.now v.0) }
 {
-    match up_of(ws, n, v) {
+    match up_of(nodes, v) {
         Up::Root(size) => size == at(counts, v),
         Up::Parent(_) => true,
     }
 }
 
 // Whether each root's size is its tree's node count.
-fn sizes_ok(ws: &[u32], n: u32, roots: &Table) -> bool
-    requires { Sizes ws.now roots.now n }
-    ensures { result ≡ all (size_fits ws.now n roots.now) (from 0 n) }
+fn sizes_ok(nodes: &Nodes<'_>, roots: &Table) -> bool
+    requires { Rooted roots.now nodes.now.made }
+    ensures { result ≡ all (size_fits nodes.now.words.now nodes.now.made roots.now) (from 0 nodes.now.made) }
 {
     let mut counts: Table = [0u32; MAX_NODES];
-    tally(roots, n, &mut counts);
-    (0..n).all(|i| size_ok(ws, n, &counts, TypeIdx(i)))
+    tally(roots, nodes.made, &mut counts);
+    (0..nodes.made).all(|i| size_ok(nodes, &counts, TypeIdx(i)))
 }
 
 fn is_done(marks: &Marks, v: TypeIdx) -> bool
@@ -175,7 +172,7 @@ fn visit(nodes: &Nodes<'_>, roots: &Table, marks: &mut Marks, v: TypeIdx) -> boo
         Mark::Fresh => {}
     }
     marks[v.0 as usize] = Mark::Open;
-    let Some((_, kind)) = layout::held_at(nodes.words, nodes.made, v) else {
+    let Some((_, kind)) = nodes.held(v) else {
         marks[v.0 as usize] = Mark::Done;
         return true;
     };
@@ -192,11 +189,12 @@ fn visit(nodes: &Nodes<'_>, roots: &Table, marks: &mut Marks, v: TypeIdx) -> boo
 
 // A quick yes to whether every walk from v ends, where those from the nodes before v do: the roots of its children lie before v, or are done. Where nodes are
 // made after their children few marks are read. A run that is not all lent has no quick yes, so a child is read without a test of its own.
+// Kept (3): each is looked at, whatever the others are, as in `clean::all_zero`; `all` ends at the first that is not such.
 fn kids_done(nodes: &Nodes<'_>, roots: &Table, marks: &Marks, v: TypeIdx) -> bool
     requires { TriesIn nodes.now roots.now marks.now v.0 }
     ensures { result ≡ true → ends (kids_by nodes.now roots.now) nodes.now.made v.0 ≡ true }
 {
-    let Some((_, kind)) = layout::held_at(nodes.words, nodes.made, v) else {
+    let Some((_, kind)) = nodes.held(v) else {
         return true;
     };
     let first = kind.first as usize;
@@ -240,7 +238,5 @@ pub fn shape_ok(nodes: &Nodes<'_>) -> bool
     ensures { result ≡ shape_sound (nodes_by nodes.now) }
 {
     let mut roots: Table = [0u32; MAX_NODES];
-    find_roots(nodes.words, nodes.made, &mut roots)
-        && sizes_ok(nodes.words, nodes.made, &roots)
-        && falls_ok(nodes, &roots)
+    find_roots(nodes, &mut roots) && sizes_ok(nodes, &roots) && falls_ok(nodes, &roots)
 }

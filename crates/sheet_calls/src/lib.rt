@@ -1,6 +1,9 @@
 #![tactic(auto)]
 // The store of program `sheet`, "over an empty chart with no fn trait", and the lines that give no types to unify or show: what one prints and leaves is scope's
 // `sheet_line`. Each is a call on a tested store, since nobody else writes it: it is sound before a line and after it, so that lines follow one another.
+//
+// Kept (5): in this crate and in those above it a store is three lent slices, as `promise` says, and so `SheetStore` is a clause of each. That `out` has room for a text is
+// a clause too: an array of exactly so many bytes would ask more of callers than a slice of at least so many, and `sheet` lends one byte more, for the newline.
 ghost use Rattle.std.specs.Prelude.{◌≡◌, ◌≤◌, length};
 ghost use Rattle.scope.specs.Limits.{SHEET_TEXT, SHEET_NODES, SHEET_CHILDREN};
 ghost use Rattle.scope.specs.Sheet.{sheet_store};

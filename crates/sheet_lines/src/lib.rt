@@ -91,7 +91,7 @@ fn node_of(inv: Inverted, w: &[u8]) -> Option<Type>
     }
     let mut n: u32 = 0;
     for d in w {
-        if *d < b'0' || *d > b'9' {
+        if !d.is_ascii_digit() {
             return None;
         }
         n = n * 10 + digit_of(*d);
@@ -103,16 +103,15 @@ fn node_of(inv: Inverted, w: &[u8]) -> Option<Type>
 fn type_of(w: &[u8]) -> Option<Type>
     ensures { word_means result ≡ type_word w.now }
 {
-    if w.len() == 0 {
-        None
-    } else if w[0] == b'~' {
-        node_of(Inverted(true), &w[1..])
-    } else {
-        node_of(Inverted(false), w)
+    match w {
+        [] => None,
+        [b'~', node @ ..] => node_of(Inverted(true), node),
+        _ => node_of(Inverted(false), w),
     }
 }
 
 // The words from a place on, read as types into `out`.
+// Kept (3): a zip with `out.iter_mut()` is no plainer: how many words there are is the answer, so they are counted beside it still.
 fn types_from(line: &[u8], from: usize, out: &mut [u32]) -> Option<u32>
     requires { Room line.now out.old }
     ensures { Counted result out.new (type_words (words_from line.now from)) }
@@ -129,7 +128,7 @@ fn types_from(line: &[u8], from: usize, out: &mut [u32]) -> Option<u32>
 }
 
 // A command without types
-// Kept (4), here and below: tried as a match on byte strings, and the proof did not close: a match decides byte by byte, in dozens of ends that know lengths alone.
+// Here and below a match on byte strings was tried, and the proof did not close: a match decides byte by byte, in dozens of ends that know lengths alone.
 fn plain_line(w: &[u8]) -> Plain
     ensures { Always result (plain_line w.now) }
 {

@@ -31,7 +31,7 @@ pub fn run(input: &[u8], memory: &mut [u32], buf: &mut [u8]) -> Result<usize, Re
     let mut text = [0u8; SHEET_TEXT];
     let mut out = Out { buf, at: 0 };
     let mut i: usize = 0;
-    // Kept (3): tried over `split_inclusive` with `strip_suffix`; the proof did not close in time: no law of the library lists the parts that `split_inclusive` gives, so it needs one of its own.
+    // Kept (3): tried over `split_inclusive` with `strip_suffix`. What stays open is that the parts so far are scope's lines: no law of the library lists the parts that it gives.
     while i < input.len() {
         let e = sheet_lines::line_end(input, i);
         let n = sheet_line::run_line(&mut h, &mut ws, &mut ks, memory, &input[i..e], &mut text);

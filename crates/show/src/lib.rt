@@ -7,9 +7,7 @@ ghost use Rattle.scope.specs.Types.{ty_of};
 ghost use Rattle.scope.specs.Force.{is_nil};
 ghost use Rattle.scope.specs.Show.{show_f, show};
 ghost use Rattle.chart.specs.Env.{env_by};
-ghost use Rattle.layout.specs.Meaning.{Linked};
-ghost use Rattle.roots.specs.Kept.{CachedIn};
-ghost use Rattle.layout.specs.Lent.{nodes_by};
+ghost use Rattle.layout.specs.Lent.{nodes_by, LinkedIn};
 ghost use Rattle.walk.specs.Asks.{StandsIn, Nil};
 ghost use Rattle.append.specs.Appended.{Puts};
 ghost use Rattle.show.specs.Level.{most_of, shown_of};
@@ -18,17 +16,19 @@ use append::Out;
 use chart::Env;
 use kinds::{CLOSURE, ENUM, IF_CONST, OBJECT, OPAQUE, REF, STRUCT, TUPLE, UNION};
 use layout::{Kind, Nodes};
+use roots::Finder;
 use scope::MAX_NODES;
 use show_names::put_unknown;
 use show_parts::{put_close, put_gap, put_lead};
 use types::{Inverted, Type};
 
-// `is_nil` with the roots that a cache keeps.
-fn is_nil(nodes: &Nodes<'_>, cache: &mut [u16], t: Type) -> bool
-    requires { Linked nodes.now.words.now nodes.now.made × CachedIn nodes.now cache.old }
-    ensures { Nil nodes.now.words.now nodes.now.made t.0 result × CachedIn nodes.now cache.new }
+// `is_nil` with the roots that are kept.
+fn is_nil(finder: &mut Finder<'_>, t: Type) -> bool
+    requires { LinkedIn finder.old.nodes.now }
+    ensures { Nil finder.old.nodes.now.words.now finder.old.nodes.now.made t.0 result × (finder.new.nodes ≡ finder.old.nodes) }
 {
-    let root = roots::find_by(nodes.words, nodes.made, cache, t);
+    let nodes = finder.nodes;
+    let root = finder.find(t);
     roots::nil_at(nodes.words, nodes.made, root.idx())
 }
 
@@ -46,41 +46,33 @@ fn most(code: u32, count: u32) -> u32
 
 // How many of a kind's children are shown: of a Closure and an if const not the last, if it is nil.
 #[tactic(auto, unfolding(crate::specs::Level::shown_of, crate::specs::Level::most_of))]
-fn shown(nodes: &Nodes<'_>, cache: &mut [u16], k: Kind) -> u32
-    requires { StandsIn nodes.now × CachedIn nodes.now cache.old }
-    ensures { (result ≡ shown_of (is_nil (nodes_by nodes.now)) nodes.now.kids.now k) × CachedIn nodes.now cache.new }
+fn shown(finder: &mut Finder<'_>, k: Kind) -> u32
+    requires { StandsIn finder.old.nodes.now }
+    ensures { (result ≡ shown_of (is_nil (nodes_by finder.old.nodes.now)) finder.old.nodes.now.kids.now k)
+        × (finder.new.nodes ≡ finder.old.nodes) }
 {
+    let nodes = finder.nodes;
     let all = most(k.code, k.count);
     match k.code {
-        CLOSURE | IF_CONST
-            if all > 0
-                && is_nil(
-                    nodes,
-                    cache,
-                    layout::child_of(nodes.kids, k.first, all - 1).ty,
-                ) => { all - 1 }
+        CLOSURE | IF_CONST if all > 0 && is_nil(finder, nodes.child(k.first, all - 1).ty) => {
+            all - 1
+        }
         _ => all,
     }
 }
 
-// The text of a type, at most so many levels deep, with the roots that a cache keeps.
-fn show_by(
-    env: &Env<'_>,
-    nodes: &Nodes<'_>,
-    cache: &mut [u16],
-    out: &mut Out<'_>,
-    t: Type,
-    depth: u32,
-)
-    requires { StandsIn nodes.now × CachedIn nodes.now cache.old }
-    ensures { Puts out.old out.new (show_f (env_by env.now) depth (nodes_by nodes.now) (ty_of t.0))
-        × CachedIn nodes.now cache.new }
+// The text of a type, at most so many levels deep, with the roots that are kept.
+fn show_by(env: &Env<'_>, finder: &mut Finder<'_>, out: &mut Out<'_>, t: Type, depth: u32)
+    requires { StandsIn finder.old.nodes.now }
+    ensures { Puts out.old out.new (show_f (env_by env.now) depth (nodes_by finder.old.nodes.now) (ty_of t.0))
+        × (finder.new.nodes ≡ finder.old.nodes) }
 {
     if depth == 0 || append::is_full(out) {
         return;
     }
-    let root = roots::find_by(nodes.words, nodes.made, cache, t);
-    let Some((inv, kind)) = layout::held_at(nodes.words, nodes.made, root.idx()) else {
+    let nodes = finder.nodes;
+    let root = finder.find(t);
+    let Some((inv, kind)) = nodes.held(root.idx()) else {
         put_unknown(out, root);
         return;
     };
@@ -88,11 +80,11 @@ fn show_by(
     let dual = kinds::self_dual(kind.code, kind.dual);
     put_lead(env, out, i.0 & !dual, kind);
     let deep = Inverted(i.0 & dual);
-    let count = shown(nodes, cache, kind);
+    let count = shown(finder, kind);
     for j in 0..count {
         put_gap(&env.texts, nodes.kids, out, kind, j);
-        let kid = layout::child_of(nodes.kids, kind.first, j).ty;
-        show_by(env, nodes, cache, out, kid.invert_if(deep), depth - 1);
+        let kid = nodes.child(kind.first, j).ty;
+        show_by(env, finder, out, kid.invert_if(deep), depth - 1);
     }
     put_close(out, kind, count);
 }
@@ -115,7 +107,11 @@ fn show_within<const ROOM: usize>(
     ensures { Puts out.old out.new (show_f (env_by env.now) depth (nodes_by nodes.now) (ty_of t.0)) }
 {
     let mut cache = [0u16; ROOM];
-    show_by(env, nodes, &mut cache, out, t, depth);
+    let mut finder = Finder {
+        nodes,
+        cache: &mut cache,
+    };
+    show_by(env, &mut finder, out, t, depth);
 }
 
 // The text of a type, at most so many levels deep.

@@ -6,8 +6,8 @@ ghost use Rattle.scope.specs.Force.{is_nil};
 ghost use Rattle.scope.specs.Show.{render, show, trait_pieces, fn_pieces, show_impl_type};
 ghost use Rattle.types.specs.Impls.{impl_means};
 ghost use Rattle.chart.specs.Env.{env_by};
-ghost use Rattle.layout.specs.Meaning.{kind_means, Linked};
-ghost use Rattle.layout.specs.Lent.{nodes_by};
+ghost use Rattle.layout.specs.Meaning.{kind_means};
+ghost use Rattle.layout.specs.Lent.{nodes_by, LinkedIn};
 ghost use Rattle.store.specs.Entries.{types_in};
 ghost use Rattle.walk.specs.Asks.{StandsIn};
 ghost use Rattle.append.specs.Appended.{Puts};
@@ -65,12 +65,12 @@ fn show_fn(
 
 // A type's kind where it is a Tuple, with the type's own inversion.
 #[tactic(auto, using(crate::proofs::Laws::tuple_none))]
-fn tuple_of(ws: &[u32], n: u32, t: Type) -> Option<(Inverted, Kind)>
-    requires { Linked ws.now n }
-    ensures { TupleOf ws.now n t.0 result }
+fn tuple_of(nodes: &Nodes<'_>, t: Type) -> Option<(Inverted, Kind)>
+    requires { LinkedIn nodes.now }
+    ensures { TupleOf nodes.now.words.now nodes.now.made t.0 result }
 {
-    let root = roots::find(ws, n, t);
-    let (inv, kind) = layout::held_at(ws, n, root.idx())?;
+    let root = roots::find_in(nodes, t);
+    let (inv, kind) = nodes.held(root.idx())?;
     if kind.code == TUPLE {
         Some((inv ^ root.inv(), kind))
     } else {
@@ -79,17 +79,17 @@ fn tuple_of(ws: &[u32], n: u32, t: Type) -> Option<(Inverted, Kind)>
 }
 
 // An impl type: the fn form, or a trait's name and its list; of an error two question marks.
-pub fn show_impl_type(env: &Env<'_>, nodes: &Nodes<'_>, out: &mut Out<'_>, a: Impl, xs: &[u32])
+pub fn show_impl_type(env: &Env<'_>, nodes: &Nodes<'_>, out: &mut Out<'_>, a: Impl<'_>)
     requires { StandsIn nodes.now }
-    ensures { Puts out.old out.new (show_impl_type (env_by env.now) (nodes_by nodes.now) (impl_means a xs.now)) }
+    ensures { Puts out.old out.new (show_impl_type (env_by env.now) (nodes_by nodes.now) (impl_means a.entry)) }
 {
-    let Impl::Trait(i) = a else {
+    let Impl::Trait(i, xs) = a else {
         put(out, b"??");
         return;
     };
     if let [receiver, params, ret] = xs
         && i == env.beside.fn_trait
-        && let Some((inv, kind)) = tuple_of(nodes.words, nodes.made, Type(*params))
+        && let Some((inv, kind)) = tuple_of(nodes, Type(*params))
     {
         show_fn(env, nodes, out, Type(*receiver), inv, kind, Type(*ret));
     } else {

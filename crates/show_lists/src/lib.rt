@@ -36,7 +36,7 @@ pub fn show_params(env: &Env<'_>, nodes: &Nodes<'_>, out: &mut Out<'_>, i: Inver
 {
     for j in 0..k.count {
         put_comma(out, j);
-        let kid = layout::child_of(nodes.kids, k.first, j).ty;
+        let kid = nodes.child(k.first, j).ty;
         show_all(env, nodes, out, kid.invert_if(i));
     }
 }

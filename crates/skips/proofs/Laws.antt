@@ -9,6 +9,8 @@ use native.Mathlib.Omega.{arith}
 use native.Mathlib.Decide.{ℕ_discrete, dec_lt}
 use lib.ListN.{length, get_or, set}
 use lib.Seq.{get_or-set_same, get_or-set_other, set_out}
+use Rattle.std.specs.Option.{unwrap_or}
+use Rattle.std.specs.Prelude.{MatchOption, Option, None, Some, ⊤}
 use Rattle.scope.specs.Types.{ty_of}
 use Rattle.layout.specs.Words.{slot_at}
 use Rattle.layout.specs.Meaning.{slot_means}
@@ -16,7 +18,7 @@ use Rattle.layout.specs.declared.Slot.{Slot}
 use Rattle.skips.specs.Table.{BYTES, marked, slot_seen, Skips, Passed, Scanned, Filled, Stretched}
 
 -- the node of the child in a slot
-slot_seen_lem : (ks seen : List ℕ) (s : ℕ) {j : ℕ} {b : Bool} (d : Slot) → slot_means d ≡ slot_at ks s → j ≡ (ty_of d.ty.0).idx
+pub slot_seen_lem : (ks seen : List ℕ) (s : ℕ) {j : ℕ} {b : Bool} (d : Slot) → slot_means d ≡ slot_at ks s → j ≡ (ty_of d.ty.0).idx
     → b ≡ marked seen j → b ≡ true → slot_seen ks seen s ≡ true
 slot_seen_lem ks seen s d q o m z = ap (marked seen) (sym (o ∙ ap (λ x. (ty_of x.type).idx) q)) ∙ (sym m ∙ z)
 
@@ -50,6 +52,14 @@ module _ {skip : List ℕ} {s a b : ℕ} (ea : a ≡ get_or skip s 0) (eb : b �
     }
 
 -- what follows a slot
+
+-- the first slot that is not passed over, if there is one
+pub scanned_found : {ks seen : List ℕ} {s end : ℕ} (r : Option ℕ) → s ≤ end
+    → MatchOption r ((k : ℕ) → s ≤ k → k < end → slot_seen ks seen k ≡ true)
+    (λ i. (s ≤ i) × (i < end) × ⊤ × ((k : ℕ) → s ≤ k → k < i → slot_seen ks seen k ≡ true))
+    → Scanned ks seen s end (unwrap_or r end)
+scanned_found None l h = record { from = l; below = omega arith; over = h }
+scanned_found (Some i) l h = record { from = h.0; below = omega (arith, h.1); over = h.3 }
 
 module _ {ks seen skip : List ℕ} {s end r : ℕ} (d : Slot) (w : Scanned ks seen (s + 1) end r) where
   pub stretched_bare : Stretched ks seen skip skip s end r

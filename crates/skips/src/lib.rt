@@ -8,13 +8,13 @@ ghost use Rattle.skips.specs.Table.{SLOTS, BYTES, Passed, Scanned, Filled, Stret
 const BYTES: usize = 256;
 
 // A byte for each child slot says over how many, from it on, a walk passes: the roots of their children are marked. Past the end it is none.
+// Kept (1): 0 is no slot to pass over, and a number of slots like any other; an Option would be taken apart to be added.
 fn skip_at(skip: &[u8], s: usize) -> usize
     ensures { (result ≡ get_or skip.now s 0) × (result < BYTES) }
 {
     skip.get(s).map_or(0, |far| usize::from(*far))
 }
 
-// Kept (1): 0 is no slot to pass over, and a number of slots like any other; an Option would be taken apart to be added.
 // How many slots from s on are passed over: those that s tells of, and those that the next one does. Both become one where a byte holds them, so that
 // runs of children that overlap are gone through once.
 pub fn pass(skip: &mut [u8], s: usize) -> usize
@@ -37,13 +37,11 @@ fn scan(ks: &[u32], seen: &[u8], skip: &[u8], s: usize, end: usize) -> usize
     requires { s ≤ end }
     ensures { Scanned ks.now seen.now s end result }
 {
-    for t in s..end {
-        let kid = layout::child_at(ks, t).ty.idx();
-        if !roots::is_marked(seen, kid) || 0 < skip_at(skip, t) {
-            return t;
-        }
-    }
-    end
+    (s..end)
+        .find(|&t| {
+            !roots::is_marked(seen, layout::child_at(ks, t).ty.idx()) || 0 < skip_at(skip, t)
+        })
+        .unwrap_or(end)
 }
 
 // Each slot from s up to t tells how far t is, where a byte holds it.

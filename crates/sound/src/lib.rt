@@ -29,14 +29,16 @@ fn readable(h: &[u32], ws: &[u32], ks: &[u32]) -> bool
 pub fn store_sound(env: &Env<'_>, h: &[u32], ws: &[u32], ks: &[u32]) -> bool
     ensures { result ≡ sound (chart_lent env.now) (lent_of h.now ws.now ks.now) }
 {
+    if !readable(h, ws, ks) {
+        return false;
+    }
     let x = layout::read_header(h);
     let nodes = Nodes {
         words: ws,
         kids: ks,
         made: x.nodes,
     };
-    readable(h, ws, ks)
-        && node_sound::nodes_sound(&nodes, x.children, env)
+    node_sound::nodes_sound(&nodes, x.children, env)
         && kind_sound::remembered_inside(x.error, x.nodes)
         && kind_sound::remembered_inside(x.nil, x.nodes)
         && shape::shape_ok(&nodes)

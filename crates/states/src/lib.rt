@@ -13,17 +13,17 @@ ghost use Rattle.book.specs.Places.{PlaceLies};
 ghost use Rattle.states.specs.Ready.{holding, with_place, store_at, NameReady, ReturnReady, HoldReady, HeldPlace};
 ghost use Rattle.states.specs.Free.{freed_at, FreeTo, DropReady, ResetReady, ResetLeft};
 
-use book::{NAME_WORDS, NODES_FROM};
+use book::{NAME_WORDS, NODES_FROM, Room};
 use scope::MAX_STATES;
 
 // A state in the words of a place, under a name.
-fn hold(h: &[u32], ws: &[u32], ks: &[u32], ps: &mut [u32], nodes: u32, children: u32, name: &[u8])
-    requires { HoldReady h.now ws.now ks.now ps.old nodes children name.now }
-    ensures { HeldPlace ps.new nodes children name.now (store_in h.now ws.now ks.now) }
+fn hold(h: &[u32], ws: &[u32], ks: &[u32], ps: &mut [u32], room: Room, name: &[u8])
+    requires { HoldReady h.now ws.now ks.now ps.old room.nodes room.children name.now }
+    ensures { HeldPlace ps.new room.nodes room.children name.now (store_in h.now ws.now ks.now) }
 {
     let x = layout::read_header(h);
-    let a = book::kids_from(nodes);
-    let e = book::place_words(nodes, children);
+    let a = room.kids_from();
+    let e = room.place_words();
     book::put_name(ps, name);
     keep::keep_head(h, &mut ps[NAME_WORDS..NODES_FROM]);
     keep::copy_words(ws, &mut ps[NODES_FROM..a], layout::node_words(x.nodes));
@@ -37,9 +37,9 @@ pub fn name_state(h: &[u32], ws: &[u32], ks: &[u32], bs: &mut [u32], i: usize, n
         (with_place (book_in bs.old) i (holding name.now (store_in h.now ws.now ks.now))) }
 {
     let room = book::room_of(bs);
-    let a = book::place_from(room.nodes, room.children, i);
-    let e = book::place_from(room.nodes, room.children, i + 1);
-    hold(h, ws, ks, &mut bs[a..e], room.nodes, room.children, name);
+    let a = room.place_from(i);
+    let e = room.place_from(i + 1);
+    hold(h, ws, ks, &mut bs[a..e], room, name);
 }
 
 // The state of place i, put back; the report count stays.
@@ -49,24 +49,24 @@ pub fn return_to(h: &mut [u32], ws: &mut [u32], ks: &mut [u32], bs: &[u32], i: u
         (keep_reports (store_in h.old ws.old ks.old) (store_at (book_in bs.now) i)) }
 {
     let room = book::room_of(bs);
-    let ps = book::place(bs, room.nodes, room.children, i);
+    let ps = book::place(bs, room, i);
     keep::put_back(
         h,
         ws,
         ks,
         book::head_of(ps),
-        book::nodes_of(ps, room.nodes),
-        book::kids_of(ps, room.nodes, room.children),
+        book::nodes_of(ps, room),
+        book::kids_of(ps, room),
     );
 }
 
 // Place i becomes free.
-fn free_at(bs: &mut [u32], nodes: u32, children: u32, i: usize)
-    requires { PlaceLies bs.old nodes children i }
-    ensures { bs.new ≡ freed_at bs.old nodes children i }
+fn free_at(bs: &mut [u32], room: Room, i: usize)
+    requires { PlaceLies bs.old room.nodes room.children i }
+    ensures { bs.new ≡ freed_at bs.old room.nodes room.children i }
 {
-    let a = book::place_from(nodes, children, i);
-    let e = book::place_from(nodes, children, i + 1);
+    let a = room.place_from(i);
+    let e = room.place_from(i + 1);
     book::free(&mut bs[a..e]);
 }
 
@@ -76,15 +76,15 @@ pub fn drop_name(bs: &mut [u32], i: usize)
     ensures { BookBecame bs.old bs.new (with_place (book_in bs.old) i none) }
 {
     let room = book::room_of(bs);
-    free_at(bs, room.nodes, room.children, i);
+    free_at(bs, room, i);
 }
 
-fn free_all(bs: &mut [u32], nodes: u32, children: u32)
-    requires { book_words nodes children ≤ length bs.old }
-    ensures { FreeTo bs.old bs.new nodes children MAX_STATES }
+fn free_all(bs: &mut [u32], room: Room)
+    requires { book_words room.nodes room.children ≤ length bs.old }
+    ensures { FreeTo bs.old bs.new room.nodes room.children MAX_STATES }
 {
     for i in 0..MAX_STATES {
-        free_at(bs, nodes, children, i);
+        free_at(bs, room, i);
     }
 }
 
@@ -95,7 +95,7 @@ pub fn open_names(bs: &mut [u32], nodes: u32, children: u32)
 {
     bs[0] = nodes;
     bs[1] = children;
-    free_all(bs, nodes, children);
+    free_all(bs, Room { nodes, children });
 }
 
 // "`reset` frees all" and "drops all names"; the report count "outlives `reset`".
@@ -106,5 +106,5 @@ pub fn reset(h: &mut [u32], ws: &mut [u32], ks: &mut [u32], bs: &mut [u32])
 {
     let room = book::room_of(bs);
     make::reset(h, ws, ks);
-    free_all(bs, room.nodes, room.children);
+    free_all(bs, room);
 }

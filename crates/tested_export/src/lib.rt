@@ -18,7 +18,8 @@ use needs::Needs;
 use refusals::Refusal;
 
 // The first of refusals 10 and 11 that stands where these are the nodes and children that a fresh store has room for.
-// Kept (2): `refusals::room` reads what is made and the room in a header, and the fresh store has none before all tests are passed.
+// Kept (2): `refusals::room` reads a header, and the fresh store has none before all tests are passed. One function for both would take six numbers, two of
+// them zeros here, in place of these three lines.
 fn room(nodes: u32, children: u32, wanted: Needs) -> Result<(), Refusal>
     ensures { first_broken (fresh_tests nodes children (sum_of wanted)) ≡ told result }
 {

@@ -1,6 +1,9 @@
 #![tactic(auto)]
 // The calls on a tested store that look at its header and its nodes alone, with no more lent to them: `new_var`, `error`, `nil`, `find`, `find_mut`. Each tests what
 // its form with all of the store tests, and answers the same, with every chart, texts and children's words with which the words pass the tests.
+//
+// Kept (2): the forms with all of the store, in `call_make` and `call_find`, are no calls of these: each is a test and a core function, two or three lines. What these
+// promise is said for every such chart and words at once, by the laws that those rest on, so that the order of the crates is this.
 ghost use Rattle.std.specs.Prelude.{◌≡◌, List, ℕ};
 ghost use Rattle.scope.specs.Types.{ty_of};
 ghost use Rattle.scope.specs.Calls.{first_broken, room_tests, nodes_for, new_var_call, error_call, nil_call, find_call, find_mut_call};

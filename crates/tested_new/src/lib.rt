@@ -1,10 +1,9 @@
 #![tactic(auto)]
 // `new`, `new_struct` and `new_union` on a tested store: each tests its arguments and refuses, or makes the node that document 01 says. Refusals come in the
 // order 3, 4, 5, 10, 11. A list may be of any length: 3 is tested over all of it, and only then that it is no wider than 255.
-ghost use Rattle.std.specs.Prelude.{◌≡◌, ◌≤◌};
+ghost use Rattle.std.specs.Prelude.{◌≤◌};
 ghost use Rattle.scope.specs.Limits.{MAX_WIDTH};
-ghost use Rattle.scope.specs.Kinds.{NO_NAMES, row_of};
-ghost use Rattle.scope.specs.Calls.{over, new_call, new_struct_call, new_union_call};
+ghost use Rattle.scope.specs.Calls.{new_call, new_struct_call, new_union_call};
 ghost use Rattle.chart.specs.Env.{chart_lent};
 ghost use Rattle.layout.specs.Words.{store_in, lent_of};
 ghost use Rattle.store.specs.Holds.{Ready};
@@ -12,18 +11,14 @@ ghost use Rattle.store.specs.Entries.{entry_count, types_in};
 ghost use Rattle.sound.specs.Tests.{env_lent};
 ghost use Rattle.promise.specs.Promise.{Promised, type_reply, Tested};
 ghost use Rattle.lent_kind.specs.Lent.{given};
-ghost use Rattle.tested_new.specs.Inside.{inside_call};
+ghost use Rattle.tested_over.specs.Inside.{inside_call};
 
 use chart::Env;
 use kinds::{STRUCT, UNION};
 use layout::CHILD_WORDS;
-use lent_kind::{KindArgs, flagged, plain_args, put_types, test_kind, test_list};
+use lent_kind::{KindArgs, flagged, test_kind, test_list};
 use refusals::Refusal;
-use scope::MAX_WIDTH;
 use types::Type;
-
-// The words of the entries of the widest kind.
-const LIST_WORDS: usize = MAX_WIDTH * CHILD_WORDS;
 
 // What is left of `new` once 3 is passed.
 fn make_inside(
@@ -67,33 +62,6 @@ pub fn new(
     make_inside(env, h, ws, ks, k, entries)
 }
 
-// A kind over a definition, from a plain list of types.
-fn new_over(
-    env: &Env<'_>,
-    h: &mut [u32],
-    ws: &mut [u32],
-    ks: &mut [u32],
-    code: u32,
-    number: u32,
-    types: &[u32],
-) -> Result<Type, Refusal>
-    requires tested { Tested (env_lent env.now) h.old ws.old ks.old }
-    requires code_value { (row_of code).names ≡ NO_NAMES }
-    ensures { Promised
-        (new_call (env_lent env.now) (lent_of h.old ws.old ks.old)
-        (over code number (types_in types.now)))
-        (type_reply result) h.old ws.old ks.old h.new ws.new ks.new }
-{
-    let x = layout::read_header(h);
-    let inside = refusals::types_inside(types, x.nodes);
-    test_list(inside, types.len())?;
-    let mut es = [0u32; LIST_WORDS];
-    put_types(&mut es, types);
-    let end = types.len() * CHILD_WORDS;
-    let k = plain_args(code, number);
-    make_inside(env, h, ws, ks, k, &es[..end])
-}
-
 // `new_struct`: a Struct over a definition.
 pub fn new_struct(
     env: &Env<'_>,
@@ -109,7 +77,7 @@ pub fn new_struct(
         number (types_in types.now))
         (type_reply result) h.old ws.old ks.old h.new ws.new ks.new }
 {
-    new_over(env, h, ws, ks, STRUCT, number, types)
+    tested_over::new_over(env.chart, h, ws, ks, STRUCT, number, types)
 }
 
 // `new_union`: a Union over a definition.
@@ -127,5 +95,5 @@ pub fn new_union(
         number (types_in types.now))
         (type_reply result) h.old ws.old ks.old h.new ws.new ks.new }
 {
-    new_over(env, h, ws, ks, UNION, number, types)
+    tested_over::new_over(env.chart, h, ws, ks, UNION, number, types)
 }

@@ -40,8 +40,8 @@ use Rattle.promise.specs.Promise.{Reply, value, refusal, Promised}
 use Rattle.lent_kind.specs.declared.KindArgs.{KindArgs}
 use Rattle.lent_kind.specs.Lent.{with_flag, given, plain_args, kind_tests, list_tests}
 use Rattle.call_make.proofs.tested.RoomLaws.{lent_within}
-use Rattle.tested_new.specs.Inside.{inside_call}
-use Rattle.tested_new.proofs.Laws.{inside_refused, inside_full, inside_ready, inside_made, new_listed, new_promised}
+use Rattle.tested_over.specs.Inside.{inside_call}
+use Rattle.tested_over.proofs.CallLaws.{inside_refused, inside_full, inside_ready, inside_made, new_listed, new_promised}
 use Rattle.sound.specs.Tests.{env_in}
 use Rattle.tested_over.specs.Over.{entries_of, PassedBy, OverPromised}
 use Rattle.tested_over.proofs.EntryLaws.{entries_count, entries_given}

@@ -15,7 +15,7 @@ ghost use Rattle.make.specs.Given.{KindReady, Put, kind_given};
 ghost use Rattle.refusals.specs.Codes.{told};
 ghost use Rattle.promise.specs.Promise.{Promised, type_reply};
 ghost use Rattle.lent_kind.specs.Lent.{given, plain_args, kind_tests};
-ghost use Rattle.tested_new.specs.Inside.{inside_call};
+ghost use Rattle.tested_over.specs.Inside.{inside_call};
 ghost use Rattle.tested_over.specs.Over.{entries_of, PassedBy, OverPromised};
 
 use kinds::{ERROR, Names};
@@ -27,7 +27,6 @@ use refusals::Refusal;
 use types::{Inverted, Type};
 
 // The listed types without names, behind the `first` children made.
-// Kept (2): `lent_kind::put_types` puts them at the front, and promises nothing of the slots around them.
 fn put_listed(ks: &mut [u32], first: u32, types: &[u32])
     requires { child_words (first + length types.now) ≤ length ks.old }
     ensures { Put (entries_of types.now) first (length types.now) ks.old ks.new }

@@ -54,8 +54,8 @@ contracts = record {
   unify_types_recalling = record { free = λ κs a. tt; is = λ κs a r x p. ran.unify_types (arg2 a).now (arg3 a).now (arg4 a) r p };
   unify_objects = record { free = λ κs a. tt; is = λ κs a r x p. ran.unify_objects (arg1 a).now (arg2 a).now (arg3 a) r p };
   unify_objects_recalling = record { free = λ κs a. tt; is = λ κs a r x p. ran.unify_objects (arg2 a).now (arg3 a).now (arg4 a) r p };
-  unify_impl_type = record { free = λ κs a. tt; is = λ κs a r x p. ran.unify_impl_type (arg1 a) (arg2 a).now (arg3 a) (arg4 a).now r p };
-  unify_impl_type_recalling = record { free = λ κs a. tt; is = λ κs a r x p. ran.unify_impl_type (arg2 a) (arg3 a).now (arg4 a) (arg5 a).now r p };
+  unify_impl_type = record { free = λ κs a. tt; is = λ κs a r x p. ran.unify_impl_type (arg1 a) (arg2 a) r p };
+  unify_impl_type_recalling = record { free = λ κs a. tt; is = λ κs a r x p. ran.unify_impl_type (arg2 a) (arg3 a) r p };
   unify_fn_sig = record { free = λ κs a. tt; is = λ κs a r x p. ran.unify_fn_sig (arg1 a).now (arg2 a) (arg3 a).now (arg4 a) r p };
   unify_fn_sig_recalling = record { free = λ κs a. tt; is = λ κs a r x p. ran.unify_fn_sig (arg2 a).now (arg3 a) (arg4 a).now (arg5 a) r p };
   finish_inference = record { free = λ κs a. tt; is = λ κs a r x p. ran.finish_inference r p };
@@ -65,11 +65,11 @@ contracts = record {
   self_inverse = record { free = λ κs a. tt; is = λ κs a r x p. ran.self_inverse (arg1 a) r p };
   is_nil = record { free = λ κs a. tt; is = λ κs a r x p. ran.is_nil (arg1 a) r p };
   get_mod = record { free = λ κs a. tt; is = λ κs a r x p. ran.get_mod (arg1 a) r p };
-  approx_eq = record { free = λ κs a. tt; is = λ κs a r x p. ran.approx_eq (arg1 a) (arg2 a).now (arg3 a) (arg4 a).now r p };
+  approx_eq = record { free = λ κs a. tt; is = λ κs a r x p. ran.approx_eq (arg1 a) (arg2 a) r p };
   show = record { free = λ κs a. tt; is = λ κs a r x p. ran.show (arg1 a) (arg2 a).now (arg2 x).now r p };
-  show_impl_type = record { free = λ κs a. tt; is = λ κs a r x p. ran.show_impl_type (arg1 a) (arg2 a).now (arg3 a).now (arg3 x).now r p };
+  show_impl_type = record { free = λ κs a. tt; is = λ κs a r x p. ran.show_impl_type (arg1 a) (arg2 a).now (arg2 x).now r p };
   show_part = record { free = λ κs a. tt; is = λ κs a r x p. ran.show_part (arg1 a) (arg2 a).now r.0.now r.1 p.0 };
-  show_impl_type_part = record { free = λ κs a. tt; is = λ κs a r x p. ran.show_impl_type_part (arg1 a) (arg2 a).now (arg3 a).now r.0.now r.1 p.0 };
+  show_impl_type_part = record { free = λ κs a. tt; is = λ κs a r x p. ran.show_impl_type_part (arg1 a) (arg2 a).now r.0.now r.1 p.0 };
   opens_names = record {
     free = λ κs a. tt;
     is = λ κs a r x p q.

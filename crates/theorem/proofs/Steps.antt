@@ -50,7 +50,7 @@ stepped f h (ran.export n c to to' ts out out' r p) =
     told says.exported (λ l. export_call (env f) l n c (roomy n c to) (types_in ts) (length out)) h (export_reply r (take (length ts) out') (held to')) p.outcome
 stepped f h (ran.unify_types xs ys i r p) = did says.answer (λ l. unify_types_call (env f) l (types_in xs) (types_in ys) i.0) h (unify_reply r) p
 stepped f h (ran.unify_objects xs ys i r p) = did says.answer (λ l. unify_objects_call (env f) l (entries_in xs) (entries_in ys) i.0) h (unify_reply r) p
-stepped f h (ran.unify_impl_type a xs b ys r p) = did says.answer (λ l. unify_impl_type_call (env f) l (impl_means a xs) (impl_means b ys)) h (unify_reply r) p
+stepped f h (ran.unify_impl_type a b r p) = did says.answer (λ l. unify_impl_type_call (env f) l (impl_means a) (impl_means b)) h (unify_reply r) p
 stepped f h (ran.unify_fn_sig xs t ys q r p) =
     did says.answer (λ l. unify_fn_sig_call (env f) l (types_in xs) (ty_of t.0) (types_in ys) (ty_of q.0)) h (unify_reply r) p
 stepped f h (ran.finish_inference r p) = did (λ u. says.nothing) (finish_inference_call (env f)) h (done_reply r) p
@@ -60,10 +60,10 @@ stepped f h (ran.self_inverse_param t b r p) = told says.flag (λ l. self_invers
 stepped f h (ran.self_inverse t r p) = told says.flag (λ l. self_inverse_call (env f) l (ty_of t.0) false) h (bool_reply r) p
 stepped f h (ran.is_nil t r p) = told says.flag (λ l. is_nil_call (env f) l (ty_of t.0)) h (bool_reply r) p
 stepped f h (ran.get_mod t r p) = told says.mod_is (λ l. get_mod_call (env f) l (ty_of t.0)) h (mod_reply r) p
-stepped f h (ran.approx_eq a xs b ys r p) = did says.flag (λ l. approx_eq_call (env f) l (impl_means a xs) (impl_means b ys)) h (bool_reply r) p
+stepped f h (ran.approx_eq a b r p) = did says.flag (λ l. approx_eq_call (env f) l (impl_means a) (impl_means b)) h (bool_reply r) p
 stepped f h (ran.show {m} t bs bs' r p) =
     shown (λ l. show_call (env f) l (ty_of t.0) bs) h (show_tells (env f) (lent m) (ty_of t.0) bs) (count_reply r) bs' p
 stepped f h (ran.show_part t bs part n p) = parted (λ l. show_call (env f) l (ty_of t.0) bs) h n part p
-stepped f h (ran.show_impl_type {m} a xs bs bs' r p) =
-    shown (λ l. show_impl_type_call (env f) l (impl_means a xs) bs) h (impl_tells (env f) (lent m) (impl_means a xs) bs) (count_reply r) bs' p
-stepped f h (ran.show_impl_type_part a xs bs part n p) = parted (λ l. show_impl_type_call (env f) l (impl_means a xs) bs) h n part p
+stepped f h (ran.show_impl_type {m} a bs bs' r p) =
+    shown (λ l. show_impl_type_call (env f) l (impl_means a) bs) h (impl_tells (env f) (lent m) (impl_means a) bs) (count_reply r) bs' p
+stepped f h (ran.show_impl_type_part a bs part n p) = parted (λ l. show_impl_type_call (env f) l (impl_means a) bs) h n part p

@@ -190,11 +190,11 @@ pub record Contracts : Type 0 where
       (λ κs a r x. RanOn a (nodes_in a) (call.later (call.unify_objects (entries_in (arg2 a).now) (entries_in (arg3 a).now) (arg4 a).0)) (replied says.answer (unify_reply r)) (nodes_left a x))
   pub unify_impl_type : Allows call_impl.unify_impl_type.Kinds.ps call_impl.unify_impl_type.Kinds.r
       call_impl.unify_impl_type.Reads.Asked call_impl.unify_impl_type.Reads.Learnt
-      (λ κs a r x. RanOn a (nodes_in a) (call.later (call.unify_impl_type (impl_means (arg1 a) (arg2 a).now) (impl_means (arg3 a) (arg4 a).now)))
+      (λ κs a r x. RanOn a (nodes_in a) (call.later (call.unify_impl_type (impl_means (arg1 a)) (impl_means (arg2 a))))
       (replied says.answer (unify_reply r)) (nodes_left a x))
   pub unify_impl_type_recalling : Allows call_impl.unify_impl_type_recalling.Kinds.ps call_impl.unify_impl_type_recalling.Kinds.r
       call_impl.unify_impl_type_recalling.Reads.Asked call_impl.unify_impl_type_recalling.Reads.Learnt
-      (λ κs a r x. RanOn a (nodes_in a) (call.later (call.unify_impl_type (impl_means (arg2 a) (arg3 a).now) (impl_means (arg4 a) (arg5 a).now)))
+      (λ κs a r x. RanOn a (nodes_in a) (call.later (call.unify_impl_type (impl_means (arg2 a)) (impl_means (arg3 a))))
       (replied says.answer (unify_reply r)) (nodes_left a x))
   pub unify_fn_sig : Allows call_unify_lists.unify_fn_sig.Kinds.ps call_unify_lists.unify_fn_sig.Kinds.r call_unify_lists.unify_fn_sig.Reads.Asked call_unify_lists.unify_fn_sig.Reads.Learnt
       (λ κs a r x. RanOn a (nodes_in a) (call.later (call.unify_fn_sig (types_in (arg1 a).now) (ty_of (arg2 a).0) (types_in (arg3 a).now) (ty_of (arg4 a).0)))
@@ -219,17 +219,17 @@ pub record Contracts : Type 0 where
   pub get_mod : Allows call_ask.get_mod.Kinds.ps call_ask.get_mod.Kinds.r call_ask.get_mod.Reads.Asked call_ask.get_mod.Reads.Learnt
       (λ κs a r x. RanOn a (words_read a) (call.later (call.get_mod (ty_of (arg1 a).0))) (replied says.mod_is (mod_reply r)) (words_read a))
   pub approx_eq : Allows call_impl.approx_eq.Kinds.ps call_impl.approx_eq.Kinds.r call_impl.approx_eq.Reads.Asked call_impl.approx_eq.Reads.Learnt
-      (λ κs a r x. RanOn a (words_read a) (call.later (call.approx_eq (impl_means (arg1 a) (arg2 a).now) (impl_means (arg3 a) (arg4 a).now))) (replied says.flag (bool_reply r)) (words_read a))
+      (λ κs a r x. RanOn a (words_read a) (call.later (call.approx_eq (impl_means (arg1 a)) (impl_means (arg2 a)))) (replied says.flag (bool_reply r)) (words_read a))
   pub show : Allows call_show.show.Kinds.ps call_show.show.Kinds.r call_show.show.Reads.Asked call_show.show.Reads.Learnt
       (λ κs a r x. RanOn a (words_read a) (call.later (call.show (ty_of (arg1 a).0) (arg2 a).now)) (replied (λ n. says.text (take n (arg2 x).now)) (count_reply r)) (words_read a))
   pub show_impl_type : Allows call_show.show_impl_type.Kinds.ps call_show.show_impl_type.Kinds.r call_show.show_impl_type.Reads.Asked call_show.show_impl_type.Reads.Learnt
-      (λ κs a r x. RanOn a (words_read a) (call.later (call.show_impl_type (impl_means (arg1 a) (arg2 a).now) (arg3 a).now))
-      (replied (λ n. says.text (take n (arg3 x).now)) (count_reply r)) (words_read a))
+      (λ κs a r x. RanOn a (words_read a) (call.later (call.show_impl_type (impl_means (arg1 a)) (arg2 a).now))
+      (replied (λ n. says.text (take n (arg2 x).now)) (count_reply r)) (words_read a))
   pub show_part : Allows call_show.show_part.Kinds.ps call_show.show_part.Kinds.r call_show.show_part.Reads.Asked call_show.show_part.Reads.Learnt
       (λ κs a r x. RanOn a (words_read a) (call.later (call.show (ty_of (arg1 a).0) (arg2 a).now)) (replied (λ n. says.text r.0.now) (part_reply r.1 r.0.now)) (words_read a))
   pub show_impl_type_part : Allows call_show.show_impl_type_part.Kinds.ps call_show.show_impl_type_part.Kinds.r
       call_show.show_impl_type_part.Reads.Asked call_show.show_impl_type_part.Reads.Learnt
-      (λ κs a r x. RanOn a (words_read a) (call.later (call.show_impl_type (impl_means (arg1 a) (arg2 a).now) (arg3 a).now))
+      (λ κs a r x. RanOn a (words_read a) (call.later (call.show_impl_type (impl_means (arg1 a)) (arg2 a).now))
       (replied (λ n. says.text r.0.now) (part_reply r.1 r.0.now)) (words_read a))
   -- the names buffer that `open_names` was lent, when it answered `Ok`
   pub opens_names : Allows call_states.open_names.Kinds.ps call_states.open_names.Kinds.r call_states.open_names.Reads.Asked call_states.open_names.Reads.Learnt

@@ -97,9 +97,9 @@ pub data Ran (f : Fixed) : Memory → Call → Reply → Memory → Type 0 where
   unify_objects : {m : Memory} {ws : List ℕ} (xs ys : List ℕ) (inv : Inverted) (r : CodeAnswer UnifyResult)
       → Did (unify_objects_call (env f) (lent m) (entries_in xs) (entries_in ys) inv.0) (unify_reply r) m (nodes_now m ws)
       → Ran f m (call.later (call.unify_objects (entries_in xs) (entries_in ys) inv.0)) (replied says.answer (unify_reply r)) (nodes_now m ws)
-  unify_impl_type : {m : Memory} {ws : List ℕ} (a : Impl) (xs : List ℕ) (b : Impl) (ys : List ℕ) (r : CodeAnswer UnifyResult)
-      → Did (unify_impl_type_call (env f) (lent m) (impl_means a xs) (impl_means b ys)) (unify_reply r) m (nodes_now m ws)
-      → Ran f m (call.later (call.unify_impl_type (impl_means a xs) (impl_means b ys))) (replied says.answer (unify_reply r)) (nodes_now m ws)
+  unify_impl_type : {m : Memory} {ws : List ℕ} (a b : Impl) (r : CodeAnswer UnifyResult)
+      → Did (unify_impl_type_call (env f) (lent m) (impl_means a) (impl_means b)) (unify_reply r) m (nodes_now m ws)
+      → Ran f m (call.later (call.unify_impl_type (impl_means a) (impl_means b))) (replied says.answer (unify_reply r)) (nodes_now m ws)
   unify_fn_sig : {m : Memory} {ws : List ℕ} (xs : List ℕ) (p : «Type») (ys : List ℕ) (q : «Type») (r : CodeAnswer UnifyResult)
       → Did (unify_fn_sig_call (env f) (lent m) (types_in xs) (ty_of p.0) (types_in ys) (ty_of q.0)) (unify_reply r) m (nodes_now m ws)
       → Ran f m (call.later (call.unify_fn_sig (types_in xs) (ty_of p.0) (types_in ys) (ty_of q.0))) (replied says.answer (unify_reply r)) (nodes_now m ws)
@@ -118,18 +118,18 @@ pub data Ran (f : Fixed) : Memory → Call → Reply → Memory → Type 0 where
       → Ran f m (call.later (call.is_nil (ty_of t.0))) (replied says.flag (bool_reply r)) m
   get_mod : {m : Memory} (t : «Type») (r : CodeAnswer Mod) → Told (get_mod_call (env f) (lent m) (ty_of t.0)) (mod_reply r) m
       → Ran f m (call.later (call.get_mod (ty_of t.0))) (replied says.mod_is (mod_reply r)) m
-  approx_eq : {m : Memory} (a : Impl) (xs : List ℕ) (b : Impl) (ys : List ℕ) (r : CodeAnswer Bool)
-      → Did (approx_eq_call (env f) (lent m) (impl_means a xs) (impl_means b ys)) (bool_reply r) m m
-      → Ran f m (call.later (call.approx_eq (impl_means a xs) (impl_means b ys))) (replied says.flag (bool_reply r)) m
+  approx_eq : {m : Memory} (a b : Impl) (r : CodeAnswer Bool)
+      → Did (approx_eq_call (env f) (lent m) (impl_means a) (impl_means b)) (bool_reply r) m m
+      → Ran f m (call.later (call.approx_eq (impl_means a) (impl_means b))) (replied says.flag (bool_reply r)) m
   show : {m : Memory} (t : «Type») (buffer buffer' : List ℕ) (r : CodeAnswer ℕ)
       → PrintPromised (show_call (env f) (lent m) (ty_of t.0) buffer) (count_reply r) (held m) buffer'
       → Ran f m (call.later (call.show (ty_of t.0) buffer)) (replied (λ n. says.text (take n buffer')) (count_reply r)) m
   show_part : {m : Memory} (t : «Type») (buffer part : List ℕ) (r : option.Option Refusal)
       → PartPromised (show_call (env f) (lent m) (ty_of t.0) buffer) r part (held m)
       → Ran f m (call.later (call.show (ty_of t.0) buffer)) (replied (λ n. says.text part) (part_reply r part)) m
-  show_impl_type : {m : Memory} (a : Impl) (xs buffer buffer' : List ℕ) (r : CodeAnswer ℕ)
-      → PrintPromised (show_impl_type_call (env f) (lent m) (impl_means a xs) buffer) (count_reply r) (held m) buffer'
-      → Ran f m (call.later (call.show_impl_type (impl_means a xs) buffer)) (replied (λ n. says.text (take n buffer')) (count_reply r)) m
-  show_impl_type_part : {m : Memory} (a : Impl) (xs buffer part : List ℕ) (r : option.Option Refusal)
-      → PartPromised (show_impl_type_call (env f) (lent m) (impl_means a xs) buffer) r part (held m)
-      → Ran f m (call.later (call.show_impl_type (impl_means a xs) buffer)) (replied (λ n. says.text part) (part_reply r part)) m
+  show_impl_type : {m : Memory} (a : Impl) (buffer buffer' : List ℕ) (r : CodeAnswer ℕ)
+      → PrintPromised (show_impl_type_call (env f) (lent m) (impl_means a) buffer) (count_reply r) (held m) buffer'
+      → Ran f m (call.later (call.show_impl_type (impl_means a) buffer)) (replied (λ n. says.text (take n buffer')) (count_reply r)) m
+  show_impl_type_part : {m : Memory} (a : Impl) (buffer part : List ℕ) (r : option.Option Refusal)
+      → PartPromised (show_impl_type_call (env f) (lent m) (impl_means a) buffer) r part (held m)
+      → Ran f m (call.later (call.show_impl_type (impl_means a) buffer)) (replied (λ n. says.text part) (part_reply r part)) m

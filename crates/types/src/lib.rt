@@ -21,11 +21,11 @@ pub struct Inverted(pub bool);
 
 pub const INV_BIT: u32 = 0x8000_0000;
 
-// An impl type whose types are lent beside it: a trait, by its number, or an error.
+// An impl type: a trait, by its number, over the types that are lent with it, or an error.
 // Kept (1): no plainer as an Option: the second case is the Rust's ImplType::Error, which a None would not say.
 #[derive(Clone, Copy, Debug, PartialEq, Eq)]
-pub enum Impl {
-    Trait(u32),
+pub enum Impl<'a> {
+    Trait(u32, &'a [u32]),
     Error,
 }
 

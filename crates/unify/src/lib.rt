@@ -3,6 +3,9 @@
 // loops too. What comes before the children is `unify_enter`, apart from the cycle, and so its marks stay out of the cycle's frames: an answer, or what two roots ask for.
 // Then their children are unified, then the answer is settled. The words of the nodes change as scope's `unify` says of the nodes. Beside them goes a memory: a pair that
 // did not succeed is looked up there before its children are unified. Whatever is believed there is what unifying would give.
+//
+// Kept (5): the nodes' words, the children's, the number of nodes and the memory go beside each other here and in `heed`, `unify_enter` and `unify_lists`. A struct of them
+// would have two parts that are written, and lend both to one call; the borrow checker does not cover that, as was seen in `run_calls`.
 ghost use Rattle.scope.specs.Types.{ty_of};
 ghost use Rattle.scope.specs.Unify.{unify_f};
 ghost use Rattle.names.specs.Place.{texts_by};

@@ -15,6 +15,7 @@ use names::Texts;
 use types::{Type, UnifyResult};
 
 // What two types ask for: an answer, or children that are to be unified first, the memory's clock before them, and the two roots.
+// Kept (1): as a Result, Success would be an error or children would; nobody hands either on by `?`, and the one match on it goes on with both.
 #[derive(Clone, Copy)]
 pub enum Entered {
     Done(UnifyResult),

@@ -104,6 +104,6 @@ module _ {x : Texts} {ws ks m : List ℕ} {n : ℕ} (r : SoundWords x ws ks n) (
       between_pairs (λ t m. below xs (of-all f l h (Memᴰ.head refl)) t m) (λ t m. below ys (of-all f l h (Memᴰ.tail (Memᴰ.head refl))) t m)
       (between_pick (eqb i j) (run_plan false xs ys) (answers Failure) (run_between false xs ys) between_nil)
 
-  pub given_impls : (a : Impl) (xs : List ℕ) (b : Impl) (ys : List ℕ)
-      → all (λ t. all (in_store (decode ws ks n)) (impl_types t)) (impl_means a xs ∷ impl_means b ys ∷ []) ≡ true → Impls x ws ks m n a xs b ys
-  given_impls a xs b ys h = record { asked = impl_inside (impl_means a xs) (impl_means b ys) h }
+  pub given_impls : (a b : Impl)
+      → all (λ t. all (in_store (decode ws ks n)) (impl_types t)) (impl_means a ∷ impl_means b ∷ []) ≡ true → Impls x ws ks m n a b
+  given_impls a b h = record { asked = impl_inside (impl_means a) (impl_means b) h }

@@ -11,6 +11,7 @@ use native.Mathlib.Omega.{arith}
 use lib.Dec.{eqb}
 use lib.ListN.{length, get_or, drop, length-map, drop_of_length-le}
 use lib.Seq.{drop-cons}
+use Rattle.std.specs.Borrow.{Bor}
 use borrow.Author.Tests.{eq-eqb, ne_eqb}
 use Rattle.scope.specs.Names.{Texts}
 use Rattle.scope.specs.Types.{Ty, ty_of, flip}
@@ -200,28 +201,28 @@ module _ {x : Texts} {ws ks m : List ℕ} {n : ℕ} {xs ys : List ℕ} {a b : Ty
 
 -- two traits
 
-module _ {x : Texts} {ws ks m : List ℕ} {n : ℕ} {a b : Impl} {xs ys : List ℕ} (p : Impls x ws ks m n a xs b ys) where
-  impl_says : (r : UnifyResult) → impl_plan (impl_means a xs) (impl_means b ys) ≡ answers (answer_of r)
-      → Unified x ws ks m ws m n (unify_impl_type x (decode ws ks n) (impl_means a xs) (impl_means b ys)) r
+module _ {x : Texts} {ws ks m : List ℕ} {n : ℕ} {a b : Impl} (p : Impls x ws ks m n a b) where
+  impl_says : (r : UnifyResult) → impl_plan (impl_means a) (impl_means b) ≡ answers (answer_of r)
+      → Unified x ws ks m ws m n (unify_impl_type x (decode ws ks n) (impl_means a) (impl_means b)) r
   unfolding unify_impl_type
-  impl_says r e = says (impl_plan (impl_means a xs) (impl_means b ys)) p.asked r e
+  impl_says r e = says (impl_plan (impl_means a) (impl_means b)) p.asked r e
 
-  pub impl_error : a ≡ impl.Error → Unified x ws ks m ws m n (unify_impl_type x (decode ws ks n) (impl_means a xs) (impl_means b ys)) code.Indeterminate
+  pub impl_error : a ≡ impl.Error → Unified x ws ks m ws m n (unify_impl_type x (decode ws ks n) (impl_means a) (impl_means b)) code.Indeterminate
   impl_error e = impl_says code.Indeterminate (rw e refl)
 
-  module _ {i : ℕ} (ea : a ≡ impl.Trait i) where
-    pub impl_against : b ≡ impl.Error → Unified x ws ks m ws m n (unify_impl_type x (decode ws ks n) (impl_means a xs) (impl_means b ys)) code.Indeterminate
+  module _ {i : ℕ} {xs : Bor (List ℕ)} (ea : a ≡ impl.Trait i xs) where
+    pub impl_against : b ≡ impl.Error → Unified x ws ks m ws m n (unify_impl_type x (decode ws ks n) (impl_means a) (impl_means b)) code.Indeterminate
     impl_against e = impl_says code.Indeterminate (rw (ea, e) refl)
 
-    module _ {j : ℕ} (eb : b ≡ impl.Trait j) where
-      pub impl_other : (i ≡ j → ⊥) → Unified x ws ks m ws m n (unify_impl_type x (decode ws ks n) (impl_means a xs) (impl_means b ys)) code.Failure
+    module _ {j : ℕ} {ys : Bor (List ℕ)} (eb : b ≡ impl.Trait j ys) where
+      pub impl_other : (i ≡ j → ⊥) → Unified x ws ks m ws m n (unify_impl_type x (decode ws ks n) (impl_means a) (impl_means b)) code.Failure
       impl_other h = impl_says code.Failure (rw (ea, eb, ne_eqb i j h) refl)
 
       module _ (h : i ≡ j) where
-        impl_plan_lem : impl_plan (impl_means a xs) (impl_means b ys) ≡ run_plan false (types_in xs) (types_in ys)
+        impl_plan_lem : impl_plan (impl_means a) (impl_means b) ≡ run_plan false (types_in xs.now) (types_in ys.now)
         impl_plan_lem = rw (ea, eb, eq-eqb i j h) refl
 
-        pub impl_lists : {ws' m' : List ℕ} {r : UnifyResult} → Unified x ws ks m ws' m' n (unify_types x (decode ws ks n) (types_in xs) (types_in ys) false) r
-            → Unified x ws ks m ws' m' n (unify_impl_type x (decode ws ks n) (impl_means a xs) (impl_means b ys)) r
+        pub impl_lists : {ws' m' : List ℕ} {r : UnifyResult} → Unified x ws ks m ws' m' n (unify_types x (decode ws ks n) (types_in xs.now) (types_in ys.now) false) r
+            → Unified x ws ks m ws' m' n (unify_impl_type x (decode ws ks n) (impl_means a) (impl_means b)) r
         unfolding unify_impl_type unify_types
         impl_lists {ws'} {m'} {r} l = subst (λ (p : Plan). Unified x ws ks m ws' m' n (carry x (decode ws ks n) p) r) (sym impl_plan_lem) l

@@ -32,5 +32,5 @@ pub record Objects (x : Texts) (ws ks m : List ℕ) (n : ℕ) (xs ys : List ℕ)
 pub record Signatures (x : Texts) (ws ks m : List ℕ) (n : ℕ) (xs : List ℕ) (a : Ty) (ys : List ℕ) (b : Ty) : Type 0 where
   pub asked : Asked x ws ks m n n (sig_plan (types_in xs) a (types_in ys) b).pairs
 
-pub record Impls (x : Texts) (ws ks m : List ℕ) (n : ℕ) (a : Impl) (xs : List ℕ) (b : Impl) (ys : List ℕ) : Type 0 where
-  pub asked : Asked x ws ks m n n (impl_plan (impl_means a xs) (impl_means b ys)).pairs
+pub record Impls (x : Texts) (ws ks m : List ℕ) (n : ℕ) (a b : Impl) : Type 0 where
+  pub asked : Asked x ws ks m n n (impl_plan (impl_means a) (impl_means b)).pairs

@@ -103,6 +103,7 @@ pub fn unify_entries(
 }
 
 // Two signatures: their parameters, then their returns, whatever the parameters answered.
+// Kept (5): no plainer with a struct of a list and a return: scope's `unify_fn_sig` takes the four apart, and so does 01's call; a struct would only name the same fields once more.
 pub fn unify_fn_sig(
     ws: &mut [u32],
     ks: &[u32],
@@ -131,17 +132,15 @@ pub fn unify_impl_type(
     n: u32,
     texts: &Texts<'_>,
     memory: &mut [u32],
-    a: Impl,
-    xs: &[u32],
-    b: Impl,
-    ys: &[u32],
+    a: Impl<'_>,
+    b: Impl<'_>,
 ) -> UnifyResult
-    requires { Impls (texts_by texts.now) ws.old ks.now memory.old n a xs.now b ys.now }
+    requires { Impls (texts_by texts.now) ws.old ks.now memory.old n a b }
     ensures { Unified (texts_by texts.now) ws.old ks.now memory.old ws.new memory.new n
         (unify_impl_type (texts_by texts.now) (decode ws.old ks.now n)
-        (impl_means a xs.now) (impl_means b ys.now)) result }
+        (impl_means a.entry) (impl_means b.entry)) result }
 {
-    let (Impl::Trait(i), Impl::Trait(j)) = (a, b) else {
+    let (Impl::Trait(i, xs), Impl::Trait(j, ys)) = (a, b) else {
         return UnifyResult::Indeterminate;
     };
     if i != j {

@@ -1,10 +1,9 @@
 #![tactic(auto)]
 // What a type leads to: `occurs` and `self_inverse`, by a look at a root's children where that tells, and else by a walk that marks each root it meets. Beside them
 // what one root tells: `is_nil`, and `get_mod`, which looks through Refs. Each gives what scope's definition gives of the nodes that are lent.
-ghost use Rattle.std.specs.Prelude.{◌≡◌, ◌≤◌, ◌<◌, length};
+ghost use Rattle.std.specs.Prelude.{◌≡◌, ◌<◌};
 ghost use Rattle.scope.specs.Types.{ty_of};
 ghost use Rattle.scope.specs.Unify.{occurs, self_inverse_of};
-ghost use Rattle.layout.specs.Words.{node_words};
 ghost use Rattle.layout.specs.Lent.{nodes_by};
 ghost use Rattle.layout.specs.Meaning.{read_at, held_in, kind_means, Linked};
 ghost use Rattle.chart.specs.Words.{records_of};
@@ -18,6 +17,7 @@ use scope::MAX_NODES;
 use types::{Type, TypeIdx};
 
 // get_mod's answer: no definition, a definition's def number, or an error.
+// Kept (1): the Rust has a Result of an Option, whose error is a value that no store has; a call that answers a Result already would have one in it, of an Option.
 #[derive(Clone, Copy)]
 pub enum Mod {
     Nothing,
@@ -26,11 +26,10 @@ pub enum Mod {
 }
 
 // A root without children.
-fn is_leaf(ws: &[u32], n: u32, i: TypeIdx) -> bool
-    requires { node_words n ≤ length ws.now }
-    ensures { result ≡ leaf_by (held_in (read_at ws.now n i.0)) }
+fn is_leaf(nodes: &Nodes<'_>, i: TypeIdx) -> bool
+    ensures { result ≡ leaf_by (held_in (read_at nodes.now.words.now nodes.now.made i.0)) }
 {
-    layout::held_at(ws, n, i).is_none_or(|(_, kind)| kind.count == 0)
+    nodes.held(i).is_none_or(|(_, kind)| kind.count == 0)
 }
 
 // A look at a kind's children, which ends where one is far from its root or has children itself.
@@ -39,7 +38,7 @@ fn look(nodes: &Nodes<'_>, x: TypeIdx, kind: Kind) -> Glance
     ensures { Looked (nodes_by nodes.now) nodes.now.made x.0 (kind_means nodes.now.kids.now kind).kids result }
 {
     for j in 0..kind.count {
-        let kid = layout::child_of(nodes.kids, kind.first, j).ty;
+        let kid = nodes.child(kind.first, j).ty;
         let Some(root) = roots::near(nodes.words, nodes.made, kid) else {
             return Glance::Deep;
         };
@@ -47,7 +46,7 @@ fn look(nodes: &Nodes<'_>, x: TypeIdx, kind: Kind) -> Glance
         if i == x {
             return Glance::Met;
         }
-        if !is_leaf(nodes.words, nodes.made, i) {
+        if !is_leaf(nodes, i) {
             return Glance::Deep;
         }
     }
@@ -72,7 +71,7 @@ pub fn occurs(nodes: &Nodes<'_>, x: TypeIdx, y: Type) -> bool
     if root == x {
         return true;
     }
-    let kind = match layout::held_at(nodes.words, nodes.made, root) {
+    let kind = match nodes.held(root) {
         Some((_, kind)) if kind.count > 0 => kind,
         _ => return false,
     };
@@ -136,12 +135,10 @@ pub fn get_mod(nodes: &Nodes<'_>, chart: &[u32], t: Type) -> Mod
 {
     let mut cur = t;
     for _ in 0..nodes.made {
-        let root = roots::find(nodes.words, nodes.made, cur).idx();
-        match layout::held_at(nodes.words, nodes.made, root) {
+        let root = roots::find_in(nodes, cur).idx();
+        match nodes.held(root) {
             Some((_, kind)) if kind.code != kinds::REF => return mod_of(chart, kind),
-            Some((_, kind)) if kind.count > 0 => cur = layout::child_of(
-                nodes.kids, kind.first, 0,
-            ).ty,
+            Some((_, kind)) if kind.count > 0 => cur = nodes.child(kind.first, 0).ty,
             _ => return Mod::Nothing,
         }
     }

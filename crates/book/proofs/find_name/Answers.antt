@@ -23,7 +23,7 @@ find-requires-clause-callable c =
     (λ x a b y e.
     let lies : (j : ℕ) → j ≡ x → PlaceLies bs r.nodes r.children j = place_there bs c.requires c.room_of-room.ensures b in
     let named : (j : ℕ) → j ≡ x → (ps : List ℕ) → ps ≡ place_at bs r.nodes r.children j → NameLies ps = place_named bs c.requires c.room_of-room.ensures b in
-    (search (rules, lies), λ _ _ _ _ _ _ _ _ _ _ place _. named y.now e place.result.now place.ensures))
+    (search (rules, lies), λ _ _ _ _ _ _ _ _ _ place _. named y.now e place.result.now place.ensures))
 
 pub returns : goal.returns
 returns c =

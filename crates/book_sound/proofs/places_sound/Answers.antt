@@ -22,13 +22,13 @@ use Rattle.book_sound.proofs.places_sound.Goals as goal
 pub all-requires-clause-callable : goal.all-requires-clause-callable
 all-requires-clause-callable c = let a = c.args in
     serves_from_Range (λ x q p. search rules) (λ x p b.
-    let lies : (j : ℕ) → j ≡ x → PlaceLies a.bs.now a.nodes a.children j = λ j q. record { words = c.requires; index = rw q b } in
-    let long : (j : ℕ) → j ≡ x → (ps : List ℕ) → ps ≡ place_at a.bs.now a.nodes a.children j → length ps ≡ place_words a.nodes a.children =
-    λ j q ps e. rw e (place_length a.bs.now a.nodes a.children j c.requires (rw q b)) in
+    let lies : (j : ℕ) → j ≡ x → PlaceLies a.bs.now a.room.nodes a.room.children j = λ j q. record { words = c.requires; index = rw q b } in
+    let long : (j : ℕ) → j ≡ x → (ps : List ℕ) → ps ≡ place_at a.bs.now a.room.nodes a.room.children j → length ps ≡ place_words a.room.nodes a.room.children =
+    λ j q ps e. rw e (place_length a.bs.now a.room.nodes a.room.children j c.requires (rw q b)) in
     search (rules, lies, long))
 
 pub returns : goal.returns
 returns c = let a = c.args in
-    let q : ℕ → Bool = λ j. place_ok (chart_lent a.env.now) a.nodes a.children (place_at a.bs.now a.nodes a.children j) in
+    let q : ℕ → Bool = λ j. place_ok (chart_lent a.env.now) a.room.nodes a.room.children (place_at a.bs.now a.room.nodes a.room.children j) in
     all_from_yields_List q _ _ _ c.all.ensures.ran (YieldsList-from_range 0 MAX_STATES MAX_STATES (cc) (omega arith)) (λ x b p k. search (rules, tests))
     ∙ all_range q 0 MAX_STATES

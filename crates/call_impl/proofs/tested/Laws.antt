@@ -27,12 +27,12 @@ use Rattle.call_unify.proofs.tested.Laws.{inside, Form, Unifies}
 -- what the core asks, of arguments that no test turned back
 
 module _ {x : Texts} {ws ks m : List ℕ} {n : ℕ} (w : SoundWords x ws ks n) (g : Begun m) where
-  pub impls_ask : (e : Env) (a : Impl) (xs : List ℕ) (b : Impl) (ys : List ℕ) → FirstOf n (impls_tests e (impl_means a xs) (impl_means b ys)) none
-      → Impls x ws ks m n a xs b ys
+  pub impls_ask : (e : Env) (a b : Impl) → FirstOf n (impls_tests e (impl_means a) (impl_means b)) none
+      → Impls x ws ks m n a b
   unfolding impls_tests
-  impls_ask e a xs b ys t =
-      let both : List ImplType = impl_means a xs ∷ impl_means b ys ∷ [] in
-      given_impls w g a xs b ys (inside w (λ ns. all (λ i. all (in_store ns) (impl_types i)) both)
+  impls_ask e a b t =
+      let both : List ImplType = impl_means a ∷ impl_means b ∷ [] in
+      given_impls w g a b (inside w (λ ns. all (λ i. all (in_store ns) (impl_types i)) both)
       (λ s. (any (λ i. too_many (impl_types i)) both, 4) ∷ (not (all (impl_defined e) both), 5) ∷ []) t)
 
 -- a trait is asked of the chart's records alone

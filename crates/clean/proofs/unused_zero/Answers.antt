@@ -4,10 +4,10 @@ use native.Mathlib.Omega.{arith}
 use Rattle.layout.specs.Words.{unused_zero}
 use Rattle.clean.proofs.unused_zero.Goals as goal
 
-pub returns-then-zero_between : goal.returns-then-zero_between
+pub returns-then-all_zero : goal.returns-then-all_zero
 unfolding unused_zero
-returns-then-zero_between c = grind arith
+returns-then-all_zero c = grind arith
 
-pub returns-else-zero_between : goal.returns-else-zero_between
+pub returns-else-all_zero : goal.returns-else-all_zero
 unfolding unused_zero
-returns-else-zero_between c = grind arith
+returns-else-all_zero c = grind arith

@@ -12,5 +12,7 @@ use Rattle.inverse.proofs.all_good.Goals as goal
 
 pub returns : goal.returns
 returns c = let a = c.args in
-    all_from_yields_List (good_at a.ws.now a.n a.marks.now a.param) _ _ _ c.all.ensures.ran (YieldsList-from_range 0 a.n a.n (cc) (omega arith)) (λ x b q k. search (rules, tests))
-    ∙ all_range (good_at a.ws.now a.n a.marks.now a.param) 0 a.n
+    let n = a.nodes.now.made in
+    let test = good_at a.nodes.now.words.now n a.marks.now a.param in
+    all_from_yields_List test _ _ _ c.all.ensures.ran (YieldsList-from_range 0 n n (cc) (omega arith)) (λ x b q k. search (rules, tests))
+    ∙ all_range test 0 n

@@ -11,26 +11,26 @@ use Rattle.inverse.proofs.inverse_run.Goals as goal
 pub loop-left-init : goal.loop-left-init
 loop-left-init c = rw c.whole-run.ensures (going_start _ _ _ _ _ refl (omega arith))
 
-pub find-requires : goal.find-requires
-find-requires c = clean_linked _ _ _ _ c.requires.clean
+pub find_in-requires : goal.find_in-requires
+find_in-requires c = clean_linked _ _ _ _ c.requires.clean
 
 pub returns-in-Bad : goal.returns-in-Bad
 returns-in-Bad c =
     tries_met
     (going_met c.loop-left.invariant c.child_at.result c.if-run.true c.child_at.ensures
-    (told_bad c.requires c.find.ensures c.idx-root.ensures c.judge.ensures c.in-Bad.is))
+    (told_bad c.requires c.find_in.ensures c.idx-root.ensures c.judge.ensures c.in-Bad.is))
 
 pub loop-left-preserved-in-Good : goal.loop-left-preserved-in-Good
 loop-left-preserved-in-Good c =
     going_good c.loop-left.invariant c.child_at.result c.if-run.true c.child_at.ensures c.loop-left-test.true
-    (told_good c.requires c.find.ensures c.idx-root.ensures c.judge.ensures c.in-Good.is)
+    (told_good c.requires c.find_in.ensures c.idx-root.ensures c.judge.ensures c.in-Good.is)
 
 pub loop-left-preserved-in-Run : goal.loop-left-preserved-in-Run
 loop-left-preserved-in-Run c =
-    let run = told_run c.requires c.find.ensures c.idx-root.ensures c.judge.ensures c.in-Run.is in
+    let run = told_run c.requires c.find_in.ensures c.idx-root.ensures c.judge.ensures c.in-Run.is in
     rw c.whole-run-in-Run.ensures (going_down c.loop-left.invariant c.child_at.result c.if-run.true c.child_at.ensures c.loop-left-test.true
     (omega (arith, c.loop-left.invariant.levels, c.if-level-eq-LEVELS.false)) _ _ (omega arith)
-    (told_zero c.requires c.find.ensures c.idx-root.ensures c.judge.ensures) run)
+    (told_zero c.requires c.find_in.ensures c.idx-root.ensures c.judge.ensures) run)
 
 pub loop-left-preserved : goal.loop-left-preserved
 loop-left-preserved c = going_up c.loop-left.invariant (omega (arith, c.if-run.false)) c.if-level-eq0.false

@@ -17,4 +17,4 @@ returns-then-count-gt-MAX_LIST c =
 pub returns : goal.returns
 returns c =
     let a = c.args in
-    entries_named a.xs.now (texts_lent a.env.now) c.entry_count-count.ensures c.if-count-gt-MAX_LIST.false c.if-xs-ne0.false refl c.names_fit.ensures
+    entries_named a.xs.now (texts_lent a.env.now) c.entry_count-count.ensures c.if-count-gt-MAX_LIST.false c.if-xs-ne0.false refl (rw c.bare_kind.ensures at c.names_fit.ensures)

@@ -1,6 +1,7 @@
 -- `make::new_kind` meets its contract. The entries are put behind the children made, where no node looks, and the kind that is pushed has them; so it
 -- means the kind that was given.
 -- Assumes nothing.
+use native.Mathlib.Omega.{arith}
 use Rattle.make.proofs.MakeLaws.{pushable_in}
 use Rattle.make.proofs.NewLaws.{kind_head, entries_ready, children_room, kind_made_lem}
 use Rattle.make.proofs.new_kind.Goals as goal
@@ -10,7 +11,7 @@ children_made-first-requires c = kind_head c.requires
 
 pub put_children-requires : goal.put_children-requires
 put_children-requires c =
-    children_room (entries_ready c.requires c.entry_count-n.ensures) c.children_made-first.ensures
+    (children_room (entries_ready c.requires c.entry_count-n.ensures) c.children_made-first.ensures, omega (arith, c.entry_count-n.ensures))
 
 pub push-requires : goal.push-requires
 push-requires c =

@@ -1,9 +1,9 @@
--- `make::put_children` meets its contract. The loop's invariant: the first i entries stand, and the slots before `first` and after them are as they were.
+-- `make::put_children` meets its contract: the words of the first n entries take the place of as many behind the children made.
 -- Assumes nothing.
 use native.Mathlib.Omega.{arith}
-use Rattle.make.proofs.NewLaws.{put_more}
+use Rattle.make.proofs.NewLaws.{put_copied}
 use Rattle.make.proofs.put_children.Goals as goal
 
-pub loop-i-preserved : goal.loop-i-preserved
-loop-i-preserved c = let a = c.args in
-    put_more a.entries.now a.first c.loop-i.i c.loop-i.invariant (omega arith) c.child_at.ensures c.put_child.ensures
+pub returns : goal.returns
+returns c = let a = c.args in
+    put_copied a.entries.now a.ks.now a.first a.n c.child_words-from.ensures (omega arith) c.copy_from_slice.ensures.after c.requires.0 c.requires.1

@@ -9,13 +9,13 @@ returns-then-eq c =
 
 pub returns-in_err-i : goal.returns-in_err-i
 returns-in_err-i c =
-    rw c.from_residual.ensures (met_bare_first c.requires c.idx-ia.ensures c.idx-ib.ensures c.if-eq.ensures c.held_at.ensures c.in_err-i.was)
+    rw c.from_residual.ensures (met_bare_first c.requires c.idx-ia.ensures c.idx-ib.ensures c.if-eq.ensures c.held.ensures c.in_err-i.was)
 
 pub returns-in_err-j : goal.returns-in_err-j
 returns-in_err-j c =
-    rw c.from_residual-in_err-j.ensures (met_bare_second c.requires c.idx-ia.ensures c.idx-ib.ensures c.if-eq.ensures c.held_at-2.ensures c.in_err-j.was)
+    rw c.from_residual-in_err-j.ensures (met_bare_second c.requires c.idx-ia.ensures c.idx-ib.ensures c.if-eq.ensures c.held-2.ensures c.in_err-j.was)
 
 pub returns : goal.returns
 returns c =
-    met_kids c.requires c.idx-ia.ensures c.idx-ib.ensures c.if-eq.ensures c.held_at.ensures c.in_ok-i.was c.held_at-2.ensures c.in_ok-j.was
+    met_kids c.requires c.idx-ia.ensures c.idx-ib.ensures c.if-eq.ensures c.held.ensures c.in_ok-i.was c.held-2.ensures c.in_ok-j.was
     c.inv.ensures c.bitxor.ensures c.inv-2.ensures c.bitxor-2.ensures c.bitxor-inv.ensures c.plan_of.ensures

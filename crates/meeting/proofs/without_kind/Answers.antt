@@ -41,7 +41,7 @@ returns c = elim c.if-occurs.branch [
       rw (c.then_some.ensures, w.occurs-is)
       (bare_back c.idx-ia.ensures c.occurs.ensures w.if-occurs.false w.idx.ensures w.occurs-then-is_some.ensures w.occurs-then-is_some.result refl)
   | else-occurs+else-is_some w ↦
-      let none = absent w.held_at.result (sym w.is_some.ensures ∙ w.if-is_some.false) in
+      let none = absent w.held.result (sym w.is_some.ensures ∙ w.if-is_some.false) in
       rw (c.then_some.ensures, w.occurs-is, w.if-is_some.false)
-      (bare_alone c.requires.tops.pair c.idx-ia.ensures c.occurs.ensures w.if-occurs.false w.held_at.ensures none)
+      (bare_alone c.requires.tops.pair c.idx-ia.ensures c.occurs.ensures w.if-occurs.false w.held.ensures none)
 ]

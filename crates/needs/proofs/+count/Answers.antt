@@ -10,68 +10,64 @@ use Rattle.needs.proofs.+count.Goals as goal
 use Rattle.needs.proofs.+count.Goals.{then-not-is_met, else-not-is_met}
 
 pub returns-then-depth-eq0 : goal.returns-then-depth-eq0
-returns-then-depth-eq0 t c = (count_shallow c.if-depth-eq0.true, c.requires.1)
+returns-then-depth-eq0 t c = (count_shallow c.if-depth-eq0.true, refl)
 
-pub find_by-requires : goal.find_by-requires
-find_by-requires t c =
-    (clean_linked _ _ _ _ c.requires.0.source.clean, c.requires.1)
+pub find-requires : goal.find-requires
+find-requires t c = clean_linked _ _ _ _ c.requires.source.clean
 
 pub returns-then-is_counted : goal.returns-then-is_counted
 returns-then-is_counted t c =
-    (count_met _ _ _ _ _ _ _ _ _ (root_is c.find_by.ensures.0 c.idx-root.ensures _) c.is_counted.ensures c.if-is_counted.true, c.find_by.ensures.1)
+    (count_met _ _ _ _ _ _ _ _ _ (root_is c.find.ensures.0 c.idx-root.ensures _) c.is_counted.ensures c.if-is_counted.true, c.find.ensures.1)
 
 pub overflow_add-all-in-Node : goal.overflow_add-all-in-Node
 overflow_add-all-in-Node t c =
-    let z = node_fits _ _ _ _ _ _ _ 0 _ (root_is c.find_by.ensures.0 c.idx-root.ensures _) c.is_counted.ensures
-    c.requires.0.source c.if-is_counted.false c.root_asks.ensures c.in-Node.is c.requires.0.long c.requires.0.small in
+    let z = node_fits _ _ _ _ _ _ _ 0 _ (root_is c.find.ensures.0 c.idx-root.ensures _) c.is_counted.ensures
+    c.requires.source c.if-is_counted.false c.root_asks.ensures c.in-Node.is c.requires.long c.requires.small in
     omega (arith, z.1)
 
 pub loop-j-init : goal.loop-j-init
 loop-j-init t c = (
-  node_turn _ _ _ _ _ _ _ _ _ (root_is c.find_by.ensures.0 c.idx-root.ensures _) c.is_counted.ensures
-      c.requires.0.source c.if-is_counted.false c.root_asks.ensures c.in-Node.is c.set_mark.ensures c.requires.0.small,
-  c.find_by.ensures.1,
-  refl,
+  node_turn _ _ _ _ _ _ _ _ _ (root_is c.find.ensures.0 c.idx-root.ensures _) c.is_counted.ensures
+      c.requires.source c.if-is_counted.false c.root_asks.ensures c.in-Node.is c.set_mark.ensures c.requires.small,
+  c.find.ensures.1,
 )
 
 pub is_met-requires : goal.is_met-requires
 is_met-requires t c =
-    (clean_linked _ _ _ _ c.requires.0.source.clean, c.loop-j.invariant.1)
+    rw c.loop-j.invariant.1 (clean_linked _ _ _ _ c.requires.source.clean)
 
 pub loop-j-preserved : goal.loop-j-preserved
 loop-j-preserved t c =
-    let e = kid_next c.args.nodes.now.kids.now _ _ _ c.child_of.result c.loop-j-test.true c.child_of.ensures in
+    let e = kid_next c.args.finder.now.nodes.now.kids.now _ _ _ c.child.result c.loop-j-test.true c.child.ensures in
     elim c.if-not-is_met.branch [
-      | then-not-is_met w ↦ rw (w.cache-is, w.marks-is, w.all-is) (
-        turn_next c.loop-j.invariant.0 c.requires.0.source e w.count-all.ensures.0 w.count-all.auto.marks,
-        w.count-all.ensures.1,
-        w.count-all.auto.cache ∙ (c.is_met.auto.cache ∙ c.loop-j.invariant.2),
+      | then-not-is_met w ↦ rw (w.finder-is, w.marks-is, w.all-is) (
+        turn_next c.loop-j.invariant.0 c.requires.source e (rw (c.is_met.ensures.1, c.loop-j.invariant.1) at w.count-all.ensures.0) w.count-all.auto.marks,
+        w.count-all.ensures.1 ∙ (c.is_met.ensures.1 ∙ c.loop-j.invariant.1),
       )
-      | else-not-is_met w ↦ rw (w.cache-is, w.marks-is, w.all-is) (
-        turn_next c.loop-j.invariant.0 c.requires.0.source e (c.is_met.ensures.0.is w.if-not-is_met.false c.args.nodes.now.kids.now _ _ _) refl,
-        c.is_met.ensures.1,
-        c.is_met.auto.cache ∙ c.loop-j.invariant.2,
+      | else-not-is_met w ↦ rw (w.finder-is, w.marks-is, w.all-is) (
+        turn_next c.loop-j.invariant.0 c.requires.source e ((rw c.loop-j.invariant.1 at c.is_met.ensures.0).is w.if-not-is_met.false c.args.finder.now.nodes.now.kids.now _ _ _) refl,
+        c.is_met.ensures.1 ∙ c.loop-j.invariant.1,
       )
     ]
 
 pub returns-in-Replaced : goal.returns-in-Replaced
 returns-in-Replaced t c = (
-  count_replaced _ _ _ _ _ _ _ _ _ (root_is c.find_by.ensures.0 c.idx-root.ensures _) c.is_counted.ensures
-      c.requires.0.source c.if-is_counted.false c.root_asks.ensures c.in-Replaced.is,
-  c.find_by.ensures.1,
+  count_replaced _ _ _ _ _ _ _ _ _ (root_is c.find.ensures.0 c.idx-root.ensures _) c.is_counted.ensures
+      c.requires.source c.if-is_counted.false c.root_asks.ensures c.in-Replaced.is,
+  c.find.ensures.1,
 )
 
 pub returns-in-Missing : goal.returns-in-Missing
 returns-in-Missing t c = (
-  count_lacking _ _ _ _ _ _ _ _ _ (root_is c.find_by.ensures.0 c.idx-root.ensures _) c.is_counted.ensures
-      c.requires.0.source c.if-is_counted.false c.root_asks.ensures c.if-depth-eq0.false c.in-Missing.is,
-  c.find_by.ensures.1,
+  count_lacking _ _ _ _ _ _ _ _ _ (root_is c.find.ensures.0 c.idx-root.ensures _) c.is_counted.ensures
+      c.requires.source c.if-is_counted.false c.root_asks.ensures c.if-depth-eq0.false c.in-Missing.is,
+  c.find.ensures.1,
 )
 
 pub returns-after-loop-j : goal.returns-after-loop-j
 returns-after-loop-j t c = (
-  count_node _ _ _ _ _ _ _ _ _ (root_is c.find_by.ensures.0 c.idx-root.ensures _) c.is_counted.ensures
-      c.requires.0.source c.if-is_counted.false c.root_asks.ensures c.in-Node.is c.set_mark.ensures
+  count_node _ _ _ _ _ _ _ _ _ (root_is c.find.ensures.0 c.idx-root.ensures _) c.is_counted.ensures
+      c.requires.source c.if-is_counted.false c.root_asks.ensures c.in-Node.is c.set_mark.ensures
       c.if-depth-eq0.false c.loop-j.invariant.0 c.loop-j-test.false,
   c.loop-j.invariant.1,
 )

@@ -3,8 +3,6 @@
 -- Assumes nothing.
 use mathlib.Core.Path.{◌≡◌}
 use Prim.Native.Nat.{◌-◌}
-use lib.ListN.{length}
-use Rattle.roots.specs.Kept.{CachedIn}
 use Rattle.needs.proofs.CountLaws.{Turn}
 use Rattle.needs.proofs.RootLaws.{kids_in}
 use Rattle.needs.proofs.+count.Given as goal
@@ -14,5 +12,6 @@ decreases-count l = l.depth
 
 abbrev pub invariant-loop-j : goal.invariant-loop-j
 invariant-loop-j l =
-    Turn l.nodes.words.now l.nodes.kids.now l.nodes.made l.params (l.depth - 1) (kids_in l.nodes.kids.now l.first l.kids) l.initial.marks l.initial.all l.marks l.all l.j
-    × CachedIn l.nodes l.cache × (length l.cache ≡ length l.initial.cache)
+    let nodes = l.fn.finder.nodes.now in
+    Turn nodes.words.now nodes.kids.now nodes.made l.params (l.depth - 1) (kids_in nodes.kids.now l.first l.kids) l.initial.marks l.initial.all l.marks l.all l.j
+    × (l.finder.nodes ≡ l.fn.finder.nodes)

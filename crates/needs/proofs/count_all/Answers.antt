@@ -7,8 +7,7 @@ use Rattle.needs.proofs.count_all.Goals as goal
 
 pub loop-t-preserved : goal.loop-t-preserved
 loop-t-preserved c = (
-  turn_next c.loop-t.invariant.0 c.requires.0.source (listed_next c.args.ts.now c.loop-t.t-index c.loop-t-test.true)
-      c.count-all.ensures.0 c.count-all.auto.marks,
-  c.count-all.ensures.1,
-  c.count-all.auto.cache ∙ c.loop-t.invariant.2,
+  turn_next c.loop-t.invariant.0 c.requires.source (listed_next c.args.ts.now c.loop-t.t-index c.loop-t-test.true)
+      (rw c.loop-t.invariant.1 at c.count-all.ensures.0) c.count-all.auto.marks,
+  c.count-all.ensures.1 ∙ c.loop-t.invariant.1,
 )

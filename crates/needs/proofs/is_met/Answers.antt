@@ -5,6 +5,6 @@ use Rattle.needs.proofs.is_met.Goals as goal
 
 pub returns : goal.returns
 returns c = (
-  record { is = λ e ks p sum depth. count_met _ ks _ _ p sum _ depth _ (root_is c.find_by.ensures.0 c.idx.ensures ks) c.is_counted.ensures e },
-  c.find_by.ensures.1,
+  record { is = λ e ks p sum depth. count_met _ ks _ _ p sum _ depth _ (root_is c.find.ensures.0 c.idx.ensures ks) c.is_counted.ensures e },
+  c.find.ensures.1,
 )

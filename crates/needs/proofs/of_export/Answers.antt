@@ -6,27 +6,34 @@ use Rattle.roots.proofs.KeptLaws.{cached_zeros}
 use Rattle.needs.proofs.SourceLaws.{start_countable, all_countable, export_source, export_needs}
 use Rattle.needs.proofs.of_export.Goals as goal
 
+pub invariant_of-nodes : goal.invariant_of-nodes
+invariant_of-nodes c =
+    let source = export_source c.args.h.now c.args.ws.now c.args.ks.now c.args.ts.now c.read_header-x.ensures c.requires in
+    record { room = source.readable.clean.room }
+
 pub count_remembered-first-requires : goal.count_remembered-first-requires
-count_remembered-first-requires c = (
-  start_countable {m = MAX_NODES}
-      (export_source c.args.h.now c.args.ws.now c.args.ks.now c.args.ts.now c.read_header-x.ensures c.requires)
-      (omega arith) c.nothing.ensures,
-  cached_zeros _ _ MAX_NODES,
-)
+count_remembered-first-requires c =
+    start_countable {m = MAX_NODES}
+    (export_source c.args.h.now c.args.ws.now c.args.ks.now c.args.ts.now c.read_header-x.ensures c.requires)
+    (omega arith) c.nothing.ensures
+
+pub invariant_of-finder : goal.invariant_of-finder
+invariant_of-finder c = record { cached = cached_zeros _ _ MAX_NODES }
 
 pub count_remembered-next-requires : goal.count_remembered-next-requires
 count_remembered-next-requires c =
     let z = export_source c.args.h.now c.args.ws.now c.args.ks.now c.args.ts.now c.read_header-x.ensures c.requires in
     let k = start_countable {m = MAX_NODES} z (omega arith) c.nothing.ensures in
-    (all_countable k c.count_remembered-first.ensures.0 c.count_remembered-first.auto.marks, c.count_remembered-first.ensures.1)
+    rw c.count_remembered-first.ensures.1 (all_countable k c.count_remembered-first.ensures.0 c.count_remembered-first.auto.marks)
 
 pub count_all-requires : goal.count_all-requires
 count_all-requires c =
     let z = export_source c.args.h.now c.args.ws.now c.args.ks.now c.args.ts.now c.read_header-x.ensures c.requires in
-    let k = start_countable {m = MAX_NODES} z (omega arith) c.nothing.ensures in (
-      all_countable (all_countable k c.count_remembered-first.ensures.0 c.count_remembered-first.auto.marks)
-          c.count_remembered-next.ensures.0 c.count_remembered-next.auto.marks,
-      c.count_remembered-next.ensures.1,
+    let k = start_countable {m = MAX_NODES} z (omega arith) c.nothing.ensures in
+    let first = c.count_remembered-first.ensures.1 in
+    rw (c.count_remembered-next.ensures.1, first) (
+    all_countable (all_countable k c.count_remembered-first.ensures.0 c.count_remembered-first.auto.marks)
+    (rw first at c.count_remembered-next.ensures.0) c.count_remembered-next.auto.marks
     )
 
 pub returns : goal.returns
@@ -40,6 +47,6 @@ returns c =
       r₁ = _;
       r₂ = _;
       first = c.count_remembered-first.ensures.0;
-      next = c.count_remembered-next.ensures.0;
-      rest = c.count_all.ensures.0;
+      next = rw c.count_remembered-first.ensures.1 at c.count_remembered-next.ensures.0;
+      rest = rw (c.count_remembered-next.ensures.1, c.count_remembered-first.ensures.1) at c.count_all.ensures.0;
     })

@@ -7,7 +7,10 @@ use Rattle.needs.proofs.SourceLaws.{start_countable, import_needs}
 use Rattle.needs.proofs.of_import.Goals as goal
 
 pub count_all-requires : goal.count_all-requires
-count_all-requires c = (start_countable {m = MAX_NODES} c.requires (omega arith) c.nothing.ensures, cached_zeros _ _ MAX_NODES)
+count_all-requires c = start_countable {m = MAX_NODES} c.requires (omega arith) c.nothing.ensures
+
+pub invariant_of-finder : goal.invariant_of-finder
+invariant_of-finder c = record { cached = cached_zeros _ _ MAX_NODES }
 
 pub returns : goal.returns
 returns c =

@@ -16,7 +16,7 @@ returns-then-plain_node-clause-test c = let a = c.args in
 pub returns-then-node_clean-clause-test : goal.returns-then-node_clean-clause-test
 returns-then-node_clean-clause-test c = let a = c.args in
     let e = chart_lent a.env.now in
-    let node = c.node_at.ensures in
+    let node = c.node.ensures in
     λ ns l.
     elim c.if-x-le-MAX_WIDTH.branch [
       | then-x-le-MAX_WIDTH w ↦

@@ -17,8 +17,9 @@ decreases-mark_below l = l.depth
 
 abbrev pub invariant-loop-s : goal.invariant-loop-s
 invariant-loop-s l =
-    Turn (related_f l.depth (nodes_by l.nodes)) l.nodes.kids.now l.initial.s l.end l.initial.marks l.marks l.s
-    × KeepsIn l.nodes l.cache l.marks l.seen l.skip × (length l.cache ≡ length l.initial.cache)
+    let nodes = l.fn.finder.nodes.now in
+    Turn (related_f l.depth (nodes_by nodes)) nodes.kids.now l.initial.s l.end l.initial.marks l.marks l.s
+    × KeepsIn nodes l.marks l.seen l.skip × (l.finder.nodes ≡ l.fn.finder.nodes)
     × (length l.seen ≡ length l.initial.seen) × (length l.skip ≡ length l.initial.skip) × (l.end < SLOTS)
 
 abbrev pub decreases-loop-s : goal.decreases-loop-s

@@ -11,7 +11,7 @@ pub find_roots-requires : goal.find_roots-requires
 find_roots-requires c = meets.climbs_all c.requires
 
 pub sizes_ok-requires : goal.sizes_ok-requires
-sizes_ok-requires c = meets.sizes c.requires c.find_roots.ensures c.if-find_roots.true
+sizes_ok-requires c = meets.rooted_roots c.requires c.find_roots.ensures c.if-find_roots.true
 
 pub falls_ok-requires : goal.falls_ok-requires
 falls_ok-requires c = elim c.if-find_roots.branch [

@@ -5,13 +5,11 @@ use native.Mathlib.Omega.{arith}
 use Rattle.sheet_lines.proofs.Laws as laws
 use Rattle.sheet_lines.proofs.type_of.Goals as goal
 
-pub returns-then-w-eq0 : goal.returns-then-w-eq0
-returns-then-w-eq0 c = laws.type_empty c.args.w.now c.if-w-eq0.true
+pub returns-in-empty : goal.returns-in-empty
+returns-in-empty c = laws.type_empty c.args.w.now (omega (arith, c.in-empty.len_below))
 
-pub returns-then-w-eq126 : goal.returns-then-w-eq126
-returns-then-w-eq126 c = let some = c.if-w-eq0.false in
-    c.node_of.ensures ∙ laws.type_tilde c.args.w.now (omega (arith, some)) c.if-w-eq126.true
+pub returns-in-126 : goal.returns-in-126
+returns-in-126 c = c.node_of.ensures ∙ laws.type_tilde c.args.w.now c.in-126.len_at_least (omega arith)
 
-pub returns-else-w-eq126 : goal.returns-else-w-eq126
-returns-else-w-eq126 c = let some = c.if-w-eq0.false in
-    c.node_of-else-w-eq126.ensures ∙ laws.type_plain c.args.w.now (omega (arith, some)) c.if-w-eq126.false
+pub returns-in_default : goal.returns-in_default
+returns-in_default c = c.node_of-in_default.ensures ∙ laws.type_plain c.args.w.now c.in_default.len_at_least (λ e. omega (arith, e))

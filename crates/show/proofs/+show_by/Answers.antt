@@ -1,7 +1,7 @@
 -- `show::show_by` meets its contract. The measure is the depth. A kind is written child after child; the loop's invariant: what is left to write
 -- gives, appended, what the whole gives, and what the cache keeps are roots.
 -- Assumes nothing.
-use mathlib.Core.Path.{ap, ◌∙◌}
+use mathlib.Core.Path.{refl, ap, ◌∙◌}
 use mathlib.Core.Bool.{◌&&◌}
 use Prim.Native.Nat.{◌-◌}
 use Rattle.scope.specs.Base.{xor}
@@ -17,23 +17,22 @@ use Rattle.show.proofs.+show_by.Goals.{then-depth-eq0-via-then-depth-eq0, then-d
 pub returns-then-depth-eq0 : goal.returns-then-depth-eq0
 returns-then-depth-eq0 t c =
     elim c.then-depth-eq0.branch [
-      | then-depth-eq0-via-then-depth-eq0 w ↦ (show_shallow _ _ _ _ _ w.if-depth-eq0.true, c.requires.1)
-      | then-depth-eq0-via-else-depth-eq0+then-is_full w ↦ (puts_full _ _ (is_over w.is_full.ensures w.if-is_full.true), c.requires.1)
+      | then-depth-eq0-via-then-depth-eq0 w ↦ (show_shallow _ _ _ _ _ w.if-depth-eq0.true, refl)
+      | then-depth-eq0-via-else-depth-eq0+then-is_full w ↦ (puts_full _ _ (is_over w.is_full.ensures w.if-is_full.true), refl)
     ]
 
-pub find_by-root-requires : goal.find_by-root-requires
-find_by-root-requires t c =
-    (clean_linked _ _ _ _ c.requires.0.clean, c.requires.1)
+pub find-root-requires : goal.find-root-requires
+find-root-requires t c = clean_linked _ _ _ _ c.requires.clean
 
 pub returns-in_default : goal.returns-in_default
 returns-in_default t c =
     let a = c.args in
     let e = env_by a.env.now in
-    let st = c.requires.0 in
+    let st = c.requires in
     let unknown =
-    show_unknown st e a.depth a.t.0 c.if-depth-eq0.false c.find_by-root.result.0 c.idx.result.0 c.find_by-root.ensures.0 c.idx.ensures c.held_at.result c.held_at.ensures
+    show_unknown st e a.depth a.t.0 c.if-depth-eq0.false c.find-root.result.0 c.idx.result.0 c.find-root.ensures.0 c.idx.ensures c.held.result c.held.ensures
     c.in_default.is in
-    (rw unknown c.put_unknown.ensures, c.find_by-root.ensures.1)
+    (rw unknown c.put_unknown.ensures, c.find-root.ensures.1)
 
 pub loop-j-preserved : goal.loop-j-preserved
 loop-j-preserved t c =
@@ -42,19 +41,19 @@ loop-j-preserved t c =
     let k = c.in-Some.kind in
     let deep = c.bitxor-i.result.0 && c.self_dual-dual.result in (
       turn_next _ _ _ _ c.loop-j.invariant.0 c.loop-j-test.true c.put_gap.ensures
-          (kid_shown (show_f e (a.depth - 1) (nodes_by a.nodes.now)) a.nodes.now.kids.now k deep c.loop-j.j c.child_of.result
-          c.invert_if.result.0 c.invert_if.ensures c.child_of.ensures c.show_by.ensures.0),
-      c.show_by.ensures.1,
+          (kid_shown (show_f e (a.depth - 1) (nodes_by a.finder.now.nodes.now)) a.finder.now.nodes.now.kids.now k deep c.loop-j.j c.child.result
+          c.invert_if.result.0 c.invert_if.ensures c.child.ensures (rw c.loop-j.invariant.1 at c.show_by.ensures.0)),
+      c.show_by.ensures.1 ∙ c.loop-j.invariant.1,
     )
 
 pub returns : goal.returns
 returns t c =
     let a = c.args in
     let e = env_by a.env.now in
-    let st = c.requires.0 in
+    let st = c.requires in
     let known =
-    show_known st e a.depth a.t.0 c.if-depth-eq0.false c.find_by-root.result.0 c.idx.result.0 c.find_by-root.ensures.0 c.idx.ensures c.held_at.result c.held_at.ensures
+    show_known st e a.depth a.t.0 c.if-depth-eq0.false c.find-root.result.0 c.idx.result.0 c.find-root.ensures.0 c.idx.ensures c.held.result c.held.ensures
     c.in-Some.inv c.in-Some.kind c.in-Some.is c.bitxor-i.result.0 (c.bitxor-i.result.0 && c.self_dual-dual.result) c.shown-count.result
-    (c.bitxor-i.ensures ∙ ap (xor c.in-Some.inv.0) c.inv.ensures) (ap (λ d. c.bitxor-i.result.0 && d) c.self_dual-dual.ensures) c.shown-count.ensures.0 in
+    (c.bitxor-i.ensures ∙ ap (xor c.in-Some.inv.0) c.inv.ensures) (ap (λ d. c.bitxor-i.result.0 && d) c.self_dual-dual.ensures) (rw c.find-root.ensures.1 at c.shown-count.ensures.0) in
     let rest = turn_end _ _ _ _ c.loop-j.invariant.0 c.loop-j-test.false c.put_close.ensures in
     (rw known (level_put _ _ c.in-Some.kind c.bitxor-i.result.0 c.self_dual-dual.result c.self_dual-dual.ensures c.put_lead.ensures rest), c.loop-j.invariant.1)

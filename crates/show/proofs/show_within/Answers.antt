@@ -3,5 +3,5 @@
 use Rattle.roots.proofs.KeptLaws.{cached_zeros}
 use Rattle.show.proofs.show_within.Goals as goal
 
-pub show_by-requires : goal.show_by-requires
-show_by-requires g c = (c.requires.stands, cached_zeros _ _ g.row.ROOM)
+pub invariant_of-finder : goal.invariant_of-finder
+invariant_of-finder g c = record { cached = cached_zeros _ _ g.row.ROOM }

@@ -25,7 +25,7 @@ pub returns-in-Some : goal.returns-in-Some
 unfolding show_impl_type
 returns-in-Some c = let a = c.args in
     let e = env_by a.env.now in
-    rw (c.in-Trait.is, by_tuple e c.in-Trait.i a.xs.now c.requires c.if-i-env.true (omega arith) c.tuple_of.ensures c.in-Some.is) c.show_fn.ensures
+    rw (c.in-Trait.is, by_tuple e c.in-Trait.i c.in-Trait.xs.now c.requires c.if-i-env.true (omega arith) c.tuple_of.ensures c.in-Some.is) c.show_fn.ensures
 
 pub returns-else-xs-lt3 : goal.returns-else-xs-lt3
 unfolding show_impl_type
@@ -34,10 +34,10 @@ returns-else-xs-lt3 c =
     let e = env_by a.env.now in
     let ns = nodes_by a.nodes.now in
     elim c.else-xs-lt3.branch [
-      | else-xs-lt3-via-then-xs-lt3 w ↦ rw (c.in-Trait.is, other_count e c.in-Trait.i a.xs.now ns (λ z. omega (arith, ltb-true))) c.show_trait.ensures
-      | else-xs-lt3-via-else-xs-lt3+else-xs-lt4 w ↦ rw (c.in-Trait.is, other_count e c.in-Trait.i a.xs.now ns (λ z. omega (arith, ltb-false))) c.show_trait.ensures
-      | else-xs-lt3-via-in-len3+else-i-env w ↦ rw (c.in-Trait.is, other_trait e c.in-Trait.i a.xs.now ns w.if-i-env.false) c.show_trait.ensures
+      | else-xs-lt3-via-then-xs-lt3 w ↦ rw (c.in-Trait.is, other_count e c.in-Trait.i c.in-Trait.xs.now ns (λ z. omega (arith, ltb-true))) c.show_trait.ensures
+      | else-xs-lt3-via-else-xs-lt3+else-xs-lt4 w ↦ rw (c.in-Trait.is, other_count e c.in-Trait.i c.in-Trait.xs.now ns (λ z. omega (arith, ltb-false))) c.show_trait.ensures
+      | else-xs-lt3-via-in-len3+else-i-env w ↦ rw (c.in-Trait.is, other_trait e c.in-Trait.i c.in-Trait.xs.now ns w.if-i-env.false) c.show_trait.ensures
       | else-xs-lt3-via-in-len3+then-i-env+in-None-1 w ↦
           let none : w.tuple_of.result ≡ None = search rules in
-          rw (c.in-Trait.is, by_tuple e c.in-Trait.i a.xs.now c.requires w.if-i-env.true (omega arith) w.tuple_of.ensures none) c.show_trait.ensures
+          rw (c.in-Trait.is, by_tuple e c.in-Trait.i c.in-Trait.xs.now c.requires w.if-i-env.true (omega arith) w.tuple_of.ensures none) c.show_trait.ensures
     ]

@@ -12,7 +12,7 @@ pub loop-j-preserved : goal.loop-j-preserved
 loop-j-preserved c = let a = c.args in
     turn_next _ _ _ _ c.loop-j.invariant c.loop-j-test.true c.put_comma.ensures
     (kid_shown (show (env_by a.env.now) (nodes_by a.nodes.now))
-    a.nodes.now.kids.now a.k a.i.0 c.loop-j.j c.child_of.result c.invert_if.result.0 c.invert_if.ensures c.child_of.ensures c.show_all.ensures)
+    a.nodes.now.kids.now a.k a.i.0 c.loop-j.j c.child.result c.invert_if.result.0 c.invert_if.ensures c.child.ensures c.show_all.ensures)
 
 pub returns : goal.returns
 returns c = let a = c.args in

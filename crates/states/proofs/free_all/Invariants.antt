@@ -4,4 +4,4 @@ use Rattle.states.specs.Free.{FreeTo}
 use Rattle.states.proofs.free_all.Given as goal
 
 abbrev pub invariant-loop-i : goal.invariant-loop-i
-invariant-loop-i l = FreeTo l.initial.bs l.bs l.nodes l.children l.i
+invariant-loop-i l = FreeTo l.initial.bs l.bs l.room.nodes l.room.children l.i

@@ -1,7 +1,7 @@
 -- `tested_new::make_inside` meets its contract: a refusal writes nothing, and a kind that passes is the one that the core is given.
 -- Assumes nothing.
 use Rattle.refusals.proofs.Laws.{err_told}
-use Rattle.tested_new.proofs.Laws.{inside_full, inside_ready, inside_made}
+use Rattle.tested_over.proofs.CallLaws.{inside_full, inside_ready, inside_made}
 use Rattle.tested_new.proofs.make_inside.Goals as goal
 
 pub returns-in_err-room : goal.returns-in_err-room

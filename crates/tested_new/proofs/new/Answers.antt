@@ -9,7 +9,7 @@ use Rattle.store.proofs.EntryLaws.{entries_long}
 use Rattle.refusals.proofs.Laws.{err_told}
 use Rattle.call_make.proofs.tested.RoomLaws.{lent_within}
 use Rattle.lent_kind.proofs.Laws.{given_kids}
-use Rattle.tested_new.proofs.Laws.{new_listed, new_promised}
+use Rattle.tested_over.proofs.CallLaws.{new_listed, new_promised}
 use Rattle.tested_new.proofs.new.Goals as goal
 
 pub returns-in_err-test_list : goal.returns-in_err-test_list

@@ -4,9 +4,11 @@ use Rattle.scope.specs.Calls.{new_struct_call}
 use Rattle.lent_kind.proofs.ListLaws.{struct_row}
 use Rattle.tested_new.proofs.new_struct.Goals as goal
 
-pub new_over-requires-clause-code_value : goal.new_over-requires-clause-code_value
-new_over-requires-clause-code_value c = struct_row
+pub new_over-requires : goal.new_over-requires
+new_over-requires c = let l = c.args.env.now in
+    record { beside = l.beside; rule = l.texts.rule.now; text = l.texts.chart.now; tested = c.requires }
 
 pub returns : goal.returns
 unfolding new_struct_call
-returns c = c.new_over.ensures
+returns c = let l = c.args.env.now in
+    c.new_over.ensures.each struct_row l.beside l.texts.rule.now l.texts.chart.now c.requires

@@ -13,13 +13,13 @@ near-requires c = clean_linked _ _ _ _ c.requires.0.clean
 pub returns-then-eq : goal.returns-then-eq
 returns-then-eq c =
     looked_met
-    (left_yes c.loop-j.invariant c.child_of.result c.loop-j-test.true c.child_of.ensures
-    (kid_met _ _ (ty_of c.child_of.result.ty.0) c.requires.1 (root_is (c.near.ensures.found _ c.in-Some.is) c.idx-i.ensures _) c.if-eq.ensures))
+    (left_yes c.loop-j.invariant c.child.result c.loop-j-test.true c.child.ensures
+    (kid_met _ _ (ty_of c.child.result.ty.0) c.requires.1 (root_is (c.near.ensures.found _ c.in-Some.is) c.idx-i.ensures _) c.if-eq.ensures))
 
 pub loop-j-preserved : goal.loop-j-preserved
 loop-j-preserved c =
-    left_no c.loop-j.invariant c.child_of.result c.loop-j-test.true c.child_of.ensures
-    (kid_leaf _ (ty_of c.child_of.result.ty.0) c.requires.0 c.requires.1
+    left_no c.loop-j.invariant c.child.result c.loop-j-test.true c.child.ensures
+    (kid_leaf _ (ty_of c.child.result.ty.0) c.requires.0 c.requires.1
     (root_is (c.near.ensures.found _ c.in-Some.is) c.idx-i.ensures _) c.if-eq.ensures
     c.is_leaf.ensures c.if-not-is_leaf.false)
 

@@ -12,16 +12,16 @@ returns-then-eq c = occurs_is c.requires c.idx-root.ensures c.if-eq.ensures
 
 pub returns-in_default : goal.returns-in_default
 returns-in_default c =
-    occurs_none c.requires c.idx-root.ensures c.if-eq.ensures c.held_at.ensures c.in-Some.is (kid_none c.args.nodes.now.kids.now _ 0 (omega (arith, c.if-kind-gt0.false)))
+    occurs_none c.requires c.idx-root.ensures c.if-eq.ensures c.held.ensures c.in-Some.is (kid_none c.args.nodes.now.kids.now _ 0 (omega (arith, c.if-kind-gt0.false)))
 
 pub returns-in_default-2 : goal.returns-in_default-2
 returns-in_default-2 c =
-    occurs_none c.requires c.idx-root.ensures c.if-eq.ensures c.held_at.ensures c.in_default.is refl
+    occurs_none c.requires c.idx-root.ensures c.if-eq.ensures c.held.ensures c.in_default.is refl
 
 pub returns-in-Met : goal.returns-in-Met
 returns-in-Met c =
-    occurs_met c.requires c.idx-root.ensures c.if-eq.ensures c.held_at.ensures c.in-Some.is c.look.ensures c.in-Met.is
+    occurs_met c.requires c.idx-root.ensures c.if-eq.ensures c.held.ensures c.in-Some.is c.look.ensures c.in-Met.is
 
 pub returns-in-Clear : goal.returns-in-Clear
 returns-in-Clear c =
-    occurs_clear c.requires c.idx-root.ensures c.if-eq.ensures c.held_at.ensures c.in-Some.is c.look.ensures c.in-Clear.is
+    occurs_clear c.requires c.idx-root.ensures c.if-eq.ensures c.held.ensures c.in-Some.is c.look.ensures c.in-Clear.is

@@ -13,6 +13,10 @@ pub returns-then-marks-x : goal.returns-then-marks-x
 returns-then-marks-x c = let a = c.args in
     marks_short _ _ _ _ a.t.0 (inside_tested c.requires c.in_ok-inside.ensures) c.read_header-x.ensures a.marks.now c.if-marks-x.true
 
+pub invariant_of-nodes : goal.invariant_of-nodes
+invariant_of-nodes c = let stands = read_stands _ _ _ _ c.args.t.0 (inside_tested c.requires c.in_ok-inside.ensures) c.read_header-x.ensures in
+    record { room = stands.clean.room }
+
 pub find_related-requires : goal.find_related-requires
 find_related-requires c = read_stands _ _ _ _ c.args.t.0 (inside_tested c.requires c.in_ok-inside.ensures) c.read_header-x.ensures
 

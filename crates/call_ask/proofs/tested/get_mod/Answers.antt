@@ -17,6 +17,10 @@ unfolding get_mod_call
 returns-in_err-inside c = rw (err_told c.from_residual.result c.from_residual.ensures.1)
     (read_refused (inside_tested c.requires c.in_err-inside.ensures) _)
 
+pub invariant_of-nodes : goal.invariant_of-nodes
+invariant_of-nodes c = let stands = read_stands _ _ _ _ c.args.t.0 (inside_tested c.requires c.in_ok-inside.ensures) c.read_header-x.ensures in
+    record { room = stands.clean.room }
+
 pub get_mod-requires : goal.get_mod-requires
 get_mod-requires c = let a = c.args in
     let test = inside_tested c.requires c.in_ok-inside.ensures in

@@ -16,6 +16,10 @@ unfolding self_inverse_call
 returns-in_err-inside c = rw (err_told c.from_residual.result c.from_residual.ensures.1)
     (read_refused (inside_tested c.requires c.in_err-inside.ensures) _)
 
+pub invariant_of-nodes : goal.invariant_of-nodes
+invariant_of-nodes c = let asks = read_inverses _ _ _ _ c.args.t.0 (inside_tested c.requires c.in_ok-inside.ensures) c.read_header-x.ensures in
+    record { room = asks.walks.stands.clean.room }
+
 pub self_inverse-requires : goal.self_inverse-requires
 self_inverse-requires c = let a = c.args in
     let test = inside_tested c.requires c.in_ok-inside.ensures in

@@ -19,4 +19,4 @@ returns c =
     let a = c.args in
     let p = passed {l = c.args.env.now} c.requires c.read_header-x.ensures in
     read_done p (approx_form _ _) (impls_beside a.env.now _ _ c.in_ok-impls.ensures)
-    (ap (λ (t : Bool). done t (store_in a.h.now a.ws.now a.ks.now)) (sym (c.same_trait.ensures a.xs.now a.ys.now)))
+    (ap (λ (t : Bool). done t (store_in a.h.now a.ws.now a.ks.now)) (sym c.same_trait.ensures))

@@ -13,7 +13,7 @@ returns-in_err-impls c =
 pub unify_impl_type-requires : goal.unify_impl_type-requires
 unify_impl_type-requires c =
     let p = passed {l = c.args.env.now} c.requires c.read_header-x.ensures in
-    impls_ask (lent_words p) c.begin.ensures _ _ _ _ _ c.in_ok-impls.ensures
+    impls_ask (lent_words p) c.begin.ensures _ _ _ c.in_ok-impls.ensures
 
 pub returns : goal.returns
 returns c =

@@ -11,6 +11,10 @@ pub returns-in_err-inside : goal.returns-in_err-inside
 returns-in_err-inside c =
     rw (err_told c.from_residual.result c.from_residual.ensures.1) (show_back c.args.env.now _ _ (inside_tested c.requires c.in_err-inside.ensures))
 
+pub invariant_of-nodes : goal.invariant_of-nodes
+invariant_of-nodes c = let stands = read_stands (inside_tested c.requires c.in_ok-inside.ensures) c.read_header.ensures in
+    record { room = stands.clean.room }
+
 pub show_all-requires : goal.show_all-requires
 show_all-requires c = read_stands (inside_tested c.requires c.in_ok-inside.ensures) c.read_header.ensures
 

@@ -10,6 +10,10 @@ pub returns-in_err-one_impl : goal.returns-in_err-one_impl
 returns-in_err-one_impl c =
     rw (err_told c.from_residual.result c.from_residual.ensures.1) (impl_back c.args.env.now _ c.requires _ c.read_header.ensures c.in_err-one_impl.ensures)
 
+pub invariant_of-nodes : goal.invariant_of-nodes
+invariant_of-nodes c = let stands = read_stands (none_listed c.requires) c.read_header.ensures in
+    record { room = stands.clean.room }
+
 pub show_impl_type-requires : goal.show_impl_type-requires
 show_impl_type-requires c = read_stands (none_listed c.requires) c.read_header.ensures
 

@@ -1,4 +1,4 @@
--- One law for each way out of `new`. The core makes a kind that 4 and 5 do not turn back where 10 and 11 find room.
+-- One law for each way out of a call that makes a kind. The core makes a kind that 4 and 5 do not turn back where 10 and 11 find room.
 -- Assumes nothing.
 use mathlib.Core.Path.{◌≡◌, refl, ap, sym, ◌∙◌}
 use mathlib.Core.Bool.{Bool, true, false, not}
@@ -7,7 +7,7 @@ use mathlib.Core.Option.{Option, none, some}
 use Prim.Native.Nat.{ℕ, ◌%◌, ◌≤◌, ◌<◌}
 use lib.Dec.{eqb, ltb}
 use lib.ListN.{length}
-use borrow.Author.Tests.{ltb-true, ltb-false}
+use borrow.Author.Tests.{ltb-true}
 use Rattle.scope.specs.Base.{all}
 use Rattle.scope.specs.Limits.{MAX_WIDTH}
 use Rattle.scope.specs.Chart.{Env}
@@ -41,7 +41,7 @@ use Rattle.call_make.proofs.tested.MakerLaws.{made_done}
 use Rattle.lent_kind.specs.declared.KindArgs.{KindArgs}
 use Rattle.lent_kind.specs.Lent.{with_flag, kind_lent, tidy, given, list_tests, kind_tests}
 use Rattle.lent_kind.proofs.Laws.{wide_unmakeable, given_count, given_kind, untidy_test, flag_is}
-use Rattle.tested_new.specs.Inside.{inside_call}
+use Rattle.tested_over.specs.Inside.{inside_call}
 
 -- make_inside
 
@@ -98,12 +98,6 @@ module _ (cs rule text h ws ks : List ℕ) (k : KindArgs) (es : List ℕ) where
             promised_done (j ∙ (ap (λ y. made_type (new s y)) kind_made_lem ∙ made_done o)) o.store
 
 -- 2, 8 and 3
-
--- a list that is not turned back is no wider than 255
-pub listed_narrow : (i : Bool) (w : ℕ) → first_broken (list_tests i w) ≡ none → w ≤ MAX_WIDTH
-listed_narrow i w p =
-    let t : Bool = ltb MAX_WIDTH w in
-    ltb-false MAX_WIDTH w (test_passed t UNMAKEABLE [] (tests_passed (not i) OUTSIDE ((t, UNMAKEABLE) ∷ []) p))
 
 beside_unread : (cs : List ℕ) (b : Beside) (rule text : List ℕ) (s : Store) (a : NewKind)
     → inside_call (env_of cs b rule text) s a ≡ inside_call (chart_in cs rule text) s a
