@@ -26,6 +26,7 @@ ghost use Rattle.bench.specs.Numbers.{type_word, RESULTS, result_in, bare};
 
 use append::Out;
 use chart::{Env, NO_BESIDE};
+use copy_parts::Source;
 use layout::Nodes;
 use make::Head;
 use names::{NO_NAME, Texts};
@@ -178,7 +179,16 @@ pub extern "C" fn faroalder_direct_import(
         (types_in ts.now)) (length ts.now)
         h.old ws.old ks.old h.new ws.new ks.new out.old out.new }
 {
-    copy::import(sw, sk, n, None, h, ws, ks, ts, out);
+    let nodes = Nodes {
+        words: sw,
+        kids: sk,
+        made: n,
+    };
+    let source = Source {
+        nodes,
+        params: None,
+    };
+    copy::import(&source, h, ws, ks, ts, out);
 }
 
 // The place where the text ends; one past the buffer where it does not fit.

@@ -42,16 +42,16 @@ fn stores(
 }
 
 // The listed types of the source, which is only read; what they become stands at the front of `out`. `params` is a parameter list, if there is one.
-pub fn import(
+pub fn import<'a>(
     env: &Env<'_>,
     h: &mut [u32],
     ws: &mut [u32],
     ks: &mut [u32],
     sh: &[u32],
-    sw: &[u32],
-    sk: &[u32],
+    sw: &'a [u32],
+    sk: &'a [u32],
     ts: &[u32],
-    params: Option<&[u32]>,
+    params: Option<&'a [u32]>,
     out: &mut [u32],
 ) -> Result<(), Refusal>
     ensures { ListPromised

@@ -30,7 +30,7 @@ const DUAL_FIELD: usize = 8;
 const TRAIT_FIELD: usize = 9;
 
 // The number of the builtin fn trait, and the four sigils in Flex's order, three words each.
-// Kept (1): the number is as it is lent: "4,294,967,295: none; any other must be a trait's record". `fn_trait_ok` says just that, and nothing else reads it.
+// Kept (1): the number is as it is lent: "4,294,967,295: none; any other must be a trait's record". `fn_trait_ok` says just that; the printer asks whether a trait has this number.
 #[derive(Clone, Copy)]
 pub struct Beside {
     pub fn_trait: u32,

@@ -8,12 +8,12 @@ ghost use Rattle.scope.proofs.CopyTable.{copy_all, copy_f};
 ghost use Rattle.layout.specs.Words.{decode};
 ghost use Rattle.layout.specs.Meaning.{remembered_means};
 ghost use Rattle.store.specs.Entries.{types_in};
-ghost use Rattle.roots.specs.Kept.{Cached};
-ghost use Rattle.copy_parts.specs.Places.{params_in};
-ghost use Rattle.copy_type.specs.Words.{copying_at};
-ghost use Rattle.copy_lists.specs.Lists.{AllCopyable, AllCopied, RememberedCopied};
+ghost use Rattle.roots.specs.Kept.{CachedIn};
+ghost use Rattle.copy_type.specs.Words.{copying_at, copy_from};
+ghost use Rattle.copy_lists.specs.Lists.{AllCopyable, AllCopyableFrom, AllCopied, RememberedCopied};
 
 use copy_parts::Source;
+use layout::Nodes;
 use types::Type;
 
 // The copies of a list's types stand at the front of `out`.
@@ -27,26 +27,23 @@ pub fn copy_all(
     ts: &[u32],
     out: &mut [u32],
 )
-    requires all_copyable { AllCopyable source.now.nodes.now source.now.children.now source.now.count (params_in source.now.params)
-        h.old ws.old ks.old table.old (types_in ts.now) }
+    requires all_copyable { AllCopyableFrom source.now h.old ws.old ks.old table.old (types_in ts.now) }
     requires ts_in_bounds { length ts.now ≤ length out.old }
-    requires cached { Cached source.now.nodes.now source.now.count cache.old }
-    ensures { AllCopied (copy_all
-        (copy_f source.now.count (decode source.now.nodes.now source.now.children.now source.now.count) (params_in source.now.params))
-        (copying_at h.old ws.old ks.old table.old) (types_in ts.now)) (length ts.now)
+    requires cached { CachedIn source.now.nodes cache.old }
+    ensures { AllCopied (copy_all (copy_from source.now source.now.nodes.made) (copying_at h.old ws.old ks.old table.old) (types_in ts.now)) (length ts.now)
         h.old ws.old ks.old h.new ws.new ks.new table.new
-        out.old out.new × Cached source.now.nodes.now source.now.count cache.new }
+        out.old out.new × CachedIn source.now.nodes cache.new }
 {
     for (i, t) in ts.iter().enumerate() {
         let t = Type(*t);
-        let next = copy_type::copy(source, cache, table, h, ws, ks, t, source.count);
+        let next = copy_type::copy(source, cache, table, h, ws, ks, t, source.nodes.made);
         out[i] = next.0;
     }
 }
 
 // The copy of a type that the source remembers, if any. No parameter list is used.
 pub fn copy_remembered(
-    source: &Source<'_>,
+    nodes: &Nodes<'_>,
     cache: &mut [u16],
     table: &mut [u32],
     h: &mut [u32],
@@ -54,18 +51,17 @@ pub fn copy_remembered(
     ks: &mut [u32],
     was: Option<Type>,
 ) -> Option<Type>
-    requires { AllCopyable source.now.nodes.now source.now.children.now source.now.count none
-        h.old ws.old ks.old table.old (listed (remembered_means was))
-        × Cached source.now.nodes.now source.now.count cache.old }
-    ensures { RememberedCopied (copy_all (copy_f source.now.count (decode source.now.nodes.now source.now.children.now source.now.count) none)
+    requires { AllCopyable nodes.now.words.now nodes.now.kids.now nodes.now.made none h.old ws.old ks.old table.old (listed (remembered_means was))
+        × CachedIn nodes.now cache.old }
+    ensures { RememberedCopied (copy_all (copy_f nodes.now.made (decode nodes.now.words.now nodes.now.kids.now nodes.now.made) none)
         (copying_at h.old ws.old ks.old table.old) (listed (remembered_means was)))
         h.old ws.old ks.old h.new ws.new ks.new table.new result
-        × Cached source.now.nodes.now source.now.count cache.new }
+        × CachedIn nodes.now cache.new }
 {
     let t = was?;
     let source = Source {
+        nodes: *nodes,
         params: None,
-        ..*source
     };
-    Some(copy_type::copy(&source, cache, table, h, ws, ks, t, source.count))
+    Some(copy_type::copy(&source, cache, table, h, ws, ks, t, nodes.made))
 }

@@ -4,7 +4,7 @@ use mathlib.Core.Path.{◌≡◌, refl, ap, sym, ◌∙◌}
 use mathlib.Core.Bool.{Bool}
 use mathlib.Core.Option.{Option}
 use mathlib.Core.List.{List}
-use Prim.Native.Nat.{ℕ, suc, ◌-◌, ◌≤◌, ◌<◌}
+use Prim.Native.Nat.{ℕ, suc, ◌≤◌, ◌<◌}
 use native.Mathlib.Omega.{arith}
 use lib.ListN.{length, get_or}
 use Rattle.scope.specs.Limits.{MAX_NODES, NONE}
@@ -15,6 +15,7 @@ use Rattle.scope.specs.Nodes as nodes
 use Rattle.scope.proofs.ReplacedLaws.{replaced_none, replaced_plain, replaced_other, replaced_entry, replaced_missing}
 use Rattle.types.specs.declared.«Type».{«Type»}
 use Rattle.types.specs.declared.Inverted.{Inverted}
+use Rattle.types.specs.declared.TypeIdx.{TypeIdx}
 use Rattle.types.proofs.Laws.{ty_new}
 use Rattle.layout.specs.Words.{decode}
 use Rattle.layout.specs.Meaning.{read_at, node_state, held_by, kind_means, state_means}
@@ -31,7 +32,7 @@ use Rattle.std.specs.Prelude.{Some, None}
 use Rattle.std.specs.declared.option.Option as option
 use Rattle.copy_parts.specs.declared.Place.{Place}
 use Rattle.copy_parts.specs.declared.Place.TheVariants.{Is, Node}
-use Rattle.copy_parts.specs.Places.{params_in, Becomes, Runs, EntryPlace, KindPlace, StatePlace, Goes, RootPlace}
+use Rattle.copy_parts.specs.Places.{params_in, Becomes, Runs, EntryPlace, KindPlace, StatePlace, CopyNoted, Goes, RootPlace}
 
 module _ {root : «Type»} {i : Inverted} {k : Kind} where
   pub place_unlisted : {p : option.Option (Bor (List ℕ))} → p ≡ None → KindPlace (params_in p) root i k (Node NONE k.first k.count)
@@ -92,20 +93,20 @@ become_failed ps ks root = (replaced_plain ps nodes.InferenceFailed refl, refl)
 
 -- by the table's number
 
-module _ {ws table : List ℕ} {ps : Option (List Ty)} {n : ℕ} {root : «Type»} {j was : ℕ} (here : j ≡ (ty_of root.0).idx) (read : was ≡ get_or table j 0) where
-  pub place_copied : {u : «Type»} (i : Inverted) → get_or table (ty_of root.0).idx 0 ≤ MAX_NODES → (was ≡ 0 → ⊥) → i.0 ≡ (ty_of root.0).inv
-      → ty_of u.0 ≡ flip i.0 (ty_of (was - 1)) → RootPlace ws n ps table root (Is u)
-  place_copied {u} i few new e q =
-      let w : get_or table (ty_of root.0).idx 0 ≡ was = rw (← here) (sym read) in
-      let z : get_or table (ty_of root.0).idx 0 ≡ suc (was - 1) = omega (arith, w) in
-      let v : ty_of u.0 ≡ ty (ty_of root.0).inv (was - 1) = q ∙ (ty_new i.0 (was - 1) (omega (arith, w, few)) ∙ ap (λ (b : Bool). ty b (was - 1)) e) in
+module _ {ws table : List ℕ} {ps : Option (List Ty)} {n : ℕ} {root : «Type»} {j : ℕ} {noted : option.Option TypeIdx} (here : j ≡ (ty_of root.0).idx)
+    (read : CopyNoted (get_or table j 0) noted) where
+  pub place_copied : {u : «Type»} {copy : TypeIdx} (i : Inverted) → get_or table (ty_of root.0).idx 0 ≤ MAX_NODES → noted ≡ Some copy → i.0 ≡ (ty_of root.0).inv
+      → ty_of u.0 ≡ flip i.0 (ty_of copy.0) → RootPlace ws n ps table root (Is u)
+  place_copied {u} {copy} i few is e q =
+      let z : get_or table (ty_of root.0).idx 0 ≡ suc copy.0 = rw (← here) (omega (arith, read.copied copy is)) in
+      let v : ty_of u.0 ≡ ty (ty_of root.0).inv copy.0 = q ∙ (ty_new i.0 copy.0 (omega (arith, z, few)) ∙ ap (λ (b : Bool). ty b copy.0) e) in
       record { goes = λ ks c cl g d. rw z (ap (λ (x : Ty). record { to = d; type = x }) (sym v)); run = tt }
 
-  pub place_new : {r : Place} → was ≡ 0 → StatePlace ws n ps root r → RootPlace ws n ps table root r
-  place_new {r} new o = record { goes = λ ks c cl. go (state_of (at (decode ws ks n) (ty_of root.0).idx)) r (o.becomes ks c cl); run = o.run }
+  pub place_new : {r : Place} → noted ≡ None → StatePlace ws n ps root r → RootPlace ws n ps table root r
+  place_new {r} is o = record { goes = λ ks c cl. go (state_of (at (decode ws ks n) (ty_of root.0).idx)) r (o.becomes ks c cl); run = o.run }
     where
       none_yet : get_or table (ty_of root.0).idx 0 ≡ 0
-      none_yet = rw (← here) (sym read) ∙ new
+      none_yet = rw (← here) (read.new is)
 
       go : (st : nodes.State) (r : Place) → Becomes ps st (ty_of root.0) r
           → Goes ps st (ty_of root.0) (get_or table (ty_of root.0).idx 0) r

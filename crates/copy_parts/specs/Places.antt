@@ -1,5 +1,5 @@
 -- What becomes of a source root, as the code reads it: a type that stands for it, or a new node with so many children.
-use Rattle.std.specs.Prelude.{◌≡◌, Bool, List, ℕ, get_or}
+use Rattle.std.specs.Prelude.{◌≡◌, Bool, List, ℕ, ◌+◌, get_or}
 use Rattle.std.proofs.Math.Option.{Option, none, some}
 use Rattle.scope.specs.Base.{pick}
 use Rattle.scope.specs.Types.{Ty, ty_of}
@@ -9,6 +9,7 @@ use Rattle.scope.specs.Import.{keep, replaced, span_of}
 use Rattle.scope.proofs.CopyTable.{Copying, Copied, copy_root, copy_at}
 use Rattle.types.specs.declared.«Type».{«Type»}
 use Rattle.types.specs.declared.Inverted.{Inverted}
+use Rattle.types.specs.declared.TypeIdx.{TypeIdx}
 use Rattle.layout.specs.Words.{decode}
 use Rattle.layout.specs.Meaning.{read_at, held_in, kind_means, Clean}
 use Rattle.layout.specs.declared.Kind.{Kind}
@@ -59,6 +60,11 @@ pub record EntryPlace (ps : List ℕ) (root : «Type») (i : Inverted) (number :
 pub record StatePlace (ws : List ℕ) (n : ℕ) (ps : Option (List Ty)) (root : «Type») (r : Place) : Type 0 where
   pub becomes : (ks : List ℕ) (c : ℕ) → Clean ws ks c n → Becomes ps (state_of (at (decode ws ks n) (ty_of root.0).idx)) (ty_of root.0) r
   pub run : Runs (held_in (read_at ws n (ty_of root.0).idx)) r
+
+-- what a number of the table says: it is 1 more than the copy, and 0 where there is none
+pub record CopyNoted (w : ℕ) (r : option.Option TypeIdx) : Type 0 where
+  pub copied : (i : TypeIdx) → r ≡ held.Some i → w ≡ i.0 + 1
+  pub new : r ≡ held.None → w ≡ 0
 
 -- of a root r in state st for which the table has the number w
 abbrev pub Goes : Option (List Ty) → State → Ty → ℕ → Place → Type 0

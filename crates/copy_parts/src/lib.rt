@@ -7,20 +7,18 @@ ghost use Rattle.scope.specs.Types.{ty_of};
 ghost use Rattle.layout.specs.Words.{CHILD_WORDS, node_words, nodes_made};
 ghost use Rattle.layout.specs.Meaning.{held_in, read_at};
 ghost use Rattle.store.specs.Holds.{Ready};
-ghost use Rattle.copy_parts.specs.Places.{params_in, EntryPlace, KindPlace, StatePlace, RootPlace};
+ghost use Rattle.copy_parts.specs.Places.{params_in, CopyNoted, EntryPlace, KindPlace, StatePlace, RootPlace};
 ghost use Rattle.copy_parts.specs.Steps.{Begun, ChildMoved, ended};
 
 use kinds::PARAM;
-use layout::{Kind, Slot, TypeNode, TypeState};
+use layout::{Kind, Nodes, Slot, TypeNode, TypeState};
 use scope::NONE;
 use types::{Inverted, Type, TypeIdx};
 
-// What is copied from: so many nodes, their children, and the parameter list, if there is one.
+// What is copied from, and the parameter list, if there is one.
 #[derive(Clone, Copy)]
 pub struct Source<'a> {
-    pub nodes: &'a [u32],
-    pub children: &'a [u32],
-    pub count: u32,
+    pub nodes: Nodes<'a>,
     pub params: Option<&'a [u32]>,
 }
 
@@ -54,34 +52,32 @@ fn kind_place(params: Option<&[u32]>, root: Type, inv: Inverted, kind: Kind) -> 
 
 // "InferenceFailed becomes Unknown with `Span::NONE`."
 fn state_place(source: &Source<'_>, root: Type) -> Place
-    requires { node_words source.now.count ≤ length source.now.nodes.now }
-    ensures { StatePlace source.now.nodes.now source.now.count (params_in source.now.params) root result }
+    ensures { StatePlace source.now.nodes.words.now source.now.nodes.made (params_in source.now.params) root result }
 {
-    match layout::state_of(layout::node_at(source.nodes, source.count, root.idx())) {
+    match layout::state_of(source.nodes.node(root.idx())) {
         TypeState::Known(inv, kind) => kind_place(source.params, root, inv, kind),
         TypeState::Unknown(span) => Place::Node(span, 0, 0),
         TypeState::InferenceFailed => Place::Node(NONE, 0, 0),
     }
 }
 
-// The table's number; past the end 0. It is 1 more than the copy, and 0 where there is none.
-// Kept (1): the table is fixed memory, and with an Option of a node in place of a number it would be twice as large.
-fn copy_of(table: &[u32], i: TypeIdx) -> u32
-    ensures { result ≡ get_or table.now i.0 0 }
+// The copy that the table has of a root, if any: its number is 1 more, and 0 where there is none.
+fn copy_of(table: &[u32], i: TypeIdx) -> Option<TypeIdx>
+    ensures { CopyNoted (get_or table.now i.0 0) result }
 {
-    table.get(i.0 as usize).copied().unwrap_or(0)
+    let copy = table.get(i.0 as usize)?.checked_sub(1)?;
+    Some(TypeIdx(copy))
 }
 
 // Of a root that has a copy, its copy.
 pub fn root_place(source: &Source<'_>, table: &[u32], root: Type) -> Place
-    requires { (node_words source.now.count ≤ length source.now.nodes.now) × (get_or table.now (ty_of root.0).idx 0 ≤ MAX_NODES) }
-    ensures { RootPlace source.now.nodes.now source.now.count (params_in source.now.params) table.now root result }
+    requires { get_or table.now (ty_of root.0).idx 0 ≤ MAX_NODES }
+    ensures { RootPlace source.now.nodes.words.now source.now.nodes.made (params_in source.now.params) table.now root result }
 {
-    let was = copy_of(table, root.idx());
-    if was != 0 {
-        return Place::Is(Type::new(root.inv(), TypeIdx(was - 1)));
+    match copy_of(table, root.idx()) {
+        Some(copy) => Place::Is(Type::new(root.inv(), copy)),
+        None => state_place(source, root),
     }
-    state_place(source, root)
 }
 
 // A new Unknown for the source root i, with `count` children reserved, and the table says so.
@@ -106,19 +102,19 @@ pub fn begin(
 // The type t stands in the reserved slot j, with the name of the source's child j.
 pub fn move_child(source: &Source<'_>, from: u32, ks: &mut [u32], first: u32, j: u32, t: Type)
     requires { (first + j) * CHILD_WORDS + CHILD_WORDS ≤ length ks.old }
-    ensures { ChildMoved source.now.children.now from ks.old first j t.0 ks.new }
+    ensures { ChildMoved source.now.nodes.kids.now from ks.old first j t.0 ks.new }
 {
-    let name = layout::child_of(source.children, from, j).name;
+    let name = source.nodes.child(from, j).name;
     layout::put_child(ks, first as usize + j as usize, Slot { ty: t, name });
 }
 
 // It "then takes its kind": the copy of the source root i, with its children from `first` on. What has no kind stays an Unknown.
 pub fn end(source: &Source<'_>, i: TypeIdx, h: &[u32], ws: &mut [u32], new: TypeIdx, first: u32)
-    requires { (node_words source.now.count ≤ length source.now.nodes.now) × (node_words (nodes_made h.now) ≤ length ws.old) }
-    ensures { ws.new ≡ ended ws.old (nodes_made h.now) new.0 first (held_in (read_at source.now.nodes.now source.now.count i.0)) }
+    requires { node_words (nodes_made h.now) ≤ length ws.old }
+    ensures { ws.new ≡ ended ws.old (nodes_made h.now) new.0 first (held_in (read_at source.now.nodes.words.now source.now.nodes.made i.0)) }
 {
     let made = layout::read_header(h).nodes;
-    let Some((inv, kind)) = layout::held_at(source.nodes, source.count, i) else {
+    let Some((inv, kind)) = source.nodes.held(i) else {
         return;
     };
     let state = TypeState::Known(inv, Kind { first, ..kind });

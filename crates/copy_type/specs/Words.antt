@@ -10,6 +10,8 @@ use Rattle.layout.specs.Words.{nodes_made, children_made, node_room, child_room,
 use Rattle.layout.specs.Words as words
 use Rattle.layout.specs.Meaning.{Clean, Kept}
 use Rattle.store.specs.Holds.{Beyond, Room}
+use Rattle.copy_parts.specs.declared.Source.{Source}
+use Rattle.copy_parts.specs.Places.{params_in}
 
 abbrev pub copying_at : List ℕ → List ℕ → List ℕ → List ℕ → Copying
 copying_at h ws ks table = record { dest = store_in h ws ks; table = table }
@@ -36,6 +38,13 @@ pub record Copyable (sw sk : List ℕ) (n : ℕ) (ps : Option (List Ty)) (depth 
   pub clean : words.clean h ws ks ≡ true
   pub placed : Placed (copying_at h ws ks table)
   pub room : Room (copy_f depth (decode sw sk n) ps (copying_at h ws ks table) (ty_of t.0)).to.dest 0 0
+
+-- the same of what is copied from, and the copying out of it
+abbrev pub CopyableFrom : Source → ℕ → List ℕ → List ℕ → List ℕ → List ℕ → «Type» → Type 0
+CopyableFrom s depth h ws ks table t = Copyable s.nodes.words.now s.nodes.kids.now s.nodes.made (params_in s.params) depth h ws ks table t
+
+abbrev pub copy_from : Source → ℕ → Copying → Ty → Copied
+copy_from s depth = copy_f depth (decode s.nodes.words.now s.nodes.kids.now s.nodes.made) (params_in s.params)
 
 -- the copying m from h ws ks table on gave the type r, and left h' ws' ks' table'
 pub record CopiedIs (m : Copied) (h ws ks h' ws' ks' table' : List ℕ) (r : «Type») : Type 0 where

@@ -75,7 +75,7 @@ pub enum Names {
 }
 
 // The chart's sorts: "opaque, struct, enum, union, concrete fn, const, trait, trait fn: 0 to 7"; NO_SORT is what a number that the chart lacks has.
-// Kept (1): a sort is a word of the lent chart, which may be any number until test 2, and is compared with a row's two and with no others. NO_SORT is one more that fits
+// Kept (1): a sort is a word of the lent chart, which may be any number until test 2, and is compared with these numbers, and no more. NO_SORT is one more that fits
 // no row: a test takes it as it takes any number above 7, so an Option would say twice that there is none.
 pub const OPAQUE_SORT: u32 = 0;
 

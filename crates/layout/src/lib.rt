@@ -1,6 +1,6 @@
 #![tactic(auto)]
 // A store in three lent slices of numbers: where each number lies, and how a node, a child and the header are read and written.
-// Nothing above this crate but `heads` reads a word: it uses these functions and the laws of proofs/.
+// Nothing above this crate but `heads` reads a word, and `make` copies children's as they lie: it uses these functions and the laws of proofs/.
 mod encoding;
 
 ghost use Rattle.std.specs.Prelude.{◌≡◌, ◌+◌, ◌*◌, ◌≤◌, length, get_or};

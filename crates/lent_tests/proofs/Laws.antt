@@ -30,7 +30,7 @@ use Rattle.kind_sound.proofs.NameLaws.{length_names, names_test, child_names_lem
 use Rattle.store.specs.Entries.{entry_count, entry_names, entry_types}
 use Rattle.store.proofs.EntryLaws.{entries_long}
 use Rattle.refusals.proofs.Laws.{broken_first, broken_next}
-use Rattle.lent_tests.specs.Given.{three_tests, pair_tests, list_tests, sig_tests, object_tests, impls_tests, one_impl_tests, entries_in, object_of, FirstOf}
+use Rattle.lent_tests.specs.Given.{three_tests, pair_tests, among_tests, list_tests, sig_tests, object_tests, impls_tests, one_impl_tests, entries_in, object_of, FirstOf}
 
 -- tests of two things each, in 01's order
 
@@ -46,37 +46,6 @@ pub row_told : {n : ℕ} {ts : Store → List (Bool × ℕ)} {A B : List Node �
     → ((ns : List Node) → length ns ≡ n → o ≡ not (A ns && B ns)) → m ≡ (v || w) → d ≡ not (p && q) → first_broken (three_tests o m d) ≡ r → FirstOf n ts r
 row_told f eo em ed e = record { code = λ s l. f.is s ∙ rw (← eo s.nodes l, ← em, ← ed) e }
 
--- What the code's tests answered, in its order. i and j say A and B of the nodes, k and l say v and w
-module _ {n : ℕ} {ts : Store → List (Bool × ℕ)} {A B : List Node → Bool} {v w p q : Bool} (f : Row ts A B v w p q)
-    {i : Bool} (ei : (ns : List Node) → length ns ≡ n → i ≡ A ns) where
-  pub row_first : i ≡ false → FirstOf n ts (some OUTSIDE)
-  row_first z = record { code = λ s m. f.is s ∙ ap (λ (a : Bool). row a (B s.nodes) v w p q) (sym (ei s.nodes m) ∙ z) }
-
-  module _ (ti : i ≡ true) {j : Bool} (ej : (ns : List Node) → length ns ≡ n → j ≡ B ns) where
-    row_on : (s : Store) → length s.nodes ≡ n → (b : Bool) → j ≡ b → first_broken (ts s) ≡ row true b v w p q
-    row_on s m b z =
-        f.is s
-        ∙ (ap (λ (a : Bool). row a (B s.nodes) v w p q) (sym (ei s.nodes m) ∙ ti)
-        ∙ ap (λ (c : Bool). row true c v w p q) (sym (ej s.nodes m) ∙ z))
-
-    pub row_second : j ≡ false → FirstOf n ts (some OUTSIDE)
-    row_second z = record { code = λ s m. row_on s m false z }
-
-    module _ (tj : j ≡ true) where
-      row_inside : {o : Option ℕ} → row true true v w p q ≡ o → FirstOf n ts o
-      row_inside z = record { code = λ s m. row_on s m true tj ∙ z }
-
-      module _ {k : Bool} (ek : k ≡ v) where
-        pub row_many : k ≡ true → FirstOf n ts (some UNMAKEABLE)
-        row_many z = row_inside (rw (← ek, z) refl)
-
-        module _ (fk : k ≡ false) {l : Bool} (el : l ≡ w) where
-          pub row_many_too : l ≡ true → FirstOf n ts (some UNMAKEABLE)
-          row_many_too z = row_inside (rw (← ek, fk, ← el, z) refl)
-
-          pub row_made : l ≡ false → p ≡ true → q ≡ true → FirstOf n ts none
-          row_made z tp tq = row_inside (rw (← ek, fk, ← el, z, tp, tq) refl)
-
 -- the tests of each call as such a row
 
 all_append : {A : Type 0} (f : A → Bool) (xs ys : List A) → all f (xs ++ ys) ≡ (all f xs && all f ys)
@@ -87,9 +56,15 @@ pub pair_row : (a b : Ty) → Row (pair_tests a b) (λ ns. in_store ns a) (λ ns
 unfolding pair_tests
 pair_row a b = record { is = λ s. rw (and-true (in_store s.nodes b)) refl }
 
-pub list_row : (xs ys : List Ty) → Row (list_tests xs ys) (λ ns. all (in_store ns) xs) (λ ns. all (in_store ns) ys) (too_many xs) (too_many ys) true true
-unfolding list_tests
-list_row xs ys = record { is = λ s. rw (all_append (in_store s.nodes) xs ys) refl }
+pub among_row : (o : Store) (xs ys : List Ty)
+    → Row (among_tests o xs ys) (λ ns. all (in_store o.nodes) xs) (λ ns. all (in_store ns) ys) (too_many xs) (too_many ys) true true
+unfolding among_tests
+among_row o xs ys = record { is = λ s. refl }
+
+-- both lists of one store
+pub lists_told : (xs ys : List Ty) {n : ℕ} {r : Option ℕ} → ((o : Store) → length o.nodes ≡ n → FirstOf n (among_tests o xs ys) r) → FirstOf n (list_tests xs ys) r
+unfolding list_tests among_tests
+lists_told xs ys f = record { code = λ s l. rw (all_append (in_store s.nodes) xs ys) ((f s l).code s l) }
 
 pub object_row : (e : Env) (a b : Entries) → Row (object_tests e a b) (λ ns. all (in_store ns) a.types) (λ ns. all (in_store ns) b.types) (bad_entries e a) (bad_entries e b) true true
 unfolding object_tests

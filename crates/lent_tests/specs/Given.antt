@@ -1,12 +1,13 @@
 -- What the public calls test of what is lent, once 2 and 8 do not turn them back: 3, then 4, then 5, each over all the lists.
-use Rattle.std.specs.Prelude.{◌≡◌, List, [], ◌∷◌, ◌++◌, Bool, false, ◌||◌, ℕ, ◌%◌, eqb, length}
+use Rattle.std.specs.Prelude.{◌≡◌, List, [], ◌∷◌, ◌++◌, Bool, false, not, ◌&&◌, ◌||◌, ℕ, ◌%◌, eqb, length}
 use Rattle.std.proofs.Math.Option.{Option, none}
-use Rattle.scope.specs.Base.{pick}
+use Rattle.scope.specs.Base.{pick, all}
 use Rattle.scope.specs.Chart.{Env}
 use Rattle.scope.specs.Types.{Ty}
 use Rattle.scope.specs.Kinds.{OBJECT}
 use Rattle.scope.specs.Nodes.{Store}
 use Rattle.scope.specs.Unify.{ImplType}
+use Rattle.scope.specs.Sound.{in_store}
 use Rattle.scope.specs.Refusals.{OUTSIDE, UNMAKEABLE, UNDEFINED}
 use Rattle.scope.specs.Calls.{first_broken, outside, too_many, Entries, bad_entries, impl_tests}
 use Rattle.names.specs.Place.{no_name}
@@ -21,6 +22,13 @@ three_tests o m d = (o, OUTSIDE) ∷ (m, UNMAKEABLE) ∷ (d, UNDEFINED) ∷ []
 -- two types
 unfoldable pub pair_tests : Ty → Ty → Store → List (Bool × ℕ)
 pair_tests a b s = outside s (a ∷ b ∷ []) ∷ []
+
+-- two lists of types, the first of another store's, o
+unfoldable pub among_tests : Store → List Ty → List Ty → Store → List (Bool × ℕ)
+among_tests o xs ys s =
+    (not (all (in_store o.nodes) xs && all (in_store s.nodes) ys), OUTSIDE)
+    ∷ (too_many xs || too_many ys, UNMAKEABLE)
+    ∷ []
 
 -- two lists of types
 unfoldable pub list_tests : List Ty → List Ty → Store → List (Bool × ℕ)

@@ -1,13 +1,14 @@
 #![tactic(auto)]
 // What the public calls test of lent types, lists, entries and impl types: 3 over all types of all lists, however long these are, then 4, then 5. Any numbers
 // may be lent.
-ghost use Rattle.std.specs.Prelude.{◌≡◌, []};
+ghost use Rattle.std.specs.Prelude.{◌≡◌, [], length};
 ghost use Rattle.scope.specs.Types.{ty_of};
+ghost use Rattle.scope.specs.Nodes.{Store};
 ghost use Rattle.scope.specs.Calls.{first_broken, too_many, bad_entries};
 ghost use Rattle.types.specs.Impls.{impl_means};
 ghost use Rattle.chart.specs.Env.{texts_lent, chart_alone};
 ghost use Rattle.store.specs.Entries.{types_in};
-ghost use Rattle.lent_tests.specs.Given.{three_tests, pair_tests, list_tests, sig_tests, object_tests, impls_tests, one_impl_tests, entries_in, FirstOf};
+ghost use Rattle.lent_tests.specs.Given.{three_tests, pair_tests, among_tests, list_tests, sig_tests, object_tests, impls_tests, one_impl_tests, entries_in, FirstOf};
 ghost use Rattle.refusals.specs.Codes.{told};
 
 use chart::Env;
@@ -48,13 +49,20 @@ pub fn too_many(xs: &[u32]) -> bool
     xs.len() > MAX_LIST
 }
 
-// Two lists of types.
+// Two lists of types: the first is among n nodes, the second among m, which another store may have.
+pub fn lists_among(xs: &[u32], n: u32, ys: &[u32], m: u32) -> Result<(), Refusal>
+    ensures { (o : Store) → length o.nodes ≡ n → FirstOf m (among_tests o (types_in xs.now) (types_in ys.now)) (told result) }
+{
+    let outside = !refusals::types_inside(xs, n) || !refusals::types_inside(ys, m);
+    let unmakeable = too_many(xs) || too_many(ys);
+    first(outside, unmakeable, false)
+}
+
+// Two lists of one store's types.
 pub fn lists(xs: &[u32], ys: &[u32], n: u32) -> Result<(), Refusal>
     ensures { FirstOf n (list_tests (types_in xs.now) (types_in ys.now)) (told result) }
 {
-    let outside = !refusals::types_inside(xs, n) || !refusals::types_inside(ys, n);
-    let unmakeable = too_many(xs) || too_many(ys);
-    first(outside, unmakeable, false)
+    lists_among(xs, n, ys, n)
 }
 
 // Two signatures: their parameters, and a return each.

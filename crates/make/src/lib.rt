@@ -208,6 +208,7 @@ pub fn new_vars(h: &mut [u32], ws: &mut [u32], ks: &[u32], span: u32, count: u32
     ensures { MadeAllIs h.old ws.old ks.now h.new ws.new ks.now
         out.old out.new (new_vars (store_in h.old ws.old ks.now) span count) }
 {
+    // Kept (3): tried over `out[..count].iter_mut()`: its proof knows the part alone, and the promise is of all of `out`, into which it would be put back.
     for i in 0..count as usize {
         out[i] = new_var(h, ws, ks, span).0;
     }

@@ -166,7 +166,7 @@ fn nothing() -> Needs
     }
 }
 
-// What an import of a list out of n nodes needs.
+// What an import of a list needs.
 // Kept (6): two tables, here and below, as in `copy` and `related`: each goes alone to what reads it, the cache to the finder.
 pub fn of_import(nodes: &Nodes<'_>, params: Option<u32>, ts: &[u32]) -> Needs
     requires { ImportableIn nodes.now (types_in ts.now) }

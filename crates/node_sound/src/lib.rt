@@ -127,6 +127,7 @@ fn named_children(
     if a < e && !named_child(layout::child_at(ks, a), n, texts) {
         return false;
     }
+    // Kept (3): as `all` it is no plainer: a turn changes `seen`, so that the closure would have a contract beside this loop's invariant.
     for i in a + 1..e {
         if !next_child(ks, i, n, texts, seen) {
             return false;
@@ -169,7 +170,7 @@ fn plain_node(x: Cell, ks: &[u32], n: u32, c: u32, env: &Env<'_>, seen: &mut See
         && plain_kind(layout::kind_in(x), ks, n, env, seen)
 }
 
-// Node i of n, with c children made.
+// Node i, with c children made.
 fn node_sound(nodes: &Nodes<'_>, c: u32, env: &Env<'_>, i: TypeIdx, seen: &mut Seen) -> bool
     requires index { i.0 < nodes.now.made }
     requires few { c ≤ MAX_CHILDREN }
@@ -184,12 +185,13 @@ fn node_sound(nodes: &Nodes<'_>, c: u32, env: &Env<'_>, i: TypeIdx, seen: &mut S
             && kind_sound::node_sound(nodes.node(i), nodes.kids, nodes.made, env)
 }
 
-// All n nodes. An object's names that were seen to ascend are not compared again where runs of children overlap.
+// All nodes. An object's names that were seen to ascend are not compared again where runs of children overlap.
 pub fn nodes_sound(nodes: &Nodes<'_>, c: u32, env: &Env<'_>) -> bool
     requires few { c ≤ MAX_CHILDREN }
     ensures { result ≡ nodes_test (chart_lent env.now) nodes.now.words.now nodes.now.kids.now c nodes.now.made }
 {
     let mut seen: Seen = [false; MAX_CHILDREN];
+    // Kept (3): as above, for `seen`.
     for i in 0..nodes.made {
         if !node_sound(nodes, c, env, TypeIdx(i), &mut seen) {
             return false;

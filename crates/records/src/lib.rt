@@ -73,8 +73,8 @@ fn copy_all(records: &[Record], words: &mut [u32])
     requires { length records.now * «RECORD_WORDS» ≤ length words.old }
     ensures { words.new ≡ loaded words.old records.now }
 {
-    for i in 0..records.len() {
-        put_record(words, i * RECORD_WORDS, records[i]);
+    for (i, r) in records.iter().enumerate() {
+        put_record(words, i * RECORD_WORDS, *r);
     }
 }
 

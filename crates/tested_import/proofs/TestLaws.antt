@@ -5,6 +5,7 @@ use mathlib.Core.Bool.{Bool, true, false, not, ◌&&◌, ◌||◌}
 use mathlib.Core.List.{List, [], ◌∷◌}
 use mathlib.Core.Option.{Option, none}
 use Prim.Native.Nat.{ℕ}
+use lib.ListN.{length}
 use borrow.Author.Tests.{not-false}
 use Rattle.scope.specs.Base.{all}
 use Rattle.scope.specs.Chart.{Env}
@@ -16,10 +17,12 @@ use Rattle.scope.specs.Calls.{first_broken, lent_tests, too_many, import_list}
 use Rattle.scope.proofs.TestLaws.{or_no}
 use Rattle.names.proofs.Tests.{both}
 use Rattle.layout.specs.Words.{lent_of}
+use Rattle.store.specs.Entries.{types_in}
 use Rattle.refusals.proofs.Laws.{test_passed, tests_passed, passed_first, passed_next}
 use Rattle.promise.specs.Promise.{Tested}
 use Rattle.promise.proofs.Laws.{lent_chart, lent_sound}
-use Rattle.tested_import.specs.Tests.{stores_tests, lists_tests, StoresTested}
+use Rattle.lent_tests.specs.Given.{FirstOf, among_tests}
+use Rattle.tested_import.specs.Tests.{stores_tests, lists_tests, StoresTested, ListsTested}
 
 -- both stores
 
@@ -40,7 +43,14 @@ module _ (e : Env) (h ws ks sh sw sk : List ℕ) (q : first_broken (stores_tests
   source_passed =
       rw (lent_chart e h ws ks dest_passed, test_passed test SOURCE_UNSOUND [] (passed_next (lent_tests e (lent_of h ws ks)) ((test, SOURCE_UNSOUND) ∷ []) q)) refl
 
--- both lists: what they say once they are passed
+-- both lists
+
+pub lists_told : {ts : List ℕ} (es : List ℕ) {a d : ℕ} (ps : Option (List Ty)) {r : Option ℕ} → types_in es ≡ import_list ps
+    → ((o : Store) → length o.nodes ≡ a → FirstOf d (among_tests o (types_in ts) (types_in es)) r) → ListsTested ts a ps d r
+unfolding among_tests
+lists_told es ps e f = record { first = λ o m. record { code = λ s l. rw (← e) ((f o m).code s l) } }
+
+-- what they say once they are passed
 module _ (o s : Store) (ts : List Ty) (ps : Option (List Ty)) (q : first_broken (lists_tests o ts ps s) ≡ none) where
   abbrev listed : Bool
   listed = all (in_store o.nodes) ts

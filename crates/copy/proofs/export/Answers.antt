@@ -6,6 +6,9 @@ use Rattle.copy.proofs.WholeLaws.{error_copyable, nil_copyable, list_copyable, r
 use Rattle.roots.proofs.KeptLaws.{cached_zeros}
 use Rattle.copy.proofs.export.Goals as goal
 
+pub invariant_of-nodes : goal.invariant_of-nodes
+invariant_of-nodes c = record { room = rw c.read_header-x.ensures c.requires.source.readable.clean.room }
+
 pub copy_remembered-error-requires : goal.copy_remembered-error-requires
 copy_remembered-error-requires c = (
   error_copyable c.args.sh.now c.args.sw.now c.args.sk.now c.args.ts.now MAX_NODES c.requires c.read_header-x.ensures

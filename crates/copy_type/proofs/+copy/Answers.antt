@@ -21,7 +21,7 @@ find_by-root-requires t c =
 
 pub root_place-requires : goal.root_place-requires
 root_place-requires t c =
-    (c.requires.0.source.room, place_few c.requires.0 _)
+    place_few c.requires.0 _
 
 pub begin-new-requires : goal.begin-new-requires
 begin-new-requires t c =
@@ -41,7 +41,7 @@ copy-next-requires t c = (
   omega (arith, c.if-depth-eq0.false),
   (
     kid_copyable c.loop-j.invariant.0 c.loop-j-test.true _
-        (kid_next c.args.source.now.children.now _ _ _ c.child_of.result c.loop-j-test.true c.child_of.ensures) c.requires.0.source,
+        (kid_next c.args.source.now.nodes.kids.now _ _ _ c.child.result c.loop-j-test.true c.child.ensures) c.requires.0.source,
     c.loop-j.invariant.1,
   ),
 )
@@ -49,11 +49,11 @@ copy-next-requires t c = (
 pub move_child-requires : goal.move_child-requires
 move_child-requires t c =
     kid_room c.loop-j.invariant.0 c.loop-j-test.true _
-    (kid_next c.args.source.now.children.now _ _ _ c.child_of.result c.loop-j-test.true c.child_of.ensures) c.copy-next.ensures.0
+    (kid_next c.args.source.now.nodes.kids.now _ _ _ c.child.result c.loop-j-test.true c.child.ensures) c.copy-next.ensures.0
 
 pub loop-j-preserved : goal.loop-j-preserved
 loop-j-preserved t c = (
-  filling_next c.loop-j.invariant.0 c.loop-j-test.true _ (kid_next c.args.source.now.children.now _ _ _ c.child_of.result c.loop-j-test.true c.child_of.ensures)
+  filling_next c.loop-j.invariant.0 c.loop-j-test.true _ (kid_next c.args.source.now.nodes.kids.now _ _ _ c.child.result c.loop-j-test.true c.child.ensures)
       c.copy-next.ensures.0 c.move_child.ensures
       (record {
         tables = c.copy-next.auto.table;
@@ -67,7 +67,7 @@ loop-j-preserved t c = (
 
 pub end-requires : goal.end-requires
 end-requires t c =
-    (c.requires.0.source.room, (clean_nodes _ _ _ c.loop-j.invariant.0.spared.clean).room)
+    (clean_nodes _ _ _ c.loop-j.invariant.0.spared.clean).room
 
 pub returns-in-Is : goal.returns-in-Is
 returns-in-Is t c = (

@@ -4,7 +4,7 @@
 use mathlib.Core.Path.{◌≡◌}
 use Prim.Native.Nat.{◌-◌}
 use lib.ListN.{length}
-use Rattle.roots.specs.Kept.{Cached}
+use Rattle.roots.specs.Kept.{CachedIn}
 use Rattle.copy_parts.specs.Places.{params_in}
 use Rattle.copy_type.proofs.FillLaws.{Filling}
 use Rattle.copy_type.proofs.+copy.Given as goal
@@ -14,6 +14,6 @@ decreases-copy l = l.depth
 
 abbrev pub invariant-loop-j : goal.invariant-loop-j
 invariant-loop-j l =
-    Filling l.source.nodes.now l.source.children.now l.source.count (params_in l.source.params) (l.depth - 1)
+    Filling l.source.nodes.words.now l.source.nodes.kids.now l.source.nodes.made (params_in l.source.params) (l.depth - 1)
     l.first l.count l.from l.initial.table l.initial.h l.initial.ws l.initial.ks l.table l.h l.ws l.ks l.j
-    × Cached l.source.nodes.now l.source.count l.cache × (length l.cache ≡ length l.initial.cache)
+    × CachedIn l.source.nodes l.cache × (length l.cache ≡ length l.initial.cache)

@@ -33,11 +33,6 @@ returns-then-bare_roots c = way_walk (bare (goal.at.returns-then-bare_roots c).T
 pub find-ra-requires : goal.find-ra-requires
 find-ra-requires c = (words_linked c.requires.pairs.words, c.visited.ensures.tidy)
 
-pub invariant_of-nodes : goal.invariant_of-nodes
-invariant_of-nodes c =
-    let both = climbed c.requires c.if-depth-eq0.false c.visited.ensures c.find-ra.ensures c.find-rb.ensures in
-    record { room = both.tops.pair.words.clean.room }
-
 pub meet-requires : goal.meet-requires
 meet-requires c = (climbed c.requires c.if-depth-eq0.false c.visited.ensures c.find-ra.ensures c.find-rb.ensures).tops
 

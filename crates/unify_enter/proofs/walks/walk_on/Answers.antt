@@ -6,9 +6,6 @@ use Rattle.unify_enter.proofs.walks.walk_on.Goals as goal
 pub returns-in-Some : goal.returns-in-Some
 returns-in-Some c = walk_told c.requires c.look.ensures c.in-Some.is
 
-pub invariant_of-nodes : goal.invariant_of-nodes
-invariant_of-nodes c = record { room = c.requires.roots.tops.pair.words.clean.room }
-
 pub returns-in-Some-walk_roots : goal.returns-in-Some-walk_roots
 returns-in-Some-walk_roots c =
     walk_done c.requires c.walk_roots.ensures c.in-Some-walk_roots.is c.walked.ensures

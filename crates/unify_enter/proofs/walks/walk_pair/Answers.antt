@@ -19,11 +19,6 @@ returns-in-Some c =
     small_walk_not c.small.ensures c.if-small.false
     (walk_told (small_walk_asks c.requires c.small.ensures c.if-small.false) c.look.ensures c.in-Some.is)
 
-pub invariant_of-nodes : goal.invariant_of-nodes
-invariant_of-nodes c =
-    let asks = small_walk_asks c.requires c.small.ensures c.if-small.false in
-    record { room = asks.roots.tops.pair.words.clean.room }
-
 pub ask-requires : goal.ask-requires
 ask-requires c = own_asks (small_walk_asks c.requires c.small.ensures c.if-small.false)
 
