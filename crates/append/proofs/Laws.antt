@@ -3,15 +3,17 @@
 use mathlib.Core.Path.{◌≡◌, refl, sym, ap, ◌∙◌}
 use mathlib.Core.List.{List, [], ◌∷◌, ◌++◌, append_assoc, append-nil}
 use mathlib.Core.Bool.{Bool, true, false}
-use Prim.Native.Nat.{ℕ, zero, suc, ◌+◌, ◌-◌, ◌*◌, ◌^◌, ◌≤◌, ◌<◌, ◌/◌, ◌%◌}
+use Prim.Native.Nat.{ℕ, zero, suc, ◌+◌, ◌*◌, ◌^◌, ◌≤◌, ◌<◌, ◌/◌, ◌%◌, min}
 use native.Mathlib.Nat.{pow-succ'}
-use native.Mathlib.Numerals.{add-one}
+use native.Mathlib.Decide.{dec_lt}
 use native.Mathlib.Omega.{arith}
 use borrow.Author.Tests.{lt-ltb, le-ltb, ltb-true, ltb-false, eqb-true}
 use lib.Dec.{eqb, ltb}
-use lib.ListN.{length, set, take, drop, length-append, length-take, length-drop, length-set, drop_of_length-le}
+use lib.ListN.{length, take, drop, length-append, length-take, length-drop, drop_of_length-le}
 use borrow.Rule.Slice.PartMut.{put_mid}
-use lib.Seq.{take_all, take-append-le, take-append-add, take_at, drop_at, drop-drop, drop-cons, drop-set-lt, paste, get_or-set_same}
+use lib.Seq.{take_all, take-append-le, take-append-add, take_at, drop_at, drop-drop, paste}
+use Rattle.std.specs.Prelude as known
+use Rattle.std.proofs.lemmas.Fmt as told
 use Rattle.scope.specs.Show.{decimal_f, decimal}
 use Rattle.append.specs.Appended.{filled, SoFar, Appended, Puts}
 use Rattle.append.specs.declared.Out.{Out}
@@ -110,96 +112,57 @@ copied_after buf₀ buf at bs piece n h room =
     let rest : drop (at + n) buf ≡ drop (at + n) buf₀ = sym (drop-drop n at buf) ∙ ap (drop n) back ∙ drop-drop n at buf₀ in
     rw (front, rest)
 
--- the whole piece was copied
-pub append_copied : (buf : List ℕ) (at : ℕ) (piece : List ℕ) (n : ℕ) (buf' : List ℕ) (r : ℕ)
-    → at + n ≤ length buf → n ≡ length piece → buf' ≡ paste buf at piece n → r ≡ at + n → Appended buf at buf' r piece
-append_copied buf at piece n buf' r room whole is next = record { keeps = keeps }
+-- n bytes of a piece were copied after a text that fits: it's enough to know what the whole then is
+append_bytes : (buf : List ℕ) (at : ℕ) (piece : List ℕ) (n : ℕ) (buf' : List ℕ) (r : ℕ) → at + n ≤ length buf → buf' ≡ paste buf at piece n
+    → ((buf₀ bs : List ℕ) → length buf ≡ length buf₀ → at ≡ length bs → length (bs ++ piece) ≡ length bs + length piece
+    → ((bs ++ take n piece) ++ drop (at + n) buf₀ ≡ filled buf₀ (bs ++ piece)) × (r ≡ min (length (bs ++ piece)) (length buf₀ + 1)))
+    → Appended buf at buf' r piece
+append_bytes buf at piece n buf' r room is whole = record { keeps = keeps }
   where
     keeps : (buf₀ bs : List ℕ) → SoFar buf₀ buf at bs → SoFar buf₀ buf' r (bs ++ piece)
     keeps buf₀ bs h =
-        let e = so_far_fits h (omega arith) in
-        let s : length buf ≡ length buf₀ = so_far_length h in
-        let l : length (bs ++ piece) ≡ length bs + length piece = length-append bs piece in
-        let k : at + n ≡ length (bs ++ piece) = omega (arith, e.1) in
-        record {
-          holds =
-              is
-              ∙ copied_after buf₀ buf at bs piece n h (omega arith)
-              ∙ ap (λ (x : List ℕ). (bs ++ x) ++ drop (at + n) buf₀) (take_all n piece (omega arith))
-              ∙ ap (λ (m : ℕ). (bs ++ piece) ++ drop m buf₀) k
-              ∙ sym (filled_fits buf₀ (bs ++ piece) (omega arith));
-          place = omega (arith, e.1);
-        }
+        let w = whole buf₀ bs (so_far_length h) (so_far_fits h (omega arith)).1 (length-append bs piece) in
+        record { holds = is ∙ (copied_after buf₀ buf at bs piece n h (omega arith) ∙ w.0); place = w.1 }
+
+-- the whole piece was copied
+pub append_copied : (buf : List ℕ) (at : ℕ) (piece : List ℕ) (n : ℕ) (buf' : List ℕ) (r : ℕ)
+    → at + n ≤ length buf → n ≡ length piece → buf' ≡ paste buf at piece n → r ≡ at + n → Appended buf at buf' r piece
+append_copied buf at piece n buf' r room whole is next =
+    append_bytes buf at piece n buf' r room is
+    (λ buf₀ bs s a l.
+    let k : at + n ≡ length (bs ++ piece) = omega arith in (
+      ap (λ (x : List ℕ). (bs ++ x) ++ drop (at + n) buf₀) (take_all n piece (omega arith))
+          ∙ (ap (λ (m : ℕ). (bs ++ piece) ++ drop m buf₀) k ∙ sym (filled_fits buf₀ (bs ++ piece) (omega arith))),
+      omega arith,
+    ))
 
 -- the buffer's end came before the piece's
 pub append_cut : (buf : List ℕ) (at : ℕ) (piece : List ℕ) (n : ℕ) (buf' : List ℕ) (r : ℕ)
     → at + n ≡ length buf → n < length piece → buf' ≡ paste buf at piece n → r ≡ length buf + 1 → Appended buf at buf' r piece
-append_cut buf at piece n buf' r end more is next = record { keeps = keeps }
-  where
-    keeps : (buf₀ bs : List ℕ) → SoFar buf₀ buf at bs → SoFar buf₀ buf' r (bs ++ piece)
-    keeps buf₀ bs h =
-        let e = so_far_fits h (omega arith) in
-        let s : length buf ≡ length buf₀ = so_far_length h in
-        let l : length (bs ++ piece) ≡ length bs + length piece = length-append bs piece in
-        let k : length buf₀ ≡ length bs + n = omega (arith, e.1) in
-        let past : length buf₀ ≤ at + n = omega arith in
-        let gone : drop (at + n) buf₀ ≡ [] = drop_of_length-le buf₀ past in
-        record {
-          holds =
-              is
-              ∙ copied_after buf₀ buf at bs piece n h (omega arith)
-              ∙ ap (λ (x : List ℕ). (bs ++ take n piece) ++ x) gone
-              ∙ append-nil (bs ++ take n piece)
-              ∙ sym (take-append-add bs piece n)
-              ∙ ap (λ (m : ℕ). take m (bs ++ piece)) (sym k)
-              ∙ sym (filled_over buf₀ (bs ++ piece) (omega (arith, e.1)));
-          place = omega (arith, e.1);
-        }
+append_cut buf at piece n buf' r end more is next =
+    append_bytes buf at piece n buf' r (omega arith) is
+    (λ buf₀ bs s a l.
+    let k : length buf₀ ≡ length bs + n = omega arith in
+    let past : length buf₀ ≤ at + n = omega arith in (
+      ap (λ (x : List ℕ). (bs ++ take n piece) ++ x) (drop_of_length-le buf₀ past)
+          ∙ (append-nil (bs ++ take n piece)
+          ∙ (sym (take-append-add bs piece n) ∙ (ap (λ (m : ℕ). take m (bs ++ piece)) (sym k) ∙ sym (filled_over buf₀ (bs ++ piece) (omega arith))))),
+      omega arith,
+    ))
 
--- one digit, and a digit after the others
-pub decimal_one : (i m : ℕ) → m < 10 → decimal_f (i + 11) m ≡ (48 + m) ∷ []
+-- scope's decimals are those that the library writes
+decimals_by : (f n : ℕ) → n < 10 ^ (f + 1) → n < 2 ^ 64 → known.decimal n ≡ decimal_f f n
 unfolding decimal_f
-decimal_one i m h =
-    let e : i + 11 ≡ suc (i + 10) = omega arith in
-    rw (e, decimal_f, lt-ltb m 10 h)
+decimals_by zero n h s = let e : n % 10 ≡ n = omega arith in rw e (told.decimal_digit n (omega arith))
+decimals_by (suc f) n h s =
+    elim (dec_lt n 10) [
+      | yes l ↦ rw (decimal_f, lt-ltb n 10 l) (told.decimal_digit n l)
+      | no l ↦
+          let a : suc f + 1 ≡ suc (f + 1) = omega arith in
+          let p : n < 10 * 10 ^ (f + 1) = rw (a, pow-succ' 10 (f + 1)) at h in
+          rw (decimal_f, le-ltb n 10 (omega arith), told.decimal_step n (omega arith) s, decimals_by f (n / 10) (omega arith) (omega arith))
+    ]
 
-pub decimal_more : (i m : ℕ) → 10 ≤ m → 1 ≤ i → decimal_f (i + 11) m ≡ decimal_f (i - 1 + 11) (m / 10) ++ ((48 + m % 10) ∷ [])
-unfolding decimal_f
-decimal_more i m h k =
-    let e : i + 11 ≡ suc (i - 1 + 11) = omega arith in
-    rw (e, decimal_f, le-ltb m 10 h)
-
--- a number with i + 1 digits at most; with two or more, one digit less after a division by ten
-pub tenth : (i m : ℕ) → m < 10 ^ (i + 1) → 10 ≤ m → (1 ≤ i) × (m / 10 < 10 ^ (i - 1 + 1))
-tenth zero m h k = absurd (omega arith)
-tenth (suc i) m h k =
-    let a : suc i + 1 ≡ suc (suc i) = omega arith in
-    let b : suc i - 1 + 1 ≡ suc i = omega arith in
-    let p : m < 10 * 10 ^ suc i = rw (a, pow-succ' 10 (suc i)) at h in
-    (omega arith, rw b (omega arith))
-
-settled : (l : List ℕ) (i b : ℕ) → i < length l → drop i (set l i b) ≡ b ∷ drop (i + 1) l
-settled l i b h =
-    let k : i < length (set l i b) = rw length-set h in
-    rw (add-one, drop-cons (set l i b) i 0 k, get_or-set_same l i b 0 h, drop-set-lt (suc i) l i b (omega arith))
-
--- the decimals of a number are found from the last to the first; digits is what the ten places hold, i the first of them that is not yet settled
-pub decimal_step : (n m i : ℕ) (digits : List ℕ)
-    → 10 ≤ m → 1 ≤ i → i < length digits → decimal n ≡ decimal_f (i + 11) m ++ drop (i + 1) digits
-    → decimal n ≡ decimal_f (i - 1 + 11) (m / 10) ++ drop (i - 1 + 1) (set digits i (48 + m % 10))
-decimal_step n m i digits h k w e =
-    let a : i - 1 + 1 ≡ i = omega arith in
-    rw (e, decimal_more i m h k, append_assoc, a, settled digits i (48 + m % 10) w)
-
--- the last that is found is the first
-decimal_last : (n m i : ℕ) (digits : List ℕ)
-    → m < 10 → i < length digits → decimal n ≡ decimal_f (i + 11) m ++ drop (i + 1) digits → decimal n ≡ drop i (set digits i (48 + m))
-decimal_last n m i digits h w e = rw (e, decimal_one i m h, settled digits i (48 + m) w)
-
--- the part from there on holds them all
-pub decimal_put : (n m i : ℕ) (digits : List ℕ) (b : ℕ)
-    → m < 10 → i < 10 → length digits ≡ 10 → b ≡ 48 + m → decimal n ≡ decimal_f (i + 11) m ++ drop (i + 1) digits
-    → decimal n ≡ take (10 - i) (drop i (set digits i b))
-decimal_put n m i digits b h k w is e =
-    let short : length (drop i (set digits i b)) ≤ 10 - i = simp (length-drop, length-set) (omega arith) in
-    rw (take_all (10 - i) (drop i (set digits i b)) short, is) (decimal_last n m i digits h (omega arith) e)
+pub decimals_same : (n : ℕ) → n < 2 ^ 32 → known.decimal n ≡ decimal n
+unfolding decimal
+decimals_same n h = decimals_by 20 n (omega arith) (omega arith)

@@ -1,9 +1,11 @@
 #![tactic(auto)]
 // Bytes appended to a text in a lent buffer. A place above the buffer's length says that the text did not fit; a full buffer is left alone, so
 // pieces may follow one another without a test between them.
-ghost use Rattle.std.specs.Prelude.{◌≡◌, [], ◌∷◌, ◌+◌, ◌<◌, ltb, length};
+ghost use Rattle.std.specs.Prelude.{◌≡◌, [], ◌∷◌, ltb, length};
 ghost use Rattle.scope.specs.Show.{decimal};
 ghost use Rattle.append.specs.Appended.{Appended, Puts};
+
+use itoa::Buffer;
 
 // A lent buffer and the place that a text in it has come to.
 #[derive(Drop)]
@@ -42,21 +44,11 @@ pub fn put_byte(out: &mut Out<'_>, b: u8)
     put(out, &[b]);
 }
 
-// "Node numbers are decimal": the digits are found from the last to the first, ten at most.
+// "Node numbers are decimal"
 pub fn put_decimal(out: &mut Out<'_>, n: u32)
     ensures { Puts out.old out.new (decimal n) }
 {
-    let mut digits = [0u8; 10];
-    let mut i: usize = 9;
-    let mut m = n;
-    // Kept (3): the new form is no plainer: the number ends this loop and no count, so a `for` over the places would need a way out besides.
-    while 10 <= m {
-        digits[i] = digit(m % 10);
-        m /= 10;
-        i -= 1;
-    }
-    digits[i] = digit(m);
-    put(out, &digits[i..]);
+    put(out, Buffer::new().format(n).as_bytes());
 }
 
 // One piece at the front of a buffer: where it ends.
@@ -66,12 +58,4 @@ pub fn written(buf: &mut [u8], piece: &[u8]) -> usize
     let mut out = Out { buf, at: 0 };
     put(&mut out, piece);
     out.at
-}
-
-// The byte of a digit.
-fn digit(n: u32) -> u8
-    requires { n < 10 }
-    ensures { result ≡ 48 + n }
-{
-    48 + n as u8
 }

@@ -8,6 +8,7 @@ use Rattle.scope.specs.Force.{Mod, none_mod, mod_of, error_mod, is_nil, get_mod}
 use Rattle.layout.specs.Words.{decode}
 use Rattle.layout.specs.Meaning.{Clean}
 use Rattle.chart.specs.Words.{records_of}
+use Rattle.chart.specs.Env.{SIGIL_WORDS}
 use Rattle.chart.specs.declared.Beside.{Beside}
 use Rattle.types.specs.declared.«Type».{«Type»}
 use Rattle.types.specs.declared.UnifyResult.{UnifyResult}
@@ -25,7 +26,7 @@ result_in r = pick (eqb r 0) Success (pick (eqb r 1) Failure Indeterminate)
 
 -- no fn trait, and four empty sigils
 abbrev pub bare : Beside
-bare = record { fn_trait = NONE; sigils = replicate 12 0 }
+bare = record { fn_trait = NONE; sigils = replicate SIGIL_WORDS 0 }
 
 -- yes and no
 abbrev pub flag_of : Bool → ℕ

@@ -26,11 +26,12 @@ ghost use Rattle.bench.specs.Numbers.{type_word, RESULTS, result_in, bare};
 
 use append::Out;
 use chart::{Env, NO_BESIDE};
-use copy_parts::Source;
-use layout::Nodes;
-use make::Head;
-use names::{NO_NAME, Texts};
+use copy::Source;
+use heads::Once;
+use layout::{Kind, Nodes};
+use names::Texts;
 use types::Type;
+use unify_enter::Fixed;
 
 #[unsafe(no_mangle)]
 pub extern "C" fn faroalder_direct_open(
@@ -83,7 +84,7 @@ pub extern "C" fn faroalder_direct_error(h: &mut [u32], ws: &mut [u32], ks: &[u3
     ensures { MadeIs h.old ws.old ks.now h.new ws.new ks.now
         (type_word result) (make_error (store_in h.old ws.old ks.now)) }
 {
-    make::error(h, ws, ks).0
+    make::made_once(h, ws, ks, Once::Error).0
 }
 
 #[unsafe(no_mangle)]
@@ -92,7 +93,7 @@ pub extern "C" fn faroalder_direct_nil(h: &mut [u32], ws: &mut [u32], ks: &[u32]
     ensures { MadeIs h.old ws.old ks.now h.new ws.new ks.now
         (type_word result) (make_nil (store_in h.old ws.old ks.now)) }
 {
-    make::nil(h, ws, ks).0
+    make::made_once(h, ws, ks, Once::Nil).0
 }
 
 // `new`, of a kind without `Flex` or a name of its own, whose flag is not set.
@@ -109,12 +110,9 @@ pub extern "C" fn faroalder_direct_new(
     ensures { MadeIs h.old ws.old ks.old h.new ws.new ks.new
         (type_word result) (new (store_in h.old ws.old ks.old) (kind_given (with_flag (plain_args code number) false) entries.now)) }
 {
-    let k = Head {
-        code,
+    let k = Kind {
         number,
-        dual: false,
-        flex: 0,
-        name: NO_NAME,
+        ..store::bare_kind(code)
     };
     make::new_kind(h, ws, ks, k, entries).0
 }
@@ -138,7 +136,12 @@ pub extern "C" fn faroalder_direct_unify_recalling<'a>(
 {
     recall::begin(memory);
     let texts = Texts { rule, chart: text };
-    u32::from(unify_lists::unify_all(ws, ks, n, &texts, memory, Type(a), Type(b)))
+    let fixed = Fixed {
+        kids: ks,
+        made: n,
+        texts,
+    };
+    u32::from(unify_lists::unify_all(ws, &fixed, memory, Type(a), Type(b)))
 }
 
 // The same without a memory.

@@ -17,13 +17,14 @@ use Rattle.scope.specs.Limits.{MAX_STATE_NAME}
 use Rattle.scope.specs.Sound.{zeros}
 use Rattle.layout.specs.Words.{HEAD_WORDS, node_words, child_words, store_in, between}
 use Rattle.layout.specs.Words as words
-use Rattle.layout.proofs.Lists.{and_both, length_from, get_from, from_all}
+use Rattle.layout.proofs.Lists.{and_both, length_from, get_from}
 use Rattle.book.specs.Words.{BYTES, NAME_WORDS, nodes_from, kids_from, place_words, name_length_in, name_bytes_in, head_in, nodes_in, kids_in, with_room, place_in}
 use Rattle.book.specs.Words.{is_byte, name_words_clean, counts_are_room, held_clean, place_clean}
 use Rattle.book.specs.Places.{put_part, put_name}
 use Rattle.book.proofs.Parts.{put_length, put_here, put_before, put_first, between_take}
 use Rattle.book.proofs.Names.{name_is, clean_held}
 use Rattle.book.proofs.Search.{bytes_to}
+use Rattle.scope.proofs.Sizes.{all_from}
 
 -- a test of each word of a part
 pub all_run : (q : ℕ → Bool) (s : List ℕ) (a n : ℕ) → a + n ≤ length s → all q (take n (drop a s)) ≡ all (λ i. q (get_or s i 0)) (from a n)
@@ -73,7 +74,7 @@ module _ (name : List ℕ) (m : ℕ) where
         let xs : List ℕ = length name ∷ (bytes_to name m ++ r) in
         let l = written_length in
         all_run (λ w. eqb w 0) xs (suc (length name)) (suc m - suc (length name)) (omega arith)
-        ∙ from_all (λ i. eqb (get_or xs i 0) 0) (suc (length name)) (suc m - suc (length name)) (λ j a b. zero_at j a (omega arith))
+        ∙ all_from (λ i. eqb (get_or xs i 0) 0) (suc (length name)) (suc m - suc (length name)) (λ j a b. zero_at j a (omega arith))
       where
         zero_at : (j : ℕ) → suc (length name) ≤ j → j < suc m → eqb (get_or (length name ∷ (bytes_to name m ++ r)) j 0) 0 ≡ true
         zero_at zero a b = absurd (omega arith)

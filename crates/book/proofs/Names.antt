@@ -4,7 +4,7 @@ use mathlib.Core.Path.{◌≡◌, refl, ap, sym, ◌∙◌}
 use mathlib.Core.Bool.{Bool, true, false, not, ◌&&◌, false≢true}
 use mathlib.Core.List.{List, [], ◌∷◌}
 use mathlib.Core.Option.{none}
-use Prim.Native.Nat.{ℕ, zero, suc, ◌+◌, ◌-◌, ◌<◌, ◌≤◌}
+use Prim.Native.Nat.{ℕ, suc, ◌+◌, ◌-◌, ◌<◌, ◌≤◌}
 use native.Mathlib.Omega.{arith}
 use native.Mathlib.Numerals.{add-one}
 use lib.Dec.{eqb, leb}
@@ -25,6 +25,7 @@ use Rattle.book.specs.Words.{node_room_in, child_room_in, book_clean}
 use Rattle.book.specs.Places.{room_in, PlaceLies, NameLies, held_under}
 use Rattle.book.specs.declared.Room.{Room}
 use Rattle.book.proofs.Places.{book_lies, place_length}
+use Rattle.names.proofs.Laws.{pointwise_same}
 
 -- what the code's tests say of a place
 
@@ -91,13 +92,6 @@ same_zip [] (y ∷ b) e = absurd (omega arith)
 same_zip (x ∷ a) [] e = absurd (omega arith)
 same_zip (x ∷ a) (y ∷ b) e = ap (λ (t : Bool). eqb x y && t) (same_zip a b (omega arith))
 
-pub same_pointwise : (a b : List ℕ) → pointwise eqb a b ≡ eq_bytes a b
-unfolding eq_bytes
-same_pointwise [] [] = refl
-same_pointwise [] (y ∷ b) = refl
-same_pointwise (x ∷ a) [] = refl
-same_pointwise (x ∷ a) (y ∷ b) = ap (λ (t : Bool). eqb x y && t) (same_pointwise a b)
-
 -- the words of a name
 pub name_is : (ps : List ℕ) → name_bytes_in ps ≡ take (name_length_in ps) (drop 1 ps)
 name_is ps = let z : suc (name_length_in ps) - 1 ≡ name_length_in ps = omega arith in ap (λ (k : ℕ). take k (drop 1 ps)) z
@@ -140,7 +134,7 @@ module _ (ps other : List ℕ) (lies : NameLies ps) (there : NameLies other) {n 
         let y : between other 1 (n + 1) ≡ name_bytes_in other = ap (λ j. between other 1 (j + 1)) (z ∙ q) ∙ rw (add-one (name_length_in other)) refl in
         k ∙ (ap (λ l. pointwise eqb l (between other 1 (n + 1))) x
         ∙ (ap (pointwise eqb (name_bytes_in ps)) y
-        ∙ (same_pointwise (name_bytes_in ps) (name_bytes_in other) ∙ told_held ps (name_bytes_in other) lies e held)))
+        ∙ (pointwise_same (name_bytes_in ps) (name_bytes_in other) ∙ told_held ps (name_bytes_in other) lies e held)))
 
     pub told_others : t ≡ false → (n ≡ 0 → ⊥) → t ≡ held_under (name_bytes_in other) ps
     told_others s held =

@@ -14,11 +14,12 @@ use borrow.Author.Tests.{le-leb, leb-true, eqb-true, eqb-false}
 use Rattle.scope.specs.Base.{all, from}
 use Rattle.scope.specs.Limits.{MAX_STATES}
 use Rattle.scope.specs.States.{with_places}
-use Rattle.layout.proofs.Lists.{and_both, and_left, and_right, part_here, part_other, drop_past, length_part, length_from, get_from, all_from, from_all}
+use Rattle.layout.proofs.Lists.{and_both, and_left, and_right, part_here, part_other, drop_past, length_part, length_from, get_from}
 use Rattle.book.specs.Words.{BOOK_HEAD, place_from, place_words, book_words, place_at, place_in, place_clean, node_room_in, child_room_in, places_in, book_in, book_clean, BookBecame}
 pub use Rattle.book.specs.Places.{place_of}
 use Rattle.book.specs.Places.{put_place}
 use Rattle.book.proofs.Geometry.{place_span, place_before, place_inside, place_ends, place_lower, place_higher, word_before}
+use Rattle.scope.proofs.Sizes.{all_from, from_all}
 
 -- a clean book as plain facts
 pub record BookLies (bs : List ℕ) : Type 0 where
@@ -37,14 +38,14 @@ book_lies bs e =
     record {
       head = leb-true _ _ (and_left (leb BOOK_HEAD (length bs)) _ e);
       words = leb-true _ _ (and_left (leb (book_words (node_room_in bs) (child_room_in bs)) (length bs)) _ h);
-      each = λ i l. all_from (clean_at bs) 0 MAX_STATES (and_right (leb (book_words (node_room_in bs) (child_room_in bs)) (length bs)) _ h) i (omega arith) l;
+      each = λ i l. from_all (clean_at bs) 0 MAX_STATES (and_right (leb (book_words (node_room_in bs) (child_room_in bs)) (length bs)) _ h) i (omega arith) l;
     }
 
 pub lies_book : (bs : List ℕ) → BookLies bs → book_clean bs ≡ true
 unfolding book_clean
 lies_book bs b =
     and_both _ _ (le-leb _ _ b.head)
-    (and_both _ _ (le-leb _ _ b.words) (from_all (clean_at bs) 0 MAX_STATES (λ i a l. b.each i l)))
+    (and_both _ _ (le-leb _ _ b.words) (all_from (clean_at bs) 0 MAX_STATES (λ i a l. b.each i l)))
 
 -- the places of a book
 pub places_length : (bs : List ℕ) → length (places_in bs) ≡ MAX_STATES

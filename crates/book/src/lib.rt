@@ -1,6 +1,9 @@
 #![tactic(auto)]
 // A names buffer in one lent slice: where its places lie, how a place's parts and its name are read, and how a name is written and taken away. A place is
 // read and written as a slice of its own, `ps`, its words and no others. Nothing here looks at a held store: that is what is above.
+//
+// Kept (5): the buffer or a place goes beside its `Room`: this crate and `book_sound` read it and `states` writes it, so a struct with both would be two, and one that kept
+// that the buffer is clean (`book_clean`) could not be lent to what writes a word of it.
 ghost use Rattle.std.specs.Prelude.{◌≡◌, true, ◌≤◌, ◌<◌, length, set};
 ghost use Rattle.scope.specs.Limits.{MAX_STATES};
 ghost use Rattle.scope.specs.States.{under, is_free, place_where};
@@ -8,8 +11,9 @@ ghost use Rattle.book.specs.Words.{nodes_from, kids_from, place_words, book_word
 ghost use Rattle.book.specs.Words.{name_length_in, name_bytes_in, head_in, nodes_in, kids_in, places_in, book_clean};
 ghost use Rattle.book.specs.Places.{room_in, PlaceLies, NameLies, held_under, Nameable, put_name, if_place};
 
-use layout::{HEAD_WORDS, child_words, node_words, word};
+use layout::{HEAD_WORDS, child_words, node_words};
 use scope::{MAX_STATE_NAME, MAX_STATES};
+use words::word;
 
 // The two capacities.
 pub const BOOK_HEAD: usize = 2;

@@ -11,12 +11,13 @@ use borrow.Author.Tests.{ne_eqb, eqb-true, eqb-false}
 use Rattle.scope.specs.Base.{all, any, from}
 use Rattle.scope.specs.Limits.{MAX_STATES}
 use Rattle.scope.specs.States.{Place, under, held_once, names_differ}
-use Rattle.layout.proofs.Lists.{from_all, all_map}
+use Rattle.layout.proofs.Lists.{all_map}
 use Rattle.book.specs.Words.{place_at, name_length_in, name_bytes_in, place_in, node_room_in, child_room_in, book_clean}
 use Rattle.book.specs.declared.Room.{Room}
 use Rattle.book.specs.Places.{room_in, place_of, held_under}
 use Rattle.book.proofs.Names.{under_is, place_in_free, place_name, name_is, name_length_lem, apart_length}
 use Rattle.book_sound.specs.Tests.{other_name, name_once}
+use Rattle.scope.proofs.Sizes.{all_from}
 
 -- tests of every element
 
@@ -71,7 +72,7 @@ module _ (bs : List ℕ) (cl : book_clean bs ≡ true) (i : ℕ) where
       → held_once (place_of bs i) (map (place_of bs) (from a m)) ≡ all (other_name bs i) (from a m)
   free_run z a m h =
       ap (λ (x : Place). held_once x (map (place_of bs) (from a m))) (place_in_free (node_room_in bs) (child_room_in bs) (words bs i) z)
-      ∙ sym (from_all (other_name bs i) a m (λ j b d. rw (no_name z, none_under j (omega arith)) refl))
+      ∙ sym (all_from (other_name bs i) a m (λ j b d. rw (no_name z, none_under j (omega arith)) refl))
 
   run_by : (t : Bool) → eqb (name_length_in (words bs i)) 0 ≡ t → i < MAX_STATES → name_once bs i ≡ all (other_name bs i) (from (suc i) (MAX_STATES - suc i))
   run_by true e h = free_run (eqb-true (name_length_in (words bs i)) 0 e) (suc i) (MAX_STATES - suc i) (omega arith)

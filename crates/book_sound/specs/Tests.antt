@@ -1,5 +1,5 @@
 -- What the code tests of a names buffer, place by place. proofs/Laws has scope's `lent_book_sound` as these tests.
-use Rattle.std.specs.Prelude.{◌≡◌, List, map, Bool, true, not, ◌&&◌, ℕ, suc, ◌-◌, ◌≤◌, ◌<◌, ltb, length}
+use Rattle.std.specs.Prelude.{◌≡◌, List, map, Bool, true, not, ◌&&◌, ℕ, suc, ◌-◌, ◌<◌, ltb}
 use Rattle.scope.specs.Base.{all, from}
 use Rattle.scope.specs.Limits.{MAX_STATES}
 use Rattle.scope.specs.Chart.{Env}

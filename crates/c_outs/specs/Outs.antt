@@ -12,14 +12,14 @@ use Rattle.layout.specs.Meaning.{Remembered}
 use Rattle.std.specs.declared.option.Option.TheVariants as was
 use Rattle.walk.specs.declared.Mod.{Mod}
 use Rattle.walk.specs.declared.Mod.TheVariants as mods
+use Rattle.layout.specs.declared.TypeState.{TypeState}
 use Rattle.layout.specs.declared.TypeState.TheVariants as state
 use Rattle.layout.specs.declared.TypeNode.{TypeNode}
 use Rattle.layout.specs.declared.TypeNode.TheVariants as node
-use Rattle.force.specs.declared.Forced.{Forced}
-use Rattle.force.specs.declared.Forced.TheVariants as forced
 use Rattle.refusals.specs.declared.Refusal.{Refusal}
 use Rattle.promise.specs.Promise.{Reply, reply}
-use Rattle.c_words.specs.Numbers.{answer_in}
+use Rattle.refusals.specs.Codes.{number}
+use Rattle.c_words.specs.Numbers.{REFUSED, answer_in}
 
 -- the words of a value, or what stood there
 abbrev pub left : {A : Type 0} → (A → List ℕ) → Result A Refusal → List ℕ → List ℕ
@@ -103,17 +103,22 @@ node_out (node.Root state.InferenceFailed z) = plain_out 0 z
 node_out (node.Child t) = plain_out t.0 0
 
 -- `force_kind`: 1 a type that is reported, with its span, 2 one that had failed before, 3 a Known
-abbrev pub forced_case : List ℕ → ℕ → Forced
+abbrev pub forced_case : List ℕ → ℕ → TypeState
 forced_case out r =
-    pick (eqb r 1) (forced.Reported (word out 0)) (pick (eqb r 2) forced.Failed (forced.Known (inverted_from out) (kind_from out)))
+    pick (eqb r 1) (state.Unknown (word out 0)) (pick (eqb r 2) state.InferenceFailed (state.Known (inverted_from out) (kind_from out)))
 
-abbrev pub forced_in : ℕ → List ℕ → Reply Forced
+abbrev pub forced_in : ℕ → List ℕ → Reply TypeState
 forced_in r out = answer_in 4 (forced_case out) r
 
-abbrev pub forced_out : Forced → List ℕ
-forced_out (forced.Known i k) = kind_out i k 0
-forced_out (forced.Reported p) = plain_out p 0
-forced_out forced.Failed = plain_out 0 0
+abbrev pub state_out : ℕ → TypeState → List ℕ
+state_out z (state.Known i k) = kind_out i k z
+state_out z (state.Unknown p) = plain_out p z
+state_out z state.InferenceFailed = plain_out 0 z
+
+abbrev pub forced_out : TypeState → List ℕ
+forced_out (state.Known i k) = kind_out i k 0
+forced_out (state.Unknown p) = plain_out p 0
+forced_out state.InferenceFailed = plain_out 0 0
 
 -- whether there is a type, and which
 abbrev pub has_word : Remembered → ℕ
@@ -137,8 +142,8 @@ child_out t = type_or_zero t ∷ []
 abbrev pub name_case : List ℕ → ℕ → option.Option Name
 name_case out r = pick (eqb r 0) was.None (was.Some (name_from 0 out))
 
-abbrev pub name_in : ℕ → List ℕ → Reply (option.Option Name)
-name_in r out = answer_in 2 (name_case out) r
+abbrev pub name_answer_in : ℕ → List ℕ → Reply (option.Option Name)
+name_answer_in r out = answer_in 2 (name_case out) r
 
 abbrev pub name_out : option.Option Name → List ℕ
 name_out (was.Some n) = n.text ∷ n.start ∷ n.len ∷ []
@@ -197,3 +202,29 @@ figures_from out = record {
 
 abbrev pub figures_in : ℕ → List ℕ → Reply Header
 figures_in r out = answer_in 1 (λ w. figures_from out) r
+
+-- a value's number
+abbrev pub node_number : TypeNode → ℕ
+node_number (node.Root (state.Known i k) z) = 3
+node_number (node.Root (state.Unknown p) z) = 1
+node_number (node.Root state.InferenceFailed z) = 2
+node_number (node.Child t) = 0
+
+abbrev pub forced_number : TypeState → ℕ
+forced_number (state.Known i k) = 3
+forced_number (state.Unknown p) = 1
+forced_number state.InferenceFailed = 2
+
+abbrev pub some_number : {A : Type 0} → option.Option A → ℕ
+some_number (was.Some x) = 1
+some_number was.None = 0
+
+-- an answer's, where a value's is by f
+abbrev pub answer_number : {A : Type 0} → (A → ℕ) → Result A Refusal → ℕ
+answer_number f (Ok a) = f a
+answer_number f (Err r) = REFUSED + number r
+
+-- a value's number and words, or a refusal's number, as r and the words `now` of an array that held `before`
+pub record SaidBy (a : Result (ℕ × List ℕ) Refusal) (before now : List ℕ) (r : ℕ) : Type 0 where
+  pub number : r ≡ answer_number (λ p. p.0) a
+  pub words : now ≡ left (λ p. p.1) a before

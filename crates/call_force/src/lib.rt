@@ -13,7 +13,7 @@ ghost use Rattle.promise.specs.Promise.{done_reply, Promised};
 ghost use Rattle.call_force.specs.Replies.{ForcePromised};
 
 use chart::Env;
-use force::Forced;
+use layout::TypeState;
 use refusals::Refusal;
 use types::Type;
 
@@ -24,7 +24,7 @@ pub fn force_kind(
     ws: &mut [u32],
     ks: &[u32],
     t: Type,
-) -> Result<Forced, Refusal>
+) -> Result<TypeState, Refusal>
     ensures { ForcePromised
         (force_kind_call (env_lent env.now) (lent_of h.old ws.old ks.now) (ty_of t.0))
         result h.old ws.old ks.now h.new ws.new }

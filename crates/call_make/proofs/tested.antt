@@ -1,3 +1,2 @@
-pub mod RoomLaws
-pub mod MakerLaws
+-- The laws that belong to no one function
 pub mod ListLaws

@@ -1,14 +1,14 @@
-// The calls that fill a store with variables, the error type and nil, on a tested store: each tests room and refuses, or makes what document 01 says. 10 is
-// tested before 7.
-ghost use Rattle.std.specs.Prelude.{◌≡◌, length};
-ghost use Rattle.scope.specs.Calls.{nodes_for, new_var_call, new_vars_call, error_call, nil_call};
+// The calls that fill a store with variables, the error type and nil, on a tested store: each tests room and refuses, or makes what document 01 says. Those of one
+// type are `tested_lean`'s, whose promise with every chart, texts and children's words is theirs with these. Of `new_vars` 10 is tested before 7.
+ghost use Rattle.std.specs.Prelude.{length};
+ghost use Rattle.scope.specs.Calls.{new_var_call, new_vars_call, error_call, nil_call};
 ghost use Rattle.layout.specs.Words.{lent_of};
-ghost use Rattle.layout.specs.Meaning.{remembered_means};
 ghost use Rattle.sound.specs.Tests.{env_lent};
 ghost use Rattle.promise.specs.Promise.{type_reply, Promised, Tested};
 ghost use Rattle.promise.specs.Lists.{ListPromised};
 
 use chart::Env;
+use heads::Once;
 use refusals::Refusal;
 use types::Type;
 
@@ -25,8 +25,7 @@ pub fn new_var(
         (new_var_call (env_lent env.now) (lent_of h.old ws.old ks.now) span)
         (type_reply result) h.old ws.old ks.now h.new ws.new ks.now }
 {
-    refusals::room(h, 1, 0)?;
-    Ok(make::new_var(h, ws, ks, span))
+    tested_lean::new_var(h, ws, span)
 }
 
 // `count` types without a kind; they stand at the front of `out`. "The count given to `new_vars` is limited by 10 and 7 only"
@@ -54,13 +53,6 @@ pub fn new_vars(
     Ok(())
 }
 
-// `error` and `nil` "make one node each and return it until `reset`".
-pub fn nodes_for(was: Option<Type>) -> u32
-    ensures { result ≡ nodes_for (remembered_means was) }
-{
-    u32::from(was.is_none())
-}
-
 // The error type.
 pub fn error(env: &Env<'_>, h: &mut [u32], ws: &mut [u32], ks: &[u32]) -> Result<Type, Refusal>
     requires { Tested (env_lent env.now) h.old ws.old ks.now }
@@ -68,10 +60,7 @@ pub fn error(env: &Env<'_>, h: &mut [u32], ws: &mut [u32], ks: &[u32]) -> Result
         (error_call (env_lent env.now) (lent_of h.old ws.old ks.now))
         (type_reply result) h.old ws.old ks.now h.new ws.new ks.now }
 {
-    let x = layout::read_header(h);
-    let was = x.error;
-    refusals::room(h, nodes_for(was), 0)?;
-    Ok(make::error(h, ws, ks))
+    tested_lean::once(h, ws, Once::Error)
 }
 
 // The type of nothing: a Tuple without children.
@@ -81,8 +70,5 @@ pub fn nil(env: &Env<'_>, h: &mut [u32], ws: &mut [u32], ks: &[u32]) -> Result<T
         (nil_call (env_lent env.now) (lent_of h.old ws.old ks.now))
         (type_reply result) h.old ws.old ks.now h.new ws.new ks.now }
 {
-    let x = layout::read_header(h);
-    let was = x.nil;
-    refusals::room(h, nodes_for(was), 0)?;
-    Ok(make::nil(h, ws, ks))
+    tested_lean::once(h, ws, Once::Nil)
 }

@@ -17,8 +17,8 @@ use promise::inside;
 use refusals::Refusal;
 use types::{Impl, Type};
 
-// A text that ends at its length, or past the buffer.
-fn printed(out: &Out<'_>) -> Result<usize, Refusal>
+// What a printer answers whose text is whole: the place that it came to, which is its length, or 7 where that lies past the buffer.
+pub fn printed(out: &Out<'_>) -> Result<usize, Refusal>
     ensures { count_reply result ≡ end_reply (length out.now.buf.now) out.now.at }
 {
     if append::is_full(out) {

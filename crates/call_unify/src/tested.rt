@@ -10,6 +10,7 @@ ghost use Rattle.call_unify.specs.Answers.{unify_reply};
 use chart::Env;
 use refusals::Refusal;
 use types::{Type, UnifyResult};
+use unify_enter::Fixed;
 
 // "`unify` takes both roots with `find_mut`." The memory is any slice, whatever it holds: nothing of it is believed, and what stands in it afterwards means nothing.
 pub fn unify_recalling(
@@ -30,7 +31,12 @@ pub fn unify_recalling(
     let x = layout::read_header(h);
     lent_tests::pair(a, b, x.nodes)?;
     recall::begin(memory);
-    Ok(unify_lists::unify_all(ws, ks, x.nodes, &env.texts, memory, a, b))
+    let fixed = Fixed {
+        kids: ks,
+        made: x.nodes,
+        texts: env.texts,
+    };
+    Ok(unify_lists::unify_all(ws, &fixed, memory, a, b))
 }
 
 // The same without a memory.

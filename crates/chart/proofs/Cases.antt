@@ -5,11 +5,11 @@ use mathlib.Core.List.{List, [], ◌∷◌, ◌++◌}
 use Prim.Native.Nat.{ℕ, zero, suc}
 use lib.ListN.{replicate}
 use Rattle.scope.specs.Base.{all, any}
-use Rattle.scope.specs.Limits.{NONE}
+use Rattle.scope.specs.Limits.{MAX_RECORDS, NONE}
 use Rattle.scope.specs.Names.{in_text, name_ok}
 use Rattle.scope.specs.Chart.{record_ok, chart_ok, STRUCT_SORT, TRAIT_SORT, TRAIT_FN_SORT}
 use Rattle.chart.specs.Words.{runs}
-use Rattle.chart.specs.Env.{chart_words_ok}
+use Rattle.chart.specs.Env.{SIGIL_WORDS, chart_words_ok}
 
 -- a record whose name and path are the chart text's first byte
 made : ℕ → ℕ → ℕ → List ℕ
@@ -21,10 +21,10 @@ copies (suc n) ws = ws ++ copies n ws
 
 -- empty sigils, and a chart text of one byte
 passes : ℕ → List ℕ → Bool
-passes fn_trait ws = chart_words_ok ws (record { fn_trait = fn_trait; sigils = replicate 12 0 }) [] (97 ∷ [])
+passes fn_trait ws = chart_words_ok ws (record { fn_trait = fn_trait; sigils = replicate SIGIL_WORDS 0 }) [] (97 ∷ [])
 
 -- the chart that `sheet` opens
-pub empty_passes : chart_words_ok [] (record { fn_trait = NONE; sigils = replicate 12 0 }) [] [] ≡ true
+pub empty_passes : chart_words_ok [] (record { fn_trait = NONE; sigils = replicate SIGIL_WORDS 0 }) [] [] ≡ true
 unfolding chart_words_ok chart_ok runs in_text
 empty_passes = refl
 
@@ -34,7 +34,7 @@ pass :
     (λ b. b)
     (passes NONE (made STRUCT_SORT 1 0)
     ∷ passes 1 (made TRAIT_FN_SORT 0 1 ++ made TRAIT_SORT 0 0)
-    ∷ passes NONE (copies 1024 (made STRUCT_SORT 0 0))
+    ∷ passes NONE (copies MAX_RECORDS (made STRUCT_SORT 0 0))
     ∷ [])
     ≡ true
 unfolding made copies passes chart_words_ok chart_ok record_ok runs in_text name_ok
@@ -50,7 +50,7 @@ refused :
     ∷ passes 0 (made STRUCT_SORT 0 0)
     ∷ passes 1 (made TRAIT_SORT 0 0)
     ∷ passes NONE (made STRUCT_SORT 0 0 ++ (0 ∷ []))
-    ∷ passes NONE (copies 1025 (made STRUCT_SORT 0 0))
+    ∷ passes NONE (copies (suc MAX_RECORDS) (made STRUCT_SORT 0 0))
     ∷ [])
     ≡ false
 unfolding made copies passes chart_words_ok chart_ok record_ok runs in_text name_ok

@@ -10,7 +10,7 @@ use lib.Dec.{eqb, leb}
 use lib.ListN.{length, get_or, drop, get_or-eq_default}
 use lib.Seq.{drop-drop, get_or-drop}
 use Rattle.scope.specs.Base.{all, from}
-use Rattle.scope.specs.Limits.{MAX_RECORDS}
+use Rattle.scope.specs.Limits.{MAX_RECORDS, SIGILS}
 use Rattle.scope.specs.Names.{name, texts_ok}
 use Rattle.scope.specs.Chart.{Record, no_record, record_ok, fn_trait_ok, sigil_ok, chart_ok}
 use Rattle.names.specs.Place.{texts}
@@ -56,13 +56,13 @@ word_there ws n k h l =
 name_from : (ws : List ℕ) (j : ℕ) → name_at 0 (drop j ws) ≡ name_at j ws
 name_from ws j = rw (get_or-drop j ws 0 0, get_or-drop j ws 1 0, get_or-drop j ws 2 0, add-zero)
 
-pub sigil_there : (ws : List ℕ) (n : ℕ) → n < 4 → get_or (sigils_of ws) n (name 0 0 0) ≡ name_at (n * NAME_WORDS) ws
-sigil_there ws n h = runs_at NAME_WORDS (name_at 0) 4 ws n (name 0 0 0) h ∙ name_from ws (n * NAME_WORDS)
+pub sigil_there : (ws : List ℕ) (n : ℕ) → n < SIGILS → get_or (sigils_of ws) n (name 0 0 0) ≡ name_at (n * NAME_WORDS) ws
+sigil_there ws n h = runs_at NAME_WORDS (name_at 0) SIGILS ws n (name 0 0 0) h ∙ name_from ws (n * NAME_WORDS)
 
-pub sigils_length : (ws : List ℕ) → length (sigils_of ws) ≡ 4
-sigils_length ws = runs_length NAME_WORDS (name_at 0) 4 ws
+pub sigils_length : (ws : List ℕ) → length (sigils_of ws) ≡ SIGILS
+sigils_length ws = runs_length NAME_WORDS (name_at 0) SIGILS ws
 
-pub sigil_none : (ws : List ℕ) (n : ℕ) → 4 ≤ n → get_or (sigils_of ws) n (name 0 0 0) ≡ name 0 0 0
+pub sigil_none : (ws : List ℕ) (n : ℕ) → SIGILS ≤ n → get_or (sigils_of ws) n (name 0 0 0) ≡ name 0 0 0
 sigil_none ws n h = get_or-eq_default (sigils_of ws) (name 0 0 0) (rw (sigils_length ws) h)
 
 -- the tests of chart and texts, one after the other; that of a record does not look at what stands beside the chart

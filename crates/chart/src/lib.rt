@@ -16,6 +16,9 @@ use scope::{MAX_NAME, MAX_RECORDS, MAX_TEXT, NONE};
 
 pub const RECORD_WORDS: usize = 10;
 
+// Four sigils, three words each.
+pub const SIGIL_WORDS: usize = 12;
+
 // Where a record's fields stand in its ten words. A name or path takes three: text, start, length.
 const SORT_FIELD: usize = 0;
 
@@ -29,17 +32,17 @@ const DUAL_FIELD: usize = 8;
 
 const TRAIT_FIELD: usize = 9;
 
-// The number of the builtin fn trait, and the four sigils in Flex's order, three words each.
-// Kept (1): the number is as it is lent: "4,294,967,295: none; any other must be a trait's record". `fn_trait_ok` says just that; the printer asks whether a trait has this number.
+// The number of the builtin fn trait, and the four sigils in Flex's order.
+// Kept (1): scope's env has the number itself, where 4,294,967,295 is none: a Some of that number would be none too, and so an Option would say none twice.
 #[derive(Clone, Copy)]
 pub struct Beside {
     pub fn_trait: u32,
-    pub sigils: [u32; 12],
+    pub sigils: [u32; SIGIL_WORDS],
 }
 
 pub const NO_BESIDE: Beside = Beside {
     fn_trait: NONE,
-    sigils: [0; 12],
+    sigils: [0; SIGIL_WORDS],
 };
 
 // What every call reads: the chart's words, what stands beside them, and the two texts.
@@ -57,6 +60,7 @@ pub fn record_count(chart: &[u32]) -> usize
 }
 
 // "A definition's number is its record's place, from 0."
+// Kept (5): the chart and a record's number go beside each other: nothing is asked of the two, and what lies in a store is the number.
 fn word(chart: &[u32], n: u32, field: usize) -> u32
     requires { field < «RECORD_WORDS» }
     ensures { result ≡ get_or (words_of (record_at (chart_alone chart.now) n)) field 0 }
@@ -71,7 +75,7 @@ fn word(chart: &[u32], n: u32, field: usize) -> u32
     }
 }
 
-fn name_in(chart: &[u32], n: u32, field: usize) -> Name
+fn record_name(chart: &[u32], n: u32, field: usize) -> Name
     requires { field + 2 < «RECORD_WORDS» }
     ensures { name_of result ≡ name_at field (words_of (record_at (chart_alone chart.now) n)) }
 {
@@ -91,13 +95,13 @@ pub fn sort_at(chart: &[u32], n: u32) -> u32
 pub fn name_at(chart: &[u32], n: u32) -> Name
     ensures { name_of result ≡ (record_at (chart_alone chart.now) n).name }
 {
-    name_in(chart, n, NAME_FIELD)
+    record_name(chart, n, NAME_FIELD)
 }
 
 pub fn path_at(chart: &[u32], n: u32) -> Name
     ensures { name_of result ≡ (record_at (chart_alone chart.now) n).path }
 {
-    name_in(chart, n, PATH_FIELD)
+    record_name(chart, n, PATH_FIELD)
 }
 
 pub fn def_at(chart: &[u32], n: u32) -> u32

@@ -3,14 +3,14 @@
 -- Assumes nothing.
 use mathlib.Core.Path.{◌≡◌, refl, ap, sym, ◌∙◌}
 use mathlib.Core.Bool.{Bool, true, false, ◌&&◌, and_assoc, and-true, and-false}
-use mathlib.Core.List.{List, [], ◌∷◌}
+use mathlib.Core.List.{List, [], ◌∷◌, ◌++◌}
 use mathlib.Core.Option.{none, some}
 use Prim.Native.Nat.{ℕ, zero, suc, ◌+◌, ◌*◌, ◌-◌, ◌≤◌, ◌<◌}
 use native.Mathlib.Omega.{arith}
 use native.Mathlib.Numerals.{add-one}
 use native.Mathlib.Decide.{dec_le}
 use lib.Dec.{eqb, leb, leb-zero}
-use lib.ListN.{length, get_or, take, drop, length-drop, drop_of_length-le}
+use lib.ListN.{length, get_or, take, drop, length-drop}
 use lib.Seq.{drop-cons, length-take-le}
 use borrow.Author.Tests.{eqb-true, eq-eqb, ne_eqb}
 use Rattle.scope.specs.Base.{pick, all, from, is_some}
@@ -57,12 +57,10 @@ zeros_run s a e h = by_order (dec_le a e)
     by_order (yes l) = zeros_from s a (e - a) (omega arith)
     by_order (no n) = let z : e - a ≡ 0 = omega arith in rw z
 
--- a flag that says of the words before i whether they are zero, beside those that are left
-pub zero_next : (s : List ℕ) (i : ℕ) (b : Bool) → i < length s → (b && zeros (drop i s)) ≡ ((b && zero_at s i) && zeros (drop (i + 1) s))
-zero_next s i b h = rw (drop-cons s i 0 h, add-one i, and_assoc)
-
-pub zero_end : (s : List ℕ) (i : ℕ) (b : Bool) → length s ≤ i → (b && zeros (drop i s)) ≡ b
-zero_end s i b h = rw (drop_of_length-le s h, and-true)
+-- one word more
+pub zeros_push : (ys : List ℕ) (x : ℕ) → zeros (ys ++ (x ∷ [])) ≡ (zeros ys && eqb x 0)
+zeros_push [] x = and-true (eqb x 0)
+zeros_push (y ∷ ys) x = ap (λ (b : Bool). eqb y 0 && b) (zeros_push ys x) ∙ sym (and_assoc (eqb y 0) (zeros ys) (eqb x 0))
 
 -- child i's name is clean
 abbrev pub child_clean : Bool → List ℕ → ℕ → Bool

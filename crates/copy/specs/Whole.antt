@@ -11,8 +11,8 @@ use Rattle.layout.specs.Words as words
 use Rattle.store.specs.Holds.{Became, Openable, Room}
 use Rattle.store.specs.Entries.{types_in}
 use Rattle.needs.specs.Sources.{Importable}
-use Rattle.copy_parts.specs.declared.Source.{Source}
 use Rattle.copy_parts.specs.Places.{params_in}
+use Rattle.copy.specs.declared.Source.{Source}
 
 pub record ImportReady (sw sk : List ℕ) (n : ℕ) (ps : Option (List Ty)) (ts h ws ks out : List ℕ) : Type 0 where
   pub source : Importable sw sk n (types_in ts)

@@ -8,9 +8,16 @@ ghost use Rattle.layout.specs.Words.{store_in};
 ghost use Rattle.store.specs.Entries.{types_in};
 ghost use Rattle.copy.specs.Whole.{ImportReadyFrom, import_from, ExportReady, ImportedIs};
 
-use copy_parts::Source;
 use layout::Nodes;
+use roots::Finder;
 use scope::MAX_NODES;
+
+// What is copied from, and the parameter list, if there is one.
+#[derive(Clone, Copy)]
+pub struct Source<'a> {
+    pub nodes: Nodes<'a>,
+    pub params: Option<&'a [u32]>,
+}
 
 // With a parameter list or none.
 pub fn import(
@@ -27,7 +34,11 @@ pub fn import(
 {
     let mut cache = [0u16; MAX_NODES];
     let mut table = [0u32; MAX_NODES];
-    copy_lists::copy_all(source, &mut cache, &mut table, h, ws, ks, ts, out);
+    let mut finder = Finder {
+        nodes: &source.nodes,
+        cache: &mut cache,
+    };
+    copy_lists::copy_all(&mut finder, source.params, &mut table, h, ws, ks, ts, out);
 }
 
 // "`export` is the same into a fresh store", "error type first, nil next; it has no parameter list."
@@ -57,12 +68,12 @@ pub fn export<'a>(
         kids: sk,
         made: x.nodes,
     };
-    let error = copy_lists::copy_remembered(&nodes, &mut cache, &mut table, h, ws, ks, x.error);
-    let nil = copy_lists::copy_remembered(&nodes, &mut cache, &mut table, h, ws, ks, x.nil);
-    let source = Source {
-        nodes,
-        params: None,
+    let mut finder = Finder {
+        nodes: &nodes,
+        cache: &mut cache,
     };
-    copy_lists::copy_all(&source, &mut cache, &mut table, h, ws, ks, ts, out);
+    let error = copy_lists::copy_remembered(&mut finder, &mut table, h, ws, ks, x.error);
+    let nil = copy_lists::copy_remembered(&mut finder, &mut table, h, ws, ks, x.nil);
+    copy_lists::copy_all(&mut finder, None, &mut table, h, ws, ks, ts, out);
     make::remember(h, error, nil);
 }

@@ -10,9 +10,8 @@ use Rattle.layout.specs.Words.{decode}
 use Rattle.layout.specs.Words as words
 use Rattle.layout.specs.Meaning.{remembered_means, remembered_fits, Clean}
 use Rattle.layout.specs.Meaning.{Remembered}
+use Rattle.layout.specs.declared.Nodes.{Nodes}
 use Rattle.store.specs.Holds.{Room}
-use Rattle.copy_parts.specs.declared.Source.{Source}
-use Rattle.copy_parts.specs.Places.{params_in}
 use Rattle.copy_type.specs.Words.{copying_at, Spared}
 
 -- the types us are inside the source's n nodes; the store in h ws ks has room for all that their copies make
@@ -24,9 +23,9 @@ pub record AllCopyable (sw sk : List ℕ) (n : ℕ) (ps : Option (List Ty)) (h w
   pub placed : Placed (copying_at h ws ks table)
   pub room : Room (copy_all (copy_f n (decode sw sk n) ps) (copying_at h ws ks table) us).to.dest 0 0
 
--- the same of what is copied from
-abbrev pub AllCopyableFrom : Source → List ℕ → List ℕ → List ℕ → List ℕ → List Ty → Type 0
-AllCopyableFrom s h ws ks table us = AllCopyable s.nodes.words.now s.nodes.kids.now s.nodes.made (params_in s.params) h ws ks table us
+-- the same of the nodes that are lent
+abbrev pub AllCopyableFrom : Nodes → Option (List Ty) → List ℕ → List ℕ → List ℕ → List ℕ → List Ty → Type 0
+AllCopyableFrom s ps h ws ks table us = AllCopyable s.words.now s.kids.now s.made ps h ws ks table us
 
 -- the copying m from h ws ks on left h' ws' ks' table', and its n types stand at the front of the list
 pub record AllCopied (m : CopiedAll) (n : ℕ) (h ws ks h' ws' ks' table' out out' : List ℕ) : Type 0 where

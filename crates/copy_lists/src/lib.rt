@@ -2,24 +2,22 @@
 // A list of types copied out of one store into another, and a type that the source remembers: a list of one or none. Lists that go through one table
 // share their copies. Nothing here can fail: what is asked for is room.
 ghost use Rattle.std.proofs.Math.Option.{none};
-ghost use Rattle.std.specs.Prelude.{◌≤◌, length};
+ghost use Rattle.std.specs.Prelude.{◌≡◌, ◌≤◌, length};
 ghost use Rattle.scope.specs.Needs.{listed};
-ghost use Rattle.scope.proofs.CopyTable.{copy_all, copy_f};
-ghost use Rattle.layout.specs.Words.{decode};
+ghost use Rattle.scope.proofs.CopyTable.{copy_all};
 ghost use Rattle.layout.specs.Meaning.{remembered_means};
 ghost use Rattle.store.specs.Entries.{types_in};
-ghost use Rattle.roots.specs.Kept.{CachedIn};
+ghost use Rattle.copy_parts.specs.Places.{params_in};
 ghost use Rattle.copy_type.specs.Words.{copying_at, copy_from};
-ghost use Rattle.copy_lists.specs.Lists.{AllCopyable, AllCopyableFrom, AllCopied, RememberedCopied};
+ghost use Rattle.copy_lists.specs.Lists.{AllCopyableFrom, AllCopied, RememberedCopied};
 
-use copy_parts::Source;
-use layout::Nodes;
+use roots::Finder;
 use types::Type;
 
 // The copies of a list's types stand at the front of `out`.
 pub fn copy_all(
-    source: &Source<'_>,
-    cache: &mut [u16],
+    finder: &mut Finder<'_>,
+    params: Option<&[u32]>,
     table: &mut [u32],
     h: &mut [u32],
     ws: &mut [u32],
@@ -27,41 +25,35 @@ pub fn copy_all(
     ts: &[u32],
     out: &mut [u32],
 )
-    requires all_copyable { AllCopyableFrom source.now h.old ws.old ks.old table.old (types_in ts.now) }
+    requires all_copyable { AllCopyableFrom finder.old.nodes.now (params_in params) h.old ws.old ks.old table.old (types_in ts.now) }
     requires ts_in_bounds { length ts.now ≤ length out.old }
-    requires cached { CachedIn source.now.nodes cache.old }
-    ensures { AllCopied (copy_all (copy_from source.now source.now.nodes.made) (copying_at h.old ws.old ks.old table.old) (types_in ts.now)) (length ts.now)
+    ensures { AllCopied (copy_all (copy_from finder.old.nodes.now (params_in params.entry) finder.old.nodes.now.made) (copying_at h.old ws.old ks.old table.old)
+        (types_in ts.now)) (length ts.now)
         h.old ws.old ks.old h.new ws.new ks.new table.new
-        out.old out.new × CachedIn source.now.nodes cache.new }
+        out.old out.new × (finder.new.nodes ≡ finder.old.nodes) × (finder.new.cache.ghost_name ≡ finder.old.cache.ghost_name) }
 {
     for (i, t) in ts.iter().enumerate() {
         let t = Type(*t);
-        let next = copy_type::copy(source, cache, table, h, ws, ks, t, source.nodes.made);
+        let next = copy_type::copy(finder, params, table, h, ws, ks, t, finder.nodes.made);
         out[i] = next.0;
     }
 }
 
 // The copy of a type that the source remembers, if any. No parameter list is used.
 pub fn copy_remembered(
-    nodes: &Nodes<'_>,
-    cache: &mut [u16],
+    finder: &mut Finder<'_>,
     table: &mut [u32],
     h: &mut [u32],
     ws: &mut [u32],
     ks: &mut [u32],
     was: Option<Type>,
 ) -> Option<Type>
-    requires { AllCopyable nodes.now.words.now nodes.now.kids.now nodes.now.made none h.old ws.old ks.old table.old (listed (remembered_means was))
-        × CachedIn nodes.now cache.old }
-    ensures { RememberedCopied (copy_all (copy_f nodes.now.made (decode nodes.now.words.now nodes.now.kids.now nodes.now.made) none)
+    requires { AllCopyableFrom finder.old.nodes.now none h.old ws.old ks.old table.old (listed (remembered_means was)) }
+    ensures { RememberedCopied (copy_all (copy_from finder.old.nodes.now none finder.old.nodes.now.made)
         (copying_at h.old ws.old ks.old table.old) (listed (remembered_means was)))
         h.old ws.old ks.old h.new ws.new ks.new table.new result
-        × CachedIn nodes.now cache.new }
+        × (finder.new.nodes ≡ finder.old.nodes) × (finder.new.cache.ghost_name ≡ finder.old.cache.ghost_name) }
 {
     let t = was?;
-    let source = Source {
-        nodes: *nodes,
-        params: None,
-    };
-    Some(copy_type::copy(&source, cache, table, h, ws, ks, t, nodes.made))
+    Some(copy_type::copy(finder, None, table, h, ws, ks, t, finder.nodes.made))
 }

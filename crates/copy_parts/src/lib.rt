@@ -1,7 +1,7 @@
 #![tactic(auto)]
 // The steps of copying types out of one store into another, by a table with a number for each node of the source: 0 where a root has no copy, else its
 // copy's number and 1. What a root becomes; its blank, a child moved, the kind taken. Nothing here can fail: what is asked for is room.
-ghost use Rattle.std.specs.Prelude.{◌≡◌, ◌+◌, ◌*◌, ◌≤◌, length, get_or, set};
+ghost use Rattle.std.specs.Prelude.{◌≡◌, ◌+◌, ◌*◌, ◌≤◌, length, get_or};
 ghost use Rattle.scope.specs.Limits.{MAX_NODES};
 ghost use Rattle.scope.specs.Types.{ty_of};
 ghost use Rattle.layout.specs.Words.{CHILD_WORDS, node_words, nodes_made};
@@ -14,13 +14,6 @@ use kinds::PARAM;
 use layout::{Kind, Nodes, Slot, TypeNode, TypeState};
 use scope::NONE;
 use types::{Inverted, Type, TypeIdx};
-
-// What is copied from, and the parameter list, if there is one.
-#[derive(Clone, Copy)]
-pub struct Source<'a> {
-    pub nodes: Nodes<'a>,
-    pub params: Option<&'a [u32]>,
-}
 
 // What a source root becomes.
 #[derive(Clone, Copy)]
@@ -51,17 +44,18 @@ fn kind_place(params: Option<&[u32]>, root: Type, inv: Inverted, kind: Kind) -> 
 }
 
 // "InferenceFailed becomes Unknown with `Span::NONE`."
-fn state_place(source: &Source<'_>, root: Type) -> Place
-    ensures { StatePlace source.now.nodes.words.now source.now.nodes.made (params_in source.now.params) root result }
+fn state_place(nodes: &Nodes<'_>, params: Option<&[u32]>, root: Type) -> Place
+    ensures { StatePlace nodes.now.words.now nodes.now.made (params_in params.entry) root result }
 {
-    match layout::state_of(source.nodes.node(root.idx())) {
-        TypeState::Known(inv, kind) => kind_place(source.params, root, inv, kind),
+    match layout::state_of(nodes.node(root.idx())) {
+        TypeState::Known(inv, kind) => kind_place(params, root, inv, kind),
         TypeState::Unknown(span) => Place::Node(span, 0, 0),
         TypeState::InferenceFailed => Place::Node(NONE, 0, 0),
     }
 }
 
 // The copy that the table has of a root, if any: its number is 1 more, and 0 where there is none.
+// Kept (1): the table is fixed memory, four bytes a node, and no Option of a number is promised to be as small; here it is read as one.
 fn copy_of(table: &[u32], i: TypeIdx) -> Option<TypeIdx>
     ensures { CopyNoted (get_or table.now i.0 0) result }
 {
@@ -70,13 +64,13 @@ fn copy_of(table: &[u32], i: TypeIdx) -> Option<TypeIdx>
 }
 
 // Of a root that has a copy, its copy.
-pub fn root_place(source: &Source<'_>, table: &[u32], root: Type) -> Place
+pub fn root_place(nodes: &Nodes<'_>, params: Option<&[u32]>, table: &[u32], root: Type) -> Place
     requires { get_or table.now (ty_of root.0).idx 0 ≤ MAX_NODES }
-    ensures { RootPlace source.now.nodes.words.now source.now.nodes.made (params_in source.now.params) table.now root result }
+    ensures { RootPlace nodes.now.words.now nodes.now.made (params_in params.entry) table.now root result }
 {
     match copy_of(table, root.idx()) {
         Some(copy) => Place::Is(Type::new(root.inv(), copy)),
-        None => state_place(source, root),
+        None => state_place(nodes, params, root),
     }
 }
 
@@ -95,26 +89,26 @@ pub fn begin(
         table.new h.new ws.new result }
 {
     let new = make::push_unknown(h, ws, span, count);
-    roots::put(table, i.0 as usize, new.0 + 1);
+    words::put(table, i.0 as usize, new.0 + 1);
     new
 }
 
 // The type t stands in the reserved slot j, with the name of the source's child j.
-pub fn move_child(source: &Source<'_>, from: u32, ks: &mut [u32], first: u32, j: u32, t: Type)
+pub fn move_child(kids: &[u32], from: u32, ks: &mut [u32], first: u32, j: u32, t: Type)
     requires { (first + j) * CHILD_WORDS + CHILD_WORDS ≤ length ks.old }
-    ensures { ChildMoved source.now.nodes.kids.now from ks.old first j t.0 ks.new }
+    ensures { ChildMoved kids.now from ks.old first j t.0 ks.new }
 {
-    let name = source.nodes.child(from, j).name;
+    let name = layout::child_of(kids, from, j).name;
     layout::put_child(ks, first as usize + j as usize, Slot { ty: t, name });
 }
 
 // It "then takes its kind": the copy of the source root i, with its children from `first` on. What has no kind stays an Unknown.
-pub fn end(source: &Source<'_>, i: TypeIdx, h: &[u32], ws: &mut [u32], new: TypeIdx, first: u32)
+pub fn end(nodes: &Nodes<'_>, i: TypeIdx, h: &[u32], ws: &mut [u32], new: TypeIdx, first: u32)
     requires { node_words (nodes_made h.now) ≤ length ws.old }
-    ensures { ws.new ≡ ended ws.old (nodes_made h.now) new.0 first (held_in (read_at source.now.nodes.words.now source.now.nodes.made i.0)) }
+    ensures { ws.new ≡ ended ws.old (nodes_made h.now) new.0 first (held_in (read_at nodes.now.words.now nodes.now.made i.0)) }
 {
     let made = layout::read_header(h).nodes;
-    let Some((inv, kind)) = source.nodes.held(i) else {
+    let Some((inv, kind)) = nodes.held(i) else {
         return;
     };
     let state = TypeState::Known(inv, Kind { first, ..kind });

@@ -8,10 +8,10 @@ use Rattle.scope.proofs.CopyTableLaws.{Placed}
 use Rattle.types.specs.declared.«Type».{«Type»}
 use Rattle.layout.specs.Words.{nodes_made, children_made, node_room, child_room, first_at, count_at, decode, store_in}
 use Rattle.layout.specs.Words as words
+use Rattle.layout.specs.Lent.{nodes_by}
+use Rattle.layout.specs.declared.Nodes.{Nodes}
 use Rattle.layout.specs.Meaning.{Clean, Kept}
 use Rattle.store.specs.Holds.{Beyond, Room}
-use Rattle.copy_parts.specs.declared.Source.{Source}
-use Rattle.copy_parts.specs.Places.{params_in}
 
 abbrev pub copying_at : List ℕ → List ℕ → List ℕ → List ℕ → Copying
 copying_at h ws ks table = record { dest = store_in h ws ks; table = table }
@@ -39,12 +39,12 @@ pub record Copyable (sw sk : List ℕ) (n : ℕ) (ps : Option (List Ty)) (depth 
   pub placed : Placed (copying_at h ws ks table)
   pub room : Room (copy_f depth (decode sw sk n) ps (copying_at h ws ks table) (ty_of t.0)).to.dest 0 0
 
--- the same of what is copied from, and the copying out of it
-abbrev pub CopyableFrom : Source → ℕ → List ℕ → List ℕ → List ℕ → List ℕ → «Type» → Type 0
-CopyableFrom s depth h ws ks table t = Copyable s.nodes.words.now s.nodes.kids.now s.nodes.made (params_in s.params) depth h ws ks table t
+-- the same of the nodes that are lent, and the copying out of them
+abbrev pub CopyableFrom : Nodes → Option (List Ty) → ℕ → List ℕ → List ℕ → List ℕ → List ℕ → «Type» → Type 0
+CopyableFrom s ps depth h ws ks table t = Copyable s.words.now s.kids.now s.made ps depth h ws ks table t
 
-abbrev pub copy_from : Source → ℕ → Copying → Ty → Copied
-copy_from s depth = copy_f depth (decode s.nodes.words.now s.nodes.kids.now s.nodes.made) (params_in s.params)
+abbrev pub copy_from : Nodes → Option (List Ty) → ℕ → Copying → Ty → Copied
+copy_from s ps depth = copy_f depth (nodes_by s) ps
 
 -- the copying m from h ws ks table on gave the type r, and left h' ws' ks' table'
 pub record CopiedIs (m : Copied) (h ws ks h' ws' ks' table' : List ℕ) (r : «Type») : Type 0 where

@@ -24,6 +24,7 @@ use Rattle.store.specs.Holds.{Holds, Beyond, Became}
 use Rattle.store.proofs.Laws.{store_count, holds_clean, holds_read, holds_put, beyond_put, beyond_refl, beyond_trans, bare_means, bare_fits}
 use Rattle.force.specs.Finish.{default_root, lacks_kind, finish_words, chosen, Finished, Finishes}
 use Rattle.force.proofs.Laws.{Going, going_start, going_skip, going_put, going_end}
+use Rattle.scope.proofs.Restate.{where_len}
 
 -- the definitions, node by node
 
@@ -51,12 +52,6 @@ where_at bs [] j h = absurd (omega arith)
 where_at [] (v ∷ ns) j h = sym (unchosen (at (v ∷ ns) j))
 where_at (b ∷ bs) (v ∷ ns) zero h = refl
 where_at (b ∷ bs) (v ∷ ns) (suc j) h = where_at bs ns j (omega arith)
-
-pub where_long : (bs : List ℕ) (ns : List Node) → length (finish_where bs ns) ≡ length ns
-unfolding finish_where
-where_long bs [] = refl
-where_long [] (v ∷ ns) = refl
-where_long (b ∷ bs) (v ∷ ns) = ap suc (where_long bs ns)
 
 -- a root whose kind is Default
 
@@ -176,6 +171,6 @@ finishes_all h = record {
 
 pub finishes_where : {P : TypeIdx → Bool → Type 0} (bs : List ℕ) → ((i : TypeIdx) (b : Bool) → i.0 < 4294967296 → P i b → b ≡ chosen bs i.0) → Finishes P (finish_where bs)
 finishes_where bs h = record {
-  long = where_long bs;
+  long = where_len bs;
   each = λ ns j b below small p. where_at bs ns j below ∙ ap (λ (t : Bool). finish_node t (at ns j)) (sym (h (record { 0 = j }) b small p));
 }

@@ -29,7 +29,6 @@ use Rattle.roots.specs.Found.{FoundMut}
 use Rattle.store.specs.Holds.{Holds, Beyond, Became}
 use Rattle.store.proofs.Laws.{holds_nodes, holds_lies, holds_clean, holds_read, holds_fits, holds_with, beyond_with, holds_put, beyond_put, remembered_fits_lem}
 use Rattle.force.specs.Forcing.{reporting, ForcedIs}
-use Rattle.force.specs.declared.Forced.TheVariants.{Known, Reported, Failed}
 use Rattle.force.proofs.Laws.{state_kept}
 
 -- find_mut on slices that hold a store
@@ -145,7 +144,7 @@ module _ (h ws ks : List ℕ) {ws' : List ℕ} {x : Header} {t r : «Type»} {i 
   became = record { holds = after; beyond = beyond }
 
   pub force_known : {j k : Inverted} {b : Bool} {c : Kind} → st ≡ state.Known j c → b ≡ (ty_of r.0).inv → k.0 ≡ xor j.0 b
-      → ForcedIs h ws ks h ws' t (Known k c)
+      → ForcedIs h ws ks h ws' t (state.Known k c)
   force_known {j} {k} {b} {c} z y w =
       let a = force_is (ap (state_means ks) z) in
       record {
@@ -154,7 +153,7 @@ module _ (h ws ks : List ℕ) {ws' : List ℕ} {x : Header} {t r : «Type»} {i 
         store = rw a became;
       }
 
-  pub force_failed : st ≡ state.InferenceFailed → ForcedIs h ws ks h ws' t Failed
+  pub force_failed : st ≡ state.InferenceFailed → ForcedIs h ws ks h ws' t state.InferenceFailed
   force_failed z = let a = force_is (ap (state_means ks) z) in record { answer = rw a refl; fits = refl; store = rw a became }
 
   -- the root has failed, and one report more is counted
@@ -190,7 +189,7 @@ module _ (h ws ks : List ℕ) {ws' : List ℕ} {x : Header} {t r : «Type»} {i 
 
   pub force_reported : {d m n : ℕ} {h'' ws'' : List ℕ} {y : Header} → st ≡ state.Unknown d → m ≡ node_size v
       → ws'' ≡ put_at ws' x.nodes i (Root state.InferenceFailed m) → n ≡ report x.reports → y ≡ reporting x n → h'' ≡ put_header h y
-      → ForcedIs h ws ks h'' ws'' t (Reported d)
+      → ForcedIs h ws ks h'' ws'' t (state.Unknown d)
   force_reported {d} {m} z w g b c l =
       let a = force_is (ap (state_means ks) z) in
       record { answer = rw a refl; fits = refl; store = rw (a, l, c, b, g, e) (failed_became m w d) }

@@ -5,43 +5,22 @@ ghost use Rattle.std.specs.Prelude.{◌≡◌, true, ◌≤◌, length};
 ghost use Rattle.scope.specs.Force.{report, finish_inference, finish_where};
 ghost use Rattle.layout.specs.Words.{node_words, clean};
 ghost use Rattle.layout.specs.Meaning.{read_at};
-ghost use Rattle.force.specs.Finish.{lacks_kind, finish_words, Finished, FinishedBy};
+ghost use Rattle.force.specs.Finish.{finish_words, Finished, FinishedBy};
 ghost use Rattle.force.specs.Forcing.{reporting, ForcedIs};
 
 use kinds::DEFAULT;
-use layout::{Header, Kind, TypeNode, TypeState};
-use scope::MAX_REPORTS;
+use layout::{Header, TypeNode, TypeState};
 use types::{Inverted, Type, TypeIdx};
-
-// What a forced type has: its inversion and kind; or none, and then the span of a type that had not failed before.
-#[derive(Clone, Copy)]
-pub enum Forced {
-    Known(Inverted, Kind),
-    Reported(u32),
-    Failed,
-}
-
-fn lacks_kind(node: TypeNode) -> bool
-    ensures { result ≡ lacks_kind node }
-{
-    match node {
-        TypeNode::Child(_) => false,
-        TypeNode::Root { state, size: _ } => match state {
-            TypeState::Known(_, _) => false,
-            TypeState::Unknown(_) | TypeState::InferenceFailed => true,
-        },
-    }
-}
 
 // Node i of n: a root without a kind gets Default.
 fn finish_node(ws: &mut [u32], n: u32, i: TypeIdx)
     requires { node_words n ≤ length ws.old }
     ensures { ws.new ≡ finish_words ws.old n i.0 (read_at ws.old n i.0) }
 {
-    let node = layout::node_at(ws, n, i);
-    if lacks_kind(node) {
+    if let TypeNode::Root { state, size } = layout::node_at(ws, n, i)
+        && state.lacks_kind()
+    {
         let state = TypeState::Known(Inverted(false), store::bare_kind(DEFAULT));
-        let size = layout::size_of(node);
         layout::put_node(ws, n, i, TypeNode::Root { state, size });
     }
 }
@@ -81,7 +60,7 @@ pub fn finish_inference_where(h: &[u32], ws: &mut [u32], ks: &[u32], bytes: &[u8
 fn one_more(n: u64) -> u64
     ensures { result ≡ report n }
 {
-    if n < MAX_REPORTS { n + 1 } else { n }
+    n.saturating_add(1)
 }
 
 fn with_reports(x: Header, reports: u64) -> Header
@@ -90,8 +69,8 @@ fn with_reports(x: Header, reports: u64) -> Header
     Header { reports, ..x }
 }
 
-// The kind of a type, or the span to report at.
-pub fn force_kind(h: &mut [u32], ws: &mut [u32], ks: &[u32], t: Type) -> Forced
+// The state that a type's root had, inverted as the type is: its kind, the span to report at, or that it had failed before.
+pub fn force_kind(h: &mut [u32], ws: &mut [u32], ks: &[u32], t: Type) -> TypeState
     requires { clean h.old ws.old ks.now ≡ true }
     ensures { ForcedIs h.old ws.old ks.now h.new ws.new t result }
 {
@@ -101,7 +80,7 @@ pub fn force_kind(h: &mut [u32], ws: &mut [u32], ks: &[u32], t: Type) -> Forced
     let node = layout::node_at(ws, x.nodes, i);
     let state = layout::state_of(node);
     match state {
-        TypeState::Known(inv, kind) => Forced::Known(inv ^ root.inv(), kind),
+        TypeState::Known(inv, kind) => TypeState::Known(inv ^ root.inv(), kind),
         TypeState::Unknown(span) => {
             let failed = TypeNode::Root {
                 state: TypeState::InferenceFailed,
@@ -109,8 +88,8 @@ pub fn force_kind(h: &mut [u32], ws: &mut [u32], ks: &[u32], t: Type) -> Forced
             };
             layout::put_node(ws, x.nodes, i, failed);
             layout::write_header(h, with_reports(x, one_more(x.reports)));
-            Forced::Reported(span)
+            TypeState::Unknown(span)
         }
-        TypeState::InferenceFailed => Forced::Failed,
+        TypeState::InferenceFailed => TypeState::InferenceFailed,
     }
 }

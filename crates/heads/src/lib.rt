@@ -1,17 +1,28 @@
 #![tactic(auto)]
 // The header's words one by one, and a new root's few words, for functions that want no more of them. They ask for a header's eight words, and test
 // no length.
-ghost use Rattle.std.specs.Prelude.{◌≡◌, ◌+◌, ◌*◌, ◌≤◌, length, get_or};
+//
+// Kept (5): that a header has its words is asked by each that takes no copy of it: a header is lent as a slice of any length in every call, as `promise` says, and so a
+// struct or an array would be made of the slice before each of these reads, which are one index each.
+ghost use Rattle.std.specs.Prelude.{◌≡◌, ◌+◌, ◌*◌, ◌≤◌, length};
 ghost use Rattle.layout.specs.Words.{NODE_WORDS, HEAD_WORDS, nodes_made, children_made, node_room, child_room};
-ghost use Rattle.layout.specs.Meaning.{cell_words, put_at, remembered_of};
-ghost use Rattle.heads.specs.Heads.{no_words, put_counts};
+ghost use Rattle.layout.specs.Meaning.{cell_words, put_at, header_in};
+ghost use Rattle.heads.specs.Heads.{no_words, put_counts, remembered_by};
 ghost use Rattle.layout.specs.declared.TypeNode.TheVariants.{Root};
 ghost use Rattle.layout.specs.declared.TypeState.TheVariants.{Unknown};
 
 use layout::{NODE_WORDS, UNKNOWN_TAG, remembered_of};
 use types::{Type, TypeIdx};
 
-// Kept (2): one function of the word's number would say `heads::word::<0>(h)` where callers say `heads::nodes_made(h)`; each here is an index, and two of them read a type.
+// The types that a store makes once, and remembers.
+#[derive(Clone, Copy)]
+pub enum Once {
+    Error,
+    // The type of nothing.
+    Nil,
+}
+
+// Kept (2): one function of the word's number would say `heads::word::<0>(h)` where callers say `heads::nodes_made(h)`; each here is an index.
 pub fn nodes_made(h: &[u32]) -> u32
     requires { HEAD_WORDS ≤ length h.now }
     ensures { result ≡ nodes_made h.now }
@@ -40,19 +51,15 @@ pub fn child_room(h: &[u32]) -> u32
     h[3]
 }
 
-// The remembered types.
-pub fn error_made(h: &[u32]) -> Option<Type>
+// The type that is remembered as such.
+pub fn made(h: &[u32], what: Once) -> Option<Type>
     requires { HEAD_WORDS ≤ length h.now }
-    ensures { result ≡ remembered_of (get_or h.now 4 0) }
+    ensures { result ≡ remembered_by what (header_in h.now) }
 {
-    remembered_of(h[4])
-}
-
-pub fn nil_made(h: &[u32]) -> Option<Type>
-    requires { HEAD_WORDS ≤ length h.now }
-    ensures { result ≡ remembered_of (get_or h.now 5 0) }
-{
-    remembered_of(h[5])
+    remembered_of(match what {
+        Once::Error => h[4],
+        Once::Nil => h[5],
+    })
 }
 
 // Other counts; every other word stays.

@@ -24,18 +24,17 @@ use Rattle.layout.specs.Meaning.{slot_means, kind_means, read_at, held_in, Clean
 use Rattle.layout.specs.declared.Kind.{Kind}
 use Rattle.layout.specs.declared.Slot.{Slot}
 use Rattle.layout.specs.Meaning.{Held}
-use Rattle.std.specs.Prelude.{Some, None}
+use Rattle.std.specs.Prelude.{Option, Some, None}
 use Rattle.layout.proofs.Laws.{length_decode}
 use Rattle.layout.proofs.HeldLaws.{held_by_lem}
 use Rattle.roots.specs.Found.{Found}
-use Rattle.related.proofs.Laws.{root_is}
-use Rattle.inverse.specs.declared.Glance.{Glance}
-use Rattle.inverse.specs.declared.Glance.TheVariants.{Met, Clear}
 use Rattle.inverse.specs.declared.Rest.{Rest}
 use Rattle.inverse.specs.declared.Judgement.{Judgement}
 use Rattle.inverse.specs.declared.Judgement.TheVariants.{Bad, Good, Run}
 use Rattle.related.specs.Stands.{Stands}
 use Rattle.inverse.specs.Judged.{kids_in, whole, good_kind, self_below, Judges, Tries, Glanced}
+use Rattle.std.proofs.Math.Bool.{and-false}
+use Rattle.roots.proofs.Laws.{root_is}
 
 -- `self_inverse` by a root's kind; g tells of a child
 
@@ -192,10 +191,6 @@ left_none ks r h = let m : r.end - r.next ≡ 0 = omega arith in rw m refl
 left_whole : (ks : List ℕ) (a m : ℕ) → left ks (whole a m) ≡ kids_in ks a m
 left_whole ks a m = let e : a + m - a ≡ m = omega arith in rw e refl
 
-and_no : (b : Bool) → (b && false) ≡ false
-and_no true = refl
-and_no false = refl
-
 -- the run r and those above it, l of them in the list xs, with v visits left, tell what the types ts tell
 pub record Going (p : ℕ → Ty → Bool) (ks : List ℕ) (ts : List Ty) (most : ℕ) (xs : List Rest) (l : ℕ) (r : Rest) (v : ℕ) : Type 0 where
   pub levels : l ≤ LEVELS
@@ -248,7 +243,7 @@ module _ {p : ℕ → Ty → Bool} {ks : List ℕ} {ts : List Ty} {most : ℕ} {
     first_no d e = next d ∙ ap (λ (c : Bool). c && all (p d) (left ks (behind r))) e
 
     rest_no : Never p (left ks (behind r)) → Never p ts
-    rest_no n = g.here (λ d. next d ∙ (ap (λ (c : Bool). p d (ty_of s.ty.0) && c) (n d) ∙ and_no (p d (ty_of s.ty.0))))
+    rest_no n = g.here (λ d. next d ∙ (ap (λ (c : Bool). p d (ty_of s.ty.0) && c) (n d) ∙ and-false (p d (ty_of s.ty.0))))
 
     both : (d : ℕ) → p d (ty_of s.ty.0) ≡ true → all (p d) (left ks (behind r)) ≡ true → all (p d) (left ks r) ≡ true
     both d e f = next d ∙ (ap (λ (c : Bool). c && all (p d) (left ks (behind r))) e ∙ f)
@@ -315,8 +310,8 @@ module _ {p : ℕ → Ty → Bool} {ks : List ℕ} {ts : List Ty} {most : ℕ} {
 -- what the code's answers say
 
 module _ {ns : List Node} {param : Bool} {ts : List Ty} {most : ℕ} where
-  pub tries_met : Never (self_below param ns) ts → Tries ns param ts most Met
-  tries_met h = record { met = λ q. h; clear = λ q. let z : ◌≡◌ {A = ℕ} 0 1 = cc in absurd (omega arith) }
+  pub tries_bad : Never (self_below param ns) ts → Tries ns param ts most (Some false)
+  tries_bad h = record { bad = λ q. h; good = λ q. let z : ◌≡◌ {A = ℕ} 0 1 = cc in absurd (omega arith) }
 
 -- what the root i of the type t, found by the code, tells of t at each depth
 module _ {ws ks : List ℕ} {n t : ℕ} {param : Bool} (o : Stands ws ks n) {a i : ℕ} (f : Found ws n t a) (e : i ≡ (ty_of a).idx) {r : Judgement} (j : Judges ws n param i r) where
@@ -335,11 +330,8 @@ module _ {ws ks : List ℕ} {n t : ℕ} {param : Bool} (o : Stands ws ks n) {a i
 -- what is told of a type
 
 module _ {ns : List Node} {param : Bool} {t : ℕ} where
-  glanced_met : self_inverse_of ns (ty_of t) param ≡ false → Glanced ns param t Met
-  glanced_met h = record { met = λ q. h; clear = λ q. let z : ◌≡◌ {A = ℕ} 0 1 = cc in absurd (omega arith) }
-
-  glanced_clear : self_inverse_of ns (ty_of t) param ≡ true → Glanced ns param t Clear
-  glanced_clear h = record { met = λ q. let z : ◌≡◌ {A = ℕ} 0 1 = cc in absurd (omega arith); clear = λ q. h }
+  glanced : {b : Bool} → self_inverse_of ns (ty_of t) param ≡ b → Glanced ns param t (Some b)
+  glanced h = record { told = λ a q. cc }
 
 module _ {ws ks : List ℕ} {n t : ℕ} {param : Bool} (o : Stands ws ks n) (l : (ty_of t).idx < n) {a i : ℕ} (f : Found ws n t a) (e : i ≡ (ty_of a).idx)
     {r : Judgement} (j : Judges ws n param i r) where
@@ -347,15 +339,16 @@ module _ {ws ks : List ℕ} {n t : ℕ} {param : Bool} (o : Stands ws ks n) (l :
   unfolding self_inverse_of
   one_down = let m : length (decode ws ks n) ≡ suc (n - 1) = omega (arith, length_decode ws ks n) in rw m refl
 
-  pub glance_bad : r ≡ Bad → Glanced (decode ws ks n) param t Met
-  glance_bad q = glanced_met (one_down ∙ told_bad o f e j q (suc (n - 1)))
+  pub glance_bad : r ≡ Bad → Glanced (decode ws ks n) param t (Some false)
+  glance_bad q = glanced (one_down ∙ told_bad o f e j q (suc (n - 1)))
 
-  pub glance_good : r ≡ Good → Glanced (decode ws ks n) param t Clear
-  glance_good q = glanced_clear (one_down ∙ told_good o f e j q (n - 1))
+  pub glance_good : r ≡ Good → Glanced (decode ws ks n) param t (Some true)
+  glance_good q = glanced (one_down ∙ told_good o f e j q (n - 1))
 
-  pub glance_run : {x m : ℕ} → r ≡ Run x m → {most : ℕ} → most < n → {u : Glance} → Tries (decode ws ks n) param (kids_in ks x m) most u
+  pub glance_run : {x m : ℕ} → r ≡ Run x m → {most : ℕ} → most < n → {u : Option Bool} → Tries (decode ws ks n) param (kids_in ks x m) most u
       → Glanced (decode ws ks n) param t u
-  glance_run q h w = record {
-    met = λ z. one_down ∙ (told_run o f e j q (n - 1) ∙ w.met z (n - 1));
-    clear = λ z. one_down ∙ (told_run o f e j q (n - 1) ∙ w.clear z (n - 1) (omega arith));
-  }
+  glance_run {x} {m} q h {u} w = record { told = λ b z. one_down ∙ (told_run o f e j q (n - 1) ∙ here b z) }
+    where
+      here : (b : Bool) → u ≡ Some b → all (self_below param (decode ws ks n) (n - 1)) (kids_in ks x m) ≡ b
+      here true z = w.good z (n - 1) (omega arith)
+      here false z = w.bad z (n - 1)

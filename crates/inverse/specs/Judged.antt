@@ -1,5 +1,5 @@
 -- What a root tells of `self_inverse` by itself, and what a walk of some visits tells.
-use Rattle.std.specs.Prelude.{◌≡◌, Bool, true, false, List, map, ℕ, suc, ◌+◌, ◌≤◌, eqb}
+use Rattle.std.specs.Prelude.{◌≡◌, Bool, true, false, Option, Some, List, map, ℕ, suc, ◌+◌, ◌≤◌, eqb}
 use Rattle.scope.specs.Base.{pick, all}
 use Rattle.scope.specs.Types.{Ty, ty_of}
 use Rattle.scope.specs.Kinds.{PARAM, row_of, dual_by}
@@ -8,9 +8,7 @@ use Rattle.scope.specs.Unify.{self_inverse_at, self_inverse_of}
 use Rattle.layout.specs.Words.{slots, decode}
 use Rattle.layout.specs.Meaning.{Clean}
 use Rattle.layout.specs.declared.Kind.{Kind}
-use Rattle.inverse.specs.declared.Glance.{Glance}
 use Rattle.inverse.specs.declared.Rest.{Rest}
-use Rattle.inverse.specs.declared.Glance.TheVariants.{Met, Clear}
 use Rattle.inverse.specs.declared.Judgement.{Judgement}
 use Rattle.inverse.specs.declared.Judgement.TheVariants.{Bad, Good, Run}
 
@@ -38,11 +36,10 @@ pub record Judges (ws : List ℕ) (n : ℕ) (param : Bool) (i : ℕ) (r : Judgem
       → self_inverse_at param (suc d) (decode ws ks n) i ≡ all (self_below param (decode ws ks n) d) (kids_in ks a m)
 
 -- and what a walk of so many visits at most tells of the types ts
-pub record Tries (ns : List Node) (param : Bool) (ts : List Ty) (most : ℕ) (r : Glance) : Type 0 where
-  pub met : r ≡ Met → (d : ℕ) → all (self_below param ns d) ts ≡ false
-  pub clear : r ≡ Clear → (d : ℕ) → most ≤ d → all (self_below param ns d) ts ≡ true
+pub record Tries (ns : List Node) (param : Bool) (ts : List Ty) (most : ℕ) (r : Option Bool) : Type 0 where
+  pub bad : r ≡ Some false → (d : ℕ) → all (self_below param ns d) ts ≡ false
+  pub good : r ≡ Some true → (d : ℕ) → most ≤ d → all (self_below param ns d) ts ≡ true
 
 -- what is told of the type in the word t
-pub record Glanced (ns : List Node) (param : Bool) (t : ℕ) (r : Glance) : Type 0 where
-  pub met : r ≡ Met → self_inverse_of ns (ty_of t) param ≡ false
-  pub clear : r ≡ Clear → self_inverse_of ns (ty_of t) param ≡ true
+pub record Glanced (ns : List Node) (param : Bool) (t : ℕ) (r : Option Bool) : Type 0 where
+  pub told : (b : Bool) → r ≡ Some b → self_inverse_of ns (ty_of t) param ≡ b

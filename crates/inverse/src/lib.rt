@@ -13,15 +13,6 @@ ghost use Rattle.inverse.specs.Marked.{good_by, good_at, BesideIn, MarkedAllIn};
 use layout::{Kind, Nodes};
 use types::{Type, TypeIdx};
 
-// What a look at children tells of what is asked, whether a node is below or whether one is not good: there is one, or there is none, or only a walk with marks can tell.
-// Kept (1): an Option of a bool would not say which answer is which: two questions have this answer, and `occurs` is true where the other is false.
-#[derive(Clone, Copy)]
-pub enum Glance {
-    Met,
-    Clear,
-    Deep,
-}
-
 // What a root tells of `self_inverse` by itself: it is not good, or good, or good where its children are, so many from the first on.
 #[derive(Clone, Copy)]
 enum Judgement {
@@ -85,8 +76,8 @@ fn whole(first: u32, count: u32) -> Rest
 }
 
 // A walk of so many visits at most over a run of children, depth first and without marks, which ends at the first root that is not good. What is left of the runs
-// above stands in a list, so that it calls nothing that calls itself.
-fn inverse_run(nodes: &Nodes<'_>, first: u32, count: u32, param: bool, most: u32) -> Glance
+// above stands in a list, so that it calls nothing that calls itself. None: only a walk with marks tells.
+fn inverse_run(nodes: &Nodes<'_>, first: u32, count: u32, param: bool, most: u32) -> Option<bool>
     requires { StandsIn nodes.now }
     ensures { Tries (nodes_by nodes.now) param (kids_in nodes.now.kids.now first count) most result }
 {
@@ -97,7 +88,7 @@ fn inverse_run(nodes: &Nodes<'_>, first: u32, count: u32, param: bool, most: u32
     // Kept (3): as a `for` it is no plainer: a turn visits the next child of a run or goes back up to the run above, so turns are no counter.
     while 0 < left {
         if level == LEVELS {
-            return Glance::Deep;
+            return None;
         }
         if run.next < run.end {
             let kid = layout::child_at(nodes.kids, run.next).ty;
@@ -105,7 +96,7 @@ fn inverse_run(nodes: &Nodes<'_>, first: u32, count: u32, param: bool, most: u32
             run.next += 1;
             left -= 1;
             match judge(nodes, root, param) {
-                Judgement::Bad => return Glance::Met,
+                Judgement::Bad => return Some(false),
                 Judgement::Good => {}
                 Judgement::Run { first, count } => {
                     above[level] = run;
@@ -115,13 +106,13 @@ fn inverse_run(nodes: &Nodes<'_>, first: u32, count: u32, param: bool, most: u32
             }
         } else {
             if level == 0 {
-                return Glance::Clear;
+                return Some(true);
             }
             level -= 1;
             run = above[level];
         }
     }
-    Glance::Deep
+    None
 }
 
 // A walk that ends in fewer visits than there are nodes is as deep as it is long at most.
@@ -132,15 +123,15 @@ fn visits(n: u32) -> u32
     VISITS.min(n - 1)
 }
 
-// What the root tells, or some visits.
-pub fn quickly(nodes: &Nodes<'_>, t: Type, param: bool) -> Glance
+// Is the type its own inverse, as the root tells or some visits do? None: only a walk with marks tells.
+pub fn quickly(nodes: &Nodes<'_>, t: Type, param: bool) -> Option<bool>
     requires { StandsIn nodes.now × ((ty_of t.0).idx < nodes.now.made) }
     ensures { Glanced (nodes_by nodes.now) param t.0 result }
 {
     let root = roots::find_in(nodes, t).idx();
     match judge(nodes, root, param) {
-        Judgement::Bad => Glance::Met,
-        Judgement::Good => Glance::Clear,
+        Judgement::Bad => Some(false),
+        Judgement::Good => Some(true),
         Judgement::Run { first, count } => {
             inverse_run(nodes, first, count, param, visits(nodes.made))
         }

@@ -2,7 +2,7 @@
 -- are the same and clean; the words behind them are 0, since those in use before were cleared and the others were 0.
 -- Assumes nothing.
 use mathlib.Core.Path.{◌≡◌, refl, ap, ◌∙◌}
-use mathlib.Core.Bool.{Bool, true, ◌&&◌}
+use mathlib.Core.Bool.{true}
 use mathlib.Core.List.{List}
 use Prim.Native.Nat.{ℕ, ◌≤◌}
 use native.Mathlib.Omega.{arith}
@@ -11,31 +11,15 @@ use Rattle.scope.specs.Sound.{zeros}
 use Rattle.layout.specs.Words.{HEAD_WORDS, node_words, child_words, nodes_made, children_made, node_room, child_room, store_in, between, unused_zero, clean}
 use Rattle.layout.specs.Meaning.{header_in, put_header, store_means, Clean, Lies}
 use Rattle.layout.specs.declared.Header.{Header}
-use Rattle.layout.proofs.Lists.{and_both, and_left, and_right}
-use Rattle.layout.proofs.StoreLaws.{tail_put_header, length_put_header, store_header, store_put, clean_lies, clean_unused, clean_nodes, clean_of}
+use Rattle.layout.proofs.Lists.{and_both}
+use Rattle.layout.proofs.StoreLaws.{tail_put_header, length_put_header, store_header, store_put, clean_lies, clean_nodes, clean_of}
 use Rattle.store.specs.Holds.{Beyond, Became}
 use Rattle.store.proofs.Laws.{remembered_fits_lem}
-use Rattle.make.proofs.Blank.{Blank, zeros_blank, blank_zeros}
+use Rattle.make.proofs.Blank.{blank_zeros}
+use Rattle.make.proofs.OpenLaws.{nodes_blank, children_blank}
 use Rattle.keep.specs.Kept.{replaced, Replaceable, header_back, BackReady, store_back}
 use Rattle.keep.proofs.Front.{front_decode, front_clean}
 use Rattle.keep.proofs.Replace.{length_replaced, take_replaced, blank_replaced, replaced_later}
-
-module _ (h ws ks : List ℕ) (ok : clean h ws ks ≡ true) where
-  abbrev nodes_zero : Bool
-  nodes_zero = zeros (between ws (node_words (nodes_made h)) (node_words (node_room h)))
-
-  abbrev children_zero : Bool
-  children_zero = zeros (between ks (child_words (children_made h)) (child_words (child_room h)))
-
-  unused : (nodes_zero && children_zero) ≡ true
-  unfolding unused_zero
-  unused = clean_unused h ws ks ok
-
-  nodes_blank : Blank ws (node_words (nodes_made h)) (node_words (node_room h))
-  nodes_blank = zeros_blank ws (node_words (nodes_made h)) (node_words (node_room h)) (and_left nodes_zero children_zero unused)
-
-  children_blank : Blank ks (child_words (children_made h)) (child_words (child_room h))
-  children_blank = zeros_blank ks (child_words (children_made h)) (child_words (child_room h)) (and_right nodes_zero children_zero unused)
 
 module _ {h ws ks ph pn pk : List ℕ} (r : BackReady h ws ks ph pn pk) where
   abbrev n : ℕ

@@ -5,7 +5,7 @@ use mathlib.Core.Path.{◌≡◌, refl, ap, sym, ◌∙◌}
 use mathlib.Core.Bool.{Bool, true, false, ◌&&◌, and-true, and-false, false≢true}
 use mathlib.Core.Option.{Option, none, some}
 use mathlib.Core.List.{List, [], ◌∷◌, map}
-use Prim.Native.Nat.{ℕ, zero, suc, ◌+◌, ◌-◌, ◌≤◌, ◌<◌}
+use Prim.Native.Nat.{ℕ, suc, ◌+◌, ◌-◌, ◌≤◌, ◌<◌}
 use native.Mathlib.Numerals.{add-one}
 use native.Mathlib.Omega.{arith}
 use lib.Dec.{eqb}
@@ -28,6 +28,7 @@ use Rattle.layout.specs.declared.Slot.{Slot}
 use Rattle.layout.proofs.Lists.{all_map, all_range}
 use Rattle.layout.proofs.ChildLaws.{length_slots, slots_get, front_slots}
 use Rattle.layout.proofs.KindLaws.{names_own, names_child, names_parameters}
+use Rattle.refusals.proofs.InsideLaws.{all_shift}
 
 -- one name in words
 
@@ -71,11 +72,6 @@ module _ (ks : List ℕ) (i n j : ℕ) where
   -- the j-th name, where the code has read the child
   pub name_there : j < n → (c : Slot) → slot_means c ≡ slot_at ks (i + j) → get_or (child_names ks i n) j none ≡ name_or (name_of c.name)
   name_there h c e = get_or-map slot_name (slots ks i n) j bare ∙ ap slot_name (slots_get ks i n j bare h ∙ sym e)
-
--- a test of the numbers from a on, each i more
-all_shift : (p : ℕ → Bool) (i a n : ℕ) → all (λ j. p (i + j)) (from a n) ≡ all p (from (i + a) n)
-all_shift p i a zero = refl
-all_shift p i a (suc n) = let q : i + suc a ≡ suc (i + a) = omega arith in ap (λ (b : Bool). p (i + a) && b) (rw q at (all_shift p i (suc a) n))
 
 -- a test of each name, by its place
 pub names_run : (p : Option Name → Bool) (ks : List ℕ) (i n : ℕ) → list_all (λ j. p (slot_name (slot_at ks (i + j)))) (range_with_len 0 n) ≡ all p (child_names ks i n)

@@ -29,7 +29,8 @@ fn name_or_none(n: Name, texts: &Texts<'_>) -> bool
 }
 
 // One name for each child, "strictly ascending". The first is held against the empty name, which comes before any other.
-// Kept (3): a turn takes the name before along, which `all` would change from within its closure; `is_sorted_by` goes over a slice, and children lie as words.
+// Kept (3): a turn takes the name before along. Tried: `try_fold` from NO_NAME, and `all` with `map` and `is_sorted_by`, which reads each child twice. `search` leaves what either is to
+// ensure, and `grind` stops at its limit of depth: the library has no law of a `try_fold`, and none from the IsSortedAnswer of a run that may break off to `ascending`.
 fn child_names_fit(k: Kind, ks: &[u32], texts: &Texts<'_>) -> bool
     ensures { result ≡ object_names_ok (texts_by texts.now) (map slot_name (slots ks.now k.first k.count)) }
 {
@@ -113,7 +114,10 @@ pub fn remembered_inside(t: Option<Type>, n: u32) -> bool
     t.is_none_or(|t| refusals::type_inside(t, n))
 }
 
-// No "kind that 4 or 5 would turn back", no "flag that isn't the chart's", no child outside the store.
+// No "kind that 4 or 5 would turn back", no "flag that isn't the chart's", no child outside the store. Of most kinds `node_sound` knows as much at once, so it stays
+// out of the loop over all nodes.
+#[cold]
+#[inline(never)]
 pub fn kind_sound(k: Kind, ks: &[u32], n: u32, env: &Env<'_>) -> bool
     ensures { (ns : List Node) → length ns ≡ n → result ≡ kind_sound (chart_lent env.now) ns (kind_means ks.now k) }
 {

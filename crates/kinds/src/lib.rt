@@ -6,8 +6,8 @@ ghost use Rattle.scope.specs.Kinds.{row_of, dual_by, shape_fits, flex_ok, number
 ghost use Rattle.kinds.specs.Rows.{shape_number, number_number, as_row, sort_fits};
 
 // "Codes are 0 to 14 in `TypeKind`'s order in 000."
-// Kept (1): a kind that is lent has any code until test 4 is passed, and a store's until 8, and those tests read the table by it. Once they are passed it lies as a word
-// still: an enum would be made of it at each visit of a node, with a case for the numbers that no store has, and be made a number again to index the table.
+// Kept (1): the tests of refusals 4 and 8 read a Kind whose code may be any number, by functions that read it afterwards too, as `layout::node_at` and `row_of` here.
+// An enum of codes would want a second type of kind beside that one, and each of those functions twice.
 pub const PARAM: u32 = 0;
 
 pub const TUPLE: u32 = 1;

@@ -10,25 +10,13 @@ use native.Mathlib.Nat.{add-sub_cancel_left}
 use lib.ListN.{length, get_or, take, drop, take-append-drop, length-drop, drop_of_length-le}
 use lib.Seq.{sets, sets-eq, take_at, drop_at, take-append-le, drop-append-le, drop-drop, length-take-le}
 use borrow.Rule.Slice.PartMut.{mid_of, put_mid, drop_put, same_len_mid}
-use lib.Dec.{eqb, ltb}
-use borrow.Author.Tests.{eqb-true, eqb-false, ltb-true, ltb-false}
+use lib.Dec.{ltb}
+use borrow.Author.Tests.{ltb-true, ltb-false}
 use native.Mathlib.Numerals.{add-one}
 use Rattle.std.specs.List.{list_all, range_with_len}
 use Rattle.scope.specs.Base.{all, from}
-
--- tests
-
-pub and_both : (a b : Bool) → a ≡ true → b ≡ true → (a && b) ≡ true
-and_both true b p q = q
-and_both false b p q = p
-
-pub and_left : (a b : Bool) → (a && b) ≡ true → a ≡ true
-and_left true b e = refl
-and_left false b e = e
-
-pub and_right : (a b : Bool) → (a && b) ≡ true → b ≡ true
-and_right true b e = e
-and_right false b e = cc
+use Rattle.scope.proofs.Sizes.{all_from, from_all}
+pub use Rattle.scope.proofs.TestLaws.{and_both, and_left, and_right}
 
 -- stores over the whole of a list leave what was stored
 pub sets_all : (l vs : List ℕ) → length l ≡ length vs → sets l 0 vs ≡ vs
@@ -120,21 +108,6 @@ same_shift f g a b (suc n) e =
     ap f p ∙ (e (suc i) (omega arith) ∙ ap g q) in
     rw (first, same_shift f g (suc a) (suc b) n next) refl
 
-first_or : (b : Bool) (p : ℕ → Bool) (i j : ℕ) → eqb j i ≡ b → p i ≡ true → (suc i ≤ j → p j ≡ true) → i ≤ j → p j ≡ true
-first_or true p i j q h k a = rw (eqb-true j i q) h
-first_or false p i j q h k a = let z : j ≡ i → ⊥ = eqb-false j i q in k (omega arith)
-
-pub all_from : (p : ℕ → Bool) (i n : ℕ) → all p (from i n) ≡ true → (j : ℕ) → i ≤ j → j < i + n → p j ≡ true
-all_from p i zero e j a b = absurd (omega arith)
-all_from p i (suc n) e j a b =
-    first_or (eqb j i) p i j refl (and_left (p i) (all p (from (suc i) n)) e)
-    (λ g. all_from p (suc i) n (and_right (p i) (all p (from (suc i) n)) e) j g (omega arith)) a
-
-pub from_all : (p : ℕ → Bool) (i n : ℕ) → ((j : ℕ) → i ≤ j → j < i + n → p j ≡ true) → all p (from i n) ≡ true
-from_all p i zero e = refl
-from_all p i (suc n) e =
-    and_both (p i) (all p (from (suc i) n)) (e i (omega arith) (omega arith)) (from_all p (suc i) n (λ j a b. e j (omega arith) (omega arith)))
-
 -- a test of what f makes of each
 pub all_map : {A B : Type 0} (q : B → Bool) (f : A → B) (l : List A) → all q (map f l) ≡ all (λ i. q (f i)) l
 all_map q f [] = refl
@@ -155,8 +128,8 @@ pub all_stop : (p : ℕ → Bool) (n v : ℕ) → v < n → p v ≡ false → fa
 all_stop p n v l e = go (all p (from 0 n)) refl
   where
     go : (b : Bool) → all p (from 0 n) ≡ b → false ≡ b
-    go true q = absurd (false≢true (sym e ∙ all_from p 0 n q v (omega arith) (omega arith)))
+    go true q = absurd (false≢true (sym e ∙ from_all p 0 n q v (omega arith) (omega arith)))
     go false q = refl
 
 pub all_done : (p : ℕ → Bool) (n v : ℕ) → n ≤ v → ((u : ℕ) → u < v → p u ≡ true) → true ≡ all p (from 0 n)
-all_done p n v l f = sym (from_all p 0 n (λ u a b. f u (omega arith)))
+all_done p n v l f = sym (all_from p 0 n (λ u a b. f u (omega arith)))

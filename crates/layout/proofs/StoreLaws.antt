@@ -19,7 +19,8 @@ use Rattle.layout.specs.Meaning.{HALF, remembered_of, remembered_word, remembere
 use Rattle.layout.specs.declared.Header.{Header}
 use Rattle.layout.specs.Meaning.{Remembered}
 use Rattle.std.specs.Prelude.{Some, None}
-use Rattle.layout.proofs.Lists.{and_both, and_left, and_right, all_from, from_all}
+use Rattle.layout.proofs.Lists.{and_both, and_left, and_right}
+use Rattle.scope.proofs.Sizes.{all_from, from_all}
 
 -- the header
 
@@ -113,7 +114,7 @@ module _ (h ws ks : List ℕ) where
       record {
         room = omega (arith, l.nodes, l.node_slots);
         each = λ i g.
-            all_from (node_clean ws ks (children_made h)) 0 (nodes_made h) (and_right (unused_zero h ws ks) (nodes_clean h ws ks) (clean_parts e)) i (omega arith) (omega arith);
+            from_all (node_clean ws ks (children_made h)) 0 (nodes_made h) (and_right (unused_zero h ws ks) (nodes_clean h ws ks) (clean_parts e)) i (omega arith) (omega arith);
       }
 
   pub clean_of : Lies h ws ks → unused_zero h ws ks ≡ true → Clean ws ks (children_made h) (nodes_made h) → clean h ws ks ≡ true
@@ -121,7 +122,7 @@ module _ (h ws ks : List ℕ) where
   clean_of l u c =
       and_both (long_enough h ws ks) (unused_zero h ws ks && nodes_clean h ws ks) (long_enough_lem l)
       (and_both (unused_zero h ws ks) (nodes_clean h ws ks) u
-      (from_all (node_clean ws ks (children_made h)) 0 (nodes_made h) (λ i a b. c.each i (omega arith))))
+      (all_from (node_clean ws ks (children_made h)) 0 (nodes_made h) (λ i a b. c.each i (omega arith))))
 
   pub lent_clean : clean h ws ks ≡ true → lent_of h ws ks ≡ reads (store_in h ws ks)
   unfolding lent_of

@@ -221,6 +221,11 @@ state_means ks (Known i k) = nodes.Known i.0 (kind_means ks k)
 state_means ks (Unknown s) = nodes.Unknown s
 state_means ks InferenceFailed = nodes.InferenceFailed
 
+abbrev pub lacks_kind : TypeState → Bool
+lacks_kind (Known i k) = false
+lacks_kind (Unknown s) = true
+lacks_kind InferenceFailed = true
+
 abbrev pub node_means : List ℕ → TypeNode → nodes.Node
 node_means ks (Root st z) = nodes.Root (state_means ks st) z
 node_means ks (Child t) = nodes.Child (ty_of t.0)

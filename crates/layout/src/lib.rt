@@ -3,14 +3,15 @@
 // Nothing above this crate but `heads` reads a word, and `make` copies children's as they lie: it uses these functions and the laws of proofs/.
 mod encoding;
 
-ghost use Rattle.std.specs.Prelude.{◌≡◌, ◌+◌, ◌*◌, ◌≤◌, length, get_or};
+ghost use Rattle.std.specs.Prelude.{◌≡◌, ◌+◌, ◌*◌, ◌≤◌, length};
 ghost use Rattle.layout.specs.Words.{NODE_WORDS, CHILD_WORDS, HEAD_WORDS, node_words, child_words, slot_at};
-ghost use Rattle.layout.specs.Meaning.{cell_in, cell_kind, cell_words, read_at, put_at, node_state, node_size, held_in};
+ghost use Rattle.layout.specs.Meaning.{cell_in, cell_kind, cell_words, read_at, put_at, lacks_kind, node_state, node_size, held_in};
 ghost use Rattle.layout.specs.Meaning.{slot_means, put_slot, remembered_of, remembered_word, header_in, put_header};
 
 use names::{NO_NAME, Name};
 use scope::NONE;
 use types::{Inverted, Type, TypeIdx};
+use words::word;
 
 pub const HEAD_WORDS: usize = 8;
 
@@ -50,6 +51,15 @@ pub enum TypeState {
     // Not yet inferred: the span at which an error would be issued.
     Unknown(u32),
     InferenceFailed,
+}
+
+impl TypeState {
+    // A root of this state has no kind.
+    pub fn lacks_kind(&self) -> bool
+        ensures { result ≡ lacks_kind self.now }
+    {
+        matches!(*self, TypeState::Unknown(_) | TypeState::InferenceFailed)
+    }
 }
 
 // A node in the union-find tree for the unification of type variables.
@@ -141,13 +151,6 @@ pub fn child_words(n: u32) -> usize
     n as usize * CHILD_WORDS
 }
 
-// The i-th word, and 0 past the end.
-pub fn word(s: &[u32], i: usize) -> u32
-    ensures { result ≡ get_or s.now i 0 }
-{
-    s.get(i).copied().unwrap_or(0)
-}
-
 // The kind that a Known node's words say; their link is the place of its first child.
 pub fn kind_in(c: Cell) -> Kind
     ensures { result ≡ cell_kind c }
@@ -190,7 +193,9 @@ pub fn cell_at(ws: &[u32], i: TypeIdx) -> Cell
 }
 
 // The node i of n; past them a root of no size.
-// Kept (5): `Nodes` keeps that the words are there; here and in the other functions over words and a number the caller writes nodes, or has no children's words.
+// Kept (5): `Nodes` keeps that the words are there; here and in the other functions over words and a number most callers write nodes, or have no children's words, and the
+// few that have `Nodes` lend what it has. A struct of these two would be made anew at each read between two writes, as `merge`, `heed`, `make` and `force` have them, and each
+// clause would name a field more.
 pub fn node_at(ws: &[u32], n: u32, i: TypeIdx) -> TypeNode
     requires { node_words n ≤ length ws.now }
     ensures { result ≡ read_at ws.now n i.0 }

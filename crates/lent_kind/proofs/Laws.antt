@@ -29,7 +29,6 @@ use Rattle.layout.proofs.KindLaws.{names_count}
 use Rattle.kind_sound.proofs.Laws.{flag_reads, defined_chart}
 use Rattle.store.specs.Entries.{entry_count, entry_types}
 use Rattle.make.specs.Given.{kind_at}
-use Rattle.make.specs.declared.Head as make
 use Rattle.store.proofs.EntryLaws.{entries_long}
 use Rattle.lent_kind.specs.declared.KindArgs.{KindArgs}
 use Rattle.lent_kind.specs.Lent.{with_flag, kind_lent, tidy, given, kind_tests}
@@ -103,9 +102,12 @@ module _ (l : lent.Env) (k : KindArgs) (es : List ℕ) where
   pub torn_refused : (length es % CHILD_WORDS ≡ 0 → ⊥) → first_broken (kind_tests env (given k es)) ≡ some UNMAKEABLE
   torn_refused z = untidy_test k es env [] (rw (ne_eqb (length es % CHILD_WORDS) 0 z))
 
-  module _ {n : make.Head} {kind : Kind} (f : n ≡ with_flag k flag) (g : kind ≡ kind_at n 0 (entry_count es)) (whole : length es % CHILD_WORDS ≡ 0) where
+  module _ {n : Kind} (f : n ≡ with_flag k flag) (whole : length es % CHILD_WORDS ≡ 0) where
+    abbrev kind : Kind
+    kind = kind_at n n.first (entry_count es)
+
     kind_is : kind ≡ kind_lent k flag es
-    kind_is = g ∙ ap (λ (m : make.Head). kind_at m 0 (entry_count es)) f
+    kind_is = ap (λ (m : Kind). kind_at m m.first (entry_count es)) f
 
     tidy_by : {b : Bool} → b ≡ names_clean (kind_cell es kind) → tidy k es ≡ b
     tidy_by q = rw (eq-eqb (length es % CHILD_WORDS) 0 whole) (sym (q ∙ ap (λ (y : Kind). names_clean (kind_cell es y)) kind_is))

@@ -1,6 +1,6 @@
 -- A kind as it is lent, and what of scope's `new_call` it is: its numbers and its children's entries, each as the store has it. Numbers that belong to no
 -- name of the kind, or to no whole entry, are one name too many, and 4 turns the kind back.
-use Rattle.std.specs.Prelude.{◌≡◌, List, [], ◌∷◌, ◌++◌, Bool, false, not, ◌&&◌, ℕ, ◌%◌, eqb, ltb, length}
+use Rattle.std.specs.Prelude.{List, [], ◌∷◌, ◌++◌, Bool, false, not, ◌&&◌, ℕ, ◌%◌, eqb, ltb, length}
 use Rattle.std.proofs.Math.Option.{Option, none}
 use Rattle.scope.specs.Base.{pick}
 use Rattle.scope.specs.Limits.{MAX_WIDTH}
@@ -14,19 +14,20 @@ use Rattle.names.specs.Place.{no_name}
 use Rattle.layout.specs.Words.{CHILD_WORDS}
 use Rattle.layout.specs.Meaning.{kind_cell, kind_means}
 use Rattle.layout.specs.declared.Kind.{Kind}
-use Rattle.make.specs.declared.Head as make
 use Rattle.make.specs.Given.{kind_over}
 use Rattle.store.specs.Entries.{entry_types}
 use Rattle.lent_kind.specs.declared.KindArgs.{KindArgs}
 
 -- the lent numbers, with the flag d
-abbrev pub with_flag : KindArgs → Bool → make.Head
+abbrev pub with_flag : KindArgs → Bool → Kind
 with_flag k d = record {
   code = k.code;
   number = k.number;
   dual = d;
   flex = k.flex;
   name = k.name;
+  first = 0;
+  count = 0;
 }
 
 -- the same as a kind over the entries; its names and children do not look at the flag

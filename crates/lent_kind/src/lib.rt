@@ -11,15 +11,13 @@ ghost use Rattle.refusals.specs.Codes.{told};
 ghost use Rattle.lent_kind.specs.Lent.{with_flag, given, plain_args, list_tests, kind_tests};
 
 use chart::Env;
-use layout::CHILD_WORDS;
-use make::Head;
+use layout::{CHILD_WORDS, Kind};
 use names::{NO_NAME, Name};
 use refusals::Refusal;
 use scope::MAX_WIDTH;
 
 // What a kind is made of, its children and their names apart. Its flag is the chart's.
-// Kept (2): no twin of `make::Head`, which has the flag: who lends a kind doesn't say it. A Head that held a KindArgs would spare `flagged` three lines, and `kind_of` and
-// its clause would read `k.args.code` and so on in eight places; and KindArgs would stand below, in `make`, to which nobody lends anything.
+// Kept (2): no twin of `layout::Kind`, which has the flag and says where its children lie: who lends a kind says neither, and as a Kind would fill three fields that nobody reads.
 #[derive(Clone, Copy)]
 pub struct KindArgs {
     pub code: u32,
@@ -29,16 +27,16 @@ pub struct KindArgs {
     pub name: Name,
 }
 
-// The kind with the chart's flag.
-pub fn flagged(k: KindArgs, chart: &[u32]) -> Head
+// The kind with the chart's flag, and no children yet.
+pub fn flagged(k: KindArgs, chart: &[u32]) -> Kind
     ensures { result ≡ with_flag k (flag_of (chart_alone chart.now) k.code k.number) }
 {
-    Head {
-        code: k.code,
+    Kind {
         number: k.number,
         dual: kind_sound::chart_flag(k.code, k.number, chart),
         flex: k.flex,
         name: k.name,
+        ..store::bare_kind(k.code)
     }
 }
 
@@ -51,8 +49,10 @@ pub fn test_kind(env: &Env<'_>, k: KindArgs, entries: &[u32]) -> Result<(), Refu
     if entries.len() % CHILD_WORDS != 0 {
         return Err(Refusal::Unmakeable);
     }
-    let count = (entries.len() / CHILD_WORDS) as u32;
-    let kind = make::kind_of(flagged(k, env.chart), 0, count);
+    let kind = Kind {
+        count: (entries.len() / CHILD_WORDS) as u32,
+        ..flagged(k, env.chart)
+    };
     if !clean::names_clean(entries, kind) || !kind_sound::can_be_made(kind, entries, &env.texts) {
         return Err(Refusal::Unmakeable);
     }

@@ -1,7 +1,7 @@
 #![tactic(auto)]
 // What the public calls test of lent types, lists, entries and impl types: 3 over all types of all lists, however long these are, then 4, then 5. Any numbers
 // may be lent.
-ghost use Rattle.std.specs.Prelude.{◌≡◌, [], length};
+ghost use Rattle.std.specs.Prelude.{◌≡◌, length};
 ghost use Rattle.scope.specs.Types.{ty_of};
 ghost use Rattle.scope.specs.Nodes.{Store};
 ghost use Rattle.scope.specs.Calls.{first_broken, too_many, bad_entries};

@@ -9,6 +9,7 @@ ghost use Rattle.c_words.specs.Numbers.{done_in, bool_in, Says};
 ghost use Rattle.c_words.specs.Given.{set_in, lent_env};
 ghost use Rattle.c_outs.specs.Outs.{mod_in, mod_out, Tells};
 
+use chart::SIGIL_WORDS;
 use types::Type;
 
 // A Tuple of nothing.
@@ -16,7 +17,7 @@ use types::Type;
 pub extern "C" fn faroalder_is_nil<'a>(
     chart: &[u32],
     fn_trait: u32,
-    sigils: &[u32; 12],
+    sigils: &[u32; SIGIL_WORDS],
     rule: &'a [u8],
     text: &'a [u8],
     h: &[u32],
@@ -37,7 +38,7 @@ pub extern "C" fn faroalder_is_nil<'a>(
 pub extern "C" fn faroalder_self_inverse<'a>(
     chart: &[u32],
     fn_trait: u32,
-    sigils: &[u32; 12],
+    sigils: &[u32; SIGIL_WORDS],
     rule: &'a [u8],
     text: &'a [u8],
     h: &[u32],
@@ -58,7 +59,7 @@ pub extern "C" fn faroalder_self_inverse<'a>(
 pub extern "C" fn faroalder_self_inverse_param<'a>(
     chart: &[u32],
     fn_trait: u32,
-    sigils: &[u32; 12],
+    sigils: &[u32; SIGIL_WORDS],
     rule: &'a [u8],
     text: &'a [u8],
     h: &[u32],
@@ -87,7 +88,7 @@ pub extern "C" fn faroalder_self_inverse_param<'a>(
 pub extern "C" fn faroalder_get_mod<'a>(
     chart: &[u32],
     fn_trait: u32,
-    sigils: &[u32; 12],
+    sigils: &[u32; SIGIL_WORDS],
     rule: &'a [u8],
     text: &'a [u8],
     h: &[u32],
@@ -109,7 +110,7 @@ pub extern "C" fn faroalder_get_mod<'a>(
 pub extern "C" fn faroalder_find_related<'a>(
     chart: &[u32],
     fn_trait: u32,
-    sigils: &[u32; 12],
+    sigils: &[u32; SIGIL_WORDS],
     rule: &'a [u8],
     text: &'a [u8],
     h: &[u32],

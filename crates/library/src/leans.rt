@@ -6,6 +6,7 @@ ghost use Rattle.tested_lean.specs.Each.{Passed, EachPromised, EachAnswered};
 ghost use Rattle.tested_over.specs.Over.{PassedBy, OverPromised};
 ghost use Rattle.c_words.specs.Numbers.{type_in};
 
+use heads::Once;
 use types::Type;
 
 // "`new_var`": a type without a kind, and its span.
@@ -23,7 +24,7 @@ pub extern "C" fn faroalder_lean_error(h: &mut [u32], ws: &mut [u32]) -> u64
     requires { Passed h.old ws.old }
     ensures { EachPromised error_call (type_in result) h.old ws.old h.new ws.new }
 {
-    c_words::type_number(tested_lean::error(h, ws))
+    c_words::type_number(tested_lean::once(h, ws, Once::Error))
 }
 
 // The type of nothing: a Tuple without children.
@@ -32,7 +33,7 @@ pub extern "C" fn faroalder_lean_nil(h: &mut [u32], ws: &mut [u32]) -> u64
     requires { Passed h.old ws.old }
     ensures { EachPromised nil_call (type_in result) h.old ws.old h.new ws.new }
 {
-    c_words::type_number(tested_lean::nil(h, ws))
+    c_words::type_number(tested_lean::once(h, ws, Once::Nil))
 }
 
 // "`find` follows parents, combining inversions by exclusive or."

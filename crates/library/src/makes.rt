@@ -9,12 +9,14 @@ ghost use Rattle.promise.specs.Lists.{ListPromised};
 ghost use Rattle.c_words.specs.Numbers.{type_in, done_in, Says};
 ghost use Rattle.c_words.specs.Given.{kind_args_in, lent_env};
 
+use chart::SIGIL_WORDS;
+
 // "`new_var`": a type without a kind, and its span.
 #[unsafe(no_mangle)]
 pub extern "C" fn faroalder_new_var<'a>(
     chart: &[u32],
     fn_trait: u32,
-    sigils: &[u32; 12],
+    sigils: &[u32; SIGIL_WORDS],
     rule: &'a [u8],
     text: &'a [u8],
     h: &mut [u32],
@@ -35,7 +37,7 @@ pub extern "C" fn faroalder_new_var<'a>(
 pub extern "C" fn faroalder_new_vars<'a>(
     chart: &[u32],
     fn_trait: u32,
-    sigils: &[u32; 12],
+    sigils: &[u32; SIGIL_WORDS],
     rule: &'a [u8],
     text: &'a [u8],
     h: &mut [u32],
@@ -60,7 +62,7 @@ pub extern "C" fn faroalder_new_vars<'a>(
 pub extern "C" fn faroalder_error<'a>(
     chart: &[u32],
     fn_trait: u32,
-    sigils: &[u32; 12],
+    sigils: &[u32; SIGIL_WORDS],
     rule: &'a [u8],
     text: &'a [u8],
     h: &mut [u32],
@@ -80,7 +82,7 @@ pub extern "C" fn faroalder_error<'a>(
 pub extern "C" fn faroalder_nil<'a>(
     chart: &[u32],
     fn_trait: u32,
-    sigils: &[u32; 12],
+    sigils: &[u32; SIGIL_WORDS],
     rule: &'a [u8],
     text: &'a [u8],
     h: &mut [u32],
@@ -100,7 +102,7 @@ pub extern "C" fn faroalder_nil<'a>(
 pub extern "C" fn faroalder_new<'a>(
     chart: &[u32],
     fn_trait: u32,
-    sigils: &[u32; 12],
+    sigils: &[u32; SIGIL_WORDS],
     rule: &'a [u8],
     text: &'a [u8],
     h: &mut [u32],
@@ -129,7 +131,7 @@ pub extern "C" fn faroalder_new<'a>(
 pub extern "C" fn faroalder_new_struct<'a>(
     chart: &[u32],
     fn_trait: u32,
-    sigils: &[u32; 12],
+    sigils: &[u32; SIGIL_WORDS],
     rule: &'a [u8],
     text: &'a [u8],
     h: &mut [u32],
@@ -152,7 +154,7 @@ pub extern "C" fn faroalder_new_struct<'a>(
 pub extern "C" fn faroalder_new_union<'a>(
     chart: &[u32],
     fn_trait: u32,
-    sigils: &[u32; 12],
+    sigils: &[u32; SIGIL_WORDS],
     rule: &'a [u8],
     text: &'a [u8],
     h: &mut [u32],

@@ -10,6 +10,7 @@ ghost use Rattle.promise.specs.Promise.{Promised};
 ghost use Rattle.c_words.specs.Numbers.{unify_in};
 ghost use Rattle.c_words.specs.Given.{set_in, impl_in, lent_env};
 
+use chart::SIGIL_WORDS;
 use types::Type;
 
 // "`unify` takes both roots with `find_mut`." Nothing that the memory holds is believed, and what stands in it afterwards means nothing.
@@ -17,7 +18,7 @@ use types::Type;
 pub extern "C" fn faroalder_unify_recalling<'a>(
     chart: &[u32],
     fn_trait: u32,
-    sigils: &[u32; 12],
+    sigils: &[u32; SIGIL_WORDS],
     rule: &'a [u8],
     text: &'a [u8],
     h: &[u32],
@@ -41,7 +42,7 @@ pub extern "C" fn faroalder_unify_recalling<'a>(
 pub extern "C" fn faroalder_unify_types_recalling<'a>(
     chart: &[u32],
     fn_trait: u32,
-    sigils: &[u32; 12],
+    sigils: &[u32; SIGIL_WORDS],
     rule: &'a [u8],
     text: &'a [u8],
     h: &[u32],
@@ -69,7 +70,7 @@ pub extern "C" fn faroalder_unify_types_recalling<'a>(
 pub extern "C" fn faroalder_unify_objects_recalling<'a>(
     chart: &[u32],
     fn_trait: u32,
-    sigils: &[u32; 12],
+    sigils: &[u32; SIGIL_WORDS],
     rule: &'a [u8],
     text: &'a [u8],
     h: &[u32],
@@ -97,7 +98,7 @@ pub extern "C" fn faroalder_unify_objects_recalling<'a>(
 pub extern "C" fn faroalder_unify_fn_sig_recalling<'a>(
     chart: &[u32],
     fn_trait: u32,
-    sigils: &[u32; 12],
+    sigils: &[u32; SIGIL_WORDS],
     rule: &'a [u8],
     text: &'a [u8],
     h: &[u32],
@@ -133,7 +134,7 @@ pub extern "C" fn faroalder_unify_fn_sig_recalling<'a>(
 pub extern "C" fn faroalder_unify_impl_type_recalling<'a>(
     chart: &[u32],
     fn_trait: u32,
-    sigils: &[u32; 12],
+    sigils: &[u32; SIGIL_WORDS],
     rule: &'a [u8],
     text: &'a [u8],
     h: &[u32],

@@ -9,12 +9,14 @@ ghost use Rattle.promise.specs.Lists.{ListPromised};
 ghost use Rattle.c_words.specs.Numbers.{type_in, done_in, Says};
 ghost use Rattle.c_words.specs.Given.{kind_args_in, lent_env};
 
+use chart::SIGIL_WORDS;
+
 // "`new_var`": a type without a kind, and its span.
 #[unsafe(no_mangle)]
 pub extern "C" fn faroalder_tested_new_var<'a>(
     chart: &[u32],
     fn_trait: u32,
-    sigils: &[u32; 12],
+    sigils: &[u32; SIGIL_WORDS],
     rule: &'a [u8],
     text: &'a [u8],
     h: &mut [u32],
@@ -36,7 +38,7 @@ pub extern "C" fn faroalder_tested_new_var<'a>(
 pub extern "C" fn faroalder_tested_new_vars<'a>(
     chart: &[u32],
     fn_trait: u32,
-    sigils: &[u32; 12],
+    sigils: &[u32; SIGIL_WORDS],
     rule: &'a [u8],
     text: &'a [u8],
     h: &mut [u32],
@@ -62,7 +64,7 @@ pub extern "C" fn faroalder_tested_new_vars<'a>(
 pub extern "C" fn faroalder_tested_error<'a>(
     chart: &[u32],
     fn_trait: u32,
-    sigils: &[u32; 12],
+    sigils: &[u32; SIGIL_WORDS],
     rule: &'a [u8],
     text: &'a [u8],
     h: &mut [u32],
@@ -83,7 +85,7 @@ pub extern "C" fn faroalder_tested_error<'a>(
 pub extern "C" fn faroalder_tested_nil<'a>(
     chart: &[u32],
     fn_trait: u32,
-    sigils: &[u32; 12],
+    sigils: &[u32; SIGIL_WORDS],
     rule: &'a [u8],
     text: &'a [u8],
     h: &mut [u32],
@@ -104,7 +106,7 @@ pub extern "C" fn faroalder_tested_nil<'a>(
 pub extern "C" fn faroalder_tested_new<'a>(
     chart: &[u32],
     fn_trait: u32,
-    sigils: &[u32; 12],
+    sigils: &[u32; SIGIL_WORDS],
     rule: &'a [u8],
     text: &'a [u8],
     h: &mut [u32],
@@ -134,7 +136,7 @@ pub extern "C" fn faroalder_tested_new<'a>(
 pub extern "C" fn faroalder_tested_new_struct<'a>(
     chart: &[u32],
     fn_trait: u32,
-    sigils: &[u32; 12],
+    sigils: &[u32; SIGIL_WORDS],
     rule: &'a [u8],
     text: &'a [u8],
     h: &mut [u32],
@@ -158,7 +160,7 @@ pub extern "C" fn faroalder_tested_new_struct<'a>(
 pub extern "C" fn faroalder_tested_new_union<'a>(
     chart: &[u32],
     fn_trait: u32,
-    sigils: &[u32; 12],
+    sigils: &[u32; SIGIL_WORDS],
     rule: &'a [u8],
     text: &'a [u8],
     h: &mut [u32],

@@ -7,8 +7,9 @@ ghost use Rattle.promise.specs.Promise.{Promised, Tested, outcome_by};
 ghost use Rattle.call_read.specs.Replies.{NodePromised, child_reply, name_reply, figures_reply};
 ghost use Rattle.c_words.specs.Numbers.{type_in};
 ghost use Rattle.c_words.specs.Given.{lent_env};
-ghost use Rattle.c_outs.specs.Outs.{node_in, node_out, child_in, child_out, name_in, name_out, figures_in, figures_out, Tells};
+ghost use Rattle.c_outs.specs.Outs.{node_in, node_out, child_in, child_out, name_answer_in, name_out, figures_in, figures_out, Tells};
 
+use chart::SIGIL_WORDS;
 use types::Type;
 
 // "`find` follows parents, combining inversions by exclusive or."
@@ -16,7 +17,7 @@ use types::Type;
 pub extern "C" fn faroalder_tested_find<'a>(
     chart: &[u32],
     fn_trait: u32,
-    sigils: &[u32; 12],
+    sigils: &[u32; SIGIL_WORDS],
     rule: &'a [u8],
     text: &'a [u8],
     h: &[u32],
@@ -38,7 +39,7 @@ pub extern "C" fn faroalder_tested_find<'a>(
 pub extern "C" fn faroalder_tested_find_mut<'a>(
     chart: &[u32],
     fn_trait: u32,
-    sigils: &[u32; 12],
+    sigils: &[u32; SIGIL_WORDS],
     rule: &'a [u8],
     text: &'a [u8],
     h: &[u32],
@@ -60,7 +61,7 @@ pub extern "C" fn faroalder_tested_find_mut<'a>(
 pub extern "C" fn faroalder_tested_node<'a>(
     chart: &[u32],
     fn_trait: u32,
-    sigils: &[u32; 12],
+    sigils: &[u32; SIGIL_WORDS],
     rule: &'a [u8],
     text: &'a [u8],
     h: &[u32],
@@ -83,7 +84,7 @@ pub extern "C" fn faroalder_tested_node<'a>(
 pub extern "C" fn faroalder_tested_child<'a>(
     chart: &[u32],
     fn_trait: u32,
-    sigils: &[u32; 12],
+    sigils: &[u32; SIGIL_WORDS],
     rule: &'a [u8],
     text: &'a [u8],
     h: &[u32],
@@ -107,7 +108,7 @@ pub extern "C" fn faroalder_tested_child<'a>(
 pub extern "C" fn faroalder_tested_child_name<'a>(
     chart: &[u32],
     fn_trait: u32,
-    sigils: &[u32; 12],
+    sigils: &[u32; SIGIL_WORDS],
     rule: &'a [u8],
     text: &'a [u8],
     h: &[u32],
@@ -118,7 +119,7 @@ pub extern "C" fn faroalder_tested_child_name<'a>(
     out: &mut [u32; 3],
 ) -> u64
     requires { Tested (lent_env chart.now fn_trait sigils.now rule.now text.now) h.now ws.now ks.now }
-    ensures { Tells name_in name_out out.old out.new result (λ a. name_call
+    ensures { Tells name_answer_in name_out out.old out.new result (λ a. name_call
         (lent_env chart.now fn_trait sigils.now rule.now text.now) (lent_of h.now ws.now ks.now) (ty_of t) j
         ≡ outcome_by (name_reply a) (store_in h.now ws.now ks.now)) }
 {
@@ -134,7 +135,7 @@ pub extern "C" fn faroalder_tested_child_name<'a>(
 pub extern "C" fn faroalder_tested_figures<'a>(
     chart: &[u32],
     fn_trait: u32,
-    sigils: &[u32; 12],
+    sigils: &[u32; SIGIL_WORDS],
     rule: &'a [u8],
     text: &'a [u8],
     h: &[u32],

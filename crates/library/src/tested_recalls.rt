@@ -9,6 +9,7 @@ ghost use Rattle.promise.specs.Promise.{Promised, Tested};
 ghost use Rattle.c_words.specs.Numbers.{unify_in};
 ghost use Rattle.c_words.specs.Given.{set_in, impl_in, lent_env};
 
+use chart::SIGIL_WORDS;
 use types::Type;
 
 // "`unify` takes both roots with `find_mut`." Nothing that the memory holds is believed, and what stands in it afterwards means nothing.
@@ -16,7 +17,7 @@ use types::Type;
 pub extern "C" fn faroalder_tested_unify_recalling<'a>(
     chart: &[u32],
     fn_trait: u32,
-    sigils: &[u32; 12],
+    sigils: &[u32; SIGIL_WORDS],
     rule: &'a [u8],
     text: &'a [u8],
     h: &[u32],
@@ -49,7 +50,7 @@ pub extern "C" fn faroalder_tested_unify_recalling<'a>(
 pub extern "C" fn faroalder_tested_unify_types_recalling<'a>(
     chart: &[u32],
     fn_trait: u32,
-    sigils: &[u32; 12],
+    sigils: &[u32; SIGIL_WORDS],
     rule: &'a [u8],
     text: &'a [u8],
     h: &[u32],
@@ -78,7 +79,7 @@ pub extern "C" fn faroalder_tested_unify_types_recalling<'a>(
 pub extern "C" fn faroalder_tested_unify_objects_recalling<'a>(
     chart: &[u32],
     fn_trait: u32,
-    sigils: &[u32; 12],
+    sigils: &[u32; SIGIL_WORDS],
     rule: &'a [u8],
     text: &'a [u8],
     h: &[u32],
@@ -107,7 +108,7 @@ pub extern "C" fn faroalder_tested_unify_objects_recalling<'a>(
 pub extern "C" fn faroalder_tested_unify_fn_sig_recalling<'a>(
     chart: &[u32],
     fn_trait: u32,
-    sigils: &[u32; 12],
+    sigils: &[u32; SIGIL_WORDS],
     rule: &'a [u8],
     text: &'a [u8],
     h: &[u32],
@@ -144,7 +145,7 @@ pub extern "C" fn faroalder_tested_unify_fn_sig_recalling<'a>(
 pub extern "C" fn faroalder_tested_unify_impl_type_recalling<'a>(
     chart: &[u32],
     fn_trait: u32,
-    sigils: &[u32; 12],
+    sigils: &[u32; SIGIL_WORDS],
     rule: &'a [u8],
     text: &'a [u8],
     h: &[u32],

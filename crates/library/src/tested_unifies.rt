@@ -9,6 +9,7 @@ ghost use Rattle.promise.specs.Promise.{Promised, Tested};
 ghost use Rattle.c_words.specs.Numbers.{bool_in, unify_in};
 ghost use Rattle.c_words.specs.Given.{set_in, impl_in, lent_env};
 
+use chart::SIGIL_WORDS;
 use types::Type;
 
 // "`unify` takes both roots with `find_mut`."
@@ -16,7 +17,7 @@ use types::Type;
 pub extern "C" fn faroalder_tested_unify<'a>(
     chart: &[u32],
     fn_trait: u32,
-    sigils: &[u32; 12],
+    sigils: &[u32; SIGIL_WORDS],
     rule: &'a [u8],
     text: &'a [u8],
     h: &[u32],
@@ -40,7 +41,7 @@ pub extern "C" fn faroalder_tested_unify<'a>(
 pub extern "C" fn faroalder_tested_unify_types<'a>(
     chart: &[u32],
     fn_trait: u32,
-    sigils: &[u32; 12],
+    sigils: &[u32; SIGIL_WORDS],
     rule: &'a [u8],
     text: &'a [u8],
     h: &[u32],
@@ -66,7 +67,7 @@ pub extern "C" fn faroalder_tested_unify_types<'a>(
 pub extern "C" fn faroalder_tested_unify_objects<'a>(
     chart: &[u32],
     fn_trait: u32,
-    sigils: &[u32; 12],
+    sigils: &[u32; SIGIL_WORDS],
     rule: &'a [u8],
     text: &'a [u8],
     h: &[u32],
@@ -92,7 +93,7 @@ pub extern "C" fn faroalder_tested_unify_objects<'a>(
 pub extern "C" fn faroalder_tested_unify_fn_sig<'a>(
     chart: &[u32],
     fn_trait: u32,
-    sigils: &[u32; 12],
+    sigils: &[u32; SIGIL_WORDS],
     rule: &'a [u8],
     text: &'a [u8],
     h: &[u32],
@@ -127,7 +128,7 @@ pub extern "C" fn faroalder_tested_unify_fn_sig<'a>(
 pub extern "C" fn faroalder_tested_unify_impl_type<'a>(
     chart: &[u32],
     fn_trait: u32,
-    sigils: &[u32; 12],
+    sigils: &[u32; SIGIL_WORDS],
     rule: &'a [u8],
     text: &'a [u8],
     h: &[u32],
@@ -160,7 +161,7 @@ pub extern "C" fn faroalder_tested_unify_impl_type<'a>(
 pub extern "C" fn faroalder_tested_approx_eq<'a>(
     chart: &[u32],
     fn_trait: u32,
-    sigils: &[u32; 12],
+    sigils: &[u32; SIGIL_WORDS],
     rule: &'a [u8],
     text: &'a [u8],
     h: &[u32],

@@ -9,6 +9,7 @@ ghost use Rattle.promise.specs.Promise.{Promised};
 ghost use Rattle.c_words.specs.Numbers.{bool_in, unify_in};
 ghost use Rattle.c_words.specs.Given.{set_in, impl_in, lent_env};
 
+use chart::SIGIL_WORDS;
 use types::Type;
 
 // "`unify` takes both roots with `find_mut`."
@@ -16,7 +17,7 @@ use types::Type;
 pub extern "C" fn faroalder_unify<'a>(
     chart: &[u32],
     fn_trait: u32,
-    sigils: &[u32; 12],
+    sigils: &[u32; SIGIL_WORDS],
     rule: &'a [u8],
     text: &'a [u8],
     h: &[u32],
@@ -39,7 +40,7 @@ pub extern "C" fn faroalder_unify<'a>(
 pub extern "C" fn faroalder_unify_types<'a>(
     chart: &[u32],
     fn_trait: u32,
-    sigils: &[u32; 12],
+    sigils: &[u32; SIGIL_WORDS],
     rule: &'a [u8],
     text: &'a [u8],
     h: &[u32],
@@ -64,7 +65,7 @@ pub extern "C" fn faroalder_unify_types<'a>(
 pub extern "C" fn faroalder_unify_objects<'a>(
     chart: &[u32],
     fn_trait: u32,
-    sigils: &[u32; 12],
+    sigils: &[u32; SIGIL_WORDS],
     rule: &'a [u8],
     text: &'a [u8],
     h: &[u32],
@@ -89,7 +90,7 @@ pub extern "C" fn faroalder_unify_objects<'a>(
 pub extern "C" fn faroalder_unify_fn_sig<'a>(
     chart: &[u32],
     fn_trait: u32,
-    sigils: &[u32; 12],
+    sigils: &[u32; SIGIL_WORDS],
     rule: &'a [u8],
     text: &'a [u8],
     h: &[u32],
@@ -114,7 +115,7 @@ pub extern "C" fn faroalder_unify_fn_sig<'a>(
 pub extern "C" fn faroalder_unify_impl_type<'a>(
     chart: &[u32],
     fn_trait: u32,
-    sigils: &[u32; 12],
+    sigils: &[u32; SIGIL_WORDS],
     rule: &'a [u8],
     text: &'a [u8],
     h: &[u32],
@@ -146,7 +147,7 @@ pub extern "C" fn faroalder_unify_impl_type<'a>(
 pub extern "C" fn faroalder_approx_eq<'a>(
     chart: &[u32],
     fn_trait: u32,
-    sigils: &[u32; 12],
+    sigils: &[u32; SIGIL_WORDS],
     rule: &'a [u8],
     text: &'a [u8],
     h: &[u32],

@@ -15,12 +15,15 @@ use Rattle.scope.specs.Kinds.{row_of, rows, NO_NAMES, TUPLE, ERROR}
 use Rattle.scope.specs.Nodes as nodes
 use Rattle.scope.specs.Nodes.{remembering}
 use Rattle.scope.specs.Make.{Made, next_type, pushed, bare, new, new_var, again, remember_error, remember_nil, make_error, make_nil}
-use Rattle.scope.specs.Calls.{nodes_for}
+use Rattle.heads.specs.declared.Once.{Once}
+use Rattle.heads.specs.declared.Once.TheVariants as once
+use Rattle.scope.specs.Calls.{done, nodes_for, made_type}
 use Rattle.types.specs.declared.«Type».{«Type»}
 use Rattle.types.proofs.Laws.{ty_plain}
 use Rattle.layout.specs.Words.{HEAD_WORDS, child_words, nodes_made, children_made, node_room, child_room, store_in, clean}
 use Rattle.layout.specs.Meaning.{HALF, type_of, header_in, put_header, put_at, state_means, state_fits, remembered_means, remembered_fits, Kept, Lies}
-use Rattle.heads.specs.Heads.{put_counts}
+use Rattle.heads.specs.Heads.{put_counts, remembered_by}
+use Rattle.make.specs.Once.{once_of, make_once, OnceLeaves}
 use Rattle.layout.specs.declared.Header.{Header}
 use Rattle.layout.specs.Meaning.{Remembered}
 use Rattle.std.specs.Prelude.{Some, None}
@@ -36,6 +39,10 @@ use Rattle.store.proofs.Laws.{store_count, beyond_refl, remembered_fits_lem, err
 use Rattle.make.specs.Made.{MadeIs, BlankMade, Rememberable}
 use Rattle.make.specs.Header.{Pushable, Pushed, BlankReady, OnceReady, OnceMade, with_remembered}
 use Rattle.make.proofs.Laws.{push_holds, push_beyond}
+
+-- a maker's answer as an outcome
+pub made_done : {h ws ks h' ws' ks' : List ℕ} {t : «Type»} {m : Made} → MadeIs h ws ks h' ws' ks' t m → made_type m ≡ done (ty_of t.0) m.store
+made_done {m = m} o = ap (λ (y : Ty). done y m.store) (sym o.type)
 
 -- room, in the header's words
 pub record RoomIn (h : List ℕ) (n c : ℕ) : Type 0 where
@@ -245,13 +252,12 @@ module _ (h ws ks : List ℕ) where
     pub head_nil : remembered_means x.nil ≡ (store_in h ws ks).nil
     head_nil = rw q (nil_is h ws ks)
 
-  module _ {h' ws' : List ℕ} {t : «Type»} where
-    pub error_made : Ready h ws ks (nodes_for (store_in h ws ks).error) 0 → OnceMade h ws h' ws' (header_in h) (header_in h).error next (header_in h).nil ERROR t
-        → MadeIs h ws ks h' ws' ks t (make_error (store_in h ws ks))
-    unfolding make_error
-    error_made r o = once_made h ws ks ERROR error_row remember_error next (header_in h).nil (header_in h).error (error_is h ws ks) r error_kept o
+  pub once_is : (w : Once) → remembered_means (remembered_by w (header_in h)) ≡ once_of w (store_in h ws ks)
+  once_is once.Error = error_is h ws ks
+  once_is once.Nil = nil_is h ws ks
 
-    pub nil_made : Ready h ws ks (nodes_for (store_in h ws ks).nil) 0 → OnceMade h ws h' ws' (header_in h) (header_in h).nil (header_in h).error next TUPLE t
-        → MadeIs h ws ks h' ws' ks t (make_nil (store_in h ws ks))
-    unfolding make_nil
-    nil_made r o = once_made h ws ks TUPLE nil_row remember_nil (header_in h).error next (header_in h).nil (nil_is h ws ks) r nil_kept o
+  pub once_is_made : (w : Once) {h' ws' : List ℕ} {t : «Type»} → Ready h ws ks (nodes_for (once_of w (store_in h ws ks))) 0 → OnceLeaves w h ws h' ws' t
+      → MadeIs h ws ks h' ws' ks t (make_once w (store_in h ws ks))
+  unfolding make_error make_nil
+  once_is_made once.Error r o = once_made h ws ks ERROR error_row remember_error next (header_in h).nil (header_in h).error (error_is h ws ks) r error_kept o
+  once_is_made once.Nil r o = once_made h ws ks TUPLE nil_row remember_nil (header_in h).error next (header_in h).nil (nil_is h ws ks) r nil_kept o

@@ -24,7 +24,6 @@ use Rattle.make.specs.Made.{MadeIs}
 use Rattle.make.specs.Header.{Pushed}
 use Rattle.store.specs.Entries.{entry_count}
 use Rattle.make.specs.Given.{kind_at, kind_over, kind_given, KindReady, Put}
-use Rattle.make.specs.declared.Head.{Head}
 use Rattle.make.proofs.MakeLaws.{RoomIn, ready_room, pushed_made}
 use borrow.Rule.Slice.PartMut.{put_mid}
 use lib.Seq.{get_or-take, get_or-drop, length-take-le}
@@ -92,7 +91,7 @@ module _ (es : List ℕ) (first i : ℕ) {ks₀ ks ks' : List ℕ} {s : Slot} (o
 
 -- the kind over the entries, with its children at `first`
 
-module _ (k : Head) (es : List ℕ) {ks ks' : List ℕ} {first : ℕ} (o : Put es first (entry_count es) ks ks') where
+module _ (k : Kind) (es : List ℕ) {ks ks' : List ℕ} {first : ℕ} (o : Put es first (entry_count es) ks ks') where
   abbrev moved : Kind
   moved = kind_at k first (entry_count es)
 
@@ -107,19 +106,19 @@ module _ (k : Head) (es : List ℕ) {ks ks' : List ℕ} {first : ℕ} (o : Put e
 
 -- for callers: a kind has a child for each entry, and one whose names are clean may be made where there is room
 
-pub given_kids : (k : Head) (es : List ℕ) → length (kind_given k es).kids ≡ entry_count es
+pub given_kids : (k : Kind) (es : List ℕ) → length (kind_given k es).kids ≡ entry_count es
 given_kids k es = length_kids es (kind_over k es)
 
-pub kind_ready : {h ws ks : List ℕ} (k : Head) (es : List ℕ) → Ready h ws ks 1 (entry_count es) → names_clean (kind_cell es (kind_over k es)) ≡ true
+pub kind_ready : {h ws ks : List ℕ} (k : Kind) (es : List ℕ) → Ready h ws ks 1 (entry_count es) → names_clean (kind_cell es (kind_over k es)) ≡ true
     → KindReady h ws ks k es
 kind_ready k es r c = record { ready = r; fits = kind_fits_lem es (kind_over k es) (entry_count es) (omega arith) c }
 
 -- new_kind
 
-pub entries_ready : {h ws ks es : List ℕ} {k : Head} {n : ℕ} → KindReady h ws ks k es → n ≡ entry_count es → Ready h ws ks 1 n
+pub entries_ready : {h ws ks es : List ℕ} {k : Kind} {n : ℕ} → KindReady h ws ks k es → n ≡ entry_count es → Ready h ws ks 1 n
 entries_ready r e = rw e r.ready
 
-pub kind_head : {h ws ks es : List ℕ} {k : Head} → KindReady h ws ks k es → HEAD_WORDS ≤ length h
+pub kind_head : {h ws ks es : List ℕ} {k : Kind} → KindReady h ws ks k es → HEAD_WORDS ≤ length h
 kind_head {h} {ws} {ks} r = (clean_lies h ws ks r.ready.clean).head
 
 pub children_room : {h ws ks : List ℕ} {f n : ℕ} → Ready h ws ks 1 n → f ≡ children_made h → child_words (f + n) ≤ length ks
@@ -128,7 +127,7 @@ children_room {h} {ws} {ks} {f} {n} r e =
     let o : RoomIn h 1 n = ready_room r in
     omega (arith, p.child_slots, o.children)
 
-kind_in : {h ws ks h' ws' ks' es : List ℕ} {k : Head} {t : «Type»} → KindReady h ws ks k es → Put es (children_made h) (entry_count es) ks ks'
+kind_in : {h ws ks h' ws' ks' es : List ℕ} {k : Kind} {t : «Type»} → KindReady h ws ks k es → Put es (children_made h) (entry_count es) ks ks'
     → length ks' ≡ length ks
     → Pushed h ws h' ws' (header_in h) (entry_count es) (header_in h).error (header_in h).nil (Known (record { 0 = false }) (kind_at k (children_made h) (entry_count es))) t
     → MadeIs h ws ks h' ws' ks' t (new (store_in h ws ks) (kind_given k es))
@@ -136,7 +135,7 @@ unfolding new
 kind_in {ks' = ks'} {es = es} {k = k} r o l p =
     rw (given_kids k es, ← (put_means k es o)) (pushed_made r.ready p ks' l o.before o.after (put_fits k es o r.fits))
 
-pub kind_made_lem : {h ws ks h' ws' ks' es : List ℕ} {k : Head} {f : ℕ} {y : Kind} {t : «Type»} {n : ℕ} → KindReady h ws ks k es → f ≡ children_made h
+pub kind_made_lem : {h ws ks h' ws' ks' es : List ℕ} {k : Kind} {f : ℕ} {y : Kind} {t : «Type»} {n : ℕ} → KindReady h ws ks k es → f ≡ children_made h
     → n ≡ entry_count es → Put es f n ks ks' → length ks' ≡ length ks → y ≡ kind_at k f n
     → Pushed h ws h' ws' (header_in h) n (header_in h).error (header_in h).nil (Known (record { 0 = false }) y) t
     → MadeIs h ws ks h' ws' ks' t (new (store_in h ws ks) (kind_given k es))

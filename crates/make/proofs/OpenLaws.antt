@@ -84,7 +84,7 @@ open_became {h} {ws} {ks} {n = n} {c = c} o p q r s t u =
     rw (u, t, s, r, q, p)
     (emptied h ws ks n c 0 n c o.head o.node_len o.child_len (omega arith) (omega arith) (λ i l g. absurd (omega arith)) (λ i l g. absurd (omega arith)))
 
--- reset
+-- in clean words, the slots that are not used are 0
 
 module _ (h ws ks : List ℕ) (ok : clean h ws ks ≡ true) where
   abbrev nodes_zero : Bool
@@ -97,11 +97,13 @@ module _ (h ws ks : List ℕ) (ok : clean h ws ks ≡ true) where
   unfolding unused_zero
   unused = clean_unused h ws ks ok
 
-  nodes_blank : Blank ws (node_words (nodes_made h)) (node_words (node_room h))
+  pub nodes_blank : Blank ws (node_words (nodes_made h)) (node_words (node_room h))
   nodes_blank = zeros_blank ws (node_words (nodes_made h)) (node_words (node_room h)) (and_left nodes_zero children_zero unused)
 
-  children_blank : Blank ks (child_words (children_made h)) (child_words (child_room h))
+  pub children_blank : Blank ks (child_words (children_made h)) (child_words (child_room h))
   children_blank = zeros_blank ks (child_words (children_made h)) (child_words (child_room h)) (and_right nodes_zero children_zero unused)
+
+  -- reset
 
   reset_store : reset (store_in h ws ks) ≡ with_reports (opened (node_room h) (child_room h)) (reports h)
   unfolding reset store_in

@@ -6,10 +6,9 @@ use Rattle.layout.specs.Meaning.{kind_means, kind_fits, Kept}
 use Rattle.layout.specs.declared.Kind.{Kind}
 use Rattle.store.specs.Holds.{Ready}
 use Rattle.store.specs.Entries.{entry_count}
-use Rattle.make.specs.declared.Head.{Head}
 
--- the kind with n children from `first` on
-abbrev pub kind_at : Head → ℕ → ℕ → Kind
+-- the kind with n children from `first` on, wherever its own lie
+abbrev pub kind_at : Kind → ℕ → ℕ → Kind
 kind_at k first n = record {
   code = k.code;
   number = k.number;
@@ -21,14 +20,14 @@ kind_at k first n = record {
 }
 
 -- a kind whose children are all the entries
-abbrev pub kind_over : Head → List ℕ → Kind
+abbrev pub kind_over : Kind → List ℕ → Kind
 kind_over k es = kind_at k 0 (entry_count es)
 
-abbrev pub kind_given : Head → List ℕ → nodes.Kind
+abbrev pub kind_given : Kind → List ℕ → nodes.Kind
 kind_given k es = kind_means es (kind_over k es)
 
 -- the slices have room for the kind, and names that it does not have are zeros
-pub record KindReady (h ws ks : List ℕ) (k : Head) (es : List ℕ) : Type 0 where
+pub record KindReady (h ws ks : List ℕ) (k : Kind) (es : List ℕ) : Type 0 where
   pub ready : Ready h ws ks 1 (entry_count es)
   pub fits : kind_fits es (entry_count es) (kind_over k es) ≡ true
 

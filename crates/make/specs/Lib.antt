@@ -1,3 +1,4 @@
 pub mod Made
 pub mod Given
 pub mod Header
+pub mod Once

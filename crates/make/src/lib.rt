@@ -3,37 +3,25 @@
 // hold. None tests: what it asks is in its `requires`. A maker's time does not grow with the store.
 ghost use Rattle.std.specs.Prelude.{◌≡◌, true, false, ◌+◌, ◌≤◌, ◌<◌, length};
 ghost use Rattle.scope.specs.Nodes.{opened};
-ghost use Rattle.scope.specs.Make.{new, new_var, new_vars, make_error, make_nil};
+ghost use Rattle.scope.specs.Make.{new, new_var, new_vars};
 ghost use Rattle.scope.specs.Force.{reset};
 ghost use Rattle.scope.specs.Calls.{nodes_for};
-ghost use Rattle.layout.specs.Words.{HEAD_WORDS, child_words, nodes_made, store_in};
+ghost use Rattle.layout.specs.Words.{HEAD_WORDS, child_words, store_in};
 ghost use Rattle.layout.specs.Words as words;
-ghost use Rattle.layout.specs.Meaning.{type_of, header_in, put_header};
+ghost use Rattle.layout.specs.Meaning.{header_in, put_header};
 ghost use Rattle.layout.specs.declared.TypeState.TheVariants.{Unknown, Known};
-ghost use Rattle.scope.specs.Kinds as kind;
+ghost use Rattle.heads.specs.Heads.{remembered_by};
 ghost use Rattle.store.specs.Bare.{bare_kind};
 ghost use Rattle.store.specs.Holds.{Became, Openable, Ready};
 ghost use Rattle.make.specs.Made.{MadeIs, MadeAllIs};
-ghost use Rattle.make.specs.Header.{Pushable, Pushed, BlankReady, OnceReady, OnceMade, cleared, fresh, with_remembered};
-ghost use Rattle.make.specs.Given.{KindReady, Put, kind_at, kind_given};
+ghost use Rattle.make.specs.Header.{Pushable, Pushed, BlankReady, OnceReady, cleared, fresh, with_remembered};
+ghost use Rattle.make.specs.Once.{OnceLeaves, once_of, make_once};
+ghost use Rattle.make.specs.Given.{KindReady, Put, kind_given};
 
+use heads::Once;
 use kinds::{ERROR, TUPLE};
 use layout::{CHILD_WORDS, Header, Kind, TypeNode, TypeState};
-use names::Name;
 use types::{Inverted, Type, TypeIdx};
-
-// What of a kind is neither a child nor a child's name.
-// Kept (2): no twin of `layout::Kind`, which says where its children lie besides: a kind that is made has none yet. A Kind that held a Head would spare `kind_of` four
-// lines, and be read as `kind.head.code` in 80 places where now `kind.code` stands.
-#[derive(Clone, Copy)]
-pub struct Head {
-    pub code: u32,
-    pub number: u32,
-    pub dual: bool,
-    pub flex: u32,
-    // Its own name, or zeros.
-    pub name: Name,
-}
 
 // The first e words become 0.
 pub fn clear(s: &mut [u32], e: usize)
@@ -43,7 +31,8 @@ pub fn clear(s: &mut [u32], e: usize)
     s[..e].fill(0);
 }
 
-fn no_nodes(node_room: u32, child_room: u32, reports: u64) -> Header
+// The header of a store without nodes.
+pub fn no_nodes(node_room: u32, child_room: u32, reports: u64) -> Header
     ensures { result ≡ fresh node_room child_room reports }
 {
     Header {
@@ -151,54 +140,31 @@ pub fn remember(h: &mut [u32], error: Option<Type>, nil: Option<Type>)
     layout::write_header(h, Header { error, nil, ..x });
 }
 
-// The error type: the one remembered, or that of one node more.
-// Kept (2): one function for this and `nil_once` is no plainer: it would be lent what is remembered, the code and a closure that writes the word, which is all that either says.
-pub fn error_once(h: &mut [u32], ws: &mut [u32]) -> Type
-    requires { OnceReady h.old ws.old (header_in h.old) (header_in h.old).error }
-    ensures { OnceMade h.old ws.old h.new ws.new (header_in h.old) (header_in h.old).error
-        (Some (type_of (nodes_made h.old))) (header_in h.old).nil kind.ERROR result }
+// A type that is made once, the error type or a Tuple: the one remembered, or that of one node more.
+pub fn once(h: &mut [u32], ws: &mut [u32], what: Once) -> Type
+    requires { OnceReady h.old ws.old (header_in h.old) (remembered_by what (header_in h.old)) }
+    ensures { OnceLeaves what h.old ws.old h.new ws.new result }
 {
-    match heads::error_made(h) {
+    match heads::made(h, what) {
         Some(t) => t,
         None => {
             let x = layout::read_header(h);
-            push_bare(h, ws, x, Some(Type(x.nodes)), x.nil, ERROR)
+            let next = Some(Type(x.nodes));
+            match what {
+                Once::Error => push_bare(h, ws, x, next, x.nil, ERROR),
+                Once::Nil => push_bare(h, ws, x, x.error, next, TUPLE),
+            }
         }
     }
 }
 
-// The type of nothing, likewise: a Tuple.
-pub fn nil_once(h: &mut [u32], ws: &mut [u32]) -> Type
-    requires { OnceReady h.old ws.old (header_in h.old) (header_in h.old).nil }
-    ensures { OnceMade h.old ws.old h.new ws.new (header_in h.old) (header_in h.old).nil
-        (header_in h.old).error (Some (type_of (nodes_made h.old))) kind.TUPLE result }
-{
-    match heads::nil_made(h) {
-        Some(t) => t,
-        None => {
-            let x = layout::read_header(h);
-            push_bare(h, ws, x, x.error, Some(Type(x.nodes)), TUPLE)
-        }
-    }
-}
-
-// The error type.
-// Kept (2): as `error_once` and `nil_once`, whose promises these tell of a whole store.
-pub fn error(h: &mut [u32], ws: &mut [u32], ks: &[u32]) -> Type
-    requires { Ready h.old ws.old ks.now (nodes_for (store_in h.old ws.old ks.now).error) 0 }
+// The same, of a whole store.
+pub fn made_once(h: &mut [u32], ws: &mut [u32], ks: &[u32], what: Once) -> Type
+    requires { Ready h.old ws.old ks.now (nodes_for (once_of what (store_in h.old ws.old ks.now))) 0 }
     ensures { MadeIs h.old ws.old ks.now h.new ws.new ks.now result
-        (make_error (store_in h.old ws.old ks.now)) }
+        (make_once what (store_in h.old ws.old ks.now)) }
 {
-    error_once(h, ws)
-}
-
-// The type of nothing.
-pub fn nil(h: &mut [u32], ws: &mut [u32], ks: &[u32]) -> Type
-    requires { Ready h.old ws.old ks.now (nodes_for (store_in h.old ws.old ks.now).nil) 0 }
-    ensures { MadeIs h.old ws.old ks.now h.new ws.new ks.now result
-        (make_nil (store_in h.old ws.old ks.now)) }
-{
-    nil_once(h, ws)
+    once(h, ws, what)
 }
 
 // `count` variables; their types stand at the front of `out`.
@@ -208,24 +174,9 @@ pub fn new_vars(h: &mut [u32], ws: &mut [u32], ks: &[u32], span: u32, count: u32
     ensures { MadeAllIs h.old ws.old ks.now h.new ws.new ks.now
         out.old out.new (new_vars (store_in h.old ws.old ks.now) span count) }
 {
-    // Kept (3): tried over `out[..count].iter_mut()`: its proof knows the part alone, and the promise is of all of `out`, into which it would be put back.
+    // Kept (3): tried over `out[..count].iter_mut()`: its proof knows the part alone, and the promise is of all of `out`, of which a proof then knows no element, as in `marks::tell_word`.
     for i in 0..count as usize {
         out[i] = new_var(h, ws, ks, span).0;
-    }
-}
-
-// The kind's numbers, with its children at `first`.
-pub fn kind_of(k: Head, first: u32, count: u32) -> Kind
-    ensures { result ≡ kind_at k first count }
-{
-    Kind {
-        code: k.code,
-        number: k.number,
-        dual: k.dual,
-        flex: k.flex,
-        name: k.name,
-        first,
-        count,
     }
 }
 
@@ -239,8 +190,9 @@ fn put_children(ks: &mut [u32], first: u32, entries: &[u32], n: usize)
     ks[from..from + len].copy_from_slice(&entries[..len]);
 }
 
-// `new`, for each of the fifteen kinds. A child is lent as it lies in a store: its type, and its name's text, start and length.
-pub fn new_kind(h: &mut [u32], ws: &mut [u32], ks: &mut [u32], k: Head, entries: &[u32]) -> Type
+// `new`, for each of the fifteen kinds, wherever it says that its children lie: they are the entries. A child is lent as it lies in a store: its type, and its
+// name's text, start and length.
+pub fn new_kind(h: &mut [u32], ws: &mut [u32], ks: &mut [u32], k: Kind, entries: &[u32]) -> Type
     requires { KindReady h.old ws.old ks.old k entries.now }
     ensures { MadeIs h.old ws.old ks.old h.new ws.new ks.new result
         (new (store_in h.old ws.old ks.old) (kind_given k entries.now)) }
@@ -249,6 +201,6 @@ pub fn new_kind(h: &mut [u32], ws: &mut [u32], ks: &mut [u32], k: Head, entries:
     let first = heads::children_made(h);
     put_children(ks, first, entries, n);
     let count = n as u32;
-    let state = TypeState::Known(Inverted(false), kind_of(k, first, count));
+    let state = TypeState::Known(Inverted(false), Kind { first, count, ..k });
     push(h, ws, count, state)
 }

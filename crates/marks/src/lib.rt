@@ -2,12 +2,13 @@
 // The first words of a lent memory: a mark for each node. It is any slice, whatever it holds; past its end every word is 0. Words 0 and 1 are the caller's, the third says
 // whether there are marks, then come the marks, a bit for each node, and from HEAD on the words are the caller's again. What a mark means is the caller's too: here is
 // said only which nodes have one.
-ghost use Rattle.std.specs.Prelude.{◌≡◌, ◌/◌, ◌<◌, get_or, set};
+ghost use Rattle.std.specs.Prelude.{◌≡◌, ◌/◌, ◌<◌, get_or};
 ghost use Rattle.scope.specs.Limits.{«MAX_NODES»};
 ghost use Rattle.marks.specs.Marks.{BITS, MARKED, Said, Opened, Marked, Tells, MarkedNew};
 
 use scope::MAX_NODES;
 use types::TypeIdx;
+use words::{put, word};
 
 // The bits of a word.
 const BITS: usize = 32;
@@ -24,36 +25,20 @@ pub const HEAD: usize = MARKS + MAX_NODES / BITS;
 // Kept (1): the walk is `find_related`'s, whose bytes C lends and reads: "1 is written for each root added".
 const OLD: u8 = 2;
 
-// Past the end there is 0.
-// Kept (2): `layout::word`, and `roots::put` beside it, say the same of a store's words. A lent memory is no store: marks and recall rest on neither crate.
-pub fn at(m: &[u32], i: usize) -> u32
-    ensures { result ≡ get_or m.now i 0 }
-{
-    m.get(i).copied().unwrap_or(0)
-}
-
-pub fn put(m: &mut [u32], i: usize, x: u32)
-    ensures { m.new ≡ set m.old i x }
-{
-    if i < m.len() {
-        m[i] = x;
-    }
-}
-
 // Has a node a mark?
 pub fn knows(m: &[u32], i: TypeIdx) -> bool
     requires { i.0 < «MAX_NODES» }
     ensures { Said m.now i.0 result }
 {
     let k = i.0 as usize;
-    at(m, MARKED) == 1 && (at(m, MARKS + k / BITS) >> (k % BITS)) % 2 == 1
+    word(m, MARKED) == 1 && (word(m, MARKS + k / BITS) >> (k % BITS)) % 2 == 1
 }
 
 // There are marks from here on: none, where there were none.
 fn open_marks(m: &mut [u32])
     ensures { Opened m.old m.new }
 {
-    if at(m, MARKED) == 1 {
+    if word(m, MARKED) == 1 {
         return;
     }
     let n = m.len();
@@ -69,16 +54,16 @@ pub fn know(m: &mut [u32], i: TypeIdx)
     open_marks(m);
     let k = i.0 as usize;
     let p = MARKS + k / BITS;
-    put(m, p, at(m, p) | (1u32 << (k % BITS)));
+    put(m, p, word(m, p) | (1u32 << (k % BITS)));
 }
 
 // The marks of the nodes of one word, from the first of them on.
-// Kept (2): over `found`'s own bytes, by `zip` or `enumerate`, both ends of the part have to be cut to its length first; here one test does that.
+// Kept (3): the bytes are written by index: after `iter_mut` or `chunks_mut` a proof knows the part's length and not its elements (NOT_COVERED.md of the kit).
 fn tell_word(m: &[u32], p: usize, found: &mut [u8])
     requires { (get_or m.now MARKED 0 ≡ 1) × (p < «MAX_NODES» / BITS) }
     ensures { Tells m.now found.old found.new }
 {
-    let w = at(m, MARKS + p);
+    let w = word(m, MARKS + p);
     if w == 0 {
         return;
     }
@@ -94,7 +79,7 @@ fn tell_word(m: &[u32], p: usize, found: &mut [u8])
 pub fn tell(m: &[u32], found: &mut [u8])
     ensures { Tells m.now found.old found.new }
 {
-    if at(m, MARKED) != 1 {
+    if word(m, MARKED) != 1 {
         return;
     }
     for p in 0..MAX_NODES / BITS {

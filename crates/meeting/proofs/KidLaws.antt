@@ -4,14 +4,14 @@
 use mathlib.Core.Path.{◌≡◌, refl, ap, sym, subst, ◌∙◌}
 use mathlib.Core.Bool.{Bool, true, false, ◌&&◌, ◌||◌, false≢true}
 use mathlib.Core.List.{List, [], ◌∷◌, map, Memᴰ}
-use mathlib.Core.Option.{Option, none, some}
+use mathlib.Core.Option.{none, some}
 use Prim.Native.Nat.{ℕ, zero, suc, ◌+◌, ◌-◌, ◌<◌, ◌≤◌}
 use native.Mathlib.Omega.{arith}
 use native.Mathlib.Decide.{dec_lt, ℕ_discrete}
 use lib.Dec.{eqb, ltb}
 use borrow.Author.Tests.{eq-eqb, lt-ltb, le-ltb}
 use lib.ListN.{length, length-map}
-use Rattle.scope.specs.Base.{pick, front, last}
+use Rattle.scope.specs.Base.{front, last}
 use Rattle.scope.specs.Names.{Texts, Name, bytes, bytes_or, eq_bytes, lt_bytes, ascending}
 use Rattle.scope.specs.Types.{Ty, ty_of}
 use Rattle.scope.specs.Unify.{seek}
@@ -19,6 +19,9 @@ use Rattle.scope.specs.Sound as sound
 use Rattle.scope.proofs.NameLaws.{eq_bytes_lem, bytes_eq, lt_irrefl, lt_trans, lt_apart, ascending_tail, ascending_above}
 use Rattle.scope.specs.Sound.{slot_name}
 use Rattle.layout.specs.Words.{slot_at, slots}
+use Rattle.layout.specs.Meaning.{slot_means}
+use Rattle.layout.specs.declared.Slot.{Slot}
+use Rattle.names.specs.Place.{name_of}
 use Rattle.layout.proofs.ChildLaws.{length_slots}
 use Rattle.plan.specs.Meaning.{kids_from, names_from}
 use Rattle.names.proofs.InWords.{name_bytes}
@@ -41,39 +44,18 @@ kid_length ks a n = length-map (slots ks a n) (λ s. ty_of s.type) ∙ length_sl
 abbrev pub kid_ty : List ℕ → ℕ → Ty
 kid_ty ks i = ty_of (slot_at ks i).type
 
+-- a child that was read
+
+pub child_place : {s : Slot} {c : sound.Slot} → slot_means s ≡ c → name_of s.name ≡ slot_place c
+child_place e = ap slot_place e
+
+pub child_type : {s : Slot} {c : sound.Slot} → slot_means s ≡ c → s.ty.0 ≡ c.type
+child_type e = ap (λ (z : sound.Slot). z.type) e
+
 -- `seek`
 
 pub slot_bytes : (x : Texts) (s : sound.Slot) → bytes_or x (slot_name s) ≡ bytes x (slot_place s)
 slot_bytes x s = name_bytes x s.text s.start s.len
-
--- what the children from the j-th on give
-abbrev seek_rest : Texts → List ℕ → Name → ℕ → ℕ → ℕ → Option Ty
-seek_rest x ks m b count j = seek x (bytes x m) (names_from ks (b + j) (count - j)) (kids_from ks (b + j) (count - j))
-
-pub record Seeking (x : Texts) (ks : List ℕ) (m : Name) (b count j : ℕ) : Type 0 where
-  pub rest : seek_rest x ks m b count j ≡ sought_in x ks m b count
-
-module _ {x : Texts} {ks : List ℕ} {m : Name} {b count j : ℕ} (w : Seeking x ks m b count j) where
-  pub seek_over : count ≤ j → none ≡ sought_in x ks m b count
-  unfolding seek
-  seek_over h = rw (none_left count j h) at w.rest
-
-  -- the j-th child's name k, and whether it is the name sought
-  module _ (h : j < count) {k : Name} {r : Bool} (e : k ≡ slot_place (slot_at ks (b + j))) (f : r ≡ eq_bytes (bytes x m) (bytes x k)) where
-    step : seek_rest x ks m b count j ≡ pick r (some (kid_ty ks (b + j))) (seek_rest x ks m b count (j + 1))
-    unfolding seek
-    step =
-        let p : b + (j + 1) ≡ suc (b + j) = omega arith in
-        rw (f, e, one_more count j h, p, ← slot_bytes x (slot_at ks (b + j))) refl
-
-    by : (v : Bool) → r ≡ v → pick v (some (kid_ty ks (b + j))) (seek_rest x ks m b count (j + 1)) ≡ sought_in x ks m b count
-    by v g = sym (step ∙ ap (λ (z : Bool). pick z (some (kid_ty ks (b + j))) (seek_rest x ks m b count (j + 1))) g) ∙ w.rest
-
-    pub seek_here : (t : ℕ) → r ≡ true → t ≡ (slot_at ks (b + j)).type → some (ty_of t) ≡ sought_in x ks m b count
-    seek_here t g q = rw q (by true g)
-
-    pub seek_on : r ≡ false → Seeking x ks m b count (j + 1)
-    seek_on g = record { rest = by false g }
 
 -- `seek_near`: of names that ascend no other is as the i-th
 
@@ -101,11 +83,11 @@ lt_differs xs ys h = go (eq_bytes xs ys) refl
     go true e = absurd (false≢true (sym (lt_irrefl ys) ∙ subst (λ (zs : List ℕ). lt_bytes zs ys ≡ true) (eq_bytes_lem xs ys e) h))
     go false e = e
 
-name_in : (x : Texts) (ks : List ℕ) (b count i : ℕ) → i < count
+name_among : (x : Texts) (ks : List ℕ) (b count i : ℕ) → i < count
     → Memᴰ (bytes_or x (slot_name (slot_at ks (b + i)))) (map (bytes_or x) (names_from ks b count))
-name_in x ks b zero i h = absurd (omega arith)
-name_in x ks b (suc c) zero h = let p : b + 0 ≡ b = omega arith in rw p (Memᴰ.head refl)
-name_in x ks b (suc c) (suc i) h = let p : b + suc i ≡ suc b + i = omega arith in rw p (Memᴰ.tail (name_in x ks (suc b) c i (omega arith)))
+name_among x ks b zero i h = absurd (omega arith)
+name_among x ks b (suc c) zero h = let p : b + 0 ≡ b = omega arith in rw p (Memᴰ.head refl)
+name_among x ks b (suc c) (suc i) h = let p : b + suc i ≡ suc b + i = omega arith in rw p (Memᴰ.tail (name_among x ks (suc b) c i (omega arith)))
 
 seek_at : (x : Texts) (ks n : List ℕ) (b count i : ℕ) → i < count → ascending (map (bytes_or x) (names_from ks b count)) ≡ true
     → n ≡ bytes_or x (slot_name (slot_at ks (b + i))) → seek x n (names_from ks b count) (kids_from ks b count) ≡ some (kid_ty ks (b + i))
@@ -119,7 +101,7 @@ seek_at x ks n b (suc c) (suc i) h a e =
     let p : b + suc i ≡ suc b + i = omega arith in
     let q : n ≡ bytes_or x (slot_name (slot_at ks (suc b + i))) = rw p at e in
     let y : List ℕ = bytes_or x (slot_name (slot_at ks b)) in
-    let l = ascending_above y (map (bytes_or x) (names_from ks (suc b) c)) a (bytes_or x (slot_name (slot_at ks (suc b + i)))) (name_in x ks (suc b) c i (omega arith)) in
+    let l = ascending_above y (map (bytes_or x) (names_from ks (suc b) c)) a (bytes_or x (slot_name (slot_at ks (suc b + i)))) (name_among x ks (suc b) c i (omega arith)) in
     rw (p, ap (λ (z : List ℕ). eq_bytes z y) q ∙ lt_apart y (bytes_or x (slot_name (slot_at ks (suc b + i)))) l)
     (seek_at x ks n (suc b) c i (omega arith) (ascending_tail y (map (bytes_or x) (names_from ks (suc b) c)) a) q)
 
@@ -137,7 +119,7 @@ nth_later x ks b (suc c) zero zero a h l = absurd (omega arith)
 nth_later x ks b (suc c) zero (suc j) a h l =
     let p : b + 0 ≡ b = omega arith in
     let q : b + suc j ≡ suc b + j = omega arith in
-    rw (p, q) (ascending_above (bytes_or x (slot_name (slot_at ks b))) (map (bytes_or x) (names_from ks (suc b) c)) a (nth x ks (suc b) j) (name_in x ks (suc b) c j (omega arith)))
+    rw (p, q) (ascending_above (bytes_or x (slot_name (slot_at ks b))) (map (bytes_or x) (names_from ks (suc b) c)) a (nth x ks (suc b) j) (name_among x ks (suc b) c j (omega arith)))
 nth_later x ks b (suc c) (suc i) zero a h l = absurd (omega arith)
 nth_later x ks b (suc c) (suc i) (suc j) a h l =
     let p : b + suc i ≡ suc b + i = omega arith in
@@ -152,6 +134,34 @@ seek_none x ks n b (suc c) h =
     let p : b + 0 ≡ b = omega arith in
     let e : eq_bytes n (bytes_or x (slot_name (slot_at ks b))) ≡ false = rw p at (h 0 (omega arith)) in
     rw e (seek_none x ks n (suc b) c (λ j l. let q : b + suc j ≡ suc b + j = omega arith in rw q at (h (suc j) (omega arith))))
+
+-- the first that is as the name sought
+seek_first : (x : Texts) (ks n : List ℕ) (b count i : ℕ) → i < count → eq_bytes n (nth x ks b i) ≡ true → ((j : ℕ) → j < i → eq_bytes n (nth x ks b j) ≡ false)
+    → seek x n (names_from ks b count) (kids_from ks b count) ≡ some (kid_ty ks (b + i))
+unfolding seek
+seek_first x ks n b zero i l e h = absurd (omega arith)
+seek_first x ks n b (suc c) zero l e h =
+    let p : b + 0 ≡ b = omega arith in
+    let q : eq_bytes n (bytes_or x (slot_name (slot_at ks b))) ≡ true = rw p at e in
+    rw (p, q) refl
+seek_first x ks n b (suc c) (suc i) l e h =
+    let p : b + suc i ≡ suc b + i = omega arith in
+    let z : b + 0 ≡ b = omega arith in
+    let q : eq_bytes n (bytes_or x (slot_name (slot_at ks b))) ≡ false = rw z at (h 0 (omega arith)) in
+    rw (p, q)
+    (seek_first x ks n (suc b) c i (omega arith) (rw p at e) (λ j k. let y : b + suc j ≡ suc b + j = omega arith in rw y at (h (suc j) (omega arith))))
+
+pub child_name : (x : Texts) (ks : List ℕ) (b j : ℕ) (s : Slot) → slot_means s ≡ slot_at ks (b + j) → bytes x (name_of s.name) ≡ nth x ks b j
+child_name x ks b j s e = ap (bytes x) (child_place e) ∙ sym (slot_bytes x (slot_at ks (b + j)))
+
+-- what a search over the places finds
+module _ (x : Texts) (ks : List ℕ) (m : Name) (b count : ℕ) where
+  pub seek_over : ((j : ℕ) → 0 ≤ j → j < count → eq_bytes (bytes x m) (nth x ks b j) ≡ false) → none ≡ sought_in x ks m b count
+  seek_over h = sym (seek_none x ks (bytes x m) b count (λ j l. h j (omega arith) l))
+
+  pub seek_here : {i t : ℕ} → i < count → eq_bytes (bytes x m) (nth x ks b i) ≡ true
+      → ((j : ℕ) → 0 ≤ j → j < i → eq_bytes (bytes x m) (nth x ks b j) ≡ false) → t ≡ (slot_at ks (b + i)).type → some (ty_of t) ≡ sought_in x ks m b count
+  seek_here {i} l e h q = rw q (sym (seek_first x ks (bytes x m) b count i l e (λ j k. h j (omega arith) k)))
 
 -- `seek_between`: names below low come before the name sought, names from high on behind it
 

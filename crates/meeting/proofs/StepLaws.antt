@@ -5,14 +5,14 @@ use mathlib.Core.Bool.{Bool, true, ◌&&◌}
 use mathlib.Core.List.{List, [], ◌∷◌, ◌++◌, map}
 use Prim.Native.Nat.{ℕ, zero, suc, ◌+◌, ◌-◌, ◌<◌, ◌≤◌}
 use native.Mathlib.Omega.{arith}
-use lib.Dec.{eqb, ltb, leb}
+use lib.Dec.{eqb}
 use lib.ListN.{length}
 use borrow.Author.Tests.{eq-eqb, ne_eqb}
 use Rattle.scope.specs.Base.{front, last, all}
-use Rattle.scope.specs.Limits.{MAX_CHILDREN, MAX_WIDTH, KINDS}
+use Rattle.scope.specs.Limits.{MAX_CHILDREN}
 use Rattle.scope.specs.Names.{Texts, bytes_or, named, ascending}
 use Rattle.scope.specs.Types.{Ty, flip}
-use Rattle.scope.specs.Kinds.{Head, Row, row_of, shape_fits, flex_ok, number_ok, names_ok, object_names_ok, makeable, OBJECT}
+use Rattle.scope.specs.Kinds.{Head, row_of, names_ok, object_names_ok, makeable, OBJECT}
 use Rattle.scope.specs.Answers.{Success, Failure, both}
 use Rattle.scope.specs.Answers as answer
 use Rattle.scope.specs.Unify.{answers, after, zipped, run_plan, signature_plan}
@@ -22,7 +22,7 @@ use Rattle.types.specs.declared.UnifyResult.{UnifyResult}
 use Rattle.types.specs.declared.UnifyResult.TheVariants as code
 use Rattle.layout.specs.Words.{child_words}
 use Rattle.layout.specs.declared.Kind.{Kind}
-use Rattle.layout.proofs.Lists.{and_left, and_right}
+use Rattle.layout.proofs.Lists.{and_right}
 use Rattle.plan.specs.Meaning.{kids_from, plan_means, Over, PlanOver}
 use Rattle.plan.specs.declared.Runs.{Runs}
 use Rattle.plan.specs.declared.Plan.{Plan}
@@ -30,6 +30,7 @@ use Rattle.plan.specs.declared.Plan.TheVariants as plans
 use Rattle.meeting.specs.Steps.{Spans, RunsLie, Ascends, PlanSpans, PlanReady, Stepped, Returns}
 use Rattle.meeting.specs.declared.Steps.TheVariants.{Answer, Run}
 use Rattle.meeting.proofs.KidLaws.{kid_length, kid_ty, front_kids, last_kid}
+use Rattle.scope.proofs.PlanLaws.{names_made}
 
 -- two runs of children
 
@@ -174,20 +175,10 @@ plan_ready k m x ks (plans.Signature s) o h g w = over_lies o ks h g
 
 -- an object that can be made has names that ascend
 
-names_ok_lem : (x : Texts) (h : Head) (n : ℕ) → makeable x h n ≡ true → names_ok x (row_of h.code).names h.names n ≡ true
-unfolding makeable
-names_ok_lem x h n q =
-    let r : Row = row_of h.code in
-    let f : Bool = flex_ok h.code h.flex && number_ok r.number h.number in
-    let m : Bool = names_ok x r.names h.names n in
-    let q₁ = and_right (ltb h.code KINDS) (leb n MAX_WIDTH && (shape_fits r.shape n && (m && f))) q in
-    let q₂ = and_right (leb n MAX_WIDTH) (shape_fits r.shape n && (m && f)) q₁ in
-    and_left m f (and_right (shape_fits r.shape n) (m && f) q₂)
-
 pub object_ascends : (x : Texts) (h : Head) (n : ℕ) → makeable x h n ≡ true → h.code ≡ OBJECT → ascending (map (bytes_or x) h.names) ≡ true
 unfolding names_ok row_of object_names_ok
 object_ascends x h n q c =
     let w : (eqb (length h.names) n && (all (named x) h.names && ascending (map (bytes_or x) h.names))) ≡ true
-    = subst (λ (d : ℕ). names_ok x (row_of d).names h.names n ≡ true) c (names_ok_lem x h n q) in
+    = subst (λ (d : ℕ). names_ok x (row_of d).names h.names n ≡ true) c (names_made x h n q) in
     let b : Bool = ascending (map (bytes_or x) h.names) in
     and_right (all (named x) h.names) b (and_right (eqb (length h.names) n) (all (named x) h.names && b) w)

@@ -1,16 +1,16 @@
 #![tactic(auto)]
 // What two roots ask for, and what is read of their children on the way. Nothing here changes a word.
-ghost use Rattle.std.specs.Prelude.{◌≡◌, ◌+◌, ◌≤◌, length};
+ghost use Rattle.std.specs.Prelude.{◌≡◌, ◌≤◌, length};
 ghost use Rattle.scope.specs.Types.{ty_of};
 ghost use Rattle.names.specs.Place.{name_of, texts_by};
-ghost use Rattle.layout.specs.Words.{node_words, child_words, slot_at};
+ghost use Rattle.layout.specs.Words.{node_words};
 ghost use Rattle.meeting.specs.Asks.{TopsIn, RootsIn};
 ghost use Rattle.meeting.specs.Meets.{OneNodeIn, BareIn, WalkedToIn, bare_roots, MetIn};
 ghost use Rattle.plan.specs.declared.Plan.TheVariants as plans;
 ghost use Rattle.meeting.specs.Steps.{Ascends, Spans, PlanSpans, Stepped, Lasts, Returns};
-ghost use Rattle.meeting.specs.Kids.{slot_place, sought_means, sought_in, Middle, Between};
+ghost use Rattle.meeting.specs.Kids.{sought_means, sought_in, Middle, Between};
 
-use layout::{Nodes, TypeNode, TypeState};
+use layout::{Nodes, TypeNode};
 use names::{Name, Texts};
 use plan::{Plan, Runs};
 use types::{Type, UnifyResult};
@@ -70,10 +70,9 @@ pub fn bare_roots(ws: &[u32], n: u32, a: Type, b: Type) -> bool
         return false;
     }
     match (layout::node_at(ws, n, ia), layout::node_at(ws, n, ib)) {
-        (TypeNode::Root { state: s, .. }, TypeNode::Root { state: t, .. }) => match (s, t) {
-            (TypeState::Known(_, _), TypeState::Known(_, _)) => false,
-            _ => true,
-        },
+        (TypeNode::Root { state: s, .. }, TypeNode::Root { state: t, .. }) => {
+            s.lacks_kind() || t.lacks_kind()
+        }
         _ => false,
     }
 }
@@ -94,39 +93,12 @@ pub fn meet(nodes: &Nodes<'_>, texts: &Texts<'_>, a: Type, b: Type) -> Option<Pl
     Some(plan::plan_of(k, m, inv, texts))
 }
 
-// A child of a run that lies in the slice.
-// Kept (2): no twin of `layout::child_of`, which is lent any place, past the end too, and tests it; this run's place is known.
-fn place(a: u32, i: u32) -> usize
-    ensures { result ≡ a + i }
-{
-    a as usize + i as usize
-}
-
-pub fn kid(ks: &[u32], a: u32, i: u32) -> Type
-    requires { child_words (a + i + 1) ≤ length ks.now }
-    ensures { result.0 ≡ (slot_at ks.now (a + i)).type }
-{
-    layout::child_there(ks, place(a, i)).ty
-}
-
-pub fn kid_name(ks: &[u32], a: u32, i: u32) -> Name
-    requires { child_words (a + i + 1) ≤ length ks.now }
-    ensures { name_of result ≡ slot_place (slot_at ks.now (a + i)) }
-{
-    layout::child_there(ks, place(a, i)).name
-}
-
 // The type beside a name among count children from b on.
 pub fn seek(ks: &[u32], name: Name, b: u32, count: u32, texts: &Texts<'_>) -> Option<Type>
-    requires { child_words (b + count) ≤ length ks.now }
     ensures { sought_means result ≡ sought_in (texts_by texts.now) ks.now (name_of name) b count }
 {
-    for j in 0..count {
-        if names::same_name(name, kid_name(ks, b, j), texts) {
-            return Some(kid(ks, b, j));
-        }
-    }
-    None
+    let j = (0..count).find(|&j| names::same_name(name, layout::child_of(ks, b, j).name, texts))?;
+    Some(layout::child_of(ks, b, j).ty)
 }
 
 // Where a name is looked for first among count that ascend, and then: between low and high.
@@ -171,18 +143,17 @@ fn seek_between(
     at: u32,
     texts: &Texts<'_>,
 ) -> Option<Type>
-    requires { (child_words (b + count) ≤ length ks.now) × (Ascends (texts_by texts.now) ks.now b count
-        × Between (texts_by texts.now) ks.now (name_of name) b count low high at) }
+    requires { Ascends (texts_by texts.now) ks.now b count × Between (texts_by texts.now) ks.now (name_of name) b count low high at }
     ensures { sought_means result ≡ sought_in (texts_by texts.now) ks.now (name_of name) b count }
 {
     if low >= high {
         return None;
     }
-    let other = kid_name(ks, b, at);
-    if names::same_name(name, other, texts) {
-        return Some(kid(ks, b, at));
+    let other = layout::child_of(ks, b, at);
+    if names::same_name(name, other.name, texts) {
+        return Some(other.ty);
     }
-    if names::name_before(name, other, texts) {
+    if names::name_before(name, other.name, texts) {
         return seek_between(ks, name, i, b, count, low, at, next_look(low, at, i), texts);
     }
     seek_between(
@@ -207,7 +178,7 @@ pub fn seek_near(
     count: u32,
     texts: &Texts<'_>,
 ) -> Option<Type>
-    requires { (child_words (b + count) ≤ length ks.now) × Ascends (texts_by texts.now) ks.now b count }
+    requires { Ascends (texts_by texts.now) ks.now b count }
     ensures { sought_means result ≡ sought_in (texts_by texts.now) ks.now (name_of name) b count }
 {
     seek_between(ks, name, i, b, count, 0, count, first_look(i, count), texts)

@@ -4,7 +4,7 @@ use mathlib.Core.Path.{◌≡◌, refl, ap, ap₂, sym, ◌∙◌}
 use mathlib.Core.Bool.{Bool, true, false, not, ◌||◌, false≢true}
 use mathlib.Core.List.{List}
 use mathlib.Core.Option.{none}
-use Prim.Native.Nat.{ℕ, zero, suc, ◌+◌, ◌*◌, ◌<◌, ◌≤◌}
+use Prim.Native.Nat.{ℕ, ◌+◌, ◌*◌, ◌<◌, ◌≤◌}
 use native.Mathlib.Omega.{arith}
 use lib.Dec.{eqb, ltb}
 use lib.ListN.{length, get_or, drop, set, length-map, length-set, length-drop}
@@ -30,7 +30,10 @@ use Rattle.layout.proofs.Cells.{words_back, clean_words, says}
 use Rattle.layout.proofs.Laws.{tail_put, put_past, read_node}
 use Rattle.layout.proofs.HeldLaws.{state_read, state_fits_lem}
 use Rattle.merge.specs.Quick.{Bare}
-use Rattle.std.specs.Prelude.{Some, None, ◌&&◌}
+use Rattle.merge.specs.declared.Rank.{Rank}
+use Rattle.merge.specs.declared.Rank.TheVariants as rank
+use Rattle.std.specs.Prelude.{Some, None, ◌&&◌, ◌⊎◌}
+use Rattle.std.proofs.Common.{inl, inr}
 use Rattle.merge.specs.Meaning.{state_at, size_at, Joined, Merged, Bound}
 use Rattle.roots.specs.Nil.{nil_by}
 use Rattle.merge.specs.Quick.{bare_in, bare_within, bare_node, rank_in, lone_node, nil_node, Resized, Sums, Quick, Tried, OneNil}
@@ -180,57 +183,75 @@ no_kids : (ks : List ℕ) (k : Kind) → eqb k.count 0 ≡ true → eqb (length 
 unfolding kind_means
 no_kids ks k e = rw (length-map (slots ks k.first k.count) (λ s. ty_of s.type), length_slots ks k.first k.count) e
 
-rank_lone : (ks : List ℕ) (v : TypeNode) → rank_in v ≤ 1 → lone_node (node_means ks v) ≡ true
+bare_lone_apart : rank.Bare ≡ rank.Lone → ⊥
+bare_lone_apart e = let z : ◌≡◌ {A = ℕ} 0 1 = cc in absurd (omega arith)
+
+bare_more : rank.Bare ≡ rank.More → ⊥
+bare_more e = let z : ◌≡◌ {A = ℕ} 0 1 = cc in absurd (omega arith)
+
+lone_more : rank.Lone ≡ rank.More → ⊥
+lone_more e = let z : ◌≡◌ {A = ℕ} 0 1 = cc in absurd (omega arith)
+
+rank_lone : (ks : List ℕ) (v : TypeNode) → rank_in v ≡ rank.Lone → lone_node (node_means ks v) ≡ true
 rank_lone ks (Root (Known i k) z) e = by_count (eqb k.count 0) refl e
   where
-    by_count : (t : Bool) → eqb k.count 0 ≡ t → pick t 1 2 ≤ 1 → eqb (length (kind_means ks k).kids) 0 ≡ true
+    by_count : (t : Bool) → eqb k.count 0 ≡ t → pick t rank.Lone rank.More ≡ rank.Lone → eqb (length (kind_means ks k).kids) 0 ≡ true
     by_count true t h = no_kids ks k t
-    by_count false t h = absurd (omega arith)
+    by_count false t h = absurd (lone_more (sym h))
 rank_lone ks (Root (Unknown s) z) e = refl
 rank_lone ks (Root InferenceFailed z) e = refl
-rank_lone ks (Child t) e = absurd (omega arith)
+rank_lone ks (Child t) e = absurd (lone_more (sym e))
 
-rank_bare : (ks : List ℕ) (v : TypeNode) → rank_in v ≡ 0 → bare_node (node_means ks v) ≡ true
+rank_bare : (ks : List ℕ) (v : TypeNode) → rank_in v ≡ rank.Bare → bare_node (node_means ks v) ≡ true
 rank_bare ks (Root (Known i k) z) e = by_count (eqb k.count 0) e
   where
-    by_count : (t : Bool) → ◌≡◌ {A = ℕ} (pick t 1 2) 0 → ◌≡◌ {A = Bool} false true
-    by_count true h = absurd (omega arith)
-    by_count false h = absurd (omega arith)
+    by_count : (t : Bool) → pick t rank.Lone rank.More ≡ rank.Bare → ◌≡◌ {A = Bool} false true
+    by_count true h = absurd (bare_lone_apart (sym h))
+    by_count false h = absurd (bare_more (sym h))
 rank_bare ks (Root (Unknown s) z) e = refl
 rank_bare ks (Root InferenceFailed z) e = refl
-rank_bare ks (Child t) e = absurd (omega arith)
+rank_bare ks (Child t) e = absurd (bare_more (sym e))
 
-rank_either : (ks : List ℕ) (v w : TypeNode) → rank_in v + rank_in w ≡ 1 → (bare_node (node_means ks v) || bare_node (node_means ks w)) ≡ true
-rank_either ks v w e = go (rank_in v) refl
-  where
-    go : (m : ℕ) → rank_in v ≡ m → (bare_node (node_means ks v) || bare_node (node_means ks w)) ≡ true
-    go zero f = rw (rank_bare ks v f) refl
-    go (suc m) f = or-true (bare_node (node_means ks v)) (rank_bare ks w (omega arith))
+module _ (ws ks : List ℕ) (c n : ℕ) (cl : Clean ws ks c n) (i : ℕ) where
+  ranked_bare : rank_in (read_at ws n i) ≡ rank.Bare → bare_node (nodes.at (decode ws ks n) i) ≡ true
+  ranked_bare e = ap bare_node (sym (read_node ws ks c n cl i)) ∙ rank_bare ks (read_at ws n i) e
 
-pub tried_slight : {ws ws₁ ws' : List ℕ} {n : ℕ} {a b : Ty} {r : Bool} → Tried ws ws₁ n a b r → r ≡ false → {x y : ℕ} → x ≡ rank_in (read_at ws₁ n a.idx)
-    → y ≡ rank_in (read_at ws₁ n b.idx) → x + y ≡ 1 → Bound ws₁ ws' n a b → Tried ws ws' n a b true
-tried_slight {ws} {ws₁} {ws'} {n} {a} {b} t f {x} {y} ex ey h m = record {
+  ranked_lone : (rank_in (read_at ws n i) ≡ rank.Bare) ⊎ (rank_in (read_at ws n i) ≡ rank.Lone) → lone_node (nodes.at (decode ws ks n) i) ≡ true
+  ranked_lone (inl e) = bare_lone (nodes.at (decode ws ks n) i) (ranked_bare e)
+  ranked_lone (inr e) = ap lone_node (sym (read_node ws ks c n cl i)) ∙ rank_lone ks (read_at ws n i) e
+
+-- of two nodes' ranks one is Bare and the other Lone
+abbrev Mixed : Rank → Rank → Type 0
+Mixed x y = ((x ≡ rank.Bare) × (y ≡ rank.Lone)) ⊎ ((x ≡ rank.Lone) × (y ≡ rank.Bare))
+
+pub tried_slight : {ws ws₁ ws' : List ℕ} {n : ℕ} {a b : Ty} {r : Bool} → Tried ws ws₁ n a b r → r ≡ false
+    → Mixed (rank_in (read_at ws₁ n a.idx)) (rank_in (read_at ws₁ n b.idx)) → Bound ws₁ ws' n a b → Tried ws ws' n a b true
+tried_slight {ws} {ws₁} {ws'} {n} {a} {b} t f h m = record {
   merged = λ e. rw (← t.stays f) merges;
   stays = λ e. let z : ◌≡◌ {A = ℕ} 0 1 = cc in absurd (omega arith);
 }
   where
-    sum : rank_in (read_at ws₁ n a.idx) + rank_in (read_at ws₁ n b.idx) ≡ 1
-    sum = rw (← ex, ← ey) h
+    same : a.idx ≡ b.idx → rank_in (read_at ws₁ n a.idx) ≡ rank_in (read_at ws₁ n b.idx)
+    same e = ap (λ (i : ℕ). rank_in (read_at ws₁ n i)) e
 
-    lone : (ks : List ℕ) (c : ℕ) → Clean ws₁ ks c n → (i : ℕ) → rank_in (read_at ws₁ n i) ≤ 1 → lone_node (nodes.at (decode ws₁ ks n) i) ≡ true
-    lone ks c cl i e = ap lone_node (sym (read_node ws₁ ks c n cl i)) ∙ rank_lone ks (read_at ws₁ n i) e
-
-    merges : Quick ws₁ ws' n a b
-    merges = record {
-      apart = λ e.
-          let g : rank_in (read_at ws₁ n a.idx) ≡ rank_in (read_at ws₁ n b.idx) = ap (λ (i : ℕ). rank_in (read_at ws₁ n i)) e in
-          absurd (omega (arith, sum, g));
-      first = λ ks c cl. lone ks c cl a.idx (omega (arith, sum));
-      second = λ ks c cl. lone ks c cl b.idx (omega (arith, sum));
-      bare = λ ks c cl.
-          rw (← read_node ws₁ ks c n cl a.idx, ← read_node ws₁ ks c n cl b.idx) (rank_either ks (read_at ws₁ n a.idx) (read_at ws₁ n b.idx) sum);
+    go : Mixed (rank_in (read_at ws₁ n a.idx)) (rank_in (read_at ws₁ n b.idx)) → Quick ws₁ ws' n a b
+    go (inl (p, q)) = record {
+      apart = λ e. bare_lone_apart (sym p ∙ (same e ∙ q));
+      first = λ ks c cl. ranked_lone ws₁ ks c n cl a.idx (inl p);
+      second = λ ks c cl. ranked_lone ws₁ ks c n cl b.idx (inr q);
+      bare = λ ks c cl. rw (ranked_bare ws₁ ks c n cl a.idx p) refl;
       bound = m;
     }
+    go (inr (p, q)) = record {
+      apart = λ e. bare_lone_apart (sym q ∙ (sym (same e) ∙ p));
+      first = λ ks c cl. ranked_lone ws₁ ks c n cl a.idx (inr p);
+      second = λ ks c cl. ranked_lone ws₁ ks c n cl b.idx (inl q);
+      bare = λ ks c cl. or-true (bare_node (nodes.at (decode ws₁ ks n) a.idx)) (ranked_bare ws₁ ks c n cl b.idx q);
+      bound = m;
+    }
+
+    merges : Quick ws₁ ws' n a b
+    merges = go h
 
 -- `one_nil`
 

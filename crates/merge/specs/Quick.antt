@@ -10,6 +10,8 @@ use Rattle.layout.specs.declared.TypeState.{TypeState}
 use Rattle.layout.specs.declared.TypeState.TheVariants.{Known, Unknown, InferenceFailed}
 use Rattle.layout.specs.declared.TypeNode.{TypeNode}
 use Rattle.layout.specs.declared.TypeNode.TheVariants.{Root, Child}
+use Rattle.merge.specs.declared.Rank.{Rank}
+use Rattle.merge.specs.declared.Rank.TheVariants as rank
 use Rattle.merge.specs.Meaning.{state_at, size_at, Adds, Bound}
 use Rattle.std.specs.Prelude.{Some, None}
 use Rattle.std.specs.declared.option.Option as option
@@ -40,16 +42,12 @@ bare_node (nodes.Root (nodes.Unknown s) z) = true
 bare_node (nodes.Root nodes.InferenceFailed z) = true
 bare_node (nodes.Child t) = false
 
--- how much there is of a node: 0 of a root without a kind, 1 of one without children, 2 of any other
-abbrev pub rank_in : TypeNode → ℕ
-rank_in (Root (Known i k) z) = pick (eqb k.count 0) 1 2
-rank_in (Root (Unknown s) z) = 0
-rank_in (Root InferenceFailed z) = 0
-rank_in (Child t) = 2
-
-pub record Ranked (v : TypeNode) (r : ℕ) : Type 0 where
-  pub is : r ≡ rank_in v
-  pub few : r ≤ 2
+-- how much there is of a node: a root without a kind, one without children, or any other
+abbrev pub rank_in : TypeNode → Rank
+rank_in (Root (Known i k) z) = pick (eqb k.count 0) rank.Lone rank.More
+rank_in (Root (Unknown s) z) = rank.Bare
+rank_in (Root InferenceFailed z) = rank.Bare
+rank_in (Child t) = rank.More
 
 -- a root without children
 abbrev pub lone_node : nodes.Node → Bool

@@ -6,7 +6,7 @@ ghost use Rattle.scope.specs.Types.{ty_of};
 ghost use Rattle.layout.specs.Words.{node_words};
 ghost use Rattle.layout.specs.Meaning.{read_at};
 ghost use Rattle.merge.specs.Meaning.{size_at, state_at, taken, Adds, Joined, Merged, Bound, Settled};
-ghost use Rattle.merge.specs.Quick.{bare_within, Ranked, Resized, Sums, Sized, Tried, OneNil};
+ghost use Rattle.merge.specs.Quick.{bare_within, rank_in, Resized, Sums, Sized, Tried, OneNil};
 
 use layout::{CHILD_TAG, NODE_WORDS, TypeNode, TypeState, UNKNOWN_TAG};
 use scope::NONE;
@@ -104,10 +104,7 @@ fn bare_at(ws: &[u32], n: u32, i: TypeIdx) -> Option<u32>
         return None;
     }
     match layout::node_at(ws, n, i) {
-        TypeNode::Root {
-            state: TypeState::Unknown(_) | TypeState::InferenceFailed,
-            size,
-        } => Some(size),
+        TypeNode::Root { state, size } if state.lacks_kind() => Some(size),
         _ => None,
     }
 }
@@ -129,21 +126,25 @@ pub fn quick(ws: &mut [u32], n: u32, a: Type, b: Type) -> bool
     false
 }
 
-// How much there is of a node: 0 of a root without a kind, 1 of one without children, 2 of any other.
-fn rank(ws: &[u32], n: u32, t: Type) -> u32
+// How much there is of a node: a root without a kind, one without children, or any other.
+#[derive(Clone, Copy)]
+enum Rank {
+    Bare,
+    Lone,
+    More,
+}
+
+fn rank_of(ws: &[u32], n: u32, t: Type) -> Rank
     requires { node_words n ≤ length ws.now }
-    ensures { Ranked (read_at ws.now n (ty_of t.0).idx) result }
+    ensures { result ≡ rank_in (read_at ws.now n (ty_of t.0).idx) }
 {
     match layout::node_at(ws, n, t.idx()) {
-        TypeNode::Root {
-            state: TypeState::Unknown(_) | TypeState::InferenceFailed,
-            ..
-        } => 0,
+        TypeNode::Root { state, .. } if state.lacks_kind() => Rank::Bare,
         TypeNode::Root {
             state: TypeState::Known(_, kind),
             ..
-        } if kind.count == 0 => 1,
-        _ => 2,
+        } if kind.count == 0 => Rank::Lone,
+        _ => Rank::More,
     }
 }
 
@@ -155,11 +156,16 @@ pub fn slight(ws: &mut [u32], n: u32, a: Type, b: Type) -> bool
     if quick(ws, n, a, b) {
         return true;
     }
-    if a.idx() == b.idx() || rank(ws, n, a) + rank(ws, n, b) != 1 {
+    if a.idx() == b.idx() {
         return false;
     }
-    bind(ws, n, a, b);
-    true
+    match (rank_of(ws, n, a), rank_of(ws, n, b)) {
+        (Rank::Bare, Rank::Lone) | (Rank::Lone, Rank::Bare) => {
+            bind(ws, n, a, b);
+            true
+        }
+        _ => false,
+    }
 }
 
 // Two types of one nil, which is its own inverse.

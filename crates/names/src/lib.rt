@@ -6,7 +6,9 @@ ghost use Rattle.names.specs.Place.{name_of, texts_by};
 
 use scope::MAX_NAME;
 
-// text 0 is the rule text, any other number the chart text.
+// text 0 is the rule text, any other number the chart text. C lends names in a chart's records, so the fields lie as C's do.
+// Kept (4): no `From<[u32; 3]>`: where words become a name, or a name words, the fields say which word is which.
+#[repr(C)]
 #[derive(Clone, Copy, Debug, PartialEq, Eq)]
 pub struct Name {
     pub text: u32,
@@ -62,16 +64,10 @@ pub fn same_bytes(a: &[u8], b: &[u8]) -> bool
 }
 
 // Byte by byte, unsigned, up to the first that differs; a prefix comes first.
-// Kept (4): the slices' `<` and `cmp` were tried, and are slower where the first byte differs, as it mostly does in a search.
 pub fn before(a: &[u8], b: &[u8]) -> bool
     ensures { result ≡ lt_bytes a.now b.now }
 {
-    for (x, y) in a.iter().zip(b) {
-        if *x != *y {
-            return *x < *y;
-        }
-    }
-    a.len() < b.len()
+    a < b
 }
 
 pub fn same_name(a: Name, b: Name, texts: &Texts<'_>) -> bool

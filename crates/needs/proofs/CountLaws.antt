@@ -19,7 +19,6 @@ use Rattle.types.specs.declared.«Type».{«Type»}
 use Rattle.layout.specs.Words.{slot_at, decode}
 use Rattle.layout.specs.Meaning.{read_at, held_in, slot_means}
 use Rattle.layout.specs.declared.Slot.{Slot}
-use Rattle.roots.specs.Found.{Found}
 use Rattle.needs.specs.declared.Needs.{Needs}
 use Rattle.needs.specs.Roots.{Params}
 use Rattle.std.specs.Prelude.{Some, None}
@@ -28,10 +27,6 @@ use Rattle.needs.specs.declared.Asks.TheVariants as asks
 use Rattle.needs.specs.Roots.{params_for, asks_of}
 use Rattle.needs.specs.Sums.{walk_at, Readable, CountedIs, AllCounted}
 use Rattle.needs.proofs.RootLaws.{kids_in, length_run, run_next, Told, read_told, narrow}
-
--- the root that the code finds
-pub root_is : {ws : List ℕ} {n t r i : ℕ} → Found ws n t r → i ≡ (ty_of r).idx → (ks : List ℕ) → i ≡ (find (decode ws ks n) (ty_of t)).idx
-root_is f e ks = e ∙ ap (λ (u : Ty). u.idx) (f.root ks)
 
 -- the sums with a Param that has no entry, and with a root more
 

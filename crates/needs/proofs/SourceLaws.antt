@@ -1,7 +1,7 @@
 -- The walk over lists: an export's is over the remembered types and then the list, and with a mark for each node and more it counts what `needs` says.
 -- Beside it what a sound store is as a source. Assumes nothing.
 use mathlib.Core.Path.{◌≡◌, refl, ap, sym, ◌∙◌}
-use mathlib.Core.Bool.{true}
+use mathlib.Core.Bool.{Bool, true, false}
 use mathlib.Core.Option.{Option, none}
 use mathlib.Core.List.{List, ◌∷◌, ◌++◌, Memᴰ}
 use Prim.Native.Nat.{ℕ, ◌+◌, ◌≤◌, ◌<◌}
@@ -43,6 +43,13 @@ pub listed_next : (ts : List ℕ) (i : ℕ) → i < length ts → drop i (types_
 listed_next ts i h = drop-cons (types_in ts) i (ty_of 0) (listed_below ts i h) ∙ rw (listed_at ts i, add-one i) refl
 
 -- from the start
+
+needs_are : {b : Bool} {n k : ℕ} → b ≡ false → n ≡ 0 → k ≡ 0 → ◌≡◌ {A = Needs} (record { missing = b; nodes = n; children = k }) no_needs
+needs_are p q t = rw (p, q, t) refl
+
+-- the default is what nothing needs
+pub default_is : {r : Needs} → (r.missing ≡ false) × ((r.nodes ≡ 0) × (r.children ≡ 0)) → r ≡ no_needs
+default_is e = needs_are e.0 e.1.0 e.1.1
 
 pub start_countable : {ws ks : List ℕ} {n m : ℕ} {r : Needs} {us : List Ty} → Importable ws ks n us → m ≤ MAX_NODES → r ≡ no_needs
     → Countable ws ks n (replicate m 0) r

@@ -4,11 +4,10 @@
 ghost use Rattle.std.specs.Prelude.{◌≡◌, not, ◌+◌, eqb, get_or};
 ghost use Rattle.scope.specs.Needs.{listed, exported};
 ghost use Rattle.layout.specs.Words.{nodes_made, store_in};
-ghost use Rattle.layout.specs.Lent.{LinkedIn};
 ghost use Rattle.layout.specs.Meaning.{held_in, read_at, remembered_means};
 ghost use Rattle.store.specs.Entries.{types_in};
 ghost use Rattle.needs.specs.Roots.{kind_asks, asks_of};
-ghost use Rattle.needs.specs.Sums.{no_needs, CountableIn, CountedIn, Met, AllCountedIn};
+ghost use Rattle.needs.specs.Sums.{CountableIn, CountedIn, Met, AllCountedIn};
 ghost use Rattle.needs.specs.Sources.{Importable, ImportableIn, ImportNeedsIn, ExportNeeds};
 
 use layout::{Kind, Nodes};
@@ -16,10 +15,10 @@ use roots::Finder;
 use scope::MAX_NODES;
 use types::{Type, TypeIdx};
 
-#[derive(Clone, Copy)]
+#[derive(Clone, Copy, Default)]
 pub struct Needs {
     // Is there a Param with no entry?
-    // Kept (1): it stands beside the counts, and not in place of them: 10 and 11 are tested before it.
+    // Kept (1): no Option of the counts: `of_import` promises them also where an entry is missing.
     pub missing: bool,
     pub nodes: u32,
     pub children: u32,
@@ -69,8 +68,8 @@ fn is_counted(marks: &[u8], i: TypeIdx) -> bool
 
 // Whether a type's root is counted: the walk from it then does nothing, however deep it may go.
 fn is_met(finder: &mut Finder<'_>, marks: &[u8], t: Type) -> bool
-    requires { LinkedIn finder.old.nodes.now }
-    ensures { Met finder.old.nodes.now.words.now finder.old.nodes.now.made marks.now t result × (finder.new.nodes ≡ finder.old.nodes) }
+    ensures { Met finder.old.nodes.now.words.now finder.old.nodes.now.made marks.now t result
+        × (finder.new.nodes ≡ finder.old.nodes) × (finder.new.cache.ghost_name ≡ finder.old.cache.ghost_name) }
 {
     is_counted(marks, finder.find(t).idx())
 }
@@ -86,7 +85,7 @@ fn count(
 ) -> Needs
     requires { CountableIn finder.old.nodes.now marks.old sum }
     ensures { CountedIn finder.old.nodes.now params marks.old sum t depth marks.new result
-        × (finder.new.nodes ≡ finder.old.nodes) }
+        × (finder.new.nodes ≡ finder.old.nodes) × (finder.new.cache.ghost_name ≡ finder.old.cache.ghost_name) }
 {
     if depth == 0 {
         return sum;
@@ -130,7 +129,7 @@ fn count_all(
 ) -> Needs
     requires { CountableIn finder.old.nodes.now marks.old sum }
     ensures { AllCountedIn finder.old.nodes.now params marks.old sum (types_in ts.now) marks.new result
-        × (finder.new.nodes ≡ finder.old.nodes) }
+        × (finder.new.nodes ≡ finder.old.nodes) × (finder.new.cache.ghost_name ≡ finder.old.cache.ghost_name) }
 {
     let mut all = sum;
     for t in ts {
@@ -148,7 +147,7 @@ fn count_remembered(
 ) -> Needs
     requires { CountableIn finder.old.nodes.now marks.old sum }
     ensures { AllCountedIn finder.old.nodes.now None marks.old sum (listed (remembered_means was))
-        marks.new result × (finder.new.nodes ≡ finder.old.nodes) }
+        marks.new result × (finder.new.nodes ≡ finder.old.nodes) × (finder.new.cache.ghost_name ≡ finder.old.cache.ghost_name) }
 {
     match was {
         Some(t) => count(finder, None, marks, sum, t, finder.nodes.made),
@@ -156,18 +155,8 @@ fn count_remembered(
     }
 }
 
-fn nothing() -> Needs
-    ensures { result ≡ no_needs }
-{
-    Needs {
-        missing: false,
-        nodes: 0,
-        children: 0,
-    }
-}
-
 // What an import of a list needs.
-// Kept (6): two tables, here and below, as in `copy` and `related`: each goes alone to what reads it, the cache to the finder.
+// Kept (6): two tables, here and below: the cache is lent to the finder, and the marks alone to what counts.
 pub fn of_import(nodes: &Nodes<'_>, params: Option<u32>, ts: &[u32]) -> Needs
     requires { ImportableIn nodes.now (types_in ts.now) }
     ensures { ImportNeedsIn nodes.now params ts.now result }
@@ -178,7 +167,7 @@ pub fn of_import(nodes: &Nodes<'_>, params: Option<u32>, ts: &[u32]) -> Needs
         nodes,
         cache: &mut cache,
     };
-    count_all(&mut finder, params, &mut marks, nothing(), ts)
+    count_all(&mut finder, params, &mut marks, Needs::default(), ts)
 }
 
 // What an export of a list needs: "error type first, nil next".
@@ -198,7 +187,7 @@ pub fn of_export(h: &[u32], ws: &[u32], ks: &[u32], ts: &[u32]) -> Needs
         nodes: &nodes,
         cache: &mut cache,
     };
-    let first = count_remembered(&mut finder, &mut marks, nothing(), x.error);
+    let first = count_remembered(&mut finder, &mut marks, Needs::default(), x.error);
     let next = count_remembered(&mut finder, &mut marks, first, x.nil);
     count_all(&mut finder, None, &mut marks, next, ts)
 }

@@ -40,13 +40,14 @@ use Rattle.layout.specs.declared.Cell.{Cell}
 use Rattle.layout.specs.declared.Kind.{Kind}
 use Rattle.layout.specs.declared.Slot.{Slot}
 use Rattle.layout.specs.declared.TypeNode.{TypeNode}
-use Rattle.layout.proofs.Lists.{all_from, from_all, all_map}
+use Rattle.layout.proofs.Lists.{all_map}
 use Rattle.layout.proofs.Laws.{past}
 use Rattle.layout.proofs.Cells.{cell_node, cell_clean, node_words_lem, clean_words, says}
 use Rattle.clean.proofs.Laws.{run_next, child_clean, slots_run, names_run, cell_known, known_parts, known_names}
 use Rattle.kind_sound.proofs.Laws.{made_tests, kind_tests, sound_narrow}
 use Rattle.kind_sound.proofs.NameLaws.{no_empty, some_before, child_names, up_from, up_start, up_end, up_step, names_test, child_names_lem, no_names}
 use Rattle.node_sound.specs.Tests.{node_test, plain_slot, inside_at, name_at, Told, Framed, Rises, TrueSeen, Follows, Named, PlainKind, PlainNode}
+use Rattle.scope.proofs.Sizes.{all_from, from_all}
 
 -- a kind of no definition
 
@@ -151,7 +152,7 @@ module _ (l : lent.Env) (ks : List ℕ) (n : ℕ) (k : Kind) (f : Framed l.chart
   kids_inside each ns m =
       all_map (in_store ns) (λ s. ty_of s.type) (slots ks k.first k.count)
       ∙ (all_map (λ s. in_store ns (ty_of s.type)) (slot_at ks) (from k.first k.count)
-      ∙ from_all (λ j. in_store ns (ty_of (slot_at ks j).type)) k.first k.count (λ j a b. rw m (each j a b)))
+      ∙ all_from (λ j. in_store ns (ty_of (slot_at ks j).type)) k.first k.count (λ j a b. rw m (each j a b)))
 
   kind_plain : names_clean (kind_cell ks k) ≡ true → names_test (texts_by l.texts) ks k ≡ true
       → ((j : ℕ) → k.first ≤ j → j < k.first + k.count → inside_at ks n j ≡ true) → PlainKind (chart_lent l) ks n k
@@ -177,13 +178,13 @@ module _ (l : lent.Env) (ks : List ℕ) (n : ℕ) (k : Kind) (f : Framed l.chart
     each : (j : ℕ) → k.first ≤ j → j < k.first + k.count → (slot_bare (slot_at ks j) ≡ true) × (inside_at ks n j ≡ true)
     each j a b =
         both (slot_bare (slot_at ks j)) (inside_at ks n j)
-        (all_from (λ i. plain_slot n (slot_at ks i)) k.first ((k.first + k.count) - k.first) kids j a (omega arith))
+        (from_all (λ i. plain_slot n (slot_at ks i)) k.first ((k.first + k.count) - k.first) kids j a (omega arith))
 
     plain_clean : names_clean (kind_cell ks k) ≡ true
     plain_clean =
         let z : (k.first + 0) - k.first ≡ 0 = omega arith in
         let bare : all (child_clean false ks) (from (k.first + 0) ((k.first + k.count) - (k.first + 0))) ≡ true =
-        from_all (child_clean false ks) (k.first + 0) ((k.first + k.count) - (k.first + 0)) (λ j a b. (each j (omega arith) (omega arith)).0) in
+        all_from (child_clean false ks) (k.first + 0) ((k.first + k.count) - (k.first + 0)) (λ j a b. (each j (omega arith) (omega arith)).0) in
         names_run ks k asked 0 refl (rw none refl)
         ∙ rw (none, f.own, z) (slots_run false ks (k.first + 0) (k.first + k.count) ∙ bare)
 
@@ -206,7 +207,7 @@ module _ (l : lent.Env) (ks : List ℕ) (n : ℕ) (k : Kind) (f : Framed l.chart
     named_clean =
         let y : (k.first + k.count) - (k.first + k.count) ≡ 0 = omega arith in
         let clean : all (child_clean true ks) (from k.first ((k.first + k.count) - k.first)) ≡ true =
-        from_all (child_clean true ks) k.first ((k.first + k.count) - k.first)
+        all_from (child_clean true ks) k.first ((k.first + k.count) - k.first)
         (λ j a b. name_clean_lem (texts_by l.texts) (slot_at ks j).text (slot_at ks j).start (slot_at ks j).len (named_at j a (omega arith)).0) in
         names_run ks k asked k.count refl (rw some refl)
         ∙ rw (some, f.own, slots_run true ks k.first (k.first + k.count), clean, y)

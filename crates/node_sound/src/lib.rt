@@ -21,33 +21,25 @@ ghost use Rattle.node_sound.specs.Tests.{plain_slot, node_test, nodes_test, Told
 use chart::Env;
 use kinds::{ERROR, Names, Number, Row, SelfDual};
 use layout::{CHILD_WORDS, Cell, KNOWN_TAG, Kind, Nodes, Slot};
-use names::Texts;
+use names::{NO_NAME, Texts};
 use scope::{MAX_CHILDREN, MAX_WIDTH};
 use types::TypeIdx;
 
 // For each child whether it was seen to have a name that comes after the one before it.
 type Seen = [bool; MAX_CHILDREN];
 
-// A child without a name, one of n nodes.
+// A child without a name, one of n nodes. Both are looked at, with no branch between them.
 fn plain_child(x: Slot, n: u32) -> bool
     ensures { result ≡ plain_slot n (slot_means x) }
 {
-    clean::name_clean(false, x.name) && x.ty.idx().0 < n
+    (x.name == NO_NAME) & (x.ty.idx().0 < n)
 }
 
 // A quick yes to whether the children a to e are such. A run that is not all in ks has no quick yes, so a child is read without a test of its own.
-// Kept (3): each is looked at, whatever the others are, as in `clean::all_zero`; `all` ends at the first that is not such.
 fn plain_children(ks: &[u32], a: usize, e: usize, n: u32) -> bool
     ensures { result ≡ true → all (λ j. plain_slot n (slot_at ks.now j)) (from a (e - a)) ≡ true }
 {
-    if ks.len() / CHILD_WORDS < e {
-        return false;
-    }
-    let mut plain = true;
-    for i in a..e {
-        plain &= plain_child(layout::child_at(ks, i), n);
-    }
-    plain
+    e <= ks.len() / CHILD_WORDS && (a..e).all(|i| plain_child(layout::child_at(ks, i), n))
 }
 
 // A quick yes to whether the kind, which has this row, is defined and has the chart's flag: a kind of no definition is, and has no flag.

@@ -1,11 +1,12 @@
 -- One law for each way out of `by_memory` and `ask`. A marked node's root is good and so is all below it, which is what a walk beside marks asks; and of what such a walk
 -- found good every root is its own inverse.
 -- Assumes nothing.
-use mathlib.Core.Path.{◌≡◌, refl, ap₂, sym, subst, ◌∙◌}
+use mathlib.Core.Path.{◌≡◌, refl, ap, ap₂, sym, subst, ◌∙◌}
 use mathlib.Core.Bool.{Bool, true, false}
 use mathlib.Core.List.{List}
 use mathlib.Core.Logic.{◌⊎◌, inl, inr}
 use Prim.Native.Nat.{ℕ}
+use Rattle.std.specs.Prelude.{Option, Some}
 use native.Mathlib.Omega.{arith}
 use lib.ListN.{length, get_or, replicate}
 use Rattle.scope.specs.Limits.{MAX_NODES}
@@ -22,8 +23,6 @@ use Rattle.layout.proofs.Laws.{length_decode}
 use Rattle.marks.specs.Marks.{OLD, Knows, Beside, Marked, Tells, MarkedNew}
 use Rattle.heed.specs.Recalls.{SelfAt}
 use Rattle.heed.proofs.Laws.{marks_more}
-use Rattle.inverse.specs.declared.Glance.{Glance}
-use Rattle.inverse.specs.declared.Glance.TheVariants.{Met, Clear}
 use Rattle.inverse.specs.Judged.{Glanced}
 use Rattle.inverse.specs.Marked.{MarkedAll}
 use Rattle.inverse.specs.Marked as inverse
@@ -50,15 +49,15 @@ module _ {ws ks m : List ℕ} {n a : ℕ} (o : OwnAsks ws ks m n a) where
 
   -- `ask`
 
-  module _ {g : Glance} (k : Glanced (decode ws ks n) false a g) where
-    pub ask_not : g ≡ Met → OwnTold ws ks m m n a false
-    ask_not e = own_not refl (sym (k.met e))
+  module _ {g : Option Bool} {own : Bool} (k : Glanced (decode ws ks n) false a g) (s : g ≡ Some own) where
+    pub ask_not : own ≡ false → OwnTold ws ks m m n a own
+    ask_not e = rw e (own_not refl (sym (k.told false (s ∙ ap Some e))))
 
-    pub ask_marks : {i : ℕ} {m' : List ℕ} → g ≡ Clear → i ≡ (ty_of a).idx → Marked m m' i → OwnTold ws ks m m' n a true
-    ask_marks {i} {m'} e ei w = record { same = sym (k.clear e) ∙ at_root; beside = w.beside; marks = marks_more o.marks self w }
+    pub ask_marks : {i : ℕ} {m' : List ℕ} → own ≡ true → i ≡ (ty_of a).idx → Marked m m' i → OwnTold ws ks m m' n a own
+    ask_marks {i} {m'} e ei w = record { same = sym (k.told own s) ∙ at_root; beside = w.beside; marks = marks_more o.marks self w }
       where
         here : Self (view ns) (ty_of a).idx
-        here = self_sound n (view ns) (ty_of a).idx (sym (self_inverse_view false n ns (ty_of a).idx) ∙ (sym at_root ∙ k.clear e))
+        here = self_sound n (view ns) (ty_of a).idx (sym (self_inverse_view false n ns (ty_of a).idx) ∙ (sym at_root ∙ (k.told own s ∙ e)))
 
         self : SelfAt ns i
         self = subst (SelfAt ns) (sym ei) (subst (Self (view ns)) (sym top) here)

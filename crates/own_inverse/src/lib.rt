@@ -3,7 +3,6 @@
 // marked in the memory, and no walk goes below a marked node: however many ask, what is found good is walked over once.
 ghost use Rattle.own_inverse.specs.Own.{OwnAsksIn, OwnToldIn};
 
-use inverse::Glance;
 use layout::Nodes;
 use scope::MAX_NODES;
 use types::Type;
@@ -27,12 +26,11 @@ pub fn ask(nodes: &Nodes<'_>, memory: &mut [u32], a: Type) -> bool
     requires { OwnAsksIn nodes.now memory.old a.0 }
     ensures { OwnToldIn nodes.now memory.old memory.new a.0 result }
 {
-    match inverse::quickly(nodes, a, false) {
-        Glance::Met => false,
-        Glance::Clear => {
-            marks::know(memory, a.idx());
-            true
-        }
-        Glance::Deep => by_memory(nodes, memory, a),
+    let Some(own) = inverse::quickly(nodes, a, false) else {
+        return by_memory(nodes, memory, a);
+    };
+    if own {
+        marks::know(memory, a.idx());
     }
+    own
 }

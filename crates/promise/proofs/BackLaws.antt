@@ -1,7 +1,7 @@
 -- A public call on any numbers tests chart and store and then is its own form for a tested store. So of each call two things are left to say, and they are
 -- the same for all: where 2 or 8 stands the call's outcome is that refusal, whatever its other tests and its work are; where none does the words are tested.
 -- Assumes nothing.
-use mathlib.Core.Path.{◌≡◌, refl, sym, ap, ◌∙◌}
+use mathlib.Core.Path.{◌≡◌, refl, sym, ap}
 use mathlib.Core.Bool.{Bool, true, false, not}
 use mathlib.Core.List.{List}
 use mathlib.Core.Option.{Option, none, some}

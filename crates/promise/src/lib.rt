@@ -5,9 +5,9 @@
 // Kept (2): each public call stays a function of its own, though many are alike but for the core function that they call: each promises another of document 01's calls.
 // Both forms of a call have its name, and one is the test of 2 and 8 and then the other: two lines. So is a call without a memory: one of its own, and the call with one.
 // A function of all such pairs would be handed the second form as a closure, and each caller would write the same two lines.
-// Kept (5): header, nodes and children stay three lent slices in every call, `h`, `ws` and `ks`. Which of them a call may write their types say, and that differs from call
-// to call: as a struct of lent slices there would be one for each such choice. Tried as one struct of three `&mut` parts in `run_calls`: the borrow checker does not cover
-// a call that is lent several of them.
+// Kept (5): header, nodes and children stay three lent slices, `h`, `ws` and `ks`, in every call and in the core that writes them. Which of them a call may write their types
+// say, and that differs from call to call: as a struct of lent slices there would be one for each such choice. Tried in `run_calls`
+// as one struct of three `&mut` parts: of a struct made in a function, whose parts are lent to one call in a loop, the borrow checker covers nothing.
 ghost use Rattle.std.specs.Prelude.{[], ◌∷◌};
 ghost use Rattle.scope.specs.Types.{ty_of};
 ghost use Rattle.promise.specs.Promise.{TypesInside};

@@ -8,8 +8,9 @@ ghost use Rattle.scope.specs.Types.{ty_of};
 ghost use Rattle.recall.specs.Memory.{HEAD, clock_of, Tidy, Cleared, Begun, Fewer, Forgot, Noted, WalkNoted, words_for};
 ghost use Rattle.recall.specs.Places.{code_of, slot_of, Placed, Answered, Told};
 
-use marks::{MARKED, at, put};
+use marks::MARKED;
 use types::{Type, UnifyResult};
+use words::{put, word};
 
 // The words before the entries, and the words of an entry.
 pub const HEAD: usize = marks::HEAD;
@@ -28,7 +29,7 @@ pub const WALK: u32 = 64;
 pub fn clock(m: &[u32]) -> u32
     ensures { result ≡ clock_of m.now }
 {
-    at(m, 0)
+    word(m, 0)
 }
 
 // Nothing is remembered yet, whatever the memory held.
@@ -48,15 +49,18 @@ fn clear(m: &mut [u32])
     m[HEAD..].fill(0);
 }
 
+// Kept (5): that a memory is tidy is asked by four here and by three of `heed`. Tried as a struct that keeps it, with these as methods, in the seven crates that lend a memory,
+// and proved; but nobody says of a struct's part that it is the same slice and as long, as `&mut [u32]` does, so that twenty contracts would, and the smallest unifies took 1
+// to 3 ns more.
 // So many visits more. After the last that is waited for the entries are cleared and the clock starts, if there is room for an entry.
 pub fn visited(m: &mut [u32], more: u32)
     requires { Tidy m.old }
     ensures { Fewer m.old m.new }
 {
-    if m.len() < HEAD + ENTRY || at(m, 0) != 0 {
+    if m.len() < HEAD + ENTRY || word(m, 0) != 0 {
         return;
     }
-    let left = at(m, 1);
+    let left = word(m, 1);
     if left >= more {
         put(m, 1, left - more);
         return;
@@ -70,7 +74,7 @@ pub fn changed(m: &mut [u32])
     requires { Tidy m.old }
     ensures { Forgot m.old m.new }
 {
-    let c = at(m, 0);
+    let c = word(m, 0);
     if c != 0 && c != LAST {
         put(m, 0, c + 1);
     }
@@ -96,7 +100,7 @@ fn spot_of(m: &[u32], n: u32, a: Type, b: Type) -> Option<usize>
     requires { n ≤ «MAX_NODES» }
     ensures { Placed m.now n (ty_of a.0) (ty_of b.0) result }
 {
-    let c = at(m, 0);
+    let c = word(m, 0);
     if c == 0 || c == LAST || m.len() < HEAD + ENTRY {
         return None;
     }
@@ -105,7 +109,7 @@ fn spot_of(m: &[u32], n: u32, a: Type, b: Type) -> Option<usize>
 }
 
 // The answer in a word.
-// Kept (1): an entry lies in lent memory, whose words may be any numbers at first: here they become an answer or none, as `u32::from` in `note` wrote it.
+// Kept (4): no `TryFrom<u32>` for UnifyResult: Success is 0 there, and so is a cleared word. Only a Failure and an Indeterminate are believed.
 fn answer_in(x: u32) -> Option<UnifyResult>
     ensures { Answered x result }
 {
@@ -129,8 +133,8 @@ pub fn look(m: &[u32], n: u32, a: Type, b: Type) -> Option<UnifyResult>
     ensures { Told m.now a.0 b.0 result }
 {
     let p = spot_of(m, n, a, b)?;
-    if holds(at(m, p), a) && holds(at(m, p + 1), b) && at(m, p + 2) == at(m, 0) {
-        answer_in(at(m, p + 3))
+    if holds(word(m, p), a) && holds(word(m, p + 1), b) && word(m, p + 2) == word(m, 0) {
+        answer_in(word(m, p + 3))
     } else {
         None
     }
@@ -141,7 +145,7 @@ pub fn note(m: &mut [u32], n: u32, began: u32, a: Type, b: Type, r: UnifyResult)
     requires { (n ≤ «MAX_NODES») × Tidy m.old }
     ensures { Noted m.old m.new began a.0 b.0 r }
 {
-    if at(m, 0) != began {
+    if word(m, 0) != began {
         return;
     }
     let Some(p) = spot_of(m, n, a, b) else {

@@ -2,32 +2,25 @@
 use Rattle.std.specs.Prelude.{◌≡◌, Bool, List, [], ◌∷◌, ◌++◌, ℕ, ◌*◌, ◌/◌, leb, length, drop}
 use Rattle.std.proofs.Math.Option.{Option, none, some}
 use Rattle.scope.specs.Base.{pick}
-use Rattle.scope.specs.Names.{Name, name}
 use Rattle.scope.specs.Refusals.{SHORT}
 use Rattle.scope.specs.Chart as scope
+use Rattle.names.specs.Place.{name_of, no_name}
 use Rattle.chart.specs.Words.{RECORD_WORDS, words_of}
-use Rattle.records.specs.declared.Part.{Part}
 use Rattle.records.specs.declared.Record.{Record}
-
-abbrev pub part_means : Part → Name
-part_means p = name p.text p.start p.len
 
 abbrev pub record_means : Record → scope.Record
 record_means r = record {
   sort = r.sort;
-  name = part_means r.name;
-  path = part_means r.path;
+  name = name_of r.name;
+  path = name_of r.path;
   def = r.def;
   dual = r.dual;
   trait = r.trait_number;
 }
 
 -- what stands for a record past the end
-abbrev pub no_part : Part
-no_part = record { text = 0; start = 0; len = 0 }
-
 abbrev pub no_record : Record
-no_record = record { sort = 0; name = no_part; path = no_part; def = 0; dual = 0; trait_number = 0 }
+no_record = record { sort = 0; name = no_name; path = no_name; def = 0; dual = 0; trait_number = 0 }
 
 -- a record's ten words
 abbrev pub numbers : Record → List ℕ

@@ -8,17 +8,8 @@ ghost use Rattle.refusals.specs.Codes.{told};
 ghost use Rattle.records.specs.Loaded.{no_record, numbers, loaded, LoadPromised};
 
 use chart::RECORD_WORDS;
+use names::Name;
 use refusals::Refusal;
-
-// "A name is a part of the rule text or of the chart text": 0 or 1, where it begins, and its length.
-// Kept (2): no twin of `names::Name`: C lends it, so its fields lie as C's do; a Name's lie as the compiler likes.
-#[repr(C)]
-#[derive(Clone, Copy)]
-pub struct Part {
-    pub text: u32,
-    pub start: u32,
-    pub len: u32,
-}
 
 // "sort (opaque, struct, enum, union, concrete fn, const, trait, trait fn: 0 to 7), name, path, def number, self-dual flag 0 or 1, and for a trait fn its
 // trait; a flag or trait that its sort lacks is 0". Its words stand in this order.
@@ -26,8 +17,8 @@ pub struct Part {
 #[derive(Clone, Copy)]
 pub struct Record {
     pub sort: u32,
-    pub name: Part,
-    pub path: Part,
+    pub name: Name,
+    pub path: Name,
     pub def: u32,
     pub dual: u32,
     pub trait_number: u32,

@@ -15,7 +15,7 @@ use Rattle.layout.proofs.Lists.{all_map, all_list, all_range}
 use Rattle.store.specs.Entries.{types_in}
 
 -- a test of the numbers from a on, each i more
-all_shift : (p : ℕ → Bool) (i a n : ℕ) → all (λ j. p (i + j)) (from a n) ≡ all p (from (i + a) n)
+pub all_shift : (p : ℕ → Bool) (i a n : ℕ) → all (λ j. p (i + j)) (from a n) ≡ all p (from (i + a) n)
 all_shift p i a zero = refl
 all_shift p i a (suc n) = let q : i + suc a ≡ suc (i + a) = omega arith in ap (λ (b : Bool). p (i + a) && b) (rw q at (all_shift p i (suc a) n))
 

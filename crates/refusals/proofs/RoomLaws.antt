@@ -4,15 +4,15 @@
 use mathlib.Core.Path.{◌≡◌, ap, ◌∙◌}
 use mathlib.Core.Bool.{Bool, true, false}
 use mathlib.Core.List.{List, [], ◌∷◌}
-use mathlib.Core.Option.{none, some}
+use mathlib.Core.Option.{Option, none, some}
 use Prim.Native.Nat.{ℕ, ◌+◌}
 use lib.Dec.{ltb}
 use lib.ListN.{length}
 use borrow.Author.Tests.{ltb-false}
-use Rattle.scope.specs.Nodes.{Store}
+use Rattle.scope.specs.Nodes.{Node, Store}
 use Rattle.scope.specs.Calls.{first_broken, room_tests}
 use Rattle.layout.specs.Words.{store_in}
-use Rattle.layout.specs.Meaning.{header_in}
+use Rattle.layout.specs.Meaning.{header_in, store_means}
 use Rattle.layout.specs.declared.Header.{Header}
 use Rattle.store.specs.Holds.{Ready}
 use Rattle.store.proofs.Laws.{store_count}
@@ -38,15 +38,14 @@ module _ (h ws ks : List ℕ) (x : Header) (g : x ≡ header_in h) (n c : ℕ) w
   pub nodes_full : node_test x n ≡ true → first_broken (room_tests (store_in h ws ks) n c) ≡ some NODES_FULL
   nodes_full l = room_tests_lem ∙ test_stands NODES_FULL ((child_test x c, CHILDREN_FULL) ∷ []) l
 
-  module _ (l : node_test x n ≡ false) where
-    node_passes : first_broken (room_tests (store_in h ws ks) n c) ≡ first_broken ((child_test x c, CHILDREN_FULL) ∷ [])
-    node_passes = room_tests_lem ∙ test_falls NODES_FULL ((child_test x c, CHILDREN_FULL) ∷ []) l
+  pub room_left : node_test x n ≡ false → child_test x c ≡ false → first_broken (room_tests (store_in h ws ks) n c) ≡ none
+  room_left l m = room_tests_lem ∙ (test_falls NODES_FULL ((child_test x c, CHILDREN_FULL) ∷ []) l ∙ test_falls CHILDREN_FULL [] m)
 
-    pub children_full : child_test x c ≡ true → first_broken (room_tests (store_in h ws ks) n c) ≡ some CHILDREN_FULL
-    children_full m = node_passes ∙ test_stands CHILDREN_FULL [] m
-
-    pub room_left : child_test x c ≡ false → first_broken (room_tests (store_in h ws ks) n c) ≡ none
-    room_left m = node_passes ∙ test_falls CHILDREN_FULL [] m
+  -- what a header tells of its stores, it tells of the one in the slices
+  pub room_told : {o : Option ℕ} → ((ns : List Node) → length ns ≡ x.nodes → first_broken (room_tests (store_means x ns) n c) ≡ o)
+      → first_broken (room_tests (store_in h ws ks) n c) ≡ o
+  unfolding store_in
+  room_told t = (rw g at t) (store_in h ws ks).nodes (store_count h ws ks)
 
 -- a store within its limits that 10 and 11 do not turn back is ready for what a maker makes
 pub ready_more : {h ws ks : List ℕ} (n c : ℕ) → Ready h ws ks 0 0 → first_broken (room_tests (store_in h ws ks) n c) ≡ none → Ready h ws ks n c

@@ -1,22 +1,28 @@
 #![tactic(auto)]
 // Every refusal, and the tests behind them that look at no more than capacities, lengths and the number of nodes: opening (1), listed types (3) and room (10
 // and 11). A test gives the first refusal that stands, if one does; `told` says what that is among scope's tests.
-ghost use Rattle.std.specs.Prelude.{◌≡◌, List, [], ◌∷◌, ℕ, ◌+◌, ltb, length};
+//
+// Kept (5): how many nodes and how many children go beside each other, here and in what opens, exports and makes room: here they are capacities, there what is needed, and
+// each is tested and written by itself. Places are computed of both in a names buffer alone, whose pair is `book::Room`; a store's as a struct would be made at each of C's
+// calls, which lend two numbers, and taken apart again where each is used.
+ghost use Rattle.std.specs.Prelude.{◌≡◌, List, [], ◌∷◌, ℕ, ◌+◌, ltb, length, Some, decimal};
 ghost use Rattle.scope.specs.Base.{all};
 ghost use Rattle.scope.specs.Types.{ty_of};
 ghost use Rattle.scope.specs.Nodes.{Node};
 ghost use Rattle.scope.specs.Sound.{in_store};
 ghost use Rattle.scope.specs.Calls.{first_broken, open_test, room_tests};
 ghost use Rattle.layout.specs.Words.{store_in};
+ghost use Rattle.layout.specs.Meaning.{store_means};
 ghost use Rattle.store.specs.Entries.{entry_types, types_in};
 ghost use Rattle.refusals.specs.Codes.{number, told};
 ghost use Rattle.refusals.specs.Opening.{enough};
 
-use layout::HEAD_WORDS;
+use layout::{HEAD_WORDS, Header};
 use scope::{MAX_CHILDREN, MAX_NODES};
+use std::fmt;
 use types::Type;
 
-// "refusals: numbers only": each by its name, with 01's words, in the order of their numbers.
+// "A refusal returns only its number": each by its name, with 01's words, in the order of their numbers.
 #[derive(Clone, Copy, Debug, PartialEq, Eq, PartialOrd, Ord)]
 pub enum Refusal {
     // "opening: capacity above the limit or buffers too short"
@@ -56,6 +62,16 @@ impl From<Refusal> for u32 {
     }
 }
 
+// It prints as its number.
+impl fmt::Display for Refusal {
+    ghost output = { λ r. Some (decimal (number r)) };
+
+    fn fmt<W: fmt::Write>(&self, f: &mut fmt::Formatter<W>) -> fmt::Result {
+        let n = u32::from(*self);
+        write!(f, "{n}")
+    }
+}
+
 // A type's node is one of n.
 pub fn type_inside(t: Type, n: u32) -> bool
     ensures { (ns : List Node) → length ns ≡ n → result ≡ in_store ns (ty_of t.0) }
@@ -84,11 +100,10 @@ fn exceeds(made: u32, more: u32, room: u32) -> bool
     (room as u64) < made as u64 + more as u64
 }
 
-// The first of refusals 10 and 11 that stands where so many nodes and children more are to be made. It looks at the header alone.
-pub fn room(h: &[u32], nodes: u32, children: u32) -> Result<(), Refusal>
-    ensures { (ws ks : List ℕ) → first_broken (room_tests (store_in h.now ws ks) nodes children) ≡ told result }
+// The first of refusals 10 and 11 that stands where so many nodes and children more are to be made in a store with this header.
+pub fn room_by(x: Header, nodes: u32, children: u32) -> Result<(), Refusal>
+    ensures { (ns : List Node) → length ns ≡ x.nodes → first_broken (room_tests (store_means x ns) nodes children) ≡ told result }
 {
-    let x = layout::read_header(h);
     if exceeds(x.nodes, nodes, x.node_room) {
         return Err(Refusal::NodesFull);
     }
@@ -96,6 +111,13 @@ pub fn room(h: &[u32], nodes: u32, children: u32) -> Result<(), Refusal>
         return Err(Refusal::ChildrenFull);
     }
     Ok(())
+}
+
+// The same of a store's slices. It looks at the header alone.
+pub fn room(h: &[u32], nodes: u32, children: u32) -> Result<(), Refusal>
+    ensures { (ws ks : List ℕ) → first_broken (room_tests (store_in h.now ws ks) nodes children) ≡ told result }
+{
+    room_by(layout::read_header(h), nodes, children)
 }
 
 // The slices have the words that so many nodes and children need.

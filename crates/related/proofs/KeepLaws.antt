@@ -20,7 +20,7 @@ use Rattle.related.specs.Tables.{Meeting}
 use Rattle.std.specs.Prelude.{Some, None}
 use Rattle.skips.specs.Table.{marked, slot_seen, Passed, Stretched}
 use Rattle.related.specs.Tables.{slot_marked, Sees, Meets, Keeps}
-use Rattle.related.proofs.Laws.{root_is}
+use Rattle.roots.proofs.Laws.{root_is}
 
 -- one table of bytes
 

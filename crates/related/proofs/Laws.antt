@@ -1,6 +1,6 @@
 -- The laws of one step of the walk, and the root that the code finds.
 -- Assumes nothing.
-use mathlib.Core.Path.{◌≡◌, refl, ap, sym, ◌∙◌}
+use mathlib.Core.Path.{◌≡◌, refl, sym, ◌∙◌}
 use mathlib.Core.Bool.{Bool, true, not}
 use mathlib.Core.List.{List}
 use Prim.Native.Nat.{ℕ, zero, suc, ◌-◌}
@@ -8,17 +8,12 @@ use native.Mathlib.Omega.{arith}
 use lib.Dec.{eqb}
 use lib.ListN.{get_or, set}
 use borrow.Author.Tests.{eqb-false, not-true}
-use Rattle.scope.specs.Types.{Ty, ty_of}
+use Rattle.scope.specs.Types.{Ty}
 use Rattle.scope.specs.Nodes.{Node, at, state_of, find, kids_of}
 use Rattle.scope.specs.Force.{related_kids, related_f, find_related}
 use Rattle.scope.proofs.Marks.{related_new, related_old}
 use Rattle.layout.specs.Words.{decode}
 use Rattle.layout.proofs.Laws.{length_decode}
-use Rattle.roots.specs.Found.{Found}
-
--- the root that the code finds
-pub root_is : {ws : List ℕ} {n t r i : ℕ} → Found ws n t r → i ≡ (ty_of r).idx → (ks : List ℕ) → i ≡ (find (decode ws ks n) (ty_of t)).idx
-root_is f e ks = e ∙ ap (λ (u : Ty). u.idx) (f.root ks)
 
 -- the walk: a depth of none, a root that is marked, a root that is not
 

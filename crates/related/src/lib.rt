@@ -4,7 +4,7 @@
 ghost use Rattle.std.specs.Prelude.{◌≡◌, ◌≤◌};
 ghost use Rattle.scope.specs.Types.{ty_of};
 ghost use Rattle.scope.specs.Force.{find_related};
-ghost use Rattle.layout.specs.Lent.{nodes_by, LinkedIn};
+ghost use Rattle.layout.specs.Lent.{nodes_by};
 ghost use Rattle.related.specs.Stands.{StandsIn};
 ghost use Rattle.related.specs.Tables.{SeesIn, MeetsIn, KeepsIn, related_below};
 
@@ -18,8 +18,8 @@ const FEW: usize = 256;
 
 // A child's root is marked, if it is not, and its node told.
 fn meet(finder: &mut Finder<'_>, marks: &mut [u8], seen: &mut [u8], kid: Type) -> Option<TypeIdx>
-    requires { LinkedIn finder.old.nodes.now × SeesIn finder.old.nodes.now marks.old seen.old }
-    ensures { MeetsIn finder.old.nodes.now kid.0 marks.old marks.new seen.new result × (finder.new.nodes ≡ finder.old.nodes) }
+    requires { SeesIn finder.old.nodes.now marks.old seen.old }
+    ensures { MeetsIn finder.old.nodes.now kid.0 marks.old marks.new seen.new result × (finder.new.nodes ≡ finder.old.nodes) × (finder.new.cache.ghost_name ≡ finder.old.cache.ghost_name) }
 {
     if roots::is_marked(seen, kid.idx()) {
         return None;
@@ -38,6 +38,7 @@ fn meet(finder: &mut Finder<'_>, marks: &mut [u8], seen: &mut [u8], kid: Type) -
 
 // The walk on from a marked root: each unmarked root of a child is marked and walked on from, one level less deep. Of a child whose root is marked
 // there is nothing to do.
+// Kept (6): three tables of one walk: the marks are lent by whoever asks, and the other two are the walk's own, in two sizes, of which `skips` is lent one alone.
 fn mark_below(
     finder: &mut Finder<'_>,
     marks: &mut [u8],
@@ -48,7 +49,7 @@ fn mark_below(
 )
     requires { StandsIn finder.old.nodes.now × KeepsIn finder.old.nodes.now marks.old seen.old skip.old }
     ensures { (marks.new ≡ related_below depth (nodes_by finder.old.nodes.now) marks.old root.0)
-        × KeepsIn finder.old.nodes.now marks.new seen.new skip.new × (finder.new.nodes ≡ finder.old.nodes) }
+        × KeepsIn finder.old.nodes.now marks.new seen.new skip.new × (finder.new.nodes ≡ finder.old.nodes) × (finder.new.cache.ghost_name ≡ finder.old.cache.ghost_name) }
 {
     if depth == 0 {
         return;

@@ -7,7 +7,7 @@ use mathlib.Core.List.{List}
 use Prim.Native.Nat.{ℕ, ◌+◌, ◌-◌, ◌<◌, ◌≤◌}
 use native.Mathlib.Omega.{arith}
 use native.Mathlib.Decide.{ℕ_discrete, dec_lt}
-use lib.ListN.{length, get_or, set, length-set, replicate, get_or-replicate, length-replicate, get_or-eq_default}
+use lib.ListN.{length, get_or, set, replicate, get_or-replicate, length-replicate, get_or-eq_default}
 use lib.Seq.{get_or-set_same, get_or-set_other, set_out}
 use borrow.Author.Tests.{le-leb, lt-leb, lt-ltb, le-ltb}
 use Rattle.scope.specs.Base.{pick}
@@ -17,16 +17,14 @@ use Rattle.scope.proofs.Paths.{find_root}
 use Rattle.types.specs.declared.«Type».{«Type»}
 use Rattle.types.proofs.Laws.{ty_plain}
 use Rattle.layout.specs.Words.{decode}
-use Rattle.layout.specs.Meaning.{read_at, Linked}
+use Rattle.layout.specs.Meaning.{read_at}
 use Rattle.layout.specs.declared.TypeNode.{TypeNode}
 use Rattle.layout.specs.declared.TypeNode.TheVariants as code
 use Rattle.layout.specs.declared.TypeState.{TypeState}
-use Rattle.roots.specs.Found.{Nearby}
 use Rattle.std.specs.declared.option.Option.TheVariants as near
 use Rattle.roots.specs.Found.{Found}
 use Rattle.roots.proofs.Laws.{is_root_lem}
-use Rattle.roots.proofs.PathLaws.{rooted_up}
-use Rattle.roots.specs.Kept.{KEPT_INV, kept_type, kept_word, Kept, Rooted, Cached}
+use Rattle.roots.specs.Kept.{KEPT_INV, KEPT_END, kept_type, kept_word, Kept, Rooted, Cached}
 
 -- numbers
 
@@ -42,7 +40,7 @@ module _ {k w : ℕ} (r : «Type») (o : k ≡ w + 1) where
       let d : w + 1 - 1 ≡ w = omega arith in
       kept_is r (λ z. omega arith) (rw (e, o, le-ltb KEPT_INV (w + 1) (omega arith), d) (ty_plain w (omega arith)))
 
-  pub kept_high : KEPT_INV ≤ w → w < 65536 → ty_of r.0 ≡ flip true (ty_of (w - KEPT_INV)) → Kept k (near.Some r)
+  pub kept_high : KEPT_INV ≤ w → w < KEPT_END → ty_of r.0 ≡ flip true (ty_of (w - KEPT_INV)) → Kept k (near.Some r)
   kept_high l h e =
       let d : w + 1 - 1 ≡ w = omega arith in
       kept_is r (λ z. omega arith) (e ∙ rw (o, lt-ltb KEPT_INV (w + 1) (omega arith), d, ty_plain (w - KEPT_INV) (omega arith)))
@@ -81,10 +79,6 @@ found_flip {ws} {n} t ei eb c e = record {
   root = λ ks. e ∙ rw (eb, ← c.found ks, ei) (sym (find_flip (decode ws ks n) (ty_of t.0)));
 }
 
-pub rooted_kept : {ws : List ℕ} {n : ℕ} {cache : List ℕ} {i : ℕ} {v : Nearby} (r : «Type») → Cached ws n cache → Kept (get_or cache i 0) v → v ≡ near.Some r
-    → Rooted ws n i (ty_of r.0)
-rooted_kept {i = i} r c d e = rw (d.type r e) (c.each i (d.there r e))
-
 -- one more root kept
 module _ {ws : List ℕ} {n : ℕ} {cache : List ℕ} (c : Cached ws n cache) {i : ℕ} {r : Ty} (f : Rooted ws n i r) where
   cached_at : (k : ℕ) → k ≡ kept_word r → (k ≡ 0 → ⊥) → Rooted ws n i (kept_type k)
@@ -101,21 +95,6 @@ module _ {ws : List ℕ} {n : ℕ} {cache : List ℕ} (c : Cached ws n cache) {i
       go j z (no p) d =
           let s : get_or cache' j 0 ≡ get_or cache j 0 = rw e (get_or-set_other cache i j (kept_word r) 0 p) in
           rw s (c.each j (rw (← s) z))
-
--- a path is kept up to the node i, whose root is r
-pub record Keeps (ws : List ℕ) (n : ℕ) (cache₀ cache : List ℕ) (i r : ℕ) : Type 0 where
-  pub long : length cache ≡ length cache₀
-  pub cached : Cached ws n cache
-  pub here : Rooted ws n i (ty_of r)
-
-pub keeps_up : {ws : List ℕ} {n : ℕ} {cache₀ cache : List ℕ} {i r : ℕ} {v : TypeNode} {u : «Type»} {cache' : List ℕ} {b : Bool} {q j : ℕ}
-    → Linked ws n → Keeps ws n cache₀ cache i r → v ≡ read_at ws n i → v ≡ code.Child u → cache' ≡ set cache i (kept_word (ty_of r))
-    → b ≡ (ty_of u.0).inv → ty_of q ≡ flip b (ty_of r) → j ≡ (ty_of u.0).idx → Keeps ws n cache₀ cache' j q
-keeps_up {cache = cache} {i = i} {r = r} l k o e w x y z = record {
-  long = rw w (length-set cache i (kept_word (ty_of r))) ∙ k.long;
-  cached = cached_keep k.cached k.here w;
-  here = rooted_up l k.here o e x y z;
-}
 
 -- a cache of nothing
 

@@ -203,3 +203,7 @@ module _ {ws : List ℕ} {n : ℕ} {t : «Type»} {i : ℕ} (ei : i ≡ (ty_of t
 
       top : (ks : List ℕ) → is_root (at (decode ws ks n) (ty_of u.0).idx) ≡ true
       top ks = read_root ws n (ty_of u.0).idx st z (at_node ws n ej ew er) ks
+
+-- the root that the code finds
+pub root_is : {ws : List ℕ} {n t r i : ℕ} → Found ws n t r → i ≡ (ty_of r).idx → (ks : List ℕ) → i ≡ (find (decode ws ks n) (ty_of t)).idx
+root_is f e ks = e ∙ ap (λ (u : Ty). u.idx) (f.root ks)

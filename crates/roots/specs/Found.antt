@@ -6,6 +6,7 @@ use Rattle.scope.specs.Nodes.{find, find_mut}
 use Rattle.types.specs.declared.«Type».{«Type»}
 use Rattle.layout.specs.Words.{NODE_WORDS, node_words, node_field, decode}
 use Rattle.layout.specs.Meaning.{CHILD_TAG, Clean, Linked}
+use Rattle.layout.specs.declared.Nodes.{Nodes}
 use Rattle.std.specs.Prelude.{Some}
 use Rattle.std.specs.declared.option.Option as option
 
@@ -16,6 +17,10 @@ Nearby = option.Option «Type»
 -- the word r holds the root of the type in the word t
 pub record Found (ws : List ℕ) (n t r : ℕ) : Type 0 where
   pub root : (ks : List ℕ) → ty_of r ≡ find (decode ws ks n) (ty_of t)
+
+-- the same of the nodes that are lent
+abbrev pub FoundIn : Nodes → ℕ → ℕ → Type 0
+FoundIn s t r = Found s.words.now s.made t r
 
 -- words with some children's links changed, and nothing else
 pub record Relinked (ws : List ℕ) (n : ℕ) (ws' : List ℕ) : Type 0 where

@@ -1,5 +1,5 @@
 -- A cache of roots: a number for each node, 0 or the root that scope's `find` gives for the node, not inverted. Whatever the children's words are.
-use Rattle.std.specs.Prelude.{◌≡◌, true, false, List, ℕ, ◌+◌, ◌-◌, leb, ltb, get_or}
+use Rattle.std.specs.Prelude.{◌≡◌, true, false, List, ℕ, ◌+◌, ◌-◌, ◌*◌, leb, ltb, get_or}
 use Rattle.scope.specs.Base.{pick}
 use Rattle.scope.specs.Types.{Ty, ty, ty_of}
 use Rattle.scope.specs.Nodes.{at, is_root, find}
@@ -11,6 +11,10 @@ use Rattle.std.specs.Prelude.{Some}
 
 abbrev pub KEPT_INV : ℕ
 KEPT_INV = 32768
+
+-- what a number stays below
+abbrev pub KEPT_END : ℕ
+KEPT_END = 2 * KEPT_INV
 
 -- the root that a number says
 abbrev pub kept_type : ℕ → Ty
@@ -30,9 +34,16 @@ pub record Rooted (ws : List ℕ) (n i : ℕ) (r : Ty) : Type 0 where
   pub found : (ks : List ℕ) → find (decode ws ks n) (ty false i) ≡ r
   pub top : (ks : List ℕ) → is_root (at (decode ws ks n) r.idx) ≡ true
 
+-- the same of the nodes that are lent
+abbrev pub RootedIn : Nodes → ℕ → Ty → Type 0
+RootedIn s i r = Rooted s.words.now s.made i r
+
 -- told a root of the node i
 pub record Topped (ws : List ℕ) (n i : ℕ) (q : Nearby) : Type 0 where
   pub told : (r : «Type») → q ≡ Some r → Rooted ws n i (ty_of r.0)
+
+abbrev pub ToppedIn : Nodes → ℕ → Nearby → Type 0
+ToppedIn s i q = Topped s.words.now s.made i q
 
 -- what is kept of a node is its root
 pub record Cached (ws : List ℕ) (n : ℕ) (cache : List ℕ) : Type 0 where

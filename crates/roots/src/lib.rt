@@ -7,12 +7,13 @@ ghost use Rattle.scope.specs.Types.{INV_BIT, ty_of};
 ghost use Rattle.layout.specs.Words.{node_words};
 ghost use Rattle.layout.specs.Meaning.{Linked, held_in, read_at};
 ghost use Rattle.layout.specs.Lent.{LinkedIn};
-ghost use Rattle.roots.specs.Found.{Found, FoundMut, Near};
-ghost use Rattle.roots.specs.Kept.{kept_word, Kept, Rooted, Topped, Cached, CachedIn};
+ghost use Rattle.roots.specs.Found.{Found, FoundIn, FoundMut, Near};
+ghost use Rattle.roots.specs.Kept.{kept_word, Kept, RootedIn, ToppedIn, CachedIn};
 ghost use Rattle.roots.specs.Nil.{nil_by};
 
 use layout::{Nodes, TypeNode};
 use types::{Inverted, Type, TypeIdx};
+use words::put;
 
 // The root of a type among n nodes, with the inversions on the way.
 fn climb(ws: &[u32], n: u32, t: Type) -> Type
@@ -75,7 +76,7 @@ pub fn find(ws: &[u32], n: u32, t: Type) -> Type
 // The same among nodes that are lent as one.
 pub fn find_in(nodes: &Nodes<'_>, t: Type) -> Type
     requires { LinkedIn nodes.now }
-    ensures { Found nodes.now.words.now nodes.now.made t.0 result.0 }
+    ensures { FoundIn nodes.now t.0 result.0 }
 {
     find(nodes.words, nodes.made, t)
 }
@@ -99,15 +100,6 @@ pub fn nil_at(ws: &[u32], n: u32, i: TypeIdx) -> bool
     layout::held_at(ws, n, i).is_some_and(|(_, kind)| kind.code == kinds::TUPLE && kind.count == 0)
 }
 
-// Past the end of a table nothing is put.
-pub fn put<T: Copy>(table: &mut [T], at: usize, x: T)
-    ensures { table.new ≡ set table.old at x }
-{
-    if at < table.len() {
-        table[at] = x;
-    }
-}
-
 // A mark for each node is a lent byte: nonzero is a mark, "absent means no".
 pub fn is_marked(marks: &[u8], i: TypeIdx) -> bool
     ensures { result ≡ not (eqb (get_or marks.now i.0 0) 0) }
@@ -126,7 +118,7 @@ pub fn set_mark(marks: &mut [u8], i: TypeIdx)
 const KEPT_INV: u32 = 32768;
 
 // Node i's root by a cache, if it is there.
-fn kept(cache: &[u16], i: TypeIdx) -> Option<Type>
+fn kept_at(cache: &[u16], i: TypeIdx) -> Option<Type>
     ensures { Kept (get_or cache.now i.0 0) result }
 {
     let was = u32::from(*cache.get(i.0 as usize)?).checked_sub(1)?;
@@ -151,120 +143,120 @@ fn kept_word(root: Type) -> u16
     }
 }
 
-// Past the end nothing is kept.
-fn keep(cache: &mut [u16], i: TypeIdx, root: Type)
-    ensures { cache.new ≡ set cache.old i.0 (kept_word (ty_of root.0)) }
-{
-    put(cache, i.0 as usize, kept_word(root));
-}
-
-// A node's root by the first node on its path that is kept or a root; none where n steps meet neither.
-fn top_by(ws: &[u32], n: u32, cache: &[u16], i: TypeIdx) -> Option<Type>
-    requires { Linked ws.now n × (Cached ws.now n cache.now × (i.0 < INV_BIT)) }
-    ensures { Topped ws.now n i.0 result }
-{
-    let mut inv = Inverted(false);
-    let mut cur = i;
-    for _ in 0..n {
-        if let Some(known) = kept(cache, cur) {
-            return Some(known.invert_if(inv));
-        }
-        let TypeNode::Child(parent) = layout::node_at(ws, n, cur) else {
-            return Some(Type::new(inv, cur));
-        };
-        inv = inv ^ parent.inv();
-        cur = parent.idx();
-    }
-    None
-}
-
-// Keeps a node's root, and so that of each node on its path before the first that is kept or a root.
-fn keep_path(ws: &[u32], n: u32, cache: &mut [u16], i: TypeIdx, root: Type)
-    requires { Linked ws.now n × (Cached ws.now n cache.old × Rooted ws.now n i.0 (ty_of root.0)) }
-    ensures { Cached ws.now n cache.new }
-{
-    let mut cur = i;
-    let mut top = root;
-    for _ in 0..n {
-        let TypeNode::Child(parent) = layout::node_at(ws, n, cur) else {
-            return;
-        };
-        if kept(cache, cur).is_some() {
-            return;
-        }
-        keep(cache, cur, top);
-        top = top.invert_if(parent.inv());
-        cur = parent.idx();
-    }
-}
-
-// The root of a type, whose path is kept. A path that meets no root is followed as `find` does, and nothing is kept of it.
-fn find_path(ws: &[u32], n: u32, cache: &mut [u16], t: Type) -> Type
-    requires { Linked ws.now n × Cached ws.now n cache.old }
-    ensures { Found ws.now n t.0 result.0 × Cached ws.now n cache.new }
-{
-    let i = t.idx();
-    let Some(root) = top_by(ws, n, cache, i) else {
-        return climb(ws, n, t);
-    };
-    keep_path(ws, n, cache, i, root);
-    root.invert_if(t.inv())
-}
-
-// A root's child has no path but itself.
-fn find_new(ws: &[u32], n: u32, cache: &mut [u16], t: Type) -> Type
-    requires { Linked ws.now n × Cached ws.now n cache.old }
-    ensures { Found ws.now n t.0 result.0 × Cached ws.now n cache.new }
-{
-    let i = t.idx();
-    let TypeNode::Child(parent) = layout::node_at(ws, n, i) else {
-        return t;
-    };
-    let TypeNode::Child(_) = layout::node_at(ws, n, parent.idx()) else {
-        keep(cache, i, parent);
-        return parent.invert_if(t.inv());
-    };
-    find_path(ws, n, cache, t)
-}
-
-// The root of a type by its node's entry in the cache, which is made where there is none. With its loops it stays behind a call.
-#[inline(never)]
-fn find_kept(ws: &[u32], n: u32, cache: &mut [u16], t: Type) -> Type
-    requires { Linked ws.now n × Cached ws.now n cache.old }
-    ensures { Found ws.now n t.0 result.0 × Cached ws.now n cache.new }
-{
-    match kept(cache, t.idx()) {
-        Some(known) => known.invert_if(t.inv()),
-        None => find_new(ws, n, cache, t),
-    }
-}
-
-// The same as `find` where much is asked for and nothing changes: a path that is followed is kept, each of its nodes with its root, and a later one
-// ends where it meets it. A caller has the test for a root in its own code.
-pub fn find_by(ws: &[u32], n: u32, cache: &mut [u16], t: Type) -> Type
-    requires { Linked ws.now n × Cached ws.now n cache.old }
-    ensures { Found ws.now n t.0 result.0 × Cached ws.now n cache.new }
-{
-    match layout::node_at(ws, n, t.idx()) {
-        TypeNode::Root { .. } => t,
-        TypeNode::Child(_) => find_kept(ws, n, cache, t),
-    }
-}
-
-// Nodes that stay as they are, and a cache of their roots: for whoever asks for many.
+// Nodes that stay as they are, whose parents can be followed, and a cache of their roots: for whoever asks for many.
 #[derive(Drop)]
 pub struct Finder<'a> {
     pub nodes: &'a Nodes<'a>,
     pub cache: &'a mut [u16],
+    pub ghost linked: { LinkedIn nodes.now },
     pub ghost cached: { CachedIn nodes.now cache.now },
 }
 
 impl Finder<'_> {
-    // The root of a type, by `find_by`.
-    pub fn find(&mut self, t: Type) -> Type
-        requires { LinkedIn self.old.nodes.now }
-        ensures { Found self.old.nodes.now.words.now self.old.nodes.now.made t.0 result.0 × (self.new.nodes ≡ self.old.nodes) }
+    // Node i's root, if it is kept.
+    fn kept(&self, i: TypeIdx) -> Option<Type>
+        ensures { ToppedIn self.now.nodes.now i.0 result }
     {
-        find_by(self.nodes.words, self.nodes.made, self.cache, t)
+        kept_at(self.cache, i)
+    }
+
+    // Past the cache's end nothing is kept.
+    fn keep(&mut self, i: TypeIdx, root: Type)
+        requires { RootedIn self.old.nodes.now i.0 (ty_of root.0) }
+        ensures { (self.new.nodes ≡ self.old.nodes) × (self.new.cache.ghost_name ≡ self.old.cache.ghost_name) }
+    {
+        put(self.cache, i.0 as usize, kept_word(root));
+    }
+
+    // A node's root by the first node on its path that is kept or a root; none where as many steps as there are nodes meet neither.
+    fn top(&self, i: TypeIdx) -> Option<Type>
+        requires { i.0 < INV_BIT }
+        ensures { ToppedIn self.now.nodes.now i.0 result }
+    {
+        let nodes = self.nodes;
+        let mut inv = Inverted(false);
+        let mut cur = i;
+        for _ in 0..nodes.made {
+            if let Some(known) = self.kept(cur) {
+                return Some(known.invert_if(inv));
+            }
+            let TypeNode::Child(parent) = nodes.node(cur) else {
+                return Some(Type::new(inv, cur));
+            };
+            inv = inv ^ parent.inv();
+            cur = parent.idx();
+        }
+        None
+    }
+
+    // Keeps a node's root, and so that of each node on its path before the first that is kept or a root.
+    fn keep_path(&mut self, i: TypeIdx, root: Type)
+        requires { RootedIn self.old.nodes.now i.0 (ty_of root.0) }
+        ensures { (self.new.nodes ≡ self.old.nodes) × (self.new.cache.ghost_name ≡ self.old.cache.ghost_name) }
+    {
+        let nodes = self.nodes;
+        let mut cur = i;
+        let mut top = root;
+        for _ in 0..nodes.made {
+            let TypeNode::Child(parent) = nodes.node(cur) else {
+                return;
+            };
+            if self.kept(cur).is_some() {
+                return;
+            }
+            self.keep(cur, top);
+            top = top.invert_if(parent.inv());
+            cur = parent.idx();
+        }
+    }
+
+    // The root of a type, whose path is kept. A path that meets no root is followed as `find_in` does, and nothing is kept of it.
+    fn find_path(&mut self, t: Type) -> Type
+        ensures { FoundIn self.old.nodes.now t.0 result.0 × (self.new.nodes ≡ self.old.nodes) × (self.new.cache.ghost_name ≡ self.old.cache.ghost_name) }
+    {
+        let i = t.idx();
+        let Some(root) = self.top(i) else {
+            return climb(self.nodes.words, self.nodes.made, t);
+        };
+        self.keep_path(i, root);
+        root.invert_if(t.inv())
+    }
+
+    // A root's child has no path but itself.
+    fn find_new(&mut self, t: Type) -> Type
+        ensures { FoundIn self.old.nodes.now t.0 result.0 × (self.new.nodes ≡ self.old.nodes) × (self.new.cache.ghost_name ≡ self.old.cache.ghost_name) }
+    {
+        let nodes = self.nodes;
+        let i = t.idx();
+        let TypeNode::Child(parent) = nodes.node(i) else {
+            return t;
+        };
+        let TypeNode::Child(_) = nodes.node(parent.idx()) else {
+            self.keep(i, parent);
+            return parent.invert_if(t.inv());
+        };
+        self.find_path(t)
+    }
+
+    // The root of a type by its node's entry in the cache, which is made where there is none. With its loops it stays behind a call.
+    #[inline(never)]
+    fn find_kept(&mut self, t: Type) -> Type
+        ensures { FoundIn self.old.nodes.now t.0 result.0 × (self.new.nodes ≡ self.old.nodes) × (self.new.cache.ghost_name ≡ self.old.cache.ghost_name) }
+    {
+        match self.kept(t.idx()) {
+            Some(known) => known.invert_if(t.inv()),
+            None => self.find_new(t),
+        }
+    }
+
+    // The root of a type, as `find_in` tells it, where much is asked for and nothing changes: a path that is followed is kept, each of its nodes with its root,
+    // and a later one ends where it meets it. A caller has the test for a root in its own code.
+    pub fn find(&mut self, t: Type) -> Type
+        ensures { FoundIn self.old.nodes.now t.0 result.0 × (self.new.nodes ≡ self.old.nodes) × (self.new.cache.ghost_name ≡ self.old.cache.ghost_name) }
+    {
+        match self.nodes.node(t.idx()) {
+            TypeNode::Root { .. } => t,
+            TypeNode::Child(_) => self.find_kept(t),
+        }
     }
 }

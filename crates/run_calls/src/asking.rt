@@ -1,12 +1,13 @@
 // Calls that change no store.
 use call_ask::{find_related, get_mod, is_nil, self_inverse, self_inverse_param};
 use chart::Env;
-use run_text::numbers::{after, to_bytes, word};
+use run_text::numbers::{after, to_bytes};
 use run_text::writing;
 use scope::MAX_NODES;
 use std::io;
 use std::io::Write;
 use types::Type;
+use words::word;
 
 // Each is followed by a type, but for the figures and the store.
 #[derive(Clone, Copy)]
@@ -40,10 +41,8 @@ fn related<W: Write>(
     let mut marks = [0u8; MAX_NODES];
     let n = to_bytes(after(a, 1), &mut marks);
     let marks = &mut marks[..n];
-    match find_related(env, h, ws, ks, marks, Type(word(a, 0))) {
-        Ok(()) => writing::marked(to, marks),
-        Err(r) => writing::refused(to, r),
-    }
+    let r = find_related(env, h, ws, ks, marks, Type(word(a, 0)));
+    writing::answer(to, r, |to, ()| writing::marked(to, marks))
 }
 
 // Every node, after the figures.

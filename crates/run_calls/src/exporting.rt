@@ -1,11 +1,12 @@
 // An export out of the store in hand into words of its own, whatever they held: nodes, children, room for answers, words lent of each slice, then types.
 use crate::{HEAD, KIDS, NODES, asking};
 use chart::Env;
-use run_text::numbers::{after, upto, word};
+use run_text::numbers::after;
 use run_text::writing;
 use scope::MAX_LIST;
 use std::io;
 use std::io::Write;
+use words::word;
 
 // One more than a list may have.
 const ROOM: usize = MAX_LIST + 1;
@@ -26,10 +27,10 @@ pub(crate) fn export<W: Write>(
     let mut ew = [USED; NODES];
     let mut ek = [USED; KIDS];
     let mut out = [0u32; ROOM];
-    let room = upto(&out, word(a, 2) as usize);
-    let x = upto(&eh, word(a, 3) as usize);
-    let y = upto(&ew, word(a, 4) as usize);
-    let z = upto(&ek, word(a, 5) as usize);
+    let room = out.len().min(word(a, 2) as usize);
+    let x = eh.len().min(word(a, 3) as usize);
+    let y = ew.len().min(word(a, 4) as usize);
+    let z = ek.len().min(word(a, 5) as usize);
     let eh = &mut eh[..x];
     let ew = &mut ew[..y];
     let ek = &mut ek[..z];

@@ -1,12 +1,13 @@
 // Forcing and finishing.
 use call_force::{finish_inference, finish_inference_where, force_kind};
 use chart::Env;
-use run_text::numbers::{to_bytes, word};
+use run_text::numbers::to_bytes;
 use run_text::writing;
 use scope::MAX_NODES;
 use std::io;
 use std::io::Write;
 use types::Type;
+use words::word;
 
 #[derive(Clone, Copy)]
 pub(crate) enum Forcing {

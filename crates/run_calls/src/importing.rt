@@ -1,10 +1,11 @@
 // An import into the store in hand out of the other one: room for answers, 1 with a parameter list, how many types, these, then the entries.
 use chart::Env;
-use run_text::numbers::{after, first, upto, word};
+use run_text::numbers::{after, first};
 use run_text::writing;
 use scope::MAX_LIST;
 use std::io;
 use std::io::Write;
+use words::word;
 
 // One more than a list may have.
 const ROOM: usize = MAX_LIST + 1;
@@ -22,7 +23,7 @@ pub(crate) fn import<W: Write>(
     a: &[u32],
 ) -> io::Result<()> {
     let mut out = [0u32; ROOM];
-    let room = upto(&out, word(a, 0) as usize);
+    let room = out.len().min(word(a, 0) as usize);
     let out = &mut out[..room];
     let given = after(a, 3);
     let ts = first(given, word(a, 2) as usize);

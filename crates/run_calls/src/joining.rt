@@ -2,11 +2,12 @@
 use call_impl::{approx_eq, unify_impl_type};
 use call_unify_lists::{unify_fn_sig, unify_objects, unify_types};
 use chart::Env;
-use run_text::numbers::{after, first, word};
+use run_text::numbers::{after, first};
 use run_text::writing;
 use std::io;
 use std::io::Write;
 use types::{Impl, Inverted, Type};
+use words::word;
 
 #[derive(Clone, Copy)]
 pub(crate) enum Joining {

@@ -1,7 +1,8 @@
-// What is lent to the calls: a chart and texts, by where they stand among the list's numbers, and how many words of two stores and of the names buffer.
-use chart::{Beside, Env, NO_BESIDE};
+// What is lent to the calls: a chart and texts, as parts of the list's numbers, and how many words of two stores and of the names buffer.
+use chart::{Beside, Env, NO_BESIDE, SIGIL_WORDS};
 use names::Texts;
-use run_text::numbers::{after, first, word};
+use run_text::numbers::after;
+use words::word;
 
 #[derive(Clone, Copy)]
 pub(crate) enum Lending {
@@ -15,15 +16,8 @@ pub(crate) enum Lending {
     Swap,
 }
 
-// A part of the list's numbers.
-#[derive(Clone, Copy)]
-pub(crate) struct Place {
-    pub(crate) at: usize,
-    pub(crate) len: usize,
-}
-
 // How many words of each slice of a store, and of the names buffer beside it.
-#[derive(Clone, Copy)]
+#[derive(Clone, Copy, Default)]
 pub(crate) struct Sizes {
     pub(crate) head: usize,
     pub(crate) nodes: usize,
@@ -33,56 +27,38 @@ pub(crate) struct Sizes {
 
 // The chart's records and what stands beside them, the texts' bytes, and the words of the store in hand and of the other.
 #[derive(Clone, Copy)]
-pub(crate) struct Lent {
-    pub(crate) chart: Place,
+pub(crate) struct Lent<'a> {
+    pub(crate) chart: &'a [u32],
     pub(crate) beside: Beside,
-    pub(crate) rule: Place,
-    pub(crate) text: Place,
+    pub(crate) rule: &'a [u32],
+    pub(crate) text: &'a [u32],
     pub(crate) here: Sizes,
     pub(crate) there: Sizes,
 }
 
-fn nothing() -> Place {
-    Place { at: 0, len: 0 }
-}
-
-fn no_words() -> Sizes {
-    Sizes {
-        head: 0,
-        nodes: 0,
-        kids: 0,
-        names: 0,
-    }
-}
-
-pub(crate) fn nothing_lent() -> Lent {
+pub(crate) fn nothing_lent<'a>() -> Lent<'a> {
     Lent {
-        chart: nothing(),
+        chart: &[],
         beside: NO_BESIDE,
-        rule: nothing(),
-        text: nothing(),
-        here: no_words(),
-        there: no_words(),
+        rule: &[],
+        text: &[],
+        here: Sizes::default(),
+        there: Sizes::default(),
     }
-}
-
-// The numbers that stand there.
-pub(crate) fn part(s: &[u32], p: Place) -> &[u32] {
-    first(after(s, p.at), p.len)
 }
 
 // The chart that is lent, and the texts' bytes.
-pub(crate) fn env_of<'a>(l: Lent, s: &'a [u32], rule: &'a [u8], text: &'a [u8]) -> Env<'a> {
+pub(crate) fn env_of<'a>(l: Lent<'a>, rule: &'a [u8], text: &'a [u8]) -> Env<'a> {
     let texts = Texts { rule, chart: text };
     Env {
-        chart: part(s, l.chart),
+        chart: l.chart,
         beside: l.beside,
         texts,
     }
 }
 
 fn beside_of(a: &[u32]) -> Beside {
-    let mut sigils = [0u32; 12];
+    let mut sigils = [0u32; SIGIL_WORDS];
     for (w, &v) in sigils.iter_mut().zip(after(a, 1)) {
         *w = v;
     }
@@ -101,13 +77,12 @@ fn sizes_of(a: &[u32]) -> Sizes {
     }
 }
 
-// What is lent from now on; `at` is where the call's numbers a stand.
-pub(crate) fn lend(c: Lending, l: Lent, at: usize, a: &[u32]) -> Lent {
-    let place = Place { at, len: a.len() };
+// What is lent from now on, by the call's numbers.
+pub(crate) fn lend<'a>(c: Lending, l: Lent<'a>, a: &'a [u32]) -> Lent<'a> {
     match c {
-        Lending::Rule => Lent { rule: place, ..l },
-        Lending::Text => Lent { text: place, ..l },
-        Lending::Chart => Lent { chart: place, ..l },
+        Lending::Rule => Lent { rule: a, ..l },
+        Lending::Text => Lent { text: a, ..l },
+        Lending::Chart => Lent { chart: a, ..l },
         Lending::Beside => Lent {
             beside: beside_of(a),
             ..l

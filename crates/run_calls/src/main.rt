@@ -16,14 +16,15 @@ mod naming; // named states, and reset
 mod printing; // show and show_impl_type
 
 use crate::calls::{Call, NoCall};
-use crate::lending::{Lending, Lent, env_of, lend, nothing_lent, part};
+use crate::lending::{Lending, Lent, env_of, lend, nothing_lent};
 use chart::Env;
 use layout::{CHILD_WORDS, HEAD_WORDS, NODE_WORDS};
-use run_text::numbers::{after, first, numbers, set, to_bytes, upto, word};
+use run_text::numbers::{after, first, numbers, to_bytes};
 use run_text::writing;
 use scope::{MAX_CHILDREN, MAX_NODES};
 use std::io;
 use std::io::{Read, Write};
+use words::word;
 
 // More words than the largest store needs, so that some are left over.
 pub(crate) const HEAD: usize = HEAD_WORDS + 2;
@@ -51,13 +52,13 @@ const NUMBERS: usize = 32_768;
 
 // A word of a slice becomes another.
 fn poke(h: &mut [u32], ws: &mut [u32], ks: &mut [u32], bs: &mut [u32], a: &[u32]) {
-    let i = word(a, 1);
+    let i = word(a, 1) as usize;
     let v = word(a, 2);
     match word(a, 0) {
-        0 => set(h, i, v),
-        1 => set(ws, i, v),
-        2 => set(ks, i, v),
-        _ => set(bs, i, v),
+        0 => words::put(h, i, v),
+        1 => words::put(ws, i, v),
+        2 => words::put(ks, i, v),
+        _ => words::put(bs, i, v),
     }
 }
 
@@ -106,7 +107,7 @@ fn on<W: Write>(
     to: &mut W,
     c: Call,
     env: &Env<'_>,
-    l: Lent,
+    l: Lent<'_>,
     h: &mut [u32],
     ws: &mut [u32],
     ks: &mut [u32],
@@ -119,10 +120,10 @@ fn on<W: Write>(
     let sh = first(o, there.head);
     let sw = first(after(o, NODES_AT), there.nodes);
     let sk = first(after(o, KIDS_AT), there.kids);
-    let x = upto(h, here.head);
-    let y = upto(ws, here.nodes);
-    let z = upto(ks, here.kids);
-    let b = upto(bs, here.names);
+    let x = here.head.min(h.len());
+    let y = here.nodes.min(ws.len());
+    let z = here.kids.min(ks.len());
+    let b = here.names.min(bs.len());
     call(
         to,
         c,
@@ -138,12 +139,11 @@ fn on<W: Write>(
     )
 }
 
-// The same, with what is lent of chart and texts among the list's numbers s.
+// The same, with the chart and the texts that are lent.
 fn act<W: Write>(
     to: &mut W,
-    s: &[u32],
     c: Call,
-    l: Lent,
+    l: Lent<'_>,
     h: &mut [u32],
     ws: &mut [u32],
     ks: &mut [u32],
@@ -153,69 +153,57 @@ fn act<W: Write>(
 ) -> io::Result<()> {
     let mut rule = [0u8; BYTES];
     let mut text = [0u8; BYTES];
-    let r = to_bytes(part(s, l.rule), &mut rule);
-    let t = to_bytes(part(s, l.text), &mut text);
-    let env = env_of(l, s, &rule[..r], &text[..t]);
+    let r = to_bytes(l.rule, &mut rule);
+    let t = to_bytes(l.text, &mut text);
+    let env = env_of(l, &rule[..r], &text[..t]);
     on(to, c, &env, l, h, ws, ks, bs, o, a)
 }
 
-// Where a call's numbers stand: behind its own and their count.
-fn behind(at: usize) -> usize {
-    if at < NUMBERS { at + 2 } else { at }
+// The first call's numbers: behind its own and their count.
+fn given(s: &[u32]) -> &[u32] {
+    first(after(s, 2), word(s, 1) as usize)
 }
 
-// The numbers of the call that stands there.
-fn given(s: &[u32], at: usize) -> &[u32] {
-    let rest = after(s, at);
-    first(after(rest, 2), word(rest, 1) as usize)
-}
-
-// Where the next call stands.
-fn next(s: &[u32], at: usize) -> usize
-    requires { at < length s.now }
-    ensures { at < result }
+// The calls behind the first.
+fn rest_of(s: &[u32]) -> &[u32]
+    requires { 0 < length s.now }
+    ensures { length result.now < length s.now }
 {
-    let n = word(after(s, at), 1) as usize;
-    let left = s.len() - at;
-    if left < 3 || left - 2 <= n {
-        s.len()
-    } else {
-        at + 2 + n
-    }
+    let n = 2 + word(s, 1) as usize;
+    &s[n.min(s.len())..]
 }
 
 // Words for those that stand in o from there on.
 fn exchange(x: &mut [u32], o: &mut [u32], from: usize) {
-    let at = upto(o, from);
+    let at = from.min(o.len());
     for (v, w) in x.iter_mut().zip(o[at..].iter_mut()) {
         std::mem::swap(v, w);
     }
 }
 
-// The call that stands there, on what is lent, and what is lent from now on. A number that is no call's does nothing.
-fn turn<W: Write>(
+// The first call, on what is lent, and what is lent from now on. A number that is no call's does nothing.
+fn turn<'a, W: Write>(
     to: &mut W,
-    s: &[u32],
-    at: usize,
-    l: Lent,
+    s: &'a [u32],
+    l: Lent<'a>,
     h: &mut [u32],
     ws: &mut [u32],
     ks: &mut [u32],
     bs: &mut [u32],
     o: &mut [u32],
-) -> io::Result<Lent> {
-    let a = given(s, at);
-    match Call::try_from(word(s, at)) {
+) -> io::Result<Lent<'a>> {
+    let a = given(s);
+    match Call::try_from(word(s, 0)) {
         Ok(Call::Lend(c)) => {
             if let Lending::Swap = c {
                 exchange(h, o, 0);
                 exchange(ws, o, NODES_AT);
                 exchange(ks, o, KIDS_AT);
             }
-            Ok(lend(c, l, behind(at), a))
+            Ok(lend(c, l, a))
         }
         Ok(c) => {
-            act(to, s, c, l, h, ws, ks, bs, o, a)?;
+            act(to, c, l, h, ws, ks, bs, o, a)?;
             Ok(l)
         }
         Err(NoCall) => Ok(l),
@@ -233,11 +221,11 @@ fn turns<W: Write>(
     o: &mut [u32],
 ) -> io::Result<()> {
     let mut l = nothing_lent();
-    let mut at = 0;
+    let mut rest = s;
     // Kept (3): the new form is no plainer: each call says itself how many numbers follow it, and so where the next one stands.
-    while at < s.len() {
-        l = turn(to, s, at, l, h, ws, ks, bs, o)?;
-        at = next(s, at);
+    while !rest.is_empty() {
+        l = turn(to, rest, l, h, ws, ks, bs, o)?;
+        rest = rest_of(rest);
     }
     Ok(())
 }

@@ -4,11 +4,12 @@ use call_new::{new, new_struct, new_union};
 use chart::Env;
 use lent_kind::KindArgs;
 use names::Name;
-use run_text::numbers::{after, upto, word};
+use run_text::numbers::after;
 use run_text::writing;
 use scope::MAX_NODES;
 use std::io;
 use std::io::Write;
+use words::word;
 
 #[derive(Clone, Copy)]
 pub(crate) enum Making {
@@ -51,7 +52,7 @@ fn new_vars<W: Write>(
     a: &[u32],
 ) -> io::Result<()> {
     let mut out = [0u32; MAX_NODES];
-    let room = upto(&out, word(a, 2) as usize);
+    let room = out.len().min(word(a, 2) as usize);
     let out = &mut out[..room];
     let n = word(a, 1);
     let r = call_make::new_vars(env, h, ws, ks, word(a, 0), n, out);

@@ -2,8 +2,9 @@
 use call_states::{drop_name, name_state, open_names, reset, return_to};
 use chart::Env;
 use refusals::Refusal;
-use run_text::numbers::{to_bytes, word};
+use run_text::numbers::to_bytes;
 use scope::MAX_STATE_NAME;
+use words::word;
 
 #[derive(Clone, Copy)]
 pub(crate) enum Naming {

@@ -3,11 +3,12 @@ use crate::joining::impl_of;
 use call_show::{show, show_impl_type, show_impl_type_part, show_part};
 use chart::Env;
 use refusals::Refusal;
-use run_text::numbers::{after, upto, word};
+use run_text::numbers::after;
 use run_text::writing;
 use std::io;
 use std::io::Write;
 use types::Type;
+use words::word;
 
 #[derive(Clone, Copy)]
 pub(crate) enum Printing {
@@ -34,10 +35,7 @@ fn bytes<W: Write>(to: &mut W, s: &[u8]) -> io::Result<()> {
 fn count<W: Write>(to: &mut W, a: Result<usize, Refusal>) -> io::Result<()> {
     match a {
         Ok(n) => write!(to, "length {n}"),
-        Err(r) => {
-            let n = u32::from(r);
-            write!(to, "refused {n}")
-        }
+        Err(r) => writing::refused(to, r),
     }
 }
 
@@ -91,6 +89,6 @@ pub(crate) fn call<W: Write>(
     a: &[u32],
 ) -> io::Result<()> {
     let mut buf = [DOT; ROOM];
-    let n = upto(&buf, word(a, 0) as usize);
+    let n = buf.len().min(word(a, 0) as usize);
     print(to, c, env, h, ws, ks, &mut buf[..n], a)
 }

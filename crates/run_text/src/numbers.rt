@@ -85,40 +85,21 @@ pub fn numbers(text: &[u8], out: &mut [u32]) -> usize {
     s.count
 }
 
-// Number i, or 0.
-pub fn word(s: &[u32], i: usize) -> u32 {
-    s.get(i).copied().unwrap_or(0)
-}
-
-// Number i becomes v, if it is there.
-pub fn set(s: &mut [u32], i: u32, v: u32) {
-    if let Some(w) = s.get_mut(i as usize) {
-        *w = v;
-    }
-}
-
 // The numbers from a on.
 pub fn after(s: &[u32], a: usize) -> &[u32] {
-    &s[upto(s, a)..]
+    &s[a.min(s.len())..]
 }
 
 // The first n numbers, or all.
 pub fn first(s: &[u32], n: usize) -> &[u32] {
-    &s[..upto(s, n)]
-}
-
-// How many of n there are.
-pub fn upto<T>(s: &[T], n: usize) -> usize
-    ensures { result ≤ length s.now }
-{
-    n.min(s.len())
+    &s[..n.min(s.len())]
 }
 
 // The numbers as bytes, and how many.
 pub fn to_bytes(s: &[u32], out: &mut [u8]) -> usize
     ensures { result ≤ length out.new }
 {
-    let n = upto(out, s.len());
+    let n = s.len().min(out.len());
     for (b, &w) in out.iter_mut().zip(s) {
         *b = (w % 256) as u8;
     }

@@ -1,7 +1,6 @@
 // What the public calls answer, as lines of text.
 use crate::numbers::first;
 use chart::Env;
-use force::Forced;
 use layout::{Header, Kind, TypeNode, TypeState};
 use names::Name;
 use refusals::Refusal;
@@ -14,10 +13,6 @@ pub fn say<W: Write>(to: &mut W, text: &[u8]) -> io::Result<()> {
     to.write_all(text)
 }
 
-pub fn number<W: Write>(to: &mut W, n: u32) -> io::Result<()> {
-    write!(to, "{n}")
-}
-
 pub fn line<W: Write>(to: &mut W) -> io::Result<()> {
     say(to, b"\n")
 }
@@ -25,19 +20,6 @@ pub fn line<W: Write>(to: &mut W) -> io::Result<()> {
 // The beginning of a case.
 pub fn case<W: Write>(to: &mut W, n: u32) -> io::Result<()> {
     writeln!(to, "case {n}")
-}
-
-fn inverse<W: Write>(to: &mut W, i: Inverted) -> io::Result<()> {
-    if i.0 { say(to, b"~") } else { Ok(()) }
-}
-
-pub fn typ<W: Write>(to: &mut W, t: Type) -> io::Result<()> {
-    inverse(to, t.inv())?;
-    number(to, t.idx().0)
-}
-
-fn flag<W: Write>(to: &mut W, b: bool) -> io::Result<()> {
-    if b { say(to, b"1") } else { say(to, b"0") }
 }
 
 // Numbers on a line of their own.
@@ -51,8 +33,8 @@ pub fn words<W: Write>(to: &mut W, s: &[u32]) -> io::Result<()> {
 pub fn types<W: Write>(to: &mut W, s: &[u32]) -> io::Result<()> {
     say(to, b"types")?;
     for &w in s {
-        say(to, b" ")?;
-        typ(to, Type(w))?;
+        let t = Type(w);
+        write!(to, " {t}")?;
     }
     line(to)
 }
@@ -69,12 +51,11 @@ pub fn marked<W: Write>(to: &mut W, marks: &[u8]) -> io::Result<()> {
 }
 
 pub fn refused<W: Write>(to: &mut W, r: Refusal) -> io::Result<()> {
-    let n = u32::from(r);
-    writeln!(to, "refused {n}")
+    write!(to, "refused {r}")
 }
 
-// What a call answered: its value, as it is told, or its refusal.
-fn answer<W: Write, T, F: FnOnce(&mut W, T) -> io::Result<()>>(
+// What a call answered: its value, as it is told, or its refusal, on a line of its own.
+pub fn answer<W: Write, T, F: FnOnce(&mut W, T) -> io::Result<()>>(
     to: &mut W,
     a: Result<T, Refusal>,
     tell: F,
@@ -83,7 +64,10 @@ fn answer<W: Write, T, F: FnOnce(&mut W, T) -> io::Result<()>>(
 {
     match a {
         Ok(x) => tell(to, x),
-        Err(r) => refused(to, r),
+        Err(r) => {
+            refused(to, r)?;
+            line(to)
+        }
     }
 }
 
@@ -102,17 +86,13 @@ pub fn listed<W: Write>(
 }
 
 pub fn type_answer<W: Write>(to: &mut W, a: Result<Type, Refusal>) -> io::Result<()> {
-    answer(to, a, |to, t| {
-        say(to, b"=")?;
-        typ(to, t)?;
-        line(to)
-    })
+    answer(to, a, |to, t| writeln!(to, "={t}"))
 }
 
 pub fn bool_answer<W: Write>(to: &mut W, a: Result<bool, Refusal>) -> io::Result<()> {
     answer(to, a, |to, b| {
-        flag(to, b)?;
-        line(to)
+        let n = u32::from(b);
+        writeln!(to, "{n}")
     })
 }
 
@@ -134,7 +114,7 @@ pub fn mod_answer<W: Write>(to: &mut W, a: Result<Mod, Refusal>) -> io::Result<(
 
 fn type_or_none<W: Write>(to: &mut W, t: Option<Type>) -> io::Result<()> {
     match t {
-        Some(t) => typ(to, t),
+        Some(t) => write!(to, "{t}"),
         None => say(to, b"none"),
     }
 }
@@ -170,8 +150,8 @@ pub fn name_answer<W: Write>(
 // A child's type, and its name if it has one.
 fn child<W: Write>(to: &mut W, ks: &[u32], k: Kind, j: u32, env: &Env<'_>) -> io::Result<()> {
     let s = layout::child_of(ks, k.first, j);
-    say(to, b" ")?;
-    typ(to, s.ty)?;
+    let t = s.ty;
+    write!(to, " {t}")?;
     if s.name.len != 0 {
         name(to, s.name, env)?;
     }
@@ -207,8 +187,7 @@ fn root<W: Write>(to: &mut W, size: u32) -> io::Result<()> {
 }
 
 fn known<W: Write>(to: &mut W, ks: &[u32], i: Inverted, k: Kind, env: &Env<'_>) -> io::Result<()> {
-    say(to, b"known ")?;
-    inverse(to, i)?;
+    write!(to, "known {i}")?;
     kind(to, ks, k, env)
 }
 
@@ -232,10 +211,7 @@ pub fn node_answer<W: Write>(
                 root(to, size)?;
                 state(to, ks, s, env)?;
             }
-            TypeNode::Child(t) => {
-                say(to, b"child ")?;
-                typ(to, t)?;
-            }
+            TypeNode::Child(t) => write!(to, "child {t}")?,
         }
         line(to)
     })
@@ -248,18 +224,18 @@ fn no_kind<W: Write>(to: &mut W) -> io::Result<()> {
 
 pub fn forced_answer<W: Write>(
     to: &mut W,
-    a: Result<Forced, Refusal>,
+    a: Result<TypeState, Refusal>,
     ks: &[u32],
     env: &Env<'_>,
 ) -> io::Result<()> {
     answer(to, a, |to, found| {
         match found {
-            Forced::Known(i, k) => known(to, ks, i, k, env)?,
-            Forced::Reported(span) => {
+            TypeState::Known(i, k) => known(to, ks, i, k, env)?,
+            TypeState::Unknown(span) => {
                 no_kind(to)?;
                 write!(to, " reported {span}")?;
             }
-            Forced::Failed => no_kind(to)?,
+            TypeState::InferenceFailed => no_kind(to)?,
         }
         line(to)
     })

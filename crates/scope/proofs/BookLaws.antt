@@ -16,7 +16,7 @@ use Rattle.scope.specs.Sound.{reads, sound_store}
 use Rattle.scope.specs.Calls.{Outcome, refused, done}
 use Rattle.scope.specs.States.{Book, reads_book, blank, is_held, place_where, place_for, under, store_under, name_length, same_room, place_sound, names_differ, book_sound}
 use Rattle.scope.specs.States.{book_tests, wrong_length, unheld, no_place, named, name_state_call, keep_reports, return_to_call, dropped, drop_name_call, reset_names_call}
-use Rattle.scope.proofs.TestLaws.{and_left, and_right, both_true, or_no}
+use Rattle.scope.proofs.TestLaws.{and_left, and_right, and_both, or_no}
 use Rattle.scope.proofs.Steps.{judged_cases}
 use Rattle.scope.proofs.PlaceLaws.{place_at, Apart, differ_apart, apart_differ, For, Holds, held_place, place_for_lem}
 
@@ -43,8 +43,8 @@ book_facts e s b h = record {
 
 pub facts_book : (e : Env) (s : Store) (b : Book) → BookFacts e s b → book_sound e s b ≡ true
 unfolding book_sound
-facts_book e s b f = both_true _ _ (eq-eqb (length b.places) MAX_STATES f.eight)
-    (both_true _ _ f.room (both_true _ _ f.each (apart_differ b.places f.apart)))
+facts_book e s b f = and_both _ _ (eq-eqb (length b.places) MAX_STATES f.eight)
+    (and_both _ _ f.room (and_both _ _ f.each (apart_differ b.places f.apart)))
 
 -- what every one of these calls has tested
 pub record Tested (e : Env) (s : Store) (b : Book) : Type 0 where

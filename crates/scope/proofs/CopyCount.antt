@@ -17,7 +17,7 @@ use Rattle.scope.specs.Types.{Ty}
 use Rattle.scope.specs.Nodes.{Node, Store, at, state_of, state_at, find, kids_of}
 use Rattle.scope.specs.Sound.{falls}
 use Rattle.scope.specs.Import.{Work, copy_of, Replaced, keep, missing_entry, entry, replaced, start, import, reaches_state, reaches, copies}
-use Rattle.scope.proofs.TestLaws.{of-all, any_yes, yes_any}
+use Rattle.scope.proofs.TestLaws.{of-all, any_yes, yes_any, same_bool}
 use Rattle.scope.proofs.Extend.{Extends, extends_tail}
 use Rattle.scope.proofs.Mapping.{Source, held, Tally, tnil, tcons, Maps, copy_maps, copy_none}
 use Rattle.scope.proofs.Copy.{Reach, here, below, Became, as_copy, as_entry, lost, Ok, PostAll, import_ok}
@@ -114,11 +114,6 @@ count_maps (tcons {p = p} {l = l} f q t) n h =
     split r true e = omega (arith, ap (λ (o : Option ℕ). unit (is_some o)) (ap (copy_of l) (sym (eqb-true p.0 r e)) ∙ f))
     split r false e = omega arith
 
-bool_same : (a b : Bool) → (a ≡ true → b ≡ true) → (b ≡ true → a ≡ true) → a ≡ b
-bool_same true b f g = sym (f refl)
-bool_same false true f g = g refl
-bool_same false false f g = refl
-
 some_of : (l : List (ℕ × ℕ)) (r : ℕ) → is_some (copy_of l r) ≡ true → (m : ℕ) × Maps l r m
 some_of l r e = go (copy_of l r) refl e
   where
@@ -181,7 +176,7 @@ module _ (ns : List Node) (ps : Option (List Ty)) (s : Store) (ts : List Ty) (sr
   -- a root is reached if it was copied
   maps_reaches : (w : Work) → PostAll ns ps s [] (start s) ts (record { work = w; types = (import ns ps s ts).types }) → w.missing ≡ false
       → (n : ℕ) → reaches (length ns) ns ps n ts ≡ is_some (copy_of w.mapping n)
-  maps_reaches w p miss n = bool_same (reaches (length ns) ns ps n ts) (is_some (copy_of w.mapping n)) to back
+  maps_reaches w p miss n = same_bool (reaches (length ns) ns ps n ts) (is_some (copy_of w.mapping n)) to back
     where
       to : reaches (length ns) ns ps n ts ≡ true → is_some (copy_of w.mapping n) ≡ true
       to e =

@@ -17,7 +17,7 @@ use Rattle.scope.specs.Nodes.{Node, find_mut}
 use Rattle.scope.specs.Answers.{Answer, Success, Failure, Indeterminate}
 use Rattle.scope.specs.Recall.{Note, Memory, visited_at, moved, changed, near, found, speaks, told, look, started, noting, noted, note, settled}
 use Rattle.scope.specs.Visits.{pairs_of}
-use Rattle.scope.proofs.TestLaws.{tf, both_true}
+use Rattle.scope.proofs.TestLaws.{tf, and_both}
 use Rattle.scope.proofs.Free.{memb, memb_rest}
 use Rattle.scope.proofs.Paths.{Forest, near_stays}
 use Rattle.scope.proofs.Changes.{changes_left, find_mut_fewer}
@@ -206,7 +206,7 @@ settled_told m c a b r le = go r
 
         off : (d : Dec (c ≡ 0)) → noting m.clock c ≡ false → m.clock ≡ c → (c ≡ 0) ⊎ (silent m a b ≡ false)
         off (yes z) q e = inl z
-        off (no z) q e = tf (sym (both_true _ _ (eq-eqb m.clock c e) (started_on c z)) ∙ q)
+        off (no z) q e = tf (sym (and_both _ _ (eq-eqb m.clock c e) (started_on c z)) ∙ q)
 
         on : (v : Bool) → noting m.clock c ≡ v → (pick v (noted m a b r) m).clock ≡ c → (c ≡ 0) ⊎ (silent (pick v (noted m a b r) m) a b ≡ false)
         on true q e = inr (here (told m.clock (new ∷ m.notes) a b) refl)

@@ -10,7 +10,7 @@ use lib.ListN.{length}
 use Rattle.scope.specs.Chart.{Env}
 use Rattle.scope.specs.Types.{Ty}
 use Rattle.scope.specs.Kinds.{TUPLE, ERROR}
-use Rattle.scope.specs.Nodes.{Kind, State, Known, Unknown, Node, Store, at, state_of}
+use Rattle.scope.specs.Nodes.{Kind, State, Known, Unknown, Node, Store, at, state_of, remembering}
 use Rattle.scope.specs.Make.{push, pushed, next_type, new, new_var, new_vars, bare, make_error, make_nil, again, remember_error, remember_nil}
 use Rattle.scope.specs.Calls.{nodes_for}
 use Rattle.scope.proofs.PlanLaws.{Makeable}
@@ -18,7 +18,7 @@ use Rattle.scope.proofs.View.{known, seen, view}
 use Rattle.scope.proofs.ViewLaws.{same?, not_known, Fine}
 use Rattle.scope.proofs.Extend.{ext_forest, ext_shallow, ext_sized}
 use Rattle.scope.proofs.Push.{push_len, push_new, push_old, push_extends, push_good}
-use Rattle.scope.proofs.SoundLaws.{SoundNodes, nodes_held, SoundFacts}
+use Rattle.scope.proofs.SoundLaws.{Remembers, SoundNodes, nodes_held, SoundFacts}
 use Rattle.scope.proofs.SoundKept.{Kept, kept_same, error_fine, nil_fine, fine_more, remembers_more}
 
 module _ (e : Env) where
@@ -90,6 +90,21 @@ module _ (e : Env) where
   new_remembered : (ns : List Node) (st : State) (n : ℕ) → n ≡ length ns → (t u : Ty) → t.idx ≡ n → some t ≡ some u → u.idx < length (push ns st)
   new_remembered ns st n q t u w r = let z : t ≡ u = cc in omega (arith, push_len ns st, ap (λ (x : Ty). x.idx) z)
 
+  remembering_kept : {s s' : Store} {x y : Option Ty} → Kept e s s' → Remembers (length s'.nodes) x → Remembers (length s'.nodes) y → Kept e s (remembering s' x y)
+  remembering_kept k hx hy = record {
+    facts = record {
+      nodes = k.facts.nodes;
+      error = hx;
+      nil = hy;
+      node_limit = k.facts.node_limit;
+      child_limit = k.facts.child_limit;
+      node_room_lem = k.facts.node_room_lem;
+      child_room_lem = k.facts.child_room_lem;
+    };
+    shallow = k.shallow;
+    room = record { nodes = k.room.nodes; children = k.room.children };
+  }
+
   pub error_kept : (s : Store) → SoundFacts e s → length s.nodes + nodes_for s.error ≤ s.node_room → Kept e s (make_error s).store
   unfolding make_error new
   error_kept s ok h = go s.error h
@@ -98,19 +113,7 @@ module _ (e : Env) where
       go (some t) h = kept_same ok
       go none h =
           let k = new_kept s (bare ERROR) ok (error_fine e) h (omega (arith, ok.child_room_lem)) in
-          record {
-            facts = record {
-              nodes = k.facts.nodes;
-              error = λ t q. new_remembered s.nodes (Known false (bare ERROR)) (length s.nodes) refl (next_type s) t refl q;
-              nil = k.facts.nil;
-              node_limit = k.facts.node_limit;
-              child_limit = k.facts.child_limit;
-              node_room_lem = k.facts.node_room_lem;
-              child_room_lem = k.facts.child_room_lem;
-            };
-            shallow = k.shallow;
-            room = record { nodes = refl; children = refl };
-          }
+          remembering_kept k (λ t q. new_remembered s.nodes (Known false (bare ERROR)) (length s.nodes) refl (next_type s) t refl q) k.facts.nil
 
   pub nil_kept : (s : Store) → SoundFacts e s → length s.nodes + nodes_for s.nil ≤ s.node_room → Kept e s (make_nil s).store
   unfolding make_nil new
@@ -120,16 +123,4 @@ module _ (e : Env) where
       go (some t) h = kept_same ok
       go none h =
           let k = new_kept s (bare TUPLE) ok (nil_fine e) h (omega (arith, ok.child_room_lem)) in
-          record {
-            facts = record {
-              nodes = k.facts.nodes;
-              error = k.facts.error;
-              nil = λ t q. new_remembered s.nodes (Known false (bare TUPLE)) (length s.nodes) refl (next_type s) t refl q;
-              node_limit = k.facts.node_limit;
-              child_limit = k.facts.child_limit;
-              node_room_lem = k.facts.node_room_lem;
-              child_room_lem = k.facts.child_room_lem;
-            };
-            shallow = k.shallow;
-            room = record { nodes = refl; children = refl };
-          }
+          remembering_kept k k.facts.error (λ t q. new_remembered s.nodes (Known false (bare TUPLE)) (length s.nodes) refl (next_type s) t refl q)

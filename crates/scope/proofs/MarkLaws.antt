@@ -17,10 +17,10 @@ use Rattle.scope.specs.Nodes.{Kind, State, Known, Unknown, InferenceFailed, Node
 use Rattle.scope.specs.Unify.{occurs, self_inverse_at, self_inverse_of}
 use Rattle.scope.specs.Force.{find_related}
 use Rattle.scope.proofs.Laws.{find_root}
-use Rattle.scope.proofs.View.{VState, known, View, Kid, Below, one, more, Fin, fin, seen, view}
+use Rattle.scope.proofs.View.{known, View, Kid, Below, one, more, Fin, fin, seen, view}
 use Rattle.scope.proofs.Chain.{Chain, cnil, chain_step, fuel_out, fuel_step}
 use Rattle.scope.proofs.ViewLaws.{same?, idx_eq, not_known, below_join}
-use Rattle.scope.proofs.TestLaws.{tf}
+use Rattle.scope.proofs.TestLaws.{tf, same_bool}
 use Rattle.scope.proofs.Free.{free, free_nil}
 use Rattle.scope.proofs.Grow.{ri, Self, self}
 use Rattle.scope.proofs.Occurs.{param_dual}
@@ -83,12 +83,6 @@ module _ {ns : List Node} (w : Walkable ns) where
       into : Reach (view ns) (find ns t).idx i → Reached ns ms (find ns t).idx i
       into (inl e) = subst (Reached ns ms (find ns t).idx) e first
       into (inr b) = below_reached z first b
-
--- tests
-same_bool : (a b : Bool) → (a ≡ true → b ≡ true) → (b ≡ true → a ≡ true) → a ≡ b
-same_bool true b p q = sym (p refl)
-same_bool false true p q = q refl
-same_bool false false p q = refl
 
 any_yes : (p : Ty → Bool) (xs : List Ty) → any p xs ≡ true → (x : Ty) × Memᴰ x xs × (p x ≡ true)
 any_yes p [] e = tf (sym e)

@@ -12,7 +12,7 @@ use lib.Seq.{get_or-set_same, get_or-set_other}
 use borrow.Author.Tests.{not-true, not-false}
 use Rattle.scope.specs.Base.{pick, all, any}
 use Rattle.scope.specs.States.{Named, Place, is_free, under, is_held, place_where, place_for, held_once, names_differ, no_place}
-use Rattle.scope.proofs.TestLaws.{tf, and_left, and_right, both_true, or_no, or-true}
+use Rattle.scope.proofs.TestLaws.{tf, and_left, and_right, and_both, or_no, or-true}
 use Rattle.scope.proofs.NameLaws.{eq_bytes_lem, bytes_eq}
 
 -- the place at i; past the last one a free one
@@ -89,7 +89,7 @@ apart_once (some h) xs a = go (is_held h.name xs) refl
 
 pub apart_differ : (ps : List Place) → Apart ps → names_differ ps ≡ true
 apart_differ [] a = refl
-apart_differ (x ∷ xs) a = both_true (held_once x xs) (names_differ xs) (apart_once x xs a)
+apart_differ (x ∷ xs) a = and_both (held_once x xs) (names_differ xs) (apart_once x xs a)
     (apart_differ xs (λ i j h k q w r. omega (arith, a (suc i) (suc j) h k q w r)))
 
 -- a place given another content
@@ -157,8 +157,8 @@ all_places p z (x ∷ xs) e (suc i) = all_places p z xs (and_right (p x) (all p 
 
 pub all_set : (p : Place → Bool) (ps : List Place) (i : ℕ) (x : Place) → all p ps ≡ true → p x ≡ true → all p (set ps i x) ≡ true
 all_set p [] i x e q = refl
-all_set p (y ∷ ys) zero x e q = both_true (p x) (all p ys) q (and_right (p y) (all p ys) e)
-all_set p (y ∷ ys) (suc i) x e q = both_true (p y) (all p (set ys i x)) (and_left (p y) (all p ys) e) (all_set p ys i x (and_right (p y) (all p ys) e) q)
+all_set p (y ∷ ys) zero x e q = and_both (p x) (all p ys) q (and_right (p y) (all p ys) e)
+all_set p (y ∷ ys) (suc i) x e q = and_both (p y) (all p (set ys i x)) (and_left (p y) (all p ys) e) (all_set p ys i x (and_right (p y) (all p ys) e) q)
 
 -- the place found under n does not change where another one is given a content that is not n's
 pub set_other : (n : List ℕ) (ps : List Place) (i : ℕ) (x : Place) → under n (place_at ps i) ≡ false → under n x ≡ false

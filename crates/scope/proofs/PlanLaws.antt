@@ -67,7 +67,7 @@ pub record Agrees (x : Texts) (k m : Kind) (i : Bool) (l : Plan) : Type 0 where
   pub crossed : i ≡ true → crosses k.head ≡ true
 
 -- what can be made of an Object's and a Key's names
-names_made : (x : Texts) (h : Head) (n : ℕ) → makeable x h n ≡ true → names_ok x (row_of h.code).names h.names n ≡ true
+pub names_made : (x : Texts) (h : Head) (n : ℕ) → makeable x h n ≡ true → names_ok x (row_of h.code).names h.names n ≡ true
 unfolding makeable
 names_made x h n q =
     let r : Row = row_of h.code in

@@ -16,7 +16,7 @@ use Rattle.scope.specs.Nodes.{Node, find_mut}
 use Rattle.scope.specs.Answers.{Answer}
 use Rattle.scope.specs.Unify.{out, meet, unify_f}
 use Rattle.scope.specs.Recall.{Note, Memory, begun, visited_at, visited, moved, changed, near, found, same_type, speaks, told, look, started, noting, noted, note}
-use Rattle.scope.proofs.TestLaws.{tf, and_left, and_right, both_true, eq_bool_lem, eq_bool_same}
+use Rattle.scope.proofs.TestLaws.{tf, and_left, and_right, and_both, eq_bool_lem, eq_bool_same}
 use Rattle.scope.proofs.Paths.{near_stays}
 
 -- the two roots at a depth that is enough wherever they are met
@@ -162,10 +162,10 @@ found_told c [] a b t m w p r e = elim m [ ]
 found_told c (u ∷ ts) a b t (Memᴰ.head q) w p r e = let z : ◌≡◌ {A = ℕ} 0 1 = cc (spoken ∙ e) in omega arith
   where
     type_same : (v : Ty) → same_type v v ≡ true
-    type_same v = both_true _ _ (eq_bool_same v.inv) (eq-eqb v.idx v.idx refl)
+    type_same v = and_both _ _ (eq_bool_same v.inv) (eq-eqb v.idx v.idx refl)
 
     says : speaks c a b u ≡ true
-    says = subst (λ (v : Note). speaks c a b v ≡ true) q (rw (p, r) (both_true _ _ (eq-eqb t.when c w) (both_true _ _ (type_same a) (type_same b))))
+    says = subst (λ (v : Note). speaks c a b v ≡ true) q (rw (p, r) (and_both _ _ (eq-eqb t.when c w) (and_both _ _ (type_same a) (type_same b))))
 
     spoken : some u.answer ≡ told c (u ∷ ts) a b
     spoken = rw says refl

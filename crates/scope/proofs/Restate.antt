@@ -155,7 +155,7 @@ finish_node_lem true (Root InferenceFailed z) = default_of refl
 finish_node_lem false (Root InferenceFailed z) = kept
 finish_node_lem b (Child t) = kept
 
-where_len : (bs : List ℕ) (ns : List Node) → length (finish_where bs ns) ≡ length ns
+pub where_len : (bs : List ℕ) (ns : List Node) → length (finish_where bs ns) ≡ length ns
 unfolding finish_where
 where_len bs [] = refl
 where_len [] (x ∷ ns) = refl

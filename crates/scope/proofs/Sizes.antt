@@ -18,7 +18,7 @@ use Rattle.scope.specs.Types.{Ty, ty, flip}
 use Rattle.scope.specs.Nodes.{Node, Root, Child, at, is_root, size_of}
 use Rattle.scope.specs.Sound.{rooted, rooted_node, tree_size}
 use Rattle.scope.specs.Demand.{sizes}
-use Rattle.scope.proofs.TestLaws.{and_left, and_right, both_true}
+use Rattle.scope.proofs.TestLaws.{and_left, and_right, and_both}
 use Rattle.scope.proofs.View.{View, VState, link, view}
 use Rattle.scope.proofs.ViewLaws.{same?, sel_yes, sel_no, rep_hit, rep_miss}
 use Rattle.scope.proofs.Paths.{Leads, top, up, leads_inside, Lead, Forest, rep_inside}
@@ -27,7 +27,7 @@ use Rattle.scope.proofs.Merge.{Shallow}
 -- every number of a run passes a test
 pub all_from : (p : ℕ → Bool) (i n : ℕ) → ((j : ℕ) → i ≤ j → j < i + n → p j ≡ true) → all p (from i n) ≡ true
 all_from p i zero h = refl
-all_from p i (suc n) h = both_true (p i) (all p (from (suc i) n)) (h i (omega arith) (omega arith)) (all_from p (suc i) n (λ j a b. h j (omega arith) (omega arith)))
+all_from p i (suc n) h = and_both (p i) (all p (from (suc i) n)) (h i (omega arith) (omega arith)) (all_from p (suc i) n (λ j a b. h j (omega arith) (omega arith)))
 
 pub from_all : (p : ℕ → Bool) (i n : ℕ) → all p (from i n) ≡ true → (j : ℕ) → i ≤ j → j < i + n → p j ≡ true
 from_all p i zero e j a b = absurd (omega arith)

@@ -17,7 +17,7 @@ use Rattle.scope.specs.Kinds.{makeable, defined, flag_is}
 use Rattle.scope.specs.Nodes.{Kind, Known, Unknown, InferenceFailed, Node, Root, Child, Store, at, state_of, size_of}
 use Rattle.scope.specs.Sound.{in_store, rooted, falls, tree_size, size_is, kind_sound, node_sound, remembered, room_sound, shape_sound, sound_store}
 use Rattle.scope.proofs.View.{known, Fin, fin, Good, seen, view}
-use Rattle.scope.proofs.TestLaws.{and_left, and_right, both_true, all_of, of-all}
+use Rattle.scope.proofs.TestLaws.{and_left, and_right, and_both, all_of, of-all}
 use Rattle.scope.proofs.PlanLaws.{Makeable}
 use Rattle.scope.proofs.ViewLaws.{not_known, Kinds, Held, Fine}
 use Rattle.scope.proofs.Paths.{beyond, not_child, Forest, leads_short, rep_idem, rep_root}
@@ -54,7 +54,7 @@ at_all p (x ∷ xs) d e (suc n) h = at_all p xs d (and_right (p x) (all p xs) e)
 
 all_at : {A : Type 0} (p : A → Bool) (xs : List A) (d : A) → ((n : ℕ) → n < length xs → p (get_or xs n d) ≡ true) → all p xs ≡ true
 all_at p [] d h = refl
-all_at p (x ∷ xs) d h = both_true (p x) (all p xs) (h 0 (omega arith)) (all_at p xs d (λ n q. h (suc n) (omega arith)))
+all_at p (x ∷ xs) d h = and_both (p x) (all p xs) (h 0 (omega arith)) (all_at p xs d (λ n q. h (suc n) (omega arith)))
 
 -- a kind, by its test and by its facts
 kind_fine : (e : Env) (ns : List Node) (k : Kind) → kind_sound e ns k ≡ true → Fine (length ns) (Makeable e) k
@@ -74,7 +74,7 @@ kind_fine e ns k h =
 fine_kind : (e : Env) (ns : List Node) (k : Kind) → Fine (length ns) (Makeable e) k → kind_sound e ns k ≡ true
 unfolding kind_sound
 fine_kind e ns k o =
-    both_true _ _ o.made.made (both_true _ _ o.made.def (both_true _ _ o.made.flag
+    and_both _ _ o.made.made (and_both _ _ o.made.def (and_both _ _ o.made.flag
     (all_of (in_store ns) k.kids (λ t w. lt-ltb t.idx (length ns) (o.kids t w)))))
 
 -- a node that is no root has no tree
@@ -151,9 +151,9 @@ sound_size e ns ok n h = go (at ns n) refl
 
 sound_shape : (e : Env) (ns : List Node) → SoundNodes e ns → shape_sound ns ≡ true
 unfolding shape_sound
-sound_shape e ns ok = both_true _ _
+sound_shape e ns ok = and_both _ _
     (all_from (rooted (length ns) ns) 0 (length ns) (λ i a b. let l = ok.forest.lead i (omega arith) in leads_rooted (length ns) l.path (leads_short l.path)))
-    (both_true _ _
+    (and_both _ _
     (all_from (λ i. size_is ns i (at ns i)) 0 (length ns) (λ i a b. sound_size e ns ok i (omega arith)))
     (all_from (falls (length ns) ns) 0 (length ns)
     (λ i a b. good_falls ns ok.forest ok.good (nodes_held ok) i (omega arith))))
@@ -233,8 +233,8 @@ sound_facts e s h = record {
 -- and back
 pub facts_sound : (e : Env) (s : Store) → SoundFacts e s → sound_store e s ≡ true
 unfolding sound_store room_sound
-facts_sound e s ok = both_true _ _
-    (both_true _ _ (le-leb s.node_room MAX_NODES ok.node_limit) (both_true _ _ (le-leb s.child_room MAX_CHILDREN ok.child_limit)
-    (both_true _ _ (le-leb (length s.nodes) s.node_room ok.node_room_lem) (le-leb s.children s.child_room ok.child_room_lem))))
-    (both_true _ _ (all_at (node_sound e s.nodes) s.nodes beyond (λ n h. sound_node e s.nodes ok.nodes n))
-    (both_true _ _ (in_remembered s.nodes s.error ok.error) (both_true _ _ (in_remembered s.nodes s.nil ok.nil) (sound_shape e s.nodes ok.nodes))))
+facts_sound e s ok = and_both _ _
+    (and_both _ _ (le-leb s.node_room MAX_NODES ok.node_limit) (and_both _ _ (le-leb s.child_room MAX_CHILDREN ok.child_limit)
+    (and_both _ _ (le-leb (length s.nodes) s.node_room ok.node_room_lem) (le-leb s.children s.child_room ok.child_room_lem))))
+    (and_both _ _ (all_at (node_sound e s.nodes) s.nodes beyond (λ n h. sound_node e s.nodes ok.nodes n))
+    (and_both _ _ (in_remembered s.nodes s.error ok.error) (and_both _ _ (in_remembered s.nodes s.nil ok.nil) (sound_shape e s.nodes ok.nodes))))

@@ -17,7 +17,7 @@ use Rattle.scope.specs.Sound as Sound
 use Rattle.scope.specs.Calls.{Outcome}
 use Rattle.scope.specs.States.{Named, Place, Book, blank, with_places, place_where, under, store_under, name_length, same_room, place_sound, book_sound, keep_reports}
 use Rattle.scope.specs.StatesDemand.{Naming, StateCall, call, naming, name, return_to, drop, reset, Desk, desk, outcome_on, left, next_desk, after_desk}
-use Rattle.scope.proofs.TestLaws.{and_left, and_right, both_true}
+use Rattle.scope.proofs.TestLaws.{and_left, and_right, and_both}
 use Rattle.scope.proofs.SoundLaws.{sound_facts, facts_sound}
 use Rattle.scope.proofs.SoundKept.{Roomed, opened_facts, reset_kept}
 use Rattle.scope.proofs.Reached.{next_kept}
@@ -36,7 +36,7 @@ places_same : (e : Env) (b : Book) (qs ps : List Place) → all (place_sound e b
 places_same e b qs [] h = refl
 places_same e b qs (none ∷ ps) h = places_same e b qs ps h
 places_same e b qs (some x ∷ ps) h =
-    both_true (place_sound e b (some x)) _ (and_left (place_sound e b (some x)) (all (place_sound e b) ps) h)
+    and_both (place_sound e b (some x)) _ (and_left (place_sound e b (some x)) (all (place_sound e b) ps) h)
     (places_same e b qs ps (and_right (place_sound e b (some x)) (all (place_sound e b) ps) h))
 
 module _ (e : Env) (s : Store) (b : Book) (t : Tested e s b) where
@@ -54,7 +54,7 @@ module _ (e : Env) (s : Store) (b : Book) (t : Tested e s b) where
   }
 
   named_sound : (n : List ℕ) → name_length n ≡ true → place_sound e b (some (record { name = n; store = s })) ≡ true
-  named_sound n w = both_true (name_length n) _ w (both_true (same_room s b) (sound_store e s) t.book.room t.store)
+  named_sound n w = and_both (name_length n) _ w (and_both (same_room s b) (sound_store e s) t.book.room t.store)
 
   -- a held store
   held_sound : (n : List ℕ) → HeldAt n b → place_sound e b (place_at b.places (place_where (under n) b.places)) ≡ true
@@ -94,7 +94,7 @@ module _ (e : Env) (d : Desk) (ok : SoundDesk e d) where
       set_facts e d.store d.book t n _ none a.place (λ h q. absurd (not_held q)) refl)
   naming_sound reset = reset_cases e d.store d.book Left (λ k. ok) (λ t. record {
     store = facts_sound e (Force.reset d.store) (reset_kept e d.store (sound_facts e d.store t.store)).facts;
-    book = both_true (same_room d.store d.book) true t.book.room refl;
+    book = and_both (same_room d.store d.book) true t.book.room refl;
   })
 
   pub next_sound : (c : StateCall) → SoundDesk e (next_desk e d c)
@@ -117,5 +117,5 @@ pub opened_sound : (e : Env) (n c : ℕ) → n ≤ MAX_NODES → c ≤ MAX_CHILD
 unfolding book_sound
 opened_sound e n c hn hc = record {
   store = facts_sound e (opened n c) (opened_facts e n c hn hc);
-  book = both_true (same_room (opened n c) (blank n c)) true (both_true (eqb n n) (eqb c c) (eq-eqb n n refl) (eq-eqb c c refl)) refl;
+  book = and_both (same_room (opened n c) (blank n c)) true (and_both (eqb n n) (eqb c c) (eq-eqb n n refl) (eq-eqb c c refl)) refl;
 }

@@ -19,8 +19,8 @@ pub and_right : (a b : Bool) → (a && b) ≡ true → b ≡ true
 and_right true b e = e
 and_right false b e = tf (sym e)
 
-pub both_true : (a b : Bool) → a ≡ true → b ≡ true → (a && b) ≡ true
-both_true a b p q = rw (p, q)
+pub and_both : (a b : Bool) → a ≡ true → b ≡ true → (a && b) ≡ true
+and_both a b p q = rw (p, q)
 
 pub or_no : (a b : Bool) → (a || b) ≡ false → (a ≡ false) × (b ≡ false)
 or_no true b e = tf e
@@ -43,7 +43,7 @@ eq_bool_same false = refl
 -- each element
 pub all_of {ℓ} : {A : Type ℓ} (p : A → Bool) (xs : List A) → ((x : A) → Memᴰ x xs → p x ≡ true) → all p xs ≡ true
 all_of p [] h = refl
-all_of p (x ∷ xs) h = both_true (p x) (all p xs) (h x (Memᴰ.head refl)) (all_of p xs (λ y m. h y (Memᴰ.tail m)))
+all_of p (x ∷ xs) h = and_both (p x) (all p xs) (h x (Memᴰ.head refl)) (all_of p xs (λ y m. h y (Memᴰ.tail m)))
 
 pub of-all {ℓ} : {A : Type ℓ} (p : A → Bool) (xs : List A) {x : A} → all p xs ≡ true → Memᴰ x xs → p x ≡ true
 of-all p [] e m = elim m [ ]
@@ -82,7 +82,7 @@ any_no p (y ∷ ys) e (Memᴰ.head q) = ap p q ∙ (or_no (p y) (any p ys) e).0
 any_no p (y ∷ ys) e (Memᴰ.tail m) = any_no p ys (or_no (p y) (any p ys) e).1 m
 
 -- how many: one for each that passes
-one_le : (a b : Bool) → (a ≡ true → b ≡ true) → pick a 1 0 ≤ pick b 1 0
+pub one_le : (a b : Bool) → (a ≡ true → b ≡ true) → pick a 1 0 ≤ pick b 1 0
 one_le false b h = omega arith
 one_le true true h = omega arith
 one_le true false h = tf (sym (h refl))
@@ -107,3 +107,9 @@ count_apart p q h (x ∷ xs) = omega (arith, go (p x) (q x) (h x), count_apart p
     go false true f = omega arith
     go true false f = omega arith
     go true true f = tf (f refl)
+
+-- tests
+pub same_bool : (a b : Bool) → (a ≡ true → b ≡ true) → (b ≡ true → a ≡ true) → a ≡ b
+same_bool true b p q = sym (p refl)
+same_bool false true p q = q refl
+same_bool false false p q = refl

@@ -10,15 +10,12 @@ use native.Mathlib.Omega.{arith}
 use borrow.Author.Count.{below_more}
 use borrow.Author.Tests.{eq-eqb, ne_eqb}
 use lib.Dec.{eqb}
-use lib.ListN.{length, get_or, set, length-set, replicate}
-use lib.Seq.{get_or-set_same, get_or-set_other}
+use lib.ListN.{length, get_or, set, take, length-set, length-take, replicate}
+use lib.Seq.{get_or-set_same, get_or-set_other, get_or-take}
 use Rattle.scope.specs.Base.{pick}
 use Rattle.scope.specs.Limits.{MAX_NODES}
-use Rattle.types.specs.declared.TypeIdx.{TypeIdx}
 use Rattle.layout.proofs.Lists.{all_stop, all_done}
-use Rattle.shape.specs.declared.Up.{Up}
-use Rattle.shape.specs.declared.Up.TheVariants.{Root, Parent}
-use Rattle.shape.specs.Walks.{ends, upward, Leads, here, more}
+use Rattle.shape.specs.Walks.{ends, Up, Root, Parent, upward, Leads, here, more}
 use Rattle.shape.specs.Read.{ups, root_of, tallied}
 use Rattle.shape.specs.Asks.{ParentsInside, TrueRoots, Climbs, Climbed, ClimbedAll, Rooted, Tallies}
 use Rattle.shape.proofs.Tables.{zeros, blank_long, stored_by}
@@ -58,19 +55,19 @@ module _ (p : ℕ → Up) where
       }
 
   -- a node with a parent: its climb fails where the parent's does, and else it has the parent's root
-  module _ {roots₀ roots : List ℕ} {depth v : ℕ} {u : TypeIdx} {r : Bool} (deep : depth ≡ 0 → ⊥) (up : p v ≡ Parent u) (w : Climbed p (depth - 1) u.0 roots₀ roots r) where
+  module _ {roots₀ roots : List ℕ} {depth v : ℕ} {u : ℕ} {r : Bool} (deep : depth ≡ 0 → ⊥) (up : p v ≡ Parent u) (w : Climbed p (depth - 1) u roots₀ roots r) where
     pub climb_lost : r ≡ false → Climbed p depth v roots₀ roots false
     climb_lost q =
         let d : depth ≡ suc (depth - 1) = omega arith in
         record { right = w.right; stay = w.stay; known = λ t. absurd (false≢true t); lost = λ _. rw d (ends_up p (depth - 1) v u up ∙ w.lost q) }
 
-    pub climb_parent : {roots' : List ℕ} {m k : ℕ} → v < MAX_NODES → m ≡ get_or roots₀ v 0 → m ≡ 0 → r ≡ true → k ≡ get_or roots u.0 0
+    pub climb_parent : {roots' : List ℕ} {m k : ℕ} → v < MAX_NODES → m ≡ get_or roots₀ v 0 → m ≡ 0 → r ≡ true → k ≡ get_or roots u 0
         → roots' ≡ set roots v k → Climbed p depth v roots₀ roots' true
     climb_parent {k = k} l e y q f s =
         let h = w.known q in
         let g = get_or-set_same roots v k 0 (omega (arith, w.right.long)) in
         rw s record {
-          right = right_set v k l w.right (λ _. more up (rw f (w.right.right u.0 h)));
+          right = right_set v k l w.right (λ _. more up (rw f (w.right.right u h)));
           stay = stay_set roots₀ roots v k l w.right (omega arith) w.stay;
           known = λ _. omega arith;
           lost = λ t. absurd (false≢true (sym t));
@@ -117,6 +114,12 @@ pub record Counted (roots counts : List ℕ) (n v : ℕ) : Type 0 where
 
 pub tallies_none : {roots : List ℕ} {n : ℕ} → Rooted roots n → Tallies roots (replicate MAX_NODES 0) n
 tallies_none a = record { rooted = a; long = blank_long {A = ℕ} 0; zeros = λ v l. zeros MAX_NODES v }
+
+-- a node's number among the first n
+pub tally_here : (roots : List ℕ) (n : ℕ) {v : ℕ} → v < length (take n roots) → (v < n) × (get_or (take n roots) v 0 - 1 ≡ root_of roots v)
+tally_here roots n {v} h =
+    let l : v < n = omega (arith, length-take n roots) in
+    (l, ap (λ x. x - 1) (get_or-take n roots v 0 l))
 
 counted_last : (roots : List ℕ) (v u : ℕ) (b : Bool) → eqb (root_of roots v) u ≡ b → tallied roots (v + 1) u ≡ tallied roots v u + pick b 1 0
 counted_last roots v u b e =

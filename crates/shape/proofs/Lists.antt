@@ -6,15 +6,7 @@ use Prim.Native.Nat.{ℕ, zero, suc, ◌+◌, ◌≤◌, ◌<◌}
 use native.Mathlib.Decide.{ℕ_discrete}
 use native.Mathlib.Omega.{arith}
 use Rattle.scope.specs.Base.{pick, all, count, from}
-
-pub is_false : (b : Bool) → (b ≡ true → ⊥) → b ≡ false
-is_false true f = absurd (f refl)
-is_false false f = refl
-
--- two tests that hold together are one
-pub same_test : (a b : Bool) → (a ≡ true → b ≡ true) → (b ≡ true → a ≡ true) → a ≡ b
-same_test true b f g = sym (f refl)
-same_test false b f g = sym (is_false b (λ e. false≢true (g e)))
+use Rattle.scope.proofs.TestLaws.{one_le}
 
 -- all
 
@@ -40,17 +32,9 @@ pick_most : (b : Bool) → pick b 1 0 ≤ 1
 pick_most true = omega arith
 pick_most false = omega arith
 
-pick_grows : (a b : Bool) → (a ≡ true → b ≡ true) → pick a 1 0 ≤ pick b 1 0
-pick_grows true b f = rw (f refl) (omega arith)
-pick_grows false b f = omega arith
-
 pub count_most : (p : ℕ → Bool) (i n : ℕ) → count p (from i n) ≤ n
 count_most p i zero = omega arith
 count_most p i (suc n) = omega (arith, pick_most (p i), count_most p (suc i) n)
-
-pub count_same : (p q : ℕ → Bool) (i n : ℕ) → ((j : ℕ) → i ≤ j → j < i + n → p j ≡ q j) → count p (from i n) ≡ count q (from i n)
-count_same p q i zero e = refl
-count_same p q i (suc n) e = rw (e i (omega arith) (omega arith), count_same p q (suc i) n (λ j a b. e j (omega arith) (omega arith)))
 
 -- the last of them
 pub count_last : (p : ℕ → Bool) (i n : ℕ) → count p (from i (suc n)) ≡ count p (from i n) + pick (p (i + n)) 1 0
@@ -62,7 +46,7 @@ count_last p i (suc n) =
 module _ (p q : ℕ → Bool) (grows : (j : ℕ) → p j ≡ true → q j ≡ true) where
   count_grows : (i n : ℕ) → count p (from i n) ≤ count q (from i n)
   count_grows i zero = omega arith
-  count_grows i (suc n) = omega (arith, pick_grows (p i) (q i) (grows i), count_grows (suc i) n)
+  count_grows i (suc n) = omega (arith, one_le (p i) (q i) (grows i), count_grows (suc i) n)
 
   -- one number more passes the test
   pub count_more : (i n v : ℕ) → i ≤ v → v < i + n → p v ≡ false → q v ≡ true → count p (from i n) < count q (from i n)
@@ -74,4 +58,4 @@ module _ (p q : ℕ → Bool) (grows : (j : ℕ) → p j ≡ true → q j ≡ tr
           let x : p i ≡ false = rw z at e in
           let y : q i ≡ true = rw z at f in
           rw (x, y) (omega (arith, count_grows (suc i) n))
-      go (no z) h = omega (arith, pick_grows (p i) (q i) (grows i), h (omega arith))
+      go (no z) h = omega (arith, one_le (p i) (q i) (grows i), h (omega arith))

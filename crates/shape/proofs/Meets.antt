@@ -16,9 +16,8 @@ use Rattle.scope.specs.Nodes.{Node, at, climb, find, state_of, kids_of}
 use Rattle.scope.specs.Nodes as nodes
 use Rattle.scope.proofs.Laws as scope
 use Rattle.scope.specs.Sound.{rooted, falls, tree_size, size_is, in_store, shape_sound}
-use Rattle.types.specs.declared.TypeIdx.{TypeIdx}
 use Rattle.layout.specs.Words.{slot_at, decode}
-use Rattle.layout.proofs.Lists.{all_from, all_map}
+use Rattle.layout.proofs.Lists.{all_map}
 use Rattle.layout.proofs.Laws.{length_decode, read_node}
 use Rattle.layout.proofs.HeldLaws.{held_kids_lem}
 use Rattle.layout.specs.Meaning.{read_at, held_in, held_kids, node_means, kind_means}
@@ -26,19 +25,19 @@ use Rattle.layout.specs.Meaning.{Held}
 use Rattle.std.specs.Prelude.{Some, None}
 use Rattle.layout.specs.declared.TypeNode.{TypeNode}
 use Rattle.layout.specs.declared.TypeNode.TheVariants as read
-use Rattle.shape.specs.declared.Up.{Up}
-use Rattle.shape.specs.declared.Up.TheVariants.{Root, Parent}
-use Rattle.shape.specs.Walks.{ends, InRun, upward, to_by, Leads, here, more}
-use Rattle.shape.specs.Read.{idx_of, up_in, first_of, count_of, kid_at, ups, root_of, kids, tallied, size_by, size_fits}
+use Rattle.shape.specs.Walks.{ends, InRun, Up, Root, Parent, upward, to_by, Leads, here, more}
+use Rattle.shape.specs.Read.{up_in, first_of, count_of, kid_at, ups, root_of, kids, tallied, size_by, size_fits}
 use Rattle.shape.specs.Asks.{node_inside, Shaped, Complete, ClimbsAll, ClimbedAll, Rooted, Falls}
-use Rattle.shape.proofs.Lists.{same_test, all_same, count_same}
+use Rattle.shape.proofs.Lists.{all_same}
 use Rattle.shape.proofs.Walks.{ends_none, ends_more, ends_root, ends_up, up_within, leads_ends, leads_below}
 use Rattle.shape.proofs.Laws.{right_none}
+use Rattle.scope.proofs.Sizes.{count_same, from_all}
+use Rattle.scope.proofs.TestLaws.{same_bool}
 
 -- one step up from scope's node
 abbrev up_node : Node → Up
 up_node (nodes.Root st z) = Root z
-up_node (nodes.Child t) = Parent (idx_of t.idx)
+up_node (nodes.Child t) = Parent t.idx
 
 up_means : (ks : List ℕ) (x : TypeNode) → up_node (node_means ks x) ≡ up_in x
 up_means ks (read.Root st z) = refl
@@ -49,12 +48,12 @@ module _ (ns : List Node) (p : ℕ → Up) (step : (v : ℕ) → p v ≡ up_node
   rooted_by : (x : Node) (d v : ℕ) → at ns v ≡ x → ((u : ℕ) → rooted d ns u ≡ ends (upward p) (suc d) u) → rooted (suc d) ns v ≡ ends (upward p) (suc (suc d)) v
   unfolding rooted
   rooted_by (nodes.Root st z) d v e h = rw e (sym (ends_root p (suc d) v z (step v ∙ ap up_node e)))
-  rooted_by (nodes.Child t) d v e h = rw e (h t.idx ∙ sym (ends_up p (suc d) v (idx_of t.idx) (step v ∙ ap up_node e)))
+  rooted_by (nodes.Child t) d v e h = rw e (h t.idx ∙ sym (ends_up p (suc d) v t.idx (step v ∙ ap up_node e)))
 
   rooted_none : (x : Node) (v : ℕ) → at ns v ≡ x → rooted 0 ns v ≡ ends (upward p) 1 v
   unfolding rooted
   rooted_none (nodes.Root st z) v e = rw e (sym (ends_root p 0 v z (step v ∙ ap up_node e)))
-  rooted_none (nodes.Child t) v e = rw e (sym (ends_up p 0 v (idx_of t.idx) (step v ∙ ap up_node e) ∙ ends_none (upward p) t.idx))
+  rooted_none (nodes.Child t) v e = rw e (sym (ends_up p 0 v t.idx (step v ∙ ap up_node e) ∙ ends_none (upward p) t.idx))
 
   -- at most d steps, and so at most d + 1 nodes
   rooted_ends : (d v : ℕ) → rooted d ns v ≡ ends (upward p) (suc d) v
@@ -69,21 +68,21 @@ module _ (ns : List Node) (p : ℕ → Up) (step : (v : ℕ) → p v ≡ up_node
   climb_root (nodes.Child c) (suc d) z t e u = absurd (let f : ◌≡◌ {A = ℕ} 0 1 = cc in omega arith)
 
   -- a climb goes on from a type with the parent's node
-  climb_up : (x : Node) (d : ℕ) (u : TypeIdx) (t : Ty) → at ns t.idx ≡ x → up_node x ≡ Parent u → (c : Ty) × (c.idx ≡ u.0) × (climb (suc d) ns t ≡ climb d ns c)
+  climb_up : (x : Node) (d : ℕ) (u : ℕ) (t : Ty) → at ns t.idx ≡ x → up_node x ≡ Parent u → (c : Ty) × (c.idx ≡ u) × (climb (suc d) ns t ≡ climb d ns c)
   climb_up (nodes.Root st y) d u t e f = absurd (let z : ◌≡◌ {A = ℕ} 0 1 = cc in omega arith)
   climb_up (nodes.Child c) d u t e f = (flip t.inv c, cc, scope.climb_child d ns t c e)
 
   climb_leads : (d : ℕ) {v r : ℕ} (t : Ty) → t.idx ≡ v → Leads p v r → ends (upward p) (suc d) v ≡ true → (climb d ns t).idx ≡ r
   climb_leads d t q (here {v = v} {z = z} e) m =
       ap (λ (x : Ty). x.idx) (climb_root (at ns t.idx) d z t refl (sym (step t.idx) ∙ ap p q ∙ e)) ∙ q
-  climb_leads zero t q (more {v = v} {u = u} e k) m = absurd (false≢true (sym (ends_up p 0 v u e ∙ ends_none (upward p) u.0) ∙ m))
+  climb_leads zero t q (more {v = v} {u = u} e k) m = absurd (false≢true (sym (ends_up p 0 v u e ∙ ends_none (upward p) u) ∙ m))
   climb_leads (suc d) t q (more {v = v} {u = u} e k) m =
       let w = climb_up (at ns t.idx) d u t refl (sym (step t.idx) ∙ ap p q ∙ e) in
       ap (λ (x : Ty). x.idx) w.2 ∙ climb_leads d w.0 w.1 k (sym (ends_up p (suc d) v u e) ∙ m)
 
   module _ (n : ℕ) (size : length ns ≡ n) (inside : (v : ℕ) → v < n → to_by (p v) < n) where
     pub rooted_same : (v : ℕ) → v < n → rooted n ns v ≡ ends (upward p) n v
-    rooted_same v l = rooted_ends n v ∙ same_test (ends (upward p) (suc n) v) (ends (upward p) n v) (up_within p n inside v l) (ends_more (upward p) n v)
+    rooted_same v l = rooted_ends n v ∙ same_bool (ends (upward p) (suc n) v) (ends (upward p) n v) (up_within p n inside v l) (ends_more (upward p) n v)
 
     module _ (roots : List ℕ) (complete : Complete p n roots) where
       pub find_same : (t : Ty) → t.idx < n → (find ns t).idx ≡ root_of roots t.idx
@@ -131,7 +130,7 @@ module _ (ws ks : List ℕ) (n : ℕ) (ns : List Node) (size : length ns ≡ n) 
   kids_inside roots v i l r =
       let h = held_in (read_at ws n v) in
       let e = sym (kids_all ks (in_store ns) h) ∙ ap (all (in_store ns)) (sym (held v)) ∙ inside_kids ns (at ns v) (inside v l) in
-      rw (← size) (ltb-true (kid_at ks i) (length ns) (all_from (λ j. in_store ns (ty_of (slot_at ks j).type)) (first_of h) (count_of h) e i r.from r.below))
+      rw (← size) (ltb-true (kid_at ks i) (length ns) (from_all (λ j. in_store ns (ty_of (slot_at ks j).type)) (first_of h) (count_of h) e i r.from r.below))
 
   -- no parent cycle
   rooted_all : all (λ i. rooted (length ns) ns i) (from 0 (length ns)) ≡ all (ends (upward (ups ws n)) n) (from 0 n)

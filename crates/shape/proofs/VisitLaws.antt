@@ -20,9 +20,10 @@ use Rattle.shape.specs.Read.{count_of, kids, kid_at, root_of}
 use Rattle.shape.specs.declared.Mark.{Mark}
 use Rattle.shape.specs.declared.Mark.TheVariants as mark
 use Rattle.shape.specs.Asks.{is_fresh, is_done, Open, TrueMarks, fresh, Falls, Visits, Visited}
-use Rattle.shape.proofs.Lists.{is_false, count_more}
+use Rattle.shape.proofs.Lists.{count_more}
 use Rattle.shape.proofs.Walks.{ends_none, ends_more, ends_not, ends_before}
 use Rattle.shape.proofs.Tables.{blank, blank_long, stored_by}
+use Rattle.std.proofs.lemmas.Bool.{false_from_ne_true}
 
 module _ (g : Graph) (n : ℕ) where
   marked_none : TrueMarks g n (replicate MAX_NODES mark.Fresh)
@@ -53,7 +54,7 @@ module _ (g : Graph) (n : ℕ) where
 
   -- a walk with one node less is too long all the more
   ends_less : (d u : ℕ) → ends g (suc d) u ≡ false → ends g d u ≡ false
-  ends_less d u e = is_false (ends g d u) (λ t. false≢true (sym e ∙ ends_more g d u t))
+  ends_less d u e = false_from_ne_true (ends g d u) (λ t. false≢true (sym e ∙ ends_more g d u t))
 
   -- since v was marked open, with marks before
   module _ {v i : ℕ} {before marks : List Mark} (b : TrueMarks g n before) (small : v < MAX_NODES) (a : Passed v i (set before v mark.Open) marks) where

@@ -6,12 +6,11 @@ use mathlib.Core.Bool.{Bool, true, false, false≢true}
 use Prim.Native.Nat.{ℕ, zero, suc, ◌+◌, ◌≤◌, ◌<◌}
 use native.Mathlib.Omega.{arith}
 use Rattle.scope.specs.Base.{count, from}
-use Rattle.layout.proofs.Lists.{all_from, from_all}
-use Rattle.types.specs.declared.TypeIdx.{TypeIdx}
-use Rattle.shape.specs.declared.Up.{Up}
-use Rattle.shape.specs.declared.Up.TheVariants.{Root, Parent}
-use Rattle.shape.specs.Walks.{Graph, ends, InRun, Closed, deg_by, to_by, upward, Leads, here, more}
-use Rattle.shape.proofs.Lists.{is_false, same_test, all_find, count_most, count_more}
+use Rattle.shape.specs.Walks.{Graph, ends, InRun, Closed, Up, Root, Parent, deg_by, to_by, upward, Leads, here, more}
+use Rattle.shape.proofs.Lists.{all_find, count_most, count_more}
+use Rattle.scope.proofs.TestLaws.{same_bool}
+use Rattle.std.proofs.lemmas.Bool.{false_from_ne_true}
+use Rattle.scope.proofs.Sizes.{all_from, from_all}
 
 module _ (g : Graph) where
   pub ends_none : (v : ℕ) → ends g 0 v ≡ false
@@ -21,14 +20,14 @@ module _ (g : Graph) where
   -- along a way on the bound falls by one
   pub ends_on : (d v i : ℕ) → ends g (suc d) v ≡ true → InRun g v i → ends g d (g.to i) ≡ true
   unfolding ends
-  ends_on d v i t r = all_from (λ j. ends g d (g.to j)) (g.first v) (g.deg v) t i r.from r.below
+  ends_on d v i t r = from_all (λ j. ends g d (g.to j)) (g.first v) (g.deg v) t i r.from r.below
 
   pub ends_from : (d v : ℕ) → ((i : ℕ) → InRun g v i → ends g d (g.to i) ≡ true) → ends g (suc d) v ≡ true
   unfolding ends
-  ends_from d v f = from_all (λ j. ends g d (g.to j)) (g.first v) (g.deg v) (λ i a b. f i (record { from = a; below = b }))
+  ends_from d v f = all_from (λ j. ends g d (g.to j)) (g.first v) (g.deg v) (λ i a b. f i (record { from = a; below = b }))
 
   pub ends_not : (d v i : ℕ) → InRun g v i → ends g d (g.to i) ≡ false → ends g (suc d) v ≡ false
-  ends_not d v i r e = is_false (ends g (suc d) v) (λ t. false≢true (sym e ∙ ends_on d v i t r))
+  ends_not d v i r e = false_from_ne_true (ends g (suc d) v) (λ t. false≢true (sym e ∙ ends_on d v i t r))
 
   -- a way on from which walks are too long
   pub ends_find : (d v : ℕ) → ends g (suc d) v ≡ false → (i : ℕ) × InRun g v i × (ends g d (g.to i) ≡ false)
@@ -70,7 +69,7 @@ deg_most (Parent u) = omega arith
 
 module _ (p : ℕ → Up) where
   -- a node's one place is its own number
-  pub run_up : (v : ℕ) (u : TypeIdx) → p v ≡ Parent u → InRun (upward p) v v
+  pub run_up : (v : ℕ) (u : ℕ) → p v ≡ Parent u → InRun (upward p) v v
   run_up v u e = record { from = omega arith; below = rw e (omega arith) }
 
   run_own : (v i : ℕ) → InRun (upward p) v i → i ≡ v
@@ -83,7 +82,7 @@ module _ (p : ℕ → Up) where
     up_closed : Closed (upward p) n
     up_closed = record { inside = λ v i l r. rw (run_own v i r) (inside v l) }
 
-    up_below : (v : ℕ) (u : TypeIdx) → v < n → p v ≡ Parent u → u.0 < n
+    up_below : (v : ℕ) (u : ℕ) → v < n → p v ≡ Parent u → u < n
     up_below v u l e = rw e at (inside v l)
 
     pub leads_below : {v r : ℕ} → Leads p v r → v < n → r < n
@@ -104,8 +103,8 @@ module _ (p : ℕ → Up) where
   pub ends_root : (d v z : ℕ) → p v ≡ Root z → ends (upward p) (suc d) v ≡ true
   ends_root d v z e = ends_from (upward p) d v (λ i r. absurd (run_root v z i e r))
 
-  pub ends_up : (d v : ℕ) (u : TypeIdx) → p v ≡ Parent u → ends (upward p) (suc d) v ≡ ends (upward p) d u.0
+  pub ends_up : (d v : ℕ) (u : ℕ) → p v ≡ Parent u → ends (upward p) (suc d) v ≡ ends (upward p) d u
   ends_up d v u e =
-      same_test (ends (upward p) (suc d) v) (ends (upward p) d u.0)
+      same_bool (ends (upward p) (suc d) v) (ends (upward p) d u)
       (λ t. rw e at (ends_on (upward p) d v v t (run_up v u e)))
       (λ t. ends_from (upward p) d v (λ i r. rw (run_own v i r, e) t))

@@ -7,8 +7,7 @@ use Rattle.scope.specs.Sound.{in_store}
 use Rattle.layout.specs.Words.{decode}
 use Rattle.layout.specs.Meaning.{Clean}
 use Rattle.layout.specs.declared.Nodes.{Nodes}
-use Rattle.shape.specs.Walks.{Graph, ends, InRun, upward, to_by, Leads}
-use Rattle.shape.specs.declared.Up.{Up}
+use Rattle.shape.specs.Walks.{Graph, ends, InRun, Up, upward, to_by, Leads}
 use Rattle.shape.specs.declared.Mark.{Mark}
 use Rattle.shape.specs.declared.Mark.TheVariants as mark
 use Rattle.shape.specs.Read.{ups, kids, kid_at, root_of, tallied}

@@ -2,7 +2,6 @@
 use Rattle.std.specs.Prelude.{List, Bool, true, ℕ, ◌-◌, eqb, get_or}
 use Rattle.scope.specs.Base.{count, from}
 use Rattle.scope.specs.Types.{ty_of}
-use Rattle.types.specs.declared.TypeIdx.{TypeIdx}
 use Rattle.layout.specs.Words.{slot_at}
 use Rattle.layout.specs.Meaning.{read_at, held_in}
 use Rattle.layout.specs.Meaning.{Held}
@@ -10,17 +9,13 @@ use Rattle.std.specs.Prelude.{Some, None}
 use Rattle.layout.specs.declared.TypeNode.{TypeNode}
 use Rattle.layout.specs.declared.TypeNode.TheVariants.{Root, Child}
 use Rattle.layout.specs.declared.Nodes.{Nodes}
-use Rattle.shape.specs.declared.Up.{Up}
-use Rattle.shape.specs.declared.Up.TheVariants as up
-use Rattle.shape.specs.Walks.{Graph}
-
-abbrev pub idx_of : ℕ → TypeIdx
-idx_of i = record { 0 = i }
+use Rattle.shape.specs.Walks.{Graph, Up}
+use Rattle.shape.specs.Walks as up
 
 -- one step up
 abbrev pub up_in : TypeNode → Up
 up_in (Root st z) = up.Root z
-up_in (Child t) = up.Parent (idx_of (ty_of t.0).idx)
+up_in (Child t) = up.Parent (ty_of t.0).idx
 
 -- where the children of what a node holds begin, and how many there are
 abbrev pub first_of : Held → ℕ

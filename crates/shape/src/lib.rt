@@ -29,22 +29,6 @@ enum Mark {
 // A mark for each node.
 type Marks = [Mark; MAX_NODES];
 
-// A node to one who climbs: a root with its size, or what has a parent.
-#[derive(Clone, Copy)]
-enum Up {
-    Root(u32),
-    Parent(TypeIdx),
-}
-
-fn up_of(nodes: &Nodes<'_>, v: TypeIdx) -> Up
-    ensures { result ≡ ups_by nodes.now v.0 }
-{
-    match nodes.node(v) {
-        TypeNode::Root { state: _, size } => Up::Root(size),
-        TypeNode::Child(t) => Up::Parent(t.idx()),
-    }
-}
-
 // The node of the child at a place.
 fn kid_at(ks: &[u32], i: usize) -> TypeIdx
     ensures { result.0 ≡ kid_at ks.now i }
@@ -67,7 +51,7 @@ fn put(t: &mut Table, v: TypeIdx, x: u32)
 }
 
 // The root of v, of which roots holds one more; 0 is a root that is not known.
-// Kept (1): no Option: `tally` and `visit` come once `find_roots` has put a root for every node, and a None is nothing that they could answer.
+// Kept (1): no Option: `visit` comes once `find_roots` has put a root for every node, and a None is nothing that it could answer.
 fn root_of(roots: &Table, v: TypeIdx) -> TypeIdx
     requires { (v.0 < MAX_NODES) × (0 < get_or roots.now v.0 0) }
     ensures { result.0 ≡ root_of roots.now v.0 }
@@ -86,12 +70,13 @@ fn climb(nodes: &Nodes<'_>, roots: &mut Table, v: TypeIdx, depth: u32) -> bool
     if depth == 0 {
         return false;
     }
-    match up_of(nodes, v) {
-        Up::Root(_) => {
+    match nodes.node(v) {
+        TypeNode::Root { .. } => {
             put(roots, v, v.0 + 1);
             true
         }
-        Up::Parent(p) => {
+        TypeNode::Child(t) => {
+            let p = t.idx();
             if !climb(nodes, roots, p, depth - 1) {
                 return false;
             }
@@ -107,11 +92,12 @@ fn find_roots(nodes: &Nodes<'_>, roots: &mut Table) -> bool
     requires { ClimbsAllIn nodes.now roots.old }
     ensures { ClimbedAll (ups_by nodes.now) nodes.now.made roots.new result }
 {
+    // Kept (3): as `all` it is no plainer: a turn changes `roots`, so that the closure would have a contract beside this loop's invariant.
     for i in 0..nodes.made {
         let v = TypeIdx(i);
-        match up_of(nodes, v) {
-            Up::Root(_) => put(roots, v, i + 1),
-            Up::Parent(_) => {
+        match nodes.node(v) {
+            TypeNode::Root { .. } => put(roots, v, i + 1),
+            TypeNode::Child(_) => {
                 if !climb(nodes, roots, v, nodes.made) {
                     return false;
                 }
@@ -126,8 +112,8 @@ fn tally(roots: &Table, n: u32, counts: &mut Table)
     requires { Tallies roots.now counts.old n }
     ensures { Tallied roots.now n counts.new }
 {
-    for i in 0..n {
-        let r = root_of(roots, TypeIdx(i));
+    for more in &roots[..n as usize] {
+        let r = TypeIdx(*more - 1);
         let count = at(counts, r);
         put(counts, r, count + 1);
     }
@@ -138,9 +124,9 @@ fn size_ok(nodes: &Nodes<'_>, counts: &Table, v: TypeIdx) -> bool
     requires { v.0 < MAX_NODES }
     ensures { result ≡ size_by (get_or counts.now v.0 0) (ups_by nodes.now v.0) }
 {
-    match up_of(nodes, v) {
-        Up::Root(size) => size == at(counts, v),
-        Up::Parent(_) => true,
+    match nodes.node(v) {
+        TypeNode::Root { size, .. } => size == at(counts, v),
+        TypeNode::Child(_) => true,
     }
 }
 
@@ -177,6 +163,7 @@ fn visit(nodes: &Nodes<'_>, roots: &Table, marks: &mut Marks, v: TypeIdx) -> boo
         return true;
     };
     let first = kind.first as usize;
+    // Kept (3): as `all` it is no plainer: a turn changes `marks`, so that the closure would have a contract beside this loop's invariant.
     for i in first..first + kind.count as usize {
         let r = root_of(roots, kid_at(nodes.kids, i));
         if !visit(nodes, roots, marks, r) {
@@ -189,7 +176,8 @@ fn visit(nodes: &Nodes<'_>, roots: &Table, marks: &mut Marks, v: TypeIdx) -> boo
 
 // A quick yes to whether every walk from v ends, where those from the nodes before v do: the roots of its children lie before v, or are done. Where nodes are
 // made after their children few marks are read. A run that is not all lent has no quick yes, so a child is read without a test of its own.
-// Kept (3): each is looked at, whatever the others are, as in `clean::all_zero`; `all` ends at the first that is not such.
+// Kept (3): each is looked at, whatever the others are, as in `clean::all_zero`. As a fold it is no plainer: the closure would
+// have a contract for what this loop's invariant knows, that a child's number has a place in `roots`.
 fn kids_done(nodes: &Nodes<'_>, roots: &Table, marks: &Marks, v: TypeIdx) -> bool
     requires { TriesIn nodes.now roots.now marks.now v.0 }
     ensures { result ≡ true → ends (kids_by nodes.now roots.now) nodes.now.made v.0 ≡ true }
@@ -218,6 +206,7 @@ fn falls_ok(nodes: &Nodes<'_>, roots: &Table) -> bool
     ensures { result ≡ all (ends (kids_by nodes.now roots.now) nodes.now.made) (from 0 nodes.now.made) }
 {
     let mut marks = [Mark::Fresh; MAX_NODES];
+    // Kept (3): as `all` it is no plainer: a turn changes `marks`, so that the closure would have a contract beside this loop's invariant.
     for i in 0..nodes.made {
         let v = TypeIdx(i);
         if is_done(&marks, v) {

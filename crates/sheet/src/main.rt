@@ -2,10 +2,9 @@
 // Program `sheet`: lines from standard input, and what each prints to standard output, in fixed memory: 4 MB are lent to its unify, in which each pair of types
 // has its own entry, so that no input takes long. Each line is answered before more is read, so that it can be used over a pipe or at a terminal. It only reads and
 // writes: what a line is and what it prints is `sheet_feed`'s. Where nobody takes the output any more it ends; a read that fails is told on standard error.
-ghost use Rattle.std.specs.Prelude.{◌≡◌, ◌<◌, length};
+ghost use Rattle.std.specs.Prelude.{◌<◌, length};
 ghost use Rattle.scope.specs.Limits.{SHEET_TEXT};
 ghost use Rattle.sheet_calls.specs.Store.{SheetStore};
-ghost use Rattle.sheet_feed.specs.Fed.{LINE_KEPT};
 ghost use Rattle.sheet.specs.Holding.{Holding, Kept};
 
 use layout::HEAD_WORDS;
@@ -29,14 +28,13 @@ fn feed_all<W: Write>(
     ws: &mut [u32],
     ks: &mut [u32],
     memory: &mut [u32],
-    line: &mut [u8],
+    line: &mut [u8; LINE_KEPT],
     at: usize,
     piece: &[u8],
     text: &mut [u8],
 ) -> Option<usize>
     requires sheet_store { SheetStore h.old ws.old ks.old }
     requires in_bounds { SHEET_TEXT < length text.old }
-    requires line_len { length line.old ≡ LINE_KEPT }
     requires holding { Holding line.old at }
     ensures { Kept h.new ws.new ks.new line.new result }
 {
@@ -69,13 +67,12 @@ fn serve<R: Read, W: Write>(
     ws: &mut [u32],
     ks: &mut [u32],
     memory: &mut [u32],
-    line: &mut [u8],
+    line: &mut [u8; LINE_KEPT],
     piece: &mut [u8],
     text: &mut [u8],
 ) -> io::Result<()>
     requires sheet_store { SheetStore h.old ws.old ks.old }
     requires in_bounds { SHEET_TEXT < length text.old }
-    requires line_len { length line.old ≡ LINE_KEPT }
 {
     let mut at: usize = 0;
     for _ in 0..u64::MAX {

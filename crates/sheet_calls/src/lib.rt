@@ -14,6 +14,7 @@ ghost use Rattle.sheet_lines.specs.Meaning.{maker_means, MakerFits, plain_means,
 ghost use Rattle.sheet_calls.specs.Store.{SheetStore};
 ghost use Rattle.sheet_calls.specs.Ran.{Ran, Made};
 
+use heads::Once;
 use refusals::Refusal;
 use scope::{NONE, SHEET_CHILDREN, SHEET_NODES};
 use sheet_lines::{Maker, Plain};
@@ -43,8 +44,8 @@ fn made(
 {
     match m {
         Maker::Var => tested_lean::new_var(h, ws, NONE),
-        Maker::Nil => tested_lean::nil(h, ws),
-        Maker::Error => tested_lean::error(h, ws),
+        Maker::Nil => tested_lean::once(h, ws, Once::Nil),
+        Maker::Error => tested_lean::once(h, ws, Once::Error),
         Maker::Over(code, n) => {
             let chart = [0u32; 0];
             let e = n as usize;

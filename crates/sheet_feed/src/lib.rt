@@ -1,10 +1,10 @@
 #![tactic(auto)]
 // An input of program `sheet` that comes in pieces, as a pipe or a terminal hands it over. A piece is taken up to the end of the line that it goes on with; what
 // such a line has so far is kept in a buffer of 256 bytes, and a line that is longer is bad however long it is. What each line prints is scope's `sheet_line`.
-ghost use Rattle.std.specs.Prelude.{◌≡◌, ◌<◌, length};
+ghost use Rattle.std.specs.Prelude.{◌<◌, length};
 ghost use Rattle.scope.specs.Limits.{SHEET_TEXT};
 ghost use Rattle.sheet_calls.specs.Store.{SheetStore};
-ghost use Rattle.sheet_feed.specs.Fed.{LINE_KEPT, LineRan, Feeds, LastRan};
+ghost use Rattle.sheet_feed.specs.Fed.{LineRan, Feeds, LastRan};
 
 use append::Out;
 use scope::MAX_LINE;
@@ -20,21 +20,20 @@ pub enum Fed {
     Line(usize, usize),
 }
 
+// The line that was read is run, as far as it was kept: whole, or too long either way. What it prints, with its newline, stands at the front of `text`.
 // Kept (6): a line and how much of it was read go in beside each other. Tried as one `&mut` struct of both in `feed`: covered, and proved by renaming, but no plainer:
 // its clauses name a field more each, the new length is told by `Fed::More` as well, and the two functions that run a line only read it.
-// The line that was read is run, as far as it was kept: whole, or too long either way. What it prints, with its newline, stands at the front of `text`.
 fn end_line(
     h: &mut [u32],
     ws: &mut [u32],
     ks: &mut [u32],
     memory: &mut [u32],
-    line: &[u8],
+    line: &[u8; LINE_KEPT],
     at: usize,
     text: &mut [u8],
 ) -> usize
     requires sheet_store { SheetStore h.old ws.old ks.old }
     requires in_bounds { SHEET_TEXT < length text.old }
-    requires line_len { length line.now ≡ LINE_KEPT }
     ensures { LineRan h.old ws.old ks.old h.new ws.new ks.new
         line.now at text.new result }
 {
@@ -50,14 +49,13 @@ pub fn feed(
     ws: &mut [u32],
     ks: &mut [u32],
     memory: &mut [u32],
-    line: &mut [u8],
+    line: &mut [u8; LINE_KEPT],
     at: usize,
     piece: &[u8],
     text: &mut [u8],
 ) -> Fed
     requires sheet_store { SheetStore h.old ws.old ks.old }
     requires in_bounds { SHEET_TEXT < length text.old }
-    requires line_len { length line.old ≡ LINE_KEPT }
     ensures { Feeds h.old ws.old ks.old h.new ws.new ks.new
         line.old at line.new piece.now text.new result }
 {
@@ -79,13 +77,12 @@ pub fn feed_end(
     ws: &mut [u32],
     ks: &mut [u32],
     memory: &mut [u32],
-    line: &[u8],
+    line: &[u8; LINE_KEPT],
     at: usize,
     text: &mut [u8],
 ) -> usize
     requires sheet_store { SheetStore h.old ws.old ks.old }
     requires in_bounds { SHEET_TEXT < length text.old }
-    requires line_len { length line.now ≡ LINE_KEPT }
     ensures { LastRan h.old ws.old ks.old line.now at text.new result }
 {
     if at == 0 {

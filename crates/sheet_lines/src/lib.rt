@@ -90,6 +90,8 @@ fn node_of(inv: Inverted, w: &[u8]) -> Option<Type>
         return None;
     }
     let mut n: u32 = 0;
+    // Kept (3): tried, and the proof did not close: `all` and then a `fold` of `n * 10 + digit_of(*d)`. The closure may be called only at a digit and at a small total, which wants
+    // this loop's invariant over the items passed, and the answer of `all` besides; the search proved neither that nor the value.
     for d in w {
         if !d.is_ascii_digit() {
             return None;
@@ -128,7 +130,7 @@ fn types_from(line: &[u8], from: usize, out: &mut [u32]) -> Option<u32>
 }
 
 // A command without types
-// Here and below a match on byte strings was tried, and the proof did not close: a match decides byte by byte, in dozens of ends that know lengths alone.
+// Kept (4): here and below a match on byte strings was tried, and the proof did not close: a match decides byte by byte, in dozens of ends that know lengths alone.
 fn plain_line(w: &[u8]) -> Plain
     ensures { Always result (plain_line w.now) }
 {

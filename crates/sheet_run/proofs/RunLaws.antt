@@ -5,20 +5,21 @@ use mathlib.Core.List.{List, [], ◌∷◌, ◌++◌, append_assoc, append-nil}
 use Prim.Native.Nat.{ℕ, ◌+◌, ◌-◌, ◌≤◌, ◌<◌}
 use native.Mathlib.Decide.{dec_le}
 use native.Mathlib.Omega.{arith}
-use borrow.Author.Tests.{lt-ltb, le-ltb, le-leb, lt-leb}
+use borrow.Author.Tests.{lt-ltb, le-ltb}
 use lib.ListN.{length, take, drop, drop_of_length-le}
 use Rattle.scope.specs.Limits.{SHEET_NODES, SHEET_CHILDREN, SHEET_TEXT}
 use Rattle.scope.specs.Nodes.{Store}
-use Rattle.scope.specs.Refusals.{SHORT}
 use Rattle.scope.specs.Calls.{printed_text}
 use Rattle.scope.specs.Sheet.{Line, sheet_store, lines, parse, sheet_line, sheet_lines, sheet}
 use Rattle.layout.specs.Words.{HEAD_WORDS, node_words, child_words, store_in}
 use Rattle.sheet_lines.specs.Places.{next_place}
 use Rattle.sheet_lines.proofs.Laws.{lines_turn, lines_end}
 use Rattle.append.specs.Appended.{Appended, SoFar}
-use Rattle.append.proofs.Laws.{so_far_start, so_far_length, so_far_fits, so_far_full}
-use Rattle.promise.specs.Promise.{value, refusal}
+use Rattle.append.proofs.Laws.{so_far_start}
+use Rattle.promise.specs.Promise.{Reply}
 use Rattle.promise.specs.Prints.{PrintPromised}
+use Rattle.call_show.specs.Ends.{end_reply}
+use Rattle.call_show.proofs.tested.Laws.{text_whole}
 use Rattle.sheet_calls.specs.Store.{SheetStore}
 use Rattle.sheet_calls.specs.Ran.{Ran}
 use Rattle.sheet_line.proofs.TextLaws.{ran_text}
@@ -100,15 +101,5 @@ module _ {input out₀ h ws ks out : List ℕ} {at i : ℕ} (w : Turn input out�
     far_whole : SoFar out₀ out at (sheet input)
     far_whole = rw all_said at w.far
 
-    pub run_full : length out < at → PrintPromised (printed_text sheet_store (sheet input) out₀) (refusal SHORT) sheet_store out
-    run_full l =
-        let f = so_far_full far_whole l in
-        let k = lt-leb (length (sheet input)) (length out₀) f.1 in
-        record { outcome = rw k; buffer = rw k (sym f.0) }
-
-    pub run_fits : at ≤ length out → PrintPromised (printed_text sheet_store (sheet input) out₀) (value at) sheet_store out
-    run_fits l =
-        let f = so_far_fits far_whole l in
-        let n : length out ≡ length out₀ = so_far_length far_whole in
-        let k = le-leb (length (sheet input)) (length out₀) (omega (arith, f.1)) in
-        record { outcome = rw (k, f.1); buffer = rw k (sym f.0) }
+    pub run_done : {r : Reply ℕ} → r ≡ end_reply (length out) at → PrintPromised (printed_text sheet_store (sheet input) out₀) r sheet_store out
+    run_done q = rw q (text_whole sheet_store out₀ (sheet input) far_whole)

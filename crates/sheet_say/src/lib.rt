@@ -14,14 +14,22 @@ use refusals::Refusal;
 use types::{Type, UnifyResult};
 
 // "A refusal prints as `refused 3`."
+pub fn put_number(buf: &mut [u8], n: u32) -> usize
+    requires { SHEET_TEXT ≤ length buf.old }
+    ensures { Front buf.old buf.new result (refused_text n) }
+{
+    let mut out = Out { buf, at: 0 };
+    append::put(&mut out, b"refused ");
+    append::put_decimal(&mut out, n);
+    out.at
+}
+
+// The same of one of 01's thirteen.
 pub fn put_refused(buf: &mut [u8], r: Refusal) -> usize
     requires { SHEET_TEXT ≤ length buf.old }
     ensures { Front buf.old buf.new result (refused_text (number r)) }
 {
-    let mut out = Out { buf, at: 0 };
-    append::put(&mut out, b"refused ");
-    append::put_decimal(&mut out, u32::from(r));
-    out.at
+    put_number(buf, u32::from(r))
 }
 
 // "`=` and the node"

@@ -169,22 +169,7 @@ module _ (g : Ty → List ℕ) (e : Env) (nil : Ty → Bool) (ks : List ℕ) (k 
 
   level_other : (i : Bool) (c : ℕ) → ERROR < c → kind_pieces e nil i (kind_means ks (of_code c)) ≡ [] → Level-of i c
   unfolding lead_of fixed_of end_of shown_of render children
-  level_other i c h z = rw (
-    z,
-    ne_eqb c PARAM (λ w. omega arith),
-    le-ltb c OPAQUE (omega arith),
-    ne_eqb c TUPLE (λ w. omega arith),
-    ne_eqb c OBJECT (λ w. omega arith),
-    le-ltb c FN (omega arith),
-    ne_eqb c FN (λ w. omega arith),
-    ne_eqb c CLOSURE (λ w. omega arith),
-    ne_eqb c KEY (λ w. omega arith),
-    ne_eqb c IF_CONST (λ w. omega arith),
-    ne_eqb c REF (λ w. omega arith),
-    ne_eqb c NEVER (λ w. omega arith),
-    ne_eqb c DEFAULT (λ w. omega arith),
-    ne_eqb c ERROR (λ w. omega arith),
-  )
+  level_other i c h z = rw z (search (ne_eqb, le-ltb, arith))
 
   -- a Closure's children are never inverted
   level_by : (i : Bool) (c : ℕ) → (c ≡ CLOSURE → i ≡ false) → Level-of i c

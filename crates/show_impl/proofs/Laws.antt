@@ -22,6 +22,7 @@ use Rattle.layout.specs.Meaning.{read_at, held_in, kind_means}
 use Rattle.layout.specs.declared.Kind.{Kind}
 use Rattle.layout.specs.Meaning.{Held}
 use Rattle.std.specs.Prelude.{Some, None}
+use Rattle.std.specs.Bool.{then_some}
 use Rattle.layout.proofs.HeldLaws.{held_by_lem}
 use Rattle.roots.specs.Found.{Found}
 use Rattle.walk.specs.Asks.{Stands}
@@ -48,12 +49,10 @@ module _ {ws : List ℕ} {n t r i : ℕ} (f : Found ws n t r) (ie : i ≡ (ty_of
   pub tuple_none : v ≡ None → TupleOf ws n t None
   tuple_none s = record { is = tuple_read s }
 
-  module _ {j : Inverted} {k : Kind} (s : v ≡ Some (j, k)) where
-    pub tuple_other : (k.code ≡ TUPLE → ⊥) → TupleOf ws n t None
-    tuple_other c = record { is = λ ks st a ret other. tuple_read s ks st a ret other ∙ rw (ne_eqb k.code TUPLE c) refl }
-
-    pub tuple_found : {m o : Inverted} → k.code ≡ TUPLE → o.0 ≡ (ty_of r).inv → m.0 ≡ xor j.0 o.0 → TupleOf ws n t (Some (m, k))
-    tuple_found {m} {o} c eo em = record { is = λ ks st a ret other. tuple_read s ks st a ret other ∙ rw (eq-eqb k.code TUPLE c, em, eo) refl }
+  pub tuple_chosen : {j m o : Inverted} {k : Kind} → v ≡ Some (j, k) → o.0 ≡ (ty_of r).inv → m.0 ≡ xor j.0 o.0 → (b : Bool) → eqb k.code TUPLE ≡ b
+      → TupleOf ws n t (then_some b (m, k))
+  tuple_chosen s eo em true c = record { is = λ ks st a ret other. tuple_read s ks st a ret other ∙ rw (c, em, eo) refl }
+  tuple_chosen s eo em false c = record { is = λ ks st a ret other. tuple_read s ks st a ret other ∙ rw c refl }
 
 -- the fn form
 

@@ -71,11 +71,7 @@ fn tuple_of(nodes: &Nodes<'_>, t: Type) -> Option<(Inverted, Kind)>
 {
     let root = roots::find_in(nodes, t);
     let (inv, kind) = nodes.held(root.idx())?;
-    if kind.code == TUPLE {
-        Some((inv ^ root.inv(), kind))
-    } else {
-        None
-    }
+    (kind.code == TUPLE).then_some((inv ^ root.inv(), kind))
 }
 
 // An impl type: the fn form, or a trait's name and its list; of an error two question marks.

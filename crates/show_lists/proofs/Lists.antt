@@ -9,7 +9,6 @@ use native.Mathlib.Omega.{arith}
 use lib.Dec.{ltb}
 use lib.ListN.{length, get_or}
 use borrow.Author.Tests.{ne_eqb, lt-ltb}
-use mir.Val.{bool_byte}
 use Rattle.scope.specs.Base.{from}
 use Rattle.scope.specs.Names.{Texts}
 use Rattle.scope.specs.Types.{Ty, flip, ty_of}
@@ -22,10 +21,10 @@ use Rattle.append.proofs.Laws.{puts_none}
 use Rattle.show.specs.Level.{children, kid_of}
 use Rattle.show.proofs.Runs.{map-map, comma_suc, joined_run, commas_run}
 use Rattle.show.proofs.Turns.{Turn, turn_end}
-use Rattle.show_names.specs.Names.{comma}
+use Rattle.show_names.specs.Names.{comma, comma_if}
 
 -- a comma, by whether one is due
-pub comma_any : (j : ℕ) → comma (bool_byte (ltb 0 j)) ≡ comma j
+pub comma_any : (j : ℕ) → comma_if (ltb 0 j) ≡ comma j
 comma_any zero = refl
 comma_any (suc j) = rw (lt-ltb 0 (suc j) (omega arith), ne_eqb (suc j) 0 (λ e. omega (arith, e))) refl
 

@@ -22,8 +22,8 @@ pub fn show_list(env: &Env<'_>, nodes: &Nodes<'_>, out: &mut Out<'_>, xs: &[u32]
     ensures { Puts out.old out.new
         (render (show (env_by env.now) (nodes_by nodes.now)) (commas false (types_in xs.now))) }
 {
-    for (j, w) in xs.iter().enumerate() {
-        put_comma(out, u32::from(0 < j));
+    for (i, w) in xs.iter().enumerate() {
+        put_comma(out, 0 < i);
         show_all(env, nodes, out, Type(*w));
     }
 }
@@ -35,7 +35,7 @@ pub fn show_params(env: &Env<'_>, nodes: &Nodes<'_>, out: &mut Out<'_>, i: Inver
         (render (show (env_by env.now) (nodes_by nodes.now)) (commas i.0 (kind_means nodes.now.kids.now k).kids)) }
 {
     for j in 0..k.count {
-        put_comma(out, j);
+        put_comma(out, 0 < j);
         let kid = nodes.child(k.first, j).ty;
         show_all(env, nodes, out, kid.invert_if(i));
     }

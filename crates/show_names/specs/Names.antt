@@ -1,5 +1,5 @@
 -- The texts that names and numbers make: what the code writes with one name or number in it. They add nothing to scope's pieces.
-use Rattle.std.specs.Prelude.{List, [], ◌++◌, ℕ, ◌+◌, eqb, ltb}
+use Rattle.std.specs.Prelude.{Bool, List, [], ◌++◌, ℕ, ◌+◌, eqb, ltb}
 use Rattle.scope.specs.Base.{pick}
 use Rattle.scope.specs.Text.{text}
 use Rattle.scope.specs.Names.{Texts, bytes}
@@ -13,6 +13,10 @@ use Rattle.layout.specs.declared.Kind.{Kind}
 -- between the items of a list
 abbrev pub comma : ℕ → List ℕ
 comma j = pick (eqb j 0) [] (text ", ")
+
+-- the same by whether it stands before a later item
+abbrev pub comma_if : Bool → List ℕ
+comma_if later = pick later (text ", ") []
 
 -- a child's name and a colon
 abbrev pub label : Texts → Slot → List ℕ

@@ -10,7 +10,7 @@ ghost use Rattle.scope.specs.Types.{ty_of};
 ghost use Rattle.names.specs.Place.{texts, name_of, texts_by};
 ghost use Rattle.chart.specs.Env.{chart_lent};
 ghost use Rattle.append.specs.Appended.{Puts};
-ghost use Rattle.show_names.specs.Names.{comma, entry_text, function_text, unknown_text};
+ghost use Rattle.show_names.specs.Names.{comma_if, entry_text, function_text, unknown_text};
 
 use append::{Out, put, put_decimal};
 use chart::Env;
@@ -35,11 +35,11 @@ pub fn put_name(texts: &Texts<'_>, out: &mut Out<'_>, n: Name)
     put(out, names::bytes_of(n, texts));
 }
 
-// Between the items of a list.
-pub fn put_comma(out: &mut Out<'_>, j: u32)
-    ensures { Puts out.old out.new (comma j) }
+// Between the items of a list: before a later one.
+pub fn put_comma(out: &mut Out<'_>, later: bool)
+    ensures { Puts out.old out.new (comma_if later) }
 {
-    if j != 0 {
+    if later {
         put(out, b", ");
     }
 }
@@ -48,7 +48,7 @@ pub fn put_comma(out: &mut Out<'_>, j: u32)
 pub fn put_entry(texts: &Texts<'_>, ks: &[u32], out: &mut Out<'_>, k: Kind, j: u32)
     ensures { Puts out.old out.new (entry_text (texts_by texts.now) ks.now k j) }
 {
-    put_comma(out, j);
+    put_comma(out, 0 < j);
     let n = layout::child_of(ks, k.first, j).name;
     if n.len == 0 {
         put(out, b"...: ");

@@ -10,7 +10,7 @@ use Rattle.scope.specs.Base.{pick}
 use Rattle.scope.specs.Text.{text}
 use Rattle.scope.specs.Names.{Texts, Name, bytes}
 use Rattle.scope.specs.Chart.{Env, record_at}
-use Rattle.scope.specs.Kinds.{PARAM, TUPLE, OBJECT, OPAQUE, FN, CLOSURE, REF, KEY, IF_CONST, NEVER, DEFAULT, ERROR}
+use Rattle.scope.specs.Kinds.{TUPLE, FN, CLOSURE, ERROR}
 use Rattle.scope.specs.Show.{decimal}
 use Rattle.layout.specs.declared.Kind.{Kind}
 use Rattle.names.specs.Place.{name_of, no_name}
@@ -49,21 +49,7 @@ module _ (e : Env) (k : Kind) where
 
   plain_other : (c : ℕ) → ERROR < c → Plain c
   unfolding lead_of fixed_of front_of own_name back_of bytes
-  plain_other c h = rw (
-    ne_eqb c PARAM (λ w. omega arith),
-    le-ltb c OPAQUE (omega arith),
-    ne_eqb c TUPLE (λ w. omega arith),
-    ne_eqb c OBJECT (λ w. omega arith),
-    le-ltb c FN (omega arith),
-    ne_eqb c FN (λ w. omega arith),
-    ne_eqb c CLOSURE (λ w. omega arith),
-    ne_eqb c KEY (λ w. omega arith),
-    ne_eqb c IF_CONST (λ w. omega arith),
-    ne_eqb c REF (λ w. omega arith),
-    ne_eqb c NEVER (λ w. omega arith),
-    ne_eqb c DEFAULT (λ w. omega arith),
-    ne_eqb c ERROR (λ w. omega arith),
-  )
+  plain_other c h = grind (arith, ne_eqb, le-ltb)
 
   plain_by : (c : ℕ) → (c ≡ FN → ⊥) → (c ≡ CLOSURE → ⊥) → Plain c
   unfolding lead_of fixed_of front_of own_name back_of bytes

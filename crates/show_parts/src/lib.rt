@@ -98,7 +98,7 @@ pub fn put_gap(texts: &Texts<'_>, ks: &[u32], out: &mut Out<'_>, k: Kind, j: u32
         OBJECT | CLOSURE => put_entry(texts, ks, out, k, j),
         IF_CONST if j == 0 => {}
         IF_CONST => put(out, b" } else { "),
-        _ => put_comma(out, j),
+        _ => put_comma(out, 0 < j),
     }
 }
 

@@ -27,7 +27,7 @@ pub fn pass(skip: &mut [u8], s: usize) -> usize
     }
     let far = near + skip_at(skip, s + near);
     if let Ok(byte) = u8::try_from(far) {
-        roots::put(skip, s, byte);
+        words::put(skip, s, byte);
     }
     far
 }
@@ -45,6 +45,7 @@ fn scan(ks: &[u32], seen: &[u8], skip: &[u8], s: usize, end: usize) -> usize
 }
 
 // Each slot from s up to t tells how far t is, where a byte holds it.
+// Kept (3): the bytes are written by index: after `iter_mut` a proof knows the part's length and not its elements (NOT_COVERED.md of the kit).
 fn fill(skip: &mut [u8], s: usize, t: usize)
     requires { s ≤ t }
     ensures { Filled skip.old skip.new s t }

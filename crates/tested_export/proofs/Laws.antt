@@ -14,15 +14,15 @@ use Rattle.scope.specs.Base.{all}
 use Rattle.scope.specs.Limits.{MAX_NODES, MAX_CHILDREN}
 use Rattle.scope.specs.Chart.{Env}
 use Rattle.scope.specs.Types.{Ty, ty_of}
-use Rattle.scope.specs.Nodes.{Store, opened}
+use Rattle.scope.specs.Nodes.{Node, Store, opened}
 use Rattle.scope.specs.Import.{MovedAll, export}
 use Rattle.scope.specs.Needs.{Needs, needs, exported}
 use Rattle.scope.specs.Sound.{Lent, in_store}
 use Rattle.scope.specs.Refusals.{OUTSIDE, UNMAKEABLE, NODES_FULL, CHILDREN_FULL, SHORT}
-use Rattle.scope.specs.Calls.{Outcome, done, judged, first_broken, store_of, open_test, lent_tests, too_many, short_for, Exported, export_call}
+use Rattle.scope.specs.Calls.{Outcome, done, judged, first_broken, store_of, open_test, lent_tests, too_many, room_tests, short_for, Exported, export_call}
 use Rattle.scope.proofs.NeedsTests.{export_tests_lem}
 use Rattle.layout.specs.Words.{nodes_made, store_in, lent_of}
-use Rattle.layout.specs.Meaning.{header_in}
+use Rattle.layout.specs.Meaning.{header_in, store_means}
 use Rattle.layout.specs.declared.Header.{Header}
 use Rattle.store.specs.Holds.{Openable, Room}
 use Rattle.store.specs.Entries.{types_in}
@@ -38,6 +38,7 @@ use Rattle.needs.specs.declared.Needs as counted
 use Rattle.needs.specs.Sums.{sum_of}
 use Rattle.needs.specs.Sources.{Importable, ExportNeeds}
 use Rattle.needs.proofs.SourceLaws.{sound_export}
+use Rattle.make.specs.Header as header
 use Rattle.promise.specs.Exports.{ExportPromised}
 use Rattle.promise.specs.Promise.{Tested}
 use Rattle.promise.proofs.Laws.{lent_clean_words, lent_store, lent_facts}
@@ -65,6 +66,11 @@ module _ (n c : ℕ) (k : Needs) where
         nodes = ltb-false n (0 + k.nodes) (test_passed x NODES_FULL ((y, CHILDREN_FULL) ∷ []) q);
         children = ltb-false c (0 + k.children) (test_passed y CHILDREN_FULL [] (tests_passed x NODES_FULL ((y, CHILDREN_FULL) ∷ []) q));
       }
+
+-- the header of a fresh store tells that
+pub fresh_told : {n c : ℕ} (u : counted.Needs) {x : Header} {o : Option ℕ} → x ≡ header.fresh n c 0
+    → ((ns : List Node) → length ns ≡ x.nodes → first_broken (room_tests (store_means x ns) u.nodes u.children) ≡ o) → first_broken (fresh_tests n c (sum_of u)) ≡ o
+fresh_told u e t = (rw e at t) [] refl
 
 -- a sound source with its types inside
 module _ (e : Env) (sh sw sk : List ℕ) (ts : List Ty) (q : first_broken (lent_tests e (lent_of sh sw sk)) ≡ none)

@@ -1,36 +1,19 @@
 #![tactic(auto)]
 // `export`: types of a tested store copied into a fresh one, "which the call itself opens in the destination's buffers whatever they held". It tests its
 // arguments and refuses, or copies as document 01 says; the source is only read. Refusals come in 01's order: 1, 3, 4, 10, 11 and 7.
-ghost use Rattle.std.specs.Prelude.{◌≡◌, length};
-ghost use Rattle.scope.specs.Calls.{first_broken, export_call};
+ghost use Rattle.std.specs.Prelude.{length};
+ghost use Rattle.scope.specs.Calls.{export_call};
 ghost use Rattle.layout.specs.Words.{store_in, lent_of};
 ghost use Rattle.store.specs.Entries.{types_in};
 ghost use Rattle.refusals.specs.Codes.{told};
 ghost use Rattle.refusals.specs.Opening.{enough};
 ghost use Rattle.sound.specs.Tests.{env_lent};
-ghost use Rattle.needs.specs.Sums.{sum_of};
 ghost use Rattle.promise.specs.Promise.{Tested};
 ghost use Rattle.promise.specs.Exports.{ExportPromised};
-ghost use Rattle.tested_export.specs.Tests.{fresh_tests, ExportTested};
+ghost use Rattle.tested_export.specs.Tests.{ExportTested};
 
 use chart::Env;
-use needs::Needs;
 use refusals::Refusal;
-
-// The first of refusals 10 and 11 that stands where these are the nodes and children that a fresh store has room for.
-// Kept (2): `refusals::room` reads a header, and the fresh store has none before all tests are passed. One function for both would take six numbers, two of
-// them zeros here, in place of these three lines.
-fn room(nodes: u32, children: u32, wanted: Needs) -> Result<(), Refusal>
-    ensures { first_broken (fresh_tests nodes children (sum_of wanted)) ≡ told result }
-{
-    if nodes < wanted.nodes {
-        return Err(Refusal::NodesFull);
-    }
-    if children < wanted.children {
-        return Err(Refusal::ChildrenFull);
-    }
-    Ok(())
-}
 
 // The first of all refusals but 7 that stands.
 fn tests(
@@ -52,7 +35,9 @@ fn tests(
     refusals::opening(h, ws, ks, nodes, children)?;
     let x = layout::read_header(sh);
     lent_tests::lists(ts, &[], x.nodes)?;
-    room(nodes, children, needs::of_export(sh, sw, sk, ts))
+    let wanted = needs::of_export(sh, sw, sk, ts);
+    let fresh = make::no_nodes(nodes, children, 0);
+    refusals::room_by(fresh, wanted.nodes, wanted.children)
 }
 
 // The listed types; what they become stands at the front of `out`. The fresh store has room for so many nodes and children, and remembers what the source's

@@ -36,7 +36,7 @@ use Rattle.promise.specs.Lists.{ListPromised}
 use Rattle.promise.proofs.Laws.{lent_clean_words, lent_store, lent_facts}
 use Rattle.promise.proofs.CallLaws.{call_back, call_done}
 use Rattle.copy.specs.Whole.{ImportReady, ImportedIs}
-use Rattle.call_make.proofs.tested.RoomLaws.{lent_ready}
+use Rattle.promise.proofs.RoomLaws.{lent_ready}
 use Rattle.tested_import.specs.Tests.{stores_tests, lists_tests, needs_tests, import_tests, StoresTested, ListsTested, NeedsTested, ImportTested}
 use Rattle.tested_import.proofs.TestLaws.{dest_passed, source_passed, listed_inside, entries_few}
 

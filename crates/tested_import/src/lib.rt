@@ -15,7 +15,7 @@ ghost use Rattle.tested_import.specs.Tests.{NeedsTested};
 ghost use Rattle.refusals.specs.Codes.{told};
 
 use chart::Env;
-use copy_parts::Source;
+use copy::Source;
 use layout::Nodes;
 use refusals::Refusal;
 

@@ -1,7 +1,7 @@
 -- What header and nodes of a tested store say, and one law for each way out of the calls that are lent no more.
 -- Assumes nothing.
-use mathlib.Core.Path.{◌≡◌, refl, ap}
-use mathlib.Core.List.{List, [], ◌∷◌}
+use mathlib.Core.Path.{◌≡◌, refl, ap, ◌∙◌}
+use mathlib.Core.List.{List, [], ◌∷◌, ◌++◌}
 use mathlib.Core.Option.{Option, none, some}
 use Prim.Native.Nat.{ℕ, ◌+◌, ◌≤◌, ◌<◌}
 use native.Mathlib.Omega.{arith}
@@ -10,27 +10,30 @@ use Rattle.scope.specs.Chart.{Env}
 use Rattle.scope.specs.Types.{ty_of}
 use Rattle.scope.specs.Nodes.{Node, find}
 use Rattle.scope.specs.Refusals.{NODES_FULL}
-use Rattle.scope.specs.Make.{new_var, make_error, make_nil}
-use Rattle.scope.specs.Calls.{first_broken, room_tests, nodes_for, new_var_call, error_call, nil_call, find_call, find_mut_call}
+use Rattle.scope.specs.Make.{new_var}
+use Rattle.scope.specs.Sound.{Lent}
+use Rattle.scope.specs.Calls.{first_broken, judged, store_of, lent_tests, room_tests, made_type, nodes_for, new_var_call, error_call, nil_call, find_call, find_mut_call}
 use Rattle.types.specs.declared.«Type».{«Type»}
-use Rattle.layout.specs.Words.{nodes_made, children_made, node_room, child_room, store_in}
-use Rattle.layout.specs.Meaning.{type_of, header_in, remembered_means, Linked, Lies}
+use Rattle.layout.specs.Words.{nodes_made, children_made, node_room, child_room, store_in, lent_of}
+use Rattle.layout.specs.Meaning.{header_in, remembered_means, Linked, Lies}
 use Rattle.layout.specs.Meaning.{Remembered}
-use Rattle.std.specs.Prelude.{Some}
 use Rattle.layout.specs.declared.TypeState.TheVariants.{Unknown}
 use Rattle.layout.proofs.StoreLaws.{clean_lies}
-use Rattle.store.proofs.Laws.{error_is, nil_is}
-use Rattle.scope.specs.Kinds.{TUPLE, ERROR}
+use Rattle.heads.specs.declared.Once.{Once}
+use Rattle.heads.specs.declared.Once.TheVariants as once
+use Rattle.heads.specs.Heads.{remembered_by}
+use Rattle.make.specs.Once.{once_of, make_once, OnceLeaves}
+use Rattle.tested_lean.specs.Once.{once_call}
 use Rattle.roots.specs.Found.{Found, FoundMut}
-use Rattle.make.specs.Header.{Pushed, BlankReady, OnceReady, OnceMade}
-use Rattle.make.proofs.MakeLaws.{blank_ready, blank_made, var_made, once_ready, error_made, nil_made}
+use Rattle.make.specs.Header.{Pushed, BlankReady, OnceReady}
+use Rattle.make.proofs.MakeLaws.{blank_ready, blank_made, var_made, once_ready, once_is, once_is_made}
 use Rattle.refusals.proofs.RoomLaws.{nodes_full, room_left}
 use Rattle.promise.specs.Promise.{value, refusal, Tested, TypesInside}
 use Rattle.promise.proofs.Laws.{tested_clean, inside_tested}
 use Rattle.promise.proofs.ReadLaws.{read_refused, read_linked, read_nodes}
-use Rattle.call_make.specs.Room.{RoomTested}
-use Rattle.call_make.proofs.tested.MakerLaws.{RoomFor, for_room, maker_back, maker_ready, maker_done, error_tested, nil_tested}
-use Rattle.call_find.proofs.tested.Laws.{mut_refused, mut_answer}
+use Rattle.tested_lean.specs.Room.{RoomTested}
+use Rattle.tested_lean.proofs.MakerLaws.{RoomFor, for_room, maker_back, maker_ready, maker_done, once_tested}
+use Rattle.tested_lean.proofs.FindLaws.{mut_refused, mut_answer}
 use Rattle.tested_lean.specs.Each.{Passed, EachPromised, EachAnswered, Within}
 
 tested_within : {e : Env} {h ws ks : List ℕ} → Tested e h ws ks → Within h
@@ -74,48 +77,32 @@ module _ {h ws : List ℕ} (span : ℕ) where
 
 -- error and nil
 
-module _ {h : List ℕ} {was : Remembered} where
-  module _ (e : was ≡ (header_in h).error) where
-    for_error : {v : Env} {ws ks : List ℕ} {o : Option ℕ} → RoomFor h (nodes_for (remembered_means was)) o → Tested v h ws ks
-        → RoomTested v h ws ks (λ s. nodes_for s.error) o
-    for_error room q =
-        error_tested {x = header_in h} refl (ap (λ (r : Remembered). nodes_for (remembered_means r)) e) q room
+once_call_is : (w : Once) (e : Env) (l : Lent)
+    → once_call w e l ≡ judged (lent_tests e l ++ room_tests (store_of l) (nodes_for (once_of w (store_of l))) 0) (made_type (make_once w (store_of l)))
+unfolding error_call nil_call
+once_call_is once.Error e l = refl
+once_call_is once.Nil e l = refl
 
-    pub error_back : {ws : List ℕ} {n : ℕ} → RoomFor h (nodes_for (remembered_means was)) (some n) → EachPromised error_call (refusal n) h ws h ws
-    unfolding error_call
-    error_back room = record { each = λ q. maker_back (for_error room q) make_error }
+module _ {h : List ℕ} {was : Remembered} (w : Once) (g : was ≡ remembered_by w (header_in h)) where
+  for_once : {v : Env} {ws ks : List ℕ} {o : Option ℕ} → RoomFor h (nodes_for (remembered_means was)) o → Tested v h ws ks
+      → RoomTested v h ws ks (λ s. nodes_for (once_of w s)) o
+  for_once {ws = ws} {ks = ks} room q =
+      once_tested (once_of w) (ap (λ (r : Remembered). nodes_for (remembered_means r)) g ∙ ap nodes_for (once_is h ws ks w)) q room
 
-    pub error_ready : {ws : List ℕ} → RoomFor h (nodes_for (remembered_means was)) none → Passed h ws → OnceReady h ws (header_in h) (header_in h).error
-    error_ready {ws} room p = once_ready (tested_clean p.tested) (error_is h ws p.kids) (maker_ready (for_error room p.tested))
+  pub once_back : {ws : List ℕ} {n : ℕ} → RoomFor h (nodes_for (remembered_means was)) (some n) → EachPromised (once_call w) (refusal n) h ws h ws
+  once_back {ws = ws} room = record {
+    each = λ {e = v} {ks = ks} q. rw (once_call_is w v (lent_of h ws ks)) (maker_back (for_once room q) (make_once w));
+  }
 
-    pub error_done : {ws h' ws' : List ℕ} {t : «Type»} → RoomFor h (nodes_for (remembered_means was)) none
-        → OnceMade h ws h' ws' (header_in h) (header_in h).error (Some (type_of (nodes_made h))) (header_in h).nil ERROR t
-        → EachPromised error_call (value (ty_of t.0)) h ws h' ws'
-    unfolding error_call
-    error_done {ws = ws} room o = record {
-      each = λ {ks = ks} q. maker_done (for_error room q) make_error (error_made h ws ks (maker_ready (for_error room q)) o);
-    }
+  pub once_can : {ws : List ℕ} → RoomFor h (nodes_for (remembered_means was)) none → Passed h ws → OnceReady h ws (header_in h) (remembered_by w (header_in h))
+  once_can {ws} room p = once_ready (tested_clean p.tested) (once_is h ws p.kids w) (maker_ready (for_once room p.tested))
 
-  module _ (e : was ≡ (header_in h).nil) where
-    for_nil : {v : Env} {ws ks : List ℕ} {o : Option ℕ} → RoomFor h (nodes_for (remembered_means was)) o → Tested v h ws ks
-        → RoomTested v h ws ks (λ s. nodes_for s.nil) o
-    for_nil room q =
-        nil_tested {x = header_in h} refl (ap (λ (r : Remembered). nodes_for (remembered_means r)) e) q room
-
-    pub nil_back : {ws : List ℕ} {n : ℕ} → RoomFor h (nodes_for (remembered_means was)) (some n) → EachPromised nil_call (refusal n) h ws h ws
-    unfolding nil_call
-    nil_back room = record { each = λ q. maker_back (for_nil room q) make_nil }
-
-    pub nil_ready : {ws : List ℕ} → RoomFor h (nodes_for (remembered_means was)) none → Passed h ws → OnceReady h ws (header_in h) (header_in h).nil
-    nil_ready {ws} room p = once_ready (tested_clean p.tested) (nil_is h ws p.kids) (maker_ready (for_nil room p.tested))
-
-    pub nil_done : {ws h' ws' : List ℕ} {t : «Type»} → RoomFor h (nodes_for (remembered_means was)) none
-        → OnceMade h ws h' ws' (header_in h) (header_in h).nil (header_in h).error (Some (type_of (nodes_made h))) TUPLE t
-        → EachPromised nil_call (value (ty_of t.0)) h ws h' ws'
-    unfolding nil_call
-    nil_done {ws = ws} room o = record {
-      each = λ {ks = ks} q. maker_done (for_nil room q) make_nil (nil_made h ws ks (maker_ready (for_nil room q)) o);
-    }
+  pub once_done : {ws h' ws' : List ℕ} {t : «Type»} → RoomFor h (nodes_for (remembered_means was)) none → OnceLeaves w h ws h' ws' t
+      → EachPromised (once_call w) (value (ty_of t.0)) h ws h' ws'
+  once_done {ws = ws} room o = record {
+    each = λ {e = v} {ks = ks} q.
+        rw (once_call_is w v (lent_of h ws ks)) (maker_done (for_once room q) (make_once w) (once_is_made h ws ks w (maker_ready (for_once room q)) o));
+  }
 
 -- find and find_mut
 

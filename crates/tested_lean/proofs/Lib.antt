@@ -1,1 +1,4 @@
+-- The laws that belong to no one function
+pub mod MakerLaws
+pub mod FindLaws
 pub mod Laws

@@ -1,1 +1,3 @@
 pub mod Each
+pub mod Room
+pub mod Once

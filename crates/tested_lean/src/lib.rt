@@ -1,18 +1,18 @@
 #![tactic(auto)]
-// The calls on a tested store that look at its header and its nodes alone, with no more lent to them: `new_var`, `error`, `nil`, `find`, `find_mut`. Each tests what
-// its form with all of the store tests, and answers the same, with every chart, texts and children's words with which the words pass the tests.
-//
-// Kept (2): the forms with all of the store, in `call_make` and `call_find`, are no calls of these: each is a test and a core function, two or three lines. What these
-// promise is said for every such chart and words at once, by the laws that those rest on, so that the order of the crates is this.
+// The calls on a tested store that look at its header and its nodes alone, with no more lent to them: `new_var`, `error`, `nil`, `find`, `find_mut`. Each tests and
+// answers what document 01 says, with every chart, texts and children's words with which the words pass the tests. `call_make` and `call_find` have each with all of the store,
+// as a call of the one here.
 ghost use Rattle.std.specs.Prelude.{◌≡◌, List, ℕ};
 ghost use Rattle.scope.specs.Types.{ty_of};
-ghost use Rattle.scope.specs.Calls.{first_broken, room_tests, nodes_for, new_var_call, error_call, nil_call, find_call, find_mut_call};
+ghost use Rattle.scope.specs.Calls.{first_broken, room_tests, nodes_for, new_var_call, find_call, find_mut_call};
 ghost use Rattle.layout.specs.Words.{store_in};
 ghost use Rattle.layout.specs.Meaning.{remembered_means};
 ghost use Rattle.refusals.specs.Codes.{told};
 ghost use Rattle.promise.specs.Promise.{type_reply};
+ghost use Rattle.tested_lean.specs.Once.{once_call};
 ghost use Rattle.tested_lean.specs.Each.{Passed, EachPromised, EachAnswered, Within};
 
+use heads::Once;
 use promise::inside;
 use refusals::Refusal;
 use types::Type;
@@ -48,23 +48,13 @@ pub fn new_var(h: &mut [u32], ws: &mut [u32], span: u32) -> Result<Type, Refusal
     Ok(make::push_unknown(h, ws, span, 0))
 }
 
-// The error type.
-// Kept (2): `nil` beside it is two lines too; one function of both would take two functions of `heads` and `make`.
-pub fn error(h: &mut [u32], ws: &mut [u32]) -> Result<Type, Refusal>
+// A type that is made once: the error type, or the type of nothing, a Tuple without children.
+pub fn once(h: &mut [u32], ws: &mut [u32], what: Once) -> Result<Type, Refusal>
     requires { Passed h.old ws.old }
-    ensures { EachPromised error_call (type_reply result) h.old ws.old h.new ws.new }
+    ensures { EachPromised (once_call what) (type_reply result) h.old ws.old h.new ws.new }
 {
-    once_room(h, heads::error_made(h))?;
-    Ok(make::error_once(h, ws))
-}
-
-// The type of nothing: a Tuple without children.
-pub fn nil(h: &mut [u32], ws: &mut [u32]) -> Result<Type, Refusal>
-    requires { Passed h.old ws.old }
-    ensures { EachPromised nil_call (type_reply result) h.old ws.old h.new ws.new }
-{
-    once_room(h, heads::nil_made(h))?;
-    Ok(make::nil_once(h, ws))
+    once_room(h, heads::made(h, what))?;
+    Ok(make::once(h, ws, what))
 }
 
 // "`find` follows parents, combining inversions by exclusive or."

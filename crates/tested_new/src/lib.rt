@@ -15,7 +15,6 @@ ghost use Rattle.tested_over.specs.Inside.{inside_call};
 
 use chart::Env;
 use kinds::{STRUCT, UNION};
-use layout::CHILD_WORDS;
 use lent_kind::{KindArgs, flagged, test_kind, test_list};
 use refusals::Refusal;
 use types::Type;
@@ -37,7 +36,7 @@ fn make_inside(
         (type_reply result) h.old ws.old ks.old h.new ws.new ks.new }
 {
     test_kind(env, k, entries)?;
-    refusals::room(h, 1, (entries.len() / CHILD_WORDS) as u32)?;
+    refusals::room(h, 1, store::entry_count(entries) as u32)?;
     Ok(make::new_kind(h, ws, ks, flagged(k, env.chart), entries))
 }
 
@@ -58,7 +57,7 @@ pub fn new(
 {
     let x = layout::read_header(h);
     let inside = refusals::entries_inside(entries, x.nodes);
-    test_list(inside, entries.len() / CHILD_WORDS)?;
+    test_list(inside, store::entry_count(entries))?;
     make_inside(env, h, ws, ks, k, entries)
 }
 

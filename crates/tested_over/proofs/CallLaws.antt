@@ -4,7 +4,7 @@ use mathlib.Core.Path.{◌≡◌, refl, ap, sym, ◌∙◌}
 use mathlib.Core.Bool.{Bool, true, false, not}
 use mathlib.Core.List.{List, [], ◌∷◌, ◌++◌}
 use mathlib.Core.Option.{Option, none, some}
-use Prim.Native.Nat.{ℕ, ◌%◌, ◌≤◌, ◌<◌}
+use Prim.Native.Nat.{ℕ, ◌%◌, ◌<◌}
 use lib.Dec.{eqb, ltb}
 use lib.ListN.{length}
 use borrow.Author.Tests.{ltb-true}
@@ -24,20 +24,20 @@ use Rattle.types.specs.declared.«Type».{«Type»}
 use Rattle.layout.specs.Words.{CHILD_WORDS, store_in, lent_of}
 use Rattle.layout.specs.Meaning.{kind_cell, header_in}
 use Rattle.layout.specs.declared.Header.{Header}
+use Rattle.layout.specs.declared.Kind.{Kind}
 use Rattle.layout.proofs.Lists.{and_right}
 use Rattle.store.specs.Holds.{Ready}
 use Rattle.make.specs.Made.{MadeIs}
 use Rattle.store.specs.Entries.{entry_count}
 use Rattle.make.specs.Given.{kind_given, KindReady}
-use Rattle.make.specs.declared.Head as make
 use Rattle.make.proofs.NewLaws.{kind_ready}
 use Rattle.sound.specs.Tests.{env_in}
 use Rattle.sound.proofs.Laws.{env_ok, env_whole}
 use Rattle.promise.specs.Promise.{Promised, Reply, value, refusal}
-use Rattle.refusals.proofs.Laws.{none_some, broken_first, broken_next, test_passed, tests_passed, judged_refused, judged_done}
+use Rattle.refusals.proofs.Laws.{none_some, broken_first, broken_next, test_passed, judged_refused, judged_done}
 use Rattle.promise.proofs.Laws.{lent_chart, lent_next, lent_store, lent_outside, promised_back, promised_done}
 use Rattle.refusals.proofs.RoomLaws.{ready_more}
-use Rattle.call_make.proofs.tested.MakerLaws.{made_done}
+use Rattle.make.proofs.MakeLaws.{made_done}
 use Rattle.lent_kind.specs.declared.KindArgs.{KindArgs}
 use Rattle.lent_kind.specs.Lent.{with_flag, kind_lent, tidy, given, list_tests, kind_tests}
 use Rattle.lent_kind.proofs.Laws.{wide_unmakeable, given_count, given_kind, untidy_test, flag_is}
@@ -80,7 +80,7 @@ module _ (cs rule text h ws ks : List ℕ) (k : KindArgs) (es : List ℕ) where
       inside_tidy : tidy k es ≡ true
       inside_tidy = tidy_go (tidy k es) refl
 
-      module _ {f : make.Head} (g : f ≡ with_flag k (flag_of (chart_alone cs) k.code k.number)) where
+      module _ {f : Kind} (g : f ≡ with_flag k (flag_of (chart_alone cs) k.code k.number)) where
         pub inside_ready : Ready h ws ks 0 0 → KindReady h ws ks f es
         inside_ready r = rw g (kind_ready (with_flag k (flag_of (chart_alone cs) k.code k.number)) es
             (ready_more 1 (entry_count es) r (p ws ks))
@@ -89,7 +89,7 @@ module _ (cs rule text h ws ks : List ℕ) (k : KindArgs) (es : List ℕ) where
         kind_made_lem : kind_made inner a ≡ kind_given f es
         kind_made_lem =
             given_kind k es inner (flag_of (chart_alone cs) k.code k.number) (flag_is cs rule text k es) inside_tidy
-            ∙ sym (ap (λ (n : make.Head). kind_given n es) g)
+            ∙ sym (ap (λ (n : Kind). kind_given n es) g)
 
         pub inside_made : {h' ws' ks' : List ℕ} {t : «Type»} → MadeIs h ws ks h' ws' ks' t (new s (kind_given f es))
             → Promised (inside_call inner s a) (value (ty_of t.0)) h ws ks h' ws' ks'

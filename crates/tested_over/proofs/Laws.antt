@@ -1,7 +1,7 @@
 -- One law for each way out of `new_listed`, `make_over` and `new_over`: what the laws of `new` say of the entries that the list would be.
 -- Assumes nothing.
 use mathlib.Core.Path.{◌≡◌, refl, ap, sym, ◌∙◌}
-use mathlib.Core.Bool.{Bool, true, false, not, false≢true}
+use mathlib.Core.Bool.{Bool, false, not, false≢true}
 use mathlib.Core.List.{List}
 use mathlib.Core.Option.{Option, none, some}
 use Prim.Native.Nat.{ℕ, ◌+◌, ◌≤◌}
@@ -33,13 +33,12 @@ use Rattle.store.specs.Entries.{entry_count, types_in}
 use Rattle.make.specs.Made.{MadeIs}
 use Rattle.make.specs.Header.{Pushable, Pushed}
 use Rattle.make.specs.Given.{kind_at, kind_given, KindReady, Put}
-use Rattle.make.specs.declared.Head as make
 use Rattle.make.proofs.MakeLaws.{RoomIn, ready_room, pushable_in}
 use Rattle.make.proofs.NewLaws.{kind_head, entries_ready, children_room, kind_made_lem}
 use Rattle.promise.specs.Promise.{Reply, value, refusal, Promised}
 use Rattle.lent_kind.specs.declared.KindArgs.{KindArgs}
 use Rattle.lent_kind.specs.Lent.{with_flag, given, plain_args, kind_tests, list_tests}
-use Rattle.call_make.proofs.tested.RoomLaws.{lent_within}
+use Rattle.promise.proofs.RoomLaws.{lent_within}
 use Rattle.tested_over.specs.Inside.{inside_call}
 use Rattle.tested_over.proofs.CallLaws.{inside_refused, inside_full, inside_ready, inside_made, new_listed, new_promised}
 use Rattle.sound.specs.Tests.{env_in}
@@ -48,7 +47,7 @@ use Rattle.tested_over.proofs.EntryLaws.{entries_count, entries_given}
 
 -- new_listed
 
-module _ (ts : List ℕ) {h ws ks : List ℕ} {k : make.Head} (r : KindReady h ws ks k (entries_of ts)) where
+module _ (ts : List ℕ) {h ws ks : List ℕ} {k : Kind} (r : KindReady h ws ks k (entries_of ts)) where
   pub list_ready : Ready h ws ks 1 (length ts)
   list_ready = entries_ready r (sym (entries_count ts))
 
@@ -99,7 +98,7 @@ module _ (cs h ws ks ts : List ℕ) (c m : ℕ) (row : (row_of c).names ≡ NO_N
         → Promised (inside_call (chart_in cs rule text) (store_in h ws ks) (given args (entries_of ts))) (refusal u) h ws ks h ws ks
     over_full room rule text = inside_full cs rule text h ws ks args (entries_of ts) (tests q rule text) (rooms room)
 
-    module _ (room : RoomTold h (length ts) none) {k : KindArgs} {f : make.Head} (a : k ≡ args) (g : f ≡ with_flag k (flag_of (chart_alone cs) k.code k.number)) where
+    module _ (room : RoomTold h (length ts) none) {k : KindArgs} {f : Kind} (a : k ≡ args) (g : f ≡ with_flag k (flag_of (chart_alone cs) k.code k.number)) where
       flag_is : f ≡ with_flag args (flag_of (chart_alone cs) c m)
       flag_is = rw a at g
 

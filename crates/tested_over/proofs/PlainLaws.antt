@@ -19,8 +19,6 @@ use Rattle.scope.specs.Calls.{first_broken, over, kind_made}
 use Rattle.chart.specs.Env.{chart_in, chart_alone}
 use Rattle.layout.specs.Meaning.{kind_means}
 use Rattle.layout.specs.declared.Kind.{Kind}
-use Rattle.make.specs.Given.{kind_at}
-use Rattle.make.specs.declared.Head as make
 use Rattle.kind_sound.proofs.Laws.{defined_chart}
 use Rattle.lent_kind.specs.declared.KindArgs.{KindArgs}
 use Rattle.lent_kind.specs.Lent.{with_flag, plain_args, kind_tests}
@@ -56,12 +54,12 @@ module _ (cs : List ℕ) (c n m : ℕ) (row : (row_of c).names ≡ NO_NAMES) (na
       pub number_unmade : number_ok (row_of c).number n ≡ false → first_broken (kind_tests env (over c n ts)) ≡ some UNMAKEABLE
       number_unmade s = rw (made_over, lt-ltb c KINDS code, shape, s)
 
-      module _ (number : number_ok (row_of c).number n ≡ true) {k : KindArgs} {f : make.Head} {kind : Kind} {d : Bool} (a : k ≡ plain_args c n)
-          (b : f ≡ with_flag k (flag_of (chart_alone cs) k.code k.number)) (g : kind ≡ kind_at f 0 0)
+      module _ (number : number_ok (row_of c).number n ≡ true) {k : KindArgs} {kind : Kind} {d : Bool} (a : k ≡ plain_args c n)
+          (b : kind ≡ with_flag k (flag_of (chart_alone cs) k.code k.number))
           (r : d ≡ defined (chart_alone cs) (kind_means [] kind).head) where
         same_definition : defined env (kind_made env (over c n ts)).head ≡ defined env (kind_means [] kind).head
         unfolding defined kind_means
-        same_definition = rw (g, b, a) refl
+        same_definition = rw (b, a) refl
 
         defined_is : defined env (kind_made env (over c n ts)).head ≡ d
         defined_is = same_definition ∙ (defined_chart env cs refl [] kind ∙ sym r)

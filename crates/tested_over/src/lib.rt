@@ -19,9 +19,8 @@ ghost use Rattle.tested_over.specs.Inside.{inside_call};
 ghost use Rattle.tested_over.specs.Over.{entries_of, PassedBy, OverPromised};
 
 use kinds::{ERROR, Names};
-use layout::{Slot, TypeState};
+use layout::{Kind, Slot, TypeState};
 use lent_kind::{flagged, plain_args, test_list};
-use make::Head;
 use names::NO_NAME;
 use refusals::Refusal;
 use types::{Inverted, Type};
@@ -42,7 +41,7 @@ fn put_listed(ks: &mut [u32], first: u32, types: &[u32])
 }
 
 // `new_kind` over listed types without names.
-fn new_listed(h: &mut [u32], ws: &mut [u32], ks: &mut [u32], k: Head, types: &[u32]) -> Type
+fn new_listed(h: &mut [u32], ws: &mut [u32], ks: &mut [u32], k: Kind, types: &[u32]) -> Type
     requires { KindReady h.old ws.old ks.old k (entries_of types.now) }
     ensures { MadeIs h.old ws.old ks.old h.new ws.new ks.new result
         (new (store_in h.old ws.old ks.old) (kind_given k (entries_of types.now))) }
@@ -50,7 +49,7 @@ fn new_listed(h: &mut [u32], ws: &mut [u32], ks: &mut [u32], k: Head, types: &[u
     let first = heads::children_made(h);
     put_listed(ks, first, types);
     let count = types.len() as u32;
-    let state = TypeState::Known(Inverted(false), make::kind_of(k, first, count));
+    let state = TypeState::Known(Inverted(false), Kind { first, count, ..k });
     make::push(h, ws, count, state)
 }
 
@@ -63,7 +62,7 @@ fn test_plain(chart: &[u32], code: u32, number: u32, n: usize) -> Result<(), Ref
     if code > ERROR || !kinds::shape_fits(code, n) || !kinds::number_ok(code, number) {
         return Err(Refusal::Unmakeable);
     }
-    let kind = make::kind_of(flagged(plain_args(code, number), chart), 0, 0);
+    let kind = flagged(plain_args(code, number), chart);
     if !kind_sound::is_defined(kind, chart) {
         return Err(Refusal::Undefined);
     }

@@ -13,6 +13,7 @@ ghost use Rattle.call_unify.specs.Answers.{unify_reply};
 use chart::Env;
 use refusals::Refusal;
 use types::{Inverted, Type, UnifyResult};
+use unify_enter::Fixed;
 
 // Two lists of types, a word a type, the second's inverted if inv says so.
 pub fn unify_types_recalling(
@@ -34,7 +35,12 @@ pub fn unify_types_recalling(
     let x = layout::read_header(h);
     lent_tests::lists(xs, ys, x.nodes)?;
     recall::begin(memory);
-    Ok(unify_lists::unify_lists(ws, ks, x.nodes, &env.texts, memory, xs, ys, inv))
+    let fixed = Fixed {
+        kids: ks,
+        made: x.nodes,
+        texts: env.texts,
+    };
+    Ok(unify_lists::unify_lists(ws, &fixed, memory, xs, ys, inv))
 }
 
 // The same without a memory.
@@ -77,7 +83,12 @@ pub fn unify_objects_recalling(
     let x = layout::read_header(h);
     lent_tests::objects(xs, ys, x.nodes, env)?;
     recall::begin(memory);
-    Ok(unify_lists::unify_entries(ws, ks, x.nodes, &env.texts, memory, xs, ys, inv))
+    let fixed = Fixed {
+        kids: ks,
+        made: x.nodes,
+        texts: env.texts,
+    };
+    Ok(unify_lists::unify_entries(ws, &fixed, memory, xs, ys, inv))
 }
 
 // The same without a memory.
@@ -121,7 +132,12 @@ pub fn unify_fn_sig_recalling(
     let x = layout::read_header(h);
     lent_tests::signatures(xs, r, ys, q, x.nodes)?;
     recall::begin(memory);
-    Ok(unify_lists::unify_fn_sig(ws, ks, x.nodes, &env.texts, memory, xs, r, ys, q))
+    let fixed = Fixed {
+        kids: ks,
+        made: x.nodes,
+        texts: env.texts,
+    };
+    Ok(unify_lists::unify_fn_sig(ws, &fixed, memory, xs, r, ys, q))
 }
 
 // The same without a memory.

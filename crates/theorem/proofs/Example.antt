@@ -21,6 +21,7 @@ use Rattle.scope.specs.Calls.{Outcome, done, open_call, new_var_call, unify_call
 use Rattle.types.specs.declared.«Type».{«Type»}
 use Rattle.types.specs.declared.UnifyResult.TheVariants as result
 use Rattle.chart.specs.Words.{runs}
+use Rattle.chart.specs.Env.{SIGIL_WORDS}
 use Rattle.layout.specs.Words.{clean, cell_at, node_at, node_clean, decode, store_in, long_enough, unused_zero, nodes_clean, lent_of}
 use Rattle.store.specs.Holds.{Beyond}
 use Rattle.refusals.specs.Opening.{enough}
@@ -36,7 +37,7 @@ use Rattle.theorem.proofs.Theorem.{theorem}
 
 -- no definition, no fn trait, four empty sigils, no text
 abbrev fixed : Fixed
-fixed = record { chart = []; beside = record { fn_trait = NONE; sigils = replicate 12 0 }; rule = []; text = [] }
+fixed = record { chart = []; beside = record { fn_trait = NONE; sigils = replicate SIGIL_WORDS 0 }; rule = []; text = [] }
 
 -- room for three nodes, of which n are made, and their words
 abbrev three : ℕ → List ℕ → Memory

@@ -2,7 +2,7 @@
 -- said of the code's answers and of the words is what scope says of the definitions'.
 -- Assumes nothing.
 use mathlib.Core.Path.{◌≡◌, refl, sym, ap, subst, ◌∙◌}
-use mathlib.Core.Bool.{Bool, true, false, ◌||◌}
+use mathlib.Core.Bool.{Bool, true, false}
 use mathlib.Core.List.{List, [], ◌∷◌, ◌++◌}
 use mathlib.Core.Logic.{◌↔◌}
 use mathlib.Core.Option.{some}
@@ -28,12 +28,9 @@ use Rattle.theorem.specs.Memory.{Memory, Fixed, env, held, roomy, Opened}
 use Rattle.theorem.specs.Runs.{Runs, stop, ◌then◌, calls_of, replies_of, joined, EachStep, summed, was_made, asks, unify_answers, no_default, nodes_by}
 use Rattle.theorem.proofs.StepLaws.{CleanWords, Leaves, not_done}
 use Rattle.theorem.proofs.Steps.{stepped}
+use Rattle.std.proofs.lemmas.Bool.{or_parts}
 
 -- opening
-
-or_passed : (a b : Bool) → (a || b) ≡ false → (a ≡ false) × (b ≡ false)
-or_passed false b q = (refl, q)
-or_passed true b q = let z : ◌≡◌ {A = ℕ} 0 1 = cc in absurd (omega arith)
 
 -- what an opening that is done says of capacities and of the store
 pub record Fresh (n c : ℕ) (s : Store) : Type 0 where
@@ -45,7 +42,7 @@ open_fresh : (n c : ℕ) (b : Bool) (s : Store) → open_call n c b ≡ done tt 
 unfolding open_call
 open_fresh n c b s = judged_cases (λ o. o ≡ done tt s → Fresh n c s) (open_test n c b ∷ []) (done tt (opened n c))
     (λ k q. not_done q)
-    (λ p q. let x = or_passed (ltb MAX_NODES n) _ p.0 in let y = or_passed (ltb MAX_CHILDREN c) _ x.1 in record {
+    (λ p q. let x = or_parts (ltb MAX_NODES n) _ p.0 in let y = or_parts (ltb MAX_CHILDREN c) _ x.1 in record {
       nodes = ltb-false MAX_NODES n x.0;
       children = ltb-false MAX_CHILDREN c y.0;
       is = same q;

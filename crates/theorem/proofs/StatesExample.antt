@@ -4,10 +4,10 @@
 use mathlib.Core.Path.{◌≡◌, refl}
 use mathlib.Core.List.{List, [], ◌∷◌, ◌++◌}
 use mathlib.Core.Bool.{true}
-use Prim.Native.Nat.{ℕ}
+use Prim.Native.Nat.{ℕ, ◌-◌, ◌*◌}
 use lib.ListN.{replicate}
 use Rattle.scope.specs.Text.{text}
-use Rattle.scope.specs.Limits.{NONE}
+use Rattle.scope.specs.Limits.{MAX_STATES, MAX_STATE_NAME, NONE}
 use Rattle.scope.specs.Names as Names
 use Rattle.scope.specs.Chart as Chart
 use Rattle.scope.specs.Types as Types
@@ -20,6 +20,7 @@ use Rattle.scope.specs.States as States
 use Rattle.scope.specs.States.{Book, open_names_call, name_state_call, return_to_call}
 use Rattle.scope.proofs.TestLaws.{tf}
 use Rattle.chart.specs.Words.{runs}
+use Rattle.chart.specs.Env.{SIGIL_WORDS}
 use Rattle.layout.specs.Words.{clean, cell_at, node_at, node_clean, decode, store_in, long_enough, unused_zero, nodes_clean, lent_of}
 use Rattle.store.specs.Holds.{Became}
 use Rattle.refusals.specs.Opening.{enough}
@@ -39,7 +40,7 @@ use Rattle.theorem.proofs.StatesTheorem.{states_theorem}
 
 -- no definition, no fn trait, four empty sigils, no text
 abbrev fixed : Fixed
-fixed = record { chart = []; beside = record { fn_trait = NONE; sigils = replicate 12 0 }; rule = []; text = [] }
+fixed = record { chart = []; beside = record { fn_trait = NONE; sigils = replicate SIGIL_WORDS 0 }; rule = []; text = [] }
 
 -- room for one node, of which n are made, and its words
 abbrev one : ℕ → List ℕ → Memory
@@ -53,14 +54,14 @@ m₁ = one 1 (1 ∷ 5 ∷ 1 ∷ replicate 9 0)
 
 -- a place's words: free, and `a` with a store that has no node
 abbrev free_place : List ℕ
-free_place = replicate 276 0
+free_place = replicate (Words.place_words 1 0) 0
 
 abbrev held_place : List ℕ
-held_place = 1 ∷ 97 ∷ replicate 254 0 ++ (0 ∷ 0 ∷ 0 ∷ 0 ∷ NONE ∷ NONE ∷ 0 ∷ 0 ∷ replicate 12 0)
+held_place = 1 ∷ 97 ∷ replicate (MAX_STATE_NAME - 1) 0 ++ (0 ∷ 0 ∷ 0 ∷ 0 ∷ NONE ∷ NONE ∷ 0 ∷ 0 ∷ replicate 12 0)
 
 -- a names buffer for one node and no child, the words of its first place, and seven free places
 abbrev buffer : List ℕ → List ℕ
-buffer ps = 1 ∷ 0 ∷ ps ++ replicate 1932 0
+buffer ps = 1 ∷ 0 ∷ ps ++ replicate ((MAX_STATES - 1) * Words.place_words 1 0) 0
 
 abbrev b₀ : List ℕ
 b₀ = buffer free_place
@@ -76,7 +77,7 @@ abbrev found : Memory
 found = memory_of (replicate 8 9) (replicate 12 9) []
 
 abbrev found_names : List ℕ
-found_names = replicate 2210 0
+found_names = replicate (Words.book_words 1 0) 0
 
 abbrev var : Outcome Ty
 var = new_var_call (env fixed) (lent m₀) 5

@@ -19,7 +19,7 @@ use Rattle.names.specs.declared.Name.{Name}
 use Rattle.layout.specs.declared.TypeNode.{TypeNode}
 use Rattle.layout.specs.declared.Header.{Header}
 use Rattle.walk.specs.declared.Mod.{Mod}
-use Rattle.force.specs.declared.Forced.{Forced}
+use Rattle.layout.specs.declared.TypeState.{TypeState}
 use Rattle.refusals.specs.declared.Refusal.{Refusal}
 use Rattle.types.specs.declared.Impl.{Impl}
 use Rattle.types.specs.Impls.{impl_means}
@@ -62,7 +62,7 @@ pub data Ran (f : Fixed) : Memory → Call → Reply → Memory → Type 0 where
   nil : {m : Memory} {h ws : List ℕ} (r : CodeAnswer «Type») → Did (nil_call (env f) (lent m)) (type_reply r) m (head_now m h ws)
       → Ran f m (call.make call.nil) (replied says.type (type_reply r)) (head_now m h ws)
   -- `force_kind`, `unify`
-  force_kind : {m : Memory} {h ws : List ℕ} (t : «Type») (r : CodeAnswer Forced)
+  force_kind : {m : Memory} {h ws : List ℕ} (t : «Type») (r : CodeAnswer TypeState)
       → ForcePromised (force_kind_call (env f) (lent m) (ty_of t.0)) r m.head m.nodes m.kids h ws
       → Ran f m (call.force_kind (ty_of t.0)) (replied says.forced (forced_reply m.kids r)) (head_now m h ws)
   unify : {m : Memory} {ws : List ℕ} (a b : «Type») (r : CodeAnswer UnifyResult) → Did (unify_call (env f) (lent m) (ty_of a.0) (ty_of b.0)) (unify_reply r) m (nodes_now m ws)

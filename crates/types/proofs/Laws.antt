@@ -43,6 +43,10 @@ ty_high : (w : ℕ) → INV_BIT ≤ w → w < WORD → ty_of w ≡ ty true (w - 
 unfolding ty_of
 ty_high w l h = let e : w % INV_BIT ≡ w - INV_BIT = omega arith in rw (le-leb INV_BIT w l, e)
 
+-- what `inverse` does to a word with the bit
+pub inverse_high : (w : ℕ) → INV_BIT ≤ w → w < WORD → ty_of (w - INV_BIT) ≡ flip true (ty_of w)
+inverse_high w l h = rw (ty_high w l h) (ty_plain (w - INV_BIT) (omega arith))
+
 -- a type's word without the bit, and with it
 word_low : (n : ℕ) → word_of (ty false n) ≡ n
 unfolding word_of

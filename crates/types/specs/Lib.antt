@@ -1,2 +1,3 @@
 pub mod Answers
 pub mod Impls
+pub mod Texts

@@ -1,12 +1,14 @@
 #![tactic(auto)]
 // "A type is a node number with an inversion bit, and node numbers, types and inversion flags are never exchanged for one another."
 // Beside them the answers of unify. The words and numbers mean what scope's definitions say.
-ghost use Rattle.std.specs.Prelude.{◌≡◌, true};
+ghost use Rattle.std.specs.Prelude.{◌≡◌, true, Some};
 ghost use Rattle.scope.specs.Base.{xor};
 ghost use Rattle.scope.specs.Types.{flip, ty_of};
 ghost use Rattle.scope.specs.Answers.{both, of_bool};
 ghost use Rattle.types.specs.Answers.{answer_of, number_of};
+ghost use Rattle.types.specs.Texts.{inverted_text, type_text};
 
+use std::fmt;
 use std::ops::BitXor;
 
 // A type variable, or its inverse: the high bit denotes the inverse, and the remaining bits are a TypeIdx.
@@ -68,6 +70,26 @@ impl Type {
         ensures { ty_of result.0 ≡ flip true (ty_of self.0) }
     {
         Type(self.0 ^ INV_BIT)
+    }
+}
+
+// A ~ where it says inverted.
+impl fmt::Display for Inverted {
+    ghost output = { λ i. Some (inverted_text i.0) };
+
+    fn fmt<W: fmt::Write>(&self, f: &mut fmt::Formatter<W>) -> fmt::Result {
+        f.write_str(if self.0 { "~" } else { "" })
+    }
+}
+
+// `3` or `~3`
+impl fmt::Display for Type {
+    ghost output = { λ t. Some (type_text (ty_of t.0)) };
+
+    fn fmt<W: fmt::Write>(&self, f: &mut fmt::Formatter<W>) -> fmt::Result {
+        let inv = self.inv();
+        let idx = self.idx().0;
+        write!(f, "{inv}{idx}")
     }
 }
 

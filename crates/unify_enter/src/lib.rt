@@ -6,13 +6,21 @@ pub mod walks;
 ghost use Rattle.scope.specs.Types.{ty_of};
 ghost use Rattle.names.specs.Place.{texts_by};
 ghost use Rattle.std.specs.Prelude.{[], ◌∷◌};
-ghost use Rattle.unify_enter.specs.Asked.{Asked};
+ghost use Rattle.unify_enter.specs.Asked.{AskedIn};
 ghost use Rattle.unify_enter.specs.Enters.{Enters};
 
 use layout::Nodes;
 use meeting::Steps;
 use names::Texts;
 use types::{Type, UnifyResult};
+
+// What stays as it is while nodes are unified: their children's words, how many nodes there are, and the two texts.
+#[derive(Clone, Copy)]
+pub struct Fixed<'a> {
+    pub kids: &'a [u32],
+    pub made: u32,
+    pub texts: Texts<'a>,
+}
 
 // What two types ask for: an answer, or children that are to be unified first, the memory's clock before them, and the two roots.
 // Kept (1): as a Result, Success would be an error or children would; nobody hands either on by `?`, and the one match on it goes on with both.
@@ -26,36 +34,34 @@ pub enum Entered {
 // the memory here.
 pub fn enter(
     ws: &mut [u32],
-    ks: &[u32],
-    n: u32,
-    texts: &Texts<'_>,
+    fixed: &Fixed<'_>,
     memory: &mut [u32],
     a: Type,
     b: Type,
     depth: u32,
 ) -> Entered
-    requires { Asked (texts_by texts.now) ws.old ks.now memory.old n depth ((ty_of a.0, ty_of b.0) ∷ []) }
-    ensures { Enters (texts_by texts.now) ws.old ks.now memory.old ws.new memory.new
-        n depth (ty_of a.0) (ty_of b.0) result }
+    requires { AskedIn fixed.now ws.old memory.old depth ((ty_of a.0, ty_of b.0) ∷ []) }
+    ensures { Enters (texts_by fixed.now.texts) ws.old fixed.now.kids.now memory.old ws.new memory.new
+        fixed.now.made depth (ty_of a.0) (ty_of b.0) result }
 {
     if depth == 0 {
         return Entered::Done(UnifyResult::Failure);
     }
-    if meeting::bare_roots(ws, n, a, b) {
-        return Entered::Done(walks::walk_pair(ws, ks, n, memory, a, b));
+    if meeting::bare_roots(ws, fixed.made, a, b) {
+        return Entered::Done(walks::walk_pair(ws, fixed, memory, a, b));
     }
     recall::visited(memory, 1);
-    let ra = heed::find(ws, n, memory, a);
-    let rb = heed::find(ws, n, memory, b);
+    let ra = heed::find(ws, fixed.made, memory, a);
+    let rb = heed::find(ws, fixed.made, memory, b);
     let nodes = Nodes {
         words: ws,
-        kids: ks,
-        made: n,
+        kids: fixed.kids,
+        made: fixed.made,
     };
-    let Some(p) = meeting::meet(&nodes, texts, ra, rb) else {
-        return Entered::Done(walks::walk_pair(ws, ks, n, memory, ra, rb));
+    let Some(p) = meeting::meet(&nodes, &fixed.texts, ra, rb) else {
+        return Entered::Done(walks::walk_pair(ws, fixed, memory, ra, rb));
     };
-    match recall::look(memory, n, ra, rb) {
+    match recall::look(memory, fixed.made, ra, rb) {
         Some(r) => Entered::Done(r),
         None => Entered::Kids(meeting::in_steps(p), recall::clock(memory), ra, rb),
     }

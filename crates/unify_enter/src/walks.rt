@@ -4,29 +4,30 @@
 ghost use Rattle.scope.specs.Types.{ty_of};
 ghost use Rattle.unify_enter.specs.Walk.{WalkAsks, WalkTold};
 
+use crate::Fixed;
 use layout::Nodes;
 use types::{Type, UnifyResult};
 
 // Two roots, whatever they are: what the memory knows, or a walk says an answer or a merge.
-fn walk_on(ws: &mut [u32], ks: &[u32], n: u32, memory: &mut [u32], a: Type, b: Type) -> UnifyResult
-    requires { WalkAsks ws.old ks.now memory.old n (ty_of a.0) (ty_of b.0) }
-    ensures { WalkTold ws.old ks.now memory.old ws.new memory.new n (ty_of a.0) (ty_of b.0) result }
+fn walk_on(ws: &mut [u32], fixed: &Fixed<'_>, memory: &mut [u32], a: Type, b: Type) -> UnifyResult
+    requires { WalkAsks ws.old fixed.now.kids.now memory.old fixed.now.made (ty_of a.0) (ty_of b.0) }
+    ensures { WalkTold ws.old fixed.now.kids.now memory.old ws.new memory.new fixed.now.made (ty_of a.0) (ty_of b.0) result }
 {
-    if let Some(r) = recall::look(memory, n, a, b) {
+    if let Some(r) = recall::look(memory, fixed.made, a, b) {
         return r;
     }
     let nodes = Nodes {
         words: ws,
-        kids: ks,
-        made: n,
+        kids: fixed.kids,
+        made: fixed.made,
     };
     match meeting::walk_roots(&nodes, a, b) {
         Some(r) => {
-            recall::walked(memory, n, a, b, r);
+            recall::walked(memory, fixed.made, a, b, r);
             r
         }
         None => {
-            merge::bind(ws, n, a, b);
+            merge::bind(ws, fixed.made, a, b);
             recall::changed(memory);
             UnifyResult::Success
         }
@@ -36,36 +37,35 @@ fn walk_on(ws: &mut [u32], ks: &[u32], n: u32, memory: &mut [u32], a: Type, b: T
 // The same; two types of one node need no walk where they agree, nor one nil, nor a marked root.
 pub fn walk_pair(
     ws: &mut [u32],
-    ks: &[u32],
-    n: u32,
+    fixed: &Fixed<'_>,
     memory: &mut [u32],
     a: Type,
     b: Type,
 ) -> UnifyResult
-    requires { WalkAsks ws.old ks.now memory.old n (ty_of a.0) (ty_of b.0) }
-    ensures { WalkTold ws.old ks.now memory.old ws.new memory.new n (ty_of a.0) (ty_of b.0) result }
+    requires { WalkAsks ws.old fixed.now.kids.now memory.old fixed.now.made (ty_of a.0) (ty_of b.0) }
+    ensures { WalkTold ws.old fixed.now.kids.now memory.old ws.new memory.new fixed.now.made (ty_of a.0) (ty_of b.0) result }
 {
     if a.idx() != b.idx() {
-        return walk_on(ws, ks, n, memory, a, b);
+        return walk_on(ws, fixed, memory, a, b);
     }
     if a.inv() == b.inv() {
         return UnifyResult::Success;
     }
-    if heed::small(ws, n, memory, a, b) {
+    if heed::small(ws, fixed.made, memory, a, b) {
         return UnifyResult::Success;
     }
     if marks::knows(memory, a.idx()) {
         return UnifyResult::Success;
     }
-    if let Some(r) = recall::look(memory, n, a, b) {
+    if let Some(r) = recall::look(memory, fixed.made, a, b) {
         return r;
     }
     let nodes = Nodes {
         words: ws,
-        kids: ks,
-        made: n,
+        kids: fixed.kids,
+        made: fixed.made,
     };
     let r = UnifyResult::from(own_inverse::ask(&nodes, memory, a));
-    recall::walked(memory, n, a, b, r);
+    recall::walked(memory, fixed.made, a, b, r);
     r
 }

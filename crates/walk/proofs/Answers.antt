@@ -31,7 +31,6 @@ use Rattle.layout.proofs.Laws.{length_decode}
 use Rattle.layout.proofs.HeldLaws.{held_kids_lem}
 use Rattle.chart.specs.Words.{records_of}
 use Rattle.roots.specs.Found.{Found}
-use Rattle.related.proofs.Laws.{root_is}
 use Rattle.inverse.specs.Marked.{Beside}
 use Rattle.walk.specs.declared.Mod.{Mod}
 use Rattle.walk.specs.declared.Mod.TheVariants as mods
@@ -39,6 +38,7 @@ use Rattle.roots.specs.Nil.{nil_by}
 use Rattle.walk.specs.Read.{mod_means, mod_by}
 use Rattle.walk.specs.Asks.{Stands, Walks, Occurs, Inverses, Nil, Modded}
 use Rattle.walk.proofs.Laws.{mod_in, nil_read, mod_read, kid_next, kid_none}
+use Rattle.roots.proofs.Laws.{root_is}
 
 -- sound nodes can be walked
 pub sound_walks : (e : Env) {ws ks : List ℕ} {c n : ℕ} → Clean ws ks c n → n ≤ MAX_NODES → SoundNodes e (decode ws ks n) → Walks ws ks n

@@ -19,10 +19,8 @@ use Rattle.layout.specs.Meaning.{slot_means, kind_means, read_at, held_in, held_
 use Rattle.layout.specs.declared.Kind.{Kind}
 use Rattle.layout.specs.declared.Slot.{Slot}
 use Rattle.layout.specs.Meaning.{Held}
-use Rattle.std.specs.Prelude.{Some, None}
+use Rattle.std.specs.Prelude.{Option, Some, None}
 use Rattle.layout.proofs.HeldLaws.{held_kids_lem}
-use Rattle.inverse.specs.declared.Glance.{Glance}
-use Rattle.inverse.specs.declared.Glance.TheVariants.{Met, Clear}
 use Rattle.walk.specs.Read.{leaf_by}
 use Rattle.walk.specs.Asks.{Stands, Looked, Occurs}
 use Rattle.walk.proofs.Laws.{kid_next, kid_none}
@@ -31,11 +29,8 @@ use Rattle.walk.proofs.Answers.{occurs_same, occurs_leaf}
 -- what a look answers
 
 module _ {ns : List Node} {n x : ℕ} {ts : List Ty} where
-  pub looked_met : any (λ t. occurs (n - 1) ns x (find ns t).idx) ts ≡ true → Looked ns n x ts Met
-  looked_met e = record { met = λ q. e; clear = λ q. let z : ◌≡◌ {A = ℕ} 0 1 = cc in absurd (omega arith) }
-
-  pub looked_clear : any (λ t. occurs (n - 1) ns x (find ns t).idx) ts ≡ false → Looked ns n x ts Clear
-  looked_clear e = record { met = λ q. let z : ◌≡◌ {A = ℕ} 0 1 = cc in absurd (omega arith); clear = λ q. e }
+  pub looked : {b : Bool} → any (λ t. occurs (n - 1) ns x (find ns t).idx) ts ≡ b → Looked ns n x ts (Some b)
+  looked e = record { told = λ a q. cc }
 
 -- children from j on tell what all of them tell
 pub record Left (p : Ty → Bool) (ks : List ℕ) (k : Kind) (j : ℕ) : Type 0 where
@@ -90,9 +85,5 @@ module _ {ws ks : List ℕ} {n x y : ℕ} (o : Occurs ws ks n x y) {i : ℕ} (r 
         occurs_step n (decode ws ks n) x (ty_of y).idx (omega (arith, o.node)) (rw (← r) h)
         ∙ ap (any (λ t. occurs (n - 1) (decode ws ks n) x (find (decode ws ks n) t).idx)) same
 
-    module _ {g : Glance} (w : Looked (decode ws ks n) n x (kind_means ks k).kids g) where
-      pub occurs_met : g ≡ Met → true ≡ occurs n (decode ws ks n) x (ty_of y).idx
-      occurs_met q = sym (occurs_kids ∙ w.met q)
-
-      pub occurs_clear : g ≡ Clear → false ≡ occurs n (decode ws ks n) x (ty_of y).idx
-      occurs_clear q = sym (occurs_kids ∙ w.clear q)
+    pub occurs_told : {g : Option Bool} {b : Bool} → Looked (decode ws ks n) n x (kind_means ks k).kids g → g ≡ Some b → b ≡ occurs n (decode ws ks n) x (ty_of y).idx
+    occurs_told {g} {b} w q = sym (occurs_kids ∙ w.told b q)

@@ -1,6 +1,6 @@
 -- What the calls ask and give, over the n nodes in ws whose children lie in ks. That a walk marks just what a type leads to, which `occurs` and
 -- `self_inverse` go by, holds where nodes can be walked, as sound ones can.
-use Rattle.std.specs.Prelude.{◌≡◌, Bool, true, false, List, ℕ, ◌-◌, ◌≤◌, ◌<◌}
+use Rattle.std.specs.Prelude.{◌≡◌, Bool, true, Option, Some, List, ℕ, ◌-◌, ◌≤◌, ◌<◌}
 use Rattle.scope.specs.Base.{any}
 use Rattle.scope.specs.Limits.{MAX_NODES}
 use Rattle.scope.specs.Chart.{Env}
@@ -14,15 +14,12 @@ use Rattle.layout.specs.Meaning.{Clean}
 use Rattle.layout.specs.declared.Nodes.{Nodes}
 use Rattle.chart.specs.Words.{records_of}
 pub use Rattle.related.specs.Stands.{Stands, StandsIn}
-use Rattle.inverse.specs.declared.Glance.{Glance}
-use Rattle.inverse.specs.declared.Glance.TheVariants.{Met, Clear}
 use Rattle.walk.specs.declared.Mod.{Mod}
 use Rattle.walk.specs.Read.{mod_means}
 
 -- what a look at a kind's children ts tells of x, in a walk of depth n from the kind on
-pub record Looked (ns : List Node) (n x : ℕ) (ts : List Ty) (r : Glance) : Type 0 where
-  pub met : r ≡ Met → any (λ t. occurs (n - 1) ns x (find ns t).idx) ts ≡ true
-  pub clear : r ≡ Clear → any (λ t. occurs (n - 1) ns x (find ns t).idx) ts ≡ false
+pub record Looked (ns : List Node) (n x : ℕ) (ts : List Ty) (r : Option Bool) : Type 0 where
+  pub told : (b : Bool) → r ≡ Some b → any (λ t. occurs (n - 1) ns x (find ns t).idx) ts ≡ b
 
 -- nodes that can be walked, with a mark for each
 pub record Walks (ws ks : List ℕ) (n : ℕ) : Type 0 where

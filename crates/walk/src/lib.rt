@@ -11,7 +11,6 @@ ghost use Rattle.walk.specs.Read.{leaf_by, mod_means, mod_by};
 ghost use Rattle.related.specs.Stands.{StandsIn};
 ghost use Rattle.walk.specs.Asks.{Looked, OccursIn, InversesIn, Nil, ModdedIn};
 
-use inverse::Glance;
 use layout::{Kind, Nodes, TypeNode};
 use scope::MAX_NODES;
 use types::{Type, TypeIdx};
@@ -32,25 +31,27 @@ fn is_leaf(nodes: &Nodes<'_>, i: TypeIdx) -> bool
     nodes.held(i).is_none_or(|(_, kind)| kind.count == 0)
 }
 
-// A look at a kind's children, which ends where one is far from its root or has children itself.
-fn look(nodes: &Nodes<'_>, x: TypeIdx, kind: Kind) -> Glance
+// Is x among a kind's children? None, as only a walk tells, where one is far from its root or has children itself.
+// Kept (5): no struct around `Nodes` keeps `StandsIn`, which is one word here, below and in five crates. `node_sound` reads nodes that do not stand yet by the same functions of `layout`,
+// so the struct would be unpacked at each call of these. As a ghost field it is refused, too: `Stands` has the number of children made, so it is no fact with one proof at most.
+fn look(nodes: &Nodes<'_>, x: TypeIdx, kind: Kind) -> Option<bool>
     requires { StandsIn nodes.now × (1 < nodes.now.made) }
     ensures { Looked (nodes_by nodes.now) nodes.now.made x.0 (kind_means nodes.now.kids.now kind).kids result }
 {
     for j in 0..kind.count {
         let kid = nodes.child(kind.first, j).ty;
         let Some(root) = roots::near(nodes.words, nodes.made, kid) else {
-            return Glance::Deep;
+            return None;
         };
         let i = root.idx();
         if i == x {
-            return Glance::Met;
+            return Some(true);
         }
         if !is_leaf(nodes, i) {
-            return Glance::Deep;
+            return None;
         }
     }
-    Glance::Clear
+    Some(false)
 }
 
 fn occurs_deep(nodes: &Nodes<'_>, x: TypeIdx, y: Type) -> bool
@@ -76,9 +77,8 @@ pub fn occurs(nodes: &Nodes<'_>, x: TypeIdx, y: Type) -> bool
         _ => return false,
     };
     match look(nodes, x, kind) {
-        Glance::Met => true,
-        Glance::Clear => false,
-        Glance::Deep => occurs_deep(nodes, x, y),
+        Some(told) => told,
+        None => occurs_deep(nodes, x, y),
     }
 }
 
@@ -97,9 +97,8 @@ pub fn self_inverse(nodes: &Nodes<'_>, t: Type, param: bool) -> bool
     ensures { result ≡ self_inverse_of (nodes_by nodes.now) (ty_of t.0) param }
 {
     match inverse::quickly(nodes, t, param) {
-        Glance::Met => false,
-        Glance::Clear => true,
-        Glance::Deep => inverse_deep(nodes, t, param),
+        Some(own) => own,
+        None => inverse_deep(nodes, t, param),
     }
 }
 

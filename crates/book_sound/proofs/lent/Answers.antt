@@ -1,15 +1,9 @@
 -- `book_sound::lent` meets its contract: chart and store are tested first, and each way out has its law.
 -- Assumes nothing.
 use mathlib.Core.Path.{sym, ◌∙◌}
-use Rattle.refusals.proofs.Laws.{err_told}
 use Rattle.book.specs.Words.{lent_book_of}
-use Rattle.book_sound.proofs.Laws.{names_back, names_unsound, names_pass}
+use Rattle.book_sound.proofs.Laws.{names_unsound, names_pass}
 use Rattle.book_sound.proofs.lent.Goals as goal
-
-pub returns-in_err-lent : goal.returns-in_err-lent
-returns-in_err-lent c = let a = c.args in
-    rw (err_told c.from_residual.result c.from_residual.ensures.1)
-    (names_back a.env.now a.h.now a.ws.now a.ks.now (lent_book_of a.bs.now) c.in_err-lent.ensures)
 
 pub returns-then-not-book_sound : goal.returns-then-not-book_sound
 returns-then-not-book_sound c = let a = c.args in

@@ -2,7 +2,6 @@
 -- Assumes nothing.
 use Rattle.book.proofs.Places.{book_lies}
 use Rattle.book.proofs.Names.{place_name}
-use Rattle.book_sound.proofs.NameLaws.{other_told}
 use Rattle.book_sound.proofs.other_name.Goals as goal
 
 pub place-requires : goal.place-requires
@@ -20,6 +19,3 @@ same_names-requires c = let a = c.args in
     let p = place_name a.bs.now a.j c.requires.0.clean c.requires.1 in
     let q = place_name a.bs.now a.i c.requires.0.clean c.requires.0.index in
     (rw w p, rw v q)
-
-pub returns : goal.returns
-returns c = other_told c.args.bs.now c.args.i c.args.j c.room_of-room.ensures c.place.ensures c.place-2.ensures c.same_names.ensures

@@ -1,9 +1,7 @@
--- `c_outs::tell_mod` meets its contract: each case's number and words are the law's. Assumes nothing.
-use Rattle.c_outs.proofs.Laws.{mod_told}
+-- `c_outs::tell_mod` meets its contract: what tells each case's number and words tells the answer. Assumes nothing.
+use Rattle.c_outs.specs.Outs.{mod_number, mod_out}
+use Rattle.c_outs.proofs.Laws.{told_by, mod_told}
 use Rattle.c_outs.proofs.tell_mod.Goals as goal
 
-pub returns-in-Ok : goal.returns-in-Ok
-returns-in-Ok c = rw (c.in-Ok.is, c.mod_def.ensures, c.mod_number.ensures) (mod_told _ _)
-
-pub returns-in-Err : goal.returns-in-Err
-returns-in-Err c = rw (c.in-Err.is, c.refused.ensures) (mod_told _ _)
+pub returns : goal.returns
+returns c = told_by mod_number mod_out _ _ (mod_told _ _) c.map.ensures.cases c.tell.ensures

@@ -1,14 +1,7 @@
--- `c_outs::tell_name` meets its contract: each case's number and words are the law's. Assumes nothing.
-use Rattle.c_outs.proofs.Laws.{name_told}
+-- `c_outs::tell_name` meets its contract: what tells each case's number and words tells the answer. Assumes nothing.
+use Rattle.c_outs.specs.Outs.{some_number, name_out}
+use Rattle.c_outs.proofs.Laws.{told_by, name_told}
 use Rattle.c_outs.proofs.tell_name.Goals as goal
 
-pub returns-in-Ok-Some : goal.returns-in-Ok-Some
-returns-in-Ok-Some c = let q = rw c.in-Ok-Some.is at c.in-Ok-Some.field-0-is in
-    rw (c.in-Ok-Some.is, q) (name_told _ _)
-
-pub returns-in-Ok-None : goal.returns-in-Ok-None
-returns-in-Ok-None c = let q = rw c.in-Ok-None.is at c.in-Ok-None.field-0-is in
-    rw (c.in-Ok-None.is, q) (name_told _ _)
-
-pub returns-in-Err : goal.returns-in-Err
-returns-in-Err c = rw (c.in-Err.is, c.refused.ensures) (name_told _ _)
+pub returns : goal.returns
+returns c = told_by some_number name_out _ _ (name_told _ _) c.map.ensures.cases c.tell.ensures

@@ -16,8 +16,9 @@ use Rattle.scope.specs.Force as scope
 use Rattle.scope.specs.Calls.{Outcome, done, outside, force_kind_call}
 use Rattle.types.specs.declared.«Type».{«Type»}
 use Rattle.layout.specs.Words.{children_made, store_in, lent_of, clean}
-use Rattle.force.specs.Forcing.{forced_fits, ForcedIs}
-use Rattle.force.specs.declared.Forced.{Forced}
+use Rattle.layout.specs.Meaning.{state_fits}
+use Rattle.layout.specs.declared.TypeState.{TypeState}
+use Rattle.force.specs.Forcing.{ForcedIs}
 use Rattle.refusals.specs.Codes.{number}
 use Rattle.refusals.specs.declared.Refusal.{Refusal}
 use Rattle.promise.specs.Promise.{TypesTested}
@@ -48,7 +49,7 @@ force_children : (s : Store) (t : Ty) → (force_kind s t).1.children ≡ s.chil
 unfolding force_kind
 force_children s t = fail_children (with_nodes s (find_mut s.nodes t)) (find s.nodes t) (state_at s.nodes t)
 
-forced_children : {h ws ks h' ws' : List ℕ} {t : «Type»} {r : Forced} → ForcedIs h ws ks h' ws' t r → children_made h' ≡ children_made h
+forced_children : {h ws ks h' ws' : List ℕ} {t : «Type»} {r : TypeState} → ForcedIs h ws ks h' ws' t r → children_made h' ≡ children_made h
 unfolding store_in
 forced_children {h} {ws} {ks} {t = t} o =
     ap (λ (s : Store). s.children) o.store.holds.is ∙ force_children (store_in h ws ks) (ty_of t.0)
@@ -68,13 +69,13 @@ module _ {e : Env} {h ws ks : List ℕ} (t : «Type») where
     pub forced_clean : clean h ws ks ≡ true
     forced_clean = lent_clean_words e h ws ks (read_passed q)
 
-    pub forced_done : {h' ws' : List ℕ} {f : Forced} → ForcedIs h ws ks h' ws' t f
+    pub forced_done : {h' ws' : List ℕ} {f : TypeState} → ForcedIs h ws ks h' ws' t f
         → ForcePromised (force_kind_call e (lent_of h ws ks) (ty_of t.0)) (Ok f) h ws ks h' ws'
     unfolding force_kind_call
     forced_done {f = f} o =
         let T : Ty = ty_of t.0 in
         record {
-          fits = ap (λ (m : ℕ). forced_fits ks m f) (forced_children o) ∙ o.fits;
+          fits = ap (λ (m : ℕ). state_fits ks m f) (forced_children o) ∙ o.fits;
           promised =
               call_done e h ws ks (λ s. outside s (T ∷ []) ∷ []) (forcing T) q.first
               (ap (λ (y : scope.Forced). done y (force_kind (store_in h ws ks) T).1) (sym o.answer)) o.store;

@@ -31,8 +31,8 @@ use Rattle.refusals.specs.declared.Refusal.TheVariants.{Short}
 use Rattle.refusals.specs.Codes.{number}
 use Rattle.refusals.proofs.Laws.{broken_first, broken_next, test_stands, test_falls}
 use Rattle.promise.proofs.CallLaws.{call_back, call_done}
-use Rattle.call_make.specs.Room.{RoomTested}
-use Rattle.call_make.proofs.tested.MakerLaws.{maker_ready}
+use Rattle.tested_lean.specs.Room.{RoomTested}
+use Rattle.tested_lean.proofs.MakerLaws.{maker_ready}
 
 -- the types of n variables
 

@@ -1,14 +1,13 @@
--- `clean::all_zero` meets its contract. The invariant: `zero` says of the words so far whether they are zero, and it says so with those that are left just
--- where all words are.
+-- `clean::all_zero` meets its contract: what the words so far tell is whether they are zero.
 -- Assumes nothing.
-use mathlib.Core.Path.{sym, ◌∙◌}
-use Rattle.clean.proofs.Laws.{zero_next, zero_end}
+use mathlib.Core.Path.{◌≡◌, refl}
+use Rattle.std.proofs.Common.{rules, subst}
+use Rattle.std.proofs.lemmas.Fn.{fold_over, slice_gives, fronts}
+use Rattle.scope.specs.Sound.{zeros}
+use Rattle.clean.proofs.Laws.{zeros_push}
 use Rattle.clean.proofs.all_zero.Goals as goal
 
-pub loop-word-preserved : goal.loop-word-preserved
-loop-word-preserved c =
-    c.loop-word.invariant ∙ zero_next c.args.s.now c.loop-word.word-index c.loop-word.zero c.loop-word-test.true
-
 pub returns : goal.returns
-returns c =
-    sym (c.loop-word.invariant ∙ zero_end c.args.s.now c.loop-word.word-index c.loop-word.zero c.loop-word-test.false)
+returns c = subst (λ l. c.fold.result ≡ zeros l) c.iter.ensures.rest
+    (fold_over fronts (λ y. y.now) _ (λ ys z. z ≡ zeros ys) _ (λ ys a x b f' j k. let more = zeros_push ys x.now in search rules)
+    _ _ _ _ (slice_gives c.iter.result) refl c.fold.ensures.ran)

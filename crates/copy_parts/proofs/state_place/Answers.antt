@@ -14,9 +14,9 @@ returns-in-Known c =
 pub returns-in-Unknown : goal.returns-in-Unknown
 returns-in-Unknown c =
     place_read (Unknown _) _ c.idx.ensures c.node.ensures (sym c.in-Unknown.is ∙ c.state_of.ensures)
-    (λ ks. become_unknown (params_in c.args.source.now.params) ks c.args.root _) (refl, refl)
+    (λ ks. become_unknown (params_in c.args.params) ks c.args.root _) (refl, refl)
 
 pub returns-in-InferenceFailed : goal.returns-in-InferenceFailed
 returns-in-InferenceFailed c =
     place_read InferenceFailed _ c.idx.ensures c.node.ensures (sym c.in-InferenceFailed.is ∙ c.state_of.ensures)
-    (λ ks. become_failed (params_in c.args.source.now.params) ks c.args.root) (refl, refl)
+    (λ ks. become_failed (params_in c.args.params) ks c.args.root) (refl, refl)

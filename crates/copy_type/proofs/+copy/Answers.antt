@@ -1,10 +1,9 @@
 -- `copy_type::copy` meets its contract. The measure is the depth. A root that has no copy is begun before its children are copied; the loop's invariant is
--- `Filling`: what is left of them gives what all of them give, and those done stand in the run reserved for them. Beside it the cache keeps roots.
+-- `Filling`: what is left of them gives what all of them give, and those done stand in the run reserved for them.
 -- Assumes nothing.
 use mathlib.Core.Path.{refl, ap, ◌∙◌}
 use native.Mathlib.Omega.{arith}
 use Rattle.layout.specs.declared.Header.{Header}
-use Rattle.layout.proofs.LinkLaws.{clean_linked}
 use Rattle.layout.proofs.StoreLaws.{clean_nodes}
 use Rattle.needs.proofs.CountLaws.{kid_next}
 use Rattle.copy_type.proofs.FillLaws.{kid_copyable, kid_room, filling_next}
@@ -13,56 +12,51 @@ use Rattle.copy_type.proofs.+copy.Goals as goal
 
 pub returns-then-depth-eq0 : goal.returns-then-depth-eq0
 returns-then-depth-eq0 t c =
-    (copied_shallow c.requires.0 c.if-depth-eq0.true, c.requires.1)
-
-pub find_by-root-requires : goal.find_by-root-requires
-find_by-root-requires t c =
-    (clean_linked _ _ _ _ c.requires.0.source, c.requires.1)
+    (copied_shallow c.requires c.if-depth-eq0.true, refl, refl)
 
 pub root_place-requires : goal.root_place-requires
 root_place-requires t c =
-    place_few c.requires.0 _
+    place_few c.requires _
 
 pub begin-new-requires : goal.begin-new-requires
 begin-new-requires t c =
-    node_ready _ _ _ _ _ _ _ _ _ _ _ c.requires.0 c.if-depth-eq0.false c.find_by-root.ensures.0 c.root_place.ensures
+    node_ready _ _ _ _ _ _ _ _ _ _ _ c.requires c.if-depth-eq0.false c.find-root.ensures.0 c.root_place.ensures
     c.in-Node.is
 
 pub loop-j-init : goal.loop-j-init
 loop-j-init t c = (
-  filling_start _ _ _ _ _ _ _ _ _ _ _ c.requires.0 c.if-depth-eq0.false c.find_by-root.ensures.0 c.root_place.ensures
+  filling_start _ _ _ _ _ _ _ _ _ _ _ c.requires c.if-depth-eq0.false c.find-root.ensures.0 c.root_place.ensures
       c.in-Node.is c.idx-at.ensures (ap (λ (yy : Header). yy.children) c.read_header-from.ensures) c.begin-new.ensures,
-  c.find_by-root.ensures.1,
-  refl,
+  c.find-root.ensures.1,
+  c.find-root.ensures.2,
 )
 
 pub copy-next-requires : goal.copy-next-requires
 copy-next-requires t c = (
   omega (arith, c.if-depth-eq0.false),
-  (
-    kid_copyable c.loop-j.invariant.0 c.loop-j-test.true _
-        (kid_next c.args.source.now.nodes.kids.now _ _ _ c.child.result c.loop-j-test.true c.child.ensures) c.requires.0.source,
-    c.loop-j.invariant.1,
-  ),
+  rw c.loop-j.invariant.1 (
+      kid_copyable c.loop-j.invariant.0 c.loop-j-test.true _
+      (kid_next c.args.finder.now.nodes.now.kids.now _ _ _ c.child.result c.loop-j-test.true c.child.ensures) c.requires.source
+      ),
 )
 
 pub move_child-requires : goal.move_child-requires
 move_child-requires t c =
     kid_room c.loop-j.invariant.0 c.loop-j-test.true _
-    (kid_next c.args.source.now.nodes.kids.now _ _ _ c.child.result c.loop-j-test.true c.child.ensures) c.copy-next.ensures.0
+    (kid_next c.args.finder.now.nodes.now.kids.now _ _ _ c.child.result c.loop-j-test.true c.child.ensures) (rw c.loop-j.invariant.1 at c.copy-next.ensures.0)
 
 pub loop-j-preserved : goal.loop-j-preserved
 loop-j-preserved t c = (
-  filling_next c.loop-j.invariant.0 c.loop-j-test.true _ (kid_next c.args.source.now.nodes.kids.now _ _ _ c.child.result c.loop-j-test.true c.child.ensures)
-      c.copy-next.ensures.0 c.move_child.ensures
+  filling_next c.loop-j.invariant.0 c.loop-j-test.true _ (kid_next c.args.finder.now.nodes.now.kids.now _ _ _ c.child.result c.loop-j-test.true c.child.ensures)
+      (rw c.loop-j.invariant.1 at c.copy-next.ensures.0) c.move_child.ensures
       (record {
         tables = c.copy-next.auto.table;
         heads = c.copy-next.auto.h;
         nodes = c.copy-next.auto.ws;
         kids = c.move_child.auto.ks ∙ c.copy-next.auto.ks;
       }),
-  c.copy-next.ensures.1,
-  c.copy-next.auto.cache ∙ c.loop-j.invariant.2,
+  c.copy-next.ensures.1 ∙ c.loop-j.invariant.1,
+  c.copy-next.ensures.2 ∙ c.loop-j.invariant.2,
 )
 
 pub end-requires : goal.end-requires
@@ -71,16 +65,18 @@ end-requires t c =
 
 pub returns-in-Is : goal.returns-in-Is
 returns-in-Is t c = (
-  copied_is _ _ _ _ _ _ _ _ _ _ _ c.requires.0 c.if-depth-eq0.false c.find_by-root.ensures.0
+  copied_is _ _ _ _ _ _ _ _ _ _ _ c.requires c.if-depth-eq0.false c.find-root.ensures.0
       c.root_place.ensures c.in-Is.is,
-  c.find_by-root.ensures.1,
+  c.find-root.ensures.1,
+  c.find-root.ensures.2,
 )
 
 pub returns-after-loop-j : goal.returns-after-loop-j
 returns-after-loop-j t c = (
-  copied_node _ _ _ _ _ _ _ _ _ _ _ c.requires.0 c.if-depth-eq0.false c.find_by-root.ensures.0 c.root_place.ensures
+  copied_node _ _ _ _ _ _ _ _ _ _ _ c.requires c.if-depth-eq0.false c.find-root.ensures.0 c.root_place.ensures
       c.in-Node.is c.idx-at.ensures (ap (λ (yy : Header). yy.children) c.read_header-from.ensures) c.begin-new.ensures
       c.loop-j.invariant.0 c.loop-j-test.false c.inv.result c.idx.ensures c.end.ensures
       c.inv.ensures c.invert_if.ensures,
   c.loop-j.invariant.1,
+  c.loop-j.invariant.2,
 )

@@ -5,7 +5,7 @@ use mathlib.Core.Path.{refl}
 use native.Mathlib.Omega.{arith}
 use Rattle.layout.proofs.LinkLaws.{clean_linked}
 use Rattle.inverse.proofs.RunLaws.{going_start, going_up, going_met, going_good, going_down}
-use Rattle.inverse.proofs.RunLaws.{tries_met, told_zero, told_bad, told_good, told_run}
+use Rattle.inverse.proofs.RunLaws.{tries_bad, told_zero, told_bad, told_good, told_run}
 use Rattle.inverse.proofs.inverse_run.Goals as goal
 
 pub loop-left-init : goal.loop-left-init
@@ -16,7 +16,7 @@ find_in-requires c = clean_linked _ _ _ _ c.requires.clean
 
 pub returns-in-Bad : goal.returns-in-Bad
 returns-in-Bad c =
-    tries_met
+    tries_bad
     (going_met c.loop-left.invariant c.child_at.result c.if-run.true c.child_at.ensures
     (told_bad c.requires c.find_in.ensures c.idx-root.ensures c.judge.ensures c.in-Bad.is))
 

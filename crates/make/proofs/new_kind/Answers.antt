@@ -1,6 +1,7 @@
 -- `make::new_kind` meets its contract. The entries are put behind the children made, where no node looks, and the kind that is pushed has them; so it
 -- means the kind that was given.
 -- Assumes nothing.
+use mathlib.Core.Path.{refl}
 use native.Mathlib.Omega.{arith}
 use Rattle.make.proofs.MakeLaws.{pushable_in}
 use Rattle.make.proofs.NewLaws.{kind_head, entries_ready, children_room, kind_made_lem}
@@ -20,4 +21,4 @@ push-requires c =
 pub returns : goal.returns
 returns c =
     kind_made_lem c.requires c.children_made-first.ensures c.entry_count-n.ensures c.put_children.ensures
-    c.put_children.auto.ks c.kind_of.ensures c.push.ensures
+    c.put_children.auto.ks refl c.push.ensures

@@ -5,4 +5,4 @@ use Rattle.marks.proofs.know.Goals as goal
 
 pub returns : goal.returns
 returns c =
-    marked c.requires c.open_marks.ensures c.at.ensures c.put.ensures
+    marked c.requires c.open_marks.ensures c.word.ensures c.put.ensures

@@ -1,8 +1,8 @@
--- `merge::slight` meets its contract: what `quick` merges, and two nodes of which one has rank 1 and one rank 0.
+-- `merge::slight` meets its contract: what `quick` merges, and two nodes of which one has no kind and the other no children.
 -- Assumes nothing.
+use borrow.Author.Rules.{rules}
 use Rattle.merge.proofs.QuickLaws.{tried_slight}
 use Rattle.merge.proofs.slight.Goals as goal
 
-pub returns : goal.returns
-returns c =
-    tried_slight c.quick.ensures c.if-quick.false c.rank.ensures.is c.rank-else-eq.ensures.is c.if-rank-ne1.false c.bind.ensures
+pub returns-in-Bare-Lone : goal.returns-in-Bare-Lone
+returns-in-Bare-Lone c = tried_slight c.quick.ensures c.if-quick.false (search rules) c.bind.ensures

@@ -3,21 +3,18 @@
 -- Assumes nothing.
 use mathlib.Core.Path.{refl, ◌∙◌}
 use native.Mathlib.Omega.{arith}
-use Rattle.layout.proofs.LinkLaws.{clean_linked}
-use Rattle.needs.proofs.CountLaws.{turn_next, kid_next, root_is}
+use Rattle.needs.proofs.CountLaws.{turn_next, kid_next}
 use Rattle.needs.proofs.CountLaws.{count_shallow, count_met, count_replaced, count_lacking, node_fits, node_turn, count_node}
 use Rattle.needs.proofs.+count.Goals as goal
 use Rattle.needs.proofs.+count.Goals.{then-not-is_met, else-not-is_met}
+use Rattle.roots.proofs.Laws.{root_is}
 
 pub returns-then-depth-eq0 : goal.returns-then-depth-eq0
-returns-then-depth-eq0 t c = (count_shallow c.if-depth-eq0.true, refl)
-
-pub find-requires : goal.find-requires
-find-requires t c = clean_linked _ _ _ _ c.requires.source.clean
+returns-then-depth-eq0 t c = (count_shallow c.if-depth-eq0.true, refl, refl)
 
 pub returns-then-is_counted : goal.returns-then-is_counted
 returns-then-is_counted t c =
-    (count_met _ _ _ _ _ _ _ _ _ (root_is c.find.ensures.0 c.idx-root.ensures _) c.is_counted.ensures c.if-is_counted.true, c.find.ensures.1)
+    (count_met _ _ _ _ _ _ _ _ _ (root_is c.find.ensures.0 c.idx-root.ensures _) c.is_counted.ensures c.if-is_counted.true, c.find.ensures.1, c.find.ensures.2)
 
 pub overflow_add-all-in-Node : goal.overflow_add-all-in-Node
 overflow_add-all-in-Node t c =
@@ -30,11 +27,8 @@ loop-j-init t c = (
   node_turn _ _ _ _ _ _ _ _ _ (root_is c.find.ensures.0 c.idx-root.ensures _) c.is_counted.ensures
       c.requires.source c.if-is_counted.false c.root_asks.ensures c.in-Node.is c.set_mark.ensures c.requires.small,
   c.find.ensures.1,
+  c.find.ensures.2,
 )
-
-pub is_met-requires : goal.is_met-requires
-is_met-requires t c =
-    rw c.loop-j.invariant.1 (clean_linked _ _ _ _ c.requires.source.clean)
 
 pub loop-j-preserved : goal.loop-j-preserved
 loop-j-preserved t c =
@@ -43,10 +37,12 @@ loop-j-preserved t c =
       | then-not-is_met w ↦ rw (w.finder-is, w.marks-is, w.all-is) (
         turn_next c.loop-j.invariant.0 c.requires.source e (rw (c.is_met.ensures.1, c.loop-j.invariant.1) at w.count-all.ensures.0) w.count-all.auto.marks,
         w.count-all.ensures.1 ∙ (c.is_met.ensures.1 ∙ c.loop-j.invariant.1),
+        w.count-all.ensures.2 ∙ (c.is_met.ensures.2 ∙ c.loop-j.invariant.2),
       )
       | else-not-is_met w ↦ rw (w.finder-is, w.marks-is, w.all-is) (
         turn_next c.loop-j.invariant.0 c.requires.source e ((rw c.loop-j.invariant.1 at c.is_met.ensures.0).is w.if-not-is_met.false c.args.finder.now.nodes.now.kids.now _ _ _) refl,
         c.is_met.ensures.1 ∙ c.loop-j.invariant.1,
+        c.is_met.ensures.2 ∙ c.loop-j.invariant.2,
       )
     ]
 
@@ -55,6 +51,7 @@ returns-in-Replaced t c = (
   count_replaced _ _ _ _ _ _ _ _ _ (root_is c.find.ensures.0 c.idx-root.ensures _) c.is_counted.ensures
       c.requires.source c.if-is_counted.false c.root_asks.ensures c.in-Replaced.is,
   c.find.ensures.1,
+  c.find.ensures.2,
 )
 
 pub returns-in-Missing : goal.returns-in-Missing
@@ -62,6 +59,7 @@ returns-in-Missing t c = (
   count_lacking _ _ _ _ _ _ _ _ _ (root_is c.find.ensures.0 c.idx-root.ensures _) c.is_counted.ensures
       c.requires.source c.if-is_counted.false c.root_asks.ensures c.if-depth-eq0.false c.in-Missing.is,
   c.find.ensures.1,
+  c.find.ensures.2,
 )
 
 pub returns-after-loop-j : goal.returns-after-loop-j
@@ -70,4 +68,5 @@ returns-after-loop-j t c = (
       c.requires.source c.if-is_counted.false c.root_asks.ensures c.in-Node.is c.set_mark.ensures
       c.if-depth-eq0.false c.loop-j.invariant.0 c.loop-j-test.false,
   c.loop-j.invariant.1,
+  c.loop-j.invariant.2,
 )

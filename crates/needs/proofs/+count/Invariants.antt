@@ -14,4 +14,4 @@ abbrev pub invariant-loop-j : goal.invariant-loop-j
 invariant-loop-j l =
     let nodes = l.fn.finder.nodes.now in
     Turn nodes.words.now nodes.kids.now nodes.made l.params (l.depth - 1) (kids_in nodes.kids.now l.first l.kids) l.initial.marks l.initial.all l.marks l.all l.j
-    × (l.finder.nodes ≡ l.fn.finder.nodes)
+    × (l.finder.nodes ≡ l.fn.finder.nodes) × (l.finder.cache.ghost_name ≡ l.fn.finder.cache.ghost_name)

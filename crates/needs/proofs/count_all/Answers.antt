@@ -10,4 +10,5 @@ loop-t-preserved c = (
   turn_next c.loop-t.invariant.0 c.requires.source (listed_next c.args.ts.now c.loop-t.t-index c.loop-t-test.true)
       (rw c.loop-t.invariant.1 at c.count-all.ensures.0) c.count-all.auto.marks,
   c.count-all.ensures.1 ∙ c.loop-t.invariant.1,
+  c.count-all.ensures.2 ∙ c.loop-t.invariant.2,
 )

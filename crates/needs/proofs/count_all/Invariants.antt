@@ -8,4 +8,5 @@ use Rattle.needs.proofs.count_all.Given as goal
 abbrev pub invariant-loop-t : goal.invariant-loop-t
 invariant-loop-t l =
     let nodes = l.fn.finder.nodes.now in
-    Turn nodes.words.now nodes.kids.now nodes.made l.params nodes.made (types_in l.ts) l.initial.marks l.initial.all l.marks l.all l.t-index × (l.finder.nodes ≡ l.fn.finder.nodes)
+    Turn nodes.words.now nodes.kids.now nodes.made l.params nodes.made (types_in l.ts) l.initial.marks l.initial.all l.marks l.all l.t-index
+    × (l.finder.nodes ≡ l.fn.finder.nodes) × (l.finder.cache.ghost_name ≡ l.fn.finder.cache.ghost_name)

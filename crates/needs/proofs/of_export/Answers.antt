@@ -2,8 +2,9 @@
 -- Assumes nothing.
 use native.Mathlib.Omega.{arith}
 use Rattle.scope.specs.Limits.{MAX_NODES}
+use Rattle.layout.proofs.LinkLaws.{clean_linked}
 use Rattle.roots.proofs.KeptLaws.{cached_zeros}
-use Rattle.needs.proofs.SourceLaws.{start_countable, all_countable, export_source, export_needs}
+use Rattle.needs.proofs.SourceLaws.{default_is, start_countable, all_countable, export_source, export_needs}
 use Rattle.needs.proofs.of_export.Goals as goal
 
 pub invariant_of-nodes : goal.invariant_of-nodes
@@ -15,21 +16,23 @@ pub count_remembered-first-requires : goal.count_remembered-first-requires
 count_remembered-first-requires c =
     start_countable {m = MAX_NODES}
     (export_source c.args.h.now c.args.ws.now c.args.ks.now c.args.ts.now c.read_header-x.ensures c.requires)
-    (omega arith) c.nothing.ensures
+    (omega arith) (default_is c.default.ensures)
 
 pub invariant_of-finder : goal.invariant_of-finder
-invariant_of-finder c = record { cached = cached_zeros _ _ MAX_NODES }
+invariant_of-finder c =
+    let source = export_source c.args.h.now c.args.ws.now c.args.ks.now c.args.ts.now c.read_header-x.ensures c.requires in
+    record { linked = clean_linked _ _ _ _ source.readable.clean; cached = cached_zeros _ _ MAX_NODES }
 
 pub count_remembered-next-requires : goal.count_remembered-next-requires
 count_remembered-next-requires c =
     let z = export_source c.args.h.now c.args.ws.now c.args.ks.now c.args.ts.now c.read_header-x.ensures c.requires in
-    let k = start_countable {m = MAX_NODES} z (omega arith) c.nothing.ensures in
+    let k = start_countable {m = MAX_NODES} z (omega arith) (default_is c.default.ensures) in
     rw c.count_remembered-first.ensures.1 (all_countable k c.count_remembered-first.ensures.0 c.count_remembered-first.auto.marks)
 
 pub count_all-requires : goal.count_all-requires
 count_all-requires c =
     let z = export_source c.args.h.now c.args.ws.now c.args.ks.now c.args.ts.now c.read_header-x.ensures c.requires in
-    let k = start_countable {m = MAX_NODES} z (omega arith) c.nothing.ensures in
+    let k = start_countable {m = MAX_NODES} z (omega arith) (default_is c.default.ensures) in
     let first = c.count_remembered-first.ensures.1 in
     rw (c.count_remembered-next.ensures.1, first) (
     all_countable (all_countable k c.count_remembered-first.ensures.0 c.count_remembered-first.auto.marks)
@@ -39,7 +42,7 @@ count_all-requires c =
 pub returns : goal.returns
 returns c =
     export_needs c.args.h.now c.args.ws.now c.args.ks.now c.args.ts.now c.read_header-x.ensures c.requires MAX_NODES c.requires.few
-    c.nothing.ensures
+    (default_is c.default.ensures)
     (record {
       ms₁ = _;
       ms₂ = _;

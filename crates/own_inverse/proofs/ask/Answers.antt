@@ -1,11 +1,11 @@
--- `own_inverse::ask` meets its contract: what a glance tells, and else what a walk beside the memory's marks does.
+-- `own_inverse::ask` meets its contract: what the root or some visits tell, and else what a walk beside the memory's marks does.
 -- Assumes nothing.
 use Rattle.own_inverse.proofs.Laws.{ask_not, ask_marks}
 use Rattle.own_inverse.proofs.ask.Goals as goal
 
-pub returns-in-Met : goal.returns-in-Met
-returns-in-Met c = ask_not c.requires c.quickly.ensures c.in-Met.is
+pub returns-then-own : goal.returns-then-own
+returns-then-own c =
+    ask_marks c.requires c.quickly.ensures c.in-Some.is c.if-own.true c.idx.ensures c.know.ensures
 
-pub returns-in-Clear : goal.returns-in-Clear
-returns-in-Clear c =
-    ask_marks c.requires c.quickly.ensures c.in-Clear.is c.idx.ensures c.know.ensures
+pub returns-else-own : goal.returns-else-own
+returns-else-own c = ask_not c.requires c.quickly.ensures c.in-Some.is c.if-own.false

@@ -5,7 +5,6 @@ use mathlib.Core.Path.{◌≡◌, refl, ◌∙◌}
 use Prim.Native.Nat.{◌+◌}
 use native.Mathlib.Omega.{arith}
 use Rattle.layout.specs.Lent.{nodes_by}
-use Rattle.layout.proofs.LinkLaws.{clean_linked}
 use Rattle.related.proofs.KeepLaws.{keeps_over, keeps_pass, keeps_met, keeps_new, keeps_stretch}
 use Rattle.related.proofs.TurnLaws.{Onward, below_shallow, below_none, below_kind, turn_pass, turn_end, turn_stretch, turn_met, turn_new}
 use Rattle.related.proofs.+mark_below.Goals as goal
@@ -13,11 +12,11 @@ use Rattle.related.proofs.+mark_below.Goals.{in-Some-meet, in_default-meet}
 
 pub returns-then-depth-eq0 : goal.returns-then-depth-eq0
 returns-then-depth-eq0 t c =
-    (below_shallow c.args.depth (nodes_by c.args.finder.now.nodes.now) _ c.args.root.0 c.if-depth-eq0.true, c.requires.1, refl)
+    (below_shallow c.args.depth (nodes_by c.args.finder.now.nodes.now) _ c.args.root.0 c.if-depth-eq0.true, c.requires.1, refl, refl)
 
 pub returns-in_default : goal.returns-in_default
 returns-in_default t c =
-    (below_none _ c.requires.0 c.held.ensures _ _ c.in_default.is, c.requires.1, refl)
+    (below_none _ c.requires.0 c.held.ensures _ _ c.in_default.is, c.requires.1, refl, refl)
 
 pub loop-s-preserved-then-far-gt0 : goal.loop-s-preserved-then-far-gt0
 loop-s-preserved-then-far-gt0 t c = (
@@ -27,11 +26,12 @@ loop-s-preserved-then-far-gt0 t c = (
   c.loop-s.invariant.3,
   c.pass-far.auto.skip ∙ c.loop-s.invariant.4,
   c.loop-s.invariant.5,
+  c.loop-s.invariant.6,
 )
 
 pub meet-requires : goal.meet-requires
 meet-requires t c =
-    rw c.loop-s.invariant.2 (clean_linked _ _ _ _ c.requires.0.clean, c.loop-s.invariant.1.sees)
+    rw c.loop-s.invariant.2 c.loop-s.invariant.1.sees
 
 pub mark_below-requires : goal.mark_below-requires
 mark_below-requires t c =
@@ -46,9 +46,10 @@ loop-s-preserved t c =
     let p = keeps_pass c.loop-s.invariant.1 c.pass-far.ensures in
     let met = rw c.loop-s.invariant.2 at c.meet.ensures.0 in
     let same = c.meet.ensures.1 ∙ c.loop-s.invariant.2 in
+    let kept = c.meet.ensures.2 ∙ c.loop-s.invariant.6 in
     let o :
     Onward a.depth nodes.now.words.now nodes.now.kids.now nodes.now.made c.in-Some.kind.first (c.in-Some.kind.first + c.in-Some.kind.count) a.marks.now m.marks m.seen m.skip
-    (c.loop-s.s + 1) × (m.finder.nodes ≡ nodes) =
+    (c.loop-s.s + 1) × (m.finder.nodes ≡ nodes) × (m.finder.cache.ghost_name ≡ a.finder.now.cache.ghost_name) =
     elim m.branch [
       | in-Some-meet w ↦
           let below = rw same at w.mark_below.ensures in
@@ -60,6 +61,7 @@ loop-s-preserved t c =
               keeps = below.1;
             },
             below.2,
+            w.mark_below.ensures.3 ∙ kept,
           )
       | in_default-meet w ↦
           rw (w.finder-is, w.marks-is, w.seen-is, w.skip-is) (
@@ -69,6 +71,7 @@ loop-s-preserved t c =
               keeps = keeps_met p met w.in_default-meet.is;
             },
             same,
+            kept,
           )
     ]
     in (
@@ -78,6 +81,7 @@ loop-s-preserved t c =
       m.auto.seen ∙ (c.meet.auto.seen ∙ c.loop-s.invariant.3),
       c.stretch-s.auto.skip ∙ (m.auto.skip ∙ (c.pass-far.auto.skip ∙ c.loop-s.invariant.4)),
       c.loop-s.invariant.5,
+      o.2,
     )
 
 pub returns : goal.returns
@@ -85,4 +89,5 @@ returns t c = (
   turn_end c.loop-s.invariant.0 (omega (arith, c.loop-s-test.false)) ∙ below_kind _ c.requires.0 c.held.ensures _ _ c.in-Some.is,
   c.loop-s.invariant.1,
   c.loop-s.invariant.2,
+  c.loop-s.invariant.6,
 )

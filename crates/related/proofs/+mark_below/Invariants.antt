@@ -21,6 +21,7 @@ invariant-loop-s l =
     Turn (related_f l.depth (nodes_by nodes)) nodes.kids.now l.initial.s l.end l.initial.marks l.marks l.s
     × KeepsIn nodes l.marks l.seen l.skip × (l.finder.nodes ≡ l.fn.finder.nodes)
     × (length l.seen ≡ length l.initial.seen) × (length l.skip ≡ length l.initial.skip) × (l.end < SLOTS)
+    × (l.finder.cache.ghost_name ≡ l.fn.finder.cache.ghost_name)
 
 abbrev pub decreases-loop-s : goal.decreases-loop-s
 decreases-loop-s l = l.end - l.s

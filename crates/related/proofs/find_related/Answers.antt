@@ -2,9 +2,10 @@
 -- Assumes nothing.
 use mathlib.Core.Path.{◌∙◌}
 use Rattle.layout.proofs.LinkLaws.{clean_linked}
-use Rattle.related.proofs.Laws.{root_is, mark_shallow, mark_met, mark_whole}
+use Rattle.related.proofs.Laws.{mark_shallow, mark_met, mark_whole}
 use Rattle.related.proofs.TurnLaws.{mark_walked}
 use Rattle.related.proofs.find_related.Goals as goal
+use Rattle.roots.proofs.Laws.{root_is}
 
 pub returns-then-nodes-eq0 : goal.returns-then-nodes-eq0
 returns-then-nodes-eq0 c =

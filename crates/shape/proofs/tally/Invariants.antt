@@ -3,5 +3,5 @@
 use Rattle.shape.proofs.Laws as laws
 use Rattle.shape.proofs.tally.Given as goal
 
-abbrev pub invariant-loop-i : goal.invariant-loop-i
-invariant-loop-i l = laws.Counted l.roots l.counts l.n l.i
+abbrev pub invariant-loop-more : goal.invariant-loop-more
+invariant-loop-more l = laws.Counted l.roots l.counts l.n l.more-index

@@ -16,11 +16,11 @@ use Rattle.sheet_calls.proofs.made.Goals as goal
 pub new_var-requires : goal.new_var-requires
 new_var-requires c = sheet_passed c.requires.sheet_store
 
-pub nil-requires : goal.nil-requires
-nil-requires c = sheet_passed c.requires.sheet_store
+pub once-requires : goal.once-requires
+once-requires c = sheet_passed c.requires.sheet_store
 
-pub error-requires : goal.error-requires
-error-requires c = sheet_passed c.requires.sheet_store
+pub once-requires-in-Error : goal.once-requires-in-Error
+once-requires-in-Error c = sheet_passed c.requires.sheet_store
 
 pub slice_bounds-new_over-end-in-Over : goal.slice_bounds-new_over-end-in-Over
 slice_bounds-new_over-end-in-Over c =
@@ -39,14 +39,14 @@ returns-in-Var c =
 pub returns-in-Nil : goal.returns-in-Nil
 unfolding sheet_line
 returns-in-Nil c =
-    let kept = c.nil.ensures.each (sheet_tested c.requires.sheet_store refl) in
-    rw c.in-Nil.is (made c.requires.sheet_store Line.nil _ c.nil.result refl (λ out. refl) (as_sheet c.requires.sheet_store refl nil_call kept))
+    let kept = c.once.ensures.each (sheet_tested c.requires.sheet_store refl) in
+    rw c.in-Nil.is (made c.requires.sheet_store Line.nil _ c.once.result refl (λ out. refl) (as_sheet c.requires.sheet_store refl nil_call kept))
 
 pub returns-in-Error : goal.returns-in-Error
 unfolding sheet_line
 returns-in-Error c =
-    let kept = c.error.ensures.each (sheet_tested c.requires.sheet_store refl) in
-    rw c.in-Error.is (made c.requires.sheet_store Line.error _ c.error.result refl (λ out. refl) (as_sheet c.requires.sheet_store refl error_call kept))
+    let kept = c.once-in-Error.ensures.each (sheet_tested c.requires.sheet_store refl) in
+    rw c.in-Error.is (made c.requires.sheet_store Line.error _ c.once-in-Error.result refl (λ out. refl) (as_sheet c.requires.sheet_store refl error_call kept))
 
 pub returns-in-Over : goal.returns-in-Over
 returns-in-Over c =

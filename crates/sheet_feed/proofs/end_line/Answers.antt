@@ -12,4 +12,4 @@ slice_bounds-run_line-end c =
 
 pub returns : goal.returns
 returns c =
-    line_ran c.requires.line_len c.kept-e.ensures (omega (arith, c.run_line-n.auto.out, c.requires.in_bounds)) c.run_line-n.ensures
+    line_ran c.told-line c.kept-e.ensures (omega (arith, c.run_line-n.auto.out, c.requires.in_bounds)) c.run_line-n.ensures

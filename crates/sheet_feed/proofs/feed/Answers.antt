@@ -16,10 +16,6 @@ pub returns-then-piece-e : goal.returns-then-piece-e
 returns-then-piece-e c =
     goes_on c.args.piece.now c.line_end-e.result c.line_end-e.ensures c.if-piece-e.true c.put.ensures.text (search rules)
 
-pub end_line-n-requires : goal.end_line-n-requires
-end_line-n-requires c =
-    record { sheet_store = c.requires.sheet_store; in_bounds = c.requires.in_bounds; line_len = omega (arith, c.put.auto.out, c.requires.line_len) }
-
 pub returns : goal.returns
 returns c =
     line_ended c.args.piece.now c.line_end-e.result c.line_end-e.ensures c.if-piece-e.false c.put.ensures.text (search rules) c.end_line-n.ensures

@@ -5,8 +5,7 @@ use mathlib.Core.Path.{refl}
 use native.Mathlib.Omega.{arith}
 use borrow.Author.Rules.{rules}
 use Rattle.sheet_lines.proofs.Laws.{place_within}
-use Rattle.append.proofs.Laws.{is_over, has_room}
-use Rattle.sheet_run.proofs.RunLaws.{turn_first, turn_next, run_full, run_fits}
+use Rattle.sheet_run.proofs.RunLaws.{turn_first, turn_next, run_done}
 use Rattle.sheet_run.proofs.run.Goals as goal
 
 pub loop-i-init : goal.loop-i-init
@@ -46,12 +45,7 @@ loop-i-preserved c =
       search rules,
     )
 
-pub returns-then-is_full : goal.returns-then-is_full
-returns-then-is_full c =
-    let said = run_full c.loop-i.invariant.0 (omega arith) (is_over c.is_full.ensures c.if-is_full.true) in
-    search (rules, said)
-
 pub returns : goal.returns
 returns c =
-    let said = run_fits c.loop-i.invariant.0 (omega arith) (has_room c.is_full.ensures c.if-is_full.false) in
+    let said = run_done c.loop-i.invariant.0 (omega arith) c.printed.ensures in
     search (rules, said)

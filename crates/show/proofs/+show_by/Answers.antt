@@ -8,7 +8,6 @@ use Rattle.scope.specs.Base.{xor}
 use Rattle.scope.specs.Show.{show_f}
 use Rattle.chart.specs.Env.{env_by}
 use Rattle.layout.specs.Lent.{nodes_by}
-use Rattle.layout.proofs.LinkLaws.{clean_linked}
 use Rattle.append.proofs.Laws.{puts_full, is_over}
 use Rattle.show.proofs.Turns.{turn_next, turn_end, show_shallow, show_unknown, show_known, level_put, kid_shown}
 use Rattle.show.proofs.+show_by.Goals as goal
@@ -17,12 +16,9 @@ use Rattle.show.proofs.+show_by.Goals.{then-depth-eq0-via-then-depth-eq0, then-d
 pub returns-then-depth-eq0 : goal.returns-then-depth-eq0
 returns-then-depth-eq0 t c =
     elim c.then-depth-eq0.branch [
-      | then-depth-eq0-via-then-depth-eq0 w ↦ (show_shallow _ _ _ _ _ w.if-depth-eq0.true, refl)
-      | then-depth-eq0-via-else-depth-eq0+then-is_full w ↦ (puts_full _ _ (is_over w.is_full.ensures w.if-is_full.true), refl)
+      | then-depth-eq0-via-then-depth-eq0 w ↦ (show_shallow _ _ _ _ _ w.if-depth-eq0.true, refl, refl)
+      | then-depth-eq0-via-else-depth-eq0+then-is_full w ↦ (puts_full _ _ (is_over w.is_full.ensures w.if-is_full.true), refl, refl)
     ]
-
-pub find-root-requires : goal.find-root-requires
-find-root-requires t c = clean_linked _ _ _ _ c.requires.clean
 
 pub returns-in_default : goal.returns-in_default
 returns-in_default t c =
@@ -32,7 +28,7 @@ returns-in_default t c =
     let unknown =
     show_unknown st e a.depth a.t.0 c.if-depth-eq0.false c.find-root.result.0 c.idx.result.0 c.find-root.ensures.0 c.idx.ensures c.held.result c.held.ensures
     c.in_default.is in
-    (rw unknown c.put_unknown.ensures, c.find-root.ensures.1)
+    (rw unknown c.put_unknown.ensures, c.find-root.ensures.1, c.find-root.ensures.2)
 
 pub loop-j-preserved : goal.loop-j-preserved
 loop-j-preserved t c =
@@ -44,6 +40,7 @@ loop-j-preserved t c =
           (kid_shown (show_f e (a.depth - 1) (nodes_by a.finder.now.nodes.now)) a.finder.now.nodes.now.kids.now k deep c.loop-j.j c.child.result
           c.invert_if.result.0 c.invert_if.ensures c.child.ensures (rw c.loop-j.invariant.1 at c.show_by.ensures.0)),
       c.show_by.ensures.1 ∙ c.loop-j.invariant.1,
+      c.show_by.ensures.2 ∙ c.loop-j.invariant.2,
     )
 
 pub returns : goal.returns
@@ -56,4 +53,4 @@ returns t c =
     c.in-Some.inv c.in-Some.kind c.in-Some.is c.bitxor-i.result.0 (c.bitxor-i.result.0 && c.self_dual-dual.result) c.shown-count.result
     (c.bitxor-i.ensures ∙ ap (xor c.in-Some.inv.0) c.inv.ensures) (ap (λ d. c.bitxor-i.result.0 && d) c.self_dual-dual.ensures) (rw c.find-root.ensures.1 at c.shown-count.ensures.0) in
     let rest = turn_end _ _ _ _ c.loop-j.invariant.0 c.loop-j-test.false c.put_close.ensures in
-    (rw known (level_put _ _ c.in-Some.kind c.bitxor-i.result.0 c.self_dual-dual.result c.self_dual-dual.ensures c.put_lead.ensures rest), c.loop-j.invariant.1)
+    (rw known (level_put _ _ c.in-Some.kind c.bitxor-i.result.0 c.self_dual-dual.result c.self_dual-dual.ensures c.put_lead.ensures rest), c.loop-j.invariant.1, c.loop-j.invariant.2)

@@ -19,4 +19,4 @@ abbrev pub invariant-loop-j : goal.invariant-loop-j
 invariant-loop-j l =
     let nodes = l.fn.finder.nodes.now in
     Turn (gap_of (texts_by l.env.texts) nodes.kids.now l.kind) (λ m. show_f (env_by l.env) (l.depth - 1) (nodes_by nodes) (kid_of nodes.kids.now l.kind l.deep.0 m))
-    (close_of l.kind l.count) l.count l.initial.out l.out l.j × (l.finder.nodes ≡ l.fn.finder.nodes)
+    (close_of l.kind l.count) l.count l.initial.out l.out l.j × (l.finder.nodes ≡ l.fn.finder.nodes) × (l.finder.cache.ghost_name ≡ l.fn.finder.cache.ghost_name)

@@ -10,5 +10,5 @@ use Rattle.show_names.specs.Names.{comma}
 use Rattle.show_lists.proofs.Lists.{item}
 use Rattle.show_lists.proofs.show_list.Given as goal
 
-abbrev pub invariant-loop-j : goal.invariant-loop-j
-invariant-loop-j l = Turn comma (item (show (env_by l.env) (nodes_by l.nodes)) l.xs) [] (length l.xs) l.initial.out l.out l.j
+abbrev pub invariant-loop-i : goal.invariant-loop-i
+invariant-loop-i l = Turn comma (item (show (env_by l.env) (nodes_by l.nodes)) l.xs) [] (length l.xs) l.initial.out l.out l.i

@@ -1,5 +1,6 @@
 -- `tested_over::new_listed` meets its contract: the types are put behind the children made, where no node looks, and the kind that is pushed has them.
 -- Assumes nothing.
+use mathlib.Core.Path.{refl}
 use native.Mathlib.Omega.{arith}
 use Rattle.tested_over.proofs.Laws.{list_few, list_head, list_room, list_pushable, list_made}
 use Rattle.tested_over.proofs.new_listed.Goals as goal
@@ -22,4 +23,4 @@ push-requires c =
 pub returns : goal.returns
 returns c =
     list_made c.args.types.now c.requires c.children_made-first.ensures c.put_listed.ensures c.put_listed.auto.ks
-    c.kind_of.ensures c.push.ensures
+    refl c.push.ensures

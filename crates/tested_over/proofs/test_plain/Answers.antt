@@ -28,11 +28,11 @@ returns-then-not-is_defined c =
     λ rule text ts many.
     undefined_over c.args.chart.now c.args.code c.args.number c.args.n c.requires.code_value c.requires.n_bound rule text ts many (omega arith)
     (sym c.shape_fits.ensures ∙ c.if-not-shape_fits.false) (sym c.number_ok.ensures ∙ c.if-not-number_ok.false)
-    c.plain_args.ensures c.flagged.ensures c.kind_of-kind.ensures c.is_defined.ensures c.if-not-is_defined.true
+    c.plain_args.ensures c.flagged-kind.ensures c.is_defined.ensures c.if-not-is_defined.true
 
 pub returns : goal.returns
 returns c =
     λ rule text ts many.
     over_passed c.args.chart.now c.args.code c.args.number c.args.n c.requires.code_value c.requires.n_bound rule text ts many (omega arith)
     (sym c.shape_fits.ensures ∙ c.if-not-shape_fits.false) (sym c.number_ok.ensures ∙ c.if-not-number_ok.false)
-    c.plain_args.ensures c.flagged.ensures c.kind_of-kind.ensures c.is_defined.ensures c.if-not-is_defined.false
+    c.plain_args.ensures c.flagged-kind.ensures c.is_defined.ensures c.if-not-is_defined.false

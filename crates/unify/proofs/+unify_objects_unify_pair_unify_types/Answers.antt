@@ -5,6 +5,7 @@ use mathlib.Core.Path.{refl, ◌∙◌}
 use native.Mathlib.Omega.{arith}
 use native.Mathlib.Nat.{pos_of_ne-zero}
 use Rattle.scope.specs.Types.{ty_of}
+use Rattle.meeting.proofs.KidLaws.{child_place, child_type}
 use Rattle.unify_enter.proofs.Laws.{entered_kids}
 use Rattle.unify.proofs.QuickLaws.{quick_adds, quick_merged, quick_asked, quick_not}
 use Rattle.unify.proofs.RunLaws.{both_success, run_fails, run_start, run_pair, run_asks, run_next, run_ends}
@@ -21,20 +22,20 @@ unify_objects-loop-j-init t c = (refl, refl, stored_start c.requires.0 c.from-r.
 pub unify_objects-quick-requires : goal.unify_objects-quick-requires
 unify_objects-quick-requires t c =
     quick_adds (object_asks
-    (object_pair c.loop-j.invariant.2 c.loop-j-test.true c.kid_name.ensures c.seek_near-f.ensures c.in-Some.is c.kid-x.ensures c.invert_if-u.ensures))
+    (object_pair c.loop-j.invariant.2 c.loop-j-test.true (child_place c.child_of-x.ensures) c.seek_near-f.ensures c.in-Some.is (child_type c.child_of-x.ensures) c.invert_if-u.ensures))
 
 pub unify_objects-unify_pair-requires : goal.unify_objects-unify_pair-requires
 unify_objects-unify_pair-requires t c = (
   omega arith,
   quick_asked (object_asks
-      (object_pair c.loop-j.invariant.2 c.loop-j-test.true c.kid_name.ensures c.seek_near-f.ensures c.in-Some.is c.kid-x.ensures c.invert_if-u.ensures))
+      (object_pair c.loop-j.invariant.2 c.loop-j-test.true (child_place c.child_of-x.ensures) c.seek_near-f.ensures c.in-Some.is (child_type c.child_of-x.ensures) c.invert_if-u.ensures))
       c.quick.ensures c.if-not-quick.true,
 )
 
 pub unify_objects-loop-j-preserved : goal.unify_objects-loop-j-preserved
 unify_objects-loop-j-preserved t c =
     let next =
-    object_pair c.loop-j.invariant.2 c.loop-j-test.true c.kid_name.ensures c.seek_near-f.ensures c.in-Some.is c.kid-x.ensures c.invert_if-u.ensures in
+    object_pair c.loop-j.invariant.2 c.loop-j-test.true (child_place c.child_of-x.ensures) c.seek_near-f.ensures c.in-Some.is (child_type c.child_of-x.ensures) c.invert_if-u.ensures in
     elim c.if-not-quick.branch [
       | unify_objects-then-not-quick w ↦ rw (w.ws-is, w.memory-is, w.r-is) (
         w.unify_pair.auto.ws ∙ (c.quick.auto.ws ∙ c.loop-j.invariant.0),
@@ -52,7 +53,7 @@ pub unify_objects-loop-j-preserved-in_default : goal.unify_objects-loop-j-preser
 unify_objects-loop-j-preserved-in_default t c = (
   c.loop-j.invariant.0,
   c.loop-j.invariant.1,
-  object_none c.loop-j.invariant.2 c.loop-j-test.true c.kid_name.ensures c.seek_near-f.ensures c.in_default.is c.and-r.ensures,
+  object_none c.loop-j.invariant.2 c.loop-j-test.true (child_place c.child_of-x.ensures) c.seek_near-f.ensures c.in_default.is c.and-r.ensures,
 )
 
 pub unify_objects-returns : goal.unify_objects-returns
@@ -107,18 +108,18 @@ unify_types-loop-i-init t c = (refl, refl, run_start c.requires.0 c.if-s.false)
 
 pub unify_types-quick-requires : goal.unify_types-quick-requires
 unify_types-quick-requires t c =
-    quick_adds (run_asks (run_pair c.loop-i.invariant.2 c.loop-i-test.true c.kid-x.ensures c.kid.ensures c.invert_if-y.ensures))
+    quick_adds (run_asks (run_pair c.loop-i.invariant.2 c.loop-i-test.true (child_type c.child_of.ensures) (child_type c.child_of-in-loop-i.ensures) c.invert_if-y.ensures))
 
 pub unify_types-unify_pair-requires : goal.unify_types-unify_pair-requires
 unify_types-unify_pair-requires t c = (
   omega arith,
-  quick_asked (run_asks (run_pair c.loop-i.invariant.2 c.loop-i-test.true c.kid-x.ensures c.kid.ensures c.invert_if-y.ensures))
+  quick_asked (run_asks (run_pair c.loop-i.invariant.2 c.loop-i-test.true (child_type c.child_of.ensures) (child_type c.child_of-in-loop-i.ensures) c.invert_if-y.ensures))
       c.quick.ensures c.if-not-quick.true,
 )
 
 pub unify_types-loop-i-preserved : goal.unify_types-loop-i-preserved
 unify_types-loop-i-preserved t c =
-    let next = run_pair c.loop-i.invariant.2 c.loop-i-test.true c.kid-x.ensures c.kid.ensures c.invert_if-y.ensures in
+    let next = run_pair c.loop-i.invariant.2 c.loop-i-test.true (child_type c.child_of.ensures) (child_type c.child_of-in-loop-i.ensures) c.invert_if-y.ensures in
     elim c.if-not-quick.branch [
       | unify_types-then-not-quick w ↦ rw (w.ws-is, w.memory-is, w.r-is) (
         w.unify_pair.auto.ws ∙ (c.quick.auto.ws ∙ c.loop-i.invariant.0),

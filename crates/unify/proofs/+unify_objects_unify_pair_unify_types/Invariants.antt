@@ -21,8 +21,8 @@ decreases-unify_types l = 2 * l.depth + 1
 
 abbrev pub invariant-unify_objects-loop-j : goal.invariant-unify_objects-loop-j
 invariant-unify_objects-loop-j l = (length l.ws ≡ length l.initial.ws) × (length l.memory ≡ length l.initial.memory)
-    × ObjectLeft (texts_by l.texts) l.ks l.ks l.initial.ws l.ks l.initial.memory l.n l.depth l.s l.ws l.memory l.r l.j
+    × ObjectLeft (texts_by l.fixed.texts) l.fixed.kids.now l.fixed.kids.now l.initial.ws l.fixed.kids.now l.initial.memory l.fixed.made l.depth l.s l.ws l.memory l.r l.j
 
 abbrev pub invariant-unify_types-loop-i : goal.invariant-unify_types-loop-i
 invariant-unify_types-loop-i l = (length l.ws ≡ length l.initial.ws) × (length l.memory ≡ length l.initial.memory)
-    × RunLeft (texts_by l.texts) l.initial.ws l.ks l.initial.memory l.n l.depth l.s l.ws l.memory l.r l.i
+    × RunLeft (texts_by l.fixed.texts) l.initial.ws l.fixed.kids.now l.initial.memory l.fixed.made l.depth l.s l.ws l.memory l.r l.i

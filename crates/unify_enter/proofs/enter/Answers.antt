@@ -15,8 +15,8 @@ returns-then-depth-eq0 c = no_depth c.requires c.if-depth-eq0.true
 
 -- both are roots, one of them without a kind
 
-bare : (c : Then-bare_roots) → AtRoots (texts_by c.args.texts.now) c.args.ws.now c.args.ks.now c.args.memory.now c.args.ws.now c.args.memory.now
-    c.args.n c.args.depth (ty_of c.args.a.0) (ty_of c.args.b.0) c.args.a.0 c.args.b.0 None
+bare : (c : Then-bare_roots) → AtRoots (texts_by c.args.fixed.now.texts) c.args.ws.now c.args.fixed.now.kids.now c.args.memory.now c.args.ws.now c.args.memory.now
+    c.args.fixed.now.made c.args.depth (ty_of c.args.a.0) (ty_of c.args.b.0) c.args.a.0 c.args.b.0 None
 bare c =
     let w = asked_pair c.requires in
     let e = sym c.bare_roots.ensures ∙ c.if-bare_roots.true in
@@ -38,8 +38,8 @@ meet-requires c = (climbed c.requires c.if-depth-eq0.false c.visited.ensures c.f
 
 -- the roots have met
 
-met : (c : After-meet) → AtRoots (texts_by c.args.texts.now) c.args.ws.now c.args.ks.now c.args.memory.now c.find-rb.new.ws c.find-rb.new.memory
-    c.args.n c.args.depth (ty_of c.args.a.0) (ty_of c.args.b.0) c.find-ra.result.0 c.find-rb.result.0 c.meet.result
+met : (c : After-meet) → AtRoots (texts_by c.args.fixed.now.texts) c.args.ws.now c.args.fixed.now.kids.now c.args.memory.now c.find-rb.new.ws c.find-rb.new.memory
+    c.args.fixed.now.made c.args.depth (ty_of c.args.a.0) (ty_of c.args.b.0) c.find-ra.result.0 c.find-rb.result.0 c.meet.result
 met c = at_roots (climbed c.requires c.if-depth-eq0.false c.visited.ensures c.find-ra.ensures c.find-rb.ensures) c.meet.ensures
 
 pub walk_pair-requires-in_default : goal.walk_pair-requires-in_default

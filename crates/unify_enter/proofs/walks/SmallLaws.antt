@@ -74,9 +74,9 @@ module _ (n : ℕ) (ns : List Node) (a b : Ty) (h : 0 < n) (d : a.idx ≡ b.idx 
 
 -- one nil
 
-both_true : (t s : Bool) → pick t s false ≡ true → (t ≡ true) × (s ≡ true)
-both_true true s e = (refl, e)
-both_true false s e = absurd (false≢true e)
+and_both : (t s : Bool) → pick t s false ≡ true → (t ≡ true) × (s ≡ true)
+and_both true s e = (refl, e)
+and_both false s e = absurd (false≢true e)
 
 nil_kind : (f : ℕ) (ns : List Node) (k : Kind) → k.head.code ≡ TUPLE → k.kids ≡ []
     → pick (eqb k.head.code PARAM) false (self_dual k.head && all (λ c. self_inverse_at false f ns (find ns c).idx) k.kids) ≡ true
@@ -86,7 +86,7 @@ nil_kind f ns k c l = rw (c, l) refl
 nil_by : (f : ℕ) (ns : List Node) (i : ℕ) (v : Node) → at ns i ≡ v → nil_node v ≡ true → self_inverse_at false (suc f) ns i ≡ true
 unfolding self_inverse_at
 nil_by f ns i (Root (Known j k) z) q e =
-    let w = both_true (eqb k.head.code TUPLE) (eqb (length k.kids) 0) e in
+    let w = and_both (eqb k.head.code TUPLE) (eqb (length k.kids) 0) e in
     rw (ap state_of q, self_inverse_at) (nil_kind f ns k (eqb-true k.head.code TUPLE w.0) (empty k.kids w.1))
 nil_by f ns i (Root (Unknown s) z) q e = absurd (false≢true e)
 nil_by f ns i (Root InferenceFailed z) q e = absurd (false≢true e)

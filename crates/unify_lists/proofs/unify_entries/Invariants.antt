@@ -10,4 +10,4 @@ use Rattle.unify_lists.proofs.unify_entries.Given as goal
 
 abbrev pub invariant-loop-j : goal.invariant-loop-j
 invariant-loop-j l = (length l.ws ≡ length l.initial.ws) × (length l.memory ≡ length l.initial.memory)
-    × ObjectLeft (texts_by l.texts) l.xs l.ys l.initial.ws l.ks l.initial.memory l.n l.n (from_first l.na l.nb l.inv) l.ws l.memory l.r l.j
+    × ObjectLeft (texts_by l.fixed.texts) l.xs l.ys l.initial.ws l.fixed.kids.now l.initial.memory l.fixed.made l.fixed.made (from_first l.na l.nb l.inv) l.ws l.memory l.r l.j

@@ -4,9 +4,9 @@ use mathlib.Core.Path.{◌≡◌}
 use Prim.Native.Nat.{◌+◌, ◌-◌}
 use native.Mathlib.Omega.{arith}
 use Rattle.layout.proofs.LinkLaws.{clean_linked}
-use Rattle.related.proofs.Laws.{root_is}
 use Rattle.walk.proofs.Answers.{looks_out, looks_none, looks_kind, looks_bare, looks_on}
 use Rattle.walk.proofs.get_mod.Goals as goal
+use Rattle.roots.proofs.Laws.{root_is}
 
 pub find_in-requires : goal.find_in-requires
 find_in-requires c = clean_linked _ _ _ _ c.requires.clean

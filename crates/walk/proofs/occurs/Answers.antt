@@ -4,7 +4,7 @@ use mathlib.Core.Path.{refl}
 use native.Mathlib.Omega.{arith}
 use Rattle.walk.proofs.Laws.{kid_none}
 use Rattle.walk.proofs.Answers.{occurs_is, occurs_none}
-use Rattle.walk.proofs.LookLaws.{occurs_met, occurs_clear}
+use Rattle.walk.proofs.LookLaws.{occurs_told}
 use Rattle.walk.proofs.occurs.Goals as goal
 
 pub returns-then-eq : goal.returns-then-eq
@@ -18,10 +18,6 @@ pub returns-in_default-2 : goal.returns-in_default-2
 returns-in_default-2 c =
     occurs_none c.requires c.idx-root.ensures c.if-eq.ensures c.held.ensures c.in_default.is refl
 
-pub returns-in-Met : goal.returns-in-Met
-returns-in-Met c =
-    occurs_met c.requires c.idx-root.ensures c.if-eq.ensures c.held.ensures c.in-Some.is c.look.ensures c.in-Met.is
-
-pub returns-in-Clear : goal.returns-in-Clear
-returns-in-Clear c =
-    occurs_clear c.requires c.idx-root.ensures c.if-eq.ensures c.held.ensures c.in-Some.is c.look.ensures c.in-Clear.is
+pub returns-in-Some-look : goal.returns-in-Some-look
+returns-in-Some-look c =
+    occurs_told c.requires c.idx-root.ensures c.if-eq.ensures c.held.ensures c.in-Some.is c.look.ensures c.in-Some-look.is

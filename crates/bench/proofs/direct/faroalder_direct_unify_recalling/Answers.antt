@@ -8,8 +8,3 @@ pub unify_all-requires : goal.unify_all-requires
 unify_all-requires c =
     let given = c.requires in
     inside_pair given.words c.begin.ensures _ _ given.first given.second
-
-pub returns : goal.returns
-returns c =
-    let n = number_result c.unify_all.result c.from.result c.from.ensures in
-    record { upper_bound = n.0; leaves = rw n.1 c.unify_all.ensures.leaves }

@@ -1,7 +1,7 @@
 -- `call_make::tested::new_vars` meets its contract: 10 is tested before 7, and where neither stands the types that the core writes are the reply.
 -- Assumes nothing.
 use Rattle.refusals.proofs.Laws.{err_told}
-use Rattle.call_make.proofs.tested.MakerLaws.{for_room}
+use Rattle.tested_lean.proofs.MakerLaws.{for_room}
 use Rattle.call_make.proofs.tested.ListLaws.{vars_back, vars_short, vars_ready, vars_done}
 use Rattle.call_make.proofs.tested.new_vars.Goals as goal
 
