@@ -1,14 +1,14 @@
 -- The numbers that a caller in another language gets: a type is its word, an answer of `unify` its place in the Rust's enum, yes 1, and a definition its number.
 use Rattle.std.specs.Prelude.{◌≡◌, Bool, List, ℕ, eqb, replicate}
 use Rattle.scope.specs.Base.{pick}
-use Rattle.scope.specs.Limits.{NONE}
+use Rattle.scope.specs.Limits.{SIGILS, NONE}
 use Rattle.scope.specs.Chart.{Env}
 use Rattle.scope.specs.Types.{ty_of}
 use Rattle.scope.specs.Force.{Mod, none_mod, mod_of, error_mod, is_nil, get_mod}
 use Rattle.layout.specs.Words.{decode}
 use Rattle.layout.specs.Meaning.{Clean}
 use Rattle.chart.specs.Words.{records_of}
-use Rattle.chart.specs.Env.{SIGIL_WORDS}
+use Rattle.names.specs.Place.{no_name}
 use Rattle.chart.specs.declared.Beside.{Beside}
 use Rattle.types.specs.declared.«Type».{«Type»}
 use Rattle.types.specs.declared.UnifyResult.{UnifyResult}
@@ -26,7 +26,7 @@ result_in r = pick (eqb r 0) Success (pick (eqb r 1) Failure Indeterminate)
 
 -- no fn trait, and four empty sigils
 abbrev pub bare : Beside
-bare = record { fn_trait = NONE; sigils = replicate SIGIL_WORDS 0 }
+bare = record { fn_trait = NONE; sigils = replicate SIGILS no_name }
 
 -- yes and no
 abbrev pub flag_of : Bool → ℕ

@@ -29,19 +29,12 @@ pub extern "C" fn faroalder_direct_find_mut(ws: &mut [u32], n: u32, t: u32) -> u
     roots::find_mut(ws, n, Type(t)).0
 }
 
-// 1 for yes, 0 for no.
-fn flag(b: bool) -> u32
-    ensures { result ≡ flag_of b }
-{
-    u32::from(b)
-}
-
 #[unsafe(no_mangle)]
 pub extern "C" fn faroalder_direct_is_nil(ws: &[u32], n: u32, t: u32) -> u32
     requires { Linked ws.now n }
     ensures { NilNumber ws.now n t result }
 {
-    flag(walk::is_nil(ws, n, Type(t)))
+    u32::from(walk::is_nil(ws, n, Type(t)))
 }
 
 #[unsafe(no_mangle)]
@@ -54,7 +47,7 @@ pub extern "C" fn faroalder_direct_self_inverse(ws: &[u32], ks: &[u32], n: u32, 
         kids: ks,
         made: n,
     };
-    flag(walk::self_inverse(&nodes, Type(t), false))
+    u32::from(walk::self_inverse(&nodes, Type(t), false))
 }
 
 // A definition's number, and 0 for anything else.

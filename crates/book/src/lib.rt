@@ -143,6 +143,7 @@ pub fn put_name(ps: &mut [u32], name: &[u8])
 {
     ps[0] = name.len() as u32;
     ps[1..NAME_WORDS].fill(0);
+    // Kept (3): the words are written by index, as in `make::new_vars`: after `iter_mut` a proof knows the length of `ps` and not its elements (NOT_COVERED.md of the kit).
     for (i, &b) in name.iter().enumerate() {
         ps[i + 1] = u32::from(b);
     }

@@ -96,10 +96,14 @@ node_case out r =
 abbrev pub node_in : ℕ → List ℕ → Reply TypeNode
 node_in r out = answer_in 4 (node_case out) r
 
+-- a root's state, and the size of its tree
+abbrev pub state_out : ℕ → TypeState → List ℕ
+state_out z (state.Known i k) = kind_out i k z
+state_out z (state.Unknown p) = plain_out p z
+state_out z state.InferenceFailed = plain_out 0 z
+
 abbrev pub node_out : TypeNode → List ℕ
-node_out (node.Root (state.Known i k) z) = kind_out i k z
-node_out (node.Root (state.Unknown p) z) = plain_out p z
-node_out (node.Root state.InferenceFailed z) = plain_out 0 z
+node_out (node.Root s z) = state_out z s
 node_out (node.Child t) = plain_out t.0 0
 
 -- `force_kind`: 1 a type that is reported, with its span, 2 one that had failed before, 3 a Known
@@ -110,15 +114,9 @@ forced_case out r =
 abbrev pub forced_in : ℕ → List ℕ → Reply TypeState
 forced_in r out = answer_in 4 (forced_case out) r
 
-abbrev pub state_out : ℕ → TypeState → List ℕ
-state_out z (state.Known i k) = kind_out i k z
-state_out z (state.Unknown p) = plain_out p z
-state_out z state.InferenceFailed = plain_out 0 z
-
+-- a forced type has no size to tell
 abbrev pub forced_out : TypeState → List ℕ
-forced_out (state.Known i k) = kind_out i k 0
-forced_out (state.Unknown p) = plain_out p 0
-forced_out state.InferenceFailed = plain_out 0 0
+forced_out s = state_out 0 s
 
 -- whether there is a type, and which
 abbrev pub has_word : Remembered → ℕ
@@ -204,16 +202,14 @@ abbrev pub figures_in : ℕ → List ℕ → Reply Header
 figures_in r out = answer_in 1 (λ w. figures_from out) r
 
 -- a value's number
-abbrev pub node_number : TypeNode → ℕ
-node_number (node.Root (state.Known i k) z) = 3
-node_number (node.Root (state.Unknown p) z) = 1
-node_number (node.Root state.InferenceFailed z) = 2
-node_number (node.Child t) = 0
-
 abbrev pub forced_number : TypeState → ℕ
 forced_number (state.Known i k) = 3
 forced_number (state.Unknown p) = 1
 forced_number state.InferenceFailed = 2
+
+abbrev pub node_number : TypeNode → ℕ
+node_number (node.Root s z) = forced_number s
+node_number (node.Child t) = 0
 
 abbrev pub some_number : {A : Type 0} → option.Option A → ℕ
 some_number (was.Some x) = 1

@@ -8,17 +8,18 @@ use Rattle.types.specs.declared.Inverted.{Inverted}
 use Rattle.types.specs.declared.Impl.{Impl}
 use Rattle.types.specs.declared.Impl.TheVariants.{Trait, Error}
 use Rattle.scope.specs.Chart.{Env}
+use Rattle.names.specs.declared.Name.{Name}
 use Rattle.chart.specs.declared.Beside.{Beside}
 use Rattle.chart.specs.declared.Env as lent
 use Rattle.sound.specs.Tests.{env_in}
 use Rattle.lent_kind.specs.declared.KindArgs.{KindArgs}
 
 -- what stands beside the chart
-abbrev pub beside_in : ℕ → List ℕ → Beside
-beside_in t ws = record { fn_trait = t; sigils = ws }
+abbrev pub beside_in : ℕ → List Name → Beside
+beside_in t ns = record { fn_trait = t; sigils = ns }
 
 -- chart, what is beside it, and the two texts
-abbrev pub env_of : Bor (List ℕ) → ℕ → List ℕ → Bor (List ℕ) → Bor (List ℕ) → lent.Env
+abbrev pub env_of : Bor (List ℕ) → ℕ → List Name → Bor (List ℕ) → Bor (List ℕ) → lent.Env
 env_of chart t sigils rule text = record { chart = chart; beside = beside_in t sigils; texts = record { rule = rule; chart = text } }
 
 -- any number but 0 is yes
@@ -41,5 +42,5 @@ abbrev pub kind_args_in : ℕ → ℕ → ℕ → ℕ → ℕ → ℕ → KindAr
 kind_args_in c n f t i l = record { code = c; number = n; flex = f; name = record { text = t; start = i; len = l } }
 
 -- what every call reads: the chart's words, what stands beside it, and the two texts
-abbrev pub lent_env : List ℕ → ℕ → List ℕ → List ℕ → List ℕ → Env
+abbrev pub lent_env : List ℕ → ℕ → List Name → List ℕ → List ℕ → Env
 lent_env chart t sigils rule text = env_in chart (beside_in t sigils) rule text

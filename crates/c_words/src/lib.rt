@@ -9,7 +9,7 @@ ghost use Rattle.call_unify.specs.Answers.{unify_reply};
 ghost use Rattle.c_words.specs.Numbers.{«REFUSED», type_in, done_in, bool_in, unify_in, count_in, count_low, refusal_in, counted};
 ghost use Rattle.c_words.specs.Given.{env_of, set_in, list_if, inverted_in, impl_in, kind_args_in};
 
-use chart::{Beside, Env, SIGIL_WORDS};
+use chart::{Beside, Env, SIGILS};
 use lent_kind::KindArgs;
 use names::{Name, Texts};
 use refusals::Refusal;
@@ -22,11 +22,11 @@ pub const REFUSED: u64 = 4_294_967_296;
 // The longest text that a length below that can tell.
 const LONGEST: usize = 4_294_967_295;
 
-// What every call reads: the chart's words, the number of the builtin fn trait and the words of the four sigils, and the two texts.
+// What every call reads: the chart's words, the number of the builtin fn trait and the four sigils, which C lends as twelve words in a row, and the two texts.
 pub fn env_of<'a>(
     chart: &'a [u32],
     fn_trait: u32,
-    sigils: &[u32; SIGIL_WORDS],
+    sigils: &[Name; SIGILS],
     rule: &'a [u8],
     text: &'a [u8],
 ) -> Env<'a>

@@ -12,7 +12,6 @@ ghost use Rattle.call_unify.specs.Answers.{unify_reply};
 use chart::Env;
 use refusals::Refusal;
 use types::{Impl, UnifyResult};
-use unify_enter::Fixed;
 
 // Two traits, each over a list of types, or errors.
 pub fn unify_impl_type_recalling(
@@ -32,12 +31,7 @@ pub fn unify_impl_type_recalling(
 {
     let x = layout::read_header(h);
     lent_tests::impls(a, b, x.nodes, env)?;
-    recall::begin(memory);
-    let fixed = Fixed {
-        kids: ks,
-        made: x.nodes,
-        texts: env.texts,
-    };
+    let fixed = unify_lists::begin(env, ks, x.nodes, memory);
     Ok(unify_lists::unify_impl_type(ws, &fixed, memory, a, b))
 }
 

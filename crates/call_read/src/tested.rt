@@ -20,6 +20,7 @@ use refusals::Refusal;
 use types::Type;
 
 // Child j of a kind, none past the end.
+// Kept (1): tried as `(j < kind.count).then(|| ..)`: the proof did not close, since at `returns` what the closure ensures of the child that it answers is out of reach.
 fn child_of_kind(ks: &[u32], kind: Kind, j: u32) -> Option<Type>
     ensures { get_elem? (kind_means ks.now kind).kids j ≡ child_means result }
 {

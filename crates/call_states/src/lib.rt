@@ -20,11 +20,10 @@ use chart::Env;
 use refusals::Refusal;
 
 // Refusal 1 where it stands.
-fn opening(bs: &[u32], nodes: u32, children: u32) -> Result<(), Refusal>
-    ensures { first_broken (open_test nodes children (leb (book_words nodes children) (length bs.now)) ∷ []) ≡ told result }
+fn opening(bs: &[u32], room: Room) -> Result<(), Refusal>
+    ensures { first_broken (open_test room.nodes room.children (leb (book_words room.nodes room.children) (length bs.now)) ∷ []) ≡ told result }
 {
-    let room = Room { nodes, children };
-    refusals::opening_by(nodes, children, room.book_words() <= bs.len())
+    refusals::opening_by(room.nodes, room.children, room.book_words() <= bs.len())
 }
 
 // A names buffer without a name, for a store of these capacities, whatever the slice held.
@@ -32,8 +31,9 @@ pub fn open_names(bs: &mut [u32], nodes: u32, children: u32) -> Result<(), Refus
     ensures { NamesOpened (open_names_call nodes children (leb (book_words nodes children) (length bs.old)))
         (done_reply result) bs.old bs.new }
 {
-    opening(bs, nodes, children)?;
-    states::open_names(bs, nodes, children);
+    let room = Room { nodes, children };
+    opening(bs, room)?;
+    states::open_names(bs, room);
     Ok(())
 }
 

@@ -30,6 +30,7 @@ fn place_for(bs: &[u32], name: &[u8]) -> Option<usize>
 }
 
 // Where a name is held, if it is and has a right length.
+// Kept (1): `name_fits(name).then(..).flatten()` is no plainer: what is asked answers an Option already.
 fn held_place(bs: &[u32], name: &[u8]) -> Option<usize>
     requires { book_clean bs.now ≡ true }
     ensures { result ≡ if_place (place_held name.now (places_in bs.now)) }

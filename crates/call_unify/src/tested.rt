@@ -10,7 +10,6 @@ ghost use Rattle.call_unify.specs.Answers.{unify_reply};
 use chart::Env;
 use refusals::Refusal;
 use types::{Type, UnifyResult};
-use unify_enter::Fixed;
 
 // "`unify` takes both roots with `find_mut`." The memory is any slice, whatever it holds: nothing of it is believed, and what stands in it afterwards means nothing.
 pub fn unify_recalling(
@@ -30,12 +29,7 @@ pub fn unify_recalling(
 {
     let x = layout::read_header(h);
     lent_tests::pair(a, b, x.nodes)?;
-    recall::begin(memory);
-    let fixed = Fixed {
-        kids: ks,
-        made: x.nodes,
-        texts: env.texts,
-    };
+    let fixed = unify_lists::begin(env, ks, x.nodes, memory);
     Ok(unify_lists::unify_all(ws, &fixed, memory, a, b))
 }
 

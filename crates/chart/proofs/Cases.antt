@@ -5,11 +5,12 @@ use mathlib.Core.List.{List, [], ◌∷◌, ◌++◌}
 use Prim.Native.Nat.{ℕ, zero, suc}
 use lib.ListN.{replicate}
 use Rattle.scope.specs.Base.{all, any}
-use Rattle.scope.specs.Limits.{MAX_RECORDS, NONE}
+use Rattle.scope.specs.Limits.{MAX_RECORDS, SIGILS, NONE}
 use Rattle.scope.specs.Names.{in_text, name_ok}
 use Rattle.scope.specs.Chart.{record_ok, chart_ok, STRUCT_SORT, TRAIT_SORT, TRAIT_FN_SORT}
+use Rattle.names.specs.Place.{no_name}
 use Rattle.chart.specs.Words.{runs}
-use Rattle.chart.specs.Env.{SIGIL_WORDS, chart_words_ok}
+use Rattle.chart.specs.Env.{chart_words_ok}
 
 -- a record whose name and path are the chart text's first byte
 made : ℕ → ℕ → ℕ → List ℕ
@@ -21,10 +22,10 @@ copies (suc n) ws = ws ++ copies n ws
 
 -- empty sigils, and a chart text of one byte
 passes : ℕ → List ℕ → Bool
-passes fn_trait ws = chart_words_ok ws (record { fn_trait = fn_trait; sigils = replicate SIGIL_WORDS 0 }) [] (97 ∷ [])
+passes fn_trait ws = chart_words_ok ws (record { fn_trait = fn_trait; sigils = replicate SIGILS no_name }) [] (97 ∷ [])
 
 -- the chart that `sheet` opens
-pub empty_passes : chart_words_ok [] (record { fn_trait = NONE; sigils = replicate SIGIL_WORDS 0 }) [] [] ≡ true
+pub empty_passes : chart_words_ok [] (record { fn_trait = NONE; sigils = replicate SIGILS no_name }) [] [] ≡ true
 unfolding chart_words_ok chart_ok runs in_text
 empty_passes = refl
 

@@ -1,22 +1,25 @@
 -- Laws of the chart's numbers: the k-th number of the n-th record stands at n * 10 + k, and a number that the chart lacks reads as the record of none.
 -- Assumes nothing.
 use mathlib.Core.Path.{◌≡◌, refl, ap, ◌∙◌}
-use mathlib.Core.Bool.{◌&&◌}
-use mathlib.Core.List.{List, [], map}
-use Prim.Native.Nat.{ℕ, zero, suc, ◌+◌, ◌*◌, ◌/◌, ◌%◌, ◌≤◌, ◌<◌}
+use mathlib.Core.Bool.{Bool, ◌&&◌}
+use mathlib.Core.List.{List, [], ◌∷◌, map}
+use Prim.Native.Nat.{ℕ, zero, suc, ◌+◌, ◌*◌, ◌/◌, ◌%◌, ◌<◌}
 use native.Mathlib.Nat.{add-zero, zero-add, zero-mul, suc-mul}
 use native.Mathlib.Omega.{arith}
 use lib.Dec.{eqb, leb}
-use lib.ListN.{length, get_or, drop, get_or-eq_default}
+use lib.ListN.{length, get_or, drop}
 use lib.Seq.{drop-drop, get_or-drop}
+use Rattle.std.specs.List.{list_all}
 use Rattle.scope.specs.Base.{all, from}
-use Rattle.scope.specs.Limits.{MAX_RECORDS, SIGILS}
-use Rattle.scope.specs.Names.{name, texts_ok}
-use Rattle.scope.specs.Chart.{Record, no_record, record_ok, fn_trait_ok, sigil_ok, chart_ok}
-use Rattle.names.specs.Place.{texts}
+use Rattle.scope.specs.Limits.{MAX_RECORDS}
+use Rattle.scope.specs.Names as scope
+use Rattle.scope.specs.Names.{texts_ok}
+use Rattle.scope.specs.Chart.{Record, no_record, record_ok, fn_trait_ok, sigils_ok, chart_ok}
+use Rattle.names.specs.declared.Name.{Name}
+use Rattle.names.specs.Place.{name_of, texts}
 use Rattle.chart.specs.declared.Beside.{Beside}
-use Rattle.chart.specs.Env.{sigils_of, env_of, chart_in, chart_words_ok}
-use Rattle.chart.specs.Words.{RECORD_WORDS, NAME_WORDS, runs, name_at, record_in, words_of, records_of, record_of}
+use Rattle.chart.specs.Env.{env_of, chart_in, chart_words_ok}
+use Rattle.chart.specs.Words.{RECORD_WORDS, runs, record_in, words_of, records_of, record_of}
 
 -- a run of values of w numbers each
 module _ {A : Type 0} (w : ℕ) (f : List ℕ → A) where
@@ -52,18 +55,10 @@ word_there ws n k h l =
     ap (λ (r : Record). get_or (words_of r) k 0) (runs_at RECORD_WORDS record_in (length ws / RECORD_WORDS) ws n no_record m)
     ∙ (words_in (drop (n * RECORD_WORDS) ws) k l ∙ get_or-drop (n * RECORD_WORDS) ws k 0)
 
--- the sigils
-name_from : (ws : List ℕ) (j : ℕ) → name_at 0 (drop j ws) ≡ name_at j ws
-name_from ws j = rw (get_or-drop j ws 0 0, get_or-drop j ws 1 0, get_or-drop j ws 2 0, add-zero)
-
-pub sigil_there : (ws : List ℕ) (n : ℕ) → n < SIGILS → get_or (sigils_of ws) n (name 0 0 0) ≡ name_at (n * NAME_WORDS) ws
-sigil_there ws n h = runs_at NAME_WORDS (name_at 0) SIGILS ws n (name 0 0 0) h ∙ name_from ws (n * NAME_WORDS)
-
-pub sigils_length : (ws : List ℕ) → length (sigils_of ws) ≡ SIGILS
-sigils_length ws = runs_length NAME_WORDS (name_at 0) SIGILS ws
-
-pub sigil_none : (ws : List ℕ) (n : ℕ) → SIGILS ≤ n → get_or (sigils_of ws) n (name 0 0 0) ≡ name 0 0 0
-sigil_none ws n h = get_or-eq_default (sigils_of ws) (name 0 0 0) (rw (sigils_length ws) h)
+-- a test of every name as it is lent is one of every name that is meant
+pub all_named : (p : scope.Name → Bool) (ns : List Name) → list_all (λ n. p (name_of n)) ns ≡ all p (map name_of ns)
+all_named p [] = refl
+all_named p (n ∷ ns) = ap (λ b. p (name_of n) && b) (all_named p ns)
 
 -- the tests of chart and texts, one after the other; that of a record does not look at what stands beside the chart
 pub chart_tests :
@@ -74,6 +69,6 @@ pub chart_tests :
     && (texts_ok (texts rule text)
     && (all (record_ok (chart_in ws rule text)) (records_of ws)
     && (fn_trait_ok (env_of ws b [] [])
-    && all (sigil_ok (texts rule text)) (sigils_of b.sigils))))))
+    && sigils_ok (env_of [] b rule text))))))
 unfolding chart_words_ok chart_ok record_ok runs
 chart_tests ws b rule text = refl

@@ -1,26 +1,18 @@
 -- What every call reads, from the chart's numbers, what stands beside the chart and the two texts.
-use Rattle.std.specs.Prelude.{List, [], Bool, ◌&&◌, ℕ, ◌*◌, ◌%◌, eqb, length}
-use Rattle.scope.specs.Limits.{SIGILS, NONE}
-use Rattle.scope.specs.Names.{Name}
+use Rattle.std.specs.Prelude.{List, [], Bool, ◌&&◌, ℕ, ◌%◌, eqb, length, map}
+use Rattle.scope.specs.Limits.{NONE}
 use Rattle.scope.specs.Chart.{Env, chart_ok}
-use Rattle.names.specs.Place.{texts}
+use Rattle.names.specs.Place.{name_of, texts}
 use Rattle.chart.specs.declared.Beside.{Beside}
 use Rattle.chart.specs.declared.Env as lent
-use Rattle.chart.specs.Words.{RECORD_WORDS, NAME_WORDS, runs, name_at, records_of}
-
--- "the four texts of `sigil` for `Flex`", three numbers each
-abbrev pub SIGIL_WORDS : ℕ
-SIGIL_WORDS = SIGILS * NAME_WORDS
-
-abbrev pub sigils_of : List ℕ → List Name
-sigils_of ws = runs NAME_WORDS (name_at 0) SIGILS ws
+use Rattle.chart.specs.Words.{RECORD_WORDS, records_of}
 
 abbrev pub env_of : List ℕ → Beside → List ℕ → List ℕ → Env
 env_of ws b rule text =
     record {
       records = records_of ws;
       fn_trait = b.fn_trait;
-      sigils = sigils_of b.sigils;
+      sigils = map name_of b.sigils;
       texts = texts rule text;
     }
 

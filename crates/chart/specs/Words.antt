@@ -6,9 +6,6 @@ use Rattle.scope.specs.Chart.{Record, no_record}
 abbrev pub RECORD_WORDS : ℕ
 RECORD_WORDS = 10
 
-abbrev pub NAME_WORDS : ℕ
-NAME_WORDS = 3
-
 -- n values of w numbers each, as f reads them off the numbers' front
 unfoldable pub runs {ℓ} : {A : Type ℓ} → ℕ → (List ℕ → A) → ℕ → List ℕ → List A
 runs w f zero ws = []

@@ -5,10 +5,10 @@ ghost use Rattle.std.specs.Prelude.{◌≡◌, [], ◌≤◌, ◌<◌, ◌+◌, 
 ghost use Rattle.scope.specs.Base.{all};
 ghost use Rattle.scope.specs.Limits.{«MAX_RECORDS»};
 ghost use Rattle.scope.specs.Names.{texts_ok};
-ghost use Rattle.scope.specs.Chart.{record_at, sort_at, dual_at, is_trait, sigil_at, flag_ok, trait_ok, record_ok, sigil_ok, fn_trait_ok};
+ghost use Rattle.scope.specs.Chart.{record_at, sort_at, dual_at, is_trait, sigil_at, flag_ok, trait_ok, record_ok, sigil_ok, sigils_ok, fn_trait_ok};
 ghost use Rattle.names.specs.Place.{name_of, texts, texts_by};
 ghost use Rattle.chart.specs.Words.{«RECORD_WORDS», name_at, words_of, records_of};
-ghost use Rattle.chart.specs.Env.{sigils_of, env_of, chart_alone, chart_words_ok, chart_lent};
+ghost use Rattle.chart.specs.Env.{env_of, env_by, chart_alone, chart_words_ok, chart_lent};
 
 use kinds::{NO_SORT, STRUCT_SORT, TRAIT_FN_SORT, TRAIT_SORT, UNION_SORT};
 use names::{NO_NAME, Name, Texts};
@@ -16,8 +16,8 @@ use scope::{MAX_NAME, MAX_RECORDS, MAX_TEXT, NONE};
 
 pub const RECORD_WORDS: usize = 10;
 
-// Four sigils, three words each.
-pub const SIGIL_WORDS: usize = 12;
+// "the four texts of `sigil` for `Flex`"
+pub const SIGILS: usize = 4;
 
 // Where a record's fields stand in its ten words. A name or path takes three: text, start, length.
 const SORT_FIELD: usize = 0;
@@ -37,12 +37,12 @@ const TRAIT_FIELD: usize = 9;
 #[derive(Clone, Copy)]
 pub struct Beside {
     pub fn_trait: u32,
-    pub sigils: [u32; SIGIL_WORDS],
+    pub sigils: [Name; SIGILS],
 }
 
 pub const NO_BESIDE: Beside = Beside {
     fn_trait: NONE,
-    sigils: [0; SIGIL_WORDS],
+    sigils: [NO_NAME; SIGILS],
 };
 
 // What every call reads: the chart's words, what stands beside them, and the two texts.
@@ -132,17 +132,7 @@ pub fn is_trait(chart: &[u32], n: u32) -> bool
 pub fn sigil_at(beside: Beside, flex: u32) -> Name
     ensures { name_of result ≡ sigil_at (env_of [] beside [] []) flex }
 {
-    if flex < 4 {
-        let s = beside.sigils;
-        let at = flex as usize * 3;
-        Name {
-            text: s[at],
-            start: s[at + 1],
-            len: s[at + 2],
-        }
-    } else {
-        NO_NAME
-    }
+    beside.sigils.get(flex as usize).copied().unwrap_or(NO_NAME)
 }
 
 // "a flag or trait that its sort lacks is 0"
@@ -192,10 +182,13 @@ fn sigil_ok(sigil: Name, texts: &Texts<'_>) -> bool
 }
 
 // "the four texts of `sigil` for `Flex`, which alone may be empty"
-fn sigils_ok(beside: Beside, texts: &Texts<'_>) -> bool
-    ensures { result ≡ all (sigil_ok (texts_by texts.now)) (sigils_of beside.sigils) }
+fn sigils_ok(env: &Env<'_>) -> bool
+    ensures { result ≡ sigils_ok (env_by env.now) }
 {
-    (0..4).all(|i| sigil_ok(sigil_at(beside, i), texts))
+    env.beside
+        .sigils
+        .iter()
+        .all(|&sigil| sigil_ok(sigil, &env.texts))
 }
 
 // "4,294,967,295: none; any other must be a trait's record"
@@ -220,5 +213,5 @@ pub fn chart_ok(env: &Env<'_>) -> bool
         && texts_ok(&env.texts)
         && records_ok(env)
         && fn_trait_ok(env.chart, env.beside)
-        && sigils_ok(env.beside, &env.texts)
+        && sigils_ok(env)
 }

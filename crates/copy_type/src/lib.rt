@@ -2,8 +2,9 @@
 // A type copied out of one store into another, with all below it: "Each source root becomes a new Unknown before its children are walked, then takes
 // its kind." A table with a number for each node of the source says which roots have a copy, and a cache keeps the roots found. Nothing here can fail:
 // what is asked for is room.
-ghost use Rattle.std.specs.Prelude.{◌≡◌};
+// Kept (5): the table goes beside the destination's three slices here and in `copy_lists`; why those are no struct, `promise` says.
 ghost use Rattle.scope.specs.Types.{ty_of};
+ghost use Rattle.roots.specs.StaysLent.{StaysLent};
 ghost use Rattle.copy_parts.specs.Places.{params_in};
 ghost use Rattle.copy_type.specs.Words.{copying_at, CopyableFrom, copy_from, CopiedIs};
 
@@ -25,7 +26,7 @@ pub fn copy(
     requires { CopyableFrom finder.old.nodes.now (params_in params) depth h.old ws.old ks.old table.old t }
     ensures { CopiedIs (copy_from finder.old.nodes.now (params_in params.entry) depth (copying_at h.old ws.old ks.old table.old) (ty_of t.0))
         h.old ws.old ks.old h.new ws.new ks.new table.new result
-        × (finder.new.nodes ≡ finder.old.nodes) × (finder.new.cache.ghost_name ≡ finder.old.cache.ghost_name) }
+        × StaysLent finder.old finder.new }
 {
     if depth == 0 {
         return t;

@@ -30,8 +30,7 @@ pub record FoundTold (ws : List ℕ) (n : ℕ) (ws' m m' : List ℕ) (t r : ℕ)
   pub marks : (i : ℕ) → Knows m' i → Knows m i
 
 -- told that two roots merged, they did; else nothing changed
-pub record QuickTold (ws ws' : List ℕ) (n : ℕ) (m m' : List ℕ) (a b : Ty) (d : ℕ) (r : Bool) : Type 0 where
-  pub deep : r ≡ true → d ≡ 0 → ⊥
+pub record QuickTold (ws ws' : List ℕ) (n : ℕ) (m m' : List ℕ) (a b : Ty) (r : Bool) : Type 0 where
   pub merged : r ≡ true → Quick ws ws' n a b
   pub forgot : r ≡ true → Forgot m m'
   pub words : r ≡ false → ws' ≡ ws

@@ -21,19 +21,19 @@ pub fn find(ws: &mut [u32], n: u32, memory: &mut [u32], t: Type) -> Type
     r
 }
 
-// Two roots without kinds merge, and true: what unifying them at a depth gives. Else nothing is changed.
-pub fn quick(ws: &mut [u32], n: u32, memory: &mut [u32], a: Type, b: Type, depth: u32) -> bool
+// Two roots without kinds merge, and true. Else nothing is changed.
+pub fn quick(ws: &mut [u32], n: u32, memory: &mut [u32], a: Type, b: Type) -> bool
     requires { Adds ws.old n (ty_of a.0) (ty_of b.0) × Tidy memory.old }
-    ensures { QuickTold ws.old ws.new n memory.old memory.new (ty_of a.0) (ty_of b.0) depth result }
+    ensures { QuickTold ws.old ws.new n memory.old memory.new (ty_of a.0) (ty_of b.0) result }
 {
-    if depth == 0 || !merge::quick(ws, n, a, b) {
+    if !merge::quick(ws, n, a, b) {
         return false;
     }
     recall::changed(memory);
     true
 }
 
-// The same at any depth but 0, of two roots without children of which one has no kind, and of two types of one nil, where nothing is to be done.
+// The same of two roots without children of which one has no kind, and true too of two types of one nil, where nothing is to be done.
 pub fn small(ws: &mut [u32], n: u32, memory: &mut [u32], a: Type, b: Type) -> bool
     requires { Adds ws.old n (ty_of a.0) (ty_of b.0) × Tidy memory.old }
     ensures { SmallTold ws.old ws.new n memory.old memory.new (ty_of a.0) (ty_of b.0) result }

@@ -3,14 +3,11 @@
 -- Assumes nothing.
 use mathlib.Core.Path.{◌≡◌, refl, ap, sym, ◌∙◌}
 use mathlib.Core.Bool.{Bool, true, false, ◌&&◌}
-use mathlib.Core.List.{List, [], ◌∷◌}
+use mathlib.Core.List.{List, [], ◌∷◌, ◌++◌}
 use Prim.Native.Nat.{ℕ, zero, suc, ◌+◌, ◌-◌, ◌≤◌, ◌<◌}
 use native.Mathlib.Omega.{arith}
-use native.Mathlib.Numerals.{add-one}
-use native.Mathlib.Decide.{ℕ_discrete}
 use lib.Dec.{eqb}
-use lib.ListN.{length, get_or, set, length-set}
-use lib.Seq.{get_or-set_same, get_or-set_other}
+use lib.ListN.{length}
 use borrow.Author.Tests.{eq-eqb, ne_eqb}
 use Rattle.scope.specs.Base.{pick, all}
 use Rattle.scope.specs.Types.{Ty, ty_of}
@@ -24,11 +21,13 @@ use Rattle.layout.specs.Meaning.{slot_means, kind_means, read_at, held_in, Clean
 use Rattle.layout.specs.declared.Kind.{Kind}
 use Rattle.layout.specs.declared.Slot.{Slot}
 use Rattle.layout.specs.Meaning.{Held}
-use Rattle.std.specs.Prelude.{Option, Some, None}
+use Rattle.std.specs.Prelude.{Option, Some, None, option_to_list, MatchOption}
+use Rattle.std.specs.List.{All}
+use Rattle.std.proofs.lemmas.List.Elements.{All-nil, All-same, All-push, All-pop, All-weaker}
 use Rattle.layout.proofs.Laws.{length_decode}
 use Rattle.layout.proofs.HeldLaws.{held_by_lem}
 use Rattle.roots.specs.Found.{Found}
-use Rattle.inverse.specs.declared.Rest.{Rest}
+use Rattle.std.specs.declared.ops.Range.{Range}
 use Rattle.inverse.specs.declared.Judgement.{Judgement}
 use Rattle.inverse.specs.declared.Judgement.TheVariants.{Bad, Good, Run}
 use Rattle.related.specs.Stands.{Stands}
@@ -158,20 +157,25 @@ module _ (param : Bool) {ws : List ℕ} {n i : ℕ} {v : Held} (e : v ≡ held_i
 
 -- a walk: p d says whether a type is good at the depth d
 
--- as many as the list of runs holds
-abbrev pub LEVELS : ℕ
-LEVELS = 8
+-- what is left of a run: its places
+abbrev pub Rest : Type 0
+Rest = Range ℕ
 
--- what the end of a run is at most: two numbers of 32 bits
-abbrev pub FAR : ℕ
-FAR = 8589934592
-
--- the children that are left of a run, and what is left behind the first of them
+-- the children that are left of a run
 abbrev left : List ℕ → Rest → List Ty
-left ks r = kids_in ks r.next (r.end - r.next)
+left ks r = kids_in ks r.start (r.end - r.start)
 
-abbrev behind : Rest → Rest
-behind r = record { next = r.next + 1; end = r.end }
+-- its first place i is passed
+pub record Passed (r : Rest) (i : ℕ) (u : Rest) : Type 0 where
+  pub more : r.start < r.end
+  pub place : i ≡ r.start
+  pub start : u.start ≡ r.start + 1
+  pub end : u.end ≡ r.end
+
+pub passed_next : {r u : Rest} {o : Option ℕ} {i : ℕ}
+    → (u.end ≡ r.end) × MatchOption o ((r.end - r.start ≡ 0) × (u.start ≡ r.start)) (λ x. (0 < r.end - r.start) × (x ≡ r.start) × (u.start ≡ r.start + 1))
+    → o ≡ Some i → Passed r i u
+passed_next {r} {u} {o} {i} s e = let m = rw e at s.1 in record { more = omega (arith, m.0); place = m.1; start = m.2; end = s.0 }
 
 abbrev Never : (ℕ → Ty → Bool) → List Ty → Type 0
 Never p ts = (d : ℕ) → all (p d) ts ≡ false
@@ -179,104 +183,82 @@ Never p ts = (d : ℕ) → all (p d) ts ≡ false
 abbrev From : (ℕ → Ty → Bool) → ℕ → List Ty → Type 0
 From p v ts = (d : ℕ) → v ≤ d → all (p d) ts ≡ true
 
-left_next : (ks : List ℕ) (r : Rest) (s : Slot) → r.next < r.end → slot_means s ≡ slot_at ks r.next → left ks r ≡ ty_of s.ty.0 ∷ left ks (behind r)
-left_next ks r s h e =
-    let m : r.end - r.next ≡ suc (r.end - (r.next + 1)) = omega arith in
-    let x : ty_of (slot_at ks r.next).type ≡ ty_of s.ty.0 = ap (λ w. ty_of w.type) (sym e) in
-    rw (m, x, add-one r.next) refl
+left_next : (ks : List ℕ) {r u : Rest} {i : ℕ} (s : Slot) → Passed r i u → slot_means s ≡ slot_at ks i → left ks r ≡ ty_of s.ty.0 ∷ left ks u
+left_next ks {r} {u} {i} s h e =
+    let m : r.end - r.start ≡ suc (u.end - u.start) = omega (arith, h.more, h.start, h.end) in
+    let x : ty_of (slot_at ks r.start).type ≡ ty_of s.ty.0 = ap (λ (k : ℕ). ty_of (slot_at ks k).type) (sym h.place) ∙ ap (λ w. ty_of w.type) (sym e) in
+    let n : u.start ≡ suc r.start = omega (arith, h.start) in
+    rw (m, x, n) refl
 
-left_none : (ks : List ℕ) (r : Rest) → r.end ≤ r.next → left ks r ≡ []
-left_none ks r h = let m : r.end - r.next ≡ 0 = omega arith in rw m refl
+left_none : (ks : List ℕ) (r : Rest) → r.end ≤ r.start → left ks r ≡ []
+left_none ks r h = let m : r.end - r.start ≡ 0 = omega arith in rw m refl
 
 left_whole : (ks : List ℕ) (a m : ℕ) → left ks (whole a m) ≡ kids_in ks a m
 left_whole ks a m = let e : a + m - a ≡ m = omega arith in rw e refl
 
--- the run r and those above it, l of them in the list xs, with v visits left, tell what the types ts tell
-pub record Going (p : ℕ → Ty → Bool) (ks : List ℕ) (ts : List Ty) (most : ℕ) (xs : List Rest) (l : ℕ) (r : Rest) (v : ℕ) : Type 0 where
-  pub levels : l ≤ LEVELS
-  pub room : length xs ≡ LEVELS
-  pub near : r.end ≤ FAR
-  pub nears : (e : ℕ) → e < l → (get_or xs e (whole 0 0)).end ≤ FAR
+-- the run r and those above it, in the list xs, with v visits left, tell what the types ts tell
+pub record Going (p : ℕ → Ty → Bool) (ks : List ℕ) (ts : List Ty) (most : ℕ) (xs : List Rest) (r : Rest) (v : ℕ) : Type 0 where
   pub here : Never p (left ks r) → Never p ts
-  pub above : (e : ℕ) → e < l → Never p (left ks (get_or xs e (whole 0 0))) → Never p ts
-  pub sure : From p v (left ks r) → ((e : ℕ) → e < l → From p v (left ks (get_or xs e (whole 0 0)))) → From p most ts
+  pub above : All (λ (x : Rest). Never p (left ks x) → Never p ts) xs
+  pub sure : From p v (left ks r) → All (λ (x : Rest). From p v (left ks x)) xs → From p most ts
 
-pub going_start : {p : ℕ → Ty → Bool} (ks : List ℕ) (f c most : ℕ) (xs : List Rest) → length xs ≡ LEVELS → f + c ≤ FAR
-    → Going p ks (kids_in ks f c) most xs 0 (whole f c) most
-going_start {p} ks f c most xs x h = record {
-  levels = omega arith;
-  room = x;
-  near = h;
-  nears = λ e q. absurd (omega arith);
+pub going_start : {p : ℕ → Ty → Bool} (ks : List ℕ) (f c most : ℕ) (xs : List Rest) → xs ≡ []
+    → Going p ks (kids_in ks f c) most xs (whole f c) most
+going_start {p} ks f c most xs x = rw x (record {
   here = λ k d. rw (← left_whole ks f c) (k d);
-  above = λ e q. absurd (omega arith);
+  above = All-nil (λ (y : Rest). Never p (left ks y) → Never p (kids_in ks f c));
   sure = λ k g d w. rw (← left_whole ks f c) (k d w);
-}
+})
 
-module _ {p : ℕ → Ty → Bool} {ks : List ℕ} {ts : List Ty} {most : ℕ} {xs : List Rest} {l : ℕ} {r : Rest} {v : ℕ} (g : Going p ks ts most xs l r v) where
-  ended : r.end ≤ r.next → From p v (left ks r)
+module _ {p : ℕ → Ty → Bool} {ks : List ℕ} {ts : List Ty} {most : ℕ} {xs : List Rest} {r : Rest} {v : ℕ} (g : Going p ks ts most xs r v) where
+  ended : r.end ≤ r.start → From p v (left ks r)
   ended h d w = ap (all (p d)) (left_none ks r h)
 
-  pub going_up : r.end ≤ r.next → (l ≡ 0 → ⊥) → Going p ks ts most xs (l - 1) (get_or xs (l - 1) (whole 0 0)) v
-  going_up h z = record {
-    levels = omega (arith, g.levels);
-    room = g.room;
-    near = g.nears (l - 1) (omega arith);
-    nears = λ e q. g.nears e (omega arith);
-    here = g.above (l - 1) (omega arith);
-    above = λ e q. g.above e (omega arith);
-    sure = λ x y. g.sure (ended h) (λ e q. go x y e q (ℕ_discrete e (l - 1)));
-  }
-    where
-      go : From p v (left ks (get_or xs (l - 1) (whole 0 0)))
-          → ((e : ℕ) → e < l - 1 → From p v (left ks (get_or xs e (whole 0 0))))
-          → (e : ℕ) → e < l → Dec (e ≡ l - 1) → From p v (left ks (get_or xs e (whole 0 0)))
-      go x y e q (yes i) = rw i x
-      go x y e q (no i) = y e (omega arith)
+  -- the walk went back up to the run u, the last above
+  module _ {ys : List Rest} {o : Option Rest} (q : xs ≡ ys ++ option_to_list o) (h : r.end ≤ r.start) where
+    pub going_up : {u : Rest} → o ≡ Some u → Going p ks ts most ys u v
+    going_up {u} e =
+        let last : xs ≡ ys ++ u ∷ [] = rw e at q in
+        let above = All-pop (λ (x : Rest). Never p (left ks x) → Never p ts) xs ys (Some u) last g.above in
+        record {
+          here = above.1;
+          above = above.0;
+          sure = λ x y. g.sure (ended h) (All-same (λ (z : Rest). From p v (left ks z)) xs (ys ++ u ∷ []) last (All-push (λ (z : Rest). From p v (left ks z)) ys u y x));
+        }
 
   -- one child, of the type t
-  module _ (s : Slot) (h : r.next < r.end) (q : slot_means s ≡ slot_at ks r.next) where
-    next : (d : ℕ) → all (p d) (left ks r) ≡ (p d (ty_of s.ty.0) && all (p d) (left ks (behind r)))
-    next d = ap (all (p d)) (left_next ks r s h q)
+  module _ (s : Slot) {i : ℕ} {u : Rest} (h : Passed r i u) (q : slot_means s ≡ slot_at ks i) where
+    next : (d : ℕ) → all (p d) (left ks r) ≡ (p d (ty_of s.ty.0) && all (p d) (left ks u))
+    next d = ap (all (p d)) (left_next ks s h q)
 
     first_no : (d : ℕ) → p d (ty_of s.ty.0) ≡ false → all (p d) (left ks r) ≡ false
-    first_no d e = next d ∙ ap (λ (c : Bool). c && all (p d) (left ks (behind r))) e
+    first_no d e = next d ∙ ap (λ (c : Bool). c && all (p d) (left ks u)) e
 
-    rest_no : Never p (left ks (behind r)) → Never p ts
+    rest_no : Never p (left ks u) → Never p ts
     rest_no n = g.here (λ d. next d ∙ (ap (λ (c : Bool). p d (ty_of s.ty.0) && c) (n d) ∙ and-false (p d (ty_of s.ty.0))))
 
-    both : (d : ℕ) → p d (ty_of s.ty.0) ≡ true → all (p d) (left ks (behind r)) ≡ true → all (p d) (left ks r) ≡ true
-    both d e f = next d ∙ (ap (λ (c : Bool). c && all (p d) (left ks (behind r))) e ∙ f)
+    both : (d : ℕ) → p d (ty_of s.ty.0) ≡ true → all (p d) (left ks u) ≡ true → all (p d) (left ks r) ≡ true
+    both d e f = next d ∙ (ap (λ (c : Bool). c && all (p d) (left ks u)) e ∙ f)
 
     pub going_met : ((d : ℕ) → p d (ty_of s.ty.0) ≡ false) → Never p ts
     going_met n = g.here (λ d. first_no d (n d))
 
     module _ (o : 0 < v) where
-      pub going_good : ((d : ℕ) → p (suc d) (ty_of s.ty.0) ≡ true) → Going p ks ts most xs l (behind r) (v - 1)
+      later : (ys : List Rest) → All (λ (x : Rest). From p (v - 1) (left ks x)) ys → All (λ (x : Rest). From p v (left ks x)) ys
+      later ys = All-weaker (λ (x : Rest). From p (v - 1) (left ks x)) (λ (x : Rest). From p v (left ks x)) (λ x y d w. y d (omega arith)) ys
+
+      pub going_good : ((d : ℕ) → p (suc d) (ty_of s.ty.0) ≡ true) → Going p ks ts most xs u (v - 1)
       going_good n = record {
-        levels = g.levels;
-        room = g.room;
-        near = g.near;
-        nears = g.nears;
         here = rest_no;
         above = g.above;
-        sure = λ x y. g.sure (λ d w. both d (at d (omega arith)) (x d (omega arith))) (λ e i d w. y e i d (omega arith));
+        sure = λ x y. g.sure (λ d w. both d (at d (omega arith)) (x d (omega arith))) (later xs y);
       }
         where
           at : (d : ℕ) → 0 < d → p d (ty_of s.ty.0) ≡ true
           at zero i = absurd (omega arith)
           at (suc d) i = n d
 
-      module _ (lt : l < LEVELS) (f c : ℕ) (fc : f + c ≤ FAR) (z : p 0 (ty_of s.ty.0) ≡ false) (n : (d : ℕ) → p (suc d) (ty_of s.ty.0) ≡ all (p d) (kids_in ks f c)) where
-        put : get_or (set xs l (behind r)) l (whole 0 0) ≡ behind r
-        put = get_or-set_same xs l (behind r) (whole 0 0) (omega (arith, g.room))
-
-        top : left ks (get_or (set xs l (behind r)) l (whole 0 0)) ≡ left ks (behind r)
-        top = ap (left ks) put
-
-        pushed : (e : ℕ) → (e ≡ l → ⊥) → get_or (set xs l (behind r)) e (whole 0 0) ≡ get_or xs e (whole 0 0)
-        pushed e i = get_or-set_other xs l e (behind r) (whole 0 0) i
-
+      module _ (f c : ℕ) (z : p 0 (ty_of s.ty.0) ≡ false) (n : (d : ℕ) → p (suc d) (ty_of s.ty.0) ≡ all (p d) (kids_in ks f c)) where
         at_no : Never p (kids_in ks f c) → (d : ℕ) → p d (ty_of s.ty.0) ≡ false
         at_no k zero = z
         at_no k (suc d) = n d ∙ k d
@@ -285,27 +267,14 @@ module _ {p : ℕ → Ty → Bool} {ks : List ℕ} {ts : List Ty} {most : ℕ} {
         at_yes k zero i = absurd (omega arith)
         at_yes k (suc d) i = n d ∙ k d (omega arith)
 
-        pub going_down : Going p ks ts most (set xs l (behind r)) (l + 1) (whole f c) (v - 1)
-        going_down = record {
-          levels = omega arith;
-          room = rw length-set g.room;
-          near = fc;
-          nears = λ e i. low e i (ℕ_discrete e l);
+        pub going_down : {ys : List Rest} → ys ≡ xs ++ u ∷ [] → Going p ks ts most ys (whole f c) (v - 1)
+        going_down {ys} e = rw e (record {
           here = λ k. going_met (at_no (λ d. rw (← left_whole ks f c) (k d)));
-          above = λ e i k. go e i k (ℕ_discrete e l);
+          above = All-push (λ (x : Rest). Never p (left ks x) → Never p ts) xs u g.above rest_no;
           sure = λ x y.
-              g.sure
-              (λ d w. both d (at_yes (λ m u. rw (← left_whole ks f c) (x m u)) d w) (rw (← top) (y l (omega arith) d (omega arith))))
-              (λ e i d w. rw (← pushed e (λ r. omega arith)) (y e (omega arith) d (omega arith)));
-        }
-          where
-            low : (e : ℕ) → e < l + 1 → Dec (e ≡ l) → (get_or (set xs l (behind r)) e (whole 0 0)).end ≤ FAR
-            low e i (yes m) = rw (m, put) g.near
-            low e i (no m) = rw (pushed e m) (g.nears e (omega arith))
-
-            go : (e : ℕ) → e < l + 1 → Never p (left ks (get_or (set xs l (behind r)) e (whole 0 0))) → Dec (e ≡ l) → Never p ts
-            go e i k (yes m) = rest_no (λ d. rw (← top) (rw m at (k d)))
-            go e i k (no m) = g.above e (omega arith) (λ d. rw (← pushed e m) (k d))
+              let them = All-pop (λ (m : Rest). From p (v - 1) (left ks m)) (xs ++ u ∷ []) xs (Some u) refl y in
+              g.sure (λ d w. both d (at_yes (λ m u. rw (← left_whole ks f c) (x m u)) d w) (them.1 d (omega arith))) (later xs them.0);
+        })
 
 -- what the code's answers say
 

@@ -1,4 +1,5 @@
 -- What a root tells of `self_inverse` by itself, and what a walk of some visits tells.
+use Rattle.std.specs.declared.ops.Range.{Range}
 use Rattle.std.specs.Prelude.{◌≡◌, Bool, true, false, Option, Some, List, map, ℕ, suc, ◌+◌, ◌≤◌, eqb}
 use Rattle.scope.specs.Base.{pick, all}
 use Rattle.scope.specs.Types.{Ty, ty_of}
@@ -8,7 +9,6 @@ use Rattle.scope.specs.Unify.{self_inverse_at, self_inverse_of}
 use Rattle.layout.specs.Words.{slots, decode}
 use Rattle.layout.specs.Meaning.{Clean}
 use Rattle.layout.specs.declared.Kind.{Kind}
-use Rattle.inverse.specs.declared.Rest.{Rest}
 use Rattle.inverse.specs.declared.Judgement.{Judgement}
 use Rattle.inverse.specs.declared.Judgement.TheVariants.{Bad, Good, Run}
 
@@ -16,9 +16,9 @@ use Rattle.inverse.specs.declared.Judgement.TheVariants.{Bad, Good, Run}
 abbrev pub kids_in : List ℕ → ℕ → ℕ → List Ty
 kids_in ks first count = map (λ s. ty_of s.type) (slots ks first count)
 
--- what is left of such a run: all of it
-abbrev pub whole : ℕ → ℕ → Rest
-whole first count = record { next = first; end = first + count }
+-- the places of such a run
+abbrev pub whole : ℕ → ℕ → Range ℕ
+whole first count = record { start = first; end = first + count }
 
 -- a kind that lets a type be its own inverse, children apart
 abbrev pub good_kind : Bool → Kind → Bool

@@ -10,7 +10,9 @@ ghost use Rattle.related.specs.Stands.{StandsIn};
 ghost use Rattle.inverse.specs.Judged.{kids_in, whole, good_kind, Judges, Tries, Glanced};
 ghost use Rattle.inverse.specs.Marked.{good_by, good_at, BesideIn, MarkedAllIn};
 
+use arrayvec::ArrayVec;
 use layout::{Kind, Nodes};
+use std::ops::Range;
 use types::{Type, TypeIdx};
 
 // What a root tells of `self_inverse` by itself: it is not good, or good, or good where its children are, so many from the first on.
@@ -21,16 +23,7 @@ enum Judgement {
     Run { first: u32, count: u32 },
 }
 
-// What is left of a run of children: those from `next` up to `end`.
-// Kept (6): a pair of numbers is copied, to the list of the runs above and back. A Range is no Copy: `from_fn` would fill the list, and each run be cloned out of it.
-// The list and `level` beside it are a stack of a fixed size, as there is no heap for a Vec.
-#[derive(Clone, Copy)]
-struct Rest {
-    next: usize,
-    end: usize,
-}
-
-// So many visits a walk without marks makes at most, and goes down fewer levels than these.
+// So many visits a walk without marks makes at most, and goes down so many levels.
 const VISITS: u32 = 256;
 
 const LEVELS: usize = 8;
@@ -65,14 +58,12 @@ fn judge(nodes: &Nodes<'_>, i: TypeIdx, param: bool) -> Judgement
     }
 }
 
-fn whole(first: u32, count: u32) -> Rest
+// The places of a run of children.
+fn whole(first: u32, count: u32) -> Range<usize>
     ensures { result ≡ whole first count }
 {
-    let next = first as usize;
-    Rest {
-        next,
-        end: next + count as usize,
-    }
+    let start = first as usize;
+    start..start + count as usize
 }
 
 // A walk of so many visits at most over a run of children, depth first and without marks, which ends at the first root that is not good. What is left of the runs
@@ -81,35 +72,31 @@ fn inverse_run(nodes: &Nodes<'_>, first: u32, count: u32, param: bool, most: u32
     requires { StandsIn nodes.now }
     ensures { Tries (nodes_by nodes.now) param (kids_in nodes.now.kids.now first count) most result }
 {
-    let mut above = [whole(0, 0); LEVELS];
-    let mut level = 0;
+    let mut above: ArrayVec<Range<usize>, LEVELS> = ArrayVec::new();
     let mut run = whole(first, count);
     let mut left = most;
     // Kept (3): as a `for` it is no plainer: a turn visits the next child of a run or goes back up to the run above, so turns are no counter.
     while 0 < left {
-        if level == LEVELS {
-            return None;
-        }
-        if run.next < run.end {
-            let kid = layout::child_at(nodes.kids, run.next).ty;
+        if let Some(place) = run.next() {
+            let kid = layout::child_at(nodes.kids, place).ty;
             let root = roots::find_in(nodes, kid).idx();
-            run.next += 1;
             left -= 1;
             match judge(nodes, root, param) {
                 Judgement::Bad => return Some(false),
                 Judgement::Good => {}
                 Judgement::Run { first, count } => {
-                    above[level] = run;
-                    level += 1;
+                    if above.is_full() {
+                        return None;
+                    }
+                    above.push(run);
                     run = whole(first, count);
                 }
             }
         } else {
-            if level == 0 {
+            let Some(up) = above.pop() else {
                 return Some(true);
-            }
-            level -= 1;
-            run = above[level];
+            };
+            run = up;
         }
     }
     None

@@ -29,8 +29,10 @@ fn name_or_none(n: Name, texts: &Texts<'_>) -> bool
 }
 
 // One name for each child, "strictly ascending". The first is held against the empty name, which comes before any other.
-// Kept (3): a turn takes the name before along. Tried: `try_fold` from NO_NAME, and `all` with `map` and `is_sorted_by`, which reads each child twice. `search` leaves what either is to
-// ensure, and `grind` stops at its limit of depth: the library has no law of a `try_fold`, and none from the IsSortedAnswer of a run that may break off to `ascending`.
+// Kept (3): a turn takes the name before along. Tried: `try_fold` from NO_NAME, and `all` with `map` and `is_sorted_by`, which reads each child twice; `search` leaves what either is
+// to ensure, and `grind` stops at its limit of depth. What `try_fold` ensures of a whole run (IsTryFoldRun) is that the closure goes on at each item from some name, not from the one
+// before; its steps (TryFoldsItems) say that, but the library has no law from them, so that an induction over them would stand in place of this loop's invariant. Nor has it one
+// from the IsSortedAnswer of a run that may break off to `ascending`.
 fn child_names_fit(k: Kind, ks: &[u32], texts: &Texts<'_>) -> bool
     ensures { result ≡ object_names_ok (texts_by texts.now) (map slot_name (slots ks.now k.first k.count)) }
 {
@@ -53,6 +55,8 @@ fn parameter_names_fit(k: Kind, n: u32, ks: &[u32], texts: &Texts<'_>) -> bool
 }
 
 // The names that the kind's row asks for. Each child is read, so a caller tests the width first, as can_be_made does; kids_inside likewise.
+// Kept (5): a kind goes beside the words where its children lie, here and in `clean`, `node_sound`, `call_read`, `show_names`, `show_parts` and `run_text`. Who calls has the kind of a
+// node or of a caller's numbers, and the words of a store or of a lent list; a struct of both would be made at each call, to be taken apart there.
 pub fn names_fit(k: Kind, ks: &[u32], texts: &Texts<'_>) -> bool
     ensures { result ≡ names_ok (texts_by texts.now) (row_of k.code).names (kind_means ks.now k).head.names k.count }
 {

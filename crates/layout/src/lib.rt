@@ -1,6 +1,7 @@
 #![tactic(auto)]
 // A store in three lent slices of numbers: where each number lies, and how a node, a child and the header are read and written.
-// Nothing above this crate but `heads` reads a word, and `make` copies children's as they lie: it uses these functions and the laws of proofs/.
+// Above this crate nobody opens a word but `heads`, `clean`, which tests words, and `merge`, which writes a size among a node's first three; `make` and `keep` copy words
+// as they lie. The others use these functions and the laws of proofs/.
 mod encoding;
 
 ghost use Rattle.std.specs.Prelude.{◌≡◌, ◌+◌, ◌*◌, ◌≤◌, length};
@@ -280,7 +281,7 @@ pub fn put_node(ws: &mut [u32], n: u32, i: TypeIdx, node: TypeNode)
 }
 
 // The child i, where all its words are.
-pub fn child_there(ks: &[u32], i: usize) -> Slot
+fn child_there(ks: &[u32], i: usize) -> Slot
     requires { i * CHILD_WORDS + CHILD_WORDS ≤ length ks.now }
     ensures { slot_means result ≡ slot_at ks.now i }
 {

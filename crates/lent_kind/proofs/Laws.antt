@@ -102,12 +102,12 @@ module _ (l : lent.Env) (k : KindArgs) (es : List ℕ) where
   pub torn_refused : (length es % CHILD_WORDS ≡ 0 → ⊥) → first_broken (kind_tests env (given k es)) ≡ some UNMAKEABLE
   torn_refused z = untidy_test k es env [] (rw (ne_eqb (length es % CHILD_WORDS) 0 z))
 
-  module _ {n : Kind} (f : n ≡ with_flag k flag) (whole : length es % CHILD_WORDS ≡ 0) where
+  module _ {n : Kind} {c : ℕ} (f : n ≡ with_flag k flag) (counted : c ≡ entry_count es) (whole : length es % CHILD_WORDS ≡ 0) where
     abbrev kind : Kind
-    kind = kind_at n n.first (entry_count es)
+    kind = kind_at n n.first c
 
     kind_is : kind ≡ kind_lent k flag es
-    kind_is = ap (λ (m : Kind). kind_at m m.first (entry_count es)) f
+    kind_is = ap (λ (m : Kind). kind_at m m.first c) f ∙ ap (kind_at (with_flag k flag) 0) counted
 
     tidy_by : {b : Bool} → b ≡ names_clean (kind_cell es kind) → tidy k es ≡ b
     tidy_by q = rw (eq-eqb (length es % CHILD_WORDS) 0 whole) (sym (q ∙ ap (λ (y : Kind). names_clean (kind_cell es y)) kind_is))

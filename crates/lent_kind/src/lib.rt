@@ -50,7 +50,7 @@ pub fn test_kind(env: &Env<'_>, k: KindArgs, entries: &[u32]) -> Result<(), Refu
         return Err(Refusal::Unmakeable);
     }
     let kind = Kind {
-        count: (entries.len() / CHILD_WORDS) as u32,
+        count: store::entry_count(entries) as u32,
         ..flagged(k, env.chart)
     };
     if !clean::names_clean(entries, kind) || !kind_sound::can_be_made(kind, entries, &env.texts) {

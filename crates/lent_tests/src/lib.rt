@@ -89,6 +89,7 @@ fn bad_entries(xs: &[u32], env: &Env<'_>) -> bool
 }
 
 // Two objects, by their entries.
+// Kept (2): `lists_among` asks the same of two lists by two other tests; one function for both would take the two tests as closures, with contracts of their own, for these three lines.
 pub fn objects(xs: &[u32], ys: &[u32], n: u32, env: &Env<'_>) -> Result<(), Refusal>
     ensures { FirstOf n
         (object_tests (texts_lent env.now) (entries_in xs.now) (entries_in ys.now)) (told result) }

@@ -9,7 +9,8 @@ ghost use Rattle.c_words.specs.Numbers.{done_in, bool_in, Says};
 ghost use Rattle.c_words.specs.Given.{set_in, lent_env};
 ghost use Rattle.c_outs.specs.Outs.{mod_in, mod_out, Tells};
 
-use chart::SIGIL_WORDS;
+use chart::SIGILS;
+use names::Name;
 use types::Type;
 
 // A Tuple of nothing.
@@ -17,7 +18,7 @@ use types::Type;
 pub extern "C" fn faroalder_is_nil<'a>(
     chart: &[u32],
     fn_trait: u32,
-    sigils: &[u32; SIGIL_WORDS],
+    sigils: &[Name; SIGILS],
     rule: &'a [u8],
     text: &'a [u8],
     h: &[u32],
@@ -38,7 +39,7 @@ pub extern "C" fn faroalder_is_nil<'a>(
 pub extern "C" fn faroalder_self_inverse<'a>(
     chart: &[u32],
     fn_trait: u32,
-    sigils: &[u32; SIGIL_WORDS],
+    sigils: &[Name; SIGILS],
     rule: &'a [u8],
     text: &'a [u8],
     h: &[u32],
@@ -59,7 +60,7 @@ pub extern "C" fn faroalder_self_inverse<'a>(
 pub extern "C" fn faroalder_self_inverse_param<'a>(
     chart: &[u32],
     fn_trait: u32,
-    sigils: &[u32; SIGIL_WORDS],
+    sigils: &[Name; SIGILS],
     rule: &'a [u8],
     text: &'a [u8],
     h: &[u32],
@@ -88,7 +89,7 @@ pub extern "C" fn faroalder_self_inverse_param<'a>(
 pub extern "C" fn faroalder_get_mod<'a>(
     chart: &[u32],
     fn_trait: u32,
-    sigils: &[u32; SIGIL_WORDS],
+    sigils: &[Name; SIGILS],
     rule: &'a [u8],
     text: &'a [u8],
     h: &[u32],
@@ -110,7 +111,7 @@ pub extern "C" fn faroalder_get_mod<'a>(
 pub extern "C" fn faroalder_find_related<'a>(
     chart: &[u32],
     fn_trait: u32,
-    sigils: &[u32; SIGIL_WORDS],
+    sigils: &[Name; SIGILS],
     rule: &'a [u8],
     text: &'a [u8],
     h: &[u32],

@@ -8,7 +8,8 @@ ghost use Rattle.c_words.specs.Numbers.{done_in};
 ghost use Rattle.c_words.specs.Given.{lent_env};
 ghost use Rattle.c_outs.specs.Outs.{forced_in, forced_out, Tells};
 
-use chart::SIGIL_WORDS;
+use chart::SIGILS;
+use names::Name;
 use types::Type;
 
 // "A Known gives its kind and its inversion combined with the type's." "An Unknown becomes InferenceFailed, its span is in the answer"; the report count rises.
@@ -16,7 +17,7 @@ use types::Type;
 pub extern "C" fn faroalder_force_kind<'a>(
     chart: &[u32],
     fn_trait: u32,
-    sigils: &[u32; SIGIL_WORDS],
+    sigils: &[Name; SIGILS],
     rule: &'a [u8],
     text: &'a [u8],
     h: &mut [u32],
@@ -38,7 +39,7 @@ pub extern "C" fn faroalder_force_kind<'a>(
 pub extern "C" fn faroalder_finish_inference<'a>(
     chart: &[u32],
     fn_trait: u32,
-    sigils: &[u32; SIGIL_WORDS],
+    sigils: &[Name; SIGILS],
     rule: &'a [u8],
     text: &'a [u8],
     h: &[u32],
@@ -58,7 +59,7 @@ pub extern "C" fn faroalder_finish_inference<'a>(
 pub extern "C" fn faroalder_finish_inference_where<'a>(
     chart: &[u32],
     fn_trait: u32,
-    sigils: &[u32; SIGIL_WORDS],
+    sigils: &[Name; SIGILS],
     rule: &'a [u8],
     text: &'a [u8],
     h: &[u32],

@@ -9,7 +9,8 @@ ghost use Rattle.c_words.specs.Numbers.{type_in};
 ghost use Rattle.c_words.specs.Given.{lent_env};
 ghost use Rattle.c_outs.specs.Outs.{node_in, node_out, child_in, child_out, name_answer_in, name_out, figures_in, figures_out, Tells};
 
-use chart::SIGIL_WORDS;
+use chart::SIGILS;
+use names::Name;
 use types::Type;
 
 // "`find` follows parents, combining inversions by exclusive or."
@@ -17,7 +18,7 @@ use types::Type;
 pub extern "C" fn faroalder_find<'a>(
     chart: &[u32],
     fn_trait: u32,
-    sigils: &[u32; SIGIL_WORDS],
+    sigils: &[Name; SIGILS],
     rule: &'a [u8],
     text: &'a [u8],
     h: &[u32],
@@ -38,7 +39,7 @@ pub extern "C" fn faroalder_find<'a>(
 pub extern "C" fn faroalder_find_mut<'a>(
     chart: &[u32],
     fn_trait: u32,
-    sigils: &[u32; SIGIL_WORDS],
+    sigils: &[Name; SIGILS],
     rule: &'a [u8],
     text: &'a [u8],
     h: &[u32],
@@ -59,7 +60,7 @@ pub extern "C" fn faroalder_find_mut<'a>(
 pub extern "C" fn faroalder_node<'a>(
     chart: &[u32],
     fn_trait: u32,
-    sigils: &[u32; SIGIL_WORDS],
+    sigils: &[Name; SIGILS],
     rule: &'a [u8],
     text: &'a [u8],
     h: &[u32],
@@ -81,7 +82,7 @@ pub extern "C" fn faroalder_node<'a>(
 pub extern "C" fn faroalder_child<'a>(
     chart: &[u32],
     fn_trait: u32,
-    sigils: &[u32; SIGIL_WORDS],
+    sigils: &[Name; SIGILS],
     rule: &'a [u8],
     text: &'a [u8],
     h: &[u32],
@@ -104,7 +105,7 @@ pub extern "C" fn faroalder_child<'a>(
 pub extern "C" fn faroalder_child_name<'a>(
     chart: &[u32],
     fn_trait: u32,
-    sigils: &[u32; SIGIL_WORDS],
+    sigils: &[Name; SIGILS],
     rule: &'a [u8],
     text: &'a [u8],
     h: &[u32],
@@ -127,7 +128,7 @@ pub extern "C" fn faroalder_child_name<'a>(
 pub extern "C" fn faroalder_figures<'a>(
     chart: &[u32],
     fn_trait: u32,
-    sigils: &[u32; SIGIL_WORDS],
+    sigils: &[Name; SIGILS],
     rule: &'a [u8],
     text: &'a [u8],
     h: &[u32],

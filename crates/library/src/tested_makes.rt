@@ -9,14 +9,15 @@ ghost use Rattle.promise.specs.Lists.{ListPromised};
 ghost use Rattle.c_words.specs.Numbers.{type_in, done_in, Says};
 ghost use Rattle.c_words.specs.Given.{kind_args_in, lent_env};
 
-use chart::SIGIL_WORDS;
+use chart::SIGILS;
+use names::Name;
 
 // "`new_var`": a type without a kind, and its span.
 #[unsafe(no_mangle)]
 pub extern "C" fn faroalder_tested_new_var<'a>(
     chart: &[u32],
     fn_trait: u32,
-    sigils: &[u32; SIGIL_WORDS],
+    sigils: &[Name; SIGILS],
     rule: &'a [u8],
     text: &'a [u8],
     h: &mut [u32],
@@ -38,7 +39,7 @@ pub extern "C" fn faroalder_tested_new_var<'a>(
 pub extern "C" fn faroalder_tested_new_vars<'a>(
     chart: &[u32],
     fn_trait: u32,
-    sigils: &[u32; SIGIL_WORDS],
+    sigils: &[Name; SIGILS],
     rule: &'a [u8],
     text: &'a [u8],
     h: &mut [u32],
@@ -64,7 +65,7 @@ pub extern "C" fn faroalder_tested_new_vars<'a>(
 pub extern "C" fn faroalder_tested_error<'a>(
     chart: &[u32],
     fn_trait: u32,
-    sigils: &[u32; SIGIL_WORDS],
+    sigils: &[Name; SIGILS],
     rule: &'a [u8],
     text: &'a [u8],
     h: &mut [u32],
@@ -85,7 +86,7 @@ pub extern "C" fn faroalder_tested_error<'a>(
 pub extern "C" fn faroalder_tested_nil<'a>(
     chart: &[u32],
     fn_trait: u32,
-    sigils: &[u32; SIGIL_WORDS],
+    sigils: &[Name; SIGILS],
     rule: &'a [u8],
     text: &'a [u8],
     h: &mut [u32],
@@ -106,7 +107,7 @@ pub extern "C" fn faroalder_tested_nil<'a>(
 pub extern "C" fn faroalder_tested_new<'a>(
     chart: &[u32],
     fn_trait: u32,
-    sigils: &[u32; SIGIL_WORDS],
+    sigils: &[Name; SIGILS],
     rule: &'a [u8],
     text: &'a [u8],
     h: &mut [u32],
@@ -136,7 +137,7 @@ pub extern "C" fn faroalder_tested_new<'a>(
 pub extern "C" fn faroalder_tested_new_struct<'a>(
     chart: &[u32],
     fn_trait: u32,
-    sigils: &[u32; SIGIL_WORDS],
+    sigils: &[Name; SIGILS],
     rule: &'a [u8],
     text: &'a [u8],
     h: &mut [u32],
@@ -160,7 +161,7 @@ pub extern "C" fn faroalder_tested_new_struct<'a>(
 pub extern "C" fn faroalder_tested_new_union<'a>(
     chart: &[u32],
     fn_trait: u32,
-    sigils: &[u32; SIGIL_WORDS],
+    sigils: &[Name; SIGILS],
     rule: &'a [u8],
     text: &'a [u8],
     h: &mut [u32],

@@ -6,14 +6,15 @@ ghost use Rattle.call_states.specs.Promise.{NamesPromised, TestedNames};
 ghost use Rattle.c_words.specs.Numbers.{done_in};
 ghost use Rattle.c_words.specs.Given.{lent_env};
 
-use chart::SIGIL_WORDS;
+use chart::SIGILS;
+use names::Name;
 
 // "Let a planner name the present state": 12 where the name has a wrong length, 13 where it is not held and no place is free.
 #[unsafe(no_mangle)]
 pub extern "C" fn faroalder_tested_name_state<'a>(
     chart: &[u32],
     fn_trait: u32,
-    sigils: &[u32; SIGIL_WORDS],
+    sigils: &[Name; SIGILS],
     rule: &'a [u8],
     text: &'a [u8],
     h: &[u32],
@@ -38,7 +39,7 @@ pub extern "C" fn faroalder_tested_name_state<'a>(
 pub extern "C" fn faroalder_tested_return_to<'a>(
     chart: &[u32],
     fn_trait: u32,
-    sigils: &[u32; SIGIL_WORDS],
+    sigils: &[Name; SIGILS],
     rule: &'a [u8],
     text: &'a [u8],
     h: &mut [u32],
@@ -63,7 +64,7 @@ pub extern "C" fn faroalder_tested_return_to<'a>(
 pub extern "C" fn faroalder_tested_drop_name<'a>(
     chart: &[u32],
     fn_trait: u32,
-    sigils: &[u32; SIGIL_WORDS],
+    sigils: &[Name; SIGILS],
     rule: &'a [u8],
     text: &'a [u8],
     h: &[u32],
@@ -88,7 +89,7 @@ pub extern "C" fn faroalder_tested_drop_name<'a>(
 pub extern "C" fn faroalder_tested_reset<'a>(
     chart: &[u32],
     fn_trait: u32,
-    sigils: &[u32; SIGIL_WORDS],
+    sigils: &[Name; SIGILS],
     rule: &'a [u8],
     text: &'a [u8],
     h: &mut [u32],

@@ -9,7 +9,8 @@ ghost use Rattle.promise.specs.Promise.{Promised, Tested};
 ghost use Rattle.c_words.specs.Numbers.{unify_in};
 ghost use Rattle.c_words.specs.Given.{set_in, impl_in, lent_env};
 
-use chart::SIGIL_WORDS;
+use chart::SIGILS;
+use names::Name;
 use types::Type;
 
 // "`unify` takes both roots with `find_mut`." Nothing that the memory holds is believed, and what stands in it afterwards means nothing.
@@ -17,7 +18,7 @@ use types::Type;
 pub extern "C" fn faroalder_tested_unify_recalling<'a>(
     chart: &[u32],
     fn_trait: u32,
-    sigils: &[u32; SIGIL_WORDS],
+    sigils: &[Name; SIGILS],
     rule: &'a [u8],
     text: &'a [u8],
     h: &[u32],
@@ -50,7 +51,7 @@ pub extern "C" fn faroalder_tested_unify_recalling<'a>(
 pub extern "C" fn faroalder_tested_unify_types_recalling<'a>(
     chart: &[u32],
     fn_trait: u32,
-    sigils: &[u32; SIGIL_WORDS],
+    sigils: &[Name; SIGILS],
     rule: &'a [u8],
     text: &'a [u8],
     h: &[u32],
@@ -79,7 +80,7 @@ pub extern "C" fn faroalder_tested_unify_types_recalling<'a>(
 pub extern "C" fn faroalder_tested_unify_objects_recalling<'a>(
     chart: &[u32],
     fn_trait: u32,
-    sigils: &[u32; SIGIL_WORDS],
+    sigils: &[Name; SIGILS],
     rule: &'a [u8],
     text: &'a [u8],
     h: &[u32],
@@ -108,7 +109,7 @@ pub extern "C" fn faroalder_tested_unify_objects_recalling<'a>(
 pub extern "C" fn faroalder_tested_unify_fn_sig_recalling<'a>(
     chart: &[u32],
     fn_trait: u32,
-    sigils: &[u32; SIGIL_WORDS],
+    sigils: &[Name; SIGILS],
     rule: &'a [u8],
     text: &'a [u8],
     h: &[u32],
@@ -145,7 +146,7 @@ pub extern "C" fn faroalder_tested_unify_fn_sig_recalling<'a>(
 pub extern "C" fn faroalder_tested_unify_impl_type_recalling<'a>(
     chart: &[u32],
     fn_trait: u32,
-    sigils: &[u32; SIGIL_WORDS],
+    sigils: &[Name; SIGILS],
     rule: &'a [u8],
     text: &'a [u8],
     h: &[u32],

@@ -9,7 +9,8 @@ ghost use Rattle.promise.specs.Promise.{Promised, Tested};
 ghost use Rattle.c_words.specs.Numbers.{bool_in, unify_in};
 ghost use Rattle.c_words.specs.Given.{set_in, impl_in, lent_env};
 
-use chart::SIGIL_WORDS;
+use chart::SIGILS;
+use names::Name;
 use types::Type;
 
 // "`unify` takes both roots with `find_mut`."
@@ -17,7 +18,7 @@ use types::Type;
 pub extern "C" fn faroalder_tested_unify<'a>(
     chart: &[u32],
     fn_trait: u32,
-    sigils: &[u32; SIGIL_WORDS],
+    sigils: &[Name; SIGILS],
     rule: &'a [u8],
     text: &'a [u8],
     h: &[u32],
@@ -41,7 +42,7 @@ pub extern "C" fn faroalder_tested_unify<'a>(
 pub extern "C" fn faroalder_tested_unify_types<'a>(
     chart: &[u32],
     fn_trait: u32,
-    sigils: &[u32; SIGIL_WORDS],
+    sigils: &[Name; SIGILS],
     rule: &'a [u8],
     text: &'a [u8],
     h: &[u32],
@@ -67,7 +68,7 @@ pub extern "C" fn faroalder_tested_unify_types<'a>(
 pub extern "C" fn faroalder_tested_unify_objects<'a>(
     chart: &[u32],
     fn_trait: u32,
-    sigils: &[u32; SIGIL_WORDS],
+    sigils: &[Name; SIGILS],
     rule: &'a [u8],
     text: &'a [u8],
     h: &[u32],
@@ -93,7 +94,7 @@ pub extern "C" fn faroalder_tested_unify_objects<'a>(
 pub extern "C" fn faroalder_tested_unify_fn_sig<'a>(
     chart: &[u32],
     fn_trait: u32,
-    sigils: &[u32; SIGIL_WORDS],
+    sigils: &[Name; SIGILS],
     rule: &'a [u8],
     text: &'a [u8],
     h: &[u32],
@@ -128,7 +129,7 @@ pub extern "C" fn faroalder_tested_unify_fn_sig<'a>(
 pub extern "C" fn faroalder_tested_unify_impl_type<'a>(
     chart: &[u32],
     fn_trait: u32,
-    sigils: &[u32; SIGIL_WORDS],
+    sigils: &[Name; SIGILS],
     rule: &'a [u8],
     text: &'a [u8],
     h: &[u32],
@@ -161,7 +162,7 @@ pub extern "C" fn faroalder_tested_unify_impl_type<'a>(
 pub extern "C" fn faroalder_tested_approx_eq<'a>(
     chart: &[u32],
     fn_trait: u32,
-    sigils: &[u32; SIGIL_WORDS],
+    sigils: &[Name; SIGILS],
     rule: &'a [u8],
     text: &'a [u8],
     h: &[u32],

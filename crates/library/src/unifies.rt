@@ -9,7 +9,8 @@ ghost use Rattle.promise.specs.Promise.{Promised};
 ghost use Rattle.c_words.specs.Numbers.{bool_in, unify_in};
 ghost use Rattle.c_words.specs.Given.{set_in, impl_in, lent_env};
 
-use chart::SIGIL_WORDS;
+use chart::SIGILS;
+use names::Name;
 use types::Type;
 
 // "`unify` takes both roots with `find_mut`."
@@ -17,7 +18,7 @@ use types::Type;
 pub extern "C" fn faroalder_unify<'a>(
     chart: &[u32],
     fn_trait: u32,
-    sigils: &[u32; SIGIL_WORDS],
+    sigils: &[Name; SIGILS],
     rule: &'a [u8],
     text: &'a [u8],
     h: &[u32],
@@ -40,7 +41,7 @@ pub extern "C" fn faroalder_unify<'a>(
 pub extern "C" fn faroalder_unify_types<'a>(
     chart: &[u32],
     fn_trait: u32,
-    sigils: &[u32; SIGIL_WORDS],
+    sigils: &[Name; SIGILS],
     rule: &'a [u8],
     text: &'a [u8],
     h: &[u32],
@@ -65,7 +66,7 @@ pub extern "C" fn faroalder_unify_types<'a>(
 pub extern "C" fn faroalder_unify_objects<'a>(
     chart: &[u32],
     fn_trait: u32,
-    sigils: &[u32; SIGIL_WORDS],
+    sigils: &[Name; SIGILS],
     rule: &'a [u8],
     text: &'a [u8],
     h: &[u32],
@@ -90,7 +91,7 @@ pub extern "C" fn faroalder_unify_objects<'a>(
 pub extern "C" fn faroalder_unify_fn_sig<'a>(
     chart: &[u32],
     fn_trait: u32,
-    sigils: &[u32; SIGIL_WORDS],
+    sigils: &[Name; SIGILS],
     rule: &'a [u8],
     text: &'a [u8],
     h: &[u32],
@@ -115,7 +116,7 @@ pub extern "C" fn faroalder_unify_fn_sig<'a>(
 pub extern "C" fn faroalder_unify_impl_type<'a>(
     chart: &[u32],
     fn_trait: u32,
-    sigils: &[u32; SIGIL_WORDS],
+    sigils: &[Name; SIGILS],
     rule: &'a [u8],
     text: &'a [u8],
     h: &[u32],
@@ -147,7 +148,7 @@ pub extern "C" fn faroalder_unify_impl_type<'a>(
 pub extern "C" fn faroalder_approx_eq<'a>(
     chart: &[u32],
     fn_trait: u32,
-    sigils: &[u32; SIGIL_WORDS],
+    sigils: &[Name; SIGILS],
     rule: &'a [u8],
     text: &'a [u8],
     h: &[u32],

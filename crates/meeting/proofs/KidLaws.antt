@@ -1,4 +1,4 @@
--- Children read from their words: how many there are, the type beside a name, all but the last and the last. One law for each way out of `seek` and `seek_between`; `seek` goes on while
+-- Children read from their words: how many there are, the type beside a name, all but the last and the last. One law for each way out of `seek` and `Search::between`; `seek` goes on while
 -- what the children from a place on give is what all give.
 -- Assumes nothing.
 use mathlib.Core.Path.{◌≡◌, refl, ap, sym, subst, ◌∙◌}
@@ -163,7 +163,7 @@ module _ (x : Texts) (ks : List ℕ) (m : Name) (b count : ℕ) where
       → ((j : ℕ) → 0 ≤ j → j < i → eq_bytes (bytes x m) (nth x ks b j) ≡ false) → t ≡ (slot_at ks (b + i)).type → some (ty_of t) ≡ sought_in x ks m b count
   seek_here {i} l e h q = rw q (sym (seek_first x ks (bytes x m) b count i l e (λ j k. h j (omega arith) k)))
 
--- `seek_between`: names below low come before the name sought, names from high on behind it
+-- `Search::between`: names below low come before the name sought, names from high on behind it
 
 module _ {x : Texts} {ks : List ℕ} {m : Name} {b count low high at : ℕ} (w : Between x ks m b count low high at) where
   pub between_over : high ≤ low → none ≡ sought_in x ks m b count

@@ -24,6 +24,7 @@ pub enum Steps {
 }
 
 // "Same node: Success if the inversions agree or `self_inverse` holds, else Failure."
+// Kept (5): what this and the next two ask of two roots is what `walk_roots` asks and hands to its two cases; a struct of it would be made for that one call.
 fn same_node(nodes: &Nodes<'_>, a: Type, b: Type) -> UnifyResult
     requires { RootsIn nodes.now (ty_of a.0) (ty_of b.0) }
     ensures { OneNodeIn nodes.now (ty_of a.0) (ty_of b.0) result }
@@ -129,47 +130,42 @@ fn next_look(low: u32, high: u32, i: u32) -> u32
     }
 }
 
-// The type beside a name among count children from b on whose names ascend, where it stands between low and high, if anywhere: the child between them is looked at,
-// then the part before it or behind it. What calls itself is not inlined, and so a search stays out of the frames of whoever seeks.
-// Kept (6): a search of the library goes over a slice and starts in its middle; children lie as words, four a child, and equal objects have the name in the i-th place.
-fn seek_between(
-    ks: &[u32],
+// A name that is sought among count children from the first on, whose names ascend. One may stand in the i-th place.
+#[derive(Clone, Copy)]
+struct Search<'a> {
+    kids: &'a [u32],
     name: Name,
-    i: u32,
-    b: u32,
+    near: u32,
+    first: u32,
     count: u32,
-    low: u32,
-    high: u32,
-    at: u32,
-    texts: &Texts<'_>,
-) -> Option<Type>
-    requires { Ascends (texts_by texts.now) ks.now b count × Between (texts_by texts.now) ks.now (name_of name) b count low high at }
-    ensures { sought_means result ≡ sought_in (texts_by texts.now) ks.now (name_of name) b count }
-{
-    if low >= high {
-        return None;
-    }
-    let other = layout::child_of(ks, b, at);
-    if names::same_name(name, other.name, texts) {
-        return Some(other.ty);
-    }
-    if names::name_before(name, other.name, texts) {
-        return seek_between(ks, name, i, b, count, low, at, next_look(low, at, i), texts);
-    }
-    seek_between(
-        ks,
-        name,
-        i,
-        b,
-        count,
-        at + 1,
-        high,
-        next_look(at + 1, high, i),
-        texts,
-    )
+    texts: Texts<'a>,
+    ghost ascends: { Ascends (texts_by texts) kids.now first count },
 }
 
-// The same where one may stand in the i-th place: that child is looked at first, then the one before it or behind it, then by halves.
+impl Search<'_> {
+    // The type beside the name, where it stands between low and high, if anywhere: the child between them is looked at, then the part before it or behind it. What
+    // calls itself is not inlined, and so a search stays out of the frames of whoever seeks.
+    // Kept (6): a search of the library goes over a slice and starts in its middle; children lie as words, four a child, and equal objects have the name in the i-th place.
+    fn between(&self, low: u32, high: u32, at: u32) -> Option<Type>
+        requires { Between (texts_by self.now.texts) self.now.kids.now (name_of self.now.name) self.now.first self.now.count low high at }
+        ensures { sought_means result ≡ sought_in (texts_by self.now.texts) self.now.kids.now (name_of self.now.name) self.now.first self.now.count }
+    {
+        if low >= high {
+            return None;
+        }
+        let other = layout::child_of(self.kids, self.first, at);
+        if names::same_name(self.name, other.name, &self.texts) {
+            return Some(other.ty);
+        }
+        if names::name_before(self.name, other.name, &self.texts) {
+            return self.between(low, at, next_look(low, at, self.near));
+        }
+        self.between(at + 1, high, next_look(at + 1, high, self.near))
+    }
+}
+
+// The type beside a name among count children from b on whose names ascend; one may stand in the i-th place: that child is looked at first, then the one before it or
+// behind it, then by halves.
 pub fn seek_near(
     ks: &[u32],
     name: Name,
@@ -181,7 +177,15 @@ pub fn seek_near(
     requires { Ascends (texts_by texts.now) ks.now b count }
     ensures { sought_means result ≡ sought_in (texts_by texts.now) ks.now (name_of name) b count }
 {
-    seek_between(ks, name, i, b, count, 0, count, first_look(i, count), texts)
+    let search = Search {
+        kids: ks,
+        name,
+        near: i,
+        first: b,
+        count,
+        texts: *texts,
+    };
+    search.between(0, count, first_look(i, count))
 }
 
 // Two runs of a signature's returns alone, where both have one.

@@ -39,6 +39,8 @@ fn resize(ws: &mut [u32], n: u32, i: TypeIdx, size: u32)
 }
 
 // The root w stays as it is but for its size, and l becomes its child.
+// Kept (5): that the sizes of both add up to a number that fits is asked by all that merge, of words that each of them changes: a struct that keeps it would be made for one
+// pair, and taken apart at its one use.
 fn hang(ws: &mut [u32], n: u32, w: Type, l: Type, size: u32)
     requires { Sums ws.old n (ty_of w.0) (ty_of l.0) size }
     ensures { Joined ws.old ws.new n (ty_of w.0) (ty_of l.0) (state_at ws.old n (ty_of w.0).idx) }

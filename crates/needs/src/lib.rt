@@ -6,6 +6,7 @@ ghost use Rattle.scope.specs.Needs.{listed, exported};
 ghost use Rattle.layout.specs.Words.{nodes_made, store_in};
 ghost use Rattle.layout.specs.Meaning.{held_in, read_at, remembered_means};
 ghost use Rattle.store.specs.Entries.{types_in};
+ghost use Rattle.roots.specs.StaysLent.{StaysLent};
 ghost use Rattle.needs.specs.Roots.{kind_asks, asks_of};
 ghost use Rattle.needs.specs.Sums.{CountableIn, CountedIn, Met, AllCountedIn};
 ghost use Rattle.needs.specs.Sources.{Importable, ImportableIn, ImportNeedsIn, ExportNeeds};
@@ -69,12 +70,14 @@ fn is_counted(marks: &[u8], i: TypeIdx) -> bool
 // Whether a type's root is counted: the walk from it then does nothing, however deep it may go.
 fn is_met(finder: &mut Finder<'_>, marks: &[u8], t: Type) -> bool
     ensures { Met finder.old.nodes.now.words.now finder.old.nodes.now.made marks.now t result
-        × (finder.new.nodes ≡ finder.old.nodes) × (finder.new.cache.ghost_name ≡ finder.old.cache.ghost_name) }
+        × StaysLent finder.old finder.new }
 {
     is_counted(marks, finder.find(t).idx())
 }
 
 // The walk from t: a root that is not counted is counted, then its children are walked from, one level less deep.
+// Kept (5): what three functions ask of the marks and of the sum so far goes with a finder that is lent to each. A struct of the three would have each say of two slices in it
+// that they are those that were lent, where now each does of one.
 fn count(
     finder: &mut Finder<'_>,
     params: Option<u32>,
@@ -85,7 +88,7 @@ fn count(
 ) -> Needs
     requires { CountableIn finder.old.nodes.now marks.old sum }
     ensures { CountedIn finder.old.nodes.now params marks.old sum t depth marks.new result
-        × (finder.new.nodes ≡ finder.old.nodes) × (finder.new.cache.ghost_name ≡ finder.old.cache.ghost_name) }
+        × StaysLent finder.old finder.new }
 {
     if depth == 0 {
         return sum;
@@ -129,7 +132,7 @@ fn count_all(
 ) -> Needs
     requires { CountableIn finder.old.nodes.now marks.old sum }
     ensures { AllCountedIn finder.old.nodes.now params marks.old sum (types_in ts.now) marks.new result
-        × (finder.new.nodes ≡ finder.old.nodes) × (finder.new.cache.ghost_name ≡ finder.old.cache.ghost_name) }
+        × StaysLent finder.old finder.new }
 {
     let mut all = sum;
     for t in ts {
@@ -147,7 +150,7 @@ fn count_remembered(
 ) -> Needs
     requires { CountableIn finder.old.nodes.now marks.old sum }
     ensures { AllCountedIn finder.old.nodes.now None marks.old sum (listed (remembered_means was))
-        marks.new result × (finder.new.nodes ≡ finder.old.nodes) × (finder.new.cache.ghost_name ≡ finder.old.cache.ghost_name) }
+        marks.new result × StaysLent finder.old finder.new }
 {
     match was {
         Some(t) => count(finder, None, marks, sum, t, finder.nodes.made),
@@ -156,7 +159,8 @@ fn count_remembered(
 }
 
 // What an import of a list needs.
-// Kept (6): two tables, here and below: the cache is lent to the finder, and the marks alone to what counts.
+// Kept (6): two tables, here and below: the finder holds the cache for as long as the marks are written, and functions of other crates take each as a slice. One table of pairs
+// could not be lent to both, and a struct of the two would be taken apart at once.
 pub fn of_import(nodes: &Nodes<'_>, params: Option<u32>, ts: &[u32]) -> Needs
     requires { ImportableIn nodes.now (types_in ts.now) }
     ensures { ImportNeedsIn nodes.now params ts.now result }

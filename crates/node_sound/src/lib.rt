@@ -26,6 +26,8 @@ use scope::{MAX_CHILDREN, MAX_WIDTH};
 use types::TypeIdx;
 
 // For each child whether it was seen to have a name that comes after the one before it.
+// Kept (5): that what was seen is true of the texts and the children's words is asked and said by five. A struct of all three, whose parts a function may set, would have
+// each say that texts and words are those that were lent, which of shared slices nobody has to say.
 type Seen = [bool; MAX_CHILDREN];
 
 // A child without a name, one of n nodes. Both are looked at, with no branch between them.

@@ -8,6 +8,7 @@
 // Kept (5): header, nodes and children stay three lent slices, `h`, `ws` and `ks`, in every call and in the core that writes them. Which of them a call may write their types
 // say, and that differs from call to call: as a struct of lent slices there would be one for each such choice. Tried in `run_calls`
 // as one struct of three `&mut` parts: of a struct made in a function, whose parts are lent to one call in a loop, the borrow checker covers nothing.
+// So what is asked of a store that passed the tests (`Tested`, `Passed`, `TestedNames`) is a clause of each form that takes one, and of its C name.
 ghost use Rattle.std.specs.Prelude.{[], ◌∷◌};
 ghost use Rattle.scope.specs.Types.{ty_of};
 ghost use Rattle.promise.specs.Promise.{TypesInside};

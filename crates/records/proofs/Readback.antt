@@ -8,10 +8,9 @@ use lib.ListN.{length}
 use borrow.Author.Tests.{eq-eqb}
 use Rattle.scope.specs.Chart.{Env}
 use Rattle.scope.specs.Chart as scope
-use Rattle.names.specs.Place.{texts}
+use Rattle.names.specs.Place.{name_of, texts}
 use Rattle.chart.specs.declared.Beside.{Beside}
 use Rattle.chart.specs.Words.{RECORD_WORDS, runs, record_in, records_of}
-use Rattle.chart.specs.Env.{sigils_of}
 use Rattle.sound.specs.Tests.{env_in}
 use Rattle.records.specs.declared.Record.{Record}
 use Rattle.records.specs.Loaded.{record_means, chart_words}
@@ -35,7 +34,7 @@ words_read rs = rw (count_read rs) (runs_read rs)
 module _ (rs : List Record) (b : Beside) (rule text : List ℕ) where
   -- the records that were lent, and what is lent beside them
   abbrev pub meant : List scope.Record → Env
-  meant xs = record { records = xs; fn_trait = b.fn_trait; sigils = sigils_of b.sigils; texts = texts rule text }
+  meant xs = record { records = xs; fn_trait = b.fn_trait; sigils = map name_of b.sigils; texts = texts rule text }
 
   -- what every call reads, of these words
   pub env_read : env_in (chart_words rs) b rule text ≡ meant (map record_means rs)

@@ -64,6 +64,7 @@ fn copy_all(records: &[Record], words: &mut [u32])
     requires { length records.now * «RECORD_WORDS» ≤ length words.old }
     ensures { words.new ≡ loaded words.old records.now }
 {
+    // Kept (3): tried over `chunks_exact_mut` with a zip: after it a proof knows the length of `words` and not its elements, so that the promise stays open.
     for (i, r) in records.iter().enumerate() {
         put_record(words, i * RECORD_WORDS, *r);
     }

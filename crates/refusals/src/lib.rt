@@ -97,7 +97,7 @@ pub fn entries_inside(es: &[u32], n: u32) -> bool
 fn exceeds(made: u32, more: u32, room: u32) -> bool
     ensures { result ≡ ltb room (made + more) }
 {
-    (room as u64) < made as u64 + more as u64
+    u64::from(room) < u64::from(made) + u64::from(more)
 }
 
 // The first of refusals 10 and 11 that stands where so many nodes and children more are to be made in a store with this header.

@@ -5,6 +5,7 @@ ghost use Rattle.std.specs.Prelude.{◌≡◌, ◌≤◌};
 ghost use Rattle.scope.specs.Types.{ty_of};
 ghost use Rattle.scope.specs.Force.{find_related};
 ghost use Rattle.layout.specs.Lent.{nodes_by};
+ghost use Rattle.roots.specs.StaysLent.{StaysLent};
 ghost use Rattle.related.specs.Stands.{StandsIn};
 ghost use Rattle.related.specs.Tables.{SeesIn, MeetsIn, KeepsIn, related_below};
 
@@ -19,7 +20,7 @@ const FEW: usize = 256;
 // A child's root is marked, if it is not, and its node told.
 fn meet(finder: &mut Finder<'_>, marks: &mut [u8], seen: &mut [u8], kid: Type) -> Option<TypeIdx>
     requires { SeesIn finder.old.nodes.now marks.old seen.old }
-    ensures { MeetsIn finder.old.nodes.now kid.0 marks.old marks.new seen.new result × (finder.new.nodes ≡ finder.old.nodes) × (finder.new.cache.ghost_name ≡ finder.old.cache.ghost_name) }
+    ensures { MeetsIn finder.old.nodes.now kid.0 marks.old marks.new seen.new result × StaysLent finder.old finder.new }
 {
     if roots::is_marked(seen, kid.idx()) {
         return None;
@@ -49,7 +50,7 @@ fn mark_below(
 )
     requires { StandsIn finder.old.nodes.now × KeepsIn finder.old.nodes.now marks.old seen.old skip.old }
     ensures { (marks.new ≡ related_below depth (nodes_by finder.old.nodes.now) marks.old root.0)
-        × KeepsIn finder.old.nodes.now marks.new seen.new skip.new × (finder.new.nodes ≡ finder.old.nodes) × (finder.new.cache.ghost_name ≡ finder.old.cache.ghost_name) }
+        × KeepsIn finder.old.nodes.now marks.new seen.new skip.new × StaysLent finder.old finder.new }
 {
     if depth == 0 {
         return;

@@ -86,6 +86,7 @@ pub fn find_mut(ws: &mut [u32], n: u32, t: Type) -> Type
     requires { Linked ws.old n }
     ensures { FoundMut ws.old n ws.new t.0 result.0 }
 {
+    // Kept (1): tried as `near(..).unwrap_or_else(|| find_far(..))`: the proof did not close, since at `returns` what the closure ensures of the lent `ws` cannot be named.
     match near(ws, n, t) {
         Some(r) => r,
         None => find_far(ws, n, t),
@@ -153,6 +154,8 @@ pub struct Finder<'a> {
 }
 
 impl Finder<'_> {
+    ghost use Rattle.roots.specs.StaysLent.{StaysLent};
+
     // Node i's root, if it is kept.
     fn kept(&self, i: TypeIdx) -> Option<Type>
         ensures { ToppedIn self.now.nodes.now i.0 result }
@@ -163,7 +166,7 @@ impl Finder<'_> {
     // Past the cache's end nothing is kept.
     fn keep(&mut self, i: TypeIdx, root: Type)
         requires { RootedIn self.old.nodes.now i.0 (ty_of root.0) }
-        ensures { (self.new.nodes ≡ self.old.nodes) × (self.new.cache.ghost_name ≡ self.old.cache.ghost_name) }
+        ensures { StaysLent self.old self.new }
     {
         put(self.cache, i.0 as usize, kept_word(root));
     }
@@ -192,7 +195,7 @@ impl Finder<'_> {
     // Keeps a node's root, and so that of each node on its path before the first that is kept or a root.
     fn keep_path(&mut self, i: TypeIdx, root: Type)
         requires { RootedIn self.old.nodes.now i.0 (ty_of root.0) }
-        ensures { (self.new.nodes ≡ self.old.nodes) × (self.new.cache.ghost_name ≡ self.old.cache.ghost_name) }
+        ensures { StaysLent self.old self.new }
     {
         let nodes = self.nodes;
         let mut cur = i;
@@ -212,7 +215,7 @@ impl Finder<'_> {
 
     // The root of a type, whose path is kept. A path that meets no root is followed as `find_in` does, and nothing is kept of it.
     fn find_path(&mut self, t: Type) -> Type
-        ensures { FoundIn self.old.nodes.now t.0 result.0 × (self.new.nodes ≡ self.old.nodes) × (self.new.cache.ghost_name ≡ self.old.cache.ghost_name) }
+        ensures { FoundIn self.old.nodes.now t.0 result.0 × StaysLent self.old self.new }
     {
         let i = t.idx();
         let Some(root) = self.top(i) else {
@@ -224,7 +227,7 @@ impl Finder<'_> {
 
     // A root's child has no path but itself.
     fn find_new(&mut self, t: Type) -> Type
-        ensures { FoundIn self.old.nodes.now t.0 result.0 × (self.new.nodes ≡ self.old.nodes) × (self.new.cache.ghost_name ≡ self.old.cache.ghost_name) }
+        ensures { FoundIn self.old.nodes.now t.0 result.0 × StaysLent self.old self.new }
     {
         let nodes = self.nodes;
         let i = t.idx();
@@ -241,7 +244,7 @@ impl Finder<'_> {
     // The root of a type by its node's entry in the cache, which is made where there is none. With its loops it stays behind a call.
     #[inline(never)]
     fn find_kept(&mut self, t: Type) -> Type
-        ensures { FoundIn self.old.nodes.now t.0 result.0 × (self.new.nodes ≡ self.old.nodes) × (self.new.cache.ghost_name ≡ self.old.cache.ghost_name) }
+        ensures { FoundIn self.old.nodes.now t.0 result.0 × StaysLent self.old self.new }
     {
         match self.kept(t.idx()) {
             Some(known) => known.invert_if(t.inv()),
@@ -252,7 +255,7 @@ impl Finder<'_> {
     // The root of a type, as `find_in` tells it, where much is asked for and nothing changes: a path that is followed is kept, each of its nodes with its root,
     // and a later one ends where it meets it. A caller has the test for a root in its own code.
     pub fn find(&mut self, t: Type) -> Type
-        ensures { FoundIn self.old.nodes.now t.0 result.0 × (self.new.nodes ≡ self.old.nodes) × (self.new.cache.ghost_name ≡ self.old.cache.ghost_name) }
+        ensures { FoundIn self.old.nodes.now t.0 result.0 × StaysLent self.old self.new }
     {
         match self.nodes.node(t.idx()) {
             TypeNode::Root { .. } => t,

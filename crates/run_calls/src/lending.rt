@@ -1,6 +1,6 @@
 // What is lent to the calls: a chart and texts, as parts of the list's numbers, and how many words of two stores and of the names buffer.
-use chart::{Beside, Env, NO_BESIDE, SIGIL_WORDS};
-use names::Texts;
+use chart::{Beside, Env, NO_BESIDE};
+use names::{Name, Texts};
 use run_text::numbers::after;
 use words::word;
 
@@ -57,14 +57,19 @@ pub(crate) fn env_of<'a>(l: Lent<'a>, rule: &'a [u8], text: &'a [u8]) -> Env<'a>
     }
 }
 
-fn beside_of(a: &[u32]) -> Beside {
-    let mut sigils = [0u32; SIGIL_WORDS];
-    for (w, &v) in sigils.iter_mut().zip(after(a, 1)) {
-        *w = v;
+// The name in the first three numbers.
+fn name_of(a: &[u32]) -> Name {
+    Name {
+        text: word(a, 0),
+        start: word(a, 1),
+        len: word(a, 2),
     }
+}
+
+fn beside_of(a: &[u32]) -> Beside {
     Beside {
         fn_trait: word(a, 0),
-        sigils,
+        sigils: [1, 4, 7, 10].map(|at| name_of(after(a, at))),
     }
 }
 

@@ -17,6 +17,7 @@ mod printing; // show and show_impl_type
 
 use crate::calls::{Call, NoCall};
 use crate::lending::{Lending, Lent, env_of, lend, nothing_lent};
+use arrayvec::ArrayVec;
 use chart::Env;
 use layout::{CHILD_WORDS, HEAD_WORDS, NODE_WORDS};
 use run_text::numbers::{after, first, numbers, to_bytes};
@@ -240,6 +241,7 @@ fn run<W: Write>(to: &mut W, s: &[u32]) -> io::Result<()> {
 }
 
 // What there is to read, up to the buffer's end.
+// Kept (6): how much was got goes beside the buffer: a read writes to bytes that are there, and an ArrayVec lends only those that it holds.
 fn read_input<R: Read>(from: &mut R, input: &mut [u8]) -> io::Result<usize>
     ensures { IfOk result (λ n. n ≤ length input.new) }
 {
@@ -258,7 +260,6 @@ fn read_input<R: Read>(from: &mut R, input: &mut [u8]) -> io::Result<usize>
 fn main(rt: HostRuntime) -> io::Result<()> {
     let mut input = [0u8; INPUT];
     let got = read_input(&mut rt.stdin(), &mut input)?;
-    let mut s = [0u32; NUMBERS];
-    let n = numbers(&input[..got], &mut s);
-    run(&mut rt.stdout(), first(&s, n))
+    let s: ArrayVec<u32, NUMBERS> = numbers(&input[..got]);
+    run(&mut rt.stdout(), &s)
 }

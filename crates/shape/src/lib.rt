@@ -15,7 +15,8 @@ use layout::{CHILD_WORDS, Nodes, TypeNode};
 use scope::MAX_NODES;
 use types::TypeIdx;
 
-// A number for each node.
+// A number for each node: how many nodes have this root, or its root's number and 1, where 0 is a root that is not known.
+// Kept (1): a table of roots is fixed memory, four bytes a node, and no Option of a number is promised to be as small.
 type Table = [u32; MAX_NODES];
 
 // A node's mark while children are followed: no walk came to it, or it lies on the way, or every walk from it ends.
@@ -36,6 +37,8 @@ fn kid_at(ks: &[u32], i: usize) -> TypeIdx
     layout::child_at(ks, i).ty.idx()
 }
 
+// Kept (5): that a node's number is a place in a table is asked by five. It is known of a number where its node or child was read, so that a type which keeps it would be made
+// of each of these by the same fact.
 fn at(t: &Table, v: TypeIdx) -> u32
     requires { v.0 < MAX_NODES }
     ensures { result ≡ get_or t.now v.0 0 }
@@ -51,7 +54,7 @@ fn put(t: &mut Table, v: TypeIdx, x: u32)
 }
 
 // The root of v, of which roots holds one more; 0 is a root that is not known.
-// Kept (1): no Option: `visit` comes once `find_roots` has put a root for every node, and a None is nothing that it could answer.
+// Kept (1): no Option is answered: `visit` comes once `find_roots` has put a root for every node, and a None is nothing that it could answer.
 fn root_of(roots: &Table, v: TypeIdx) -> TypeIdx
     requires { (v.0 < MAX_NODES) × (0 < get_or roots.now v.0 0) }
     ensures { result.0 ≡ root_of roots.now v.0 }

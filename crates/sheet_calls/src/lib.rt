@@ -9,7 +9,6 @@ ghost use Rattle.scope.specs.Limits.{SHEET_TEXT, SHEET_NODES, SHEET_CHILDREN};
 ghost use Rattle.scope.specs.Sheet.{sheet_store};
 ghost use Rattle.layout.specs.Words.{store_in};
 ghost use Rattle.store.specs.Holds.{Openable};
-ghost use Rattle.sheet_lines.specs.Limits.{LINE_TYPES};
 ghost use Rattle.sheet_lines.specs.Meaning.{maker_means, MakerFits, plain_means, PlainFits};
 ghost use Rattle.sheet_calls.specs.Store.{SheetStore};
 ghost use Rattle.sheet_calls.specs.Ran.{Ran, Made};
@@ -28,7 +27,7 @@ pub fn start(h: &mut [u32], ws: &mut [u32], ks: &mut [u32])
     make::open(h, ws, ks, SHEET_NODES as u32, SHEET_CHILDREN as u32);
 }
 
-// The type that a line makes; the types that it is over stand at the front of `types`.
+// The type that a line makes, over these types.
 fn made(
     h: &mut [u32],
     ws: &mut [u32],
@@ -38,7 +37,6 @@ fn made(
 ) -> Result<Type, Refusal>
     requires sheet_store { SheetStore h.old ws.old ks.old }
     requires maker_fits { MakerFits m types.now }
-    requires in_bounds { LINE_TYPES ≤ length types.now }
     ensures { Made (store_in h.old ws.old ks.old) (maker_means m types.now)
         h.old ws.old ks.old h.new ws.new ks.new result }
 {
@@ -46,10 +44,9 @@ fn made(
         Maker::Var => tested_lean::new_var(h, ws, NONE),
         Maker::Nil => tested_lean::once(h, ws, Once::Nil),
         Maker::Error => tested_lean::once(h, ws, Once::Error),
-        Maker::Over(code, n) => {
+        Maker::Over(code) => {
             let chart = [0u32; 0];
-            let e = n as usize;
-            tested_over::new_over(&chart, h, ws, ks, code, 0, &types[..e])
+            tested_over::new_over(&chart, h, ws, ks, code, 0, types)
         }
     }
 }
@@ -65,8 +62,7 @@ pub fn plain_line(
 ) -> usize
     requires sheet_store { SheetStore h.old ws.old ks.old }
     requires plain_fits { PlainFits p types.now }
-    requires in_bounds { LINE_TYPES ≤ length types.now }
-    requires in_bounds_2 { SHEET_TEXT ≤ length out.old }
+    requires in_bounds { SHEET_TEXT ≤ length out.old }
     ensures { Ran (store_in h.old ws.old ks.old) (plain_means p types.now)
         h.old ws.old ks.old h.new ws.new ks.new out.old out.new result }
 {

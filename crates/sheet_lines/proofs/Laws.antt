@@ -13,9 +13,10 @@ use borrow.Author.Tests.{eq-eqb, ne_eqb, le-leb, lt-leb}
 use denote.Ref.{Bor}
 use denote.Param.Members.{Mut}
 use lib.Dec.{eqb, leb, leb-suc-suc}
-use lib.ListN.{length, get_or, take, drop, set, length-drop, drop_of_length-le}
-use lib.Seq.{drop-cons, drop-drop, take_all, take-suc-set}
+use lib.ListN.{length, get_or, take, drop, length-drop, drop_of_length-le}
+use lib.Seq.{drop-cons, drop-drop, take_all}
 use Rattle.std.specs.List.{slice_split, onto_first, slice_range}
+use Rattle.std.specs.Prelude.{is_some}
 use Rattle.std.specs.Option.{MatchOption, unwrap_or}
 use Rattle.std.specs.declared.option.Option as Option
 use Rattle.std.specs.declared.option.Option.TheVariants.{None, Some}
@@ -36,9 +37,7 @@ use Rattle.scope.specs.Sheet.{lines, words, before, is_digit, value_from, no_lea
 use Rattle.scope.proofs.NameLaws.{eq_bytes_lem}
 use Rattle.scope.specs.Limits.{MAX_LINE, MAX_DIGITS}
 use Rattle.sheet_lines.specs.Places.{index_of, next_place, words_from}
-use Rattle.types.specs.declared.«Type».{«Type»}
-use Rattle.sheet_lines.specs.Limits.{LINE_TYPES}
-use Rattle.sheet_lines.specs.Meaning.{kind_line, Over, Parsed}
+use Rattle.sheet_lines.specs.Meaning.{Over, Parsed, TypesRead, ReadIs}
 use Rattle.sheet_lines.specs.declared.Line.{Line}
 
 -- what a call that answers a test says of the test
@@ -275,10 +274,6 @@ onto_end : (ts : List Ty) → onto ts (type_words []) ≡ some ts
 unfolding type_words
 onto_end ts = ap some (append-nil ts)
 
--- one type more in the lent words
-types_put : (out : List ℕ) (n v : ℕ) → n < length out → map ty_of (take (n + 1) (set out n v)) ≡ map ty_of (take n out) ++ (ty_of v ∷ [])
-types_put out n v h = rw (add-one n, take-suc-set out n v h) (map-append ty_of (take n out) (v ∷ []))
-
 -- a word with a type has a byte
 typed_longer : (t : Ty) (w : List ℕ) → some t ≡ type_word w → 1 ≤ length w
 unfolding type_word
@@ -348,13 +343,12 @@ module _ (ws : List (List ℕ)) (n : ℕ) (w : List ℕ) {m : ℕ} (q : n ≡ m)
 
   pub turn_type :
       (out : List ℕ) (v : ℕ) →
-      n < length out →
       some (ty_of v) ≡ type_word w →
-      onto (map ty_of (take (n + 1) (set out n v))) (type_words (drop (n + 1) ws)) ≡ onto (map ty_of (take n out)) (type_words (drop n ws))
-  turn_type out v m k =
-      ap (λ (ts : List Ty). onto ts (type_words (drop (n + 1) ws))) (types_put out n v m)
-      ∙ (onto_step (map ty_of (take n out)) (ty_of v) w (drop (n + 1) ws) k
-      ∙ ap (λ (vs : List (List ℕ)). onto (map ty_of (take n out)) (type_words vs)) (sym turn_word))
+      onto (map ty_of (out ++ v ∷ [])) (type_words (drop (n + 1) ws)) ≡ onto (map ty_of out) (type_words (drop n ws))
+  turn_type out v k =
+      ap (λ (ts : List Ty). onto ts (type_words (drop (n + 1) ws))) (map-append ty_of out (v ∷ []))
+      ∙ (onto_step (map ty_of out) (ty_of v) w (drop (n + 1) ws) k
+      ∙ ap (λ (vs : List (List ℕ)). onto (map ty_of out) (type_words vs)) (sym turn_word))
 
   pub turn_bad : (ts : List Ty) → none ≡ type_word w → none ≡ onto ts (type_words (drop n ws))
   turn_bad ts k = onto_bad ts w (drop (n + 1) ws) k ∙ ap (λ (vs : List (List ℕ)). onto ts (type_words vs)) (sym turn_word)
@@ -387,39 +381,41 @@ with_tuple w ts h = sym (ap (λ (v : List ℕ). with_types v (some ts)) (eq_byte
 
 -- a kind's line and the call that makes it
 
-pub never_fits : (out : List ℕ) → Over NEVER 0 out
+pub never_fits : Over NEVER []
 unfolding sheet_line row_of
-never_fits out = record { few = omega arith; names = refl; says = λ s. refl }
+never_fits = record { names = refl; says = λ s. refl }
 
-pub default_fits : (out : List ℕ) → Over DEFAULT 0 out
+pub default_fits : Over DEFAULT []
 unfolding sheet_line row_of
-default_fits out = record { few = omega arith; names = refl; says = λ s. refl }
+default_fits = record { names = refl; says = λ s. refl }
 
-pub tuple_fits : (n : ℕ) (out : List ℕ) → n ≤ LINE_TYPES → Over TUPLE n out
+pub tuple_fits : (out : List ℕ) → Over TUPLE out
 unfolding sheet_line row_of
-tuple_fits n out l = record { few = l; names = refl; says = λ s. refl }
+tuple_fits out = record { names = refl; says = λ s. refl }
 
-module _ {t : «Type»} (out : List ℕ) (q : take 1 out ≡ t.0 ∷ []) where
-  pub ref_means : kind_line REF (map ty_of (take 1 out)) ≡ sheet.Line.ref (ty_of t.0)
-  ref_means = rw q
-
-  pub ref_fits : Over REF 1 out
-  unfolding sheet_line row_of
-  ref_fits = record { few = omega arith; names = refl; says = λ s. rw q }
+pub ref_fits : (t : ℕ) → Over REF (t ∷ [])
+unfolding sheet_line row_of
+ref_fits t = record { names = refl; says = λ s. refl }
 
 pub with_more :
-    (w : List ℕ) (n : ℕ) (out : List ℕ) →
-    3 ≤ n →
+    (w : List ℕ) (out : List ℕ) →
     3 ≤ length out →
     eq_bytes w (text "tuple") ≡ false →
-    sheet.Line.bad ≡ with_types w (some (map ty_of (take n out)))
-with_more w zero out k h e = absurd (omega arith)
-with_more w (suc zero) out k h e = absurd (omega arith)
-with_more w (suc (suc zero)) out k h e = absurd (omega arith)
-with_more w (suc (suc (suc n))) [] k h e = absurd (omega arith)
-with_more w (suc (suc (suc n))) (a ∷ []) k h e = absurd (omega arith)
-with_more w (suc (suc (suc n))) (a ∷ b ∷ []) k h e = absurd (omega arith)
-with_more w (suc (suc (suc n))) (a ∷ b ∷ d ∷ out) k h e = rw e
+    sheet.Line.bad ≡ with_types w (some (map ty_of out))
+with_more w [] h e = absurd (omega arith)
+with_more w (a ∷ []) h e = absurd (omega arith)
+with_more w (a ∷ b ∷ []) h e = absurd (omega arith)
+with_more w (a ∷ b ∷ d ∷ out) h e = rw e
+
+-- what is read, or not
+
+pub read_none : (r : TypesRead) (out : List ℕ) {ts : Option (List Ty)} → is_some r ≡ false → ReadIs r out ts → none ≡ ts
+read_none (Some u) out h e = let z : ◌≡◌ {A = ℕ} 0 1 = cc in absurd (omega arith)
+read_none None out h e = e
+
+pub read_some : (r : TypesRead) (out : List ℕ) {ts : Option (List Ty)} → is_some r ≡ true → ReadIs r out ts → some (map ty_of out) ≡ ts
+read_some (Some u) out h e = e
+read_some None out h e = let z : ◌≡◌ {A = ℕ} 0 1 = cc in absurd (omega arith)
 
 pub parsed_like : {r : Line} {out : List ℕ} {l m : sheet.Line} → Parsed r out l → l ≡ m → Parsed r out m
 parsed_like p e = record { means = p.means ∙ e; fits = p.fits }

@@ -1,5 +1,5 @@
 -- What the code's answers mean among scope's: a line by its case and the words lent beside it, a word's type, a count of types.
-use Rattle.std.specs.Prelude.{◌≡◌, false, List, [], ◌∷◌, map, ℕ, ◌≤◌, eqb, length, take}
+use Rattle.std.specs.Prelude.{◌≡◌, false, List, [], ◌∷◌, map, ℕ, eqb}
 use Rattle.std.proofs.Math.Option.{Option, none, some}
 use Rattle.scope.specs.Base.{pick}
 use Rattle.scope.specs.Text.{text}
@@ -10,9 +10,7 @@ use Rattle.scope.specs.Nodes.{Store}
 use Rattle.scope.specs.Sound.{reads}
 use Rattle.scope.specs.Calls.{over, new_call}
 use Rattle.scope.specs.Sheet as sheet
-use Rattle.scope.specs.Limits.{MAX_LINE}
 use Rattle.types.specs.declared.«Type».{«Type»}
-use Rattle.sheet_lines.specs.Limits.{LINE_TYPES}
 use Rattle.sheet_lines.specs.declared.Line.{Line}
 use Rattle.sheet_lines.specs.declared.Line.TheVariants.{Plain, Unify, Show}
 use Rattle.sheet_lines.specs.declared.Plain as asked
@@ -22,12 +20,12 @@ use Rattle.sheet_lines.specs.declared.Maker.TheVariants as maker
 use Rattle.std.specs.declared.option.Option.TheVariants as word
 use Rattle.std.specs.declared.option.Option as option
 
--- a word's type, and how many types some words are, if all are types
+-- a word's type, and whether some words are all types
 abbrev pub TypeWord : Type 0
 TypeWord = option.Option «Type»
 
-abbrev pub TypeCount : Type 0
-TypeCount = option.Option ℕ
+abbrev pub TypesRead : Type 0
+TypesRead = option.Option (Unit {0})
 
 -- the first of some types
 abbrev pub first_of : List Ty → Ty
@@ -44,7 +42,7 @@ abbrev pub maker_means : Maker → List ℕ → sheet.Line
 maker_means maker.Var out = sheet.Line.var
 maker_means maker.Nil out = sheet.Line.nil
 maker_means maker.Error out = sheet.Line.error
-maker_means (maker.Over c n) out = kind_line c (map ty_of (take n out))
+maker_means (maker.Over c) out = kind_line c (map ty_of out)
 
 abbrev pub plain_means : asked.Plain → List ℕ → sheet.Line
 plain_means (plain.Make m) out = maker_means m out
@@ -60,23 +58,25 @@ abbrev pub word_means : TypeWord → Option Ty
 word_means (word.Some t) = some (ty_of t.0)
 word_means word.None = none
 
--- a count's types stand at the front of the words
-abbrev pub count_means : TypeCount → List ℕ → Option (List Ty)
-count_means (word.Some n) out = some (map ty_of (take n out))
-count_means word.None out = none
+-- the types read, if all words are types
+abbrev pub read_means : TypesRead → List ℕ → Option (List Ty)
+read_means (word.Some u) out = some (map ty_of out)
+read_means word.None out = none
 
--- a kind's code and its n types: they fit in a line, the kind has no names, and what its line says is what is said for the call that makes it
-pub record Over (c n : ℕ) (out : List ℕ) : Type 0 where
-  pub few : n ≤ LINE_TYPES
+abbrev pub ReadIs : TypesRead → List ℕ → Option (List Ty) → Type 0
+ReadIs r out ts = read_means r out ≡ ts
+
+-- a kind's code and its types: the kind has no names, and what its line says is what is said for the call that makes it
+pub record Over (c : ℕ) (out : List ℕ) : Type 0 where
   pub names : (row_of c).names ≡ NO_NAMES
-  pub says : (s : Store) → sheet.sheet_line s (kind_line c (map ty_of (take n out))) ≡ sheet.say_type s (new_call sheet.sheet_env (reads s) (over c 0 (map ty_of (take n out))))
+  pub says : (s : Store) → sheet.sheet_line s (kind_line c (map ty_of out)) ≡ sheet.say_type s (new_call sheet.sheet_env (reads s) (over c 0 (map ty_of out)))
 
 -- what is to be known of a maker beside some words
 abbrev pub MakerFits : Maker → List ℕ → Type 0
 MakerFits maker.Var out = Unit {0}
 MakerFits maker.Nil out = Unit {0}
 MakerFits maker.Error out = Unit {0}
-MakerFits (maker.Over c n) out = Over c n out
+MakerFits (maker.Over c) out = Over c out
 
 abbrev pub PlainFits : asked.Plain → List ℕ → Type 0
 PlainFits (plain.Make m) out = MakerFits m out
@@ -93,28 +93,14 @@ pub record Parsed (r : Line) (out : List ℕ) (l : sheet.Line) : Type 0 where
   pub means : line_means r out ≡ l
   pub fits : Fits r out
 
-abbrev pub count_room : TypeCount → ℕ
-count_room (word.Some n) = n
-count_room word.None = 0
+-- a line without types, read
+abbrev pub PlainParsed : asked.Plain → List ℕ → sheet.Line → Type 0
+PlainParsed r out l = Parsed (Plain r) out l
 
--- a line that is no longer than a line may be, and words for as many types as it may have
-pub record Room (line out : List ℕ) : Type 0 where
-  pub short : length line ≤ MAX_LINE
-  pub room : LINE_TYPES ≤ length out
-
--- types read into some words
-pub record Counted (r : TypeCount) (out : List ℕ) (ts : Option (List Ty)) : Type 0 where
-  pub means : count_means r out ≡ ts
-  pub fits : count_room r ≤ LINE_TYPES
-
--- a line without types, read: it means the same beside any words
-pub record Always (r : asked.Plain) (l : sheet.Line) : Type 0 where
-  pub beside : (out : List ℕ) → Parsed (Plain r) out l
-
--- the same, unless its command is `tuple`
+-- a line that means the same beside any words, unless its command is `tuple`
 pub record Unless (r : Line) (w : List ℕ) (l : sheet.Line) : Type 0 where
   pub beside : eq_bytes w (text "tuple") ≡ false → (out : List ℕ) → Parsed r out l
 
--- the same where the words begin with one type
+-- a line beside one type, unless its command is `tuple`
 pub record OneBeside (r : Line) (t : «Type») (w : List ℕ) (l : sheet.Line) : Type 0 where
-  pub beside : eq_bytes w (text "tuple") ≡ false → (out : List ℕ) → take 1 out ≡ t.0 ∷ [] → Parsed r out l
+  pub beside : eq_bytes w (text "tuple") ≡ false → Parsed r (t.0 ∷ []) l

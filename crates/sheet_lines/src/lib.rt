@@ -1,14 +1,14 @@
 #![tactic(auto)]
 // A line of program `sheet`, read: "types as `3` or `~3`, one space between", and where a line ends. What each answer says is scope's `parse`.
-ghost use Rattle.std.specs.Prelude.{◌≡◌, ◌&&◌, map, ◌-◌, ◌≤◌, min, leb, length, take};
+ghost use Rattle.std.specs.Prelude.{◌≡◌, ◌&&◌, [], map, ◌-◌, ◌≤◌, min, leb, length};
 ghost use Rattle.std.proofs.Math.Option.{some};
-ghost use Rattle.scope.specs.Limits.{«MAX_DIGITS»};
+ghost use Rattle.scope.specs.Limits.{«MAX_DIGITS», «MAX_LINE»};
 ghost use Rattle.scope.specs.Types.{ty_of};
 ghost use Rattle.scope.specs.Sheet.{no_leading_zero, node_word, type_word, type_words, plain_line, one_type, two_types, with_types, parse};
-ghost use Rattle.sheet_lines.specs.Limits.{LINE_TYPES};
 ghost use Rattle.sheet_lines.specs.Places.{next_place, words_from};
-ghost use Rattle.sheet_lines.specs.Meaning.{word_means, Room, Parsed, Counted, Always, Unless, OneBeside};
+ghost use Rattle.sheet_lines.specs.Meaning.{word_means, Parsed, PlainParsed, ReadIs, Unless, OneBeside};
 
+use arrayvec::ArrayVec;
 use kinds::{DEFAULT, NEVER, REF, TUPLE};
 use names::same_bytes;
 use scope::{MAX_DIGITS, MAX_LINE};
@@ -17,13 +17,16 @@ use types::{Inverted, Type, TypeIdx};
 // A type takes a byte, and a space stands between two: no line has more types than this.
 pub const LINE_TYPES: usize = 128;
 
-// What a line makes. `never`, `default`, `tuple` and `ref` are a kind's code and how many types it is over; they stand at the front of the words lent beside it.
+// The types of a line, as words.
+pub type Types = ArrayVec<u32, LINE_TYPES>;
+
+// What a line makes. `never`, `default`, `tuple` and `ref` are a kind's code; the types that it is over are those read beside it.
 #[derive(Clone, Copy)]
 pub enum Maker {
     Var,
     Nil,
     Error,
-    Over(u32, u32),
+    Over(u32),
 }
 
 // A line that gives no types to unify or show.
@@ -112,42 +115,39 @@ fn type_of(w: &[u8]) -> Option<Type>
     }
 }
 
-// The words from a place on, read as types into `out`.
-// Kept (3): a zip with `out.iter_mut()` is no plainer: how many words there are is the answer, so they are counted beside it still.
-fn types_from(line: &[u8], from: usize, out: &mut [u32]) -> Option<u32>
-    requires { Room line.now out.old }
-    ensures { Counted result out.new (type_words (words_from line.now from)) }
+// The words from a place on, read as types into an empty list.
+fn types_from(line: &[u8], from: usize, types: &mut Types) -> Option<()>
+    requires { (length line.now ≤ «MAX_LINE») × (types.old.items ≡ []) }
+    ensures { ReadIs result types.new.items (type_words (words_from line.now from)) }
 {
     let Some(rest) = line.get(from..) else {
-        return Some(0);
+        return Some(());
     };
-    let mut n: usize = 0;
     for w in rest.split(|&b| b == b' ') {
-        out[n] = type_of(w)?.0;
-        n += 1;
+        types.push(type_of(w)?.0);
     }
-    Some(n as u32)
+    Some(())
 }
 
 // A command without types
 // Kept (4): here and below a match on byte strings was tried, and the proof did not close: a match decides byte by byte, in dozens of ends that know lengths alone.
 fn plain_line(w: &[u8]) -> Plain
-    ensures { Always result (plain_line w.now) }
+    ensures { PlainParsed result [] (plain_line w.now) }
 {
     if same_bytes(w, b"var") {
         Plain::Make(Maker::Var)
     } else if same_bytes(w, b"nil") {
         Plain::Make(Maker::Nil)
     } else if same_bytes(w, b"never") {
-        Plain::Make(Maker::Over(NEVER, 0))
+        Plain::Make(Maker::Over(NEVER))
     } else if same_bytes(w, b"default") {
-        Plain::Make(Maker::Over(DEFAULT, 0))
+        Plain::Make(Maker::Over(DEFAULT))
     } else if same_bytes(w, b"error") {
         Plain::Make(Maker::Error)
     } else if same_bytes(w, b"finish") {
         Plain::Finish
     } else if same_bytes(w, b"tuple") {
-        Plain::Make(Maker::Over(TUPLE, 0))
+        Plain::Make(Maker::Over(TUPLE))
     } else {
         Plain::Bad
     }
@@ -158,7 +158,7 @@ fn one_type(w: &[u8], t: Type) -> Line
     ensures { OneBeside result t w.now (one_type w.now (ty_of t.0)) }
 {
     if same_bytes(w, b"ref") {
-        Line::Plain(Plain::Make(Maker::Over(REF, 1)))
+        Line::Plain(Plain::Make(Maker::Over(REF)))
     } else if same_bytes(w, b"show") {
         Line::Show(t)
     } else {
@@ -178,30 +178,29 @@ fn two_types(w: &[u8], t: Type, u: Type) -> Line
 }
 
 // "`tuple` takes any number of types, none included; `ref` and `show` one; `unify` two; the rest none."
-fn line_of(w: &[u8], n: u32, out: &[u32]) -> Line
-    requires { (n ≤ «LINE_TYPES») × («LINE_TYPES» ≤ length out.now) }
-    ensures { Parsed result out.now (with_types w.now (some (map ty_of (take n out.now)))) }
+fn line_of(w: &[u8], types: &[u32]) -> Line
+    ensures { Parsed result types.now (with_types w.now (some (map ty_of types.now))) }
 {
-    match n {
-        0 => Line::Plain(plain_line(w)),
-        _ if same_bytes(w, b"tuple") => Line::Plain(Plain::Make(Maker::Over(TUPLE, n))),
-        1 => one_type(w, Type(out[0])),
-        2 => two_types(w, Type(out[0]), Type(out[1])),
+    match types {
+        [] => Line::Plain(plain_line(w)),
+        _ if same_bytes(w, b"tuple") => Line::Plain(Plain::Make(Maker::Over(TUPLE))),
+        [t] => one_type(w, Type(*t)),
+        [t, u] => two_types(w, Type(*t), Type(*u)),
         _ => Line::Plain(Plain::Bad),
     }
 }
 
-// The words lent have room for the types of any line. What else they hold afterwards is left free.
-pub fn parse(line: &[u8], out: &mut [u32]) -> Line
-    requires { «LINE_TYPES» ≤ length out.old }
-    ensures { Parsed result out.new (parse line.now) }
+// A line, and its types beside it. Of a line that is bad no type counts.
+pub fn parse(line: &[u8]) -> (Line, Types)
+    ensures { Parsed result.0 result.1.items (parse line.now) }
 {
+    let mut types = ArrayVec::new();
     if line.len() > MAX_LINE {
-        return Line::Plain(Plain::Bad);
+        return (Line::Plain(Plain::Bad), types);
     }
     let e = next_place(line, 0, b' ');
-    let Some(n) = types_from(line, e + 1, out) else {
-        return Line::Plain(Plain::Bad);
-    };
-    line_of(&line[..e], n, out)
+    if types_from(line, e + 1, &mut types).is_none() {
+        return (Line::Plain(Plain::Bad), types);
+    }
+    (line_of(&line[..e], &types), types)
 }

@@ -8,6 +8,7 @@ ghost use Rattle.scope.specs.Force.{is_nil};
 ghost use Rattle.scope.specs.Show.{show_f, show};
 ghost use Rattle.chart.specs.Env.{env_by};
 ghost use Rattle.layout.specs.Lent.{nodes_by};
+ghost use Rattle.roots.specs.StaysLent.{StaysLent};
 ghost use Rattle.walk.specs.Asks.{StandsIn, Nil};
 ghost use Rattle.append.specs.Appended.{Puts};
 ghost use Rattle.show.specs.Level.{most_of, shown_of};
@@ -24,7 +25,7 @@ use types::{Inverted, Type};
 
 // `is_nil` with the roots that are kept.
 fn is_nil(finder: &mut Finder<'_>, t: Type) -> bool
-    ensures { Nil finder.old.nodes.now.words.now finder.old.nodes.now.made t.0 result × (finder.new.nodes ≡ finder.old.nodes) × (finder.new.cache.ghost_name ≡ finder.old.cache.ghost_name) }
+    ensures { Nil finder.old.nodes.now.words.now finder.old.nodes.now.made t.0 result × StaysLent finder.old finder.new }
 {
     let nodes = finder.nodes;
     let root = finder.find(t);
@@ -48,7 +49,7 @@ fn most(code: u32, count: u32) -> u32
 fn shown(finder: &mut Finder<'_>, k: Kind) -> u32
     requires { StandsIn finder.old.nodes.now }
     ensures { (result ≡ shown_of (is_nil (nodes_by finder.old.nodes.now)) finder.old.nodes.now.kids.now k)
-        × (finder.new.nodes ≡ finder.old.nodes) × (finder.new.cache.ghost_name ≡ finder.old.cache.ghost_name) }
+        × StaysLent finder.old finder.new }
 {
     let nodes = finder.nodes;
     let all = most(k.code, k.count);
@@ -64,7 +65,7 @@ fn shown(finder: &mut Finder<'_>, k: Kind) -> u32
 fn show_by(env: &Env<'_>, finder: &mut Finder<'_>, out: &mut Out<'_>, t: Type, depth: u32)
     requires { StandsIn finder.old.nodes.now }
     ensures { Puts out.old out.new (show_f (env_by env.now) depth (nodes_by finder.old.nodes.now) (ty_of t.0))
-        × (finder.new.nodes ≡ finder.old.nodes) × (finder.new.cache.ghost_name ≡ finder.old.cache.ghost_name) }
+        × StaysLent finder.old finder.new }
 {
     if depth == 0 || append::is_full(out) {
         return;

@@ -18,6 +18,7 @@ use names::{NO_NAME, Name, Texts};
 use show_names::{put_comma, put_entry, put_function, put_name, put_tilde};
 
 // What a kind says before its name, or at all where it has none.
+// Kept (5): three functions here, and one in `show`, take a kind's code and how many children it has, as their definitions do: the rest of a kind tells nothing there.
 #[tactic(auto, unfolding(crate::specs::Parts::front_of))]
 fn front(code: u32, count: u32) -> &'static [u8]
     ensures { result.now ≡ front_of code count }

@@ -89,13 +89,13 @@ fn free_all(bs: &mut [u32], room: Room)
 }
 
 // A names buffer without a name, whatever the slice held.
-pub fn open_names(bs: &mut [u32], nodes: u32, children: u32)
-    requires { book_words nodes children ≤ length bs.old }
-    ensures { BookBecame bs.old bs.new (blank nodes children) }
+pub fn open_names(bs: &mut [u32], room: Room)
+    requires { book_words room.nodes room.children ≤ length bs.old }
+    ensures { BookBecame bs.old bs.new (blank room.nodes room.children) }
 {
-    bs[0] = nodes;
-    bs[1] = children;
-    free_all(bs, Room { nodes, children });
+    bs[0] = room.nodes;
+    bs[1] = room.children;
+    free_all(bs, room);
 }
 
 // "`reset` frees all" and "drops all names"; the report count "outlives `reset`".

@@ -1,6 +1,7 @@
 #![tactic(auto)]
 // `export`: types of a tested store copied into a fresh one, "which the call itself opens in the destination's buffers whatever they held". It tests its
 // arguments and refuses, or copies as document 01 says; the source is only read. Refusals come in 01's order: 1, 3, 4, 10, 11 and 7.
+// Kept (2), (5): as `promise` says.
 ghost use Rattle.std.specs.Prelude.{length};
 ghost use Rattle.scope.specs.Calls.{export_call};
 ghost use Rattle.layout.specs.Words.{store_in, lent_of};

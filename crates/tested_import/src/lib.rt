@@ -1,6 +1,7 @@
 #![tactic(auto)]
 // `import`: types of another store brought into this one, where both are tested. It tests its arguments and refuses, or copies as document 01 says. Refusals
 // come in 01's order: 3 and 4 of both lists, 6, 10, 11 and 7. Source and destination "read the same chart and texts".
+// Kept (2), (5): as `promise` says.
 ghost use Rattle.std.specs.Prelude.{◌≡◌, false, length};
 ghost use Rattle.scope.specs.Calls.{too_many, import_list, import_call};
 ghost use Rattle.layout.specs.Words.{lent_of};

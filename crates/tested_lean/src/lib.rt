@@ -2,6 +2,7 @@
 // The calls on a tested store that look at its header and its nodes alone, with no more lent to them: `new_var`, `error`, `nil`, `find`, `find_mut`. Each tests and
 // answers what document 01 says, with every chart, texts and children's words with which the words pass the tests. `call_make` and `call_find` have each with all of the store,
 // as a call of the one here.
+// Kept (2), (5): as `promise` says.
 ghost use Rattle.std.specs.Prelude.{◌≡◌, List, ℕ};
 ghost use Rattle.scope.specs.Types.{ty_of};
 ghost use Rattle.scope.specs.Calls.{first_broken, room_tests, nodes_for, new_var_call, find_call, find_mut_call};

@@ -1,6 +1,7 @@
 #![tactic(auto)]
 // `new`, `new_struct` and `new_union` on a tested store: each tests its arguments and refuses, or makes the node that document 01 says. Refusals come in the
 // order 3, 4, 5, 10, 11. A list may be of any length: 3 is tested over all of it, and only then that it is no wider than 255.
+// Kept (2), (5): as `promise` says.
 ghost use Rattle.std.specs.Prelude.{◌≤◌};
 ghost use Rattle.scope.specs.Limits.{MAX_WIDTH};
 ghost use Rattle.scope.specs.Calls.{new_call, new_struct_call, new_union_call};

@@ -89,6 +89,14 @@ module _ (cs h ws ks ts : List ℕ) (c m : ℕ) (row : (row_of c).names ≡ NO_N
   rooms : {o : Option ℕ} → RoomTold h (length ts) o → RoomTold h (entry_count (entries_of ts)) o
   rooms room ws ks = rw (entries_count ts) (room ws ks)
 
+  -- the kind that is tested has this code and number
+  module _ {k : KindArgs} {f : Kind} (a : k ≡ args) (g : f ≡ with_flag k (flag_of (chart_alone cs) k.code k.number)) where
+    pub over_row : (row_of f.code).names ≡ NO_NAMES
+    over_row = rw (g, a) row
+
+    pub over_told : {n : ℕ} {o : Option ℕ} → PlainTold cs f.code f.number n o → PlainTold cs c m n o
+    over_told q = rw (g, a) at q
+
   pub over_refused : {v : ℕ} → PlainTold cs c m (length ts) (some v) → (rule text : List ℕ)
       → Promised (inside_call (chart_in cs rule text) (store_in h ws ks) (given args (entries_of ts))) (refusal v) h ws ks h ws ks
   over_refused q rule text = inside_refused cs rule text h ws ks args (entries_of ts) (tests q rule text)

@@ -13,15 +13,14 @@ use Rattle.scope.specs.Limits.{MAX_WIDTH, KINDS}
 use Rattle.scope.specs.Names.{Texts}
 use Rattle.scope.specs.Chart.{Env}
 use Rattle.scope.specs.Types.{Ty}
-use Rattle.scope.specs.Kinds.{NO_NAMES, CLOSURE, row_of, flag_of, shape_fits, flex_ok, number_ok, names_ok, makeable, defined}
+use Rattle.scope.specs.Kinds.{NO_NAMES, CLOSURE, row_of, shape_fits, flex_ok, number_ok, names_ok, makeable, defined}
 use Rattle.scope.specs.Refusals.{UNMAKEABLE, UNDEFINED}
 use Rattle.scope.specs.Calls.{first_broken, over, kind_made}
 use Rattle.chart.specs.Env.{chart_in, chart_alone}
 use Rattle.layout.specs.Meaning.{kind_means}
 use Rattle.layout.specs.declared.Kind.{Kind}
 use Rattle.kind_sound.proofs.Laws.{defined_chart}
-use Rattle.lent_kind.specs.declared.KindArgs.{KindArgs}
-use Rattle.lent_kind.specs.Lent.{with_flag, plain_args, kind_tests}
+use Rattle.lent_kind.specs.Lent.{kind_tests}
 
 either : (b : Bool) → pick b true true ≡ true
 either true = refl
@@ -54,12 +53,11 @@ module _ (cs : List ℕ) (c n m : ℕ) (row : (row_of c).names ≡ NO_NAMES) (na
       pub number_unmade : number_ok (row_of c).number n ≡ false → first_broken (kind_tests env (over c n ts)) ≡ some UNMAKEABLE
       number_unmade s = rw (made_over, lt-ltb c KINDS code, shape, s)
 
-      module _ (number : number_ok (row_of c).number n ≡ true) {k : KindArgs} {kind : Kind} {d : Bool} (a : k ≡ plain_args c n)
-          (b : kind ≡ with_flag k (flag_of (chart_alone cs) k.code k.number))
+      module _ (number : number_ok (row_of c).number n ≡ true) (kind : Kind) {d : Bool} (a : kind.code ≡ c) (b : kind.number ≡ n)
           (r : d ≡ defined (chart_alone cs) (kind_means [] kind).head) where
         same_definition : defined env (kind_made env (over c n ts)).head ≡ defined env (kind_means [] kind).head
         unfolding defined kind_means
-        same_definition = rw (b, a) refl
+        same_definition = rw (a, b) refl
 
         defined_is : defined env (kind_made env (over c n ts)).head ≡ d
         defined_is = same_definition ∙ (defined_chart env cs refl [] kind ∙ sym r)

@@ -1,6 +1,7 @@
 #![tactic(auto)]
 // A kind over listed types whose children have no names, as a Tuple, a Struct or a Ref, on a tested store: the types are put straight into the store's words, and
 // no entries are laid out. It tests 3, 4, 5, 10 and 11 as `new` does.
+// Kept (2), (5): as `promise` says.
 ghost use Rattle.std.specs.Prelude.{◌≡◌, List, ℕ, ◌+◌, ◌≤◌, length};
 ghost use Rattle.scope.specs.Limits.{MAX_WIDTH};
 ghost use Rattle.scope.specs.Types.{Ty};
@@ -19,11 +20,11 @@ ghost use Rattle.tested_over.specs.Inside.{inside_call};
 ghost use Rattle.tested_over.specs.Over.{entries_of, PassedBy, OverPromised};
 
 use kinds::{ERROR, Names};
-use layout::{Kind, Slot, TypeState};
+use layout::{Kind, Slot};
 use lent_kind::{flagged, plain_args, test_list};
 use names::NO_NAME;
 use refusals::Refusal;
-use types::{Inverted, Type};
+use types::Type;
 
 // The listed types without names, behind the `first` children made.
 fn put_listed(ks: &mut [u32], first: u32, types: &[u32])
@@ -41,6 +42,7 @@ fn put_listed(ks: &mut [u32], first: u32, types: &[u32])
 }
 
 // `new_kind` over listed types without names.
+// Kept (2): both put children behind those made and push the kind that has them; a function for that would take who puts them as a closure, which lends the children's words again.
 fn new_listed(h: &mut [u32], ws: &mut [u32], ks: &mut [u32], k: Kind, types: &[u32]) -> Type
     requires { KindReady h.old ws.old ks.old k (entries_of types.now) }
     ensures { MadeIs h.old ws.old ks.old h.new ws.new ks.new result
@@ -49,27 +51,26 @@ fn new_listed(h: &mut [u32], ws: &mut [u32], ks: &mut [u32], k: Kind, types: &[u
     let first = heads::children_made(h);
     put_listed(ks, first, types);
     let count = types.len() as u32;
-    let state = TypeState::Known(Inverted(false), Kind { first, count, ..k });
-    make::push(h, ws, count, state)
+    make::push_kind(h, ws, Kind { first, count, ..k })
 }
 
 // The first of refusals 4 and 5 that stands for a kind without names over n types. Its texts are not looked at.
-fn test_plain(chart: &[u32], code: u32, number: u32, n: usize) -> Result<(), Refusal>
-    requires code_value { (row_of code).names ≡ NO_NAMES }
+fn test_plain(k: Kind, chart: &[u32], n: usize) -> Result<(), Refusal>
+    requires code_value { (row_of k.code).names ≡ NO_NAMES }
     requires n_bound { n ≤ MAX_WIDTH }
-    ensures { (rule text : List ℕ) (ts : List Ty) → length ts ≡ n → first_broken (kind_tests (chart_in chart.now rule text) (over code number ts)) ≡ told result }
+    ensures { (rule text : List ℕ) (ts : List Ty) → length ts ≡ n → first_broken (kind_tests (chart_in chart.now rule text) (over k.code k.number ts)) ≡ told result }
 {
-    if code > ERROR || !kinds::shape_fits(code, n) || !kinds::number_ok(code, number) {
+    if k.code > ERROR || !kinds::shape_fits(k.code, n) || !kinds::number_ok(k.code, k.number) {
         return Err(Refusal::Unmakeable);
     }
-    let kind = flagged(plain_args(code, number), chart);
-    if !kind_sound::is_defined(kind, chart) {
+    if !kind_sound::is_defined(k, chart) {
         return Err(Refusal::Undefined);
     }
     Ok(())
 }
 
 // What is left of `new_over` once 3 is passed.
+// Kept (5): no `KindArgs` in place of code and number: it would have two fields of zeros, and the contract would have to say that they are.
 fn make_over(
     chart: &[u32],
     h: &mut [u32],
@@ -87,9 +88,9 @@ fn make_over(
         (type_reply result) h.old ws.old ks.old h.new ws.new ks.new }
 {
     let n = types.len();
-    test_plain(chart, code, number, n)?;
-    refusals::room(h, 1, n as u32)?;
     let k = flagged(plain_args(code, number), chart);
+    test_plain(k, chart, n)?;
+    refusals::room(h, 1, n as u32)?;
     Ok(new_listed(h, ws, ks, k, types))
 }
 

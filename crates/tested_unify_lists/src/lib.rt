@@ -1,6 +1,7 @@
 #![tactic(auto)]
 // The calls that unify lent lists of types, entries and signatures on a tested store: each tests its arguments and refuses with 3 or 4, or does and answers what
 // document 01 says. Each has a form with a lent memory, any slice whatever it holds, and the same answer and nodes.
+// Kept (2), (5): as `promise` says.
 ghost use Rattle.scope.specs.Types.{ty_of};
 ghost use Rattle.scope.specs.Calls.{unify_types_call, unify_objects_call, unify_fn_sig_call};
 ghost use Rattle.layout.specs.Words.{lent_of};
@@ -13,7 +14,6 @@ ghost use Rattle.call_unify.specs.Answers.{unify_reply};
 use chart::Env;
 use refusals::Refusal;
 use types::{Inverted, Type, UnifyResult};
-use unify_enter::Fixed;
 
 // Two lists of types, a word a type, the second's inverted if inv says so.
 pub fn unify_types_recalling(
@@ -34,12 +34,7 @@ pub fn unify_types_recalling(
 {
     let x = layout::read_header(h);
     lent_tests::lists(xs, ys, x.nodes)?;
-    recall::begin(memory);
-    let fixed = Fixed {
-        kids: ks,
-        made: x.nodes,
-        texts: env.texts,
-    };
+    let fixed = unify_lists::begin(env, ks, x.nodes, memory);
     Ok(unify_lists::unify_lists(ws, &fixed, memory, xs, ys, inv))
 }
 
@@ -82,12 +77,7 @@ pub fn unify_objects_recalling(
 {
     let x = layout::read_header(h);
     lent_tests::objects(xs, ys, x.nodes, env)?;
-    recall::begin(memory);
-    let fixed = Fixed {
-        kids: ks,
-        made: x.nodes,
-        texts: env.texts,
-    };
+    let fixed = unify_lists::begin(env, ks, x.nodes, memory);
     Ok(unify_lists::unify_entries(ws, &fixed, memory, xs, ys, inv))
 }
 
@@ -131,12 +121,7 @@ pub fn unify_fn_sig_recalling(
 {
     let x = layout::read_header(h);
     lent_tests::signatures(xs, r, ys, q, x.nodes)?;
-    recall::begin(memory);
-    let fixed = Fixed {
-        kids: ks,
-        made: x.nodes,
-        texts: env.texts,
-    };
+    let fixed = unify_lists::begin(env, ks, x.nodes, memory);
     Ok(unify_lists::unify_fn_sig(ws, &fixed, memory, xs, r, ys, q))
 }
 

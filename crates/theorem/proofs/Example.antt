@@ -6,7 +6,7 @@ use mathlib.Core.List.{List, [], ◌∷◌, ◌++◌}
 use mathlib.Core.Bool.{true, false}
 use Prim.Native.Nat.{ℕ}
 use lib.ListN.{replicate}
-use Rattle.scope.specs.Limits.{NONE}
+use Rattle.scope.specs.Limits.{SIGILS, NONE}
 use Rattle.scope.specs.Names as Names
 use Rattle.scope.specs.Chart as Chart
 use Rattle.scope.specs.Types as Types
@@ -21,7 +21,7 @@ use Rattle.scope.specs.Calls.{Outcome, done, open_call, new_var_call, unify_call
 use Rattle.types.specs.declared.«Type».{«Type»}
 use Rattle.types.specs.declared.UnifyResult.TheVariants as result
 use Rattle.chart.specs.Words.{runs}
-use Rattle.chart.specs.Env.{SIGIL_WORDS}
+use Rattle.names.specs.Place.{no_name}
 use Rattle.layout.specs.Words.{clean, cell_at, node_at, node_clean, decode, store_in, long_enough, unused_zero, nodes_clean, lent_of}
 use Rattle.store.specs.Holds.{Beyond}
 use Rattle.refusals.specs.Opening.{enough}
@@ -37,7 +37,7 @@ use Rattle.theorem.proofs.Theorem.{theorem}
 
 -- no definition, no fn trait, four empty sigils, no text
 abbrev fixed : Fixed
-fixed = record { chart = []; beside = record { fn_trait = NONE; sigils = replicate SIGIL_WORDS 0 }; rule = []; text = [] }
+fixed = record { chart = []; beside = record { fn_trait = NONE; sigils = replicate SIGILS no_name }; rule = []; text = [] }
 
 -- room for three nodes, of which n are made, and their words
 abbrev three : ℕ → List ℕ → Memory

@@ -7,7 +7,7 @@ use mathlib.Core.Bool.{true}
 use Prim.Native.Nat.{ℕ, ◌-◌, ◌*◌}
 use lib.ListN.{replicate}
 use Rattle.scope.specs.Text.{text}
-use Rattle.scope.specs.Limits.{MAX_STATES, MAX_STATE_NAME, NONE}
+use Rattle.scope.specs.Limits.{MAX_STATES, MAX_STATE_NAME, SIGILS, NONE}
 use Rattle.scope.specs.Names as Names
 use Rattle.scope.specs.Chart as Chart
 use Rattle.scope.specs.Types as Types
@@ -20,7 +20,7 @@ use Rattle.scope.specs.States as States
 use Rattle.scope.specs.States.{Book, open_names_call, name_state_call, return_to_call}
 use Rattle.scope.proofs.TestLaws.{tf}
 use Rattle.chart.specs.Words.{runs}
-use Rattle.chart.specs.Env.{SIGIL_WORDS}
+use Rattle.names.specs.Place.{no_name}
 use Rattle.layout.specs.Words.{clean, cell_at, node_at, node_clean, decode, store_in, long_enough, unused_zero, nodes_clean, lent_of}
 use Rattle.store.specs.Holds.{Became}
 use Rattle.refusals.specs.Opening.{enough}
@@ -40,7 +40,7 @@ use Rattle.theorem.proofs.StatesTheorem.{states_theorem}
 
 -- no definition, no fn trait, four empty sigils, no text
 abbrev fixed : Fixed
-fixed = record { chart = []; beside = record { fn_trait = NONE; sigils = replicate SIGIL_WORDS 0 }; rule = []; text = [] }
+fixed = record { chart = []; beside = record { fn_trait = NONE; sigils = replicate SIGILS no_name }; rule = []; text = [] }
 
 -- room for one node, of which n are made, and its words
 abbrev one : ℕ → List ℕ → Memory

@@ -32,7 +32,7 @@ use Rattle.unify_enter.specs.Leaves.{Leaves}
 use Rattle.unify.specs.Asked.{Asked, Unified}
 use Rattle.unify_enter.specs.Enters.{AtRoots, Left}
 use Rattle.unify_enter.proofs.Laws.{words_with, words_add, went, deep_enough}
-use Rattle.unify_enter.proofs.walks.Kept.{pair_sound, pair_selfs, run_sound}
+use Rattle.unify_enter.proofs.walks.Kept.{pair_sound, run_sound}
 use Rattle.unify_enter.proofs.walks.Laws.{by_words, below}
 use Rattle.unify.proofs.Closing.{closes}
 
@@ -50,14 +50,6 @@ module _ {x : Texts} {ws ks : List ℕ} {n : ℕ} (w : SoundWords x ws ks n) whe
       → Leaves ws ks ws' n (unify_f x n d (decode ws ks n) p q) s → SoundWords x ws' ks n
   words_pair d p q hp hq l =
       leaves_words l (sound_at (λ y m. unify_f y m d (decode ws ks n) p q) (pair_sound w.env w.sound d p q (below w hp) (below w hq)))
-
-  -- roots that are their own inverses stay so
-  pub words_selfs : (d : ℕ) (p q : Ty) (ws' : List ℕ) (s : UnifyResult) → p.idx < n → q.idx < n
-      → unify_f x n d (decode ws ks n) p q ≡ out (decode ws' ks n) (answer_of s) → SelfsKept (decode ws ks n) (decode ws' ks n)
-  words_selfs d p q ws' s hp hq e =
-      let ns : List Node = decode ws ks n in
-      subst (λ (o : Out). SelfsKept ns o.nodes) e
-      (by_words w (λ y m. SelfsKept ns (unify_f y m d ns p q).nodes) (pair_selfs w.env w.sound d p q (below w hp) (below w hq)))
 
   pub words_run : (d : ℕ) (b : answers.Answer) (ps : List (Ty × Ty)) {ws' : List ℕ} {s : UnifyResult} → Inside n ps
       → Leaves ws ks ws' n (run (unify_f x n d) (decode ws ks n) b ps) s → SoundWords x ws' ks n

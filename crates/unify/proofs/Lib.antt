@@ -1,6 +1,5 @@
 -- The laws that belong to no one function
 pub mod Closing
 pub mod Laws
-pub mod QuickLaws
 pub mod RunLaws
 pub mod StepLaws

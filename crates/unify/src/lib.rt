@@ -1,11 +1,11 @@
 #![tactic(auto)]
-// "The functions that unify a pair, a run and an object call each other in turn", depth falling from the node count. Two roots without kinds merge at once, in the
-// loops too. What comes before the children is `unify_enter`, apart from the cycle, and so its marks stay out of the cycle's frames: an answer, or what two roots ask for.
-// Then their children are unified, then the answer is settled. The words of the nodes change as scope's `unify` says of the nodes. Beside them goes a memory: a pair that
-// did not succeed is looked up there before its children are unified. Whatever is believed there is what unifying would give.
+// "The functions that unify a pair, a run and an object call each other in turn", depth falling from the node count. What comes before the children is `unify_enter`,
+// apart from the cycle, and so its marks stay out of the cycle's frames: an answer, or what two roots ask for. Then their children are unified, then the answer is settled.
+// The words of the nodes change as scope's `unify` says of the nodes. Beside them goes a memory: a pair that did not succeed is looked up there before its children are
+// unified. Whatever is believed there is what unifying would give.
 //
 // Kept (5): the nodes' words and the memory go beside each other here and in `heed`, `unify_enter` and `unify_lists`. Of a lent slice its type says that it is the same slice
-// afterwards, and as long; of a part of a struct each contract would say both, as `append`'s `Puts` does. What is only read beside them is `unify_enter::Fixed`.
+// afterwards, and as long; of a part of a struct each contract would say both, as `roots`' `StaysLent` does. What is only read beside them is `unify_enter::Fixed`.
 ghost use Rattle.scope.specs.Types.{ty_of};
 ghost use Rattle.scope.specs.Unify.{unify_f};
 ghost use Rattle.names.specs.Place.{texts_by};
@@ -95,9 +95,7 @@ pub fn unify_types(
     for i in 0..s.na {
         let x = layout::child_of(fixed.kids, s.a, i).ty;
         let y = layout::child_of(fixed.kids, s.b, i).ty.invert_if(s.inv);
-        if !heed::quick(ws, fixed.made, memory, x, y, depth) {
-            r = r.and(unify_pair(ws, fixed, memory, x, y, depth));
-        }
+        r = r.and(unify_pair(ws, fixed, memory, x, y, depth));
     }
     r
 }
@@ -126,9 +124,7 @@ pub fn unify_objects(
             continue;
         };
         let u = t.invert_if(s.inv);
-        if !heed::quick(ws, fixed.made, memory, x.ty, u, depth) {
-            r = r.and(unify_pair(ws, fixed, memory, x.ty, u, depth));
-        }
+        r = r.and(unify_pair(ws, fixed, memory, x.ty, u, depth));
     }
     r
 }

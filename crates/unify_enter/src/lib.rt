@@ -48,6 +48,9 @@ pub fn enter(
         return Entered::Done(UnifyResult::Failure);
     }
     if meeting::bare_roots(ws, fixed.made, a, b) {
+        if heed::quick(ws, fixed.made, memory, a, b) {
+            return Entered::Done(UnifyResult::Success);
+        }
         return Entered::Done(walks::walk_pair(ws, fixed, memory, a, b));
     }
     recall::visited(memory, 1);

@@ -1,5 +1,6 @@
--- What is asked of lent lists, objects, signatures and impl types: a sound store, pairs of types inside, and a memory m that holds only what is so.
+-- What a call begins with. What is asked of lent lists, objects, signatures and impl types: a sound store, pairs of types inside, and a memory m that holds only what is so.
 use Rattle.std.specs.Prelude.{false, List, [], ◌∷◌, ℕ, ◌≤◌}
+use Rattle.std.specs.Borrow.{Bor}
 use Rattle.scope.specs.Limits.{MAX_LIST}
 use Rattle.scope.specs.Names.{Texts}
 use Rattle.scope.specs.Types.{Ty}
@@ -9,7 +10,13 @@ use Rattle.types.specs.declared.Impl.{Impl}
 use Rattle.types.specs.declared.Inverted.{Inverted}
 use Rattle.store.specs.Entries.{entry_count, entry_names, entry_types, types_in}
 use Rattle.plan.specs.declared.Runs.{Runs}
+use Rattle.chart.specs.declared.Env.{Env}
+use Rattle.unify_enter.specs.declared.Fixed.{Fixed}
 use Rattle.unify.specs.Asked.{Asked}
+
+-- what stays as it is while the n nodes are unified whose children lie in ks
+abbrev pub fixed_of : Env → Bor (List ℕ) → ℕ → Fixed
+fixed_of e ks n = record { kids = ks; made = n; texts = e.texts }
 
 -- two runs from the first word on, of na and of nb children
 abbrev pub from_first : ℕ → ℕ → Inverted → Runs

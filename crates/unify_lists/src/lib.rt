@@ -10,13 +10,28 @@ ghost use Rattle.names.specs.Place.{texts_by};
 ghost use Rattle.types.specs.Impls.{impl_means};
 ghost use Rattle.store.specs.Entries.{entry_count, entry_names, entry_types, types_in};
 ghost use Rattle.unify.specs.Asked.{AskedIn, UnifiedIn, nodes_in};
-ghost use Rattle.unify_lists.specs.Lent.{Lists, Objects, Signatures, Impls};
+ghost use Rattle.recall.specs.Memory.{Begun};
+ghost use Rattle.unify_lists.specs.Lent.{fixed_of, Lists, Objects, Signatures, Impls};
 
+use chart::Env;
 use types::{Impl, Inverted, Type, UnifyResult};
 use unify_enter::Fixed;
 
 // A call that is lent no memory has one of its own, of sixteen pairs: enough for one that is asked again and again.
 pub const OWN_MEMORY: usize = recall::HEAD + 16 * recall::ENTRY;
+
+// What a call begins with: nothing is remembered, and so many nodes with these children, named by the texts of `env`, are to be unified.
+pub fn begin<'a>(env: &Env<'a>, ks: &'a [u32], made: u32, memory: &mut [u32]) -> Fixed<'a>
+    ensures begun { Begun memory.new }
+    ensures fixed { result ≡ fixed_of env.now ks.entry made }
+{
+    recall::begin(memory);
+    Fixed {
+        kids: ks,
+        made,
+        texts: env.texts,
+    }
+}
 
 // A pair of types, as deep as there are nodes.
 pub fn unify_all(

@@ -16,7 +16,8 @@ use scope::MAX_NODES;
 use types::{Type, TypeIdx};
 
 // get_mod's answer: no definition, a definition's def number, or an error.
-// Kept (1): the Rust has a Result of an Option, whose error is a value that no store has; a call that answers a Result already would have one in it, of an Option.
+// Kept (1): the new form is no plainer. The Rust answers a Result of an Option, whose error is a value that no store has, so that a Result here would have an empty one;
+// and the public call answers a Result already, which would have that one in it.
 #[derive(Clone, Copy)]
 pub enum Mod {
     Nothing,
@@ -76,6 +77,7 @@ pub fn occurs(nodes: &Nodes<'_>, x: TypeIdx, y: Type) -> bool
         Some((_, kind)) if kind.count > 0 => kind,
         _ => return false,
     };
+    // Kept (1): tried as `look(..).unwrap_or_else(|| occurs_deep(..))`: at `returns` nothing is known of what the closure answers, and clauses of its own would be longer than the match.
     match look(nodes, x, kind) {
         Some(told) => told,
         None => occurs_deep(nodes, x, y),
@@ -96,6 +98,7 @@ pub fn self_inverse(nodes: &Nodes<'_>, t: Type, param: bool) -> bool
     requires { InversesIn nodes.now t.0 }
     ensures { result ≡ self_inverse_of (nodes_by nodes.now) (ty_of t.0) param }
 {
+    // Kept (1): tried as `unwrap_or_else`, as in `occurs`.
     match inverse::quickly(nodes, t, param) {
         Some(own) => own,
         None => inverse_deep(nodes, t, param),

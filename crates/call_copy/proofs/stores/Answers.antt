@@ -1,11 +1,7 @@
 -- `call_copy::stores` meets its contract: 2 and 8 come first, and the source is asked with the chart that passed them.
 -- Assumes nothing.
-use Rattle.refusals.proofs.Laws.{err_told}
-use Rattle.call_copy.proofs.Laws.{stores_lent, stores_source, stores_pass}
+use Rattle.call_copy.proofs.Laws.{stores_source, stores_pass}
 use Rattle.call_copy.proofs.stores.Goals as goal
-
-pub returns-in_err-lent : goal.returns-in_err-lent
-returns-in_err-lent c = rw (err_told c.from_residual.result c.from_residual.ensures.1) (stores_lent c.args.env.now _ _ _ _ _ _ c.in_err-lent.ensures)
 
 pub returns-then-not-store_sound : goal.returns-then-not-store_sound
 returns-then-not-store_sound c = stores_source c.args.env.now _ _ _ _ _ _ c.in_ok-lent.ensures c.store_sound.ensures c.if-not-store_sound.true

@@ -7,17 +7,17 @@ use Rattle.scope.specs.Types.{ty_of}
 use Rattle.store.proofs.EntryLaws.{listed_below}
 use Rattle.needs.proofs.SourceLaws.{listed_next}
 use Rattle.copy_lists.proofs.ListLaws.{listing_copyable, listing_next, listing_end}
-use mathlib.Core.Path.{◌∙◌}
+use Rattle.roots.proofs.StaysLaws.{stays_then}
 use Rattle.copy_lists.proofs.copy_all.Goals as goal
 
 pub copy-next-requires : goal.copy-next-requires
 copy-next-requires c =
-    rw c.loop-i.invariant.1
+    rw c.loop-i.invariant.1.nodes
     (listing_copyable c.loop-i.invariant.0 _ (listed_next c.args.ts.now c.loop-i.i c.loop-i-test.true) c.requires.all_copyable.source)
 
 pub loop-i-preserved : goal.loop-i-preserved
 loop-i-preserved c = (
-  listing_next c.loop-i.invariant.0 _ (listed_next c.args.ts.now c.loop-i.i c.loop-i-test.true) (rw c.loop-i.invariant.1 at c.copy-next.ensures.0)
+  listing_next c.loop-i.invariant.0 _ (listed_next c.args.ts.now c.loop-i.i c.loop-i-test.true) (rw c.loop-i.invariant.1.nodes at c.copy-next.ensures.0)
       (listed_below c.args.ts.now c.loop-i.i c.loop-i-test.true)
       (omega (arith, c.loop-i.invariant.0.wide, c.requires.ts_in_bounds))
       (record {
@@ -26,10 +26,9 @@ loop-i-preserved c = (
         nodes = c.copy-next.auto.ws;
         kids = c.copy-next.auto.ks;
       }),
-  c.copy-next.ensures.1 ∙ c.loop-i.invariant.1,
-  c.copy-next.ensures.2 ∙ c.loop-i.invariant.2,
+  stays_then c.loop-i.invariant.1 c.copy-next.ensures.1,
 )
 
 pub returns : goal.returns
 returns c =
-    (listing_end c.loop-i.invariant.0 (length c.args.ts.now) (length-map c.args.ts.now ty_of) c.loop-i-test.false, c.loop-i.invariant.1, c.loop-i.invariant.2)
+    (listing_end c.loop-i.invariant.0 (length c.args.ts.now) (length-map c.args.ts.now ty_of) c.loop-i-test.false, c.loop-i.invariant.1)

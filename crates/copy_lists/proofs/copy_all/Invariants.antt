@@ -2,9 +2,9 @@
 -- front of the answer's list.
 -- Assumes nothing.
 use Rattle.store.specs.Entries.{types_in}
+use Rattle.roots.specs.StaysLent.{StaysLent}
 use Rattle.copy_parts.specs.Places.{params_in}
 use Rattle.copy_lists.proofs.ListLaws.{Listing}
-use mathlib.Core.Path.{◌≡◌}
 use Rattle.copy_lists.proofs.copy_all.Given as goal
 
 abbrev pub invariant-loop-i : goal.invariant-loop-i
@@ -12,4 +12,4 @@ invariant-loop-i l =
     let nodes = l.fn.finder.nodes.now in
     Listing nodes.words.now nodes.kids.now nodes.made (params_in l.params) (types_in l.ts) l.initial.table l.initial.h l.initial.ws l.initial.ks l.initial.out
     l.table l.h l.ws l.ks l.out l.i
-    × (l.finder.nodes ≡ l.fn.finder.nodes) × (l.finder.cache.ghost_name ≡ l.fn.finder.cache.ghost_name)
+    × StaysLent l.fn.finder l.finder

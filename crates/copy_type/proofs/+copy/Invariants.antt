@@ -1,8 +1,8 @@
 -- `copy_type::copy` meets its contract. The measure is the depth. A root that has no copy is begun before its children are copied; the loop's invariant is
 -- `Filling`: what is left of them gives what all of them give, and those done stand in the run reserved for them.
 -- Assumes nothing.
-use mathlib.Core.Path.{◌≡◌}
 use Prim.Native.Nat.{◌-◌}
+use Rattle.roots.specs.StaysLent.{StaysLent}
 use Rattle.copy_parts.specs.Places.{params_in}
 use Rattle.copy_type.proofs.FillLaws.{Filling}
 use Rattle.copy_type.proofs.+copy.Given as goal
@@ -15,4 +15,4 @@ invariant-loop-j l =
     let nodes = l.fn.finder.nodes.now in
     Filling nodes.words.now nodes.kids.now nodes.made (params_in l.params) (l.depth - 1)
     l.first l.count l.from l.initial.table l.initial.h l.initial.ws l.initial.ks l.table l.h l.ws l.ks l.j
-    × (l.finder.nodes ≡ l.fn.finder.nodes) × (l.finder.cache.ghost_name ≡ l.fn.finder.cache.ghost_name)
+    × StaysLent l.fn.finder l.finder

@@ -14,11 +14,11 @@ pub put_children-requires : goal.put_children-requires
 put_children-requires c =
     (children_room (entries_ready c.requires c.entry_count-n.ensures) c.children_made-first.ensures, omega (arith, c.entry_count-n.ensures))
 
-pub push-requires : goal.push-requires
-push-requires c =
+pub push_kind-requires : goal.push_kind-requires
+push_kind-requires c =
     pushable_in (entries_ready c.requires c.entry_count-n.ensures)
 
 pub returns : goal.returns
 returns c =
     kind_made_lem c.requires c.children_made-first.ensures c.entry_count-n.ensures c.put_children.ensures
-    c.put_children.auto.ks refl c.push.ensures
+    c.put_children.auto.ks refl c.push_kind.ensures

@@ -1,8 +1,8 @@
 -- `needs::count` meets its contract. The measure is the depth. A root that is not counted is counted before its children are walked from; the loop's
--- invariant: what is left of them gives what all of them give, and what the cache keeps are roots.
+-- invariant: what is left of them gives what all of them give, and the finder stays.
 -- Assumes nothing.
-use mathlib.Core.Path.{◌≡◌}
 use Prim.Native.Nat.{◌-◌}
+use Rattle.roots.specs.StaysLent.{StaysLent}
 use Rattle.needs.proofs.CountLaws.{Turn}
 use Rattle.needs.proofs.RootLaws.{kids_in}
 use Rattle.needs.proofs.+count.Given as goal
@@ -14,4 +14,4 @@ abbrev pub invariant-loop-j : goal.invariant-loop-j
 invariant-loop-j l =
     let nodes = l.fn.finder.nodes.now in
     Turn nodes.words.now nodes.kids.now nodes.made l.params (l.depth - 1) (kids_in nodes.kids.now l.first l.kids) l.initial.marks l.initial.all l.marks l.all l.j
-    × (l.finder.nodes ≡ l.fn.finder.nodes) × (l.finder.cache.ghost_name ≡ l.fn.finder.cache.ghost_name)
+    × StaysLent l.fn.finder l.finder

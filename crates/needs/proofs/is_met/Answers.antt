@@ -8,5 +8,4 @@ pub returns : goal.returns
 returns c = (
   record { is = λ e ks p sum depth. count_met _ ks _ _ p sum _ depth _ (root_is c.find.ensures.0 c.idx.ensures ks) c.is_counted.ensures e },
   c.find.ensures.1,
-  c.find.ensures.2,
 )

@@ -7,11 +7,6 @@ use Rattle.roots.proofs.KeptLaws.{cached_zeros}
 use Rattle.needs.proofs.SourceLaws.{default_is, start_countable, all_countable, export_source, export_needs}
 use Rattle.needs.proofs.of_export.Goals as goal
 
-pub invariant_of-nodes : goal.invariant_of-nodes
-invariant_of-nodes c =
-    let source = export_source c.args.h.now c.args.ws.now c.args.ks.now c.args.ts.now c.read_header-x.ensures c.requires in
-    record { room = source.readable.clean.room }
-
 pub count_remembered-first-requires : goal.count_remembered-first-requires
 count_remembered-first-requires c =
     start_countable {m = MAX_NODES}
@@ -27,14 +22,14 @@ pub count_remembered-next-requires : goal.count_remembered-next-requires
 count_remembered-next-requires c =
     let z = export_source c.args.h.now c.args.ws.now c.args.ks.now c.args.ts.now c.read_header-x.ensures c.requires in
     let k = start_countable {m = MAX_NODES} z (omega arith) (default_is c.default.ensures) in
-    rw c.count_remembered-first.ensures.1 (all_countable k c.count_remembered-first.ensures.0 c.count_remembered-first.auto.marks)
+    rw c.count_remembered-first.ensures.1.nodes (all_countable k c.count_remembered-first.ensures.0 c.count_remembered-first.auto.marks)
 
 pub count_all-requires : goal.count_all-requires
 count_all-requires c =
     let z = export_source c.args.h.now c.args.ws.now c.args.ks.now c.args.ts.now c.read_header-x.ensures c.requires in
     let k = start_countable {m = MAX_NODES} z (omega arith) (default_is c.default.ensures) in
-    let first = c.count_remembered-first.ensures.1 in
-    rw (c.count_remembered-next.ensures.1, first) (
+    let first = c.count_remembered-first.ensures.1.nodes in
+    rw (c.count_remembered-next.ensures.1.nodes, first) (
     all_countable (all_countable k c.count_remembered-first.ensures.0 c.count_remembered-first.auto.marks)
     (rw first at c.count_remembered-next.ensures.0) c.count_remembered-next.auto.marks
     )
@@ -50,6 +45,6 @@ returns c =
       r₁ = _;
       r₂ = _;
       first = c.count_remembered-first.ensures.0;
-      next = rw c.count_remembered-first.ensures.1 at c.count_remembered-next.ensures.0;
-      rest = rw (c.count_remembered-next.ensures.1, c.count_remembered-first.ensures.1) at c.count_all.ensures.0;
+      next = rw c.count_remembered-first.ensures.1.nodes at c.count_remembered-next.ensures.0;
+      rest = rw (c.count_remembered-next.ensures.1.nodes, c.count_remembered-first.ensures.1.nodes) at c.count_all.ensures.0;
     })

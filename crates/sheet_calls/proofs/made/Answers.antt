@@ -1,9 +1,6 @@
 -- `sheet_calls::made` meets its contract: each line that makes a type is one call on the store.
 -- Assumes nothing.
-use mathlib.Core.Path.{refl, sym}
-use native.Mathlib.Omega.{arith}
-use lib.ListN.{take}
-use lib.Seq.{length-take-le}
+use mathlib.Core.Path.{refl}
 use Rattle.scope.specs.Limits.{NONE}
 use Rattle.scope.specs.Calls.{over, new_call, new_var_call, error_call, nil_call}
 use Rattle.scope.specs.Sheet.{Line, sheet_line}
@@ -21,11 +18,6 @@ once-requires c = sheet_passed c.requires.sheet_store
 
 pub once-requires-in-Error : goal.once-requires-in-Error
 once-requires-in-Error c = sheet_passed c.requires.sheet_store
-
-pub slice_bounds-new_over-end-in-Over : goal.slice_bounds-new_over-end-in-Over
-slice_bounds-new_over-end-in-Over c =
-    let fits = rw c.in-Over.is at c.requires.maker_fits in
-    sym (length-take-le c.in-Over.n c.args.types.now (omega (arith, fits.few, c.requires.in_bounds)))
 
 pub new_over-requires : goal.new_over-requires
 new_over-requires c = sheet_by c.requires.sheet_store
@@ -52,7 +44,7 @@ pub returns-in-Over : goal.returns-in-Over
 returns-in-Over c =
     let a = c.args in
     let code = c.in-Over.code in
-    let ts = take c.in-Over.n a.types.now in
+    let ts = a.types.now in
     let fits = rw c.in-Over.is at c.requires.maker_fits in
     let s = store_in a.h.now a.ws.now a.ks.now in
     let kept = c.new_over.ensures.each fits.names _ _ _ (sheet_tested c.requires.sheet_store sheet_env_lem) in

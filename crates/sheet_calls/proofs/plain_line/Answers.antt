@@ -12,10 +12,6 @@ use Rattle.sheet_calls.proofs.StoreLaws.{sheet_clean, tests_pass, as_sheet}
 use Rattle.sheet_calls.proofs.Laws.{ran, same_store, ran_made, ran_done, finishing}
 use Rattle.sheet_calls.proofs.plain_line.Goals as goal
 
-pub made-requires : goal.made-requires
-made-requires c =
-    record { sheet_store = c.requires.sheet_store; maker_fits = rw c.in-Make.is at c.requires.plain_fits; in_bounds = c.requires.in_bounds }
-
 pub finish_inference-requires : goal.finish_inference-requires
 finish_inference-requires c = sheet_clean c.requires.sheet_store
 
@@ -30,9 +26,9 @@ returns-in-Finish c =
     let kept =
     as_sheet c.requires.sheet_store refl finish_inference_call
     (call_done sheet_env a.h.now a.ws.now a.ks.now (λ s. []) finishing (tests_pass c.requires.sheet_store) refl c.finish_inference.ensures) in
-    rw c.in-Finish.is (ran_done c.requires.sheet_store Line.finish refl _ refl kept (front c.requires.in_bounds_2 (text "done") (omega arith) c.written.ensures))
+    rw c.in-Finish.is (ran_done c.requires.sheet_store Line.finish refl _ refl kept (front c.requires.in_bounds (text "done") (omega arith) c.written.ensures))
 
 pub returns-in-Bad : goal.returns-in-Bad
 unfolding sheet_line
 returns-in-Bad c =
-    rw c.in-Bad.is (ran c.requires.sheet_store Line.bad (front c.requires.in_bounds_2 (text "bad line") (omega arith) c.written-in-Bad.ensures) (same_store c.requires.sheet_store))
+    rw c.in-Bad.is (ran c.requires.sheet_store Line.bad (front c.requires.in_bounds (text "bad line") (omega arith) c.written-in-Bad.ensures) (same_store c.requires.sheet_store))

@@ -5,4 +5,4 @@ use Rattle.sheet_lines.proofs.one_type.Goals as goal
 
 pub returns-then-same_bytes : goal.returns-then-same_bytes
 returns-then-same_bytes c = let e1 = laws.said c.same_bytes.ensures c.if-same_bytes.true in
-    record { beside = λ nt out q. record { means = rw (nt, e1) (laws.ref_means out q); fits = laws.ref_fits out q } }
+    record { beside = λ nt. record { means = rw (nt, e1); fits = laws.ref_fits _ } }

@@ -1,12 +1,12 @@
--- `sheet_lines::types_from` meets its contract. The types written so far and those of the words to come are those of all the words; each took two bytes or more.
+-- `sheet_lines::types_from` meets its contract. The types so far and those of the words to come are those of all the words; each took two bytes or more.
 -- Assumes nothing.
 use mathlib.Core.Path.{◌≡◌, refl, sym, ap, ◌∙◌}
-use mathlib.Core.List.{[], ◌∷◌, map}
+use mathlib.Core.List.{[], ◌∷◌, ◌++◌, map}
 use Prim.Native.Nat.{◌+◌, ◌*◌, ◌≤◌}
 use native.Mathlib.Omega.{arith}
 use borrow.Author.Rules.{rules}
 use borrow.Author.Tests.{tests}
-use lib.ListN.{length, take, drop, length-set, length-append, length-drop}
+use lib.ListN.{length, drop, length-append, length-drop}
 use mathlib.Core.Option.{some}
 use Rattle.scope.specs.Types.{Ty, ty_of}
 use Rattle.scope.specs.Sheet.{words, type_word, type_words}
@@ -18,7 +18,8 @@ use Rattle.sheet_lines.proofs.types_from.Goals as goal
 pub loop-w-init : goal.loop-w-init
 loop-w-init c =
     let rest = drop c.args.from c.args.line.now in
-    (refl, refl, omega (arith, laws.weight_words rest, length-drop c.args.from c.args.line.now), laws.turns_start (type_words (words rest)))
+    let none = c.requires.1 in
+    (ap length none, omega (arith, laws.weight_words rest, length-drop c.args.from c.args.line.now), rw none (laws.turns_start (type_words (words rest))))
 
 -- in a turn: the word is the next of the line's words
 word_here : (c : In-Some-w) → laws.WordAt (words (drop c.args.from c.args.line.now)) (length c.loop-w.yielded) c.in-Some-w.w.now
@@ -28,39 +29,36 @@ word_here c = let of = c.split-w-items.ensures in
 
 -- and it is a type: what is left takes two bytes less, or more
 less_left : (c : In-Some-w) (t : Ty) → some t ≡ type_word c.in-Some-w.w.now
-    → 2 * (c.loop-w.n + 1) + laws.weight (drop (c.loop-w.n + 1) (words (drop c.args.from c.args.line.now))) ≤ length c.args.line.now + 1
+    → 2 * (length c.loop-w.yielded + 1) + laws.weight (drop (length c.loop-w.yielded + 1) (words (drop c.args.from c.args.line.now))) ≤ length c.args.line.now + 1
 less_left c t k = let l = c.loop-w in
-    laws.turn_weight (words (drop c.args.from c.args.line.now)) l.n c.in-Some-w.w.now l.invariant.1 (word_here c) k l.invariant.2
+    laws.turn_weight (words (drop c.args.from c.args.line.now)) (length l.yielded) c.in-Some-w.w.now refl (word_here c) k l.invariant.1
 
-pub returns-in_err-out : goal.returns-in_err-out
-returns-in_err-out c = let line = c.args.line.now in
+pub returns-in_err-type_of : goal.returns-in_err-type_of
+returns-in_err-type_of c = let line = c.args.line.now in
     let i = c.args.from in
     let l = c.loop-w in
-    let k = ap word_means (sym c.in_err-out.was) ∙ c.type_of.ensures in
-    let bad = laws.turn_bad (words (drop i line)) l.n c.in-Some-w.w.now l.invariant.1 (word_here (goal.at.returns-in_err-out c).In-Some-w) (map ty_of (take l.n l.out)) k in
-    rw c.from_residual.ensures
-    (record { means = bad ∙ (l.invariant.3 ∙ ap type_words (sym (laws.words_inside line i c.in-Some.ensures.lookup.0.0))); fits = omega arith })
+    let k = ap word_means (sym c.in_err-type_of.was) ∙ c.type_of.ensures in
+    let bad = laws.turn_bad (words (drop i line)) (length l.yielded) c.in-Some-w.w.now refl (word_here (goal.at.returns-in_err-type_of c).In-Some-w) (map ty_of l.types.items) k in
+    rw c.from_residual.ensures (bad ∙ (l.invariant.2 ∙ ap type_words (sym (laws.words_inside line i c.in-Some.ensures.lookup.0.0))))
 
-pub bounds-out-n : goal.bounds-out-n
-bounds-out-n c =
-    let k = ap word_means (sym c.in_ok-out.was) ∙ c.type_of.ensures in
-    omega (arith, c.requires.short, c.requires.room, c.loop-w.invariant.0, less_left (goal.at.bounds-out-n c).In-Some-w _ k)
+pub push-requires : goal.push-requires
+push-requires c =
+    let k = ap word_means (sym c.in_ok-type_of.was) ∙ c.type_of.ensures in
+    omega (arith, c.requires.0, c.loop-w.invariant.0, less_left (goal.at.push-requires c).In-Some-w _ k)
 
 pub loop-w-preserved : goal.loop-w-preserved
 loop-w-preserved c = let l = c.loop-w in
     let turn = (goal.at.loop-w-preserved c).In-Some-w in
-    let k = ap word_means (sym c.in_ok-out.was) ∙ c.type_of.ensures in
-    let less = less_left turn _ k in (
-      length-set l.out l.n _ ∙ l.invariant.0,
-      omega (arith, l.invariant.1, length-append l.yielded (c.in-Some-w.w ∷ [])),
-      less,
-      laws.turn_type (words (drop c.args.from c.args.line.now)) l.n c.in-Some-w.w.now l.invariant.1 (word_here turn) l.out _
-          (omega (arith, c.requires.short, c.requires.room, l.invariant.0, less)) k
-          ∙ l.invariant.3,
+    let k = ap word_means (sym c.in_ok-type_of.was) ∙ c.type_of.ensures in
+    let more : length (l.yielded ++ c.in-Some-w.w ∷ []) ≡ length l.yielded + 1 = length-append l.yielded (c.in-Some-w.w ∷ []) in (
+      omega (arith, l.invariant.0, more, c.push.ensures.len),
+      rw more (less_left turn _ k),
+      rw (more, c.push.ensures.items)
+          (laws.turn_type (words (drop c.args.from c.args.line.now)) (length l.yielded) c.in-Some-w.w.now refl (word_here turn) l.types.items _ k ∙ l.invariant.2),
     )
 
 pub returns-in_default : goal.returns-in_default
-returns-in_default c = record { means = laws.no_words c.args.line.now c.args.from (let z = c.in_default.ensures.lookup in omega arith); fits = omega arith }
+returns-in_default c = rw c.requires.1 (laws.no_words c.args.line.now c.args.from (let z = c.in_default.ensures.lookup in omega arith))
 
 pub returns : goal.returns
 returns c = let line = c.args.line.now in
@@ -70,7 +68,4 @@ returns c = let line = c.args.line.now in
     let of = c.split-w-items.ensures in
     let same = c.into_iter-w-iterator.ensures.into_iter_gives in
     let end = laws.words_over line i l.yielded _ l.yielded_by at.2 same of.rest of.done of.closure (λ x r q k. search (rules, tests)) _ _ c.in-None.is c.next.ensures.steps in
-    record {
-      means = laws.turns_end (words (drop i line)) l.n (map ty_of (take l.n l.out)) (omega (arith, l.invariant.1, end)) ∙ (l.invariant.3 ∙ ap type_words (sym (laws.words_inside line i at.0)));
-      fits = omega (arith, c.requires.short, l.invariant.2);
-    }
+    laws.turns_end (words (drop i line)) (length l.yielded) (map ty_of l.types.items) (omega (arith, end)) ∙ (l.invariant.2 ∙ ap type_words (sym (laws.words_inside line i at.0)))

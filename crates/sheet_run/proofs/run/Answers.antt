@@ -1,15 +1,24 @@
--- `sheet_run::run` meets its contract. The loop's invariant: what is printed so far and what the lines from i on print is the whole, and the arrays are as long as
--- they were. The measure is what is left of the input.
+-- `sheet_run::run` meets its contract. The loop's invariant: what is printed so far and what the lines to come print is the whole, and the arrays are as long as
+-- they were.
 -- Assumes nothing.
-use mathlib.Core.Path.{refl}
+use mathlib.Core.Path.{◌≡◌, refl}
+use mathlib.Core.List.{[], ◌∷◌}
+use Prim.Native.Nat.{◌<◌}
 use native.Mathlib.Omega.{arith}
 use borrow.Author.Rules.{rules}
-use Rattle.sheet_lines.proofs.Laws.{place_within}
-use Rattle.sheet_run.proofs.RunLaws.{turn_first, turn_next, run_done}
+use borrow.Author.Tests.{tests}
+use lib.ListN.{length, length-append}
+use Rattle.sheet_run.proofs.RunLaws.{line_here, lines_over, turn_first, turn_next, run_done, no_lines}
 use Rattle.sheet_run.proofs.run.Goals as goal
 
-pub loop-i-init : goal.loop-i-init
-loop-i-init c =
+pub returns-then-is_empty : goal.returns-then-is_empty
+returns-then-is_empty c =
+    let input = c.args.input.now in
+    let none : length input ≡ 0 = search (rules, tests) in
+    run_done (turn_first c.start.ensures) (no_lines input none) c.printed.ensures
+
+pub loop-line-init : goal.loop-line-init
+loop-line-init c =
     let kept = c.start.auto in (
       turn_first c.start.ensures,
       record {
@@ -22,19 +31,20 @@ loop-i-init c =
       refl,
     )
 
-pub slice_bounds-run_line-end-in-loop-i-3 : goal.slice_bounds-run_line-end-in-loop-i-3
-slice_bounds-run_line-end-in-loop-i-3 c = let input = c.args.input.now in
-    (place_within 10 input c.loop-i.i c.line_end-e.result (omega arith) c.line_end-e.ensures).1
+pub run_line-n-requires-clause-sheet_store : goal.run_line-n-requires-clause-sheet_store
+run_line-n-requires-clause-sheet_store c = c.loop-line.invariant.0.store
 
-pub loop-i-preserved : goal.loop-i-preserved
-loop-i-preserved c =
+pub loop-line-preserved : goal.loop-line-preserved
+loop-line-preserved c =
+    let input = c.args.input.now in
+    let l = c.loop-line in
+    let of = c.split-line-items.ensures in
+    let some : 0 < length input = search (rules, tests) in
+    let here = line_here input c.cut.result.now c.cut.ensures some l.yielded _ l.yielded_by c.into_iter-line-iterator.ensures.into_iter_gives of.rest of.done of.closure
+    (λ x r q k. search (rules, tests)) _ _ c.in-Some.line c.in-Some.is c.next.ensures.steps in
     let kept = c.run_line-n.auto in
-    let more = c.loop-i-test.true in
-    let turn = c.loop-i.invariant in
-    let long = turn.1 in
-    let printed = c.put.ensures.text in
-    let next = turn_next turn.0 c.line_end-e.result more c.line_end-e.ensures c.run_line-n.ensures c.next_start-i.ensures printed c.put_byte.ensures.text in (
-      next,
+    let long = l.invariant.1 in (
+      turn_next l.invariant.0 here c.run_line-n.ensures (length-append l.yielded (c.in-Some.line ∷ [])) c.put.ensures.text c.put_byte.ensures.text,
       record {
         memory = omega (arith, kept.memory, long.memory);
         head = omega (arith, kept.h, long.head);
@@ -47,5 +57,10 @@ loop-i-preserved c =
 
 pub returns : goal.returns
 returns c =
-    let said = run_done c.loop-i.invariant.0 (omega arith) c.printed.ensures in
+    let l = c.loop-line in
+    let of = c.split-line-items.ensures in
+    let some : 0 < length c.args.input.now = search (rules, tests) in
+    let end = lines_over c.args.input.now c.cut.result.now c.cut.ensures some l.yielded _ l.yielded_by c.into_iter-line-iterator.ensures.into_iter_gives of.rest of.done of.closure
+    (λ x r q k. search (rules, tests)) _ _ c.in-None.is c.next.ensures.steps in
+    let said = run_done l.invariant.0 (omega (arith, end)) c.printed-2.ensures in
     search (rules, said)

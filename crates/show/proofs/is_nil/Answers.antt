@@ -5,4 +5,4 @@ use Rattle.walk.proofs.Answers.{nil_is}
 use Rattle.show.proofs.is_nil.Goals as goal
 
 pub returns : goal.returns
-returns c = (nil_is c.find-root.ensures.0 c.idx.ensures refl refl c.nil_at.ensures, c.find-root.ensures.1, c.find-root.ensures.2)
+returns c = (nil_is c.find-root.ensures.0 c.idx.ensures refl refl c.nil_at.ensures, c.find-root.ensures.1)

@@ -5,4 +5,4 @@ use Rattle.states.proofs.open_names.Goals as goal
 
 pub returns : goal.returns
 returns c =
-    open_became c.args.bs.now c.args.nodes c.args.children c.requires c.free_all.ensures
+    open_became c.args.bs.now c.args.room.nodes c.args.room.children c.requires c.free_all.ensures

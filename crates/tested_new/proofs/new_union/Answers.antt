@@ -4,10 +4,6 @@ use Rattle.scope.specs.Calls.{new_union_call}
 use Rattle.lent_kind.proofs.ListLaws.{union_row}
 use Rattle.tested_new.proofs.new_union.Goals as goal
 
-pub new_over-requires : goal.new_over-requires
-new_over-requires c = let l = c.args.env.now in
-    record { beside = l.beside; rule = l.texts.rule.now; text = l.texts.chart.now; tested = c.requires }
-
 pub returns : goal.returns
 unfolding new_union_call
 returns c = let l = c.args.env.now in

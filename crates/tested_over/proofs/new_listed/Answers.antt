@@ -16,11 +16,11 @@ pub overflow_cast-count : goal.overflow_cast-count
 overflow_cast-count c =
     omega (arith, list_few c.args.types.now c.requires)
 
-pub push-requires : goal.push-requires
-push-requires c =
+pub push_kind-requires : goal.push_kind-requires
+push_kind-requires c =
     list_pushable c.args.types.now c.requires
 
 pub returns : goal.returns
 returns c =
     list_made c.args.types.now c.requires c.children_made-first.ensures c.put_listed.ensures c.put_listed.auto.ks
-    refl c.push.ensures
+    refl c.push_kind.ensures

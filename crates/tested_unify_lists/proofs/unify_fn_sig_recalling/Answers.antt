@@ -13,9 +13,9 @@ returns-in_err-signatures c =
 pub unify_fn_sig-requires : goal.unify_fn_sig-requires
 unify_fn_sig-requires c =
     let p = passed {l = c.args.env.now} c.requires c.read_header-x.ensures in
-    signatures_ask (lent_words p) c.begin.ensures _ _ _ _ c.in_ok-signatures.ensures
+    rw c.begin-fixed.ensures.fixed (signatures_ask (lent_words p) c.begin-fixed.ensures.begun _ _ _ _ c.in_ok-signatures.ensures)
 
 pub returns : goal.returns
 returns c =
     let p = passed {l = c.args.env.now} c.requires c.read_header-x.ensures in
-    unify_done p (signatures_form _ _ _ _) c.in_ok-signatures.ensures c.unify_fn_sig.auto.ws c.unify_fn_sig.ensures.leaves
+    unify_done p (signatures_form _ _ _ _) c.in_ok-signatures.ensures c.unify_fn_sig.auto.ws (rw c.begin-fixed.ensures.fixed at c.unify_fn_sig.ensures.leaves)

@@ -14,10 +14,11 @@ returns-in_err-objects c =
 pub unify_entries-requires : goal.unify_entries-requires
 unify_entries-requires c =
     let p = passed {l = c.args.env.now} c.requires c.read_header-x.ensures in
-    objects_ask (lent_words p) c.begin.ensures (texts_lent c.args.env.now) c.args.xs.now c.args.ys.now c.in_ok-objects.ensures c.args.inv
+    rw c.begin-fixed.ensures.fixed (objects_ask (lent_words p) c.begin-fixed.ensures.begun (texts_lent c.args.env.now) c.args.xs.now c.args.ys.now c.in_ok-objects.ensures c.args.inv)
 
 pub returns : goal.returns
 returns c =
     let p = passed {l = c.args.env.now} c.requires c.read_header-x.ensures in
     unify_done p (objects_form _ _ _) (objects_beside c.args.env.now _ _ c.in_ok-objects.ensures) c.unify_entries.auto.ws
-    (objects_leave (lent_words p) c.begin.ensures (texts_lent c.args.env.now) c.args.xs.now c.args.ys.now c.in_ok-objects.ensures c.args.inv.0 c.unify_entries.ensures.leaves)
+    (objects_leave (lent_words p) c.begin-fixed.ensures.begun (texts_lent c.args.env.now) c.args.xs.now c.args.ys.now c.in_ok-objects.ensures c.args.inv.0
+    (rw c.begin-fixed.ensures.fixed at c.unify_entries.ensures.leaves))

@@ -13,9 +13,9 @@ returns-in_err-lists c =
 pub unify_lists-requires : goal.unify_lists-requires
 unify_lists-requires c =
     let p = passed {l = c.args.env.now} c.requires c.read_header-x.ensures in
-    lists_ask (lent_words p) c.begin.ensures _ _ _ c.in_ok-lists.ensures
+    rw c.begin-fixed.ensures.fixed (lists_ask (lent_words p) c.begin-fixed.ensures.begun _ _ _ c.in_ok-lists.ensures)
 
 pub returns : goal.returns
 returns c =
     let p = passed {l = c.args.env.now} c.requires c.read_header-x.ensures in
-    unify_done p (types_form _ _ _) c.in_ok-lists.ensures c.unify_lists.auto.ws c.unify_lists.ensures.leaves
+    unify_done p (types_form _ _ _) c.in_ok-lists.ensures c.unify_lists.auto.ws (rw c.begin-fixed.ensures.fixed at c.unify_lists.ensures.leaves)

@@ -1,7 +1,7 @@
 -- `unify::unify` meets its contract: what needs no walk is done at once, and anything else is `unify_pair`'s.
 -- Assumes nothing.
 use Rattle.unify_enter.proofs.Laws.{no_depth}
-use Rattle.unify.proofs.QuickLaws.{quick_adds, small_merged}
+use Rattle.unify_enter.proofs.QuickLaws.{quick_adds, small_merged}
 use Rattle.unify.proofs.unify.Goals as goal
 
 pub returns-then-depth-eq0 : goal.returns-then-depth-eq0

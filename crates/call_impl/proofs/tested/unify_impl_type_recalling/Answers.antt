@@ -13,9 +13,9 @@ returns-in_err-impls c =
 pub unify_impl_type-requires : goal.unify_impl_type-requires
 unify_impl_type-requires c =
     let p = passed {l = c.args.env.now} c.requires c.read_header-x.ensures in
-    impls_ask (lent_words p) c.begin.ensures _ _ _ c.in_ok-impls.ensures
+    rw c.begin-fixed.ensures.fixed (impls_ask (lent_words p) c.begin-fixed.ensures.begun _ _ _ c.in_ok-impls.ensures)
 
 pub returns : goal.returns
 returns c =
     let p = passed {l = c.args.env.now} c.requires c.read_header-x.ensures in
-    unify_done p (impls_form _ _) (impls_beside c.args.env.now _ _ c.in_ok-impls.ensures) c.unify_impl_type.auto.ws c.unify_impl_type.ensures.leaves
+    unify_done p (impls_form _ _) (impls_beside c.args.env.now _ _ c.in_ok-impls.ensures) c.unify_impl_type.auto.ws (rw c.begin-fixed.ensures.fixed at c.unify_impl_type.ensures.leaves)

@@ -12,9 +12,9 @@ returns-in_err-pair c =
 pub unify_all-requires : goal.unify_all-requires
 unify_all-requires c =
     let p = passed {l = c.args.env.now} c.requires c.read_header-x.ensures in
-    pair_asks (lent_words p) c.begin.ensures _ _ c.in_ok-pair.ensures
+    rw c.begin-fixed.ensures.fixed (pair_asks (lent_words p) c.begin-fixed.ensures.begun _ _ c.in_ok-pair.ensures)
 
 pub returns : goal.returns
 returns c =
     let p = passed {l = c.args.env.now} c.requires c.read_header-x.ensures in
-    unify_done p (unify_form _ _) c.in_ok-pair.ensures c.unify_all.auto.ws c.unify_all.ensures.leaves
+    unify_done p (unify_form _ _) c.in_ok-pair.ensures c.unify_all.auto.ws (rw c.begin-fixed.ensures.fixed at c.unify_all.ensures.leaves)

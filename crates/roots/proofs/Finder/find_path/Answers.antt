@@ -9,4 +9,4 @@ top-requires c = rw c.idx-i.ensures (idx_below c.args.t.0)
 
 pub returns : goal.returns
 returns c =
-    (found_flip c.args.t c.idx-i.ensures c.inv.ensures (c.top.ensures.told _ c.in-Some.is) c.invert_if.ensures, c.keep_path.ensures.0, c.keep_path.ensures.1)
+    (found_flip c.args.t c.idx-i.ensures c.inv.ensures (c.top.ensures.told _ c.in-Some.is) c.invert_if.ensures, c.keep_path.ensures)

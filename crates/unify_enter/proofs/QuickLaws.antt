@@ -11,7 +11,8 @@ use Rattle.scope.specs.Names.{Texts}
 use Rattle.scope.specs.Types.{Ty}
 use Rattle.scope.specs.Nodes.{Node, at, is_root}
 use Rattle.scope.specs.Answers as answers
-use Rattle.scope.specs.Unify.{out, bound, unify_f}
+use Rattle.scope.specs.Unify.{Out, out, bound, unify_f}
+use Rattle.types.specs.Answers.{answer_of}
 use Rattle.types.specs.declared.UnifyResult.{UnifyResult}
 use Rattle.types.specs.declared.UnifyResult.TheVariants.{Success}
 use Rattle.layout.specs.Words.{decode}
@@ -19,13 +20,13 @@ use Rattle.recall.specs.Memory.{Tidy, Forgot}
 use Rattle.merge.specs.Meaning.{Adds}
 use Rattle.merge.specs.Quick.{bare_node, lone_node, nil_node, Quick, OneNil}
 use Rattle.heed.specs.Told.{Moved, QuickTold, SmallTold}
-use Rattle.heed.proofs.Laws.{since_same, recalls_moved, marks_kept, moved_forgot}
-use Rattle.meeting.specs.Asks.{Pair}
-use Rattle.unify_enter.proofs.walks.Laws.{unify_roots}
+use Rattle.heed.proofs.Laws.{SelfsKept, since_same, recalls_moved, marks_kept, moved_forgot}
+use Rattle.meeting.specs.Asks.{SoundWords, Pair}
+use Rattle.unify_enter.proofs.walks.Laws.{by_words, below, unify_roots}
 use Rattle.unify_enter.proofs.walks.SmallLaws.{lone_root, lone_bind, lone_apart, lone_kinds, nil_root, nil_meet}
-use Rattle.unify.specs.Asked.{Asked, Unified}
+use Rattle.unify_enter.specs.Asked.{Asked, Unified}
 use Rattle.unify_enter.proofs.Laws.{words_add, asked_pair}
-use Rattle.unify.proofs.Laws.{words_selfs}
+use Rattle.unify_enter.proofs.walks.Kept.{pair_selfs}
 
 -- at any depth
 
@@ -41,6 +42,14 @@ module _ (n : ℕ) (ns : List Node) (a b : Ty) (h : 0 < n) where
   nil_unify d f x m e =
       let g = nil_root (at ns a.idx) f in
       unify_roots x n m ns a b e g (subst (λ (i : ℕ). is_root (at ns i) ≡ true) d g) ∙ nil_meet n ns a b h d f (unify_f x n (m - 1)) x
+
+-- roots that are their own inverses stay so
+words_selfs : {x : Texts} {ws ks : List ℕ} {n : ℕ} → SoundWords x ws ks n → (d : ℕ) (p q : Ty) (ws' : List ℕ) (s : UnifyResult) → p.idx < n → q.idx < n
+    → unify_f x n d (decode ws ks n) p q ≡ out (decode ws' ks n) (answer_of s) → SelfsKept (decode ws ks n) (decode ws' ks n)
+words_selfs {x} {ws} {ks} {n} w d p q ws' s hp hq e =
+    let ns : List Node = decode ws ks n in
+    subst (λ (o : Out). SelfsKept ns o.nodes) e
+    (by_words w (λ y m. SelfsKept ns (unify_f y m d ns p q).nodes) (pair_selfs w.env w.sound d p q (below w hp) (below w hq)))
 
 -- what `quick` asks, and what it leaves
 
@@ -81,23 +90,23 @@ nothing_done {x} {ws} {ks} {m} {n} {d} {p} {q} w e o =
       since = since_same;
     }
 
-module _ {x : Texts} {ws ks m ws' m' : List ℕ} {n d : ℕ} {p q : Ty} {r : Bool} where
-  pub quick_merged : Asked x ws ks m n d ((p, q) ∷ []) → QuickTold ws ws' n m m' p q d r → r ≡ true
+module _ {x : Texts} {ws ks m ws' m' : List ℕ} {n : ℕ} {p q : Ty} {r : Bool} where
+  pub quick_merged : {d : ℕ} → Asked x ws ks m n d ((p, q) ∷ []) → (d ≡ 0 → ⊥) → QuickTold ws ws' n m m' p q r → r ≡ true
       → Unified x ws ks m ws' m' n (unify_f x n d (decode ws ks n) p q) Success
-  quick_merged w t e = merges w (t.deep e) (t.merged e) (t.forgot e)
+  quick_merged w h t e = merges w h (t.merged e) (t.forgot e)
 
-  pub quick_asked : {ps : List (Ty × Ty)} → Asked x ws ks m n d ps → QuickTold ws ws' n m m' p q d r → r ≡ false → Asked x ws' ks m' n d ps
+  pub quick_asked : {d : ℕ} {ps : List (Ty × Ty)} → Asked x ws ks m n d ps → QuickTold ws ws' n m m' p q r → r ≡ false → Asked x ws' ks m' n d ps
   quick_asked w t e = rw (t.words e, t.memory e) w
 
-  pub quick_not : {ws₂ m₂ : List ℕ} {s : UnifyResult} → QuickTold ws ws' n m m' p q d r → r ≡ false
+  pub quick_not : (d : ℕ) {ws₂ m₂ : List ℕ} {s : UnifyResult} → QuickTold ws ws' n m m' p q r → r ≡ false
       → Unified x ws' ks m' ws₂ m₂ n (unify_f x n d (decode ws' ks n) p q) s → Unified x ws ks m ws₂ m₂ n (unify_f x n d (decode ws ks n) p q) s
-  quick_not t e u = rw (← t.words e, ← t.memory e) u
+  quick_not d t e u = rw (← t.words e, ← t.memory e) u
 
   -- `small`
 
-  pub small_merged : Asked x ws ks m n d ((p, q) ∷ []) → (d ≡ 0 → ⊥) → SmallTold ws ws' n m m' p q r → r ≡ true
+  pub small_merged : {d : ℕ} → Asked x ws ks m n d ((p, q) ∷ []) → (d ≡ 0 → ⊥) → SmallTold ws ws' n m m' p q r → r ≡ true
       → Unified x ws ks m ws' m' n (unify_f x n d (decode ws ks n) p q) Success
-  small_merged w h t e = go (t.done e)
+  small_merged {d} w h t e = go (t.done e)
     where
       go : (Quick ws ws' n p q × Forgot m m') ⊎ (OneNil ws n p q true × ((ws' ≡ ws) × (m' ≡ m)))
           → Unified x ws ks m ws' m' n (unify_f x n d (decode ws ks n) p q) Success
