@@ -2,7 +2,7 @@
 // A type copied out of one store into another, with all below it: "Each source root becomes a new Unknown before its children are walked, then takes
 // its kind." A table with a number for each node of the source says which roots have a copy, and a cache keeps the roots found. Nothing here can fail:
 // what is asked for is room.
-// Kept (5): the table goes beside the destination's three slices here and in `copy_lists`; why those are no struct, `promise` says.
+// Kept (5): the table goes beside the destination's three slices here, in `copy_parts` and in `copy_lists`; why those are no struct, `promise` says.
 ghost use Rattle.scope.specs.Types.{ty_of};
 ghost use Rattle.roots.specs.StaysLent.{StaysLent};
 ghost use Rattle.copy_parts.specs.Places.{params_in};

@@ -1,7 +1,7 @@
 #![tactic(auto)]
 // "An Unknown becomes InferenceFailed, its span is in the answer"; the report count rises. And what gives every root a kind at the end.
 // Each does what scope's definition says of the store that three lent slices hold.
-// Kept (5): that the three slices are clean is asked by four; why they are no struct, `promise` says.
+// Kept (5): that the three slices are clean is asked by four here; why they are no struct, `promise` says.
 ghost use Rattle.std.specs.Prelude.{◌≡◌, true, ◌≤◌, length};
 ghost use Rattle.scope.specs.Force.{report, finish_inference, finish_where};
 ghost use Rattle.layout.specs.Words.{node_words, clean};

@@ -55,8 +55,8 @@ fn parameter_names_fit(k: Kind, n: u32, ks: &[u32], texts: &Texts<'_>) -> bool
 }
 
 // The names that the kind's row asks for. Each child is read, so a caller tests the width first, as can_be_made does; kids_inside likewise.
-// Kept (5): a kind goes beside the words where its children lie, here and in `clean`, `node_sound`, `call_read`, `show_names`, `show_parts` and `run_text`. Who calls has the kind of a
-// node or of a caller's numbers, and the words of a store or of a lent list; a struct of both would be made at each call, to be taken apart there.
+// Kept (5): a kind goes beside the words where its children lie, here and in `clean`, `node_sound`, `make`, `call_read`, `show_names`, `show_parts` and `run_text`. Each caller has the kind
+// of a node or of a caller's numbers, and the words of a store or of a lent list: a struct of both would be made at each such call, for one or two reads of it here.
 pub fn names_fit(k: Kind, ks: &[u32], texts: &Texts<'_>) -> bool
     ensures { result ≡ names_ok (texts_by texts.now) (row_of k.code).names (kind_means ks.now k).head.names k.count }
 {

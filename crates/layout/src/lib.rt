@@ -1,7 +1,7 @@
 #![tactic(auto)]
 // A store in three lent slices of numbers: where each number lies, and how a node, a child and the header are read and written.
-// Above this crate nobody opens a word but `heads`, `clean`, which tests words, and `merge`, which writes a size among a node's first three; `make` and `keep` copy words
-// as they lie. The others use these functions and the laws of proofs/.
+// Above this crate nobody opens a word but `heads`, `clean`, which tests words, and `merge`, which writes a node's first three; `make` and `keep` copy words as they lie, and `make`
+// clears them. The others use these functions and the laws of proofs/.
 mod encoding;
 
 ghost use Rattle.std.specs.Prelude.{◌≡◌, ◌+◌, ◌*◌, ◌≤◌, length};

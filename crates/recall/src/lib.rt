@@ -50,7 +50,7 @@ fn clear(m: &mut [u32])
 }
 
 // So many visits more. After the last that is waited for the entries are cleared and the clock starts, if there is room for an entry.
-// Kept (5): that a memory is tidy is asked by four here and by three of `heed`. Tried as a struct that keeps it, with these as methods, in nine of the crates that lend a memory,
+// Kept (5): that a memory is tidy is asked by four here and by three of `heed`. Tried as a struct that keeps it, with these as methods, in the crates that lend a memory,
 // and proved; but nobody says of a struct's part that it is the same slice and as long, as `&mut [u32]` does, so that some twenty contracts would, and the smallest unifies took 1
 // to 3 ns more.
 pub fn visited(m: &mut [u32], more: u32)
@@ -96,8 +96,8 @@ fn slot(count: usize, n: u32, a: Type, b: Type) -> usize
     (code(a) * row + code(b)) % count
 }
 
-// Kept (5): a pair goes beside how many nodes there are, which is within the limit, in five functions here. `heed` and `unify_enter` have all three as parameters, so that a struct
-// of them would be made at each call of one of these, to be taken apart there.
+// Kept (5): a pair goes beside how many nodes there are, which is within the limit, in five functions here. `heed` has the three as parameters, and `unify_enter` the pair, with the
+// number in what is fixed: a struct of them would be made at each call of one of these, to be taken apart there.
 fn spot_of(m: &[u32], n: u32, a: Type, b: Type) -> Option<usize>
     requires { n ≤ «MAX_NODES» }
     ensures { Placed m.now n (ty_of a.0) (ty_of b.0) result }

@@ -14,7 +14,7 @@ use refusals::Refusal;
 use types::{Type, UnifyResult};
 
 // "A refusal prints as `refused 3`."
-// Kept (5): that a text has room is asked by four; why the buffer is no array, `sheet_calls` says.
+// Kept (5): that a text has room is asked by four here, and by those above; why the buffer is no array, `sheet_calls` says.
 pub fn put_number(buf: &mut [u8], n: u32) -> usize
     requires { SHEET_TEXT ≤ length buf.old }
     ensures { Front buf.old buf.new result (refused_text n) }

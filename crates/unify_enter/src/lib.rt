@@ -30,8 +30,8 @@ pub enum Entered {
     Kids(Steps, u32, Type, Type),
 }
 
-// What walks is the module `walks`: two roots of which one has no kind at once, others once both roots are found and have met. A pair of roots with children is looked up in
-// the memory here.
+// Two roots without kinds merge at once. What walks is the module `walks`: two roots of which one alone has no kind, at once, and others once both roots are found and have met.
+// A pair of roots with children is looked up in the memory here.
 pub fn enter(
     ws: &mut [u32],
     fixed: &Fixed<'_>,
