@@ -73,7 +73,8 @@ pub fn unify_pair(
     }
 }
 
-// Two runs of children: "no pair is skipped after a Failure", and "Runs of different length answer Failure and unify nothing".
+// Two runs of children: "no pair is skipped after a Failure", and "Runs of different length answer Failure and unify nothing". Two roots without kinds merge here at once, and
+// so in `unify_objects`: wide runs have many such pairs, and `unify_pair`'s frame for each, with what `enter` looks at, costs more than the merge.
 #[cycle(unify_objects_unify_pair_unify_types)]
 pub fn unify_types(
     ws: &mut [u32],
@@ -95,6 +96,9 @@ pub fn unify_types(
     for i in 0..s.na {
         let x = layout::child_of(fixed.kids, s.a, i).ty;
         let y = layout::child_of(fixed.kids, s.b, i).ty.invert_if(s.inv);
+        if depth != 0 && heed::quick(ws, fixed.made, memory, x, y) {
+            continue;
+        }
         r = r.and(unify_pair(ws, fixed, memory, x, y, depth));
     }
     r
@@ -124,6 +128,9 @@ pub fn unify_objects(
             continue;
         };
         let u = t.invert_if(s.inv);
+        if depth != 0 && heed::quick(ws, fixed.made, memory, x.ty, u) {
+            continue;
+        }
         r = r.and(unify_pair(ws, fixed, memory, x.ty, u, depth));
     }
     r
