@@ -85,17 +85,17 @@ append_full buf at p full = record { keeps = keeps }
 
 -- the same through what is lent
 pub puts_then : {out out' out'' : Out} {p q : List ℕ} → Puts out out' p → Puts out' out'' q → Puts out out'' (p ++ q)
-puts_then a b = record { text = append_then a.text b.text; same = b.same ∙ a.same }
+puts_then a b = record { text = append_then a.text b.text; same = b.same ∙ a.same; long = b.long ∙ a.long }
 
 pub puts_none : (out : Out) → Puts out out []
-puts_none out = record { text = append_none out.buf.now out.at; same = refl }
+puts_none out = record { text = append_none out.buf.now out.at; same = refl; long = refl }
 
 pub puts_nothing : (out : Out) (p : List ℕ) → eqb (length p) 0 ≡ true → Puts out out p
 puts_nothing out [] h = puts_none out
 puts_nothing out (b ∷ p) h = absurd (omega (arith, eqb-true))
 
 pub puts_full : (out : Out) (p : List ℕ) → length out.buf.now < out.at → Puts out out p
-puts_full out p full = record { text = append_full out.buf.now out.at p full; same = refl }
+puts_full out p full = record { text = append_full out.buf.now out.at p full; same = refl; long = refl }
 
 -- n bytes of a piece copied over the k bytes from `at` on, which are as many and then are last
 pub part_copied : (buf : List ℕ) (at : ℕ) (piece : List ℕ) (n k : ℕ) (last : List ℕ) → k ≡ n → last ≡ take n piece → put_mid at k buf last ≡ paste buf at piece n

@@ -16,7 +16,8 @@ pub record SoFar (buf₀ buf : List ℕ) (at : ℕ) (bs : List ℕ) : Type 0 whe
 pub record Appended (buf : List ℕ) (at : ℕ) (buf' : List ℕ) (r : ℕ) (piece : List ℕ) : Type 0 where
   pub keeps : (buf₀ bs : List ℕ) → SoFar buf₀ buf at bs → SoFar buf₀ buf' r (bs ++ piece)
 
--- a piece is appended through what is lent, whose buffer stays the one that it was
+-- a piece is appended through what is lent, whose buffer stays the one that it was, and as long, wherever the text has come to
 pub record Puts (out out' : Out) (piece : List ℕ) : Type 0 where
   pub text : Appended out.buf.now out.at out'.buf.now out'.at piece
   pub same : out'.buf.ghost_name ≡ out.buf.ghost_name
+  pub long : length out'.buf.now ≡ length out.buf.now

@@ -88,15 +88,17 @@ fn bad_entries(xs: &[u32], env: &Env<'_>) -> bool
     !kind_sound::names_fit(object, xs, &env.texts)
 }
 
-// Two objects, by their entries.
+// Two objects, by their entries. No name is read where a type is outside.
 // Kept (2): `lists_among` asks the same of two lists by two other tests; one function for both would take the two tests as closures, with contracts of their own, for these three lines.
 pub fn objects(xs: &[u32], ys: &[u32], n: u32, env: &Env<'_>) -> Result<(), Refusal>
     ensures { FirstOf n
         (object_tests (texts_lent env.now) (entries_in xs.now) (entries_in ys.now)) (told result) }
 {
-    let outside = !refusals::entries_inside(xs, n) || !refusals::entries_inside(ys, n);
+    if !refusals::entries_inside(xs, n) || !refusals::entries_inside(ys, n) {
+        return Err(Refusal::Outside);
+    }
     let unmakeable = bad_entries(xs, env) || bad_entries(ys, env);
-    first(outside, unmakeable, false)
+    first(false, unmakeable, false)
 }
 
 // One impl type. "a definition is absent or of another sort": a trait's record stands at its number.

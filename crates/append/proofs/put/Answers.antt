@@ -30,6 +30,7 @@ returns-then-room-piece c =
           (laws.part_copied out.buf.now out.at piece n _ copy.new.self refl copy.ensures.after)
           (search rules);
       same = refl;
+      long = search rules;
     }
 
 pub returns : goal.returns
@@ -46,4 +47,5 @@ returns c =
           (laws.part_copied out.buf.now out.at piece n _ copy.new.self (omega arith) (copy.ensures.after ∙ whole))
           refl;
       same = refl;
+      long = search rules;
     }
