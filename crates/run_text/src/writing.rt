@@ -96,8 +96,13 @@ pub fn bool_answer<W: Write>(to: &mut W, a: Result<bool, Refusal>) -> io::Result
     })
 }
 
+// Each word goes with its newline, in one write.
 fn result<W: Write>(to: &mut W, r: UnifyResult) -> io::Result<()> {
-    writeln!(to, "{r:?}")
+    match r {
+        UnifyResult::Success => say(to, b"Success\n"),
+        UnifyResult::Failure => say(to, b"Failure\n"),
+        UnifyResult::Indeterminate => say(to, b"Indeterminate\n"),
+    }
 }
 
 pub fn unify_answer<W: Write>(to: &mut W, a: Result<UnifyResult, Refusal>) -> io::Result<()> {
@@ -120,9 +125,9 @@ fn type_or_none<W: Write>(to: &mut W, t: Option<Type>) -> io::Result<()> {
 }
 
 pub fn child_answer<W: Write>(to: &mut W, a: Result<Option<Type>, Refusal>) -> io::Result<()> {
-    answer(to, a, |to, kid| {
-        type_or_none(to, kid)?;
-        line(to)
+    answer(to, a, |to, kid| match kid {
+        Some(t) => writeln!(to, "{t}"),
+        None => say(to, b"none\n"),
     })
 }
 
@@ -205,15 +210,20 @@ pub fn node_answer<W: Write>(
     ks: &[u32],
     env: &Env<'_>,
 ) -> io::Result<()> {
-    answer(to, a, |to, node| {
-        match node {
-            TypeNode::Root { state: s, size } => {
-                root(to, size)?;
-                state(to, ks, s, env)?;
-            }
-            TypeNode::Child(t) => write!(to, "child {t}")?,
+    answer(to, a, |to, node| match node {
+        TypeNode::Root {
+            state: TypeState::InferenceFailed,
+            size,
+        } => {
+            root(to, size)?;
+            say(to, b"failed\n")
         }
-        line(to)
+        TypeNode::Root { state: s, size } => {
+            root(to, size)?;
+            state(to, ks, s, env)?;
+            line(to)
+        }
+        TypeNode::Child(t) => writeln!(to, "child {t}"),
     })
 }
 
