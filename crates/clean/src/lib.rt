@@ -96,9 +96,7 @@ pub fn names_clean(ks: &[u32], k: Kind) -> bool
         && children_clean(false, ks, named, first + n)
 }
 
-// A Known node, with c children made. Of most such nodes `node_sound` knows more at once, so it stays out of the loop over all nodes.
-#[cold]
-#[inline(never)]
+// A Known node, with c children made.
 fn known_clean(ks: &[u32], c: u32, x: Cell) -> bool
     requires { x.tag ≡ KNOWN_TAG }
     ensures { result ≡ known_clean ks.now c x }

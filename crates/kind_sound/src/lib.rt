@@ -118,10 +118,7 @@ pub fn remembered_inside(t: Option<Type>, n: u32) -> bool
     t.is_none_or(|t| refusals::type_inside(t, n))
 }
 
-// No "kind that 4 or 5 would turn back", no "flag that isn't the chart's", no child outside the store. Of most kinds `node_sound` knows as much at once, so it stays
-// out of the loop over all nodes.
-#[cold]
-#[inline(never)]
+// No "kind that 4 or 5 would turn back", no "flag that isn't the chart's", no child outside the store.
 pub fn kind_sound(k: Kind, ks: &[u32], n: u32, env: &Env<'_>) -> bool
     ensures { (ns : List Node) → length ns ≡ n → result ≡ kind_sound (chart_lent env.now) ns (kind_means ks.now k) }
 {

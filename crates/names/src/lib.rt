@@ -64,10 +64,16 @@ pub fn same_bytes(a: &[u8], b: &[u8]) -> bool
 }
 
 // Byte by byte, unsigned, up to the first that differs; a prefix comes first.
+// Kept (4): by the slices' `<` a byte takes twice the instructions, and by a `for` over `zip` a third more. An object's names are compared in each test of its store.
 pub fn before(a: &[u8], b: &[u8]) -> bool
     ensures { result ≡ lt_bytes a.now b.now }
 {
-    a < b
+    for i in 0..a.len().min(b.len()) {
+        if a[i] != b[i] {
+            return a[i] < b[i];
+        }
+    }
+    a.len() < b.len()
 }
 
 pub fn same_name(a: Name, b: Name, texts: &Texts<'_>) -> bool
