@@ -69,24 +69,32 @@ pub fn reset(h: &mut [u32], ws: &mut [u32], ks: &mut [u32])
     layout::write_header(h, no_nodes(x.node_room, x.child_room, x.reports));
 }
 
-// One root more of a kind, with its children counted.
+// One root more, with `added` children counted.
+pub fn push(h: &mut [u32], ws: &mut [u32], added: u32, state: TypeState) -> Type
+    requires { Pushable h.old ws.old (header_in h.old) added }
+    ensures { Pushed h.old ws.old h.new ws.new (header_in h.old) added
+        (header_in h.old).error (header_in h.old).nil state result }
+{
+    let n = heads::nodes_made(h);
+    let root = TypeNode::Root { state, size: 1 };
+    layout::put_node(ws, n + 1, TypeIdx(n), root);
+    let children = heads::children_made(h);
+    heads::put_counts(h, n + 1, children + added);
+    Type(n)
+}
+
+// The same of a kind.
 pub fn push_kind(h: &mut [u32], ws: &mut [u32], k: Kind) -> Type
     requires { Pushable h.old ws.old (header_in h.old) k.count }
     ensures { Pushed h.old ws.old h.new ws.new (header_in h.old) k.count
         (header_in h.old).error (header_in h.old).nil (Known (record { 0 = false }) k) result }
 {
-    let n = heads::nodes_made(h);
-    let state = TypeState::Known(Inverted(false), k);
-    let root = TypeNode::Root { state, size: 1 };
-    layout::put_node(ws, n + 1, TypeIdx(n), root);
-    let children = heads::children_made(h);
-    heads::put_counts(h, n + 1, children + k.count);
-    Type(n)
+    push(h, ws, k.count, TypeState::Known(Inverted(false), k))
 }
 
-// The same for an Unknown: its slot is not used yet, so three words say it. It is what a copy is until it takes its kind: `added` children are counted, and
+// One for an Unknown: its slot is not used yet, so three words say it. It is what a copy is until it takes its kind: `added` children are counted, and
 // their words are not written yet.
-// Kept (2): what it shares with `push_kind`, the two counts and the type, is three lines; as a function of their own they would want a contract and laws besides `Pushed`.
+// Kept (2): what it shares with `push`, the two counts and the type, is three lines; as a function of their own they would want a contract and laws besides `Pushed`.
 pub fn push_unknown(h: &mut [u32], ws: &mut [u32], span: u32, added: u32) -> Type
     requires { BlankReady h.old ws.old added }
     ensures { Pushed h.old ws.old h.new ws.new (header_in h.old) added

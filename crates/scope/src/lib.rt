@@ -17,6 +17,8 @@ pub const MAX_NAME: usize = 255;
 
 pub const NONE: u32 = 4294967295;
 
+pub const MAX_REPORTS: u64 = 18446744073709551615;
+
 pub const MAX_STATES: usize = 8;
 
 pub const MAX_STATE_NAME: usize = 255;

@@ -1,9 +1,9 @@
--- `make::push_kind` meets its contract. The node is put behind the others, and the counts are written alone.
+-- `make::push` meets its contract. The node is put behind the others, and the counts are written alone.
 -- Assumes nothing.
 use mathlib.Core.Path.{refl}
 use borrow.Author.Rules.{rules}
 use Rattle.make.proofs.MakeLaws.{counted_push}
-use Rattle.make.proofs.push_kind.Goals as goal
+use Rattle.make.proofs.push.Goals as goal
 
 pub returns : goal.returns
 returns c =
