@@ -2,14 +2,15 @@
 // What a caller in another language gives and gets, as numbers. A type is its word; a public call answers a value's number, which is below 4,294,967,296, or
 // the sum of 4,294,967,296 and a refusal's number.
 ghost use Rattle.std.specs.Prelude.{◌≡◌, true, ◌+◌, ◌<◌, MatchResult};
+ghost use Rattle.scope.specs.Limits.{«SIGILS»};
 ghost use Rattle.refusals.specs.Codes.{number, told};
 ghost use Rattle.promise.specs.Promise.{type_reply, bool_reply, done_reply};
 ghost use Rattle.promise.specs.Prints.{count_reply};
 ghost use Rattle.call_unify.specs.Answers.{unify_reply};
 ghost use Rattle.c_words.specs.Numbers.{«REFUSED», type_in, done_in, bool_in, unify_in, count_in, count_low, refusal_in, counted};
-ghost use Rattle.c_words.specs.Given.{env_of, set_in, list_if, inverted_in, impl_in, kind_args_in};
+ghost use Rattle.c_words.specs.Given.{sigil_in, env_of, set_in, list_if, inverted_in, impl_in, kind_args_in};
 
-use chart::{Beside, Env, SIGILS};
+use chart::{Beside, Env};
 use lent_kind::KindArgs;
 use names::{Name, Texts};
 use refusals::Refusal;
@@ -22,11 +23,26 @@ pub const REFUSED: u64 = 4_294_967_296;
 // The longest text that a length below that can tell.
 const LONGEST: usize = 4_294_967_295;
 
-// What every call reads: the chart's words, the number of the builtin fn trait and the four sigils, which C lends as twelve words in a row, and the two texts.
+// A Flex's sigil: its text, where it starts there and how long it is are three words of the twelve.
+// Kept (6): C lends the four sigils as words, which become names here. A reference to four `Name`s would cross as the same twelve words, but then no contract would say
+// which word is which: the order of that struct's fields alone would.
+fn sigil_of(words: &[u32; 12], flex: usize) -> Name
+    requires { flex < «SIGILS» }
+    ensures { result ≡ sigil_in words.now flex }
+{
+    let at = flex * 3;
+    Name {
+        text: words[at],
+        start: words[at + 1],
+        len: words[at + 2],
+    }
+}
+
+// What every call reads: the chart's words, the number of the builtin fn trait and the twelve words of the four sigils, and the two texts.
 pub fn env_of<'a>(
     chart: &'a [u32],
     fn_trait: u32,
-    sigils: &[Name; SIGILS],
+    sigils: &[u32; 12],
     rule: &'a [u8],
     text: &'a [u8],
 ) -> Env<'a>
@@ -36,7 +52,12 @@ pub fn env_of<'a>(
         chart,
         beside: Beside {
             fn_trait,
-            sigils: *sigils,
+            sigils: [
+                sigil_of(sigils, 0),
+                sigil_of(sigils, 1),
+                sigil_of(sigils, 2),
+                sigil_of(sigils, 3),
+            ],
         },
         texts: Texts { rule, chart: text },
     }

@@ -8,8 +8,6 @@ ghost use Rattle.c_words.specs.Numbers.{done_in};
 ghost use Rattle.c_words.specs.Given.{lent_env};
 ghost use Rattle.c_outs.specs.Outs.{forced_in, forced_out, Tells};
 
-use chart::SIGILS;
-use names::Name;
 use types::Type;
 
 // "A Known gives its kind and its inversion combined with the type's." "An Unknown becomes InferenceFailed, its span is in the answer"; the report count rises.
@@ -17,7 +15,7 @@ use types::Type;
 pub extern "C" fn faroalder_force_kind<'a>(
     chart: &[u32],
     fn_trait: u32,
-    sigils: &[Name; SIGILS],
+    sigils: &[u32; 12],
     rule: &'a [u8],
     text: &'a [u8],
     h: &mut [u32],
@@ -39,7 +37,7 @@ pub extern "C" fn faroalder_force_kind<'a>(
 pub extern "C" fn faroalder_finish_inference<'a>(
     chart: &[u32],
     fn_trait: u32,
-    sigils: &[Name; SIGILS],
+    sigils: &[u32; 12],
     rule: &'a [u8],
     text: &'a [u8],
     h: &[u32],
@@ -59,7 +57,7 @@ pub extern "C" fn faroalder_finish_inference<'a>(
 pub extern "C" fn faroalder_finish_inference_where<'a>(
     chart: &[u32],
     fn_trait: u32,
-    sigils: &[Name; SIGILS],
+    sigils: &[u32; 12],
     rule: &'a [u8],
     text: &'a [u8],
     h: &[u32],

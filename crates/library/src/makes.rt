@@ -9,15 +9,12 @@ ghost use Rattle.promise.specs.Lists.{ListPromised};
 ghost use Rattle.c_words.specs.Numbers.{type_in, done_in, Says};
 ghost use Rattle.c_words.specs.Given.{kind_args_in, lent_env};
 
-use chart::SIGILS;
-use names::Name;
-
 // "`new_var`": a type without a kind, and its span.
 #[unsafe(no_mangle)]
 pub extern "C" fn faroalder_new_var<'a>(
     chart: &[u32],
     fn_trait: u32,
-    sigils: &[Name; SIGILS],
+    sigils: &[u32; 12],
     rule: &'a [u8],
     text: &'a [u8],
     h: &mut [u32],
@@ -38,7 +35,7 @@ pub extern "C" fn faroalder_new_var<'a>(
 pub extern "C" fn faroalder_new_vars<'a>(
     chart: &[u32],
     fn_trait: u32,
-    sigils: &[Name; SIGILS],
+    sigils: &[u32; 12],
     rule: &'a [u8],
     text: &'a [u8],
     h: &mut [u32],
@@ -63,7 +60,7 @@ pub extern "C" fn faroalder_new_vars<'a>(
 pub extern "C" fn faroalder_error<'a>(
     chart: &[u32],
     fn_trait: u32,
-    sigils: &[Name; SIGILS],
+    sigils: &[u32; 12],
     rule: &'a [u8],
     text: &'a [u8],
     h: &mut [u32],
@@ -83,7 +80,7 @@ pub extern "C" fn faroalder_error<'a>(
 pub extern "C" fn faroalder_nil<'a>(
     chart: &[u32],
     fn_trait: u32,
-    sigils: &[Name; SIGILS],
+    sigils: &[u32; 12],
     rule: &'a [u8],
     text: &'a [u8],
     h: &mut [u32],
@@ -103,7 +100,7 @@ pub extern "C" fn faroalder_nil<'a>(
 pub extern "C" fn faroalder_new<'a>(
     chart: &[u32],
     fn_trait: u32,
-    sigils: &[Name; SIGILS],
+    sigils: &[u32; 12],
     rule: &'a [u8],
     text: &'a [u8],
     h: &mut [u32],
@@ -132,7 +129,7 @@ pub extern "C" fn faroalder_new<'a>(
 pub extern "C" fn faroalder_new_struct<'a>(
     chart: &[u32],
     fn_trait: u32,
-    sigils: &[Name; SIGILS],
+    sigils: &[u32; 12],
     rule: &'a [u8],
     text: &'a [u8],
     h: &mut [u32],
@@ -155,7 +152,7 @@ pub extern "C" fn faroalder_new_struct<'a>(
 pub extern "C" fn faroalder_new_union<'a>(
     chart: &[u32],
     fn_trait: u32,
-    sigils: &[Name; SIGILS],
+    sigils: &[u32; 12],
     rule: &'a [u8],
     text: &'a [u8],
     h: &mut [u32],

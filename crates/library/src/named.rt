@@ -6,15 +6,12 @@ ghost use Rattle.call_states.specs.Promise.{NamesPromised};
 ghost use Rattle.c_words.specs.Numbers.{done_in};
 ghost use Rattle.c_words.specs.Given.{lent_env};
 
-use chart::SIGILS;
-use names::Name;
-
 // "Let a planner name the present state": 12 where the name has a wrong length, 13 where it is not held and no place is free.
 #[unsafe(no_mangle)]
 pub extern "C" fn faroalder_name_state<'a>(
     chart: &[u32],
     fn_trait: u32,
-    sigils: &[Name; SIGILS],
+    sigils: &[u32; 12],
     rule: &'a [u8],
     text: &'a [u8],
     h: &[u32],
@@ -38,7 +35,7 @@ pub extern "C" fn faroalder_name_state<'a>(
 pub extern "C" fn faroalder_return_to<'a>(
     chart: &[u32],
     fn_trait: u32,
-    sigils: &[Name; SIGILS],
+    sigils: &[u32; 12],
     rule: &'a [u8],
     text: &'a [u8],
     h: &mut [u32],
@@ -62,7 +59,7 @@ pub extern "C" fn faroalder_return_to<'a>(
 pub extern "C" fn faroalder_drop_name<'a>(
     chart: &[u32],
     fn_trait: u32,
-    sigils: &[Name; SIGILS],
+    sigils: &[u32; 12],
     rule: &'a [u8],
     text: &'a [u8],
     h: &[u32],
@@ -86,7 +83,7 @@ pub extern "C" fn faroalder_drop_name<'a>(
 pub extern "C" fn faroalder_reset<'a>(
     chart: &[u32],
     fn_trait: u32,
-    sigils: &[Name; SIGILS],
+    sigils: &[u32; 12],
     rule: &'a [u8],
     text: &'a [u8],
     h: &mut [u32],

@@ -16,9 +16,8 @@ ghost use Rattle.c_words.specs.Numbers.{done_in, refusal_in};
 ghost use Rattle.c_words.specs.Given.{lent_env};
 
 use book::Room;
-use chart::{RECORD_WORDS, SIGILS};
+use chart::RECORD_WORDS;
 use layout::HEAD_WORDS;
-use names::Name;
 use records::Record;
 
 // The words that a store's header takes.
@@ -96,7 +95,7 @@ pub extern "C" fn faroalder_open(
 pub extern "C" fn faroalder_refusal<'a>(
     chart: &[u32],
     fn_trait: u32,
-    sigils: &[Name; SIGILS],
+    sigils: &[u32; 12],
     rule: &'a [u8],
     text: &'a [u8],
     h: &[u32],
@@ -126,7 +125,7 @@ pub extern "C" fn faroalder_open_names(bs: &mut [u32], nodes: u32, children: u32
 pub extern "C" fn faroalder_names_refusal<'a>(
     chart: &[u32],
     fn_trait: u32,
-    sigils: &[Name; SIGILS],
+    sigils: &[u32; 12],
     rule: &'a [u8],
     text: &'a [u8],
     h: &[u32],

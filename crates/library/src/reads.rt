@@ -9,8 +9,6 @@ ghost use Rattle.c_words.specs.Numbers.{type_in};
 ghost use Rattle.c_words.specs.Given.{lent_env};
 ghost use Rattle.c_outs.specs.Outs.{node_in, node_out, child_in, child_out, name_answer_in, name_out, figures_in, figures_out, Tells};
 
-use chart::SIGILS;
-use names::Name;
 use types::Type;
 
 // "`find` follows parents, combining inversions by exclusive or."
@@ -18,7 +16,7 @@ use types::Type;
 pub extern "C" fn faroalder_find<'a>(
     chart: &[u32],
     fn_trait: u32,
-    sigils: &[Name; SIGILS],
+    sigils: &[u32; 12],
     rule: &'a [u8],
     text: &'a [u8],
     h: &[u32],
@@ -39,7 +37,7 @@ pub extern "C" fn faroalder_find<'a>(
 pub extern "C" fn faroalder_find_mut<'a>(
     chart: &[u32],
     fn_trait: u32,
-    sigils: &[Name; SIGILS],
+    sigils: &[u32; 12],
     rule: &'a [u8],
     text: &'a [u8],
     h: &[u32],
@@ -60,7 +58,7 @@ pub extern "C" fn faroalder_find_mut<'a>(
 pub extern "C" fn faroalder_node<'a>(
     chart: &[u32],
     fn_trait: u32,
-    sigils: &[Name; SIGILS],
+    sigils: &[u32; 12],
     rule: &'a [u8],
     text: &'a [u8],
     h: &[u32],
@@ -82,7 +80,7 @@ pub extern "C" fn faroalder_node<'a>(
 pub extern "C" fn faroalder_child<'a>(
     chart: &[u32],
     fn_trait: u32,
-    sigils: &[Name; SIGILS],
+    sigils: &[u32; 12],
     rule: &'a [u8],
     text: &'a [u8],
     h: &[u32],
@@ -105,7 +103,7 @@ pub extern "C" fn faroalder_child<'a>(
 pub extern "C" fn faroalder_child_name<'a>(
     chart: &[u32],
     fn_trait: u32,
-    sigils: &[Name; SIGILS],
+    sigils: &[u32; 12],
     rule: &'a [u8],
     text: &'a [u8],
     h: &[u32],
@@ -128,7 +126,7 @@ pub extern "C" fn faroalder_child_name<'a>(
 pub extern "C" fn faroalder_figures<'a>(
     chart: &[u32],
     fn_trait: u32,
-    sigils: &[Name; SIGILS],
+    sigils: &[u32; 12],
     rule: &'a [u8],
     text: &'a [u8],
     h: &[u32],

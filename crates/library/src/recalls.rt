@@ -10,8 +10,6 @@ ghost use Rattle.promise.specs.Promise.{Promised};
 ghost use Rattle.c_words.specs.Numbers.{unify_in};
 ghost use Rattle.c_words.specs.Given.{set_in, impl_in, lent_env};
 
-use chart::SIGILS;
-use names::Name;
 use types::Type;
 
 // "`unify` takes both roots with `find_mut`." Nothing that the memory holds is believed, and what stands in it afterwards means nothing.
@@ -19,7 +17,7 @@ use types::Type;
 pub extern "C" fn faroalder_unify_recalling<'a>(
     chart: &[u32],
     fn_trait: u32,
-    sigils: &[Name; SIGILS],
+    sigils: &[u32; 12],
     rule: &'a [u8],
     text: &'a [u8],
     h: &[u32],
@@ -43,7 +41,7 @@ pub extern "C" fn faroalder_unify_recalling<'a>(
 pub extern "C" fn faroalder_unify_types_recalling<'a>(
     chart: &[u32],
     fn_trait: u32,
-    sigils: &[Name; SIGILS],
+    sigils: &[u32; 12],
     rule: &'a [u8],
     text: &'a [u8],
     h: &[u32],
@@ -71,7 +69,7 @@ pub extern "C" fn faroalder_unify_types_recalling<'a>(
 pub extern "C" fn faroalder_unify_objects_recalling<'a>(
     chart: &[u32],
     fn_trait: u32,
-    sigils: &[Name; SIGILS],
+    sigils: &[u32; 12],
     rule: &'a [u8],
     text: &'a [u8],
     h: &[u32],
@@ -99,7 +97,7 @@ pub extern "C" fn faroalder_unify_objects_recalling<'a>(
 pub extern "C" fn faroalder_unify_fn_sig_recalling<'a>(
     chart: &[u32],
     fn_trait: u32,
-    sigils: &[Name; SIGILS],
+    sigils: &[u32; 12],
     rule: &'a [u8],
     text: &'a [u8],
     h: &[u32],
@@ -135,7 +133,7 @@ pub extern "C" fn faroalder_unify_fn_sig_recalling<'a>(
 pub extern "C" fn faroalder_unify_impl_type_recalling<'a>(
     chart: &[u32],
     fn_trait: u32,
-    sigils: &[Name; SIGILS],
+    sigils: &[u32; 12],
     rule: &'a [u8],
     text: &'a [u8],
     h: &[u32],

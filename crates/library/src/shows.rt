@@ -6,8 +6,6 @@ ghost use Rattle.types.specs.Impls.{impl_means};
 ghost use Rattle.c_words.specs.Numbers.{count_in, CutPromised};
 ghost use Rattle.c_words.specs.Given.{impl_in, lent_env};
 
-use chart::SIGILS;
-use names::Name;
 use types::Type;
 
 // A type's text.
@@ -16,7 +14,7 @@ use types::Type;
 pub extern "C" fn faroalder_show<'a>(
     chart: &[u32],
     fn_trait: u32,
-    sigils: &[Name; SIGILS],
+    sigils: &[u32; 12],
     rule: &'a [u8],
     text: &'a [u8],
     h: &[u32],
@@ -41,7 +39,7 @@ pub extern "C" fn faroalder_show<'a>(
 pub extern "C" fn faroalder_show_impl_type<'a>(
     chart: &[u32],
     fn_trait: u32,
-    sigils: &[Name; SIGILS],
+    sigils: &[u32; 12],
     rule: &'a [u8],
     text: &'a [u8],
     h: &[u32],

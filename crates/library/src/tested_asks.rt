@@ -9,8 +9,6 @@ ghost use Rattle.c_words.specs.Numbers.{done_in, bool_in, Says};
 ghost use Rattle.c_words.specs.Given.{set_in, lent_env};
 ghost use Rattle.c_outs.specs.Outs.{mod_in, mod_out, Tells};
 
-use chart::SIGILS;
-use names::Name;
 use types::Type;
 
 // A Tuple of nothing.
@@ -18,7 +16,7 @@ use types::Type;
 pub extern "C" fn faroalder_tested_is_nil<'a>(
     chart: &[u32],
     fn_trait: u32,
-    sigils: &[Name; SIGILS],
+    sigils: &[u32; 12],
     rule: &'a [u8],
     text: &'a [u8],
     h: &[u32],
@@ -40,7 +38,7 @@ pub extern "C" fn faroalder_tested_is_nil<'a>(
 pub extern "C" fn faroalder_tested_self_inverse<'a>(
     chart: &[u32],
     fn_trait: u32,
-    sigils: &[Name; SIGILS],
+    sigils: &[u32; 12],
     rule: &'a [u8],
     text: &'a [u8],
     h: &[u32],
@@ -62,7 +60,7 @@ pub extern "C" fn faroalder_tested_self_inverse<'a>(
 pub extern "C" fn faroalder_tested_self_inverse_param<'a>(
     chart: &[u32],
     fn_trait: u32,
-    sigils: &[Name; SIGILS],
+    sigils: &[u32; 12],
     rule: &'a [u8],
     text: &'a [u8],
     h: &[u32],
@@ -92,7 +90,7 @@ pub extern "C" fn faroalder_tested_self_inverse_param<'a>(
 pub extern "C" fn faroalder_tested_get_mod<'a>(
     chart: &[u32],
     fn_trait: u32,
-    sigils: &[Name; SIGILS],
+    sigils: &[u32; 12],
     rule: &'a [u8],
     text: &'a [u8],
     h: &[u32],
@@ -115,7 +113,7 @@ pub extern "C" fn faroalder_tested_get_mod<'a>(
 pub extern "C" fn faroalder_tested_find_related<'a>(
     chart: &[u32],
     fn_trait: u32,
-    sigils: &[Name; SIGILS],
+    sigils: &[u32; 12],
     rule: &'a [u8],
     text: &'a [u8],
     h: &[u32],

@@ -11,15 +11,12 @@ ghost use Rattle.promise.specs.Exports.{ExportPromised};
 ghost use Rattle.c_words.specs.Numbers.{done_in, Says};
 ghost use Rattle.c_words.specs.Given.{set_in, lent_env};
 
-use chart::SIGILS;
-use names::Name;
-
 // The listed types of the source, which is only read; what they become stands at the front of `out`. `params` is a parameter list where `listed` says so.
 #[unsafe(no_mangle)]
 pub extern "C" fn faroalder_tested_import<'a>(
     chart: &[u32],
     fn_trait: u32,
-    sigils: &[Name; SIGILS],
+    sigils: &[u32; 12],
     rule: &'a [u8],
     text: &'a [u8],
     h: &mut [u32],
@@ -63,7 +60,7 @@ pub extern "C" fn faroalder_tested_import<'a>(
 pub extern "C" fn faroalder_tested_export<'a>(
     chart: &[u32],
     fn_trait: u32,
-    sigils: &[Name; SIGILS],
+    sigils: &[u32; 12],
     rule: &'a [u8],
     text: &'a [u8],
     sh: &[u32],

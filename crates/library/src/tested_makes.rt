@@ -9,15 +9,12 @@ ghost use Rattle.promise.specs.Lists.{ListPromised};
 ghost use Rattle.c_words.specs.Numbers.{type_in, done_in, Says};
 ghost use Rattle.c_words.specs.Given.{kind_args_in, lent_env};
 
-use chart::SIGILS;
-use names::Name;
-
 // "`new_var`": a type without a kind, and its span.
 #[unsafe(no_mangle)]
 pub extern "C" fn faroalder_tested_new_var<'a>(
     chart: &[u32],
     fn_trait: u32,
-    sigils: &[Name; SIGILS],
+    sigils: &[u32; 12],
     rule: &'a [u8],
     text: &'a [u8],
     h: &mut [u32],
@@ -39,7 +36,7 @@ pub extern "C" fn faroalder_tested_new_var<'a>(
 pub extern "C" fn faroalder_tested_new_vars<'a>(
     chart: &[u32],
     fn_trait: u32,
-    sigils: &[Name; SIGILS],
+    sigils: &[u32; 12],
     rule: &'a [u8],
     text: &'a [u8],
     h: &mut [u32],
@@ -65,7 +62,7 @@ pub extern "C" fn faroalder_tested_new_vars<'a>(
 pub extern "C" fn faroalder_tested_error<'a>(
     chart: &[u32],
     fn_trait: u32,
-    sigils: &[Name; SIGILS],
+    sigils: &[u32; 12],
     rule: &'a [u8],
     text: &'a [u8],
     h: &mut [u32],
@@ -86,7 +83,7 @@ pub extern "C" fn faroalder_tested_error<'a>(
 pub extern "C" fn faroalder_tested_nil<'a>(
     chart: &[u32],
     fn_trait: u32,
-    sigils: &[Name; SIGILS],
+    sigils: &[u32; 12],
     rule: &'a [u8],
     text: &'a [u8],
     h: &mut [u32],
@@ -107,7 +104,7 @@ pub extern "C" fn faroalder_tested_nil<'a>(
 pub extern "C" fn faroalder_tested_new<'a>(
     chart: &[u32],
     fn_trait: u32,
-    sigils: &[Name; SIGILS],
+    sigils: &[u32; 12],
     rule: &'a [u8],
     text: &'a [u8],
     h: &mut [u32],
@@ -137,7 +134,7 @@ pub extern "C" fn faroalder_tested_new<'a>(
 pub extern "C" fn faroalder_tested_new_struct<'a>(
     chart: &[u32],
     fn_trait: u32,
-    sigils: &[Name; SIGILS],
+    sigils: &[u32; 12],
     rule: &'a [u8],
     text: &'a [u8],
     h: &mut [u32],
@@ -161,7 +158,7 @@ pub extern "C" fn faroalder_tested_new_struct<'a>(
 pub extern "C" fn faroalder_tested_new_union<'a>(
     chart: &[u32],
     fn_trait: u32,
-    sigils: &[Name; SIGILS],
+    sigils: &[u32; 12],
     rule: &'a [u8],
     text: &'a [u8],
     h: &mut [u32],

@@ -9,8 +9,6 @@ ghost use Rattle.c_words.specs.Numbers.{type_in};
 ghost use Rattle.c_words.specs.Given.{lent_env};
 ghost use Rattle.c_outs.specs.Outs.{node_in, node_out, child_in, child_out, name_answer_in, name_out, figures_in, figures_out, Tells};
 
-use chart::SIGILS;
-use names::Name;
 use types::Type;
 
 // "`find` follows parents, combining inversions by exclusive or."
@@ -18,7 +16,7 @@ use types::Type;
 pub extern "C" fn faroalder_tested_find<'a>(
     chart: &[u32],
     fn_trait: u32,
-    sigils: &[Name; SIGILS],
+    sigils: &[u32; 12],
     rule: &'a [u8],
     text: &'a [u8],
     h: &[u32],
@@ -40,7 +38,7 @@ pub extern "C" fn faroalder_tested_find<'a>(
 pub extern "C" fn faroalder_tested_find_mut<'a>(
     chart: &[u32],
     fn_trait: u32,
-    sigils: &[Name; SIGILS],
+    sigils: &[u32; 12],
     rule: &'a [u8],
     text: &'a [u8],
     h: &[u32],
@@ -62,7 +60,7 @@ pub extern "C" fn faroalder_tested_find_mut<'a>(
 pub extern "C" fn faroalder_tested_node<'a>(
     chart: &[u32],
     fn_trait: u32,
-    sigils: &[Name; SIGILS],
+    sigils: &[u32; 12],
     rule: &'a [u8],
     text: &'a [u8],
     h: &[u32],
@@ -85,7 +83,7 @@ pub extern "C" fn faroalder_tested_node<'a>(
 pub extern "C" fn faroalder_tested_child<'a>(
     chart: &[u32],
     fn_trait: u32,
-    sigils: &[Name; SIGILS],
+    sigils: &[u32; 12],
     rule: &'a [u8],
     text: &'a [u8],
     h: &[u32],
@@ -109,7 +107,7 @@ pub extern "C" fn faroalder_tested_child<'a>(
 pub extern "C" fn faroalder_tested_child_name<'a>(
     chart: &[u32],
     fn_trait: u32,
-    sigils: &[Name; SIGILS],
+    sigils: &[u32; 12],
     rule: &'a [u8],
     text: &'a [u8],
     h: &[u32],
@@ -136,7 +134,7 @@ pub extern "C" fn faroalder_tested_child_name<'a>(
 pub extern "C" fn faroalder_tested_figures<'a>(
     chart: &[u32],
     fn_trait: u32,
-    sigils: &[Name; SIGILS],
+    sigils: &[u32; 12],
     rule: &'a [u8],
     text: &'a [u8],
     h: &[u32],

@@ -9,8 +9,6 @@ ghost use Rattle.promise.specs.Promise.{Promised, Tested};
 ghost use Rattle.c_words.specs.Numbers.{unify_in};
 ghost use Rattle.c_words.specs.Given.{set_in, impl_in, lent_env};
 
-use chart::SIGILS;
-use names::Name;
 use types::Type;
 
 // "`unify` takes both roots with `find_mut`." Nothing that the memory holds is believed, and what stands in it afterwards means nothing.
@@ -18,7 +16,7 @@ use types::Type;
 pub extern "C" fn faroalder_tested_unify_recalling<'a>(
     chart: &[u32],
     fn_trait: u32,
-    sigils: &[Name; SIGILS],
+    sigils: &[u32; 12],
     rule: &'a [u8],
     text: &'a [u8],
     h: &[u32],
@@ -51,7 +49,7 @@ pub extern "C" fn faroalder_tested_unify_recalling<'a>(
 pub extern "C" fn faroalder_tested_unify_types_recalling<'a>(
     chart: &[u32],
     fn_trait: u32,
-    sigils: &[Name; SIGILS],
+    sigils: &[u32; 12],
     rule: &'a [u8],
     text: &'a [u8],
     h: &[u32],
@@ -80,7 +78,7 @@ pub extern "C" fn faroalder_tested_unify_types_recalling<'a>(
 pub extern "C" fn faroalder_tested_unify_objects_recalling<'a>(
     chart: &[u32],
     fn_trait: u32,
-    sigils: &[Name; SIGILS],
+    sigils: &[u32; 12],
     rule: &'a [u8],
     text: &'a [u8],
     h: &[u32],
@@ -109,7 +107,7 @@ pub extern "C" fn faroalder_tested_unify_objects_recalling<'a>(
 pub extern "C" fn faroalder_tested_unify_fn_sig_recalling<'a>(
     chart: &[u32],
     fn_trait: u32,
-    sigils: &[Name; SIGILS],
+    sigils: &[u32; 12],
     rule: &'a [u8],
     text: &'a [u8],
     h: &[u32],
@@ -146,7 +144,7 @@ pub extern "C" fn faroalder_tested_unify_fn_sig_recalling<'a>(
 pub extern "C" fn faroalder_tested_unify_impl_type_recalling<'a>(
     chart: &[u32],
     fn_trait: u32,
-    sigils: &[Name; SIGILS],
+    sigils: &[u32; 12],
     rule: &'a [u8],
     text: &'a [u8],
     h: &[u32],

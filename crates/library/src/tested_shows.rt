@@ -7,8 +7,6 @@ ghost use Rattle.promise.specs.Promise.{Tested};
 ghost use Rattle.c_words.specs.Numbers.{count_in, CutPromised};
 ghost use Rattle.c_words.specs.Given.{impl_in, lent_env};
 
-use chart::SIGILS;
-use names::Name;
 use types::Type;
 
 // A type's text.
@@ -17,7 +15,7 @@ use types::Type;
 pub extern "C" fn faroalder_tested_show<'a>(
     chart: &[u32],
     fn_trait: u32,
-    sigils: &[Name; SIGILS],
+    sigils: &[u32; 12],
     rule: &'a [u8],
     text: &'a [u8],
     h: &[u32],
@@ -43,7 +41,7 @@ pub extern "C" fn faroalder_tested_show<'a>(
 pub extern "C" fn faroalder_tested_show_impl_type<'a>(
     chart: &[u32],
     fn_trait: u32,
-    sigils: &[Name; SIGILS],
+    sigils: &[u32; 12],
     rule: &'a [u8],
     text: &'a [u8],
     h: &[u32],

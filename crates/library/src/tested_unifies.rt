@@ -9,8 +9,6 @@ ghost use Rattle.promise.specs.Promise.{Promised, Tested};
 ghost use Rattle.c_words.specs.Numbers.{bool_in, unify_in};
 ghost use Rattle.c_words.specs.Given.{set_in, impl_in, lent_env};
 
-use chart::SIGILS;
-use names::Name;
 use types::Type;
 
 // "`unify` takes both roots with `find_mut`."
@@ -18,7 +16,7 @@ use types::Type;
 pub extern "C" fn faroalder_tested_unify<'a>(
     chart: &[u32],
     fn_trait: u32,
-    sigils: &[Name; SIGILS],
+    sigils: &[u32; 12],
     rule: &'a [u8],
     text: &'a [u8],
     h: &[u32],
@@ -42,7 +40,7 @@ pub extern "C" fn faroalder_tested_unify<'a>(
 pub extern "C" fn faroalder_tested_unify_types<'a>(
     chart: &[u32],
     fn_trait: u32,
-    sigils: &[Name; SIGILS],
+    sigils: &[u32; 12],
     rule: &'a [u8],
     text: &'a [u8],
     h: &[u32],
@@ -68,7 +66,7 @@ pub extern "C" fn faroalder_tested_unify_types<'a>(
 pub extern "C" fn faroalder_tested_unify_objects<'a>(
     chart: &[u32],
     fn_trait: u32,
-    sigils: &[Name; SIGILS],
+    sigils: &[u32; 12],
     rule: &'a [u8],
     text: &'a [u8],
     h: &[u32],
@@ -94,7 +92,7 @@ pub extern "C" fn faroalder_tested_unify_objects<'a>(
 pub extern "C" fn faroalder_tested_unify_fn_sig<'a>(
     chart: &[u32],
     fn_trait: u32,
-    sigils: &[Name; SIGILS],
+    sigils: &[u32; 12],
     rule: &'a [u8],
     text: &'a [u8],
     h: &[u32],
@@ -129,7 +127,7 @@ pub extern "C" fn faroalder_tested_unify_fn_sig<'a>(
 pub extern "C" fn faroalder_tested_unify_impl_type<'a>(
     chart: &[u32],
     fn_trait: u32,
-    sigils: &[Name; SIGILS],
+    sigils: &[u32; 12],
     rule: &'a [u8],
     text: &'a [u8],
     h: &[u32],
@@ -162,7 +160,7 @@ pub extern "C" fn faroalder_tested_unify_impl_type<'a>(
 pub extern "C" fn faroalder_tested_approx_eq<'a>(
     chart: &[u32],
     fn_trait: u32,
-    sigils: &[Name; SIGILS],
+    sigils: &[u32; 12],
     rule: &'a [u8],
     text: &'a [u8],
     h: &[u32],

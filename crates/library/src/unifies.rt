@@ -9,8 +9,6 @@ ghost use Rattle.promise.specs.Promise.{Promised};
 ghost use Rattle.c_words.specs.Numbers.{bool_in, unify_in};
 ghost use Rattle.c_words.specs.Given.{set_in, impl_in, lent_env};
 
-use chart::SIGILS;
-use names::Name;
 use types::Type;
 
 // "`unify` takes both roots with `find_mut`."
@@ -18,7 +16,7 @@ use types::Type;
 pub extern "C" fn faroalder_unify<'a>(
     chart: &[u32],
     fn_trait: u32,
-    sigils: &[Name; SIGILS],
+    sigils: &[u32; 12],
     rule: &'a [u8],
     text: &'a [u8],
     h: &[u32],
@@ -41,7 +39,7 @@ pub extern "C" fn faroalder_unify<'a>(
 pub extern "C" fn faroalder_unify_types<'a>(
     chart: &[u32],
     fn_trait: u32,
-    sigils: &[Name; SIGILS],
+    sigils: &[u32; 12],
     rule: &'a [u8],
     text: &'a [u8],
     h: &[u32],
@@ -66,7 +64,7 @@ pub extern "C" fn faroalder_unify_types<'a>(
 pub extern "C" fn faroalder_unify_objects<'a>(
     chart: &[u32],
     fn_trait: u32,
-    sigils: &[Name; SIGILS],
+    sigils: &[u32; 12],
     rule: &'a [u8],
     text: &'a [u8],
     h: &[u32],
@@ -91,7 +89,7 @@ pub extern "C" fn faroalder_unify_objects<'a>(
 pub extern "C" fn faroalder_unify_fn_sig<'a>(
     chart: &[u32],
     fn_trait: u32,
-    sigils: &[Name; SIGILS],
+    sigils: &[u32; 12],
     rule: &'a [u8],
     text: &'a [u8],
     h: &[u32],
@@ -116,7 +114,7 @@ pub extern "C" fn faroalder_unify_fn_sig<'a>(
 pub extern "C" fn faroalder_unify_impl_type<'a>(
     chart: &[u32],
     fn_trait: u32,
-    sigils: &[Name; SIGILS],
+    sigils: &[u32; 12],
     rule: &'a [u8],
     text: &'a [u8],
     h: &[u32],
@@ -148,7 +146,7 @@ pub extern "C" fn faroalder_unify_impl_type<'a>(
 pub extern "C" fn faroalder_approx_eq<'a>(
     chart: &[u32],
     fn_trait: u32,
-    sigils: &[Name; SIGILS],
+    sigils: &[u32; 12],
     rule: &'a [u8],
     text: &'a [u8],
     h: &[u32],
