@@ -16,7 +16,7 @@ use layout::{CHILD_WORDS, NODE_WORDS};
 use names::Texts;
 use recall::{ENTRY, HEAD};
 use scope::{SHEET_CHILDREN, SHEET_NODES, SHEET_TEXT};
-use sheet_lines::Line;
+use sheet_lines::{Line, Types};
 use types::Type;
 
 // The words of the store's nodes and of its children.
@@ -94,8 +94,8 @@ pub fn run_line(
     ensures { Ran (store_in h.old ws.old ks.old) (parse line.now)
         h.old ws.old ks.old h.new ws.new ks.new out.old out.new result }
 {
-    let (l, types) = sheet_lines::parse(line);
-    match l {
+    let mut types = Types::new();
+    match sheet_lines::parse_into(line, &mut types) {
         Line::Plain(p) => sheet_calls::plain_line(h, ws, ks, p, &types, out),
         Line::Unify(a, b) => unify_line(h, ws, ks, memory, a, b, out),
         Line::Show(t) => show_line(h, ws, ks, t, out),

@@ -190,17 +190,26 @@ fn line_of(w: &[u8], types: &[u32]) -> Line
     }
 }
 
-// A line, and its types beside it. Of a line that is bad no type counts.
+// A line, its types read into an empty list. Of a line that is bad no type counts.
+pub fn parse_into(line: &[u8], types: &mut Types) -> Line
+    requires { types.old.items ≡ [] }
+    ensures { Parsed result types.new.items (parse line.now) }
+{
+    if line.len() > MAX_LINE {
+        return Line::Plain(Plain::Bad);
+    }
+    let e = next_place(line, 0, b' ');
+    if types_from(line, e + 1, types).is_none() {
+        return Line::Plain(Plain::Bad);
+    }
+    line_of(&line[..e], types)
+}
+
+// The same with a list of its own, beside the line.
 pub fn parse(line: &[u8]) -> (Line, Types)
     ensures { Parsed result.0 result.1.items (parse line.now) }
 {
     let mut types = ArrayVec::new();
-    if line.len() > MAX_LINE {
-        return (Line::Plain(Plain::Bad), types);
-    }
-    let e = next_place(line, 0, b' ');
-    if types_from(line, e + 1, &mut types).is_none() {
-        return (Line::Plain(Plain::Bad), types);
-    }
-    (line_of(&line[..e], &types), types)
+    let l = parse_into(line, &mut types);
+    (l, types)
 }

@@ -9,5 +9,5 @@ pub returns-in-Show : goal.returns-in-Show
 returns-in-Show c =
     let a = c.args in
     let s = store_in a.h.now a.ws.now a.ks.now in
-    let means = rw c.in-Show.is at c.parse-l.ensures.means in
+    let means = rw c.in-Show.is at c.parse_into.ensures.means in
     ran_like means (ran c.requires.sheet_store (Line.show _) c.show_line.ensures (rw (show_store s _) (same_store c.requires.sheet_store)))

@@ -1,4 +1,4 @@
--- `sheet_lines::parse` meets its contract: the first word is the command, and the words after its space are the types.
+-- `sheet_lines::parse_into` meets its contract: the first word is the command, and the words after its space are the types.
 -- Assumes nothing.
 use mathlib.Core.Path.{sym}
 use mathlib.Core.List.{map}
@@ -7,7 +7,7 @@ use native.Mathlib.Omega.{arith}
 use lib.Seq.{length-take-le}
 use Rattle.scope.specs.Types.{ty_of}
 use Rattle.sheet_lines.proofs.Laws as laws
-use Rattle.sheet_lines.proofs.parse.Goals as goal
+use Rattle.sheet_lines.proofs.parse_into.Goals as goal
 
 pub returns-then-line-gt-MAX_LINE : goal.returns-then-line-gt-MAX_LINE
 returns-then-line-gt-MAX_LINE c = record { means = laws.parse_long c.args.line.now c.if-line-gt-MAX_LINE.true; fits = tt }
